@@ -1,0 +1,50 @@
+-- Literals: a lexical form with a datatype other than rdf:langString, or with a language tag
+-- (RDF 1.1 Concepts section 3.3). Tags are kept in lower case.
+use Rattle.std.specs.Prelude.{◌≡◌, ℕ, List, [], ◌∷◌, Bool, true, false, ◌&&◌, ◌||◌, not, nat_le, nat_eq, ◌==◌, IsTrue, length, if◌then◌else◌, codes}
+use Rattle.std.specs.Cmp.Lexicographic.{pointwise}
+use Rattle.std.specs.Str.{str_to_ascii_lowercase}
+use Rattle.rdf_terms.specs.Iri.{is_letter, is_digit, is_absolute}
+
+-- a literal: a lexical form with its datatype, or a lexical form with its language tag
+pub data LiteralValue : Type 0 where
+  Typed : List ℕ → List ℕ → LiteralValue
+  Tagged : List ℕ → List ℕ → LiteralValue
+
+-- xsd:string, the datatype of a literal that names none
+unfoldable pub xsd_string : List ℕ
+xsd_string = codes "http://www.w3.org/2001/XMLSchema#string"
+
+-- rdf:langString, the datatype of literals with a language tag
+unfoldable pub rdf_lang_string : List ℕ
+rdf_lang_string = codes "http://www.w3.org/1999/02/22-rdf-syntax-ns#langString"
+
+-- two texts are the same
+abbrev pub is_same : List ℕ → List ℕ → Bool
+is_same = pointwise nat_eq
+
+-- letters and digits, and `-` where letters or digits follow it
+abbrev pub is_subtags : Bool → List ℕ → Bool
+is_subtags full [] = full
+is_subtags full (byte ∷ bytes) =
+    if byte == 45 then (full && is_subtags false bytes) else ((is_letter byte || is_digit byte) && is_subtags true bytes)
+
+-- letters first, then subtags: the first part of a language tag has letters alone
+abbrev pub is_primary : Bool → List ℕ → Bool
+is_primary full [] = full
+is_primary full (byte ∷ bytes) =
+    if byte == 45 then (full && is_subtags false bytes) else (is_letter byte && is_primary true bytes)
+
+-- a language tag: letters, then any number of times `-` with letters or digits (N-Triples 1.1, LANGTAG)
+unfoldable pub is_language_tag : List ℕ → Bool
+is_language_tag text = is_primary false text
+
+-- how many bytes a lexical form has at most
+abbrev pub lexical_limit : ℕ
+lexical_limit = 1048576
+
+-- what every literal keeps
+abbrev pub IsLiteral : LiteralValue → Type 0
+IsLiteral (Typed lexical datatype) =
+    (IsTrue (nat_le (length lexical) lexical_limit)) × IsTrue (is_absolute datatype) × IsTrue (not (is_same datatype rdf_lang_string))
+IsLiteral (Tagged lexical tag) =
+    (IsTrue (nat_le (length lexical) lexical_limit)) × IsTrue (is_language_tag tag) × (str_to_ascii_lowercase tag ≡ tag)

@@ -1,0 +1,4 @@
+pub mod Lists
+pub mod Path
+pub mod Dot
+pub mod Clock

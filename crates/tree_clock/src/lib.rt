@@ -1,0 +1,10 @@
+//! Paths, dots, ranges of dots and clocks, in the manner of interval tree clocks.
+#![tactic(auto)]
+
+mod clocks;
+mod dots;
+mod paths;
+
+pub use clocks::Clock;
+pub use dots::{Dot, Range};
+pub use paths::Path;
