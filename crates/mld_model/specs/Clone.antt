@@ -1,0 +1,57 @@
+-- The model of a clone: its path and the dots that it knows, by its base and its journal. It has no content: the
+-- history says what the dots mean.
+use Rattle.std.specs.Prelude.{◌≡◌, ℕ, ◌-◌, List, [], ◌∷◌, ◌++◌, ◌⊎◌}
+use Rattle.tree_clock.specs.declared.dots.Dot.{Dot}
+use Rattle.tree_clock.specs.declared.dots.Range.{Range}
+use Rattle.tree_clock.specs.Dot.{IsIn, Knows}
+use Rattle.mld_ops.specs.History.{Operation, dot_at}
+use Rattle.mld_ops.specs.Net.{IsTime}
+
+-- what a clone keeps when it stops: its path, the dots of its base, and the ranges of its journal
+pub record Stored : Type 0 where
+  pub path : List ℕ
+  pub base : List Range
+  pub journal : List Range
+
+-- absent; asking to join; down with nothing stored; down; or live, with the ranges that it holds back
+pub data Clone : Type 0 where
+  Absent : Clone
+  Asking : Clone
+  Empty : Clone
+  Down : Stored → Clone
+  Live : Stored → List Range → Clone
+
+-- the dots that a clone knows: its base and the dots of its journal
+abbrev pub known_of : Stored → List Range
+known_of stored = stored.base ++ stored.journal
+
+-- the clone with the range at the end of its journal
+abbrev pub with_range : Stored → Range → Stored
+with_range stored range = record { path = stored.path; base = stored.base; journal = stored.journal ++ range ∷ [] }
+
+-- the last dot of a range
+abbrev pub last_dot : Range → Dot
+last_dot range = dot_at range.path range.last
+
+-- the range of one tick
+abbrev pub one_tick : List ℕ → ℕ → Range
+one_tick path tick = record { path = path; first = tick; last = tick }
+
+-- the range is known: its last dot is
+abbrev pub IsKnown : List Range → Range → Type 0
+IsKnown known range = Knows known (last_dot range)
+
+-- the range is ready: it isn't known, each dot of its time outside it is known, and so is the tick before its first
+pub record IsReady (history : List Operation) (known : List Range) (range : Range) : Type 0 where
+  pub unknown : ¬ IsKnown known range
+  pub time : (dot : Dot) → IsTime history range dot → ¬ IsIn range dot → Knows known dot
+  pub before : (range.first ≡ 1) ⊎ Knows known (dot_at range.path (range.first - 1))
+
+-- the range is held back: it is neither known nor ready
+pub record IsHeldBack (history : List Operation) (known : List Range) (range : Range) : Type 0 where
+  pub unknown : ¬ IsKnown known range
+  pub unready : ¬ IsReady history known range
+
+-- every dot that the first knows is known to the second
+abbrev pub IsWithin : List Range → List Range → Type 0
+IsWithin known other = (dot : Dot) → Knows known dot → Knows other dot

@@ -1,0 +1,58 @@
+-- The replies, and their text: lines that end with LF.
+use Rattle.std.specs.Prelude.{ℕ, List, [], ◌∷◌, ◌++◌, codes, length}
+use Rattle.std.specs.List.{flat_map}
+use Rattle.std.specs.Fmt.{decimal}
+use Rattle.rdf_terms.specs.Spelling.{triple_text}
+use Rattle.tree_clock.specs.declared.dots.Dot.{Dot}
+use Rattle.tree_clock.specs.declared.dots.Range.{Range}
+use Rattle.tree_clock.specs.Dot.{dot_text, range_text}
+use Rattle.mld_ops.specs.declared.tagged.Tagged.{Tagged}
+
+pub data Reply : Type 0 where
+  -- so many clones are ready
+  Ready : ℕ → Reply
+  -- the operation of the dot was made and sent in the message of the number
+  Did : Dot → ℕ → Reply
+  -- the ranges were taken, in this order
+  Took : List Range → Reply
+  -- the range was known
+  AlreadyKnown : Reply
+  -- these are the pairs of the clone
+  Shows : List Tagged → Reply
+  -- how the dots of two clones compare
+  Same : Reply
+  Less : Reply
+  More : Reply
+  Apart : Reply
+  -- no message has the number
+  NoMessage : Reply
+  -- the clone takes no message
+  Ignored : Reply
+  -- the state of the clone that can't do what it was told
+  IsAbsent : Reply
+  IsAsking : Reply
+  IsDown : Reply
+
+-- the line of a pair
+abbrev pub pair_line : Tagged → List ℕ
+pair_line pair = dot_text pair.dot ++ 32 ∷ (triple_text pair.triple ++ 10 ∷ [])
+
+-- a range behind a space
+abbrev pub spaced_range : Range → List ℕ
+spaced_range range = 32 ∷ range_text range
+
+unfoldable pub reply_text : Reply → List ℕ
+reply_text (Ready count) = codes "ready " ++ (decimal count ++ 10 ∷ [])
+reply_text (Did dot number) = codes "did " ++ (dot_text dot ++ (codes " m" ++ (decimal number ++ 10 ∷ [])))
+reply_text (Took ranges) = codes "took" ++ (flat_map spaced_range ranges ++ 10 ∷ [])
+reply_text AlreadyKnown = codes "known\n"
+reply_text (Shows pairs) = codes "has " ++ (decimal (length pairs) ++ 10 ∷ flat_map pair_line pairs)
+reply_text Same = codes "same\n"
+reply_text Less = codes "less\n"
+reply_text More = codes "more\n"
+reply_text Apart = codes "apart\n"
+reply_text NoMessage = codes "no message\n"
+reply_text Ignored = codes "ignored\n"
+reply_text IsAbsent = codes "absent\n"
+reply_text IsAsking = codes "asking\n"
+reply_text IsDown = codes "down\n"

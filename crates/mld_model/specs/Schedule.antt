@@ -1,0 +1,57 @@
+-- The grammar of a schedule's lines, as bytes without their LF.
+use Rattle.std.specs.Prelude.{◌≡◌, ℕ, ◌^◌, ◌<◌, ◌≤◌, List, [], ◌∷◌, ◌++◌, ◌⊎◌, Bool, false, ◌||◌, ◌&&◌, not, ◌==◌, nat_eq, IsTrue, codes, take_while}
+use Rattle.std.specs.Cmp.Lexicographic.{pointwise}
+use Rattle.std.specs.List.{list_any}
+use Rattle.std.specs.Str.{IsUtf8}
+use Rattle.std.specs.Fmt.{decimal}
+use Rattle.rdf_terms.specs.Domain.{is_domain}
+use Rattle.rdf_terms.specs.Grammar.{SpellsTriple, IsWithin}
+use Rattle.mld_model.specs.declared.Command.{Command}
+use Rattle.mld_model.specs.declared.Command.TheVariants.{Add, Deliver, Show, Compare}
+
+-- an empty line, or a comment: `#` first, and UTF-8 throughout
+pub data IsNothing : List ℕ → Type 0 where
+  empty : IsNothing []
+  comment : (rest : List ℕ) → IsUtf8 (35 ∷ rest) → IsNothing (35 ∷ rest)
+
+-- the bytes before the first space
+abbrev pub first_word : List ℕ → List ℕ
+first_word line = take_while (λ byte. not (byte == 32)) line
+
+-- two texts are the same
+abbrev pub is_word : List ℕ → List ℕ → Bool
+is_word = pointwise nat_eq
+
+-- the first words of lines that aren't built yet
+abbrev pub unbuilt_words : List (List ℕ)
+unbuilt_words =
+    codes "remove" ∷ codes "join" ∷ codes "stop" ∷ codes "open" ∷ codes "ask" ∷ codes "compact" ∷ codes "truncate"
+    ∷ codes "query" ∷ codes "update" ∷ codes "single" ∷ codes "crash" ∷ []
+
+-- a line that isn't built yet, whatever its rest is: one of those words first, or `add` with a backslash somewhere
+unfoldable pub is_unbuilt : List ℕ → Bool
+is_unbuilt line =
+    list_any (λ word. is_word word (first_word line)) unbuilt_words
+    || (is_word (codes "add") (first_word line) && list_any (λ byte. byte == 92) line)
+
+-- `domain D clones N`
+pub record SpellsSetup (line domain : List ℕ) (count : ℕ) : Type 0 where
+  pub whole : line ≡ codes "domain " ++ (domain ++ (codes " clones " ++ decimal count))
+  pub name : IsTrue (is_domain domain)
+  pub some : 1 ≤ count
+  pub most : count ≤ 32
+
+-- the number of a clone is 0 to 31
+abbrev pub IsCloneNumber : ℕ → Type 0
+IsCloneNumber number = number < 32
+
+-- the line spells the command; a triple is the rest of its line
+abbrev pub SpellsCommand : List ℕ → Command → Type 0
+SpellsCommand line (Add number triple) =
+    (text : List ℕ) × (line ≡ codes "add " ++ (decimal number ++ 32 ∷ text)) × IsCloneNumber number
+    × IsUtf8 text × SpellsTriple text triple × IsWithin triple
+SpellsCommand line (Deliver message number) =
+    (line ≡ codes "deliver " ++ (decimal message ++ 32 ∷ decimal number)) × (message < 2 ^ 64) × IsCloneNumber number
+SpellsCommand line (Show number) = (line ≡ codes "show " ++ decimal number) × IsCloneNumber number
+SpellsCommand line (Compare number other) =
+    (line ≡ codes "compare " ++ (decimal number ++ 32 ∷ decimal other)) × IsCloneNumber number × IsCloneNumber other

@@ -1,0 +1,106 @@
+-- One step of the world: a command, its reply, and the world after it. Each pair of a command and a state of its clone
+-- is listed.
+use Rattle.std.specs.Prelude.{◌≡◌, ℕ, ◌+◌, ◌<◌, ◌≤◌, List, [], ◌∷◌, ◌++◌, ◌⊎◌, ◌↔◌, length, MatchOption}
+use Rattle.rdf_terms.specs.declared.terms.Triple.{Triple}
+use Rattle.tree_clock.specs.declared.dots.Dot.{Dot}
+use Rattle.tree_clock.specs.declared.dots.Range.{Range}
+use Rattle.tree_clock.specs.Dot.{Knows}
+use Rattle.mld_ops.specs.declared.tagged.Tagged.{Tagged}
+use Rattle.mld_ops.specs.History.{Operation, dot_at}
+use Rattle.mld_ops.specs.Meaning.{IsMeaning}
+use Rattle.mld_model.specs.declared.Command.{Command}
+use Rattle.mld_model.specs.declared.Command.TheVariants.{Add, Deliver, Show, Compare}
+use Rattle.mld_model.specs.Clone.{Clone, Absent, Asking, Empty, Down, Live, Stored, known_of, with_range, one_tick, IsKnown, IsReady, IsWithin}
+use Rattle.mld_model.specs.World.{World, Message, RangeOf, Want, SnapshotOf, JoinAsk, JoinGive, message_at, clone_at, with_clone}
+use Rattle.mld_model.specs.Reply.{Reply, Did, Took, AlreadyKnown, Shows, Same, Less, More, Apart, NoMessage, Ignored, IsAbsent, IsAsking, IsDown}
+
+-- a reply that changes nothing
+abbrev pub Answers : World → Reply → Reply → World → Type 0
+Answers world answer reply next = (reply ≡ answer) × (next ≡ world)
+
+-- the tick after the last that is known of the path
+pub record IsNextTick (known : List Range) (path : List ℕ) (tick : ℕ) : Type 0 where
+  pub positive : 1 ≤ tick
+  pub after : (other : ℕ) → Knows known (dot_at path other) ↔ ((1 ≤ other) × (other < tick))
+
+-- the world after the clone of the number has made the operation and sent it
+abbrev pub after_operation : World → ℕ → Stored → List Range → Operation → World
+after_operation world number stored held operation =
+    let range = one_tick operation.dot.path operation.dot.tick in
+    record (with_clone world number (Live (with_range stored range) held)) {
+      history = operation ∷ world.history;
+      messages = world.messages ++ RangeOf range ∷ [];
+    }
+
+-- a local change: an operation with the next tick, whose causes are all that the clone knows
+pub record Makes (world : World) (number : ℕ) (stored : Stored) (held : List Range) (deletes : List Tagged) (inserts : List Triple) (reply : Reply) (next : World) : Type 0 where
+  pub tick : ℕ
+  pub is_next : IsNextTick (known_of stored) stored.path tick
+  pub replies : reply ≡ Did (dot_at stored.path tick) (length world.messages + 1)
+  pub changes : next ≡ after_operation world number stored held
+    (record { dot = dot_at stored.path tick; causes = known_of stored; deletes = deletes; inserts = inserts })
+
+-- a triple is added by the operation that inserts it
+abbrev pub Adds : World → ℕ → Triple → Clone → Reply → World → Type 0
+Adds world number triple Absent reply next = Answers world IsAbsent reply next
+Adds world number triple Asking reply next = Answers world IsAsking reply next
+Adds world number triple Empty reply next = Answers world IsDown reply next
+Adds world number triple (Down stored) reply next = Answers world IsDown reply next
+Adds world number triple (Live stored held) reply next = Makes world number stored held [] (triple ∷ []) reply next
+
+-- a range that comes to a live clone which holds nothing back: it is known, or it is ready and taken
+abbrev pub Receives : World → ℕ → Stored → List Range → Range → Reply → World → Type 0
+Receives world number stored held range reply next =
+    (IsKnown (known_of stored) range × Answers world AlreadyKnown reply next)
+    ⊎ (IsReady world.history (known_of stored) range × (held ≡ []) × (reply ≡ Took (range ∷ []))
+       × (next ≡ with_clone world number (Live (with_range stored range) held)))
+
+-- a message comes to a clone; other messages than ranges are never sent yet
+abbrev pub Takes : World → ℕ → Message → Clone → Reply → World → Type 0
+Takes world number message Absent reply next = Answers world IsAbsent reply next
+Takes world number (RangeOf range) Asking reply next = Answers world Ignored reply next
+Takes world number message Empty reply next = Answers world IsDown reply next
+Takes world number message (Down stored) reply next = Answers world IsDown reply next
+Takes world number (RangeOf range) (Live stored held) reply next = Receives world number stored held range reply next
+Takes world number message clone reply next = ⊥
+
+-- the pairs of a clone: the meaning of the dots that it knows
+abbrev pub Lists : World → Clone → Reply → World → Type 0
+Lists world Absent reply next = Answers world IsAbsent reply next
+Lists world Asking reply next = Answers world IsAsking reply next
+Lists world Empty reply next = Answers world IsDown reply next
+Lists world (Down stored) reply next = Answers world IsDown reply next
+Lists world (Live stored held) reply next =
+    (pairs : List Tagged) × IsMeaning world.history (known_of stored) pairs × Answers world (Shows pairs) reply next
+
+-- how two sets of dots compare
+abbrev pub Compares : List Range → List Range → Reply → Type 0
+Compares known other reply =
+    (IsWithin known other × IsWithin other known × (reply ≡ Same))
+    ⊎ ((IsWithin known other × ¬ IsWithin other known × (reply ≡ Less))
+    ⊎ ((¬ IsWithin known other × IsWithin other known × (reply ≡ More))
+    ⊎ (¬ IsWithin known other × ¬ IsWithin other known × (reply ≡ Apart))))
+
+-- the dots of a live clone beside those of another
+abbrev pub ComparesWith : World → Stored → Clone → Reply → World → Type 0
+ComparesWith world stored Absent reply next = Answers world IsAbsent reply next
+ComparesWith world stored Asking reply next = Answers world IsAsking reply next
+ComparesWith world stored Empty reply next = Answers world IsDown reply next
+ComparesWith world stored (Down other) reply next = Answers world IsDown reply next
+ComparesWith world stored (Live other held) reply next = Compares (known_of stored) (known_of other) reply × (next ≡ world)
+
+-- the states of both clones are looked at in turn
+abbrev pub Weighs : World → Clone → Clone → Reply → World → Type 0
+Weighs world Absent other reply next = Answers world IsAbsent reply next
+Weighs world Asking other reply next = Answers world IsAsking reply next
+Weighs world Empty other reply next = Answers world IsDown reply next
+Weighs world (Down stored) other reply next = Answers world IsDown reply next
+Weighs world (Live stored held) other reply next = ComparesWith world stored other reply next
+
+-- the step: the world before, the command, the reply, the world after
+unfoldable pub Step : World → Command → Reply → World → Type 0
+Step world (Add number triple) reply next = Adds world number triple (clone_at world number) reply next
+Step world (Deliver message number) reply next =
+    MatchOption (message_at world message) (Answers world NoMessage reply next) (λ sent. Takes world number sent (clone_at world number) reply next)
+Step world (Show number) reply next = Lists world (clone_at world number) reply next
+Step world (Compare number other) reply next = Weighs world (clone_at world number) (clone_at world other) reply next

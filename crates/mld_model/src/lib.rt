@@ -1,0 +1,18 @@
+//! The model that the programs are proved against: definitions of clones, worlds, steps, schedules and runs, and the
+//! laws over them. Its functions have no code: each carries a law as its contract.
+#![tactic(auto)]
+
+use rdf_terms::Triple;
+
+/// A command of a schedule. The numbers of clones are 0 to 31, those of messages begin with 1.
+#[derive(Debug, Drop)]
+pub enum Command {
+    /// `add C TRIPLE`: clone C inserts the triple.
+    Add(u8, Triple),
+    /// `deliver M C`: message M comes to clone C.
+    Deliver(u64, u8),
+    /// `show C`: the pairs of clone C.
+    Show(u8),
+    /// `compare C C`: the dots that two clones know, side by side.
+    Compare(u8, u8),
+}

@@ -1,0 +1,5 @@
+pub mod Tagged
+pub mod Entry
+pub mod History
+pub mod Meaning
+pub mod Net
