@@ -6,3 +6,4 @@ pub mod Schedule
 pub mod Runs
 pub mod Sound
 pub mod StandsFor
+pub mod SetLaws
