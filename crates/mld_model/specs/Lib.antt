@@ -7,3 +7,6 @@ pub mod Runs
 pub mod Sound
 pub mod StandsFor
 pub mod SetLaws
+pub mod HistoryLaws
+pub mod SoundLaws
+pub mod FoundedLaws
