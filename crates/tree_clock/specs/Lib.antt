@@ -1,4 +1,5 @@
 pub mod Lists
 pub mod Path
+pub mod Letters
 pub mod Dot
 pub mod Clock
