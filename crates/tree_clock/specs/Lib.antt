@@ -2,4 +2,5 @@ pub mod Lists
 pub mod Path
 pub mod Letters
 pub mod Dot
+pub mod DotLaws
 pub mod Clock
