@@ -57,3 +57,62 @@ impl Range {
         dot.path == self.path && self.first <= dot.tick && dot.tick <= self.last
     }
 }
+
+#[cfg(test)]
+mod tests {
+    use super::*;
+    use std::test::Fail;
+
+    #[test]
+    fn dots_and_ranges_print_their_ticks(rt: HostRuntime) -> Result<(), Fail> {
+        let path = Path::root().child(false).child(true);
+        let dot = Dot { path, tick: 3 };
+        let range = Range {
+            path,
+            first: 1,
+            last: 3,
+        };
+        assert_eq!(rt; format!(in rt.alloc(); "{dot}")?.as_str(), "r01.3");
+        assert_eq!(rt; format!(in rt.alloc(); "{range}")?.as_str(), "r01.1-3");
+        Ok(())
+    }
+
+    #[test]
+    fn dots_are_ordered_by_path_before_tick(rt: HostRuntime) {
+        let low = Dot {
+            path: Path::root().child(false),
+            tick: 9,
+        };
+        let high = Dot {
+            path: Path::root().child(true),
+            tick: 2,
+        };
+        let later = Dot {
+            path: Path::root().child(true),
+            tick: 3,
+        };
+        assert!(rt; low < high);
+        assert!(rt; high < later);
+    }
+
+    #[test]
+    fn a_range_has_its_first_and_last_tick(rt: HostRuntime) {
+        let path = Path::root();
+        let range = Range {
+            path,
+            first: 2,
+            last: 4,
+        };
+        assert!(rt; !range.contains(&Dot { path, tick: 1 }));
+        assert!(rt; range.contains(&Dot { path, tick: 2 }));
+        assert!(rt; range.contains(&Dot { path, tick: 4 }));
+        assert!(rt; !range.contains(&Dot { path, tick: 5 }));
+        let other = path.child(true);
+        assert!(rt;
+            !range.contains(&Dot {
+                path: other,
+                tick: 2
+            })
+        );
+    }
+}

@@ -89,3 +89,42 @@ pub fn knows(ranges: &[Range], dot: &Dot) -> bool
     }
     false
 }
+
+#[cfg(test)]
+mod tests {
+    use super::*;
+    use crate::paths::Path;
+    use std::test::Fail;
+
+    #[test]
+    fn a_list_knows_the_dots_of_its_ranges(rt: HostRuntime) -> Result<(), Fail> {
+        let path = Path::root();
+        let mut ranges = Ranges::new(rt.alloc());
+        assert!(rt; ranges.is_empty());
+        ranges.push(Range {
+            path,
+            first: 1,
+            last: 2,
+        })?;
+        ranges.push(Range {
+            path: path.child(true),
+            first: 5,
+            last: 5,
+        })?;
+        let copy = ranges.copy_in(rt.alloc())?;
+        assert_eq!(rt; copy.len(), 2);
+        assert!(rt; copy.knows(&Dot { path, tick: 2 }));
+        assert!(rt; !copy.knows(&Dot { path, tick: 5 }));
+        let right = path.child(true);
+        assert!(rt;
+            knows(
+                copy.as_slice(),
+                &Dot {
+                    path: right,
+                    tick: 5
+                }
+            )
+        );
+        Ok(())
+    }
+}
