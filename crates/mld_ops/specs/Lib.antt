@@ -3,3 +3,4 @@ pub mod Entry
 pub mod History
 pub mod Meaning
 pub mod Net
+pub mod AscendingLaws
