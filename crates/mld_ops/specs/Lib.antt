@@ -4,8 +4,8 @@ pub mod History
 pub mod Meaning
 pub mod Net
 pub mod AscendingLaws
-pub mod TempLaws
 pub mod TaggedLaws
 pub mod Effect
 pub mod HistoryLaws
 pub mod MeaningLaws
+pub mod NetLaws

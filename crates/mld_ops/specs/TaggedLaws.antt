@@ -10,7 +10,8 @@ use Rattle.tree_clock.specs.declared.dots.Dot.{Dot}
 use Rattle.tree_clock.specs.Dot.{dot_cmp}
 use Rattle.mld_ops.specs.declared.tagged.Tagged.{Tagged}
 use Rattle.mld_ops.specs.Tagged.{tagged_cmp, insert_cmp}
-use Rattle.mld_ops.specs.TempLaws.{triple_total, triple_exact, dot_total, dot_exact}
+use Rattle.rdf_terms.specs.OrderLaws.{triple_total, triple_exact}
+use Rattle.tree_clock.specs.DotLaws.{dot_total, dot_exact}
 
 -- pairs are in a total order
 pub tagged_total : IsTotalOrder tagged_cmp
