@@ -1,7 +1,6 @@
 //! IRIs, literals, terms and triples (RDF 1.1 Concepts, section 3).
-use std::marker::Model;
-
 use crate::texts::Text;
+use std::marker::Model;
 
 /// An absolute IRI of at most 2,048 bytes.
 #[derive(Debug, Drop)]
@@ -20,9 +19,28 @@ impl Model for Iri {
     ghost invariant = { λ i. IsTrue (is_absolute i.text) };
 }
 
+impl Iri {
+    ghost use Rattle.std.specs.Prelude.{◌≡◌, IsTrue};
+    ghost use Rattle.rdf_terms.specs.Iri.{is_absolute};
+
+    /// The text of the IRI, without angle brackets.
+    pub fn as_str(&self) -> &str
+        ensures text { result.now ≡ self.now }
+        ensures absolute { IsTrue (is_absolute self.now) }
+    {
+        self.text.as_str()
+    }
+}
+
+/// xsd:string, the datatype of a literal that names none.
+pub const XSD_STRING: &str = "http://www.w3.org/2001/XMLSchema#string";
+
+/// rdf:langString, the datatype of literals with a language tag, which none names.
+pub const RDF_LANG_STRING: &str = "http://www.w3.org/1999/02/22-rdf-syntax-ns#langString";
+
 /// What a literal has beside its lexical form.
 #[derive(Debug, Drop)]
-enum Kind {
+pub enum Kind {
     /// A datatype other than rdf:langString.
     Datatype(Iri),
     /// A language tag in lower case.
@@ -32,8 +50,8 @@ enum Kind {
 /// A literal: a lexical form of at most 1,048,576 bytes with a datatype or a language tag.
 #[derive(Debug, Drop)]
 pub struct Literal {
-    lexical: Text,
-    kind: Kind,
+    pub(crate) lexical: Text,
+    pub(crate) kind: Kind,
 }
 
 impl Model for Literal {
