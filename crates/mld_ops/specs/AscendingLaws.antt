@@ -1,13 +1,13 @@
 -- Laws of strictly ascending lists, at any total order that tells different values apart.
-use Rattle.std.specs.Prelude.{◌≡◌, ℕ, ◌+◌, ◌<◌, ◌≤◌, List, [], ◌∷◌, ◌++◌, ◌⊎◌, Bool, true, false, IsTrue, refl, cond, ◌↔◌}
-use Rattle.std.proofs.Common.{sym, ap, subst, inl, inr, ◌∙◌, suc, zero, take, drop, get_or, length, arith, zero-le, suc-le-suc}
+use Rattle.std.specs.Prelude.{◌≡◌, List, [], ◌∷◌, ◌++◌, ◌⊎◌, Bool, true, refl, ◌↔◌}
+use Rattle.std.proofs.Common.{sym, ap, subst, inl, inr, ◌∙◌}
 use Rattle.std.proofs.lemmas.Bool.{cases_Bool, true≢false}
 use Rattle.std.proofs.lemmas.Cmp.{tied_itself}
 use Rattle.std.proofs.lemmas.Map.Lookups.{CmpEqualImpliesEq}
 use Rattle.std.specs.Cmp.{IsTotalOrder}
-use Rattle.std.specs.List.{filter, insert}
+use Rattle.std.specs.List.{filter}
 use Rattle.std.specs.declared.cmp.Ordering.{Ordering}
-use Rattle.std.specs.declared.cmp.Ordering.TheVariants.{Less, Equal, Greater}
+use Rattle.std.specs.declared.cmp.Ordering.TheVariants.{Less}
 use Rattle.tree_clock.specs.Lists.{Has, IsBelowAll, IsAscending}
 
 -- a value that is below each member is below a given one
@@ -39,13 +39,13 @@ has_right (z ∷ xs) ys x h = inr (has_right xs ys x h)
 -- two ascending lists joined ascend where each member of the first is below each of the second
 pub ascending_append : {X : Type 0} (R : X → X → Ordering) (xs ys : List X) → IsAscending R xs → IsAscending R ys → ((x y : X) → Has xs x → Has ys y → R x y ≡ Less) → IsAscending R (xs ++ ys)
 ascending_append R [] ys a b h = b
-ascending_append R (x ∷ xs) ys a b h =
-    ( below_from_members R x (xs ++ ys) (λ y k. elim (has_append xs ys y k) [
-        inl m ↦ below_member R x xs y a.0 m
-      | inr m ↦ h x y (inl refl) m
-      ])
-    , ascending_append R xs ys a.1 b (λ w y k m. h w y (inr k) m)
-    )
+ascending_append R (x ∷ xs) ys a b h = (
+  below_from_members R x (xs ++ ys) (λ y k. elim (has_append xs ys y k) [
+    | inl m ↦ below_member R x xs y a.0 m
+    | inr m ↦ h x y (inl refl) m
+  ]),
+  ascending_append R xs ys a.1 b (λ w y k m. h w y (inr k) m),
+)
 
 -- the two parts of an ascending list
 pub ascending_front : {X : Type 0} (R : X → X → Ordering) (xs ys : List X) → IsAscending R (xs ++ ys) → IsAscending R xs
@@ -61,28 +61,28 @@ pub has_filter : {X : Type 0} (p : X → Bool) (xs : List X) (x : X) → Has (fi
 has_filter p [] x = (λ h. absurd h, λ h. absurd h.0)
 has_filter p (y ∷ xs) x =
     elim (cases_Bool (p y)) [
-      inl e ↦ rw e
-        ( λ h. elim h [
-            inl k ↦ (inl k, subst (λ w. p w ≡ true) k e)
+      | inl e ↦ rw e (
+        λ h. elim h [
+          | inl k ↦ (inl k, subst (λ w. p w ≡ true) k e)
           | inr k ↦ let f = (has_filter p xs x).0 k in (inr f.0, f.1)
-          ]
-        , λ h. elim h.0 [ inl k ↦ inl k | inr k ↦ inr ((has_filter p xs x).1 (k, h.1)) ]
-        )
-    | inr e ↦ rw e
-        ( λ h. let f = (has_filter p xs x).0 h in (inr f.0, f.1)
-        , λ h. elim h.0 [
-            inl k ↦ absurd (true≢false (sym h.1 ∙ ap p (sym k) ∙ e))
+        ],
+        λ h. elim h.0 [ inl k ↦ inl k | inr k ↦ inr ((has_filter p xs x).1 (k, h.1)) ],
+      )
+      | inr e ↦ rw e (
+        λ h. let f = (has_filter p xs x).0 h in (inr f.0, f.1),
+        λ h. elim h.0 [
+          | inl k ↦ absurd (true≢false (sym h.1 ∙ ap p (sym k) ∙ e))
           | inr k ↦ (has_filter p xs x).1 (k, h.1)
-          ]
-        )
+        ],
+      )
     ]
 
 pub ascending_filter : {X : Type 0} (R : X → X → Ordering) (p : X → Bool) (xs : List X) → IsAscending R xs → IsAscending R (filter p xs)
 ascending_filter R p [] a = tt
 ascending_filter R p (x ∷ xs) a =
     elim (cases_Bool (p x)) [
-      inl e ↦ rw e (below_from_members R x (filter p xs) (λ y k. below_member R x xs y a.0 ((has_filter p xs y).0 k).0), ascending_filter R p xs a.1)
-    | inr e ↦ rw e (ascending_filter R p xs a.1)
+      | inl e ↦ rw e (below_from_members R x (filter p xs) (λ y k. below_member R x xs y a.0 ((has_filter p xs y).0 k).0), ascending_filter R p xs a.1)
+      | inr e ↦ rw e (ascending_filter R p xs a.1)
     ]
 
 module _ {X : Type 0} (R : X → X → Ordering) (total : IsTotalOrder R) where
@@ -116,6 +116,6 @@ module _ {X : Type 0} (R : X → X → Ordering) (total : IsTotalOrder R) where
   same_ascending exact (x ∷ xs) (y ∷ ys) a b f g =
       let e = same_head exact x y xs ys a.0 b.0 (f x (inl refl)) (g y (inl refl)) in
       let t = same_ascending exact xs ys a.1 b.1
-          (λ z h. same_tail x y xs ys e a.0 z h (f z (inr h)))
-          (λ z h. same_tail y x ys xs (sym e) b.0 z h (g z (inr h))) in
+      (λ z h. same_tail x y xs ys e a.0 z h (f z (inr h)))
+      (λ z h. same_tail y x ys xs (sym e) b.0 z h (g z (inr h))) in
       cc

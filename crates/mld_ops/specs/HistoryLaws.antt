@@ -1,12 +1,12 @@
 -- Laws of lawful histories and of sets of known dots.
-use Rattle.std.specs.Prelude.{◌≡◌, ◌≢◌, ℕ, ◌<◌, ◌≤◌, List, [], ◌∷◌, ◌++◌, ◌⊎◌, ◌↔◌, refl}
+use Rattle.std.specs.Prelude.{◌≡◌, ◌≢◌, List, [], ◌∷◌, ◌++◌, ◌⊎◌, ◌↔◌}
 use Rattle.std.proofs.Common.{sym, ap, subst, inl, inr, ◌∙◌, arith}
 use Rattle.tree_clock.specs.declared.dots.Dot.{Dot}
 use Rattle.tree_clock.specs.declared.dots.Range.{Range}
 use Rattle.tree_clock.specs.Lists.{Has}
 use Rattle.tree_clock.specs.Dot.{IsIn, Knows}
 use Rattle.mld_ops.specs.declared.tagged.Tagged.{Tagged}
-use Rattle.mld_ops.specs.History.{Operation, IsDone, IsInserted, IsClosed, IsNext, IsLawful, dot_at}
+use Rattle.mld_ops.specs.History.{Operation, IsDone, IsClosed, IsNext, IsLawful}
 use Rattle.mld_ops.specs.Effect.{range_of}
 
 -- dots with the same path and tick are one
@@ -38,10 +38,10 @@ range_of_has own dot e = record { path = ap (λ (d : Dot). d.path) e; above = om
 
 -- one more dot is known
 pub knows_taken : (known : List Range) (own dot : Dot) → Knows (known ++ range_of own ∷ []) dot ↔ (Knows known dot ⊎ (dot ≡ own))
-knows_taken known own dot =
-    ( λ h. elim (knows_more known (range_of own) dot h) [ inl k ↦ inl k | inr k ↦ inr (in_range_of own dot k) ]
-    , λ h. elim h [ inl k ↦ knows_still known (range_of own) dot k | inr e ↦ knows_last known (range_of own) dot (range_of_has own dot e) ]
-    )
+knows_taken known own dot = (
+  λ h. elim (knows_more known (range_of own) dot h) [ inl k ↦ inl k | inr k ↦ inr (in_range_of own dot k) ],
+  λ h. elim h [ inl k ↦ knows_still known (range_of own) dot k | inr e ↦ knows_last known (range_of own) dot (range_of_has own dot e) ],
+)
 
 -- two operations of a lawful history with one dot are one
 pub one_operation : (history : List Operation) (a b : Operation) → IsLawful history → Has history a → Has history b → a.dot ≡ b.dot → a ≡ b
@@ -94,21 +94,21 @@ pub closed_with_unknown : (history : List Operation) (known : List Range) (opera
 closed_with_unknown history known operation c u = record {
   done = λ dot k. let d = c.done dot k in record { operation = d.operation; stands = inr d.stands; is = d.is };
   causes = λ other h k dot m. elim h [
-    inl e ↦ absurd (u (subst (λ (w : Operation). Knows known w.dot) (sym e) k))
-  | inr s ↦ c.causes other s k dot m
+    | inl e ↦ absurd (u (subst (λ (w : Operation). Knows known w.dot) (sym e) k))
+    | inr s ↦ c.causes other s k dot m
   ];
 }
 
 -- a closed set stays so with one more dot whose causes it has
 pub closed_with_taken : (history : List Operation) (known : List Range) (operation : Operation) → IsLawful history → IsClosed history known → Has history operation
-  → ((dot : Dot) → Knows operation.causes dot → Knows known dot) → IsClosed history (known ++ range_of operation.dot ∷ [])
+    → ((dot : Dot) → Knows operation.causes dot → Knows known dot) → IsClosed history (known ++ range_of operation.dot ∷ [])
 closed_with_taken history known operation l c h ready = record {
   done = λ dot k. elim ((knows_taken known operation.dot dot).0 k) [
-    inl m ↦ c.done dot m
-  | inr e ↦ record { operation = operation; stands = h; is = sym e }
+    | inl m ↦ c.done dot m
+    | inr e ↦ record { operation = operation; stands = h; is = sym e }
   ];
   causes = λ other s k dot m. (knows_taken known operation.dot dot).1 (inl (elim ((knows_taken known operation.dot other.dot).0 k) [
-    inl n ↦ c.causes other s n dot m
-  | inr e ↦ ready dot (subst (λ (w : Operation). Knows w.causes dot) (one_operation history other operation l s h e) m)
+    | inl n ↦ c.causes other s n dot m
+    | inr e ↦ ready dot (subst (λ (w : Operation). Knows w.causes dot) (one_operation history other operation l s h e) m)
   ]));
 }

@@ -1,7 +1,6 @@
 -- Laws of the meaning of a history.
-use Rattle.std.specs.Prelude.{◌≡◌, ◌≢◌, ℕ, List, [], ◌∷◌, ◌++◌, ◌⊎◌, ◌↔◌, refl}
+use Rattle.std.specs.Prelude.{◌≡◌, List, [], ◌∷◌, ◌++◌, refl}
 use Rattle.std.proofs.Common.{sym, ap, subst, inl, inr, ◌∙◌}
-use Rattle.rdf_terms.specs.declared.terms.Triple.{Triple}
 use Rattle.tree_clock.specs.declared.dots.Dot.{Dot}
 use Rattle.tree_clock.specs.declared.dots.Range.{Range}
 use Rattle.tree_clock.specs.Lists.{Has, IsAscending}
@@ -44,8 +43,8 @@ meaning_with_unknown history known operation pairs m unknown = record {
     covered = k.covered;
     inserted = record { operation = k.inserted.operation; stands = inr k.inserted.stands; is = k.inserted.is; inserts = k.inserted.inserts };
     kept = λ o s n. elim s [
-      inl e ↦ absurd (unknown (subst (λ (w : Operation). Knows known w.dot) (sym e) n))
-    | inr t ↦ k.kept o t n
+      | inl e ↦ absurd (unknown (subst (λ (w : Operation). Knows known w.dot) (sym e) n))
+      | inr t ↦ k.kept o t n
     ];
   };
   complete = λ x k. m.complete x (record {
@@ -59,8 +58,8 @@ meaning_with_unknown history known operation pairs m unknown = record {
     earlier x c i = record {
       operation = i.operation;
       stands = elim i.stands [
-        inl e ↦ absurd (unknown (subst (λ d. Knows known d) (sym (ap (λ (w : Operation). w.dot) e ∙ i.is)) c))
-      | inr s ↦ s
+        | inl e ↦ absurd (unknown (subst (λ d. Knows known d) (sym (ap (λ (w : Operation). w.dot) e ∙ i.is)) c))
+        | inr s ↦ s
       ];
       is = i.is;
       inserts = i.inserts;
@@ -68,24 +67,24 @@ meaning_with_unknown history known operation pairs m unknown = record {
 
 -- the pairs of the meaning once one more operation is known: those before that it doesn't delete, and those that it inserts
 pub meaning_of_taken : (history : List Operation) (known : List Range) (operation : Operation) (p q : List Tagged)
-  → IsLawful history → IsClosed history known → Has history operation → ¬ Knows known operation.dot
-  → IsMeaning history known p → IsAscending tagged_cmp q → IsAfter operation p q
-  → IsMeaning history (known ++ range_of operation.dot ∷ []) q
+    → IsLawful history → IsClosed history known → Has history operation → ¬ Knows known operation.dot
+    → IsMeaning history known p → IsAscending tagged_cmp q → IsAfter operation p q
+    → IsMeaning history (known ++ range_of operation.dot ∷ []) q
 meaning_of_taken history known operation p q l c h unknown m a iff = record {
   ascending = a;
   sound = λ x k. elim ((iff x).0 k) [
-    inl w ↦ old_stays x w.0 w.1
-  | inr w ↦ own_stays x w.0 w.1
+    | inl w ↦ old_stays x w.0 w.1
+    | inr w ↦ own_stays x w.0 w.1
   ];
   complete = λ x k. (iff x).1 (elim ((knows_taken known operation.dot x.dot).0 k.covered) [
-    inl n ↦ inl
-      ( m.complete x (record { covered = n; inserted = k.inserted; kept = λ o s i. k.kept o s ((knows_taken known operation.dot o.dot).1 (inl i)) })
-      , k.kept operation h ((knows_taken known operation.dot operation.dot).1 (inr refl))
-      )
-  | inr e ↦ inr
-      ( e
-      , subst (λ (w : Operation). Has w.inserts x.triple) (one_operation history k.inserted.operation operation l k.inserted.stands h (k.inserted.is ∙ e)) k.inserted.inserts
-      )
+    | inl n ↦ inl (
+      m.complete x (record { covered = n; inserted = k.inserted; kept = λ o s i. k.kept o s ((knows_taken known operation.dot o.dot).1 (inl i)) }),
+      k.kept operation h ((knows_taken known operation.dot operation.dot).1 (inr refl)),
+    )
+    | inr e ↦ inr (
+      e,
+      subst (λ (w : Operation). Has w.inserts x.triple) (one_operation history k.inserted.operation operation l k.inserted.stands h (k.inserted.is ∙ e)) k.inserted.inserts,
+    )
   ]);
 }
   where
@@ -96,8 +95,8 @@ meaning_of_taken history known operation p q l c h unknown m a iff = record {
           covered = (knows_taken known operation.dot x.dot).1 (inl k.covered);
           inserted = k.inserted;
           kept = λ o s n. elim ((knows_taken known operation.dot o.dot).0 n) [
-            inl y ↦ k.kept o s y
-          | inr e ↦ λ z. d (subst (λ (w : Operation). Has w.deletes x) (one_operation history o operation l s h e) z)
+            | inl y ↦ k.kept o s y
+            | inr e ↦ λ z. d (subst (λ (w : Operation). Has w.deletes x) (one_operation history o operation l s h e) z)
           ];
         }
 
@@ -106,7 +105,7 @@ meaning_of_taken history known operation p q l c h unknown m a iff = record {
       covered = (knows_taken known operation.dot x.dot).1 (inr e);
       inserted = record { operation = operation; stands = h; is = sym e; inserts = i };
       kept = λ o s n. elim ((knows_taken known operation.dot o.dot).0 n) [
-        inl y ↦ λ z. unknown (subst (λ d. Knows known d) e (c.causes o s y x.dot (deletes_causes history o x l s z)))
-      | inr f ↦ λ z. deletes_none_own history o x l s z (e ∙ sym f)
+        | inl y ↦ λ z. unknown (subst (λ d. Knows known d) e (c.causes o s y x.dot (deletes_causes history o x l s z)))
+        | inr f ↦ λ z. deletes_none_own history o x l s z (e ∙ sym f)
       ];
     }
