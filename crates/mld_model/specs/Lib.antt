@@ -6,3 +6,5 @@ pub mod Schedule
 pub mod Runs
 pub mod Sound
 pub mod StandsFor
+pub mod Bytes
+pub mod TripleBytes
