@@ -8,3 +8,5 @@ pub mod Sound
 pub mod StandsFor
 pub mod Bytes
 pub mod TripleBytes
+pub mod Laws
+pub mod ScheduleLaws
