@@ -10,3 +10,7 @@ pub mod SetLaws
 pub mod HistoryLaws
 pub mod SoundLaws
 pub mod FoundedLaws
+pub mod Bytes
+pub mod TripleBytes
+pub mod Laws
+pub mod ScheduleLaws
