@@ -6,7 +6,9 @@ pub mod Schedule
 pub mod Runs
 pub mod Sound
 pub mod StandsFor
-pub mod SetLaws
+pub mod Local
+pub mod LocalLaws
+pub mod KnownLaws
 pub mod HistoryLaws
 pub mod SoundLaws
 pub mod FoundedLaws

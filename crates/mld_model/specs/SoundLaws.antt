@@ -12,12 +12,15 @@ use Rattle.tree_clock.specs.Dot.{IsIn, Knows}
 use Rattle.rdf_terms.specs.declared.terms.Triple.{Triple}
 use Rattle.mld_ops.specs.declared.tagged.Tagged.{Tagged}
 use Rattle.mld_ops.specs.History.{Operation, IsDone, IsInserted, IsClosed, IsNext, IsLawful, dot_at}
+use Rattle.mld_ops.specs.Effect.{range_of}
+use Rattle.mld_ops.specs.HistoryLaws.{same_dot}
+use Rattle.mld_ops.specs.AscendingLaws.{has_append}
 use Rattle.mld_ops.specs.Net.{IsTime}
-use Rattle.mld_model.specs.Clone.{Clone, Absent, Asking, Empty, Down, Live, Stored, known_of, with_range, one_tick, last_dot, IsKnown, IsReady}
+use Rattle.mld_model.specs.Clone.{Clone, Absent, Asking, Empty, Down, Live, Stored, known_of, with_range, last_dot, IsKnown, IsReady}
 use Rattle.mld_model.specs.World.{World, Message, RangeOf, Want, SnapshotOf, JoinAsk, JoinGive, clone_at, with_clone, founded, founded_path, founded_clone, clone_count}
 use Rattle.mld_model.specs.Step.{IsNextTick, after_operation}
 use Rattle.mld_model.specs.Sound.{Keeps, IsSoundClone, IsSoundMessage, IsSound}
-use Rattle.mld_model.specs.SetLaws.{known_with-old, known_with-new, known_with-split, Has-split}
+use Rattle.mld_model.specs.KnownLaws.{known_with-old, known_with-new, known_with-split}
 use Rattle.mld_model.specs.HistoryLaws.{IsDone-more, done_not_fresh, IsClosed-more, causes_closed, earlier_ticks, tick_positive}
 
 -- a number at which a clone stands is one of the list's places
@@ -83,10 +86,6 @@ other_stays_sound history next stored is_next apart sound = record {
       | inr earlier ↦ sound.below operation earlier goes_on ];
   }
 
--- a dot is its path and its tick
-pub dot_by : (dot other : Dot) → dot.path ≡ other.path → dot.tick ≡ other.tick → dot ≡ other
-dot_by dot other path tick = ap (λ (p : List ℕ). dot_at p dot.tick) path ∙ ap (λ (t : ℕ). dot_at other.path t) tick
-
 -- a list of length 0 is empty
 pub empty_list : (xs : List ℕ) → length xs ≡ 0 → xs ≡ []
 empty_list [] h = refl
@@ -102,11 +101,11 @@ no_proper_prefix path (rest, some, same) =
 pub maker_stays_sound : (history : List Operation) (next : Operation) (stored : Stored) (tick : ℕ)
   → next.dot ≡ dot_at stored.path tick → next.causes ≡ known_of stored
   → IsNext history next → IsSoundClone history stored
-  → IsSoundClone (next ∷ history) (with_range stored (one_tick stored.path tick))
+  → IsSoundClone (next ∷ history) (with_range stored (range_of (dot_at stored.path tick)))
 maker_stays_sound history next stored tick dot causes is_next sound =
-    let range : Range = one_tick stored.path tick in
+    let range : Range = range_of (dot_at stored.path tick) in
     let inside : IsIn range next.dot = record { path = ap (λ (d : Dot). d.path) dot; above = omega (arith, ap (λ (d : Dot). d.tick) dot); below = omega (arith, ap (λ (d : Dot). d.tick) dot) } in
-    let of_range : (d : Dot) → IsIn range d → d ≡ next.dot = λ d i. dot_by d next.dot (i.path ∙ sym inside.path) (omega (arith, i.above, i.below, inside.above, inside.below)) in
+    let of_range : (d : Dot) → IsIn range d → d ≡ next.dot = λ d i. same_dot d next.dot (i.path ∙ sym inside.path) (omega (arith, i.above, i.below, inside.above, inside.below)) in
     let done : (d : Dot) → Knows (known_of (with_range stored range)) d → IsDone (next ∷ history) d = λ d h. elim (known_with-split stored range d h) [
           inl old ↦ IsDone-more history next d (sound.closed.done d old)
         | inr new ↦ record { operation = next; stands = inl refl; is = sym (of_range d new) } ] in
@@ -175,7 +174,7 @@ pub made_sound : (world : World) (number : ℕ) (stored : Stored) (held : List R
   → IsSound (after_operation world number stored held (record { dot = dot_at stored.path tick; causes = known_of stored; deletes = deletes; inserts = inserts }))
 made_sound world number stored held tick deletes inserts sound live is_next covered inserted =
     let operation : Operation = record { dot = dot_at stored.path tick; causes = known_of stored; deletes = deletes; inserts = inserts } in
-    let range : Range = one_tick stored.path tick in
+    let range : Range = range_of (dot_at stored.path tick) in
     let K : Clone → Type 0 = λ c. Keeps c stored in
     let keeps : Keeps (clone_at world number) stored = subst K (sym live) refl in
     let maker : IsSoundClone world.history stored = sound.clones number stored keeps in
@@ -188,11 +187,11 @@ made_sound world number stored held tick deletes inserts sound live is_next cove
       clones = λ one first one_keeps. elim (keeps_after world.clones number (with_range stored range) held one first one_keeps) [
           inl a ↦ let P : Stored → Type 0 = λ s. IsSoundClone (operation ∷ world.history) s in subst P a.1 made
         | inr a ↦ other_stays_sound world.history operation first next (sound.apart number one stored first (λ e. a.0 (sym e)) keeps a.1) (sound.clones one first a.1) ];
-      messages = λ message sent. elim (Has-split world.messages (RangeOf range ∷ []) message sent) [
+      messages = λ message sent. elim (has_append world.messages (RangeOf range ∷ []) message sent) [
           inl old ↦ IsSoundMessage-more world.history operation message next (sound.messages message old)
         | inr new ↦ elim new [
             inl is ↦ let P : Message → Type 0 = λ m. IsSoundMessage (operation ∷ world.history) m in
-              subst P is (is_next.positive, omega arith, λ dot inside. record { operation = operation; stands = inl refl; is = dot_by operation.dot dot (sym inside.path) (omega (arith, inside.above, inside.below)) })
+              subst P is (is_next.positive, omega arith, λ dot inside. record { operation = operation; stands = inl refl; is = same_dot operation.dot dot (sym inside.path) (omega (arith, inside.above, inside.below)) })
           | inr none ↦ absurd none ] ];
     }
 
@@ -226,11 +225,11 @@ taker_stays_sound history stored range lawful sent ready sound =
       = λ operation stands inside dot cause. elim (cases_lt operation.dot.tick range.last) [
             inl before ↦
               let reached : operation.dot.tick < last.operation.dot.tick = omega (arith, before, ap (λ (d : Dot). d.tick) last.is) in
-              let e : dot_at last.operation.dot.path operation.dot.tick ≡ operation.dot = dot_by (dot_at last.operation.dot.path operation.dot.tick) operation.dot (ends.path ∙ sym inside.path) refl in
+              let e : dot_at last.operation.dot.path operation.dot.tick ≡ operation.dot = same_dot (dot_at last.operation.dot.path operation.dot.tick) operation.dot (ends.path ∙ sym inside.path) refl in
               let P : Dot → Type 0 = λ d. Knows last.operation.causes d in
               let known : Knows last.operation.causes operation.dot = subst P e (earlier_ticks history last.operation lawful last.stands operation.dot.tick (tick_positive history operation lawful stands) reached) in
               record { last = last.operation; stands = last.stands; is = last.is; cause = inl ((causes_closed history last.operation lawful last.stands).causes operation stands known dot cause) }
-          | inr end ↦ record { last = operation; stands = stands; is = dot_by operation.dot (last_dot range) inside.path (omega (arith, end, inside.below)); cause = inl cause } ] in
+          | inr end ↦ record { last = operation; stands = stands; is = same_dot operation.dot (last_dot range) inside.path (omega (arith, end, inside.below)); cause = inl cause } ] in
     record {
       closed = record {
         done = λ dot h. elim (known_with-split stored range dot h) [ inl old ↦ sound.closed.done dot old | inr new ↦ sent.2 dot new ];
