@@ -37,7 +37,11 @@ fn is_scheme_byte(byte: u8) -> bool
 fn is_excluded(byte: u8) -> bool
     ensures { result ≡ is_excluded byte }
 {
-    byte <= b' ' || matches!(byte, b'"' | b'<' | b'>' | b'\\' | b'^' | b'`' | b'{' | b'|' | b'}')
+    byte <= b' '
+        || matches!(
+            byte,
+            b'"' | b'<' | b'>' | b'\\' | b'^' | b'`' | b'{' | b'|' | b'}'
+        )
 }
 
 /// Whether scheme bytes and a colon come first.
@@ -166,7 +170,8 @@ pub fn is_blank(byte: u8) -> bool
 pub fn is_plain(text: &str) -> bool
     ensures { result ≡ is_plain text.now }
 {
-    text.as_bytes()
-        .iter()
-        .all(|byte| !(*byte == b'"' || *byte == b'\\' || *byte == b'\n' || *byte == b'\r'))
+    text.as_bytes().iter().all(|byte| !(*byte == b'"'
+        || *byte == b'\\'
+        || *byte == b'\n'
+        || *byte == b'\r'))
 }
