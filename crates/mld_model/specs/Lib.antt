@@ -6,8 +6,12 @@ pub mod Schedule
 pub mod Runs
 pub mod Sound
 pub mod StandsFor
+pub mod TmpClock
 pub mod Local
 pub mod LocalLaws
+pub mod StandsForLaws
+pub mod WorldStep
+pub mod WorldLaws
 pub mod KnownLaws
 pub mod HistoryLaws
 pub mod SoundLaws
