@@ -2,6 +2,10 @@
 //! laws over them. Its functions have no code: each carries a law as its contract.
 #![tactic(auto)]
 
+mod one_verdict;
+
+pub use one_verdict::one_reading;
+
 use rdf_terms::Triple;
 
 /// A command of a schedule. The numbers of clones are 0 to 31, those of messages begin with 1.
