@@ -37,7 +37,7 @@ pub record IsInserted (history : List Operation) (pair : Tagged) : Type 0 where
 pub record IsClosed (history : List Operation) (known : List Range) : Type 0 where
   pub done : (dot : Dot) → Knows known dot → IsDone history dot
   pub causes : (operation : Operation) → Has history operation → Knows known operation.dot
-    → (dot : Dot) → Knows operation.causes dot → Knows known dot
+      → (dot : Dot) → Knows operation.causes dot → Knows known dot
 
 -- what an operation keeps that comes after a history
 pub record IsNext (history : List Operation) (operation : Operation) : Type 0 where
@@ -49,7 +49,7 @@ pub record IsNext (history : List Operation) (operation : Operation) : Type 0 wh
   pub ticks : (tick : ℕ) → 1 ≤ tick → tick < operation.dot.tick → Knows operation.causes (dot_at operation.dot.path tick)
   -- they contain every dot whose path is a proper prefix of its path, and no dot of the history goes on from its path
   pub above : (other : Operation) → Has history other → IsProperPrefix other.dot.path operation.dot.path
-    → Knows operation.causes other.dot
+      → Knows operation.causes other.dot
   pub below : (other : Operation) → Has history other → ¬ IsProperPrefix operation.dot.path other.dot.path
   -- each pair that it deletes was inserted by one of its causes
   pub deletes : (pair : Tagged) → Has operation.deletes pair → Knows operation.causes pair.dot

@@ -3,3 +3,9 @@ pub mod Entry
 pub mod History
 pub mod Meaning
 pub mod Net
+pub mod AscendingLaws
+pub mod TaggedLaws
+pub mod Effect
+pub mod HistoryLaws
+pub mod MeaningLaws
+pub mod NetLaws

@@ -1,5 +1,5 @@
 -- The net effect of a range of operations of one path.
-use Rattle.std.specs.Prelude.{◌≡◌, ℕ, ◌<◌, ◌≤◌, List, ◌⊎◌, ◌↔◌}
+use Rattle.std.specs.Prelude.{◌≡◌, ℕ, ◌<◌, List, ◌⊎◌, ◌↔◌}
 use Rattle.rdf_terms.specs.declared.terms.Triple.{Triple}
 use Rattle.tree_clock.specs.declared.dots.Dot.{Dot}
 use Rattle.tree_clock.specs.declared.dots.Range.{Range}
@@ -16,7 +16,7 @@ pub record IsNetInsert (history : List Operation) (range : Range) (triple : Trip
   pub inside : IsIn range (dot_at range.path tick)
   pub inserted : IsInserted history (record { triple = triple; dot = dot_at range.path tick })
   pub kept : (operation : Operation) → Has history operation → IsIn range operation.dot → tick < operation.dot.tick
-    → ¬ Has operation.deletes (record { triple = triple; dot = dot_at range.path tick })
+      → ¬ Has operation.deletes (record { triple = triple; dot = dot_at range.path tick })
 
 -- the pair is deleted by an operation of the range, and its dot is none of the range
 pub record IsNetDelete (history : List Operation) (range : Range) (pair : Tagged) : Type 0 where

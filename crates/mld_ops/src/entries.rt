@@ -1,8 +1,7 @@
 //! Entries: the net effect of a range of operations.
-use std::marker::Model;
-
 use crate::tagged::Tagged;
 use rdf_terms::Triple;
+use std::marker::Model;
 use tree_clock::{Clock, Range};
 
 /// The net effect of the operations of a range, as it is sent and kept.

@@ -1,8 +1,8 @@
 -- The grammar of a triple in a text without backslashes (N-Triples 1.1, the rule `triple`, with blanks allowed
 -- before, between and after the terms). Texts with a backslash are no text of this grammar yet.
-use Rattle.std.specs.Prelude.{◌≡◌, ℕ, List, [], ◌∷◌, ◌++◌, ◌⊎◌, Bool, ◌&&◌, ◌||◌, not, nat_le, ◌==◌, ◌≤◌, IsTrue, length}
+use Rattle.std.specs.Prelude.{◌≡◌, ℕ, List, [], ◌∷◌, ◌++◌, ◌⊎◌, Bool, ◌||◌, not, ◌==◌, ◌≤◌, IsTrue, length}
 use Rattle.std.specs.List.{list_all}
-use Rattle.std.specs.Str.{IsUtf8, str_to_ascii_lowercase}
+use Rattle.std.specs.Str.{str_to_ascii_lowercase}
 use Rattle.rdf_terms.specs.declared.terms.Term.{Term}
 use Rattle.rdf_terms.specs.declared.terms.Term.TheVariants as terms
 use Rattle.rdf_terms.specs.declared.terms.Triple.{Triple}
@@ -26,7 +26,7 @@ abbrev pub SpellsLiteral : List ℕ → LiteralValue → Type 0
 SpellsLiteral text (Typed lexical datatype) =
     IsTrue (is_plain lexical)
     × ((text ≡ quoted lexical × datatype ≡ xsd_string)
-       ⊎ (text ≡ quoted lexical ++ 94 ∷ 94 ∷ iri_text datatype × IsTrue (is_iri datatype) × IsTrue (not (is_same datatype rdf_lang_string))))
+    ⊎ (text ≡ quoted lexical ++ 94 ∷ 94 ∷ iri_text datatype × IsTrue (is_iri datatype) × IsTrue (not (is_same datatype rdf_lang_string))))
 SpellsLiteral text (Tagged lexical tag) =
     IsTrue (is_plain lexical)
     × ((written : List ℕ) × IsTrue (is_language_tag written) × (tag ≡ str_to_ascii_lowercase written) × (text ≡ quoted lexical ++ 64 ∷ written))

@@ -4,4 +4,6 @@ pub mod Literal
 pub mod LiteralView
 pub mod Spelling
 pub mod Order
+pub mod OrderLaws
+pub mod Compare
 pub mod Grammar

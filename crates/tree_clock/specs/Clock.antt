@@ -1,11 +1,11 @@
 -- A clock is a finite map from paths to ticks: the list of its paths with their ticks, which are at least 1, by path.
 -- It stands for the dots of each path from tick 1 to the path's ticks (version vectors; interval tree clocks).
-use Rattle.std.specs.Prelude.{◌≡◌, ℕ, ◌<◌, ◌≤◌, List, [], ◌∷◌, ◌⊎◌, Bool, true, false, if◌then◌else◌, max}
+use Rattle.std.specs.Prelude.{◌≡◌, ℕ, ◌≤◌, List, [], ◌∷◌, ◌⊎◌, if◌then◌else◌, max}
 use Rattle.std.specs.Cmp.Lexicographic.{pointwise}
 use Rattle.std.specs.Prelude.{nat_eq}
 use Rattle.std.specs.List.{AllByRecursion}
 use Rattle.tree_clock.specs.declared.dots.Dot.{Dot}
-use Rattle.tree_clock.specs.Lists.{Has, IsAscending}
+use Rattle.tree_clock.specs.Lists.{IsAscending}
 use Rattle.tree_clock.specs.Path.{path_cmp}
 
 -- the ticks of a path, 0 where the list lacks it

@@ -1,4 +1,6 @@
 pub mod Lists
 pub mod Path
+pub mod Letters
 pub mod Dot
+pub mod DotLaws
 pub mod Clock

@@ -1,7 +1,6 @@
 //! Clocks: finite maps from paths to ticks.
-use std::marker::Model;
-
 use crate::paths::Path;
+use std::marker::Model;
 
 /// A clock. It stands for the dots of each of its paths from tick 1 to the path's ticks.
 #[derive(Drop)]

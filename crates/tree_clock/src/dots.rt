@@ -1,8 +1,11 @@
 //! Dots and ranges of dots.
-use crate::paths::Path;
+ghost use Rattle.std.specs.Prelude.{◌↔◌, IsTrue, Some};
 
-/// A dot: one tick of a path, from 1 to 4,294,967,295.
-#[derive(Debug, Drop)]
+use crate::paths::Path;
+use std::fmt;
+
+/// A dot: one tick of a path, from 1 to 4,294,967,295. Its text is the path's, a dot and the tick, as `r01.3`.
+#[derive(Clone, Copy, Debug, PartialEq, Eq, PartialOrd, Ord)]
 pub struct Dot {
     /// The path.
     pub path: Path,
@@ -10,8 +13,19 @@ pub struct Dot {
     pub tick: u32,
 }
 
-/// The dots of a path from a first tick to a last.
-#[derive(Debug, Drop)]
+impl fmt::Display for Dot {
+    ghost use Rattle.std.specs.Prelude.{Some};
+    ghost use Rattle.tree_clock.specs.Dot.{dot_text};
+
+    ghost output = { λ d. Some (dot_text d) };
+
+    fn fmt<W: fmt::Write>(&self, f: &mut fmt::Formatter<W>) -> fmt::Result {
+        write!(f, "{}.{}", self.path, self.tick)
+    }
+}
+
+/// The dots of a path from a first tick to a last. Its text is as `r01.1-3`.
+#[derive(Clone, Copy, Debug, PartialEq, Eq)]
 pub struct Range {
     /// The path.
     pub path: Path,
@@ -19,4 +33,86 @@ pub struct Range {
     pub first: u32,
     /// The last tick.
     pub last: u32,
+}
+
+impl fmt::Display for Range {
+    ghost use Rattle.std.specs.Prelude.{Some};
+    ghost use Rattle.tree_clock.specs.Dot.{range_text};
+
+    ghost output = { λ r. Some (range_text r) };
+
+    fn fmt<W: fmt::Write>(&self, f: &mut fmt::Formatter<W>) -> fmt::Result {
+        write!(f, "{}.{}-{}", self.path, self.first, self.last)
+    }
+}
+
+impl Range {
+    ghost use Rattle.std.specs.Prelude.{◌↔◌, IsTrue};
+    ghost use Rattle.tree_clock.specs.Dot.{IsIn};
+
+    /// Whether the dot is one of the range.
+    pub fn contains(&self, dot: &Dot) -> bool
+        ensures { IsTrue result ↔ IsIn self.now dot.now }
+    {
+        dot.path == self.path && self.first <= dot.tick && dot.tick <= self.last
+    }
+}
+
+#[cfg(test)]
+mod tests {
+    use super::*;
+    use std::test::Fail;
+
+    #[test]
+    fn dots_and_ranges_print_their_ticks(rt: HostRuntime) -> Result<(), Fail> {
+        let path = Path::root().child(false).child(true);
+        let dot = Dot { path, tick: 3 };
+        let range = Range {
+            path,
+            first: 1,
+            last: 3,
+        };
+        assert_eq!(rt; format!(in rt.alloc(); "{dot}")?.as_str(), "r01.3");
+        assert_eq!(rt; format!(in rt.alloc(); "{range}")?.as_str(), "r01.1-3");
+        Ok(())
+    }
+
+    #[test]
+    fn dots_are_ordered_by_path_before_tick(rt: HostRuntime) {
+        let low = Dot {
+            path: Path::root().child(false),
+            tick: 9,
+        };
+        let high = Dot {
+            path: Path::root().child(true),
+            tick: 2,
+        };
+        let later = Dot {
+            path: Path::root().child(true),
+            tick: 3,
+        };
+        assert!(rt; low < high);
+        assert!(rt; high < later);
+    }
+
+    #[test]
+    fn a_range_has_its_first_and_last_tick(rt: HostRuntime) {
+        let path = Path::root();
+        let range = Range {
+            path,
+            first: 2,
+            last: 4,
+        };
+        assert!(rt; !range.contains(&Dot { path, tick: 1 }));
+        assert!(rt; range.contains(&Dot { path, tick: 2 }));
+        assert!(rt; range.contains(&Dot { path, tick: 4 }));
+        assert!(rt; !range.contains(&Dot { path, tick: 5 }));
+        let other = path.child(true);
+        assert!(rt;
+            !range.contains(&Dot {
+                path: other,
+                tick: 2
+            })
+        );
+    }
 }

@@ -1,20 +1,201 @@
 //! Paths of the tree of leaves.
+ghost use Rattle.std.specs.Prelude.{◌≡◌, ℕ, ◌+◌, ◌-◌, ◌<◌, ◌≤◌, ◌^◌, ◌↔◌, ◌++◌, ◌∷◌, [], List, All, IsTrue, if◌then◌else◌, length, nat_eq, slice_index, take, Some};
+ghost use Rattle.std.proofs.Common.{rules};
+ghost use Rattle.std.specs.Cmp.{partial_equiv_from_equiv, partial_order_from_own_ties};
+ghost use Rattle.std.specs.Cmp.Lexicographic.{pointwise, slice_cmp, nat_list_eq_equiv};
+ghost use Rattle.std.specs.Cmp.Rules.{comparing};
+ghost use Rattle.std.specs.Ordering.{nat_cmp, as_partial_cmp};
+ghost use Rattle.tree_clock.specs.Letters.{IsLetter};
+ghost use Rattle.tree_clock.specs.Path.{letters, path_text};
+
+use std::cmp::Ordering;
+use std::fmt;
 use std::marker::Model;
 
 /// A path: at most 64 letters, each `0` or `1`. Contracts see the list of its letters, 48 and 49.
-#[derive(Debug, Drop)]
+#[derive(Clone, Copy, Debug)]
 pub struct Path {
     bits: u64,
     len: u8,
 }
 
 impl Model for Path {
-    ghost use Rattle.std.specs.Prelude.{List, ℕ, ◌≤◌, ◌<◌, ◌^◌};
-    ghost use Rattle.tree_clock.specs.Path.{letters};
+    ghost use Rattle.std.specs.Prelude.{List, ℕ, ◌≤◌, ◌<◌, ◌^◌, length};
 
     ghost Value = { List ℕ };
+
+    ghost use Rattle.tree_clock.specs.Path.{letters};
+    ghost use Rattle.tree_clock.specs.Letters.{number_of, inside-letters};
 
     ghost view = { λ p. letters p.len p.bits };
 
     ghost invariant = { λ p. (p.len ≤ 64) × (p.bits < 2 ^ p.len) };
+
+    ghost inverse = { λ path. record { bits = number_of path; len = length path } };
+
+    ghost inverse_ok = { inside-letters };
+}
+
+impl Path {
+    /// The path with no letter.
+    pub fn root() -> Path
+        ensures { result ≡ [] }
+    {
+        Path { bits: 0, len: 0 }
+    }
+
+    /// The number of letters.
+    pub fn len(&self) -> u8
+        ensures value { result ≡ length self.now }
+        ensures at_most_64 { result ≤ 64 }
+        ensures letters { All IsLetter self.now }
+    {
+        self.len
+    }
+
+    /// Whether the path is the root.
+    pub fn is_empty(&self) -> bool
+        ensures { IsTrue result ↔ (self.now ≡ []) }
+    {
+        self.len == 0
+    }
+
+    /// Whether the letter at a place, counted from 0 at the front, is `1`.
+    pub fn letter(&self, i: u8) -> bool
+        requires { i < length self.now }
+        ensures { slice_index self.now i ≡ (if result then 49 else 48) }
+    {
+        self.bits >> (self.len - 1 - i) & 1 == 1
+    }
+
+    /// The path with one more letter, `1` or `0`.
+    pub fn child(&self, one: bool) -> Path
+        requires { length self.now < 64 }
+        ensures { result ≡ self.now ++ (if one then 49 else 48) ∷ [] }
+    {
+        Path {
+            bits: self.bits * 2 + u64::from(one),
+            len: self.len + 1,
+        }
+    }
+
+    // The number that the first letters spell.
+    fn front(&self, n: u8) -> u64
+        requires { n ≤ length self.now }
+        ensures below { result < 2 ^ n }
+        ensures letters { letters n result ≡ take n self.now }
+    {
+        if n == 0 {
+            0
+        } else {
+            self.bits >> (self.len - n)
+        }
+    }
+}
+
+impl PartialEq for Path {
+    ghost eq = { pointwise nat_eq };
+
+    ghost laws = { partial_equiv_from_equiv nat_list_eq_equiv };
+
+    fn eq(&self, other: &Path) -> bool {
+        self.len == other.len && self.bits == other.bits
+    }
+}
+
+impl Eq for Path {
+    ghost laws = { nat_list_eq_equiv };
+}
+
+impl PartialOrd for Path {
+    ghost partial_cmp = { as_partial_cmp (slice_cmp nat_cmp) };
+
+    ghost laws = { partial_order_from_own_ties (Prim.search (comparing, rules)) (Prim.search (comparing, rules)) };
+
+    fn partial_cmp(&self, other: &Path) -> Option<Ordering> {
+        Some(self.cmp(other))
+    }
+}
+
+impl Ord for Path {
+    ghost cmp = { slice_cmp nat_cmp };
+
+    ghost total = { Prim.search (comparing, rules) };
+
+    ghost matches_partial_cmp = { Prim.search (comparing, rules) };
+
+    ghost matches_eq = { Prim.search (comparing, rules) };
+
+    fn cmp(&self, other: &Path) -> Ordering {
+        let common = self.len.min(other.len);
+        self.front(common)
+            .cmp(&other.front(common))
+            .then(self.len.cmp(&other.len))
+    }
+}
+
+impl fmt::Display for Path {
+    ghost output = { λ p. Some (path_text p) };
+
+    fn fmt<W: fmt::Write>(&self, f: &mut fmt::Formatter<W>) -> fmt::Result {
+        write!(f, "r")?;
+        for i in 0..self.len() {
+            if self.letter(i) {
+                write!(f, "1")?;
+            } else {
+                write!(f, "0")?;
+            }
+        }
+        Ok(())
+    }
+}
+
+#[cfg(test)]
+mod tests {
+    use super::*;
+    use std::test::Fail;
+
+    fn path(letters: &[u8]) -> Path {
+        let mut path = Path::root();
+        for letter in letters {
+            if path.len() < 64 {
+                path = path.child(*letter == b'1');
+            }
+        }
+        path
+    }
+
+    #[test]
+    fn a_path_prints_its_letters(rt: HostRuntime) -> Result<(), Fail> {
+        let zeros = path(&[b'0'; 64]);
+        assert!(rt; Path::root().is_empty());
+        assert_eq!(rt; path(b"01").len(), 2);
+        assert!(rt; !path(b"01").is_empty());
+        assert_eq!(rt; format!(in rt.alloc(); "{}", Path::root())?.as_str(), "r");
+        assert_eq!(rt; format!(in rt.alloc(); "{}", path(b"01"))?.as_str(), "r01");
+        assert_eq!(rt; zeros.len(), 64);
+        let text = "r0000000000000000000000000000000000000000000000000000000000000000";
+        assert_eq!(rt; format!(in rt.alloc(); "{zeros}")?.as_str(), text);
+        Ok(())
+    }
+
+    #[test]
+    fn letters_are_counted_from_the_front(rt: HostRuntime) {
+        let path = path(b"011");
+        assert_eq!(rt; path.len(), 3);
+        assert!(rt; !path.letter(0));
+        assert!(rt; path.letter(1));
+        assert!(rt; path.letter(2));
+    }
+
+    #[test]
+    fn paths_are_ordered_by_their_texts(rt: HostRuntime) {
+        assert!(rt; Path::root() < path(b"0"));
+        assert!(rt; path(b"0") < path(b"00"));
+        assert!(rt; path(b"00") < path(b"01"));
+        assert!(rt; path(b"01") < path(b"1"));
+        assert!(rt; path(&[b'0'; 64]) < path(b"1"));
+        assert!(rt; path(b"0") != path(b"00"));
+        assert!(rt; path(b"01") == Path::root().child(false).child(true));
+    }
 }

@@ -1,0 +1,81 @@
+-- Steps of the loop that looks for the first place where two texts differ, and ranks at a place.
+use Rattle.std.proofs.Common.{◌≡◌, ◌≢◌, ℕ, zero, suc, ◌+◌, ◌<◌, ◌≤◌, List, [], ◌∷◌, length, get_or, drop, min, refl, inl, inr, arith}
+use Rattle.std.proofs.lemmas.List.{drop_more, drop_all}
+use Rattle.std.proofs.lemmas.Bool.{eq-eqb, ne_eqb, cases_lt}
+use Rattle.std.proofs.Common.{◌++◌, true, false}
+use Rattle.std.specs.Cmp.Lexicographic.{slice_cmp, nat_list_cmp_total}
+use Rattle.std.specs.Ordering.{nat_cmp, ordering_reverse}
+use Rattle.std.specs.declared.cmp.Ordering.TheVariants.{Less, Equal, Greater}
+use Rattle.rdf_terms.specs.declared.terms.Kind.{Kind}
+use Rattle.rdf_terms.specs.declared.terms.Kind.TheVariants.{Datatype, Language}
+use Rattle.rdf_terms.specs.Iri.{iri_text}
+use Rattle.rdf_terms.specs.Literal.{LiteralValue, Typed, Tagged, xsd_string, is_same}
+use Rattle.rdf_terms.specs.LiteralView.{literal_of}
+use Rattle.rdf_terms.specs.Spelling.{datatype_text, escaped, literal_text}
+use Rattle.rdf_terms.specs.Compare.{common, rank, rank_at, suffix_text}
+
+pub rank_at_read : (xs : List ℕ) (i : ℕ) → i < length xs → rank_at xs i ≡ rank (get_or xs i 0)
+rank_at_read [] i h = absurd (omega arith)
+rank_at_read (x ∷ xs) zero h = refl
+rank_at_read (x ∷ xs) (suc i) h = rank_at_read xs i (omega arith)
+
+pub rank_at_past : (xs : List ℕ) (i : ℕ) → length xs ≤ i → rank_at xs i ≡ 8704
+rank_at_past [] i h = refl
+rank_at_past (x ∷ xs) zero h = absurd (omega arith)
+rank_at_past (x ∷ xs) (suc i) h = rank_at_past xs i (omega arith)
+
+pub common_more : (xs ys : List ℕ) (i : ℕ) → i < length xs → i < length ys → get_or xs i 0 ≡ get_or ys i 0 → common (drop i xs) (drop i ys) ≡ suc (common (drop (i + 1) xs) (drop (i + 1) ys))
+common_more xs ys i h k e = rw (drop_more xs i 0 h, drop_more ys i 0 k, eq-eqb (get_or xs i 0) (get_or ys i 0) e) refl
+
+pub common_stop : (xs ys : List ℕ) (i : ℕ) → i < length xs → i < length ys → get_or xs i 0 ≢ get_or ys i 0 → common (drop i xs) (drop i ys) ≡ 0
+common_stop xs ys i h k n = rw (drop_more xs i 0 h, drop_more ys i 0 k, ne_eqb (get_or xs i 0) (get_or ys i 0) n) refl
+
+common_none : (xs : List ℕ) → common xs [] ≡ 0
+common_none [] = refl
+common_none (x ∷ xs) = refl
+
+pub common_end : (xs ys : List ℕ) (i : ℕ) → min (length xs) (length ys) ≤ i → common (drop i xs) (drop i ys) ≡ 0
+common_end xs ys i h =
+    elim (cases_lt i (length xs)) [
+      | inl k ↦ let past : length ys ≤ i = omega arith in rw (drop_all i ys past) (common_none (drop i xs))
+      | inr k ↦ rw (drop_all i xs k) refl
+    ]
+
+-- what is written for two datatypes, by whether each is xsd:string
+pub both_plain : (a b : List ℕ) → is_same a xsd_string ≡ true → is_same b xsd_string ≡ true → slice_cmp nat_cmp (datatype_text a) (datatype_text b) ≡ Equal
+both_plain a b h g = rw (h, g) refl
+
+pub first_plain : (a b : List ℕ) → is_same a xsd_string ≡ true → is_same b xsd_string ≡ false → slice_cmp nat_cmp (datatype_text a) (datatype_text b) ≡ Less
+first_plain a b h g = rw (h, g) refl
+
+pub second_plain : (a b : List ℕ) → is_same a xsd_string ≡ false → is_same b xsd_string ≡ true → slice_cmp nat_cmp (datatype_text a) (datatype_text b) ≡ Greater
+second_plain a b h g = rw (h, g) refl
+
+pub none_plain : (a b : List ℕ) → is_same a xsd_string ≡ false → is_same b xsd_string ≡ false → slice_cmp nat_cmp (datatype_text a) (datatype_text b) ≡ slice_cmp nat_cmp (iri_text a) (iri_text b)
+none_plain a b h g = rw (h, g) refl
+
+-- what is written for a datatype beside what is written for a tag
+pub plain_tag : (a tag : List ℕ) → is_same a xsd_string ≡ true → slice_cmp nat_cmp (datatype_text a) (64 ∷ tag) ≡ Less
+plain_tag a tag h = rw h refl
+
+pub other_tag : (a tag : List ℕ) → is_same a xsd_string ≡ false → slice_cmp nat_cmp (datatype_text a) (64 ∷ tag) ≡ Greater
+other_tag a tag h = rw h refl
+
+pub tag_turned : (a tag : List ℕ) → slice_cmp nat_cmp (64 ∷ tag) (datatype_text a) ≡ ordering_reverse (slice_cmp nat_cmp (datatype_text a) (64 ∷ tag))
+tag_turned a tag = nat_list_cmp_total.antisymm (64 ∷ tag) (datatype_text a)
+
+-- a literal is written as its lexical form and what is behind its quotes
+pub literals_cmp : (a b : List ℕ) (k l : Kind) → slice_cmp nat_cmp (literal_text (literal_of a k)) (literal_text (literal_of b l)) ≡ slice_cmp nat_cmp (escaped a ++ 34 ∷ suffix_text k) (escaped b ++ 34 ∷ suffix_text l)
+literals_cmp a b (Datatype i) (Datatype j) = refl
+literals_cmp a b (Datatype i) (Language t) = refl
+literals_cmp a b (Language t) (Datatype j) = refl
+literals_cmp a b (Language t) (Language u) = refl
+
+-- a literal comes before an IRI
+pub literal_first : (l : LiteralValue) (iri : List ℕ) → slice_cmp nat_cmp (literal_text l) (iri_text iri) ≡ Less
+literal_first (Typed a d) iri = refl
+literal_first (Tagged a t) iri = refl
+
+pub iri_last : (iri : List ℕ) (l : LiteralValue) → slice_cmp nat_cmp (iri_text iri) (literal_text l) ≡ Greater
+iri_last iri (Typed a d) = refl
+iri_last iri (Tagged a t) = refl

@@ -1,0 +1,80 @@
+//! Comparisons of texts as they would be written, without writing them: the first place where they differ decides.
+ghost use Rattle.std.specs.Prelude.{◌≡◌, ℕ, List, [], ◌∷◌, ◌++◌, slice_index_or};
+ghost use Rattle.std.specs.Cmp.Lexicographic.{slice_cmp};
+ghost use Rattle.std.specs.Ordering.{nat_cmp, ordering_then};
+ghost use Rattle.rdf_terms.specs.Compare.{common, rank, rank_at};
+ghost use Rattle.rdf_terms.specs.Spelling.{escaped};
+
+use std::cmp::Ordering;
+
+/// How many bytes two texts have in common from their starts.
+#[tactic(auto, using(crate::proofs::Comparing::common_more, crate::proofs::Comparing::common_stop, crate::proofs::Comparing::common_end))]
+fn common_len(a: &[u8], b: &[u8]) -> usize
+    ensures { result ≡ common a.now b.now }
+{
+    let shorter = a.len().min(b.len());
+    for i in 0..shorter {
+        if a[i] != b[i] {
+            return i;
+        }
+    }
+    shorter
+}
+
+/// Where a byte of a lexical form stands among all bytes, as it is written: a quote, a backslash, LF and CR
+/// have a backslash first, and then a second byte that decides.
+fn rank(byte: u8) -> u32
+    ensures { result ≡ rank byte }
+{
+    match byte {
+        b'"' => 23586,
+        b'\\' => 23644,
+        b'\n' => 23662,
+        b'\r' => 23666,
+        _ => byte as u32 * 256,
+    }
+}
+
+/// The rank of the byte at a place, or of the quote that ends the lexical form.
+#[tactic(auto, using(crate::proofs::Comparing::rank_at_read, crate::proofs::Comparing::rank_at_past))]
+fn rank_at(text: &[u8], place: usize) -> u32
+    ensures { result ≡ rank_at text.now place }
+{
+    if place < text.len() {
+        rank(text[place])
+    } else {
+        8704
+    }
+}
+
+/// Compares two lexical forms as they are written, with their closing quotes.
+#[tactic(auto, using(crate::specs::OrderLaws::escaped_cmp))]
+pub fn cmp_escaped(a: &[u8], b: &[u8]) -> Ordering
+    ensures { (u v : List ℕ)
+        → slice_cmp nat_cmp (escaped a.now ++ 34 ∷ u) (escaped b.now ++ 34 ∷ v)
+        ≡ ordering_then result (slice_cmp nat_cmp u v) }
+{
+    let place = common_len(a, b);
+    rank_at(a, place).cmp(&rank_at(b, place))
+}
+
+/// Compares two texts that both go on with `>` and end there.
+#[tactic(auto, using(crate::specs::OrderLaws::ended_cmp))]
+pub fn cmp_closed(a: &[u8], b: &[u8]) -> Ordering
+    ensures { result ≡ slice_cmp nat_cmp (a.now ++ 62 ∷ []) (b.now ++ 62 ∷ []) }
+{
+    let place = common_len(a, b);
+    let first = byte_at(a, place).cmp(&byte_at(b, place));
+    first.then(a.len().cmp(&b.len()))
+}
+
+/// The byte at a place, or `>` at the end.
+fn byte_at(text: &[u8], place: usize) -> u8
+    ensures { result ≡ slice_index_or text.now place 62 }
+{
+    if place < text.len() {
+        text[place]
+    } else {
+        b'>'
+    }
+}

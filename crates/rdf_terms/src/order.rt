@@ -1,0 +1,196 @@
+//! The order of terms and triples: by the bytes of what is written for them, with no memory taken.
+ghost use Rattle.std.specs.Prelude.{◌≡◌, ℕ, List, ◌∷◌};
+ghost use Rattle.std.specs.Cmp.{IsTotalOrder, partial_equiv_from_equiv, eq_by_cmp_equiv, partial_order_from_total};
+ghost use Rattle.std.specs.Cmp.Lexicographic.{slice_cmp};
+ghost use Rattle.std.specs.Cmp.Rules.{comparing};
+ghost use Rattle.std.proofs.Common.{rules};
+ghost use Rattle.std.proofs.lemmas.Map.Lookups.{CmpEqualImpliesEq};
+ghost use Rattle.std.specs.Ordering.{nat_cmp, eq_by_cmp, as_partial_cmp};
+ghost use Rattle.rdf_terms.specs.Compare.{suffix_text};
+ghost use Rattle.rdf_terms.specs.Iri.{iri_text};
+ghost use Rattle.rdf_terms.specs.Literal.{is_same, xsd_string};
+ghost use Rattle.rdf_terms.specs.Spelling.{datatype_text, literal_text};
+ghost use Rattle.rdf_terms.specs.Order.{term_cmp, triple_cmp};
+ghost use Rattle.rdf_terms.specs.OrderLaws.{term_total, triple_total};
+
+use crate::compare::{cmp_closed, cmp_escaped};
+use crate::terms::{Iri, Kind, Literal, Term, Triple, XSD_STRING};
+use std::cmp::Ordering;
+
+/// Compares two IRIs by their bytes as they are written, so that `<http://d/a#>` comes before `<http://d/a>`.
+fn cmp_iris(a: &Iri, b: &Iri) -> Ordering
+    ensures { result ≡ slice_cmp nat_cmp (iri_text a.now) (iri_text b.now) }
+{
+    cmp_closed(a.as_str().as_bytes(), b.as_str().as_bytes())
+}
+
+/// Whether a literal of this datatype is written without it.
+#[tactic(auto, unfolding(crate::specs::Literal::xsd_string))]
+pub fn is_string_type(datatype: &Iri) -> bool
+    ensures { result ≡ is_same datatype.now xsd_string }
+{
+    datatype.as_str() == XSD_STRING
+}
+
+/// Compares what is written for two datatypes: nothing for xsd:string.
+#[tactic(auto, using(crate::proofs::Comparing::both_plain, crate::proofs::Comparing::first_plain, crate::proofs::Comparing::second_plain, crate::proofs::Comparing::none_plain))]
+fn cmp_datatypes(a: &Iri, b: &Iri) -> Ordering
+    ensures { result ≡ slice_cmp nat_cmp (datatype_text a.now) (datatype_text b.now) }
+{
+    match (is_string_type(a), is_string_type(b)) {
+        (true, true) => Ordering::Equal,
+        (true, false) => Ordering::Less,
+        (false, true) => Ordering::Greater,
+        (false, false) => cmp_iris(a, b),
+    }
+}
+
+/// Compares what is written behind the quotes of two literals.
+#[tactic(auto, using(crate::proofs::Comparing::tag_turned))]
+fn cmp_suffixes(a: &Kind, b: &Kind) -> Ordering
+    ensures { result ≡ slice_cmp nat_cmp (suffix_text a.now) (suffix_text b.now) }
+{
+    match a {
+        Kind::Datatype(datatype) => match b {
+            Kind::Datatype(other) => cmp_datatypes(datatype, other),
+            Kind::Language(_) => cmp_with_tag(datatype),
+        },
+        Kind::Language(tag) => match b {
+            Kind::Datatype(other) => cmp_with_tag(other).reverse(),
+            Kind::Language(other) => tag.as_str().cmp(&other.as_str()),
+        },
+    }
+}
+
+/// Compares what is written for a datatype with what is written for any tag.
+#[tactic(auto, using(crate::proofs::Comparing::plain_tag, crate::proofs::Comparing::other_tag))]
+fn cmp_with_tag(datatype: &Iri) -> Ordering
+    ensures { (tag : List ℕ) → slice_cmp nat_cmp (datatype_text datatype.now) (64 ∷ tag) ≡ result }
+{
+    if is_string_type(datatype) {
+        Ordering::Less
+    } else {
+        Ordering::Greater
+    }
+}
+
+/// Compares two literals by their bytes as they are written.
+#[tactic(auto, using(crate::proofs::Comparing::literals_cmp))]
+fn cmp_literals(a: &Literal, b: &Literal) -> Ordering
+    ensures { result ≡ slice_cmp nat_cmp (literal_text a.now) (literal_text b.now) }
+{
+    let first = cmp_escaped(a.lexical.as_str().as_bytes(), b.lexical.as_str().as_bytes());
+    first.then(cmp_suffixes(&a.kind, &b.kind))
+}
+
+/// Compares two terms by the bytes of what is written for them: literals come before IRIs.
+#[tactic(auto, using(crate::proofs::Comparing::literal_first, crate::proofs::Comparing::iri_last), unfolding(crate::specs::Order::term_cmp, crate::specs::Spelling::term_text))]
+pub fn cmp_terms(a: &Term, b: &Term) -> Ordering
+    ensures { result ≡ term_cmp a.now b.now }
+{
+    match a {
+        Term::Iri(iri) => match b {
+            Term::Iri(other) => cmp_iris(iri, other),
+            Term::Literal(_) => Ordering::Greater,
+        },
+        Term::Literal(literal) => match b {
+            Term::Iri(_) => Ordering::Less,
+            Term::Literal(other) => cmp_literals(literal, other),
+        },
+    }
+}
+
+/// Compares two triples by subject, then predicate, then object.
+#[tactic(auto, unfolding(crate::specs::Order::triple_cmp))]
+pub fn cmp_triples(a: &Triple, b: &Triple) -> Ordering
+    ensures { result ≡ triple_cmp a.now b.now }
+{
+    cmp_iris(&a.s, &b.s)
+        .then(cmp_iris(&a.p, &b.p))
+        .then(cmp_terms(&a.o, &b.o))
+}
+
+impl PartialEq for Term {
+    ghost eq = { eq_by_cmp term_cmp };
+
+    ghost laws = { partial_equiv_from_equiv (eq_by_cmp_equiv term_total) };
+
+    fn eq(&self, other: &Term) -> bool {
+        cmp_terms(self, other).is_eq()
+    }
+}
+
+impl Eq for Term {
+    ghost laws = { eq_by_cmp_equiv term_total };
+}
+
+impl PartialOrd for Term {
+    ghost partial_cmp = { as_partial_cmp term_cmp };
+
+    ghost laws = { partial_order_from_total term_total };
+
+    fn partial_cmp(&self, other: &Term) -> Option<Ordering> {
+        Some(cmp_terms(self, other))
+    }
+}
+
+impl Ord for Term {
+    ghost cmp = { term_cmp };
+
+    ghost total = { term_total };
+
+    ghost matches_partial_cmp = { Prim.search (comparing, rules) };
+
+    ghost matches_eq = { Prim.search (comparing, rules) };
+
+    fn cmp(&self, other: &Term) -> Ordering {
+        cmp_terms(self, other)
+    }
+}
+
+impl PartialEq for Triple {
+    ghost eq = { eq_by_cmp triple_cmp };
+
+    ghost laws = { partial_equiv_from_equiv (eq_by_cmp_equiv triple_total) };
+
+    fn eq(&self, other: &Triple) -> bool {
+        cmp_triples(self, other).is_eq()
+    }
+}
+
+impl Eq for Triple {
+    ghost laws = { eq_by_cmp_equiv triple_total };
+}
+
+impl PartialOrd for Triple {
+    ghost partial_cmp = { as_partial_cmp triple_cmp };
+
+    ghost laws = { partial_order_from_total triple_total };
+
+    fn partial_cmp(&self, other: &Triple) -> Option<Ordering> {
+        Some(cmp_triples(self, other))
+    }
+}
+
+impl Ord for Triple {
+    ghost cmp = { triple_cmp };
+
+    ghost total = { triple_total };
+
+    ghost matches_partial_cmp = { Prim.search (comparing, rules) };
+
+    ghost matches_eq = { Prim.search (comparing, rules) };
+
+    fn cmp(&self, other: &Triple) -> Ordering {
+        cmp_triples(self, other)
+    }
+}
+
+/// The orders of terms and of triples are total, and values that they find equal are the same.
+#[tactic(auto, using(crate::specs::OrderLaws::term_total, crate::specs::OrderLaws::term_exact, crate::specs::OrderLaws::triple_total, crate::specs::OrderLaws::triple_exact))]
+pub fn order_is_total()
+    ensures terms_total { IsTotalOrder term_cmp }
+    ensures terms_exact { CmpEqualImpliesEq term_cmp }
+    ensures triples_total { IsTotalOrder triple_cmp }
+    ensures triples_exact { CmpEqualImpliesEq triple_cmp }
+{}
