@@ -4,7 +4,7 @@
 
 mod one_verdict;
 
-pub use one_verdict::one_reading;
+pub use one_verdict::{one_reading, one_step};
 
 use rdf_terms::Triple;
 
