@@ -1,16 +1,15 @@
 -- A line acts in one way at each stage, a run has one end, and the lines of a schedule have one verdict.
-use Rattle.std.specs.Prelude.{◌≡◌, ℕ, suc, ◌+◌, List, [], ◌∷◌, ◌++◌, ◌⊎◌, IsTrue, length, Option, Some, None, MatchOption}
-use Rattle.std.proofs.Common.{refl, sym, ◌∙◌, subst, ap, arith, inl, inr}
+use Rattle.std.specs.Prelude.{◌≡◌, ℕ, suc, ◌+◌, List, [], ◌∷◌, ◌++◌, ◌⊎◌, length, Option, MatchOption}
+use Rattle.std.proofs.Common.{refl, sym, ◌∙◌, subst, subst₂, ap, arith, inl, inr}
 use Rattle.tree_clock.specs.declared.dots.Range.{Range}
 use Rattle.mld_model.specs.declared.Command.{Command}
 use Rattle.mld_model.specs.declared.Command.TheVariants.{Deliver}
 use Rattle.mld_model.specs.Clone.{Clone, Stored, Live, known_of, IsHeldBack}
-use Rattle.mld_model.specs.World.{World, Message, RangeOf, message_at, clone_at, founded}
+use Rattle.mld_model.specs.World.{World, Message, RangeOf, clone_at}
 use Rattle.mld_model.specs.Reply.{Reply, Ready, NoMessage, reply_text}
 use Rattle.mld_model.specs.Step.{Step, Takes, Receives, Answers}
-use Rattle.mld_model.specs.Schedule.{IsNothing, is_unbuilt, SpellsSetup, SpellsCommand}
-use Rattle.mld_model.specs.Runs.{Stage, Waiting, Running, Founds, Commands, Acts, Runs, Waits, IsUnbuilt, IsBad, Before, IsFirst, StopsBad, StopsUnbuilt, Outcome, Finished, BadLine, UnbuiltLine, Verdict}
-use Rattle.mld_model.specs.Laws.{OneTriple, OneAct, IsOfOneOutcome, OneOutcome, OneRun, OneVerdict}
+use Rattle.mld_model.specs.Runs.{Stage, Waiting, Running, Founds, Commands, Acts, Runs, Waits, IsUnbuilt, IsBad, IsFirst, Outcome, Finished, BadLine, UnbuiltLine, Verdict}
+use Rattle.mld_model.specs.Laws.{OneTriple, OneAct, OneOutcome, OneRun, OneVerdict}
 use Rattle.mld_model.specs.ScheduleLaws.{one_kind, one_setup, one_command}
 use Rattle.mld_model.specs.StepLaws.{one_step}
 
@@ -28,7 +27,7 @@ commands_once : OneTriple → (world : World) (line text other : List ℕ) (next
 commands_once triples world line text other next after p q =
     let command = one_command triples line p.command q.command p.spells q.spells in
     let same = one_step world q.command p.reply q.reply p.after q.after
-      (subst (λ (command : Command). Step world command p.reply p.after) command p.steps) q.steps in
+    (subst (λ (command : Command). Step world command p.reply p.after) command p.steps) q.steps in
     (p.replies ∙ ap reply_text same.0 ∙ sym q.replies, p.changes ∙ ap Running same.1 ∙ sym q.changes)
 
 -- a line adds one text to what is written, and leads to one stage
@@ -55,9 +54,9 @@ not_delivered : (world : World) (message number : ℕ) (reply : Reply) (next : W
 unfolding Step
 not_delivered world message number reply next waits step =
     let sent : Takes world number (RangeOf waits.range) (clone_at world number) reply next =
-      subst (λ (sent : Option Message). MatchOption sent (Answers world NoMessage reply next) (λ message. Takes world number message (clone_at world number) reply next)) waits.sent step in
+    subst (λ (sent : Option Message). MatchOption sent (Answers world NoMessage reply next) (λ message. Takes world number message (clone_at world number) reply next)) waits.sent step in
     let taken : Takes world number (RangeOf waits.range) (Live waits.stored waits.held) reply next =
-      subst (λ (clone : Clone). Takes world number (RangeOf waits.range) clone reply next) waits.live sent in
+    subst (λ (clone : Clone). Takes world number (RangeOf waits.range) clone reply next) waits.live sent in
     not_received world number waits.stored waits.held waits.range reply next waits.back taken
 
 -- ---- the outcomes of a line
@@ -146,14 +145,75 @@ reads_once triples (line ∷ lines) stage outcome other (inr (inr p)) (inr (inr 
 
 -- a run over all lines reads them
 reads_finished : (lines : List (List ℕ)) (stage : Stage) (text : List ℕ) (world : World) → Runs stage lines text (Running world) → Reads lines stage (Finished text world)
-reads_finished lines stage text world h = ?
+unfolding later
+reads_finished [] Waiting text world h = absurd (cc (h.1))
+reads_finished [] (Running other) text world h = cc (h.0, h.1)
+reads_finished (line ∷ lines) stage text world h = inr (inr (record {
+  front = h.0;
+  middle = h.2;
+  rest = Finished h.1 world;
+  acts = h.3;
+  goes = reads_finished lines h.2 h.1 world h.4;
+  is = ap (λ (text : List ℕ). Finished text world) h.5;
+}))
 
--- a run over the lines before one that is bad reads as far as that one
-reads_bad : (front rest : List (List ℕ)) (stage : Stage) (text : List ℕ) (next : Stage) → Runs stage front text next
-    → ((line : List ℕ) × IsFirst line rest × IsBad next line) ⊎ ((rest ≡ []) × (next ≡ Waiting))
+-- what stands behind the lines of a front: a bad line, or no line where no domain line came
+abbrev Ends : List (List ℕ) → Stage → Type 0
+Ends rest stage = ((line : List ℕ) × IsFirst line rest × IsBad stage line) ⊎ ((rest ≡ []) × (stage ≡ Waiting))
+
+ends_now : (rest : List (List ℕ)) (stage : Stage) → Ends rest stage → Reads rest stage (BadLine 1 [] stage)
+ends_now rest stage (inl h) = subst (λ (rest : List (List ℕ)). Reads rest stage (BadLine 1 [] stage)) (sym h.1.1) (inl (h.2, refl))
+ends_now rest stage (inr h) =
+    subst (λ (rest : List (List ℕ)). Reads rest stage (BadLine 1 [] stage)) (sym h.0)
+    (subst (λ (stage : Stage). Reads [] stage (BadLine 1 [] stage)) (sym h.1) refl)
+
+-- a run over the lines before a bad one reads as far as that one
+reads_bad : (front rest : List (List ℕ)) (stage : Stage) (text : List ℕ) (next : Stage) → Runs stage front text next → Ends rest next
     → Reads (front ++ rest) stage (BadLine (length front + 1) text next)
-reads_bad front rest stage text next runs h = ?
+unfolding later
+reads_bad [] rest stage text next runs h =
+    subst (λ (text : List ℕ). Reads rest stage (BadLine 1 text next)) (sym runs.0)
+    (subst (λ (stage : Stage). Reads rest stage (BadLine 1 [] next)) runs.1 (ends_now rest next h))
+reads_bad (line ∷ front) rest stage text next runs h = inr (inr (record {
+  front = runs.0;
+  middle = runs.2;
+  rest = BadLine (length front + 1) runs.1 next;
+  acts = runs.3;
+  goes = reads_bad front rest runs.2 runs.1 next runs.4 h;
+  is = let counted : suc (length front) + 1 ≡ suc (length front + 1) = omega arith in cc (counted, runs.5);
+}))
 
+-- a run over the lines before one that isn't built reads as far as that one
 reads_unbuilt : (front rest : List (List ℕ)) (stage : Stage) (text : List ℕ) (next : Stage) → Runs stage front text next
     → (line : List ℕ) → IsFirst line rest → IsUnbuilt next line → Reads (front ++ rest) stage (UnbuiltLine (length front + 1) text next)
-reads_unbuilt front rest stage text next runs line first h = ?
+unfolding later
+reads_unbuilt [] rest stage text next runs line first h =
+    let now : Reads rest next (UnbuiltLine 1 [] next) =
+    subst (λ (rest : List (List ℕ)). Reads rest next (UnbuiltLine 1 [] next)) (sym first.1) (inr (inl (h, refl))) in
+    subst (λ (text : List ℕ). Reads rest stage (UnbuiltLine 1 text next)) (sym runs.0)
+    (subst (λ (stage : Stage). Reads rest stage (UnbuiltLine 1 [] next)) runs.1 now)
+reads_unbuilt (before ∷ front) rest stage text next runs line first h = inr (inr (record {
+  front = runs.0;
+  middle = runs.2;
+  rest = UnbuiltLine (length front + 1) runs.1 next;
+  acts = runs.3;
+  goes = reads_unbuilt front rest runs.2 runs.1 next runs.4 line first h;
+  is = let counted : suc (length front) + 1 ≡ suc (length front + 1) = omega arith in cc (counted, runs.5);
+}))
+
+-- a verdict says how the lines are read
+verdict_reads : (lines : List (List ℕ)) (outcome : Outcome) → Verdict lines outcome → Reads lines Waiting outcome
+unfolding Verdict
+verdict_reads lines (Finished text world) h = reads_finished lines Waiting text world h
+verdict_reads lines (BadLine number text stage) h =
+    let before = h.before in
+    subst₂ (λ (lines : List (List ℕ)) (number : ℕ). Reads lines Waiting (BadLine number text stage)) (sym before.whole) (sym before.counted)
+    (reads_bad before.front before.rest Waiting text stage before.runs h.bad)
+verdict_reads lines (UnbuiltLine number text stage) h =
+    let before = h.before in
+    subst₂ (λ (lines : List (List ℕ)) (number : ℕ). Reads lines Waiting (UnbuiltLine number text stage)) (sym before.whole) (sym before.counted)
+    (reads_unbuilt before.front before.rest Waiting text stage before.runs h.line h.first h.unbuilt)
+
+-- the lines of a schedule have one verdict
+pub one_verdict : OneTriple → OneVerdict
+one_verdict triples lines outcome other p q = reads_once triples lines Waiting outcome other (verdict_reads lines outcome p) (verdict_reads lines other q)

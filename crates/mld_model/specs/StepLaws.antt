@@ -1,18 +1,15 @@
 -- A step of the world has one outcome.
-use Rattle.std.specs.Prelude.{◌≡◌, ℕ, ◌+◌, ◌<◌, ◌≤◌, List, [], ◌∷◌, ◌⊎◌, ◌↔◌, length, Option, Some, None, MatchOption}
-use Rattle.std.proofs.Common.{refl, sym, ◌∙◌, subst, ap, arith, inl, inr}
+use Rattle.std.specs.Prelude.{◌≡◌, ℕ, ◌+◌, ◌<◌, List, [], ◌∷◌, length, Option, Some, None, MatchOption}
+use Rattle.std.proofs.Common.{sym, ◌∙◌, ap, arith, inl, inr}
 use Rattle.std.proofs.lemmas.Bool.{cases_order}
 use Rattle.rdf_terms.specs.declared.terms.Triple.{Triple}
 use Rattle.tree_clock.specs.declared.dots.Range.{Range}
-use Rattle.tree_clock.specs.Dot.{Knows}
 use Rattle.mld_ops.specs.declared.tagged.Tagged.{Tagged}
-use Rattle.mld_ops.specs.History.{Operation, dot_at}
-use Rattle.mld_ops.specs.Meaning.{IsMeaning}
+use Rattle.mld_ops.specs.History.{dot_at}
 use Rattle.mld_ops.specs.MeaningLaws.{one_meaning}
-use Rattle.mld_model.specs.declared.Command.{Command}
 use Rattle.mld_model.specs.declared.Command.TheVariants.{Add, Deliver, Show, Compare}
-use Rattle.mld_model.specs.Clone.{Clone, Absent, Asking, Empty, Down, Live, Stored, known_of, IsKnown, IsReady, IsWithin}
-use Rattle.mld_model.specs.World.{World, Message, RangeOf, Want, SnapshotOf, JoinAsk, JoinGive, message_at, clone_at}
+use Rattle.mld_model.specs.Clone.{Clone, Absent, Asking, Empty, Down, Live, Stored, known_of}
+use Rattle.mld_model.specs.World.{World, Message, RangeOf, message_at, clone_at}
 use Rattle.mld_model.specs.Reply.{Reply, Did, Shows, NoMessage}
 use Rattle.mld_model.specs.Step.{Answers, IsNextTick, after_operation, Makes, Adds, Receives, Takes, Lists, Compares, ComparesWith, Weighs, Step}
 use Rattle.mld_model.specs.Laws.{OneStep}
@@ -41,10 +38,11 @@ one_next_tick known path tick other p q = elim (cases_order tick other) [
 makes_once : (world : World) (number : ℕ) (stored : Stored) (held : List Range) (deletes : List Tagged) (inserts : List Triple) (reply other : Reply) (next after : World)
     → Makes world number stored held deletes inserts reply next → Makes world number stored held deletes inserts other after → Same reply next other after
 makes_once world number stored held deletes inserts reply other next after p q =
-    let same = one_next_tick (known_of stored) stored.path p.tick q.tick p.is_next q.is_next in
-    ( p.replies ∙ ap (λ (tick : ℕ). Did (dot_at stored.path tick) (length world.messages + 1)) same ∙ sym q.replies
-    , p.changes ∙ ap (λ (tick : ℕ). after_operation world number stored held
-        (record { dot = dot_at stored.path tick; causes = known_of stored; deletes = deletes; inserts = inserts })) same ∙ sym q.changes )
+    let same = one_next_tick (known_of stored) stored.path p.tick q.tick p.is_next q.is_next in (
+      p.replies ∙ ap (λ (tick : ℕ). Did (dot_at stored.path tick) (length world.messages + 1)) same ∙ sym q.replies,
+      p.changes ∙ ap (λ (tick : ℕ). after_operation world number stored held
+          (record { dot = dot_at stored.path tick; causes = known_of stored; deletes = deletes; inserts = inserts })) same ∙ sym q.changes,
+    )
 
 adds_once : (world : World) (number : ℕ) (triple : Triple) (clone : Clone) (reply other : Reply) (next after : World)
     → Adds world number triple clone reply next → Adds world number triple clone other after → Same reply next other after

@@ -1,5 +1,5 @@
 use Rattle.mld_model.specs.ScheduleLaws.{one_kind, one_setup, one_command}
-use Rattle.mld_model.proofs.one_verdict.one_reading.Goals as goal
+use Rattle.mld_model.proofs.verdicts.one_reading.Goals as goal
 
 pub returns-clause-kind : goal.returns-clause-kind
 returns-clause-kind c = one_kind
