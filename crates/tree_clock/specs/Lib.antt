@@ -4,3 +4,5 @@ pub mod Letters
 pub mod Dot
 pub mod DotLaws
 pub mod Clock
+pub mod Entries
+pub mod ClockLaws

@@ -1,5 +1,12 @@
 //! Clocks: finite maps from paths to ticks.
+ghost use Rattle.std.specs.Prelude.{◌≡◌, ℕ, ◌+◌, ◌-◌, ◌<◌, ◌≤◌, ◌↔◌, ◌++◌, ◌∷◌, [], List, length, max, IsTrue, IfOk, IfErr, OnOk, OnErr, MatchBool, vec_len, vec_capacity};
+ghost use Rattle.tree_clock.specs.Clock.{ticks_of, Covers, IsClock, HasRoom, RaisesTo};
+ghost use Rattle.tree_clock.specs.Entries.{IsFound, IsGap, raised};
+ghost use Rattle.tree_clock.specs.declared.dots.Dot.{Dot};
+
+use crate::dots::Dot;
 use crate::paths::Path;
+use std::alloc::{AllocError, Global};
 use std::marker::Model;
 
 /// A clock. It stands for the dots of each of its paths from tick 1 to the path's ticks.
@@ -17,4 +24,204 @@ impl Model for Clock {
     ghost view = { λ c. record { ticks = c.entries.items; room = vec_capacity c.entries - vec_len c.entries } };
 
     ghost invariant = { λ c. IsClock c.entries.items };
+}
+
+impl Clock {
+    /// The clock with no path.
+    pub fn empty(alloc: Global) -> Clock
+        ensures { result.ticks ≡ [] }
+    {
+        Clock {
+            entries: Vec::new(alloc),
+        }
+    }
+
+    /// The ticks of a path, 0 where the clock lacks it.
+    pub fn ticks(&self, path: &Path) -> u32
+        ensures value { result ≡ ticks_of self.now.ticks path.now }
+        ensures clock { IsClock self.now.ticks }
+    {
+        match find(&self.entries, path) {
+            Ok(place) => self.entries[place].1,
+            Err(_) => 0,
+        }
+    }
+
+    /// Whether the dot is one of the clock's.
+    pub fn covers(&self, dot: &Dot) -> bool
+        ensures { IsTrue result ↔ Covers self.now.ticks dot.now }
+    {
+        1 <= dot.tick && dot.tick <= self.ticks(&dot.path)
+    }
+
+    /// Whether each dot of this clock is one of the other's.
+    pub fn leq(&self, other: &Clock) -> bool
+        ensures dots { IsTrue result
+            ↔ ((dot : Dot) → Covers self.now.ticks dot → Covers other.now.ticks dot) }
+
+        // No path has more ticks here than there, or some path has.
+        ensures paths { MatchBool result
+            ((path : List ℕ) → ticks_of self.now.ticks path ≤ ticks_of other.now.ticks path)
+            ((path : List ℕ) × (ticks_of other.now.ticks path < ticks_of self.now.ticks path)) }
+    {
+        for (path, ticks) in &self.entries {
+            if other.ticks(path) < *ticks {
+                return false;
+            }
+        }
+        true
+    }
+
+    /// Makes room for the ticks of a path, so that `raise` may be called.
+    pub fn reserve(&mut self, path: &Path) -> Result<(), AllocError>
+        ensures ticks { self.new.ticks ≡ self.old.ticks }
+        ensures ok { OnOk result (HasRoom self.new path.now) }
+        ensures room { self.old.room ≤ self.new.room }
+    {
+        if self.ticks(path) == 0 {
+            self.entries.reserve(1)?;
+        }
+        Ok(())
+    }
+
+    /// Raises the ticks of the dot's path to its tick, where they are fewer. It takes no memory.
+    pub fn raise(&mut self, dot: &Dot)
+        requires { HasRoom self.old dot.now.path }
+        ensures raised { RaisesTo self.old.ticks self.new.ticks dot.now }
+        ensures room { self.old.room ≤ self.new.room + 1 }
+    {
+        if dot.tick > 0 {
+            raise_entry(&mut self.entries, &dot.path, dot.tick);
+        }
+    }
+
+    /// Takes in the dots of another clock.
+    pub fn merge(&mut self, other: &Clock) -> Result<(), AllocError>
+        ensures ok { OnOk result ((path : List ℕ) → ticks_of self.new.ticks path
+            ≡ max (ticks_of self.old.ticks path) (ticks_of other.now.ticks path)) }
+        ensures err { OnErr result (self.new.ticks ≡ self.old.ticks) }
+    {
+        self.entries.reserve(other.entries.len())?;
+        for (path, ticks) in &other.entries {
+            raise_entry(&mut self.entries, path, *ticks);
+        }
+        Ok(())
+    }
+
+    /// The paths with their ticks, by path.
+    pub fn to_list(&self, alloc: Global) -> Result<Vec<(Path, u32)>, AllocError>
+        ensures ok { IfOk result (λ list. list.items ≡ self.now.ticks) }
+        ensures clock { IsClock self.now.ticks }
+    {
+        Vec::from_slice(alloc, self.entries.as_slice())
+    }
+
+    /// A copy.
+    pub fn copy_in(&self, alloc: Global) -> Result<Clock, AllocError>
+        ensures ok { IfOk result (λ copy. copy.ticks ≡ self.now.ticks) }
+        ensures clock { IsClock self.now.ticks }
+    {
+        Ok(Clock {
+            entries: self.to_list(alloc)?,
+        })
+    }
+}
+
+// Where the path's entry is, or where it would go.
+fn find(entries: &[(Path, u32)], path: &Path) -> Result<usize, usize>
+    requires { IsClock entries.now }
+    ensures found { IfOk result (IsFound entries.now path.now) }
+    ensures gap { IfErr result (IsGap entries.now path.now) }
+{
+    entries.binary_search_by_key(path, |entry| entry.0)
+}
+
+// Raises the path's ticks, where they are fewer. There is room.
+fn raise_entry(entries: &mut Vec<(Path, u32)>, path: &Path, ticks: u32)
+    requires clock { IsClock entries.old.items }
+    requires positive { 1 ≤ ticks }
+    requires room { ticks_of entries.old.items path.now ≡ 0 → vec_len entries.old < vec_capacity entries.old }
+    ensures items { entries.new.items ≡ raised entries.old.items path.now ticks }
+    ensures len { vec_len entries.new ≤ vec_len entries.old + 1 }
+    ensures capacity { vec_capacity entries.old ≤ vec_capacity entries.new }
+{
+    match find(entries, path) {
+        Ok(place) => {
+            let had = entries[place].1;
+            entries[place].1 = had.max(ticks);
+        }
+        Err(place) => entries.insert(place, (*path, ticks)).unwrap(),
+    }
+}
+
+#[cfg(test)]
+mod tests {
+    use super::*;
+    use std::test::Fail;
+
+    fn raised(clock: &mut Clock, path: Path, tick: u32) -> Result<(), AllocError> {
+        let dot = Dot { path, tick };
+        clock.reserve(&dot.path)?;
+        clock.raise(&dot);
+        Ok(())
+    }
+
+    #[test]
+    fn a_raise_takes_the_greater_tick(rt: HostRuntime) -> Result<(), Fail> {
+        let left = Path::root().child(false);
+        let right = Path::root().child(true);
+        let mut clock = Clock::empty(rt.alloc());
+        raised(&mut clock, right, 2)?;
+        raised(&mut clock, left, 5)?;
+        raised(&mut clock, left, 3)?;
+        raised(&mut clock, Path::root(), 0)?;
+        assert_eq!(rt; clock.ticks(&left), 5);
+        assert_eq!(rt; clock.ticks(&right), 2);
+        assert_eq!(rt; clock.ticks(&Path::root()), 0);
+        let list = clock.to_list(rt.alloc())?;
+        assert_eq!(rt; list.as_slice(), [(left, 5), (right, 2)].as_slice());
+        assert!(rt;
+            clock.covers(&Dot {
+                path: left,
+                tick: 5
+            })
+        );
+        assert!(rt;
+            !clock.covers(&Dot {
+                path: left,
+                tick: 6
+            })
+        );
+        assert!(rt;
+            !clock.covers(&Dot {
+                path: left,
+                tick: 0
+            })
+        );
+        Ok(())
+    }
+
+    #[test]
+    fn a_merge_has_the_dots_of_both(rt: HostRuntime) -> Result<(), Fail> {
+        let left = Path::root().child(false);
+        let right = Path::root().child(true);
+        let mut here = Clock::empty(rt.alloc());
+        raised(&mut here, Path::root(), 1)?;
+        raised(&mut here, left, 4)?;
+        let mut there = Clock::empty(rt.alloc());
+        raised(&mut there, left, 2)?;
+        raised(&mut there, right, 3)?;
+        let mut both = here.copy_in(rt.alloc())?;
+        both.merge(&there)?;
+        let list = both.to_list(rt.alloc())?;
+        let wanted = [(Path::root(), 1), (left, 4), (right, 3)];
+        assert_eq!(rt; list.as_slice(), wanted.as_slice());
+        assert!(rt; here.leq(&both));
+        assert!(rt; there.leq(&both));
+        assert!(rt; !here.leq(&there));
+        assert!(rt; !there.leq(&here));
+        assert!(rt; !both.leq(&there));
+        assert!(rt; Clock::empty(rt.alloc()).leq(&there));
+        Ok(())
+    }
 }
