@@ -9,9 +9,17 @@ use Rattle.rdf_terms.specs.declared.terms.Triple.{Triple}
 use Rattle.rdf_terms.specs.Iri.{is_iri, iri_limit, iri_text}
 use Rattle.rdf_terms.specs.Literal.{LiteralValue, Typed, Tagged, xsd_string, rdf_lang_string, is_same, is_language_tag, lexical_limit}
 
+-- a space or a tab
+abbrev pub is_blank : ℕ → Bool
+is_blank byte = byte == 32 || byte == 9
+
 -- spaces and tabs alone, or nothing
 abbrev pub is_blanks : List ℕ → Bool
-is_blanks = list_all (λ byte. byte == 32 || byte == 9)
+is_blanks = list_all is_blank
+
+-- no backslash: the texts that this grammar is for
+abbrev pub has_no_backslash : List ℕ → Bool
+has_no_backslash = list_all (λ byte. not (byte == 92))
 
 -- what may stand between the quotes of a literal as it is
 abbrev pub is_plain : List ℕ → Bool

@@ -6,4 +6,5 @@ pub mod Spelling
 pub mod Order
 pub mod OrderLaws
 pub mod Compare
+pub mod Faults
 pub mod Grammar

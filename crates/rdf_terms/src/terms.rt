@@ -1,4 +1,9 @@
 //! IRIs, literals, terms and triples (RDF 1.1 Concepts, section 3).
+ghost use Rattle.std.specs.Prelude.{◌≡◌};
+ghost use Rattle.rdf_terms.specs.Literal.{is_same, rdf_lang_string};
+
+use crate::faults::TermFault;
+use crate::grammar::{LEXICAL_LIMIT, is_absolute, is_language_tag};
 use crate::texts::Text;
 use std::alloc::{AllocError, Global};
 use std::marker::Model;
@@ -21,8 +26,31 @@ impl Model for Iri {
 }
 
 impl Iri {
-    ghost use Rattle.std.specs.Prelude.{◌≡◌, IsTrue, IfOk};
+    ghost use Rattle.std.specs.Prelude.{◌≡◌, ◌↔◌, IsTrue, IfOk, IfErr, IsErrOf, not};
+    ghost use Rattle.rdf_terms.specs.Faults.{MayRefuseIri};
     ghost use Rattle.rdf_terms.specs.Iri.{is_absolute};
+
+    /// The IRI of a text, refused with `BadIri` where the text is no absolute IRI of at most 2,048 bytes.
+    pub fn new(alloc: Global, text: &str) -> Result<Iri, TermFault>
+        ensures ok { IfOk result (λ iri. iri ≡ text.now) }
+        ensures bad_iri { IsErrOf result TermFault.BadIri ↔ IsTrue (not (is_absolute text.now)) }
+        ensures refusals { IfErr result MayRefuseIri }
+    {
+        if !is_absolute(text) {
+            return Err(TermFault::BadIri);
+        }
+        Ok(Iri::from_absolute(alloc, text)?)
+    }
+
+    /// The IRI of a text that is known to be one.
+    pub(crate) fn from_absolute(alloc: Global, text: &str) -> Result<Iri, AllocError>
+        requires { IsTrue (is_absolute text.now) }
+        ensures { IfOk result (λ iri. iri ≡ text.now) }
+    {
+        Ok(Iri {
+            text: Text::new(alloc, text)?,
+        })
+    }
 
     /// A copy of the IRI.
     pub fn copy_in(&self, alloc: Global) -> Result<Iri, AllocError>
@@ -91,6 +119,14 @@ impl Kind {
     }
 }
 
+/// Whether a datatype is rdf:langString.
+#[tactic(auto, unfolding(crate::specs::Literal::rdf_lang_string))]
+pub(crate) fn is_lang_string(datatype: &str) -> bool
+    ensures { result ≡ is_same datatype.now rdf_lang_string }
+{
+    datatype == RDF_LANG_STRING
+}
+
 /// A literal: a lexical form of at most 1,048,576 bytes with a datatype or a language tag.
 #[derive(Debug, Drop)]
 pub struct Literal {
@@ -111,7 +147,78 @@ impl Model for Literal {
 }
 
 impl Literal {
-    ghost use Rattle.std.specs.Prelude.{◌≡◌, IfOk};
+    ghost use Rattle.std.specs.Prelude.{◌≡◌, ◌↔◌, ◌<◌, ◌≤◌, IsTrue, IfOk, IfErr, IsErrOf, not, length};
+    ghost use Rattle.std.specs.Str.{str_to_ascii_lowercase};
+    ghost use Rattle.rdf_terms.specs.Faults.{MayRefuseTyped, MayRefuseTagged};
+    ghost use Rattle.rdf_terms.specs.Literal.{Typed, Tagged, is_same, rdf_lang_string, is_language_tag, lexical_limit};
+
+    /// The literal of a lexical form and a datatype, refused with `BadType` where the datatype is rdf:langString,
+    /// else with `TooLong` where the lexical form has more than 1,048,576 bytes.
+    pub fn new(alloc: Global, lexical: &str, datatype: &Iri) -> Result<Literal, TermFault>
+        ensures ok { IfOk result (λ literal. literal ≡ Typed lexical.now datatype.now) }
+        ensures bad_type { IsErrOf result TermFault.BadType ↔ IsTrue (is_same datatype.now rdf_lang_string) }
+        ensures too_long { IsErrOf result TermFault.TooLong
+            ↔ (IsTrue (not (is_same datatype.now rdf_lang_string)) × (lexical_limit < length lexical.now)) }
+        ensures refusals { IfErr result MayRefuseTyped }
+    {
+        if is_lang_string(datatype.as_str()) {
+            return Err(TermFault::BadType);
+        }
+        if lexical.len() > LEXICAL_LIMIT {
+            return Err(TermFault::TooLong);
+        }
+        Ok(Literal::from_typed(alloc, lexical, datatype.copy_in(alloc)?)?)
+    }
+
+    /// The literal of a lexical form and a language tag, which it keeps in lower case, refused with `BadTag`
+    /// where the text is no language tag, else with `TooLong` where the lexical form has more than 1,048,576 bytes.
+    pub fn tagged(alloc: Global, lexical: &str, tag: &str) -> Result<Literal, TermFault>
+        ensures ok { IfOk result (λ literal. literal ≡ Tagged lexical.now (str_to_ascii_lowercase tag.now)) }
+        ensures bad_tag { IsErrOf result TermFault.BadTag ↔ IsTrue (not (is_language_tag tag.now)) }
+        ensures too_long { IsErrOf result TermFault.TooLong
+            ↔ (IsTrue (is_language_tag tag.now) × (lexical_limit < length lexical.now)) }
+        ensures refusals { IfErr result MayRefuseTagged }
+    {
+        if !is_language_tag(tag) {
+            return Err(TermFault::BadTag);
+        }
+        if lexical.len() > LEXICAL_LIMIT {
+            return Err(TermFault::TooLong);
+        }
+        Ok(Literal::from_tagged(alloc, lexical, tag)?)
+    }
+
+    /// The literal of a lexical form that is not too long and a datatype that literals may have.
+    pub(crate) fn from_typed(
+        alloc: Global,
+        lexical: &str,
+        datatype: Iri,
+    ) -> Result<Literal, AllocError>
+        requires short { length lexical.now ≤ lexical_limit }
+        requires typed { IsTrue (not (is_same datatype rdf_lang_string)) }
+        ensures { IfOk result (λ literal. literal ≡ Typed lexical.now datatype) }
+    {
+        let _text = datatype.as_str();
+        let lexical = Text::new(alloc, lexical)?;
+        let kind = Kind::Datatype(datatype);
+        Ok(Literal { lexical, kind })
+    }
+
+    /// The literal of a lexical form that is not too long and a language tag.
+    #[tactic(auto, using(crate::proofs::Tags::lower_lower, crate::proofs::Tags::lower_tag))]
+    pub(crate) fn from_tagged(
+        alloc: Global,
+        lexical: &str,
+        tag: &str,
+    ) -> Result<Literal, AllocError>
+        requires short { length lexical.now ≤ lexical_limit }
+        requires tag { IsTrue (is_language_tag tag.now) }
+        ensures { IfOk result (λ literal. literal ≡ Tagged lexical.now (str_to_ascii_lowercase tag.now)) }
+    {
+        let lexical = Text::new(alloc, lexical)?;
+        let kind = Kind::Language(Text::from_tag(alloc, tag)?);
+        Ok(Literal { lexical, kind })
+    }
 
     /// A copy of the literal.
     pub fn copy_in(&self, alloc: Global) -> Result<Literal, AllocError>
