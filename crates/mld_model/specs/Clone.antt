@@ -33,10 +33,6 @@ with_range stored range = record { path = stored.path; base = stored.base; journ
 abbrev pub last_dot : Range → Dot
 last_dot range = dot_at range.path range.last
 
--- the range of one tick
-abbrev pub one_tick : List ℕ → ℕ → Range
-one_tick path tick = record { path = path; first = tick; last = tick }
-
 -- the range is known: its last dot is
 abbrev pub IsKnown : List Range → Range → Type 0
 IsKnown known range = Knows known (last_dot range)

@@ -6,6 +6,12 @@ pub mod Schedule
 pub mod Runs
 pub mod Sound
 pub mod StandsFor
+pub mod Local
+pub mod LocalLaws
+pub mod KnownLaws
+pub mod HistoryLaws
+pub mod SoundLaws
+pub mod FoundedLaws
 pub mod Bytes
 pub mod TripleBytes
 pub mod Laws

@@ -1,6 +1,6 @@
 -- What a running world stands for in the model. The running world has content and clocks where the model has sets of
 -- dots and one history.
-use Rattle.std.specs.Prelude.{◌≡◌, ℕ, ◌≤◌, List, [], ◌∷◌, ◌↔◌}
+use Rattle.std.specs.Prelude.{◌≡◌, ℕ, ◌≤◌, List, [], ◌∷◌, ◌↔◌, Option, None, Some}
 use Rattle.tree_clock.specs.declared.dots.Dot.{Dot}
 use Rattle.tree_clock.specs.declared.dots.Range.{Range}
 use Rattle.tree_clock.specs.Lists.{Has}
@@ -21,15 +21,11 @@ pub record RunningLive : Type 0 where
   pub journal : List Range
   pub pairs : List Tagged
 
--- a clone as it runs
-pub data RunningClone : Type 0 where
-  NotThere : RunningClone
-  IsLive : RunningLive → RunningClone
-
--- a world as it runs: its domain, its clones, the entries that were sent, and the number of steps made
+-- a world as it runs: its domain, its clones (none where a clone is absent), the entries that were sent, and the number
+-- of steps made
 pub record RunningWorld : Type 0 where
   pub domain : List ℕ
-  pub clones : List RunningClone
+  pub clones : List (Option RunningLive)
   pub messages : List EntryValue
   pub steps : ℕ
 
@@ -42,13 +38,13 @@ pub record LiveStandsFor (history : List Operation) (running : RunningLive) (sto
   pub pairs : IsMeaning history (known_of stored) running.pairs
 
 -- a clone stands for a clone of the model in the same state, which holds nothing back
-abbrev pub CloneStandsFor : List Operation → RunningClone → Clone → Type 0
-CloneStandsFor history NotThere Absent = Unit {0}
-CloneStandsFor history (IsLive running) (Live stored held) = LiveStandsFor history running stored × (held ≡ [])
+abbrev pub CloneStandsFor : List Operation → Option RunningLive → Clone → Type 0
+CloneStandsFor history None Absent = Unit {0}
+CloneStandsFor history (Some running) (Live stored held) = LiveStandsFor history running stored × (held ≡ [])
 CloneStandsFor history running clone = ⊥
 
 -- the clones, one by one
-abbrev pub ClonesStandFor : List Operation → List RunningClone → List Clone → Type 0
+abbrev pub ClonesStandFor : List Operation → List (Option RunningLive) → List Clone → Type 0
 ClonesStandFor history [] [] = Unit {0}
 ClonesStandFor history (running ∷ others) (clone ∷ clones) = CloneStandsFor history running clone × ClonesStandFor history others clones
 ClonesStandFor history others clones = ⊥

@@ -7,10 +7,11 @@ use Rattle.tree_clock.specs.declared.dots.Range.{Range}
 use Rattle.tree_clock.specs.Dot.{Knows}
 use Rattle.mld_ops.specs.declared.tagged.Tagged.{Tagged}
 use Rattle.mld_ops.specs.History.{Operation, dot_at}
+use Rattle.mld_ops.specs.Effect.{range_of}
 use Rattle.mld_ops.specs.Meaning.{IsMeaning}
 use Rattle.mld_model.specs.declared.Command.{Command}
 use Rattle.mld_model.specs.declared.Command.TheVariants.{Add, Deliver, Show, Compare}
-use Rattle.mld_model.specs.Clone.{Clone, Absent, Asking, Empty, Down, Live, Stored, known_of, with_range, one_tick, IsKnown, IsReady, IsWithin}
+use Rattle.mld_model.specs.Clone.{Clone, Absent, Asking, Empty, Down, Live, Stored, known_of, with_range, IsKnown, IsReady, IsWithin}
 use Rattle.mld_model.specs.World.{World, Message, RangeOf, Want, SnapshotOf, JoinAsk, JoinGive, message_at, clone_at, with_clone}
 use Rattle.mld_model.specs.Reply.{Reply, Did, Took, AlreadyKnown, Shows, Same, Less, More, Apart, NoMessage, Ignored, IsAbsent, IsAsking, IsDown}
 
@@ -26,7 +27,7 @@ pub record IsNextTick (known : List Range) (path : List ℕ) (tick : ℕ) : Type
 -- the world after the clone of the number has made the operation and sent it
 abbrev pub after_operation : World → ℕ → Stored → List Range → Operation → World
 after_operation world number stored held operation =
-    let range = one_tick operation.dot.path operation.dot.tick in
+    let range = range_of operation.dot in
     record (with_clone world number (Live (with_range stored range) held)) {
       history = operation ∷ world.history;
       messages = world.messages ++ RangeOf range ∷ [];

@@ -1,0 +1,101 @@
+-- The steps by which a line is read.
+use Rattle.std.proofs.Common.{◌≡◌, ◌≢◌, ℕ, ◌+◌, ◌<◌, ◌≤◌, List, [], ◌∷◌, ◌++◌, length, Option, None, Some, Ok, refl, sym, ap, ◌∙◌, arith, append-nil, append_assoc, length-append}
+use Rattle.std.proofs.lemmas.List.Elements.{All-push, All-nil}
+use Rattle.mld_io.specs.Lines.{LinesValue, HasNoEnd, IsEnd, IsLine, IsTooLarge, IsCutShort, first_line, after_line, line_size}
+use Rattle.mld_io.specs.LinesLaws.{first_line-append, after_line-append, line_size-append, line_size_some}
+use Rattle.mld_io.specs.Reads.{TakesByte}
+
+-- this front of the bytes was taken, and it has no LF
+pub record ReadSoFar (bytes front : List ℕ) (left : Option (List ℕ)) : Type 0 where
+  pub rest : List ℕ
+  pub front_of : bytes ≡ front ++ rest
+  pub no_end : HasNoEnd front
+  pub left_is : left ≡ Some rest
+
+-- nothing was taken yet
+pub ReadSoFar-start : (bytes : List ℕ) (left : Option (List ℕ)) → left ≡ Some bytes → ReadSoFar bytes [] left
+ReadSoFar-start bytes left e = record { rest = bytes; front_of = refl; no_end = All-nil (λ b. b ≢ 10); left_is = e }
+
+-- the next byte was taken, and is no LF
+pub ReadSoFar-push : (bytes front rest : List ℕ) (b : ℕ) (left : Option (List ℕ)) → HasNoEnd front → b ≢ 10 → bytes ≡ front ++ b ∷ rest → left ≡ Some rest → ReadSoFar bytes (front ++ b ∷ []) left
+ReadSoFar-push bytes front rest b left no_end other e is = record {
+  rest = rest;
+  front_of = e ∙ sym (append_assoc front (b ∷ []) rest);
+  no_end = All-push (λ b. b ≢ 10) front b no_end other;
+  left_is = is;
+}
+
+-- a part of the line was taken
+pub IsCutShort-from_part : (bytes front rest : List ℕ) (left : Option (List ℕ)) → HasNoEnd front → bytes ≡ front ++ rest → left ≡ Some rest → IsCutShort bytes left
+IsCutShort-from_part bytes front rest left no_end e is = record { front = front; rest = rest; front_of = e; no_end = no_end; left_is = is }
+
+-- where the source has more, it has the byte that it gave
+pub more_bytes : (bytes front : List ℕ) (b : ℕ) (before after : Option (List ℕ)) → (so_far : ReadSoFar bytes front before)
+    → TakesByte so_far.rest (Ok (Some b)) after → (rest : List ℕ) × (bytes ≡ front ++ b ∷ rest) × (after ≡ Some rest)
+more_bytes bytes front b before after so_far took =
+    (took.0, so_far.front_of ∙ ap (λ r. front ++ r) took.1, took.2)
+
+-- where the source is at its end, the front is all
+pub no_more_bytes : (bytes front : List ℕ) (before after : Option (List ℕ)) → (so_far : ReadSoFar bytes front before)
+    → TakesByte so_far.rest (Ok None) after → (bytes ≡ front) × (after ≡ Some [])
+no_more_bytes bytes front before after so_far took =
+    (so_far.front_of ∙ ap (λ r. front ++ r) took.0 ∙ append-nil front, took.1)
+
+-- an LF ends a line that fits
+pub IsLine-from_lf : (lines : LinesValue) (bytes front rest : List ℕ) (taken : ℕ) (left : Option (List ℕ)) → HasNoEnd front → bytes ≡ front ++ 10 ∷ rest → left ≡ Some rest
+    → length front ≤ lines.line → taken ≡ lines.taken + (length front + 1) → taken ≤ lines.all → IsLine lines bytes front taken left
+IsLine-from_lf lines bytes front rest taken left no_end e is in_line counted in_all =
+    let first : first_line bytes ≡ front = ap first_line e ∙ first_line-append front (10 ∷ rest) no_end ∙ append-nil front in
+    let size : line_size bytes ≡ length front + 1 = ap line_size e ∙ line_size-append front (10 ∷ rest) no_end in
+    let long : length bytes ≡ length front + length (10 ∷ rest) = ap length e ∙ length-append front (10 ∷ rest) in
+    record {
+      some = λ none. omega (arith, ap length none, long);
+      fits = record { in_line = omega (arith, ap length first); in_all = omega arith };
+      piece_is = sym first;
+      taken_is = omega arith;
+      left_is = is ∙ ap (λ r. Some r) (sym (ap after_line e ∙ after_line-append front (10 ∷ rest) no_end));
+    }
+
+-- the end of the input ends a line that fits
+pub IsLine-from_end : (lines : LinesValue) (bytes front : List ℕ) (taken : ℕ) (left : Option (List ℕ)) → HasNoEnd front → bytes ≡ front → left ≡ Some [] → 0 < length front
+    → length front ≤ lines.line → taken ≡ lines.taken + length front → taken ≤ lines.all → IsLine lines bytes front taken left
+IsLine-from_end lines bytes front taken left no_end e is some in_line counted in_all =
+    let e' : bytes ≡ front ++ [] = e ∙ sym (append-nil front) in
+    let first : first_line bytes ≡ front = ap first_line e' ∙ first_line-append front [] no_end ∙ append-nil front in
+    let size : line_size bytes ≡ length front + 0 = ap line_size e' ∙ line_size-append front [] no_end in
+    record {
+      some = λ none. omega (arith, ap length none, ap length e);
+      fits = record { in_line = omega (arith, ap length first); in_all = omega arith };
+      piece_is = sym first;
+      taken_is = omega arith;
+      left_is = is ∙ ap (λ r. Some r) (sym (ap after_line e' ∙ after_line-append front [] no_end));
+    }
+
+-- a byte more passes the limit of the input
+pub IsTooLarge-from_all : (lines : LinesValue) (bytes front rest : List ℕ) (b : ℕ) → HasNoEnd front → bytes ≡ front ++ b ∷ rest → lines.all < lines.taken + (length front + 1) → IsTooLarge lines bytes
+IsTooLarge-from_all lines bytes front rest b no_end e past =
+    let size : line_size bytes ≡ length front + line_size (b ∷ rest) = ap line_size e ∙ line_size-append front (b ∷ rest) no_end in
+    let long : length bytes ≡ length front + length (b ∷ rest) = ap length e ∙ length-append front (b ∷ rest) in
+    let one : 0 < line_size (b ∷ rest) = line_size_some (b ∷ rest) (λ none. cc) in
+    record {
+      some = λ none. omega (arith, ap length none, long);
+      too_large = λ fits. omega (arith, fits.in_all);
+    }
+
+-- a byte more that is no LF passes the limit of a line
+pub IsTooLarge-from_line : (lines : LinesValue) (bytes front rest : List ℕ) (b : ℕ) → HasNoEnd front → b ≢ 10 → bytes ≡ front ++ b ∷ rest → lines.line < length front + 1 → IsTooLarge lines bytes
+IsTooLarge-from_line lines bytes front rest b no_end other e past =
+    let more : HasNoEnd (front ++ b ∷ []) = All-push (λ b. b ≢ 10) front b no_end other in
+    let e' : bytes ≡ (front ++ b ∷ []) ++ rest = e ∙ sym (append_assoc front (b ∷ []) rest) in
+    let first : length (first_line bytes) ≡ (length front + 1) + length (first_line rest) =
+    ap length (ap first_line e' ∙ first_line-append (front ++ b ∷ []) rest more) ∙ simp length-append in
+    let long : length bytes ≡ length front + length (b ∷ rest) = ap length e ∙ length-append front (b ∷ rest) in
+    record {
+      some = λ none. omega (arith, ap length none, long);
+      too_large = λ fits. omega (arith, fits.in_line);
+    }
+
+-- where nothing was taken, the end of the input is no line
+pub IsEnd-from_start : (bytes front : List ℕ) (left : Option (List ℕ)) → bytes ≡ front → left ≡ Some [] → length front ≡ 0 → IsEnd bytes left
+IsEnd-from_start bytes [] left e is empty = record { empty = e; none_left = is }
+IsEnd-from_start bytes (b ∷ bs) left e is empty = absurd (omega arith)

@@ -1,0 +1,74 @@
+-- What each answer says of the bytes that the source tells.
+use Rattle.std.proofs.Common.{◌≡◌, ℕ, List, [], ◌∷◌, ◌++◌, Ok, Option, ap, ◌∙◌, subst, arith}
+use Rattle.std.proofs.lemmas.Result.{err_from_is_err_and}
+use Rattle.mld_io.specs.Reads.{TakesByte}
+use Rattle.mld_io.proofs.LineSteps.{ReadSoFar-push, IsCutShort-from_part, more_bytes, no_more_bytes, IsLine-from_lf, IsLine-from_end, IsTooLarge-from_all, IsTooLarge-from_line, IsEnd-from_start}
+use Rattle.mld_io.proofs.line_reader.take_line.Goals as goal
+
+-- what a `let` of an answer knows of the byte that was taken
+at_option : (bytes : List ℕ) (o o' : Option ℕ) (left : Option (List ℕ)) → o ≡ o' → TakesByte bytes (Ok o) left → TakesByte bytes (Ok o') left
+at_option bytes o o' left e took = subst (λ (x : Option ℕ). TakesByte bytes (Ok x) left) e took
+
+pub returns-in_err-byte-clause-line : goal.returns-in_err-byte-clause-line
+returns-in_err-byte-clause-line g c = λ bytes e.
+    let s = c.loop-bytes.invariant.left bytes e in
+    let p = err_from_is_err_and c.from_residual.result c.from_residual.ensures.1 in
+    rw (p.1, p.2) (IsCutShort-from_part bytes c.loop-bytes.bytes.items s.rest _ s.no_end s.front_of (c.in_err-byte.ensures.byte s.rest s.left_is))
+
+pub returns-then-size-room-clause-line : goal.returns-then-size-room-clause-line
+returns-then-size-room-clause-line g c = λ bytes e.
+    let s = c.loop-bytes.invariant.left bytes e in
+    let front = c.loop-bytes.bytes.items in
+    let m = more_bytes bytes front c.in-Some.byte _ _ s (at_option _ _ _ _ c.in-Some.is (c.in_ok-byte.ensures.byte s.rest s.left_is)) in
+    IsTooLarge-from_all _ bytes front m.0 c.in-Some.byte s.no_end m.1 (omega arith)
+
+pub returns-then-byte-eq10-clause-line : goal.returns-then-byte-eq10-clause-line
+returns-then-byte-eq10-clause-line g c = λ bytes e.
+    let s = c.loop-bytes.invariant.left bytes e in
+    let front = c.loop-bytes.bytes.items in
+    let m = more_bytes bytes front c.in-Some.byte _ _ s (at_option _ _ _ _ c.in-Some.is (c.in_ok-byte.ensures.byte s.rest s.left_is)) in
+    rw c.from_vec.ensures (IsLine-from_lf _ bytes front m.0 _ _ s.no_end (m.1 ∙ ap (λ b. front ++ b ∷ m.0) c.if-byte-eq10.true) m.2 (omega arith) (omega arith) (omega arith))
+
+pub returns-then-len-line-clause-line : goal.returns-then-len-line-clause-line
+returns-then-len-line-clause-line g c = λ bytes e.
+    let s = c.loop-bytes.invariant.left bytes e in
+    let front = c.loop-bytes.bytes.items in
+    let m = more_bytes bytes front c.in-Some.byte _ _ s (at_option _ _ _ _ c.in-Some.is (c.in_ok-byte.ensures.byte s.rest s.left_is)) in
+    IsTooLarge-from_line _ bytes front m.0 c.in-Some.byte s.no_end c.if-byte-eq10.false m.1 (omega arith)
+
+pub loop-bytes-preserved : goal.loop-bytes-preserved
+loop-bytes-preserved g c = record {
+  size = omega (arith, c.in_ok-push.ensures.len);
+  in_room = omega arith;
+  in_line = omega (arith, c.in_ok-push.ensures.len);
+  taken = c.loop-bytes.invariant.taken;
+  left = λ bytes e.
+      let s = c.loop-bytes.invariant.left bytes e in
+      let front = c.loop-bytes.bytes.items in
+      let m = more_bytes bytes front c.in-Some.byte _ _ s (at_option _ _ _ _ c.in-Some.is (c.in_ok-byte.ensures.byte s.rest s.left_is)) in
+      rw c.in_ok-push.ensures.items (ReadSoFar-push bytes front m.0 c.in-Some.byte _ s.no_end c.if-byte-eq10.false m.1 m.2);
+  later = omega (arith, c.take_byte.ensures.cause.later);
+}
+
+pub returns-in_err-push-clause-line : goal.returns-in_err-push-clause-line
+returns-in_err-push-clause-line g c = λ bytes e.
+    let s = c.loop-bytes.invariant.left bytes e in
+    let front = c.loop-bytes.bytes.items in
+    let m = more_bytes bytes front c.in-Some.byte _ _ s (at_option _ _ _ _ c.in-Some.is (c.in_ok-byte.ensures.byte s.rest s.left_is)) in
+    let more = ReadSoFar-push bytes front m.0 c.in-Some.byte _ s.no_end c.if-byte-eq10.false m.1 m.2 in
+    let p = err_from_is_err_and c.from_residual-in_err-push.result c.from_residual-in_err-push.ensures.1 in
+    rw (p.1, p.2) (IsCutShort-from_part bytes (front ++ c.in-Some.byte ∷ []) more.rest _ more.no_end more.front_of more.left_is)
+
+pub returns-then-size-eq0-clause-line : goal.returns-then-size-eq0-clause-line
+returns-then-size-eq0-clause-line g c = λ bytes e.
+    let s = c.loop-bytes.invariant.left bytes e in
+    let front = c.loop-bytes.bytes.items in
+    let m = no_more_bytes bytes front _ _ s (at_option _ _ _ _ c.in_default.is (c.in_ok-byte.ensures.byte s.rest s.left_is)) in
+    IsEnd-from_start bytes front _ m.0 m.1 (omega arith)
+
+pub returns-clause-line : goal.returns-clause-line
+returns-clause-line g c = λ bytes e.
+    let s = c.loop-bytes.invariant.left bytes e in
+    let front = c.loop-bytes.bytes.items in
+    let m = no_more_bytes bytes front _ _ s (at_option _ _ _ _ c.in_default.is (c.in_ok-byte.ensures.byte s.rest s.left_is)) in
+    rw c.from_vec-2.ensures (IsLine-from_end _ bytes front _ _ s.no_end m.0 m.1 (omega arith) (omega arith) (omega arith) (omega arith))

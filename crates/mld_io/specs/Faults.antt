@@ -1,0 +1,38 @@
+-- Faults, and how they are counted.
+use Rattle.std.specs.Prelude.{◌≡◌, ℕ, ◌+◌, ◌-◌, ◌^◌, ◌≤◌, min, Result, OnErr, IsErrOf}
+use Rattle.mld_io.specs.declared.faults.IoFault.{IoFault}
+use Rattle.mld_io.specs.declared.faults.IoFault.TheVariants as io
+use Rattle.mld_io.specs.declared.faults.LineFault.{LineFault}
+use Rattle.mld_io.specs.declared.faults.LineFault.TheVariants as line
+use Rattle.mld_io.specs.declared.faults.WriteFault.{WriteFault}
+use Rattle.mld_io.specs.declared.faults.WriteFault.TheVariants as write
+
+-- the count of faults rose, or stands at its type's end
+abbrev pub Rose : ℕ → ℕ → Type 0
+Rose before now = min (before + 1) (2 ^ 64 - 1) ≤ now
+
+-- a count of faults never falls, and a call that failed has raised it
+pub record HasCause {T E : Type 0} (before now : ℕ) (result : Result T E) : Type 0 where
+  pub later : before ≤ now
+  pub failed : OnErr result (Rose before now)
+
+-- a count of faults never falls, a failed write has raised it, and want of memory has not
+pub record HasSinkCause {T : Type 0} (before now : ℕ) (result : Result T IoFault) : Type 0 where
+  pub later : before ≤ now
+  pub failed : IsErrOf result io.Failed → Rose before now
+  pub no_memory : IsErrOf result io.NoMemory → now ≡ before
+
+-- a count of faults never falls, and `ReadFault` is told only where it rose
+pub record HasLineCause {T : Type 0} (before now : ℕ) (result : Result T LineFault) : Type 0 where
+  pub later : before ≤ now
+  pub failed : IsErrOf result line.ReadFault → Rose before now
+
+-- a count of faults never falls, and `Failed` is told only where it rose
+pub record HasWriteCause {T : Type 0} (before now : ℕ) (result : Result T WriteFault) : Type 0 where
+  pub later : before ≤ now
+  pub failed : IsErrOf result write.Failed → Rose before now
+
+-- what `write_all` answers where the sink refused a part
+abbrev pub write_fault_of : IoFault → WriteFault
+write_fault_of io.Failed = write.Failed
+write_fault_of io.NoMemory = write.NoMemory

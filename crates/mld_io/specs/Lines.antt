@@ -1,0 +1,85 @@
+-- Lines of an input, and the limits that they are read under.
+use Rattle.std.specs.Prelude.{◌≡◌, ◌≢◌, ℕ, ◌+◌, ◌<◌, ◌≤◌, Bool, List, [], ◌∷◌, ◌++◌, length, ◌==◌, if◌then◌else◌, All, Option, None, Some, Result, Ok, Err}
+use Rattle.mld_io.specs.declared.faults.LineFault.{LineFault}
+use Rattle.mld_io.specs.declared.faults.LineFault.TheVariants.{ReadFault, TooLarge, NoMemory}
+
+-- a byte at the front of the first of these lines
+abbrev pub onto_first : ℕ → List (List ℕ) → List (List ℕ)
+onto_first b [] = (b ∷ []) ∷ []
+onto_first b (l ∷ ls) = (b ∷ l) ∷ ls
+
+-- the lines of an input: a line ends with LF (10), which is no part of it; the last may lack it
+abbrev pub lines_of : List ℕ → List (List ℕ)
+lines_of [] = []
+lines_of (b ∷ bs) = if b == 10 then [] ∷ lines_of bs else onto_first b (lines_of bs)
+
+-- the bytes before the first LF, or all of them
+abbrev pub first_line : List ℕ → List ℕ
+first_line [] = []
+first_line (b ∷ bs) = if b == 10 then [] else b ∷ first_line bs
+
+-- the bytes after the first LF, or none
+abbrev pub after_line : List ℕ → List ℕ
+after_line [] = []
+after_line (b ∷ bs) = if b == 10 then bs else after_line bs
+
+-- how many bytes the first line takes, its LF included
+abbrev pub line_size : List ℕ → ℕ
+line_size [] = 0
+line_size (b ∷ bs) = if b == 10 then 1 else 1 + line_size bs
+
+-- none of these bytes is an LF
+abbrev pub HasNoEnd : List ℕ → Type 0
+HasNoEnd bytes = All (λ b. b ≢ 10) bytes
+
+-- what a reader of lines is: the limit of a line, the limit of the input, the bytes taken so far, and whether it is good
+pub record LinesValue : Type 0 where
+  pub line : ℕ
+  pub all : ℕ
+  pub taken : ℕ
+  pub good : Bool
+
+-- the next line keeps both limits
+pub record FitsLine (lines : LinesValue) (bytes : List ℕ) : Type 0 where
+  pub in_line : length (first_line bytes) ≤ lines.line
+  pub in_all : lines.taken + line_size bytes ≤ lines.all
+
+-- there was no byte, and there is none
+pub record IsEnd (bytes : List ℕ) (left : Option (List ℕ)) : Type 0 where
+  pub empty : bytes ≡ []
+  pub none_left : left ≡ Some []
+
+-- the first line was taken, and the rest is left
+pub record IsLine (lines : LinesValue) (bytes piece : List ℕ) (taken : ℕ) (left : Option (List ℕ)) : Type 0 where
+  pub some : bytes ≢ []
+  pub fits : FitsLine lines bytes
+  pub piece_is : piece ≡ first_line bytes
+  pub taken_is : taken ≡ lines.taken + line_size bytes
+  pub left_is : left ≡ Some (after_line bytes)
+
+-- there is a line, and it does not fit
+pub record IsTooLarge (lines : LinesValue) (bytes : List ℕ) : Type 0 where
+  pub some : bytes ≢ []
+  pub too_large : ¬ FitsLine lines bytes
+
+-- a part of the first line was taken, and no LF
+pub record IsCutShort (bytes : List ℕ) (left : Option (List ℕ)) : Type 0 where
+  pub front : List ℕ
+  pub rest : List ℕ
+  pub front_of : bytes ≡ front ++ rest
+  pub no_end : HasNoEnd front
+  pub left_is : left ≡ Some rest
+
+-- the answer to a call for the next line, at a source that had these bytes
+abbrev pub NextLine : LinesValue → List ℕ → Result (Option (List ℕ)) LineFault → ℕ → Option (List ℕ) → Type 0
+NextLine lines bytes (Ok None) taken left = IsEnd bytes left
+NextLine lines bytes (Ok (Some piece)) taken left = IsLine lines bytes piece taken left
+NextLine lines bytes (Err TooLarge) taken left = IsTooLarge lines bytes
+NextLine lines bytes (Err ReadFault) taken left = IsCutShort bytes left
+NextLine lines bytes (Err NoMemory) taken left = IsCutShort bytes left
+
+-- at the end none was taken; a line took at least a byte, and kept to the input's limit
+abbrev pub Progresses : Result (Option (List ℕ)) LineFault → ℕ → ℕ → ℕ → Type 0
+Progresses (Ok None) old new all = new ≡ old
+Progresses (Ok (Some piece)) old new all = (old < new) × (new ≤ all)
+Progresses (Err fault) old new all = new ≡ old

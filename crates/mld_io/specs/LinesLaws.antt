@@ -1,0 +1,78 @@
+-- Laws of the lines of an input.
+use Rattle.std.specs.Prelude.{◌≡◌, ◌≢◌, ℕ, ◌+◌, ◌<◌, ◌≤◌, Bool, true, false, List, [], ◌∷◌, ◌++◌, length, ◌==◌}
+use Rattle.std.proofs.Common.{refl, ap, arith, inl, inr, cond, eqb}
+use Rattle.std.proofs.lemmas.List.Elements.{All-nil, All-cons, All-head, All-tail}
+use Rattle.std.proofs.lemmas.Bool.{ne_eqb}
+use Rattle.std.proofs.lemmas.Bool.Decides.{eqb_tells}
+use Rattle.mld_io.specs.Lines.{lines_of, onto_first, first_line, after_line, line_size, HasNoEnd}
+
+-- the first of the lines, and then the lines of what follows it
+abbrev pub FirstOfLines : Type 0
+FirstOfLines = (bytes : List ℕ) → bytes ≢ [] → lines_of bytes ≡ first_line bytes ∷ lines_of (after_line bytes)
+
+first_step : (b : ℕ) (bs : List ℕ) (is_end : Bool) → onto_first b (lines_of bs) ≡ (b ∷ first_line bs) ∷ lines_of (after_line bs)
+    → cond is_end ([] ∷ lines_of bs) (onto_first b (lines_of bs)) ≡ cond is_end [] (b ∷ first_line bs) ∷ lines_of (cond is_end bs (after_line bs))
+first_step b bs true goes_on = refl
+first_step b bs false goes_on = goes_on
+
+pub first_of_lines_lem : FirstOfLines
+first_of_lines_lem [] some = absurd (some refl)
+first_of_lines_lem (b ∷ []) some = first_step b [] (b == 10) refl
+first_of_lines_lem (b ∷ c ∷ cs) some = first_step b (c ∷ cs) (b == 10) (ap (onto_first b) (first_of_lines_lem (c ∷ cs) (λ e. cc)))
+
+-- a first line has no LF in it
+pub HasNoEnd-first_line : (bytes : List ℕ) → HasNoEnd (first_line bytes)
+HasNoEnd-first_line [] = All-nil (λ b. b ≢ 10)
+HasNoEnd-first_line (b ∷ bs) = elim (eqb_tells b 10) [
+  | inl h ↦ rw h.0 (All-nil (λ b. b ≢ 10))
+  | inr h ↦ rw h.0 (All-cons (λ b. b ≢ 10) b (first_line bs) h.1 (HasNoEnd-first_line bs))
+]
+
+-- the first line with its LF, and what is left, make up the input
+pub length-line_size : (bytes : List ℕ) → line_size bytes + length (after_line bytes) ≡ length bytes
+length-line_size [] = refl
+length-line_size (b ∷ bs) = elim (eqb_tells b 10) [
+  | inl h ↦ rw h.0 (omega arith)
+  | inr h ↦ rw h.0 (omega (arith, length-line_size bs))
+]
+
+-- a line takes a byte or more
+pub line_size_some : (bytes : List ℕ) → bytes ≢ [] → 0 < line_size bytes
+line_size_some [] some = absurd (some refl)
+line_size_some (b ∷ bs) some = elim (eqb_tells b 10) [
+  | inl h ↦ rw h.0 (omega arith)
+  | inr h ↦ rw h.0 (omega arith)
+]
+
+-- what is left after a line is shorter
+pub length-after_line : (bytes : List ℕ) → bytes ≢ [] → length (after_line bytes) < length bytes
+length-after_line bytes some = omega (arith, length-line_size bytes, line_size_some bytes some)
+
+-- the first line is no longer than what it takes
+pub length-first_line : (bytes : List ℕ) → length (first_line bytes) ≤ line_size bytes
+length-first_line [] = omega arith
+length-first_line (b ∷ bs) = elim (eqb_tells b 10) [
+  | inl h ↦ rw h.0 (omega arith)
+  | inr h ↦ rw h.0 (omega (arith, length-first_line bs))
+]
+
+-- bytes with no LF go on in the first line
+pub first_line-append : (front rest : List ℕ) → HasNoEnd front → first_line (front ++ rest) ≡ front ++ first_line rest
+first_line-append [] rest no_end = refl
+first_line-append (b ∷ bs) rest no_end =
+    let other : eqb b 10 ≡ false = ne_eqb b 10 (All-head (λ b. b ≢ 10) b bs no_end) in
+    rw other (ap (λ l. b ∷ l) (first_line-append bs rest (All-tail (λ b. b ≢ 10) b bs no_end)))
+
+-- they are no part of what is left after it
+pub after_line-append : (front rest : List ℕ) → HasNoEnd front → after_line (front ++ rest) ≡ after_line rest
+after_line-append [] rest no_end = refl
+after_line-append (b ∷ bs) rest no_end =
+    let other : eqb b 10 ≡ false = ne_eqb b 10 (All-head (λ b. b ≢ 10) b bs no_end) in
+    rw other (after_line-append bs rest (All-tail (λ b. b ≢ 10) b bs no_end))
+
+-- and the line takes them too
+pub line_size-append : (front rest : List ℕ) → HasNoEnd front → line_size (front ++ rest) ≡ length front + line_size rest
+line_size-append [] rest no_end = omega arith
+line_size-append (b ∷ bs) rest no_end =
+    let other : eqb b 10 ≡ false = ne_eqb b 10 (All-head (λ b. b ≢ 10) b bs no_end) in
+    rw other (omega (arith, line_size-append bs rest (All-tail (λ b. b ≢ 10) b bs no_end)))

@@ -1,0 +1,18 @@
+//! The edges of the program: where bytes come from, where they go, and the lines between.
+#![tactic(auto)]
+
+mod faults;
+mod line_reader;
+mod memory;
+mod pieces;
+mod sinks;
+mod sources;
+mod standard;
+
+pub use faults::{Failed, IoFault, LineFault, WriteFault};
+pub use line_reader::{Lines, first_of_lines};
+pub use memory::{MemorySink, MemorySource};
+pub use pieces::Piece;
+pub use sinks::{Sink, write_all};
+pub use sources::Source;
+pub use standard::{StdSink, StdSource};

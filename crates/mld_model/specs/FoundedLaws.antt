@@ -1,0 +1,96 @@
+-- The founded world is sound.
+use Rattle.std.proofs.Common.{◌≡◌, ◌≢◌, ℕ, zero, suc, ◌+◌, ◌-◌, ◌<◌, ◌≤◌, List, [], ◌∷◌, ◌++◌, ◌⊎◌, inl, inr, refl, sym, ◌∙◌, ap, arith, rules, subst, length, cond, ltb, true, false, get_or, set, map, append-nil, replicate}
+use Rattle.std.specs.List.{range_with_len}
+use Rattle.std.proofs.lemmas.Bool.{cases_eq, cases_lt, cases_Bool, lt-ltb, le-ltb, ltb-true, cases_order}
+use Rattle.std.proofs.lemmas.List.{get_or_past}
+use Rattle.std.proofs.lemmas.List.FromFn.{get_or-map-range_with_len, length-map-range_with_len}
+use Rattle.tree_clock.specs.declared.dots.Dot.{Dot}
+use Rattle.tree_clock.specs.declared.dots.Range.{Range}
+use Rattle.tree_clock.specs.Lists.{Has}
+use Rattle.tree_clock.specs.Path.{IsPrefix, IsProperPrefix, AreApart}
+use Rattle.tree_clock.specs.Dot.{IsIn, Knows}
+use Rattle.mld_ops.specs.History.{Operation}
+use Rattle.mld_model.specs.Clone.{Clone, Absent, Asking, Empty, Down, Live, Stored, known_of}
+use Rattle.mld_model.specs.World.{World, Message, clone_at, founded, founded_path, founded_clone, clone_count}
+use Rattle.mld_model.specs.Sound.{Keeps, IsSoundClone, IsSound}
+use Rattle.mld_model.specs.SoundLaws.{AreApart-swap}
+
+tails : (x : ℕ) (xs ys : List ℕ) → x ∷ xs ≡ x ∷ ys → xs ≡ ys
+tails x xs ys e = cc
+
+heads : (x y : ℕ) (xs ys : List ℕ) → x ∷ xs ≡ y ∷ ys → x ≡ y
+heads x y xs ys e = cc
+
+heads_differ : (xs ys : List ℕ) → ¬ (48 ∷ xs ≡ 49 ∷ ys)
+heads_differ xs ys e = let h : 48 ≡ 49 = heads 48 49 xs ys e in omega (arith, h)
+
+-- a path that turns right before another does is no prefix of it
+turns_not_below : (turn : ℕ) (width : ℕ) (more : List ℕ) → turn < width → ¬ IsPrefix (replicate turn 48 ++ 49 ∷ []) (replicate width 48 ++ more)
+turns_not_below turn zero more h p = omega (arith, h)
+turns_not_below zero (suc width) more h p = heads_differ (replicate width 48 ++ more) p.0 p.1
+turns_not_below (suc turn) (suc width) more h p = turns_not_below turn width more (omega (arith, h)) (p.0, tails 48 (replicate width 48 ++ more) ((replicate turn 48 ++ 49 ∷ []) ++ p.0) p.1)
+
+turns_not_above : (turn : ℕ) (width : ℕ) (more : List ℕ) → turn < width → ¬ IsPrefix (replicate width 48 ++ more) (replicate turn 48 ++ 49 ∷ [])
+turns_not_above turn zero more h p = omega (arith, h)
+turns_not_above zero (suc width) more h p = heads_differ ((replicate width 48 ++ more) ++ p.0) [] (sym p.1)
+turns_not_above (suc turn) (suc width) more h p = turns_not_above turn width more (omega (arith, h)) (p.0, tails 48 (replicate turn 48 ++ 49 ∷ []) ((replicate width 48 ++ more) ++ p.0) p.1)
+
+turns_apart : (turn : ℕ) (width : ℕ) (more : List ℕ) → turn < width → AreApart (replicate turn 48 ++ 49 ∷ []) (replicate width 48 ++ more)
+turns_apart turn width more h = record { not_below = turns_not_below turn width more h; not_above = turns_not_above turn width more h }
+
+-- the leaves of the founded world are apart
+founded_apart : (count one other : ℕ) → one < count → other < count → one ≢ other → AreApart (founded_path count one) (founded_path count other)
+founded_apart count zero zero h k differ = absurd (differ refl)
+founded_apart count zero (suc other) h k differ =
+    let P : List ℕ → Type 0 = λ p. AreApart (replicate other 48 ++ 49 ∷ []) p in
+    AreApart-swap _ _ (subst P (append-nil (replicate (count - 1) 48)) (turns_apart other (count - 1) [] (omega (arith, k))))
+founded_apart count (suc one) zero h k differ =
+    let P : List ℕ → Type 0 = λ p. AreApart (replicate one 48 ++ 49 ∷ []) p in
+    subst P (append-nil (replicate (count - 1) 48)) (turns_apart one (count - 1) [] (omega (arith, h)))
+founded_apart count (suc one) (suc other) h k differ = elim (cases_order one other) [
+    inl same ↦ absurd (differ (ap suc same))
+  | inr unlike ↦ elim unlike [
+        inl before ↦ turns_apart one other (49 ∷ []) before
+      | inr after ↦ AreApart-swap _ _ (turns_apart other one (49 ∷ []) after) ] ]
+
+-- which clone of the founded world keeps what
+founded_keeps : (count number : ℕ) (stored : Stored) → Keeps (founded_clone count number) stored
+  → (number < count) × (record { path = founded_path count number; base = []; journal = [] } ≡ stored)
+founded_keeps count number stored keeps = elim (cases_Bool (ltb number count)) [
+    inl below ↦ let P : Clone → Type 0 = λ c. Keeps c stored in
+      let e : founded_clone count number ≡ Live (record { path = founded_path count number; base = []; journal = [] }) [] = rw below refl in
+      (ltb-true number count below, subst P e keeps)
+  | inr above ↦ let P : Clone → Type 0 = λ c. Keeps c stored in
+      let e : founded_clone count number ≡ Absent = rw above refl in
+      absurd (subst P e keeps) ]
+
+founded_at : (domain : List ℕ) (count number : ℕ) (stored : Stored) → Keeps (clone_at (founded domain count) number) stored
+  → (number < count) × (record { path = founded_path count number; base = []; journal = [] } ≡ stored)
+founded_at domain count number stored keeps = elim (cases_lt number 32) [
+    inl inside ↦ let P : Clone → Type 0 = λ c. Keeps c stored in
+      founded_keeps count number stored (subst P (get_or-map-range_with_len (founded_clone count) 0 32 number number Absent inside (omega arith)) keeps)
+  | inr past ↦ let P : Clone → Type 0 = λ c. Keeps c stored in
+      absurd (subst P (get_or_past (map (founded_clone count) (range_with_len 0 32)) number Absent (omega (arith, past, length-map-range_with_len (founded_clone count) 0 32))) keeps) ]
+
+-- the founded world is sound
+pub founded_sound : (domain : List ℕ) (count : ℕ) → IsSound (founded domain count)
+founded_sound domain count = record {
+    lawful = tt;
+    count = length-map-range_with_len (founded_clone count) 0 32;
+    apart = λ one other first second differ one_keeps other_keeps.
+      let a = founded_at domain count one first one_keeps in
+      let b = founded_at domain count other second other_keeps in
+      let P : Stored → Type 0 = λ s. AreApart s.path second.path in
+      let Q : Stored → Type 0 = λ s. AreApart (founded_path count one) s.path in
+      subst P a.1 (subst Q b.1 (founded_apart count one other a.0 b.0 differ));
+    clones = λ number stored keeps.
+      let a = founded_at domain count number stored keeps in
+      let P : Stored → Type 0 = λ s. IsSoundClone [] s in
+      subst P a.1 (record {
+        closed = record { done = λ dot h. absurd h; causes = λ operation stands. absurd stands };
+        own = λ operation stands. absurd stands;
+        above = λ operation stands. absurd stands;
+        below = λ operation stands. absurd stands;
+      });
+    messages = λ message sent. absurd sent;
+  }
