@@ -20,3 +20,5 @@ pub mod Bytes
 pub mod TripleBytes
 pub mod Laws
 pub mod ScheduleLaws
+pub mod StepLaws
+pub mod RunsLaws

@@ -1,19 +1,18 @@
 -- Each line of a schedule is of one kind, and is read in one way.
-use Rattle.std.specs.Prelude.{◌≡◌, ◌≢◌, ℕ, suc, ◌+◌, ◌^◌, ◌<◌, List, [], ◌∷◌, ◌++◌, ◌⊎◌, Bool, false, true, ◌||◌, ◌&&◌, ◌==◌, not, IsTrue, codes, nat_eq, nat_le, length}
-use Rattle.std.specs.List.{list_any, list_all}
+use Rattle.std.specs.Prelude.{◌≡◌, ℕ, ◌^◌, ◌<◌, List, [], ◌∷◌, ◌++◌, ◌⊎◌, false, true, ◌&&◌, IsTrue, codes, nat_eq, nat_le, length}
+use Rattle.std.specs.List.{list_all}
 use Rattle.std.specs.Fmt.{decimal}
-use Rattle.std.proofs.Common.{refl, sym, ◌∙◌, subst, ap, arith, inl, inr, drop, take, one-add, lt_trans, lit<}
+use Rattle.std.proofs.Common.{refl, sym, ◌∙◌, subst, ap, arith, inl, inr, drop, one-add}
 use Rattle.std.proofs.lemmas.Bool.{false≢true}
 use Rattle.std.proofs.lemmas.Fmt.{decimal_injective}
-use Rattle.rdf_terms.specs.declared.terms.Triple.{Triple}
 use Rattle.rdf_terms.specs.Domain.{is_domain, is_domain_byte}
 use Rattle.rdf_terms.specs.Grammar.{SpellsTriple}
 use Rattle.mld_model.specs.declared.Command.{Command}
 use Rattle.mld_model.specs.declared.Command.TheVariants.{Add, Deliver, Show, Compare}
-use Rattle.mld_model.specs.Schedule.{IsNothing, empty, comment, is_unbuilt, unbuilt_words, is_word, first_word, SpellsSetup, SpellsCommand}
-use Rattle.mld_model.specs.Bytes.{Lacks, Lacks-append, Lacks_parts, Lacks-from_test, Lacks-decimal, list_any-Lacks, one_split, apart}
+use Rattle.mld_model.specs.Schedule.{IsNothing, empty, comment, is_unbuilt, SpellsSetup, SpellsCommand}
+use Rattle.mld_model.specs.Bytes.{Lacks, Lacks-append, Lacks-from_test, Lacks-decimal, list_any-Lacks, one_split, apart}
 use Rattle.mld_model.specs.TripleBytes.{Lacks-triple}
-use Rattle.mld_model.specs.Laws.{IsOfOneKind, OneKind, OneSetup, OneCommand, OneTriple}
+use Rattle.mld_model.specs.Laws.{OneKind, OneSetup, OneCommand, OneTriple}
 use Rattle.std.proofs.lemmas.Bool.{and_parts}
 
 -- ---- what a line begins with

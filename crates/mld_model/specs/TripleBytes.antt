@@ -1,14 +1,13 @@
 -- No text of a triple has a backslash.
-use Rattle.std.specs.Prelude.{◌≡◌, ℕ, List, [], ◌∷◌, ◌++◌, Bool, true, false, ◌&&◌, ◌||◌, not, ◌==◌, IsTrue, if◌then◌else◌, cond}
-use Rattle.std.specs.List.{list_all}
-use Rattle.std.proofs.Common.{refl, sym, ◌∙◌, subst, inl, inr, arith}
+use Rattle.std.specs.Prelude.{◌≡◌, ℕ, List, [], ◌∷◌, ◌++◌, Bool, true, false, ◌||◌, not, ◌==◌, IsTrue}
+use Rattle.std.proofs.Common.{refl, sym, subst, inl, inr, arith}
 use Rattle.std.proofs.lemmas.Bool.{and_parts, false≢true, cases_Bool, eqb-true, or_left}
 use Rattle.rdf_terms.specs.declared.terms.Term.{Term}
 use Rattle.rdf_terms.specs.declared.terms.Term.TheVariants as terms
 use Rattle.rdf_terms.specs.declared.terms.Triple.{Triple}
 use Rattle.rdf_terms.specs.Iri.{is_iri, is_letter, is_digit, is_excluded, has_scheme, iri_text}
 use Rattle.rdf_terms.specs.Literal.{LiteralValue, Typed, Tagged, is_language_tag, is_primary, is_subtags}
-use Rattle.rdf_terms.specs.Grammar.{SpellsTriple, SpellsBy, Layout, SpellsObject, SpellsLiteral, quoted, is_plain, is_blanks}
+use Rattle.rdf_terms.specs.Grammar.{SpellsTriple, SpellsBy, Layout, SpellsObject, SpellsLiteral, quoted, is_plain}
 use Rattle.mld_model.specs.Bytes.{Lacks, Lacks-append, Lacks_parts, Lacks-from_test}
 
 Lacks-iri : (iri : List ℕ) → IsTrue (is_iri iri) → Lacks 92 (iri_text iri)
@@ -62,19 +61,19 @@ Lacks-object text (terms.Literal literal) h = Lacks-literal text literal h
 Lacks-spelled : (layout : Layout) (text : List ℕ) (triple : Triple) → SpellsBy layout text triple → Lacks 92 text
 Lacks-spelled layout text triple by =
     let all = Lacks-from_test (λ byte. byte == 32 || byte == 9) 92 refl
-      (layout.before ++ layout.after_subject ++ layout.after_predicate ++ layout.after_object ++ layout.after_dot) by.blanks in
+    (layout.before ++ layout.after_subject ++ layout.after_predicate ++ layout.after_object ++ layout.after_dot) by.blanks in
     let fourth = Lacks_parts 92 (layout.before ++ layout.after_subject ++ layout.after_predicate ++ layout.after_object) layout.after_dot all in
     let third = Lacks_parts 92 (layout.before ++ layout.after_subject ++ layout.after_predicate) layout.after_object fourth.0 in
     let second = Lacks_parts 92 (layout.before ++ layout.after_subject) layout.after_predicate third.0 in
     let first = Lacks_parts 92 layout.before layout.after_subject second.0 in
     subst (Lacks 92) (sym by.whole)
-      (Lacks-append 92 layout.before _ first.0
-      (Lacks-append 92 (iri_text triple.s) _ (Lacks-iri triple.s by.subject)
-      (Lacks-append 92 layout.after_subject _ first.1
-      (Lacks-append 92 (iri_text triple.p) _ (Lacks-iri triple.p by.predicate)
-      (Lacks-append 92 layout.after_predicate _ second.1
-      (Lacks-append 92 layout.object _ (Lacks-object layout.object triple.o by.object)
-      (Lacks-append 92 layout.after_object _ third.1 (λ e. omega arith, fourth.1))))))))
+    (Lacks-append 92 layout.before _ first.0
+    (Lacks-append 92 (iri_text triple.s) _ (Lacks-iri triple.s by.subject)
+    (Lacks-append 92 layout.after_subject _ first.1
+    (Lacks-append 92 (iri_text triple.p) _ (Lacks-iri triple.p by.predicate)
+    (Lacks-append 92 layout.after_predicate _ second.1
+    (Lacks-append 92 layout.object _ (Lacks-object layout.object triple.o by.object)
+    (Lacks-append 92 layout.after_object _ third.1 (λ e. omega arith, fourth.1))))))))
 
 -- no text of a triple has a backslash
 pub Lacks-triple : (text : List ℕ) (triple : Triple) → SpellsTriple text triple → Lacks 92 text

@@ -1,0 +1,131 @@
+-- A step of the world has one outcome.
+use Rattle.std.specs.Prelude.{◌≡◌, ℕ, ◌+◌, ◌<◌, List, [], ◌∷◌, length, Option, Some, None, MatchOption}
+use Rattle.std.proofs.Common.{sym, ◌∙◌, ap, arith, inl, inr}
+use Rattle.std.proofs.lemmas.Bool.{cases_order}
+use Rattle.rdf_terms.specs.declared.terms.Triple.{Triple}
+use Rattle.tree_clock.specs.declared.dots.Range.{Range}
+use Rattle.mld_ops.specs.declared.tagged.Tagged.{Tagged}
+use Rattle.mld_ops.specs.History.{dot_at}
+use Rattle.mld_ops.specs.MeaningLaws.{one_meaning}
+use Rattle.mld_model.specs.declared.Command.TheVariants.{Add, Deliver, Show, Compare}
+use Rattle.mld_model.specs.Clone.{Clone, Absent, Asking, Empty, Down, Live, Stored, known_of}
+use Rattle.mld_model.specs.World.{World, Message, RangeOf, message_at, clone_at}
+use Rattle.mld_model.specs.Reply.{Reply, Did, Shows, NoMessage}
+use Rattle.mld_model.specs.Step.{Answers, IsNextTick, after_operation, Makes, Adds, Receives, Takes, Lists, Compares, ComparesWith, Weighs, Step}
+use Rattle.mld_model.specs.Laws.{OneStep}
+
+-- two outcomes are the same
+abbrev Same : Reply → World → Reply → World → Type 0
+Same reply next other after = (reply ≡ other) × (next ≡ after)
+
+answers_once : {world : World} {answer reply other : Reply} {next after : World}
+    → Answers world answer reply next → Answers world answer other after → Same reply next other after
+answers_once p q = (p.0 ∙ sym q.0, p.1 ∙ sym q.1)
+
+-- of two ticks that come next neither is below the other
+not_below : (known : List Range) (path : List ℕ) (tick other : ℕ) → IsNextTick known path tick → IsNextTick known path other → ¬ (tick < other)
+not_below known path tick other p q below =
+    let again = (p.after tick).0 ((q.after tick).1 (p.positive, below)) in
+    omega (arith, again.1)
+
+one_next_tick : (known : List Range) (path : List ℕ) (tick other : ℕ) → IsNextTick known path tick → IsNextTick known path other → tick ≡ other
+one_next_tick known path tick other p q = elim (cases_order tick other) [
+  | inl same ↦ same
+  | inr (inl below) ↦ absurd (not_below known path tick other p q below)
+  | inr (inr above) ↦ absurd (not_below known path other tick q p above)
+]
+
+makes_once : (world : World) (number : ℕ) (stored : Stored) (held : List Range) (deletes : List Tagged) (inserts : List Triple) (reply other : Reply) (next after : World)
+    → Makes world number stored held deletes inserts reply next → Makes world number stored held deletes inserts other after → Same reply next other after
+makes_once world number stored held deletes inserts reply other next after p q =
+    let same = one_next_tick (known_of stored) stored.path p.tick q.tick p.is_next q.is_next in (
+      p.replies ∙ ap (λ (tick : ℕ). Did (dot_at stored.path tick) (length world.messages + 1)) same ∙ sym q.replies,
+      p.changes ∙ ap (λ (tick : ℕ). after_operation world number stored held
+          (record { dot = dot_at stored.path tick; causes = known_of stored; deletes = deletes; inserts = inserts })) same ∙ sym q.changes,
+    )
+
+adds_once : (world : World) (number : ℕ) (triple : Triple) (clone : Clone) (reply other : Reply) (next after : World)
+    → Adds world number triple clone reply next → Adds world number triple clone other after → Same reply next other after
+adds_once world number triple Absent reply other next after p q = answers_once p q
+adds_once world number triple Asking reply other next after p q = answers_once p q
+adds_once world number triple Empty reply other next after p q = answers_once p q
+adds_once world number triple (Down stored) reply other next after p q = answers_once p q
+adds_once world number triple (Live stored held) reply other next after p q = makes_once world number stored held [] (triple ∷ []) reply other next after p q
+
+receives_once : (world : World) (number : ℕ) (stored : Stored) (held : List Range) (range : Range) (reply other : Reply) (next after : World)
+    → Receives world number stored held range reply next → Receives world number stored held range other after → Same reply next other after
+receives_once world number stored held range reply other next after (inl p) (inl q) = answers_once p.1 q.1
+receives_once world number stored held range reply other next after (inl p) (inr q) = absurd (q.0.unknown p.0)
+receives_once world number stored held range reply other next after (inr p) (inl q) = absurd (p.0.unknown q.0)
+receives_once world number stored held range reply other next after (inr p) (inr q) = (p.2 ∙ sym q.2, p.3 ∙ sym q.3)
+
+takes_once : (world : World) (number : ℕ) (message : Message) (clone : Clone) (reply other : Reply) (next after : World)
+    → Takes world number message clone reply next → Takes world number message clone other after → Same reply next other after
+takes_once world number message Absent reply other next after p q = answers_once p q
+takes_once world number (RangeOf range) Asking reply other next after p q = answers_once p q
+takes_once world number message Empty reply other next after p q = answers_once p q
+takes_once world number message (Down stored) reply other next after p q = answers_once p q
+takes_once world number (RangeOf range) (Live stored held) reply other next after p q = receives_once world number stored held range reply other next after p q
+takes_once world number message clone reply other next after p q = absurd p
+
+lists_once : (world : World) (clone : Clone) (reply other : Reply) (next after : World)
+    → Lists world clone reply next → Lists world clone other after → Same reply next other after
+lists_once world Absent reply other next after p q = answers_once p q
+lists_once world Asking reply other next after p q = answers_once p q
+lists_once world Empty reply other next after p q = answers_once p q
+lists_once world (Down stored) reply other next after p q = answers_once p q
+lists_once world (Live stored held) reply other next after p q =
+    let same = one_meaning world.history (known_of stored) p.0 q.0 p.1 q.1 in
+    (p.2.0 ∙ ap Shows same ∙ sym q.2.0, p.2.1 ∙ sym q.2.1)
+
+compares_once : (known others : List Range) (reply other : Reply) → Compares known others reply → Compares known others other → reply ≡ other
+compares_once known others reply other (inl p) (inl q) = p.2 ∙ sym q.2
+compares_once known others reply other (inl p) (inr (inl q)) = absurd (q.1 p.1)
+compares_once known others reply other (inl p) (inr (inr (inl q))) = absurd (q.0 p.0)
+compares_once known others reply other (inl p) (inr (inr (inr q))) = absurd (q.0 p.0)
+compares_once known others reply other (inr (inl p)) (inl q) = absurd (p.1 q.1)
+compares_once known others reply other (inr (inl p)) (inr (inl q)) = p.2 ∙ sym q.2
+compares_once known others reply other (inr (inl p)) (inr (inr (inl q))) = absurd (q.0 p.0)
+compares_once known others reply other (inr (inl p)) (inr (inr (inr q))) = absurd (q.0 p.0)
+compares_once known others reply other (inr (inr (inl p))) (inl q) = absurd (p.0 q.0)
+compares_once known others reply other (inr (inr (inl p))) (inr (inl q)) = absurd (p.0 q.0)
+compares_once known others reply other (inr (inr (inl p))) (inr (inr (inl q))) = p.2 ∙ sym q.2
+compares_once known others reply other (inr (inr (inl p))) (inr (inr (inr q))) = absurd (q.1 p.1)
+compares_once known others reply other (inr (inr (inr p))) (inl q) = absurd (p.0 q.0)
+compares_once known others reply other (inr (inr (inr p))) (inr (inl q)) = absurd (p.0 q.0)
+compares_once known others reply other (inr (inr (inr p))) (inr (inr (inl q))) = absurd (p.1 q.1)
+compares_once known others reply other (inr (inr (inr p))) (inr (inr (inr q))) = p.2 ∙ sym q.2
+
+compares_with_once : (world : World) (stored : Stored) (clone : Clone) (reply other : Reply) (next after : World)
+    → ComparesWith world stored clone reply next → ComparesWith world stored clone other after → Same reply next other after
+compares_with_once world stored Absent reply other next after p q = answers_once p q
+compares_with_once world stored Asking reply other next after p q = answers_once p q
+compares_with_once world stored Empty reply other next after p q = answers_once p q
+compares_with_once world stored (Down others) reply other next after p q = answers_once p q
+compares_with_once world stored (Live others held) reply other next after p q =
+    (compares_once (known_of stored) (known_of others) reply other p.0 q.0, p.1 ∙ sym q.1)
+
+weighs_once : (world : World) (clone others : Clone) (reply other : Reply) (next after : World)
+    → Weighs world clone others reply next → Weighs world clone others other after → Same reply next other after
+weighs_once world Absent others reply other next after p q = answers_once p q
+weighs_once world Asking others reply other next after p q = answers_once p q
+weighs_once world Empty others reply other next after p q = answers_once p q
+weighs_once world (Down stored) others reply other next after p q = answers_once p q
+weighs_once world (Live stored held) others reply other next after p q = compares_with_once world stored others reply other next after p q
+
+-- what holds of two outcomes of each case holds of both
+delivers_once : (world : World) (number : ℕ) (sent : Option Message) (reply other : Reply) (next after : World)
+    → MatchOption sent (Answers world NoMessage reply next) (λ message. Takes world number message (clone_at world number) reply next)
+    → MatchOption sent (Answers world NoMessage other after) (λ message. Takes world number message (clone_at world number) other after)
+    → Same reply next other after
+delivers_once world number None reply other next after p q = answers_once p q
+delivers_once world number (Some message) reply other next after p q = takes_once world number message (clone_at world number) reply other next after p q
+
+-- a step of a world by a command has one reply, and leads to one world
+pub one_step : OneStep
+unfolding Step
+one_step world (Add number triple) reply other next after p q = adds_once world number triple (clone_at world number) reply other next after p q
+one_step world (Deliver message number) reply other next after p q = delivers_once world number (message_at world message) reply other next after p q
+one_step world (Show number) reply other next after p q = lists_once world (clone_at world number) reply other next after p q
+one_step world (Compare number second) reply other next after p q =
+    weighs_once world (clone_at world number) (clone_at world second) reply other next after p q
