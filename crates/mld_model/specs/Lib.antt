@@ -6,7 +6,6 @@ pub mod Schedule
 pub mod Runs
 pub mod Sound
 pub mod StandsFor
-pub mod TmpClock
 pub mod Local
 pub mod LocalLaws
 pub mod StandsForLaws

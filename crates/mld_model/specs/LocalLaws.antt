@@ -7,7 +7,7 @@ use Rattle.tree_clock.specs.declared.dots.Range.{Range}
 use Rattle.tree_clock.specs.Lists.{Has, IsAscending}
 use Rattle.tree_clock.specs.Dot.{IsIn, Knows}
 use Rattle.tree_clock.specs.Clock.{ticks_of, Covers, RaisesTo}
-use Rattle.mld_model.specs.TmpClock.{Covers-raised}
+use Rattle.tree_clock.specs.ClockLaws.{Covers-raised}
 use Rattle.mld_ops.specs.declared.tagged.Tagged.{Tagged}
 use Rattle.mld_ops.specs.Entry.{EntryValue}
 use Rattle.mld_ops.specs.History.{Operation, IsDone, IsInserted, IsClosed, IsNext, IsLawful, dot_at}

@@ -1,7 +1,8 @@
 -- A running world that takes a step stands for what the model's step makes.
-use Rattle.std.proofs.Common.{◌≡◌, ◌≢◌, ℕ, zero, suc, ◌+◌, ◌-◌, ◌<◌, ◌≤◌, List, [], ◌∷◌, ◌++◌, ◌⊎◌, ◌↔◌, inl, inr, refl, sym, ◌∙◌, ap, arith, subst, length, get_or, set, Option, Some, None}
+use Rattle.std.proofs.Common.{◌≡◌, ◌≢◌, ℕ, zero, suc, ◌+◌, ◌-◌, ◌<◌, ◌≤◌, List, [], ◌∷◌, ◌++◌, ◌⊎◌, ◌↔◌, inl, inr, refl, sym, ◌∙◌, ap, arith, subst, length, get_or, set, Option, Some, None, map, ltb}
 use Rattle.std.specs.Prelude.{slice_get, MatchOption}
-use Rattle.std.proofs.lemmas.Bool.{cases_lt}
+use Rattle.std.specs.List.{range_with_len}
+use Rattle.std.proofs.lemmas.Bool.{cases_lt, cases_Bool}
 use Rattle.rdf_terms.specs.declared.terms.Triple.{Triple}
 use Rattle.tree_clock.specs.declared.dots.Dot.{Dot}
 use Rattle.tree_clock.specs.declared.dots.Range.{Range}
@@ -16,18 +17,43 @@ use Rattle.mld_ops.specs.Net.{IsNet}
 use Rattle.mld_model.specs.declared.Command.{Command}
 use Rattle.mld_model.specs.declared.Command.TheVariants.{Add, Deliver, Show, Compare}
 use Rattle.mld_model.specs.Clone.{Clone, Absent, Asking, Empty, Down, Live, Stored, known_of, with_range, last_dot, IsKnown, IsReady, IsHeldBack, IsWithin}
-use Rattle.mld_model.specs.World.{World, Message, RangeOf, message_at, clone_at, with_clone}
+use Rattle.mld_model.specs.World.{World, Message, RangeOf, message_at, clone_at, with_clone, founded, founded_clone}
 use Rattle.mld_model.specs.Step.{Step, Answers, Adds, IsNextTick, Makes, after_operation, Receives, Takes, Lists, Compares, ComparesWith, Weighs}
 use Rattle.mld_model.specs.Runs.{Waits}
 use Rattle.mld_model.specs.Reply.{Reply, Did, Took, AlreadyKnown, Shows, Same, Less, More, Apart, NoMessage, IsAbsent}
 use Rattle.mld_model.specs.Sound.{Keeps, IsSoundMessage, IsSoundClone, IsSound}
-use Rattle.mld_model.specs.StandsFor.{RunningLive, RunningWorld, LiveStandsFor, StandsFor}
+use Rattle.mld_model.specs.StandsFor.{RunningLive, RunningWorld, LiveStandsFor, CloneStandsFor, ClonesStandFor, StandsFor, founded_live, founded_running}
 use Rattle.mld_model.specs.Local.{next_dot, LocallyMakes, LocallyKnown, LocallyReady, LocallyTakes}
 use Rattle.mld_model.specs.HistoryLaws.{done_not_fresh}
 use Rattle.mld_model.specs.SoundLaws.{made_is_next, made_sound, taken_sound}
 use Rattle.mld_model.specs.LocalLaws.{kept_by, next_tick_of, made_by, maker_stands, made_net, known_alike, ready_alike, taker_stands}
 use Rattle.mld_model.specs.StandsForLaws.{clones_stand_set, clones_still_stand, messages_still_stand, messages_stand_more, messages_count, LiveAt, live_at, absent_at, SentAs, sent_at, none_at}
 use Rattle.mld_model.specs.WorldStep.{Follows}
+
+-- founding
+
+founded_clone_stands : (count number : ℕ) → CloneStandsFor [] (founded_live count number) (founded_clone count number)
+founded_clone_stands count number = elim (cases_Bool (ltb number count)) [
+    inl below ↦ rw below ((record {
+        path = refl;
+        journal = refl;
+        known = λ dot. ((λ c. absurd (omega (arith, c.positive, c.within))), λ k. absurd k);
+        pairs = record { ascending = tt; sound = λ pair h. absurd h; complete = λ pair k. absurd k.covered };
+      }, refl))
+  | inr above ↦ rw above tt ]
+
+founded_clones_stand : (count : ℕ) (numbers : List ℕ) → ClonesStandFor [] (map (founded_live count) numbers) (map (founded_clone count) numbers)
+founded_clones_stand count [] = tt
+founded_clones_stand count (number ∷ numbers) = (founded_clone_stands count number, founded_clones_stand count numbers)
+
+-- the world that runs when it was just founded stands for the founded world
+pub founded_stands : (domain : List ℕ) (count : ℕ) → StandsFor (founded_running domain count) (founded domain count)
+founded_stands domain count = record {
+    domain = refl;
+    clones = founded_clones_stand count (range_with_len 0 32);
+    messages = tt;
+    ticks = λ operation h. absurd h;
+  }
 
 -- a running world after one more step, with another clone and with one more entry sent
 abbrev pub stepped : RunningWorld → RunningWorld
