@@ -11,6 +11,7 @@ abbrev pub Lacks : ℕ → List ℕ → Type 0
 Lacks byte [] = Unit {0}
 Lacks byte (first ∷ rest) = (first ≢ byte) × Lacks byte rest
 
+-- two texts that lack it do so together
 pub Lacks-append : (byte : ℕ) (front rest : List ℕ) → Lacks byte front → Lacks byte rest → Lacks byte (front ++ rest)
 Lacks-append byte [] rest h k = k
 Lacks-append byte (first ∷ front) rest h k = (h.0, Lacks-append byte front rest h.1 k)
@@ -32,6 +33,7 @@ pub Lacks-decimal : (byte : ℕ) → ((digit : ℕ) → digit < 10 → 48 + digi
 Lacks-decimal byte other = decimal_by_steps (λ n ds. Lacks byte ds) (λ n h. (other n h, tt))
     (λ n ds h k. Lacks-append byte ds _ k (other (n % 10) (omega arith), tt))
 
+-- as a test
 pub list_any-Lacks : (byte : ℕ) (text : List ℕ) → Lacks byte text → list_any (λ b. b == byte) text ≡ false
 list_any-Lacks byte [] h = refl
 list_any-Lacks byte (first ∷ rest) h = rw (ne_eqb first byte h.0) (list_any-Lacks byte rest h.1)

@@ -61,12 +61,14 @@ not_delivered world message number reply next waits step =
 
 -- ---- the outcomes of a line
 
+-- what acts isn't outside the grammar
 acts_bad : (stage : Stage) (line text : List ℕ) (next : Stage) → Acts stage line text next → ¬ IsBad stage line
 acts_bad Waiting line text next (inl p) bad = bad.0 p.0
 acts_bad Waiting line text next (inr p) bad = bad.2 p.domain p.count p.spells
 acts_bad (Running world) line text next (inl p) bad = bad.0 p.0
 acts_bad (Running world) line text next (inr p) bad = bad.2 p.command p.spells
 
+-- what acts is built
 acts_unbuilt : OneTriple → (stage : Stage) (line text : List ℕ) (next : Stage) → Acts stage line text next → ¬ IsUnbuilt stage line
 acts_unbuilt triples Waiting line text next (inl p) u = (one_kind line).nothing_unbuilt p.0 u
 acts_unbuilt triples Waiting line text next (inr p) u = (one_kind line).unbuilt_setup u p.domain p.count p.spells
@@ -77,6 +79,7 @@ acts_unbuilt triples (Running world) line text next (inr p) (inr u) =
     let command = one_command triples line p.command (Deliver u.0 u.1) p.spells u.2 in
     not_delivered world u.0 u.1 p.reply p.after u.3 (subst (λ (command : Command). Step world command p.reply p.after) command p.steps)
 
+-- what is outside the grammar isn't among the lines that will be built
 bad_unbuilt : (stage : Stage) (line : List ℕ) → IsBad stage line → ¬ IsUnbuilt stage line
 bad_unbuilt Waiting line bad u = bad.1 u
 bad_unbuilt (Running world) line bad (inl u) = bad.1 u
@@ -161,6 +164,7 @@ reads_finished (line ∷ lines) stage text world h = inr (inr (record {
 abbrev Ends : List (List ℕ) → Stage → Type 0
 Ends rest stage = ((line : List ℕ) × IsFirst line rest × IsBad stage line) ⊎ ((rest ≡ []) × (stage ≡ Waiting))
 
+-- the lines behind such a front are bad at once
 ends_now : (rest : List (List ℕ)) (stage : Stage) → Ends rest stage → Reads rest stage (BadLine 1 [] stage)
 ends_now rest stage (inl h) = subst (λ (rest : List (List ℕ)). Reads rest stage (BadLine 1 [] stage)) (sym h.1.1) (inl (h.2, refl))
 ends_now rest stage (inr h) =

@@ -3,7 +3,7 @@ use Rattle.std.specs.Prelude.{◌≡◌, ℕ, ◌^◌, ◌<◌, List, [], ◌∷
 use Rattle.std.specs.List.{list_all}
 use Rattle.std.specs.Fmt.{decimal}
 use Rattle.std.proofs.Common.{refl, sym, ◌∙◌, subst, ap, arith, inl, inr, drop, one-add}
-use Rattle.std.proofs.lemmas.Bool.{false≢true}
+use Rattle.std.proofs.lemmas.Bool.{false≢true, and_parts}
 use Rattle.std.proofs.lemmas.Fmt.{decimal_injective}
 use Rattle.rdf_terms.specs.Domain.{is_domain, is_domain_byte}
 use Rattle.rdf_terms.specs.Grammar.{SpellsTriple}
@@ -13,7 +13,6 @@ use Rattle.mld_model.specs.Schedule.{IsNothing, empty, comment, is_unbuilt, Spel
 use Rattle.mld_model.specs.Bytes.{Lacks, Lacks-append, Lacks-from_test, Lacks-decimal, list_any-Lacks, one_split, apart}
 use Rattle.mld_model.specs.TripleBytes.{Lacks-triple}
 use Rattle.mld_model.specs.Laws.{OneKind, OneSetup, OneCommand, OneTriple}
-use Rattle.std.proofs.lemmas.Bool.{and_parts}
 
 -- ---- what a line begins with
 
@@ -36,6 +35,7 @@ begins (Deliver message number) = 100
 begins (Show number) = 115
 begins (Compare number other) = 99
 
+-- a command begins with that byte
 command_begins : (line : List ℕ) (command : Command) → SpellsCommand line command → (rest : List ℕ) × (line ≡ begins command ∷ rest)
 unfolding begins
 command_begins line (Add number triple) h = (_, h.1)
@@ -43,6 +43,7 @@ command_begins line (Deliver message number) h = (_, h.0)
 command_begins line (Show number) h = (_, h.0)
 command_begins line (Compare number other) h = (_, h.0)
 
+-- no command begins with `#`
 begins_apart : (command : Command) → nat_eq 35 (begins command) ≡ false
 unfolding begins
 begins_apart (Add number triple) = refl
@@ -52,9 +53,11 @@ begins_apart (Compare number other) = refl
 
 -- ---- numbers
 
+-- the number of a clone is a small number
 small : {number : ℕ} → number < 32 → number < 2 ^ 64
 small h = omega arith
 
+-- numbers are written without spaces and backslashes
 no_space : (number : ℕ) → number < 2 ^ 64 → Lacks 32 (decimal number)
 no_space = Lacks-decimal 32 (λ digit h e. omega arith)
 
@@ -69,11 +72,12 @@ one_number m n x y p q e =
 
 -- ---- lines that aren't built yet
 
--- a line whose first word is one that is built
+-- a comment is none of them
 unbuilt_comment : (rest : List ℕ) → is_unbuilt (35 ∷ rest) ≡ false
 unfolding is_unbuilt
 unbuilt_comment rest = rw one-add refl
 
+-- nor is any line that says nothing
 unbuilt_nothing : (line : List ℕ) → IsNothing line → ¬ IsTrue (is_unbuilt line)
 unfolding is_unbuilt
 unbuilt_nothing line h u = elim (nothing_begins h) [
@@ -81,10 +85,12 @@ unbuilt_nothing line h u = elim (nothing_begins h) [
   | inr some ↦ false≢true (sym (unbuilt_comment some.0) ∙ subst (λ (l : List ℕ). is_unbuilt l ≡ true) some.1 u)
 ]
 
+-- nor a domain line
 unbuilt_setup : (line domain : List ℕ) (count : ℕ) → IsTrue (is_unbuilt line) → ¬ SpellsSetup line domain count
 unfolding is_unbuilt
 unbuilt_setup line domain count u h = false≢true (subst (λ (l : List ℕ). is_unbuilt l ≡ true) h.whole u)
 
+-- nor a command: the text of a triple has no backslash
 unbuilt_command : (line : List ℕ) (command : Command) → IsTrue (is_unbuilt line) → ¬ SpellsCommand line command
 unfolding is_unbuilt
 unbuilt_command line (Add number triple) u h =
@@ -96,6 +102,7 @@ unbuilt_command line (Compare number other) u h = false≢true (subst (λ (l : L
 
 -- ---- domain lines and commands
 
+-- no domain line is a command
 setup_command : (line domain : List ℕ) (count : ℕ) (command : Command) → SpellsSetup line domain count → ¬ SpellsCommand line command
 setup_command line domain count (Add number triple) p q = apart p.whole q.1 refl
 setup_command line domain count (Deliver message number) p q = apart (ap (drop 1) p.whole) (ap (drop 1) q.0) refl
@@ -113,6 +120,7 @@ one_kind line = record {
   setup_command = λ domain count setup command. setup_command line domain count command setup;
 }
 
+-- no name of a domain has a space
 domain_lacks : (domain : List ℕ) → IsTrue (is_domain domain) → Lacks 32 domain
 unfolding is_domain
 domain_lacks domain h = Lacks-from_test is_domain_byte 32 refl domain (and_parts (nat_le 1 (length domain) && nat_le (length domain) 200) (list_all is_domain_byte domain) h).1

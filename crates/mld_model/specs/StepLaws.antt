@@ -18,6 +18,7 @@ use Rattle.mld_model.specs.Laws.{OneStep}
 abbrev Same : Reply → World → Reply → World → Type 0
 Same reply next other after = (reply ≡ other) × (next ≡ after)
 
+-- a reply that changes nothing is one outcome
 answers_once : {world : World} {answer reply other : Reply} {next after : World}
     → Answers world answer reply next → Answers world answer other after → Same reply next other after
 answers_once p q = (p.0 ∙ sym q.0, p.1 ∙ sym q.1)
@@ -28,6 +29,7 @@ not_below known path tick other p q below =
     let again = (p.after tick).0 ((q.after tick).1 (p.positive, below)) in
     omega (arith, again.1)
 
+-- so one tick comes next
 one_next_tick : (known : List Range) (path : List ℕ) (tick other : ℕ) → IsNextTick known path tick → IsNextTick known path other → tick ≡ other
 one_next_tick known path tick other p q = elim (cases_order tick other) [
   | inl same ↦ same
@@ -35,6 +37,7 @@ one_next_tick known path tick other p q = elim (cases_order tick other) [
   | inr (inr above) ↦ absurd (not_below known path other tick q p above)
 ]
 
+-- a local change has one outcome
 makes_once : (world : World) (number : ℕ) (stored : Stored) (held : List Range) (deletes : List Tagged) (inserts : List Triple) (reply other : Reply) (next after : World)
     → Makes world number stored held deletes inserts reply next → Makes world number stored held deletes inserts other after → Same reply next other after
 makes_once world number stored held deletes inserts reply other next after p q =
@@ -44,6 +47,7 @@ makes_once world number stored held deletes inserts reply other next after p q =
           (record { dot = dot_at stored.path tick; causes = known_of stored; deletes = deletes; inserts = inserts })) same ∙ sym q.changes,
     )
 
+-- an `add` has one outcome
 adds_once : (world : World) (number : ℕ) (triple : Triple) (clone : Clone) (reply other : Reply) (next after : World)
     → Adds world number triple clone reply next → Adds world number triple clone other after → Same reply next other after
 adds_once world number triple Absent reply other next after p q = answers_once p q
@@ -52,6 +56,7 @@ adds_once world number triple Empty reply other next after p q = answers_once p 
 adds_once world number triple (Down stored) reply other next after p q = answers_once p q
 adds_once world number triple (Live stored held) reply other next after p q = makes_once world number stored held [] (triple ∷ []) reply other next after p q
 
+-- a range that comes to a live clone has one outcome: what is known isn't ready
 receives_once : (world : World) (number : ℕ) (stored : Stored) (held : List Range) (range : Range) (reply other : Reply) (next after : World)
     → Receives world number stored held range reply next → Receives world number stored held range other after → Same reply next other after
 receives_once world number stored held range reply other next after (inl p) (inl q) = answers_once p.1 q.1
@@ -59,6 +64,7 @@ receives_once world number stored held range reply other next after (inl p) (inr
 receives_once world number stored held range reply other next after (inr p) (inl q) = absurd (p.0.unknown q.0)
 receives_once world number stored held range reply other next after (inr p) (inr q) = (p.2 ∙ sym q.2, p.3 ∙ sym q.3)
 
+-- a message that comes to a clone has one outcome
 takes_once : (world : World) (number : ℕ) (message : Message) (clone : Clone) (reply other : Reply) (next after : World)
     → Takes world number message clone reply next → Takes world number message clone other after → Same reply next other after
 takes_once world number message Absent reply other next after p q = answers_once p q
@@ -68,6 +74,7 @@ takes_once world number message (Down stored) reply other next after p q = answe
 takes_once world number (RangeOf range) (Live stored held) reply other next after p q = receives_once world number stored held range reply other next after p q
 takes_once world number message clone reply other next after p q = absurd p
 
+-- a `show` has one outcome: what a clone knows has one meaning
 lists_once : (world : World) (clone : Clone) (reply other : Reply) (next after : World)
     → Lists world clone reply next → Lists world clone other after → Same reply next other after
 lists_once world Absent reply other next after p q = answers_once p q
@@ -78,6 +85,7 @@ lists_once world (Live stored held) reply other next after p q =
     let same = one_meaning world.history (known_of stored) p.0 q.0 p.1 q.1 in
     (p.2.0 ∙ ap Shows same ∙ sym q.2.0, p.2.1 ∙ sym q.2.1)
 
+-- two sets of dots compare in one way
 compares_once : (known others : List Range) (reply other : Reply) → Compares known others reply → Compares known others other → reply ≡ other
 compares_once known others reply other (inl p) (inl q) = p.2 ∙ sym q.2
 compares_once known others reply other (inl p) (inr (inl q)) = absurd (q.1 p.1)
@@ -96,6 +104,7 @@ compares_once known others reply other (inr (inr (inr p))) (inr (inl q)) = absur
 compares_once known others reply other (inr (inr (inr p))) (inr (inr (inl q))) = absurd (p.1 q.1)
 compares_once known others reply other (inr (inr (inr p))) (inr (inr (inr q))) = p.2 ∙ sym q.2
 
+-- a live clone beside another has one outcome
 compares_with_once : (world : World) (stored : Stored) (clone : Clone) (reply other : Reply) (next after : World)
     → ComparesWith world stored clone reply next → ComparesWith world stored clone other after → Same reply next other after
 compares_with_once world stored Absent reply other next after p q = answers_once p q
@@ -105,6 +114,7 @@ compares_with_once world stored (Down others) reply other next after p q = answe
 compares_with_once world stored (Live others held) reply other next after p q =
     (compares_once (known_of stored) (known_of others) reply other p.0 q.0, p.1 ∙ sym q.1)
 
+-- a `compare` has one outcome
 weighs_once : (world : World) (clone others : Clone) (reply other : Reply) (next after : World)
     → Weighs world clone others reply next → Weighs world clone others other after → Same reply next other after
 weighs_once world Absent others reply other next after p q = answers_once p q
@@ -113,7 +123,7 @@ weighs_once world Empty others reply other next after p q = answers_once p q
 weighs_once world (Down stored) others reply other next after p q = answers_once p q
 weighs_once world (Live stored held) others reply other next after p q = compares_with_once world stored others reply other next after p q
 
--- what holds of two outcomes of each case holds of both
+-- a `deliver` has one outcome
 delivers_once : (world : World) (number : ℕ) (sent : Option Message) (reply other : Reply) (next after : World)
     → MatchOption sent (Answers world NoMessage reply next) (λ message. Takes world number message (clone_at world number) reply next)
     → MatchOption sent (Answers world NoMessage other after) (λ message. Takes world number message (clone_at world number) other after)

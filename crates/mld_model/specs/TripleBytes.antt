@@ -10,6 +10,7 @@ use Rattle.rdf_terms.specs.Literal.{LiteralValue, Typed, Tagged, is_language_tag
 use Rattle.rdf_terms.specs.Grammar.{SpellsTriple, SpellsBy, Layout, SpellsObject, SpellsLiteral, quoted, is_plain}
 use Rattle.mld_model.specs.Bytes.{Lacks, Lacks-append, Lacks_parts, Lacks-from_test}
 
+-- an IRI as it is written has none
 Lacks-iri : (iri : List ℕ) → IsTrue (is_iri iri) → Lacks 92 (iri_text iri)
 unfolding is_iri
 Lacks-iri iri h =
@@ -19,6 +20,7 @@ Lacks-iri iri h =
 tag_byte : (byte : ℕ) → IsTrue (is_letter byte || is_digit byte) → byte ≡ 92 → ⊥
 tag_byte byte h e = false≢true (subst (λ k. (is_letter k || is_digit k) ≡ true) e h)
 
+-- the parts of a language tag behind the first have none
 Lacks-subtags : (full : Bool) (tag : List ℕ) → IsTrue (is_subtags full tag) → Lacks 92 tag
 Lacks-subtags full [] h = tt
 Lacks-subtags full (byte ∷ bytes) h = elim (cases_Bool (byte == 45)) [
@@ -30,6 +32,7 @@ Lacks-subtags full (byte ∷ bytes) h = elim (cases_Bool (byte == 45)) [
       (tag_byte byte parts.0, Lacks-subtags true bytes parts.1)
 ]
 
+-- nor has a language tag
 Lacks-primary : (full : Bool) (tag : List ℕ) → IsTrue (is_primary full tag) → Lacks 92 tag
 Lacks-primary full [] h = tt
 Lacks-primary full (byte ∷ bytes) h = elim (cases_Bool (byte == 45)) [
@@ -41,9 +44,11 @@ Lacks-primary full (byte ∷ bytes) h = elim (cases_Bool (byte == 45)) [
       (tag_byte byte (or_left (is_letter byte) (is_digit byte) parts.0), Lacks-primary true bytes parts.1)
 ]
 
+-- nor a lexical form between its quotes
 Lacks-quoted : (lexical : List ℕ) → IsTrue (is_plain lexical) → Lacks 92 (quoted lexical)
 Lacks-quoted lexical h = (λ e. omega arith, Lacks-append 92 lexical (34 ∷ []) (Lacks-from_test _ 92 refl lexical h) (λ e. omega arith, tt))
 
+-- nor a literal
 Lacks-literal : (text : List ℕ) (literal : LiteralValue) → SpellsLiteral text literal → Lacks 92 text
 unfolding is_language_tag
 Lacks-literal text (Typed lexical datatype) h = elim h.1 [
@@ -54,10 +59,12 @@ Lacks-literal text (Tagged lexical tag) h =
     let written = h.1 in
     subst (Lacks 92) (sym written.3) (Lacks-append 92 (quoted lexical) _ (Lacks-quoted lexical h.0) (λ e. omega arith, Lacks-primary false written.0 written.1))
 
+-- nor an object
 Lacks-object : (text : List ℕ) (object : Term) → SpellsObject text object → Lacks 92 text
 Lacks-object text (terms.Iri iri) h = subst (Lacks 92) (sym h.1) (Lacks-iri iri h.0)
 Lacks-object text (terms.Literal literal) h = Lacks-literal text literal h
 
+-- nor the blanks, so the whole has none
 Lacks-spelled : (layout : Layout) (text : List ℕ) (triple : Triple) → SpellsBy layout text triple → Lacks 92 text
 Lacks-spelled layout text triple by =
     let all = Lacks-from_test (λ byte. byte == 32 || byte == 9) 92 refl
