@@ -9,3 +9,5 @@ pub mod Compare
 pub mod Faults
 pub mod Kept
 pub mod Grammar
+pub mod Reading
+pub mod Parts

@@ -5,6 +5,7 @@ mod compare;
 mod faults;
 mod grammar;
 mod order;
+mod read;
 mod terms;
 mod texts;
 mod write;
