@@ -1,7 +1,5 @@
 -- The laws of schedules, as the contracts of the crate state them.
 use Rattle.std.specs.Prelude.{◌≡◌, ℕ, List, IsTrue}
-use Rattle.rdf_terms.specs.declared.terms.Triple.{Triple}
-use Rattle.rdf_terms.specs.Grammar.{SpellsTriple}
 use Rattle.mld_model.specs.declared.Command.{Command}
 use Rattle.mld_model.specs.World.{World}
 use Rattle.mld_model.specs.Reply.{Reply}
@@ -29,10 +27,6 @@ OneSetup = (line domain other : List ℕ) (count number : ℕ) → SpellsSetup l
 -- a line spells one command
 abbrev pub OneCommand : Type 0
 OneCommand = (line : List ℕ) (command other : Command) → SpellsCommand line command → SpellsCommand line other → command ≡ other
-
--- a text spells one triple
-abbrev pub OneTriple : Type 0
-OneTriple = (text : List ℕ) (triple other : Triple) → SpellsTriple text triple → SpellsTriple text other → triple ≡ other
 
 -- a step of a world by a command has one reply, and leads to one world
 abbrev pub OneStep : Type 0
