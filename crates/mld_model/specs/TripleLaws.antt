@@ -1,8 +1,8 @@
 -- A text spells one triple.
-use Rattle.std.specs.Prelude.{◌≡◌, ℕ, List, [], ◌∷◌, ◌++◌, ◌⊎◌, Bool, true, false, ◌&&◌, ◌||◌, not, ◌==◌, IsTrue, nat_eq}
+use Rattle.std.specs.Prelude.{◌≡◌, ℕ, List, [], ◌∷◌, ◌++◌, ◌⊎◌, Bool, true, false, ◌||◌, not, ◌==◌, IsTrue, nat_eq}
 use Rattle.std.specs.List.{list_all}
 use Rattle.std.specs.Str.{str_to_ascii_lowercase}
-use Rattle.std.proofs.Common.{refl, sym, ◌∙◌, subst, ap, inl, inr, arith, drop, append_assoc, append-nil}
+use Rattle.std.proofs.Common.{refl, sym, ◌∙◌, subst, ap, inl, inr, drop, append_assoc, append-nil}
 use Rattle.std.proofs.lemmas.Bool.{and_parts, and_from, or_cases, or_left, or_right, false≢true, cases_Bool, eqb-true}
 use Rattle.rdf_terms.specs.declared.terms.Term.{Term}
 use Rattle.rdf_terms.specs.declared.terms.Term.TheVariants as terms
@@ -70,7 +70,7 @@ primary_pass full (byte ∷ bytes) h = elim (cases_Bool (byte == 45)) [
   | inr other ↦
       let parts = and_parts (is_letter byte) (is_primary true bytes) (rw other at h) in
       and_from (is_tag_byte byte) (list_all is_tag_byte bytes)
-        (or_left (is_letter byte || is_digit byte) (byte == 45) (or_left (is_letter byte) (is_digit byte) parts.0)) (primary_pass true bytes parts.1)
+      (or_left (is_letter byte || is_digit byte) (byte == 45) (or_left (is_letter byte) (is_digit byte) parts.0)) (primary_pass true bytes parts.1)
 ]
 
 -- each byte of a language tag passes
@@ -109,7 +109,7 @@ one_lexical t u a b v w x y h k p q e =
     let left : t ++ x ≡ 34 ∷ (a ++ 34 ∷ (v ++ x)) = ap (λ (l : List ℕ). l ++ x) p ∙ append_assoc (quoted a) v x ∙ ap (λ (l : List ℕ). 34 ∷ l) (append_assoc a (34 ∷ []) (v ++ x)) in
     let right : u ++ y ≡ 34 ∷ (b ++ 34 ∷ (w ++ y)) = ap (λ (l : List ℕ). l ++ y) q ∙ append_assoc (quoted b) w y ∙ ap (λ (l : List ℕ). 34 ∷ l) (append_assoc b (34 ∷ []) (w ++ y)) in
     let parts = one_front (λ byte. not (byte == 34 || byte == 92 || byte == 10 || byte == 13)) a b (34 ∷ (v ++ x)) (34 ∷ (w ++ y)) h k refl refl
-      (ap (drop 1) (sym left ∙ e ∙ right)) in
+    (ap (drop 1) (sym left ∙ e ∙ right)) in
     (parts.0, ap (drop 1) parts.1)
 
 -- nothing stands behind the quotes
@@ -156,7 +156,7 @@ one_literal t u (Tagged a tag) (Typed b c) x y p q i j e = absurd (typed_apart u
 one_literal t u (Tagged a tag) (Tagged b other) x y p q i j e =
     let parts = one_lexical t u a b (64 ∷ p.1.0) (64 ∷ q.1.0) x y p.0 q.0 p.1.3 q.1.3 e in
     let written = one_front is_tag_byte p.1.0 q.1.0 x y (tag_passes p.1.0 p.1.1) (tag_passes q.1.0 q.1.1) (i is_tag_byte refl refl refl) (j is_tag_byte refl refl refl)
-      (ap (drop 1) parts.1) in
+    (ap (drop 1) parts.1) in
     cc (parts.0, p.1.2, q.1.2, ap str_to_ascii_lowercase written.0)
 
 -- ---- objects and triples
@@ -220,9 +220,9 @@ one_by k l text a b p q =
     let second = one_front is_blank k.after_subject l.after_subject _ _ blank.after_subject space.after_subject refl refl subject.1 in
     let predicate = one_iri a.p b.p _ _ p.predicate q.predicate second.1 in
     let third = one_front is_blank k.after_predicate l.after_predicate _ _ blank.after_predicate space.after_predicate
-      (object_stops k.object (k.after_object ++ 46 ∷ k.after_dot) a.o p.object) (object_stops l.object (l.after_object ++ 46 ∷ l.after_dot) b.o q.object) predicate.1 in
+    (object_stops k.object (k.after_object ++ 46 ∷ k.after_dot) a.o p.object) (object_stops l.object (l.after_object ++ 46 ∷ l.after_dot) b.o q.object) predicate.1 in
     let object = one_object k.object l.object a.o b.o _ _ p.object q.object
-      (behind k.after_object k.after_dot blank.after_object) (behind l.after_object l.after_dot space.after_object) third.1 in
+    (behind k.after_object k.after_dot blank.after_object) (behind l.after_object l.after_dot space.after_object) third.1 in
     λ i. record { s = subject.0 i; p = predicate.0 i; o = object i }
 
 -- a text spells one triple
