@@ -16,7 +16,7 @@ pub record IsOfOneKind (line : List ℕ) : Type 0 where
   pub unbuilt_command : IsTrue (is_unbuilt line) → (command : Command) → ¬ SpellsCommand line command
   pub setup_command : (domain : List ℕ) (count : ℕ) → SpellsSetup line domain count → (command : Command) → ¬ SpellsCommand line command
 
--- each line is of one kind
+-- each line is of at most one kind
 abbrev pub OneKind : Type 0
 OneKind = (line : List ℕ) → IsOfOneKind line
 
@@ -43,7 +43,7 @@ pub record IsOfOneOutcome (stage : Stage) (line : List ℕ) : Type 0 where
   pub acts_unbuilt : (text : List ℕ) (next : Stage) → Acts stage line text next → ¬ IsUnbuilt stage line
   pub bad_unbuilt : IsBad stage line → ¬ IsUnbuilt stage line
 
--- each line is of one outcome at each stage
+-- each line has at most one of these outcomes at each stage
 abbrev pub OneOutcome : Type 0
 OneOutcome = (stage : Stage) (line : List ℕ) → IsOfOneOutcome stage line
 

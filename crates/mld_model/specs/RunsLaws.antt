@@ -85,7 +85,7 @@ bad_unbuilt Waiting line bad u = bad.1 u
 bad_unbuilt (Running world) line bad (inl u) = bad.1 u
 bad_unbuilt (Running world) line bad (inr u) = bad.2 (Deliver u.0 u.1) u.2
 
--- each line is of one outcome at each stage
+-- each line has at most one of these outcomes at each stage
 pub one_outcome : OneOutcome
 one_outcome stage line = record {
   acts_bad = acts_bad stage line;

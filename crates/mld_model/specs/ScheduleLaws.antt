@@ -110,7 +110,7 @@ setup_command line domain count (Deliver message number) p q = apart (ap (drop 1
 setup_command line domain count (Show number) p q = apart p.whole q.0 refl
 setup_command line domain count (Compare number other) p q = apart p.whole q.0 refl
 
--- each line is of one kind
+-- each line is of at most one kind
 pub one_kind : OneKind
 one_kind line = record {
   nothing_unbuilt = unbuilt_nothing line;
