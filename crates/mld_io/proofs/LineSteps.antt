@@ -1,7 +1,7 @@
 -- The steps by which a line is read.
 use Rattle.std.proofs.Common.{◌≡◌, ◌≢◌, ℕ, ◌+◌, ◌<◌, ◌≤◌, List, [], ◌∷◌, ◌++◌, length, Option, None, Some, Ok, refl, sym, ap, ◌∙◌, arith, append-nil, append_assoc, length-append}
 use Rattle.std.proofs.lemmas.List.Elements.{All-push, All-nil}
-use Rattle.mld_io.specs.Lines.{LinesValue, HasNoEnd, IsEnd, IsLine, IsTooLarge, IsCutShort, first_line, after_line, line_size}
+use Rattle.mld_io.specs.Lines.{LinesValue, HasNoEnd, IsEnd, IsLine, IsTooLarge, IsCutShort, TakesAtMost, first_line, after_line, line_size}
 use Rattle.mld_io.specs.LinesLaws.{first_line-append, after_line-append, line_size-append, line_size_some}
 use Rattle.mld_io.specs.Reads.{TakesByte}
 
@@ -99,3 +99,21 @@ IsTooLarge-from_line lines bytes front rest b no_end other e past =
 pub IsEnd-from_start : (bytes front : List ℕ) (left : Option (List ℕ)) → bytes ≡ front → left ≡ Some [] → length front ≡ 0 → IsEnd bytes left
 IsEnd-from_start bytes [] left e is empty = record { empty = e; none_left = is }
 IsEnd-from_start bytes (b ∷ bs) left e is empty = absurd (omega arith)
+
+-- the front and one byte were taken, of which there are few
+pub TakesAtMost-with_byte : (bytes front rest : List ℕ) (b most : ℕ) (left : Option (List ℕ)) → bytes ≡ front ++ b ∷ rest → left ≡ Some rest → length front + 1 ≤ most → TakesAtMost bytes left most
+TakesAtMost-with_byte bytes front rest b most left e is few = record {
+  front = front ++ b ∷ [];
+  rest = rest;
+  front_of = e ∙ sym (append_assoc front (b ∷ []) rest);
+  left_is = is;
+  few = simp length-append few;
+}
+
+-- the front was taken, and no more
+pub TakesAtMost-front : (bytes front rest : List ℕ) (most : ℕ) (left : Option (List ℕ)) → bytes ≡ front ++ rest → left ≡ Some rest → length front ≤ most → TakesAtMost bytes left most
+TakesAtMost-front bytes front rest most left e is few = record { front = front; rest = rest; front_of = e; left_is = is; few = few }
+
+-- all was taken
+pub TakesAtMost-all : (bytes front : List ℕ) (most : ℕ) (left : Option (List ℕ)) → bytes ≡ front → left ≡ Some [] → length front ≤ most → TakesAtMost bytes left most
+TakesAtMost-all bytes front most left e is few = TakesAtMost-front bytes front [] most left (e ∙ sym (append-nil front)) is few

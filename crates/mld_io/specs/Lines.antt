@@ -70,6 +70,14 @@ pub record IsCutShort (bytes : List ℕ) (left : Option (List ℕ)) : Type 0 whe
   pub no_end : HasNoEnd front
   pub left_is : left ≡ Some rest
 
+-- some of the bytes were taken, and no more than this many
+pub record TakesAtMost (bytes : List ℕ) (left : Option (List ℕ)) (most : ℕ) : Type 0 where
+  pub front : List ℕ
+  pub rest : List ℕ
+  pub front_of : bytes ≡ front ++ rest
+  pub left_is : left ≡ Some rest
+  pub few : length front ≤ most
+
 -- the answer to a call for the next line, at a source that had these bytes
 abbrev pub NextLine : LinesValue → List ℕ → Result (Option (List ℕ)) LineFault → ℕ → Option (List ℕ) → Type 0
 NextLine lines bytes (Ok None) taken left = IsEnd bytes left

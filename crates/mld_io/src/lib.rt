@@ -8,6 +8,8 @@ mod pieces;
 mod sinks;
 mod sources;
 mod standard;
+#[cfg(test)]
+mod tests;
 
 pub use faults::{Failed, IoFault, LineFault, WriteFault};
 pub use line_reader::{Lines, first_of_lines};

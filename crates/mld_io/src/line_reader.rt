@@ -1,7 +1,7 @@
 //! The lines of a source.
-ghost use Rattle.std.specs.Prelude.{◌≡◌, ℕ, ◌≤◌, List, length, true, Some, IsTrue, IfOk, IfSome, OnErr, is_ok};
+ghost use Rattle.std.specs.Prelude.{◌≡◌, ℕ, ◌+◌, ◌-◌, ◌≤◌, List, length, true, Some, IsTrue, IfOk, IfSome, OnErr, is_ok};
 ghost use Rattle.mld_io.specs.Faults.{HasCause, HasLineCause};
-ghost use Rattle.mld_io.specs.Lines.{NextLine, Progresses};
+ghost use Rattle.mld_io.specs.Lines.{NextLine, Progresses, TakesAtMost};
 ghost use Rattle.mld_io.specs.LinesLaws.{FirstOfLines};
 ghost use Rattle.mld_io.specs.Reads.{TakesByte};
 
@@ -55,7 +55,8 @@ impl Lines {
     }
 
     /// Takes the next line from the source, its LF included, and gives it without that LF. The
-    /// last line may lack one. `None` says that the input is at its end.
+    /// last line may lack one. `None` says that the input is at its end. Nothing past that LF is
+    /// taken, and one byte at most past the limit of the input.
     ///
     /// # Errors
     ///
@@ -70,6 +71,8 @@ impl Lines {
         ensures short { IfOk result (λ next. IfSome next (λ piece. length piece ≤ self.old.line)) }
         ensures line { (bytes : List ℕ) → S.left source.old ≡ Some bytes
             → NextLine self.old bytes result self.new.taken (S.left source.new) }
+        ensures frugal { (bytes : List ℕ) → S.left source.old ≡ Some bytes
+            → TakesAtMost bytes (S.left source.new) ((self.old.all - self.old.taken) + 1) }
         ensures cause { HasLineCause (S.faults source.old) (S.faults source.new) result }
     {
         let next = take_line(self.alloc, source, self.line, self.all, &mut self.taken);
@@ -91,6 +94,8 @@ fn take_line<S: Source>(
     ensures short { IfOk result (λ next. IfSome next (λ piece. length piece ≤ line)) }
     ensures line { (bytes : List ℕ) → S.left source.old ≡ Some bytes
         → NextLine (record { line = line; all = all; taken = taken.old; good = true }) bytes result taken.new (S.left source.new) }
+    ensures frugal { (bytes : List ℕ) → S.left source.old ≡ Some bytes
+        → TakesAtMost bytes (S.left source.new) ((all - taken.old) + 1) }
     ensures cause { HasLineCause (S.faults source.old) (S.faults source.new) result }
 {
     let room = all - *taken;

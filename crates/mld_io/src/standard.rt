@@ -55,12 +55,6 @@ impl<W: Write + Drop> StdSink<W> {
     {
         StdSink { writer, faults: 0 }
     }
-
-    /// Counts a fault.
-    fn fail(&mut self) -> IoFault {
-        self.faults = self.faults.saturating_add(1);
-        IoFault::Failed
-    }
 }
 
 impl<W: Write + Drop> Sink for StdSink<W> {

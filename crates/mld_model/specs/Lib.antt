@@ -8,6 +8,9 @@ pub mod Sound
 pub mod StandsFor
 pub mod Local
 pub mod LocalLaws
+pub mod StandsForLaws
+pub mod WorldStep
+pub mod WorldLaws
 pub mod KnownLaws
 pub mod HistoryLaws
 pub mod SoundLaws

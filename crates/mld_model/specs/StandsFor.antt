@@ -1,6 +1,7 @@
 -- What a running world stands for in the model. The running world has content and clocks where the model has sets of
 -- dots and one history.
-use Rattle.std.specs.Prelude.{◌≡◌, ℕ, ◌≤◌, List, [], ◌∷◌, ◌↔◌, Option, None, Some}
+use Rattle.std.specs.Prelude.{◌≡◌, ℕ, ◌≤◌, List, [], ◌∷◌, ◌↔◌, Option, None, Some, map, nat_lt, if◌then◌else◌}
+use Rattle.std.specs.List.{range_with_len}
 use Rattle.tree_clock.specs.declared.dots.Dot.{Dot}
 use Rattle.tree_clock.specs.declared.dots.Range.{Range}
 use Rattle.tree_clock.specs.Lists.{Has}
@@ -12,7 +13,7 @@ use Rattle.mld_ops.specs.History.{Operation}
 use Rattle.mld_ops.specs.Meaning.{IsMeaning}
 use Rattle.mld_ops.specs.Net.{IsNet}
 use Rattle.mld_model.specs.Clone.{Clone, Absent, Asking, Empty, Down, Live, Stored, known_of}
-use Rattle.mld_model.specs.World.{World, Message, RangeOf, Want, SnapshotOf, JoinAsk, JoinGive}
+use Rattle.mld_model.specs.World.{World, Message, RangeOf, Want, SnapshotOf, JoinAsk, JoinGive, founded_path, clone_count}
 
 -- a live clone as it runs: its path, the ticks of its clock, the ranges of its journal, and its pairs
 pub record RunningLive : Type 0 where
@@ -28,6 +29,16 @@ pub record RunningWorld : Type 0 where
   pub clones : List (Option RunningLive)
   pub messages : List EntryValue
   pub steps : ℕ
+
+-- a clone as it runs in a world that was just founded
+abbrev pub founded_live : ℕ → ℕ → Option RunningLive
+founded_live count number =
+    if nat_lt number count then Some (record { path = founded_path count number; ticks = []; journal = []; pairs = [] }) else None
+
+-- a world as it runs when it was just founded
+abbrev pub founded_running : List ℕ → ℕ → RunningWorld
+founded_running domain count =
+    record { domain = domain; clones = map (founded_live count) (range_with_len 0 clone_count); messages = []; steps = 0 }
 
 -- a live clone stands for what a clone of the model keeps: the same path and journal, the same known dots, and their
 -- meaning as its pairs

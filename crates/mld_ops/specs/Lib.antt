@@ -1,5 +1,6 @@
 pub mod Tagged
 pub mod Entry
+pub mod EntryParts
 pub mod History
 pub mod Meaning
 pub mod Net

@@ -1,2 +1,3 @@
 pub mod Comparing
 pub mod Tags
+pub mod Appending

@@ -7,4 +7,5 @@ pub mod Order
 pub mod OrderLaws
 pub mod Compare
 pub mod Faults
+pub mod Kept
 pub mod Grammar

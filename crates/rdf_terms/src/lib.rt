@@ -7,9 +7,11 @@ mod grammar;
 mod order;
 mod terms;
 mod texts;
+mod write;
 
 pub use faults::{TermFault, TripleFault};
 pub use grammar::{has_no_backslash, is_absolute, is_domain};
 pub use order::{cmp_terms, cmp_triples, order_is_total};
 pub use terms::{Iri, Literal, Term, Triple};
 pub use texts::Text;
+pub use write::write_triple;

@@ -137,3 +137,11 @@ Covers-within xs ys = (
       (λ l. omega arith)
       (cases_lt 0 (ticks_of xs path)),
 )
+
+-- a dot is one of the clock's, or it is not
+pub Covers_or_not : (ticks : List (List ℕ × ℕ)) (dot : Dot) → Covers ticks dot ⊎ (¬ Covers ticks dot)
+Covers_or_not ticks dot =
+    ⊎_elim
+    (λ low. ⊎_elim (λ high. inr (λ c. let w = c.within in omega arith)) (λ high. inl (record { positive = low; within = high })) (cases_lt (ticks_of ticks dot.path) dot.tick))
+    (λ none. inr (λ c. let p = c.positive in omega arith))
+    (cases_lt 0 dot.tick)

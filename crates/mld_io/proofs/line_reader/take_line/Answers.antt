@@ -2,7 +2,7 @@
 use Rattle.std.proofs.Common.{◌≡◌, ℕ, List, [], ◌∷◌, ◌++◌, Ok, Option, ap, ◌∙◌, subst, arith}
 use Rattle.std.proofs.lemmas.Result.{err_from_is_err_and}
 use Rattle.mld_io.specs.Reads.{TakesByte}
-use Rattle.mld_io.proofs.LineSteps.{ReadSoFar-push, IsCutShort-from_part, more_bytes, no_more_bytes, IsLine-from_lf, IsLine-from_end, IsTooLarge-from_all, IsTooLarge-from_line, IsEnd-from_start}
+use Rattle.mld_io.proofs.LineSteps.{ReadSoFar-push, IsCutShort-from_part, more_bytes, no_more_bytes, IsLine-from_lf, IsLine-from_end, IsTooLarge-from_all, IsTooLarge-from_line, IsEnd-from_start, TakesAtMost-with_byte, TakesAtMost-front, TakesAtMost-all}
 use Rattle.mld_io.proofs.line_reader.take_line.Goals as goal
 
 -- what a `let` of an answer knows of the byte that was taken
@@ -72,3 +72,51 @@ returns-clause-line g c = λ bytes e.
     let front = c.loop-bytes.bytes.items in
     let m = no_more_bytes bytes front _ _ s (at_option _ _ _ _ c.in_default.is (c.in_ok-byte.ensures.byte s.rest s.left_is)) in
     rw c.from_vec-2.ensures (IsLine-from_end _ bytes front _ _ s.no_end m.0 m.1 (omega arith) (omega arith) (omega arith) (omega arith))
+
+pub returns-then-size-room-clause-frugal : goal.returns-then-size-room-clause-frugal
+returns-then-size-room-clause-frugal g c = λ bytes e.
+    let s = c.loop-bytes.invariant.left bytes e in
+    let front = c.loop-bytes.bytes.items in
+    let m = more_bytes bytes front c.in-Some.byte _ _ s (at_option _ _ _ _ c.in-Some.is (c.in_ok-byte.ensures.byte s.rest s.left_is)) in
+    TakesAtMost-with_byte bytes front m.0 c.in-Some.byte _ _ m.1 m.2 (omega arith)
+
+pub returns-then-byte-eq10-clause-frugal : goal.returns-then-byte-eq10-clause-frugal
+returns-then-byte-eq10-clause-frugal g c = λ bytes e.
+    let s = c.loop-bytes.invariant.left bytes e in
+    let front = c.loop-bytes.bytes.items in
+    let m = more_bytes bytes front c.in-Some.byte _ _ s (at_option _ _ _ _ c.in-Some.is (c.in_ok-byte.ensures.byte s.rest s.left_is)) in
+    TakesAtMost-with_byte bytes front m.0 c.in-Some.byte _ _ m.1 m.2 (omega arith)
+
+pub returns-then-len-line-clause-frugal : goal.returns-then-len-line-clause-frugal
+returns-then-len-line-clause-frugal g c = λ bytes e.
+    let s = c.loop-bytes.invariant.left bytes e in
+    let front = c.loop-bytes.bytes.items in
+    let m = more_bytes bytes front c.in-Some.byte _ _ s (at_option _ _ _ _ c.in-Some.is (c.in_ok-byte.ensures.byte s.rest s.left_is)) in
+    TakesAtMost-with_byte bytes front m.0 c.in-Some.byte _ _ m.1 m.2 (omega arith)
+
+pub returns-in_err-push-clause-frugal : goal.returns-in_err-push-clause-frugal
+returns-in_err-push-clause-frugal g c = λ bytes e.
+    let s = c.loop-bytes.invariant.left bytes e in
+    let front = c.loop-bytes.bytes.items in
+    let m = more_bytes bytes front c.in-Some.byte _ _ s (at_option _ _ _ _ c.in-Some.is (c.in_ok-byte.ensures.byte s.rest s.left_is)) in
+    TakesAtMost-with_byte bytes front m.0 c.in-Some.byte _ _ m.1 m.2 (omega arith)
+
+pub returns-in_err-byte-clause-frugal : goal.returns-in_err-byte-clause-frugal
+returns-in_err-byte-clause-frugal g c = λ bytes e.
+    let s = c.loop-bytes.invariant.left bytes e in
+    let front = c.loop-bytes.bytes.items in
+    TakesAtMost-front bytes front s.rest _ _ s.front_of (c.in_err-byte.ensures.byte s.rest s.left_is) (omega arith)
+
+pub returns-then-size-eq0-clause-frugal : goal.returns-then-size-eq0-clause-frugal
+returns-then-size-eq0-clause-frugal g c = λ bytes e.
+    let s = c.loop-bytes.invariant.left bytes e in
+    let front = c.loop-bytes.bytes.items in
+    let m = no_more_bytes bytes front _ _ s (at_option _ _ _ _ c.in_default.is (c.in_ok-byte.ensures.byte s.rest s.left_is)) in
+    TakesAtMost-all bytes front _ _ m.0 m.1 (omega arith)
+
+pub returns-clause-frugal : goal.returns-clause-frugal
+returns-clause-frugal g c = λ bytes e.
+    let s = c.loop-bytes.invariant.left bytes e in
+    let front = c.loop-bytes.bytes.items in
+    let m = no_more_bytes bytes front _ _ s (at_option _ _ _ _ c.in_default.is (c.in_ok-byte.ensures.byte s.rest s.left_is)) in
+    TakesAtMost-all bytes front _ _ m.0 m.1 (omega arith)

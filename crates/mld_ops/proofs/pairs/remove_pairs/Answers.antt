@@ -1,0 +1,8 @@
+use Rattle.mld_ops.proofs.Searching.{removed_more}
+use Rattle.mld_ops.proofs.pairs.remove_pairs.Goals as goal
+
+pub loop-delete-preserved : goal.loop-delete-preserved
+loop-delete-preserved c = record {
+  ascending = c.remove_pair.ensures.ascending;
+  members = removed_more c.args.pairs.now.items c.loop-delete.pairs.items _ c.args.deletes.now c.loop-delete.delete-index _ c.loop-delete-test.true c.delete-item.is c.loop-delete.invariant.members c.remove_pair.ensures.members;
+}
