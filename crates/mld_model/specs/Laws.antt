@@ -1,7 +1,5 @@
 -- The laws of schedules, as the contracts of the crate state them.
 use Rattle.std.specs.Prelude.{◌≡◌, ℕ, List, IsTrue}
-use Rattle.rdf_terms.specs.declared.terms.Triple.{Triple}
-use Rattle.rdf_terms.specs.Grammar.{SpellsTriple}
 use Rattle.mld_model.specs.declared.Command.{Command}
 use Rattle.mld_model.specs.World.{World}
 use Rattle.mld_model.specs.Reply.{Reply}
@@ -18,7 +16,7 @@ pub record IsOfOneKind (line : List ℕ) : Type 0 where
   pub unbuilt_command : IsTrue (is_unbuilt line) → (command : Command) → ¬ SpellsCommand line command
   pub setup_command : (domain : List ℕ) (count : ℕ) → SpellsSetup line domain count → (command : Command) → ¬ SpellsCommand line command
 
--- each line is of one kind
+-- each line is of at most one kind
 abbrev pub OneKind : Type 0
 OneKind = (line : List ℕ) → IsOfOneKind line
 
@@ -29,10 +27,6 @@ OneSetup = (line domain other : List ℕ) (count number : ℕ) → SpellsSetup l
 -- a line spells one command
 abbrev pub OneCommand : Type 0
 OneCommand = (line : List ℕ) (command other : Command) → SpellsCommand line command → SpellsCommand line other → command ≡ other
-
--- a text spells one triple
-abbrev pub OneTriple : Type 0
-OneTriple = (text : List ℕ) (triple other : Triple) → SpellsTriple text triple → SpellsTriple text other → triple ≡ other
 
 -- a step of a world by a command has one reply, and leads to one world
 abbrev pub OneStep : Type 0
@@ -49,7 +43,7 @@ pub record IsOfOneOutcome (stage : Stage) (line : List ℕ) : Type 0 where
   pub acts_unbuilt : (text : List ℕ) (next : Stage) → Acts stage line text next → ¬ IsUnbuilt stage line
   pub bad_unbuilt : IsBad stage line → ¬ IsUnbuilt stage line
 
--- each line is of one outcome at each stage
+-- each line has at most one of these outcomes at each stage
 abbrev pub OneOutcome : Type 0
 OneOutcome = (stage : Stage) (line : List ℕ) → IsOfOneOutcome stage line
 

@@ -9,7 +9,7 @@ use Rattle.mld_model.specs.World.{World, Message, RangeOf, clone_at}
 use Rattle.mld_model.specs.Reply.{Reply, Ready, NoMessage, reply_text}
 use Rattle.mld_model.specs.Step.{Step, Takes, Receives, Answers}
 use Rattle.mld_model.specs.Runs.{Stage, Waiting, Running, Founds, Commands, Acts, Runs, Waits, IsUnbuilt, IsBad, IsFirst, Outcome, Finished, BadLine, UnbuiltLine, Verdict}
-use Rattle.mld_model.specs.Laws.{OneTriple, OneAct, OneOutcome, OneRun, OneVerdict}
+use Rattle.mld_model.specs.Laws.{OneAct, OneOutcome, OneRun, OneVerdict}
 use Rattle.mld_model.specs.ScheduleLaws.{one_kind, one_setup, one_command}
 use Rattle.mld_model.specs.StepLaws.{one_step}
 
@@ -22,24 +22,24 @@ founds_once line text other next after p q =
     (p.replies ∙ ap (λ (count : ℕ). reply_text (Ready count)) same.1 ∙ sym q.replies, cc (p.changes, q.changes, same.0, same.1))
 
 -- a command line makes one step
-commands_once : OneTriple → (world : World) (line text other : List ℕ) (next after : Stage)
+commands_once : (world : World) (line text other : List ℕ) (next after : Stage)
     → Commands world line text next → Commands world line other after → (text ≡ other) × (next ≡ after)
-commands_once triples world line text other next after p q =
-    let command = one_command triples line p.command q.command p.spells q.spells in
+commands_once world line text other next after p q =
+    let command = one_command line p.command q.command p.spells q.spells in
     let same = one_step world q.command p.reply q.reply p.after q.after
     (subst (λ (command : Command). Step world command p.reply p.after) command p.steps) q.steps in
     (p.replies ∙ ap reply_text same.0 ∙ sym q.replies, p.changes ∙ ap Running same.1 ∙ sym q.changes)
 
 -- a line adds one text to what is written, and leads to one stage
-pub one_act : OneTriple → OneAct
-one_act triples Waiting line text other next after (inl p) (inl q) = (p.1 ∙ sym q.1, p.2 ∙ sym q.2)
-one_act triples Waiting line text other next after (inl p) (inr q) = absurd ((one_kind line).nothing_setup p.0 q.domain q.count q.spells)
-one_act triples Waiting line text other next after (inr p) (inl q) = absurd ((one_kind line).nothing_setup q.0 p.domain p.count p.spells)
-one_act triples Waiting line text other next after (inr p) (inr q) = founds_once line text other next after p q
-one_act triples (Running world) line text other next after (inl p) (inl q) = (p.1 ∙ sym q.1, p.2 ∙ sym q.2)
-one_act triples (Running world) line text other next after (inl p) (inr q) = absurd ((one_kind line).nothing_command p.0 q.command q.spells)
-one_act triples (Running world) line text other next after (inr p) (inl q) = absurd ((one_kind line).nothing_command q.0 p.command p.spells)
-one_act triples (Running world) line text other next after (inr p) (inr q) = commands_once triples world line text other next after p q
+pub one_act : OneAct
+one_act Waiting line text other next after (inl p) (inl q) = (p.1 ∙ sym q.1, p.2 ∙ sym q.2)
+one_act Waiting line text other next after (inl p) (inr q) = absurd ((one_kind line).nothing_setup p.0 q.domain q.count q.spells)
+one_act Waiting line text other next after (inr p) (inl q) = absurd ((one_kind line).nothing_setup q.0 p.domain p.count p.spells)
+one_act Waiting line text other next after (inr p) (inr q) = founds_once line text other next after p q
+one_act (Running world) line text other next after (inl p) (inl q) = (p.1 ∙ sym q.1, p.2 ∙ sym q.2)
+one_act (Running world) line text other next after (inl p) (inr q) = absurd ((one_kind line).nothing_command p.0 q.command q.spells)
+one_act (Running world) line text other next after (inr p) (inl q) = absurd ((one_kind line).nothing_command q.0 p.command p.spells)
+one_act (Running world) line text other next after (inr p) (inr q) = commands_once world line text other next after p q
 
 -- ---- a range that would have to be held back
 
@@ -69,14 +69,14 @@ acts_bad (Running world) line text next (inl p) bad = bad.0 p.0
 acts_bad (Running world) line text next (inr p) bad = bad.2 p.command p.spells
 
 -- what acts is built
-acts_unbuilt : OneTriple → (stage : Stage) (line text : List ℕ) (next : Stage) → Acts stage line text next → ¬ IsUnbuilt stage line
-acts_unbuilt triples Waiting line text next (inl p) u = (one_kind line).nothing_unbuilt p.0 u
-acts_unbuilt triples Waiting line text next (inr p) u = (one_kind line).unbuilt_setup u p.domain p.count p.spells
-acts_unbuilt triples (Running world) line text next (inl p) (inl u) = (one_kind line).nothing_unbuilt p.0 u
-acts_unbuilt triples (Running world) line text next (inl p) (inr u) = (one_kind line).nothing_command p.0 (Deliver u.0 u.1) u.2
-acts_unbuilt triples (Running world) line text next (inr p) (inl u) = (one_kind line).unbuilt_command u p.command p.spells
-acts_unbuilt triples (Running world) line text next (inr p) (inr u) =
-    let command = one_command triples line p.command (Deliver u.0 u.1) p.spells u.2 in
+acts_unbuilt : (stage : Stage) (line text : List ℕ) (next : Stage) → Acts stage line text next → ¬ IsUnbuilt stage line
+acts_unbuilt Waiting line text next (inl p) u = (one_kind line).nothing_unbuilt p.0 u
+acts_unbuilt Waiting line text next (inr p) u = (one_kind line).unbuilt_setup u p.domain p.count p.spells
+acts_unbuilt (Running world) line text next (inl p) (inl u) = (one_kind line).nothing_unbuilt p.0 u
+acts_unbuilt (Running world) line text next (inl p) (inr u) = (one_kind line).nothing_command p.0 (Deliver u.0 u.1) u.2
+acts_unbuilt (Running world) line text next (inr p) (inl u) = (one_kind line).unbuilt_command u p.command p.spells
+acts_unbuilt (Running world) line text next (inr p) (inr u) =
+    let command = one_command line p.command (Deliver u.0 u.1) p.spells u.2 in
     not_delivered world u.0 u.1 p.reply p.after u.3 (subst (λ (command : Command). Step world command p.reply p.after) command p.steps)
 
 -- what is outside the grammar isn't among the lines that will be built
@@ -85,22 +85,22 @@ bad_unbuilt Waiting line bad u = bad.1 u
 bad_unbuilt (Running world) line bad (inl u) = bad.1 u
 bad_unbuilt (Running world) line bad (inr u) = bad.2 (Deliver u.0 u.1) u.2
 
--- each line is of one outcome at each stage
-pub one_outcome : OneTriple → OneOutcome
-one_outcome triples stage line = record {
+-- each line has at most one of these outcomes at each stage
+pub one_outcome : OneOutcome
+one_outcome stage line = record {
   acts_bad = acts_bad stage line;
-  acts_unbuilt = acts_unbuilt triples stage line;
+  acts_unbuilt = acts_unbuilt stage line;
   bad_unbuilt = bad_unbuilt stage line;
 }
 
 -- ---- runs
 
 -- a run over lines writes one text, and leads to one stage
-pub one_run : OneTriple → OneRun
-one_run triples stage [] text other next after p q = (p.0 ∙ sym q.0, p.1 ∙ sym q.1)
-one_run triples stage (line ∷ lines) text other next after p q =
-    let first = one_act triples stage line p.0 q.0 p.2 q.2 p.3 q.3 in
-    let rest = one_run triples q.2 lines p.1 q.1 next after (subst (λ (stage : Stage). Runs stage lines p.1 next) first.1 p.4) q.4 in
+pub one_run : OneRun
+one_run stage [] text other next after p q = (p.0 ∙ sym q.0, p.1 ∙ sym q.1)
+one_run stage (line ∷ lines) text other next after p q =
+    let first = one_act stage line p.0 q.0 p.2 q.2 p.3 q.3 in
+    let rest = one_run q.2 lines p.1 q.1 next after (subst (λ (stage : Stage). Runs stage lines p.1 next) first.1 p.4) q.4 in
     (cc (p.5, q.5, first.0, rest.0), rest.1)
 
 -- ---- verdicts
@@ -130,20 +130,20 @@ Reads (line ∷ lines) stage outcome =
     ⊎ ReadsOn stage line (Reads lines) outcome)
 
 -- lines are read in one way
-reads_once : OneTriple → (lines : List (List ℕ)) (stage : Stage) (outcome other : Outcome) → Reads lines stage outcome → Reads lines stage other → outcome ≡ other
-reads_once triples [] Waiting outcome other p q = p ∙ sym q
-reads_once triples [] (Running world) outcome other p q = p ∙ sym q
-reads_once triples (line ∷ lines) stage outcome other (inl p) (inl q) = p.1 ∙ sym q.1
-reads_once triples (line ∷ lines) stage outcome other (inl p) (inr (inl q)) = absurd (bad_unbuilt stage line p.0 q.0)
-reads_once triples (line ∷ lines) stage outcome other (inl p) (inr (inr q)) = absurd (acts_bad stage line q.front q.middle q.acts p.0)
-reads_once triples (line ∷ lines) stage outcome other (inr (inl p)) (inl q) = absurd (bad_unbuilt stage line q.0 p.0)
-reads_once triples (line ∷ lines) stage outcome other (inr (inl p)) (inr (inl q)) = p.1 ∙ sym q.1
-reads_once triples (line ∷ lines) stage outcome other (inr (inl p)) (inr (inr q)) = absurd (acts_unbuilt triples stage line q.front q.middle q.acts p.0)
-reads_once triples (line ∷ lines) stage outcome other (inr (inr p)) (inl q) = absurd (acts_bad stage line p.front p.middle p.acts q.0)
-reads_once triples (line ∷ lines) stage outcome other (inr (inr p)) (inr (inl q)) = absurd (acts_unbuilt triples stage line p.front p.middle p.acts q.0)
-reads_once triples (line ∷ lines) stage outcome other (inr (inr p)) (inr (inr q)) =
-    let first = one_act triples stage line p.front q.front p.middle q.middle p.acts q.acts in
-    let rest = reads_once triples lines q.middle p.rest q.rest (subst (λ (stage : Stage). Reads lines stage p.rest) first.1 p.goes) q.goes in
+reads_once : (lines : List (List ℕ)) (stage : Stage) (outcome other : Outcome) → Reads lines stage outcome → Reads lines stage other → outcome ≡ other
+reads_once [] Waiting outcome other p q = p ∙ sym q
+reads_once [] (Running world) outcome other p q = p ∙ sym q
+reads_once (line ∷ lines) stage outcome other (inl p) (inl q) = p.1 ∙ sym q.1
+reads_once (line ∷ lines) stage outcome other (inl p) (inr (inl q)) = absurd (bad_unbuilt stage line p.0 q.0)
+reads_once (line ∷ lines) stage outcome other (inl p) (inr (inr q)) = absurd (acts_bad stage line q.front q.middle q.acts p.0)
+reads_once (line ∷ lines) stage outcome other (inr (inl p)) (inl q) = absurd (bad_unbuilt stage line q.0 p.0)
+reads_once (line ∷ lines) stage outcome other (inr (inl p)) (inr (inl q)) = p.1 ∙ sym q.1
+reads_once (line ∷ lines) stage outcome other (inr (inl p)) (inr (inr q)) = absurd (acts_unbuilt stage line q.front q.middle q.acts p.0)
+reads_once (line ∷ lines) stage outcome other (inr (inr p)) (inl q) = absurd (acts_bad stage line p.front p.middle p.acts q.0)
+reads_once (line ∷ lines) stage outcome other (inr (inr p)) (inr (inl q)) = absurd (acts_unbuilt stage line p.front p.middle p.acts q.0)
+reads_once (line ∷ lines) stage outcome other (inr (inr p)) (inr (inr q)) =
+    let first = one_act stage line p.front q.front p.middle q.middle p.acts q.acts in
+    let rest = reads_once lines q.middle p.rest q.rest (subst (λ (stage : Stage). Reads lines stage p.rest) first.1 p.goes) q.goes in
     cc (p.is, q.is, first.0, rest)
 
 -- a run over all lines reads them
@@ -219,5 +219,5 @@ verdict_reads lines (UnbuiltLine number text stage) h =
     (reads_unbuilt before.front before.rest Waiting text stage before.runs h.line h.first h.unbuilt)
 
 -- the lines of a schedule have one verdict
-pub one_verdict : OneTriple → OneVerdict
-one_verdict triples lines outcome other p q = reads_once triples lines Waiting outcome other (verdict_reads lines outcome p) (verdict_reads lines other q)
+pub one_verdict : OneVerdict
+one_verdict lines outcome other p q = reads_once lines Waiting outcome other (verdict_reads lines outcome p) (verdict_reads lines other q)

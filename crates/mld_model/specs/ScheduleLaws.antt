@@ -12,7 +12,8 @@ use Rattle.mld_model.specs.declared.Command.TheVariants.{Add, Deliver, Show, Com
 use Rattle.mld_model.specs.Schedule.{IsNothing, empty, comment, is_unbuilt, SpellsSetup, SpellsCommand}
 use Rattle.mld_model.specs.Bytes.{Lacks, Lacks-append, Lacks-from_test, Lacks-decimal, list_any-Lacks, one_split, apart}
 use Rattle.mld_model.specs.TripleBytes.{Lacks-triple}
-use Rattle.mld_model.specs.Laws.{OneKind, OneSetup, OneCommand, OneTriple}
+use Rattle.mld_model.specs.TripleLaws.{one_triple}
+use Rattle.mld_model.specs.Laws.{OneKind, OneSetup, OneCommand}
 
 -- ---- what a line begins with
 
@@ -109,7 +110,7 @@ setup_command line domain count (Deliver message number) p q = apart (ap (drop 1
 setup_command line domain count (Show number) p q = apart p.whole q.0 refl
 setup_command line domain count (Compare number other) p q = apart p.whole q.0 refl
 
--- each line is of one kind
+-- each line is of at most one kind
 pub one_kind : OneKind
 one_kind line = record {
   nothing_unbuilt = unbuilt_nothing line;
@@ -132,21 +133,21 @@ one_setup line domain other count number p q =
     let parts = one_split 32 domain other _ _ (domain_lacks domain p.name) (domain_lacks other q.name) tails in
     (parts.0, decimal_injective count number (omega (arith, p.most)) (omega (arith, q.most)) (ap (drop 7) parts.1))
 
--- a line spells one command, where a text spells one triple
-pub one_command : OneTriple → OneCommand
+-- a line spells one command
+pub one_command : OneCommand
 unfolding begins
-one_command triples line (Add number triple) (Add other second) p q =
+one_command line (Add number triple) (Add other second) p q =
     let parts = one_number number other p.0 q.0 (small p.2) (small q.2) (ap (drop 4) (sym p.1 ∙ q.1)) in
-    let same = triples q.0 triple second (subst (λ (text : List ℕ). SpellsTriple text triple) parts.1 p.4) q.4 in
+    let same = one_triple q.0 triple second (subst (λ (text : List ℕ). SpellsTriple text triple) parts.1 p.4) q.4 in
     cc (parts.0, same)
-one_command triples line (Deliver message number) (Deliver other second) p q =
+one_command line (Deliver message number) (Deliver other second) p q =
     let parts = one_number message other (decimal number) (decimal second) p.1 q.1 (ap (drop 8) (sym p.0 ∙ q.0)) in
     let same = decimal_injective number second (small p.2) (small q.2) parts.1 in
     cc (parts.0, same)
-one_command triples line (Show number) (Show other) p q =
+one_command line (Show number) (Show other) p q =
     ap Show (decimal_injective number other (small p.1) (small q.1) (ap (drop 5) (sym p.0 ∙ q.0)))
-one_command triples line (Compare number with) (Compare other second) p q =
+one_command line (Compare number with) (Compare other second) p q =
     let parts = one_number number other (decimal with) (decimal second) (small p.1) (small q.1) (ap (drop 8) (sym p.0 ∙ q.0)) in
     let same = decimal_injective with second (small p.2) (small q.2) parts.1 in
     cc (parts.0, same)
-one_command triples line command other p q = absurd (apart (command_begins line command p).1 (command_begins line other q).1 refl)
+one_command line command other p q = absurd (apart (command_begins line command p).1 (command_begins line other q).1 refl)
