@@ -11,6 +11,9 @@ use crate::sources::Source;
 use std::alloc::{AllocError, Global};
 use std::marker::Model;
 
+/// The byte that ends a line.
+const LF: u8 = b'\n';
+
 /// A reader of lines, under a limit in bytes of each line and one of the whole input.
 #[derive(Debug, Drop)]
 pub struct Lines {
@@ -106,7 +109,7 @@ fn take_line<S: Source>(
             return Err(LineFault::TooLarge);
         }
         size += 1;
-        if byte == b'\n' {
+        if byte == LF {
             *taken += size;
             return Ok(Some(Piece::from_vec(bytes)));
         }

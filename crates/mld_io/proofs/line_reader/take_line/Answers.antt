@@ -22,19 +22,19 @@ returns-then-size-room-clause-line g c = λ bytes e.
     let m = more_bytes bytes front c.in-Some.byte _ _ s (at_option _ _ _ _ c.in-Some.is (c.in_ok-byte.ensures.byte s.rest s.left_is)) in
     IsTooLarge-from_all _ bytes front m.0 c.in-Some.byte s.no_end m.1 (omega arith)
 
-pub returns-then-byte-eq10-clause-line : goal.returns-then-byte-eq10-clause-line
-returns-then-byte-eq10-clause-line g c = λ bytes e.
+pub returns-then-byte-eq-LF-clause-line : goal.returns-then-byte-eq-LF-clause-line
+returns-then-byte-eq-LF-clause-line g c = λ bytes e.
     let s = c.loop-bytes.invariant.left bytes e in
     let front = c.loop-bytes.bytes.items in
     let m = more_bytes bytes front c.in-Some.byte _ _ s (at_option _ _ _ _ c.in-Some.is (c.in_ok-byte.ensures.byte s.rest s.left_is)) in
-    rw c.from_vec.ensures (IsLine-from_lf _ bytes front m.0 _ _ s.no_end (m.1 ∙ ap (λ b. front ++ b ∷ m.0) c.if-byte-eq10.true) m.2 (omega arith) (omega arith) (omega arith))
+    rw c.from_vec.ensures (IsLine-from_lf _ bytes front m.0 _ _ s.no_end (m.1 ∙ ap (λ b. front ++ b ∷ m.0) c.if-byte-eq-LF.true) m.2 (omega arith) (omega arith) (omega arith))
 
 pub returns-then-len-line-clause-line : goal.returns-then-len-line-clause-line
 returns-then-len-line-clause-line g c = λ bytes e.
     let s = c.loop-bytes.invariant.left bytes e in
     let front = c.loop-bytes.bytes.items in
     let m = more_bytes bytes front c.in-Some.byte _ _ s (at_option _ _ _ _ c.in-Some.is (c.in_ok-byte.ensures.byte s.rest s.left_is)) in
-    IsTooLarge-from_line _ bytes front m.0 c.in-Some.byte s.no_end c.if-byte-eq10.false m.1 (omega arith)
+    IsTooLarge-from_line _ bytes front m.0 c.in-Some.byte s.no_end c.if-byte-eq-LF.false m.1 (omega arith)
 
 pub loop-bytes-preserved : goal.loop-bytes-preserved
 loop-bytes-preserved g c = record {
@@ -46,7 +46,7 @@ loop-bytes-preserved g c = record {
       let s = c.loop-bytes.invariant.left bytes e in
       let front = c.loop-bytes.bytes.items in
       let m = more_bytes bytes front c.in-Some.byte _ _ s (at_option _ _ _ _ c.in-Some.is (c.in_ok-byte.ensures.byte s.rest s.left_is)) in
-      rw c.in_ok-push.ensures.items (ReadSoFar-push bytes front m.0 c.in-Some.byte _ s.no_end c.if-byte-eq10.false m.1 m.2);
+      rw c.in_ok-push.ensures.items (ReadSoFar-push bytes front m.0 c.in-Some.byte _ s.no_end c.if-byte-eq-LF.false m.1 m.2);
   later = omega (arith, c.take_byte.ensures.cause.later);
 }
 
@@ -55,7 +55,7 @@ returns-in_err-push-clause-line g c = λ bytes e.
     let s = c.loop-bytes.invariant.left bytes e in
     let front = c.loop-bytes.bytes.items in
     let m = more_bytes bytes front c.in-Some.byte _ _ s (at_option _ _ _ _ c.in-Some.is (c.in_ok-byte.ensures.byte s.rest s.left_is)) in
-    let more = ReadSoFar-push bytes front m.0 c.in-Some.byte _ s.no_end c.if-byte-eq10.false m.1 m.2 in
+    let more = ReadSoFar-push bytes front m.0 c.in-Some.byte _ s.no_end c.if-byte-eq-LF.false m.1 m.2 in
     let p = err_from_is_err_and c.from_residual-in_err-push.result c.from_residual-in_err-push.ensures.1 in
     rw (p.1, p.2) (IsCutShort-from_part bytes (front ++ c.in-Some.byte ∷ []) more.rest _ more.no_end more.front_of more.left_is)
 
@@ -80,8 +80,8 @@ returns-then-size-room-clause-frugal g c = λ bytes e.
     let m = more_bytes bytes front c.in-Some.byte _ _ s (at_option _ _ _ _ c.in-Some.is (c.in_ok-byte.ensures.byte s.rest s.left_is)) in
     TakesAtMost-with_byte bytes front m.0 c.in-Some.byte _ _ m.1 m.2 (omega arith)
 
-pub returns-then-byte-eq10-clause-frugal : goal.returns-then-byte-eq10-clause-frugal
-returns-then-byte-eq10-clause-frugal g c = λ bytes e.
+pub returns-then-byte-eq-LF-clause-frugal : goal.returns-then-byte-eq-LF-clause-frugal
+returns-then-byte-eq-LF-clause-frugal g c = λ bytes e.
     let s = c.loop-bytes.invariant.left bytes e in
     let front = c.loop-bytes.bytes.items in
     let m = more_bytes bytes front c.in-Some.byte _ _ s (at_option _ _ _ _ c.in-Some.is (c.in_ok-byte.ensures.byte s.rest s.left_is)) in
