@@ -10,4 +10,5 @@ pub mod Faults
 pub mod Kept
 pub mod Grammar
 pub mod Reading
+pub mod ReadingLaws
 pub mod Parts
