@@ -2,4 +2,3 @@ pub mod Comparing
 pub mod Tags
 pub mod Appending
 pub mod Cutting
-pub mod Fronts

@@ -10,5 +10,6 @@ pub mod Faults
 pub mod Kept
 pub mod Grammar
 pub mod Reading
+pub mod Fronts
 pub mod ReadingLaws
 pub mod Parts

@@ -165,7 +165,7 @@ fn read_literal(text: &str) -> Result<(ObjectParts<'_>, &str), usize>
 }
 
 /// Reads an object.
-#[tactic(auto, using(crate::proofs::Fronts::object_other), unfolding(crate::specs::Reading::object_of))]
+#[tactic(auto, using(crate::specs::Fronts::object_other), unfolding(crate::specs::Reading::object_of))]
 fn read_object(text: &str) -> Result<(ObjectParts<'_>, &str), usize>
     ensures { MatchResult result
         (λ parts. object_of text.now ≡ Some (object_value parts.0, parts.1.now))

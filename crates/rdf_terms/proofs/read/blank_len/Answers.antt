@@ -1,7 +1,6 @@
-use Rattle.std.proofs.Common.{◌≡◌, ℕ, ◌<◌, ◌+◌, true, length, get_or, drop, suc, sym, subst, ◌∙◌, arith}
+use Rattle.std.proofs.Common.{◌≡◌, ◌<◌, true, length, get_or, sym, subst, ◌∙◌, arith}
 use Rattle.std.proofs.lemmas.Str.{IsCharBoundary-start, IsCharBoundary-after_ascii}
 use Rattle.rdf_terms.specs.Grammar.{is_blank}
-use Rattle.rdf_terms.specs.Reading.{run_len}
 use Rattle.rdf_terms.proofs.Cutting.{run_more, blank_small}
 use Rattle.rdf_terms.proofs.read.blank_len.Goals as goal
 
