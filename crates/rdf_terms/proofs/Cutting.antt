@@ -35,7 +35,7 @@ cut_first mark (byte ∷ front) rest h = rw (ne_eqb byte mark (h 0 (omega arith)
 
 -- what `split_once` says of a mark
 pub cut_from_parts : (mark : ℕ) (text : List ℕ) (r : Option (Bor (List ℕ) × Bor (List ℕ)))
-  → MatchOption r ((i : ℕ) → i < length text → get_or text i 0 ≢ mark) (λ x. (text ≡ x.0.now ++ (mark ∷ x.1.now)) × ((i : ℕ) → i < length x.0.now → get_or x.0.now i 0 ≢ mark))
-  → MatchOption r (cut mark text ≡ None) (λ x. cut mark text ≡ Some (x.0.now, x.1.now))
+    → MatchOption r ((i : ℕ) → i < length text → get_or text i 0 ≢ mark) (λ x. (text ≡ x.0.now ++ (mark ∷ x.1.now)) × ((i : ℕ) → i < length x.0.now → get_or x.0.now i 0 ≢ mark))
+    → MatchOption r (cut mark text ≡ None) (λ x. cut mark text ≡ Some (x.0.now, x.1.now))
 cut_from_parts mark text None h = cut_none mark text h
 cut_from_parts mark text (Some x) h = ap (cut mark) h.0 ∙ cut_first mark x.0.now x.1.now h.1

@@ -13,3 +13,4 @@ pub mod Reading
 pub mod Fronts
 pub mod ReadingLaws
 pub mod Parts
+pub mod Building

@@ -51,8 +51,8 @@ run_passes : (test : ℕ → Bool) (text : List ℕ) → list_all test (take (ru
 run_passes test [] = refl
 run_passes test (byte ∷ bytes) =
     elim (cases_Bool (test byte)) [
-      inl h ↦ rw (h, h) (run_passes test bytes)
-    | inr h ↦ rw h refl
+      | inl h ↦ rw (h, h) (run_passes test bytes)
+      | inr h ↦ rw h refl
     ]
 
 run_of : (test : ℕ → Bool) (front rest : List ℕ) → list_all test front ≡ true → StartsWithout test rest → run_len test (front ++ rest) ≡ length front
@@ -82,10 +82,10 @@ cut_sound : (mark : ℕ) (text : List ℕ) (parts : List ℕ × List ℕ) → cu
 cut_sound mark [] parts e = absurd (none_some e)
 cut_sound mark (byte ∷ bytes) parts e =
     elim (cases_Bool (eqb byte mark)) [
-      inl h ↦ let f = rw h at e in ap (λ b. b ∷ bytes) (eqb-true byte mark h) ∙ ap (λ (p : List ℕ × List ℕ). p.0 ++ mark ∷ p.1) (some_inj f)
-    | inr h ↦ let f = rw h at e in
-        let q = onto_some byte (cut mark bytes) parts f in
-        ap (λ l. byte ∷ l) (cut_sound mark bytes q.0 q.1) ∙ ap (λ (p : List ℕ × List ℕ). p.0 ++ mark ∷ p.1) q.2
+      | inl h ↦ let f = rw h at e in ap (λ b. b ∷ bytes) (eqb-true byte mark h) ∙ ap (λ (p : List ℕ × List ℕ). p.0 ++ mark ∷ p.1) (some_inj f)
+      | inr h ↦ let f = rw h at e in
+          let q = onto_some byte (cut mark bytes) parts f in
+          ap (λ l. byte ∷ l) (cut_sound mark bytes q.0 q.1) ∙ ap (λ (p : List ℕ × List ℕ). p.0 ++ mark ∷ p.1) q.2
     ]
 
 cut_complete : (mark : ℕ) (front rest : List ℕ) → ((i : ℕ) → i < length front → get_or front i 0 ≢ mark) → cut mark (front ++ mark ∷ rest) ≡ Some (front, rest)
@@ -98,8 +98,8 @@ checked_iri_some : (o : Option (List ℕ × List ℕ)) (parts : List ℕ × List
 checked_iri_some None parts e = absurd (none_some e)
 checked_iri_some (Some p) parts e =
     elim (cases_Bool (is_iri p.0)) [
-      inl h ↦ let f = rw h at e in (f, subst (λ (q : List ℕ × List ℕ). is_iri q.0 ≡ true) (some_inj f) h)
-    | inr h ↦ let f = rw h at e in absurd (none_some f)
+      | inl h ↦ let f = rw h at e in (f, subst (λ (q : List ℕ × List ℕ). is_iri q.0 ≡ true) (some_inj f) h)
+      | inr h ↦ let f = rw h at e in absurd (none_some f)
     ]
 
 -- an IRI that is read is one, and stands at the front
@@ -108,10 +108,10 @@ unfolding iri_of
 iri_sound [] parts e = absurd (none_some e)
 iri_sound (byte ∷ bytes) parts e =
     elim (cases_Bool (eqb byte 60)) [
-      inl h ↦ let f = rw h at e in
-        let g = checked_iri_some (cut 62 bytes) parts f in
-        (g.1, ap (λ b. b ∷ bytes) (eqb-true byte 60 h) ∙ ap (λ l. 60 ∷ l) (cut_sound 62 bytes parts g.0 ∙ sym (append_assoc parts.0 (62 ∷ []) parts.1)))
-    | inr h ↦ let f = rw h at e in absurd (none_some f)
+      | inl h ↦ let f = rw h at e in
+          let g = checked_iri_some (cut 62 bytes) parts f in
+          (g.1, ap (λ b. b ∷ bytes) (eqb-true byte 60 h) ∙ ap (λ l. 60 ∷ l) (cut_sound 62 bytes parts g.0 ∙ sym (append_assoc parts.0 (62 ∷ []) parts.1)))
+      | inr h ↦ let f = rw h at e in absurd (none_some f)
     ]
 
 no_closing : (byte : ℕ) → not (is_excluded byte) ≡ true → byte ≢ 62
@@ -130,20 +130,20 @@ iri_complete iri rest h =
 -- ---- literals
 
 checked_type_some : (lexical : List ℕ) (o : Option (List ℕ × List ℕ)) (parts : LiteralValue × List ℕ) → checked_type lexical o ≡ Some parts
-  → (p : List ℕ × List ℕ) × (o ≡ Some p) × IsTrue (not (is_same p.0 rdf_lang_string)) × ((Typed lexical p.0, p.1) ≡ parts)
+    → (p : List ℕ × List ℕ) × (o ≡ Some p) × IsTrue (not (is_same p.0 rdf_lang_string)) × ((Typed lexical p.0, p.1) ≡ parts)
 checked_type_some lexical None parts e = absurd (none_some e)
 checked_type_some lexical (Some p) parts e =
     elim (cases_Bool (is_same p.0 rdf_lang_string)) [
-      inl h ↦ let f = rw h at e in absurd (none_some f)
-    | inr h ↦ let f = rw h at e in (p, refl, ap not h, some_inj f)
+      | inl h ↦ let f = rw h at e in absurd (none_some f)
+      | inr h ↦ let f = rw h at e in (p, refl, ap not h, some_inj f)
     ]
 
 tagged_at_some : (lexical : List ℕ) (count : ℕ) (text : List ℕ) (parts : LiteralValue × List ℕ) → tagged_at lexical count text ≡ Some parts
-  → IsTrue (is_language_tag (take count text)) × ((Tagged lexical (str_to_ascii_lowercase (take count text)), drop count text) ≡ parts)
+    → IsTrue (is_language_tag (take count text)) × ((Tagged lexical (str_to_ascii_lowercase (take count text)), drop count text) ≡ parts)
 tagged_at_some lexical count text parts e =
     elim (cases_Bool (is_language_tag (take count text))) [
-      inl h ↦ let f = rw h at e in (h, some_inj f)
-    | inr h ↦ let f = rw h at e in absurd (none_some f)
+      | inl h ↦ let f = rw h at e in (h, some_inj f)
+      | inr h ↦ let f = rw h at e in absurd (none_some f)
     ]
 
 -- what is behind the quotes of a literal that the text spells
@@ -156,7 +156,7 @@ suffix_plain : (lexical text : List ℕ) (parts : LiteralValue × List ℕ) → 
 suffix_plain lexical text parts e = subst (λ (p : LiteralValue × List ℕ). SpellsSuffix lexical text p) e (record {
   suffix = [];
   spelled = λ plain. (plain, inl (append-nil (quoted lexical), refl));
-  rest = refl
+  rest = refl;
 })
 
 suffix_tagged : (lexical text : List ℕ) (parts : LiteralValue × List ℕ) → tagged_of lexical text ≡ Some parts → SpellsSuffix lexical (64 ∷ text) parts
@@ -167,7 +167,7 @@ suffix_tagged lexical text parts e =
     subst (λ (p : LiteralValue × List ℕ). SpellsSuffix lexical (64 ∷ text) p) f.1 (record {
       suffix = 64 ∷ take count text;
       spelled = λ plain. (plain, (take count text, f.0, refl, refl));
-      rest = ap (λ l. 64 ∷ l) (sym (take-append-drop count text))
+      rest = ap (λ l. 64 ∷ l) (sym (take-append-drop count text));
     })
 
 suffix_typed : (lexical text : List ℕ) (parts : LiteralValue × List ℕ) → typed_of lexical text ≡ Some parts → SpellsSuffix lexical (94 ∷ text) parts
@@ -175,15 +175,15 @@ unfolding typed_of
 suffix_typed lexical [] parts e = absurd (none_some e)
 suffix_typed lexical (byte ∷ bytes) parts e =
     elim (cases_Bool (eqb byte 94)) [
-      inl h ↦ let f = rw h at e in
-        let g = checked_type_some lexical (iri_of bytes) parts f in
-        let i = iri_sound bytes g.0 g.1 in
-        subst (λ (p : LiteralValue × List ℕ). SpellsSuffix lexical (94 ∷ byte ∷ bytes) p) g.3 (record {
-          suffix = 94 ∷ 94 ∷ iri_text g.0.0;
-          spelled = λ plain. (plain, inr (refl, i.0, g.2));
-          rest = ap (λ b. 94 ∷ b ∷ bytes) (eqb-true byte 94 h) ∙ ap (λ l. 94 ∷ 94 ∷ l) i.1
-        })
-    | inr h ↦ let f = rw h at e in absurd (none_some f)
+      | inl h ↦ let f = rw h at e in
+          let g = checked_type_some lexical (iri_of bytes) parts f in
+          let i = iri_sound bytes g.0 g.1 in
+          subst (λ (p : LiteralValue × List ℕ). SpellsSuffix lexical (94 ∷ byte ∷ bytes) p) g.3 (record {
+            suffix = 94 ∷ 94 ∷ iri_text g.0.0;
+            spelled = λ plain. (plain, inr (refl, i.0, g.2));
+            rest = ap (λ b. 94 ∷ b ∷ bytes) (eqb-true byte 94 h) ∙ ap (λ l. 94 ∷ 94 ∷ l) i.1;
+          })
+      | inr h ↦ let f = rw h at e in absurd (none_some f)
     ]
 
 suffix_sound : (lexical text : List ℕ) (parts : LiteralValue × List ℕ) → suffix_of lexical text ≡ Some parts → SpellsSuffix lexical text parts
@@ -191,23 +191,23 @@ unfolding suffix_of
 suffix_sound lexical [] parts e = suffix_plain lexical [] parts (some_inj e)
 suffix_sound lexical (byte ∷ bytes) parts e =
     elim (cases_Bool (eqb byte 64)) [
-      inl h ↦ let f = rw h at e in
-        subst (λ b. SpellsSuffix lexical (b ∷ bytes) parts) (sym (eqb-true byte 64 h)) (suffix_tagged lexical bytes parts f)
-    | inr h ↦ let f = rw h at e in
-        elim (cases_Bool (eqb byte 94)) [
-          inl g ↦ let k = rw g at f in
-            subst (λ b. SpellsSuffix lexical (b ∷ bytes) parts) (sym (eqb-true byte 94 g)) (suffix_typed lexical bytes parts k)
-        | inr g ↦ let k = rw g at f in suffix_plain lexical (byte ∷ bytes) parts (some_inj k)
-        ]
+      | inl h ↦ let f = rw h at e in
+          subst (λ b. SpellsSuffix lexical (b ∷ bytes) parts) (sym (eqb-true byte 64 h)) (suffix_tagged lexical bytes parts f)
+      | inr h ↦ let f = rw h at e in
+          elim (cases_Bool (eqb byte 94)) [
+            | inl g ↦ let k = rw g at f in
+                subst (λ b. SpellsSuffix lexical (b ∷ bytes) parts) (sym (eqb-true byte 94 g)) (suffix_typed lexical bytes parts k)
+            | inr g ↦ let k = rw g at f in suffix_plain lexical (byte ∷ bytes) parts (some_inj k)
+          ]
     ]
 
 checked_lexical_some : (o : Option (List ℕ × List ℕ)) (parts : LiteralValue × List ℕ) → checked_lexical o ≡ Some parts
-  → (p : List ℕ × List ℕ) × (o ≡ Some p) × IsTrue (is_plain p.0) × (suffix_of p.0 p.1 ≡ Some parts)
+    → (p : List ℕ × List ℕ) × (o ≡ Some p) × IsTrue (is_plain p.0) × (suffix_of p.0 p.1 ≡ Some parts)
 checked_lexical_some None parts e = absurd (none_some e)
 checked_lexical_some (Some p) parts e =
     elim (cases_Bool (is_plain p.0)) [
-      inl h ↦ let f = rw h at e in (p, refl, h, f)
-    | inr h ↦ let f = rw h at e in absurd (none_some f)
+      | inl h ↦ let f = rw h at e in (p, refl, h, f)
+      | inr h ↦ let f = rw h at e in absurd (none_some f)
     ]
 
 -- a literal that is read stands at the front
@@ -216,10 +216,12 @@ unfolding literal_from
 literal_sound text parts e =
     let f = checked_lexical_some (cut 34 text) parts e in
     let lexical : List ℕ = f.0.0 in
-    let s = suffix_sound lexical f.0.1 parts f.3 in
-    (quoted lexical ++ s.suffix, s.spelled f.2,
+    let s = suffix_sound lexical f.0.1 parts f.3 in (
+      quoted lexical ++ s.suffix,
+      s.spelled f.2,
       ap (λ l. 34 ∷ l) (cut_sound 34 text f.0 f.1 ∙ ap (λ l. lexical ++ 34 ∷ l) s.rest
-        ∙ sym (append_assoc lexical (34 ∷ s.suffix) parts.1) ∙ ap (λ l. l ++ parts.1) (sym (append_assoc lexical (34 ∷ []) s.suffix))))
+          ∙ sym (append_assoc lexical (34 ∷ s.suffix) parts.1) ∙ ap (λ l. l ++ parts.1) (sym (append_assoc lexical (34 ∷ []) s.suffix))),
+    )
 
 -- ---- objects
 
@@ -237,16 +239,16 @@ unfolding object_of
 object_sound [] parts e = absurd (none_some e)
 object_sound (byte ∷ bytes) parts e =
     elim (cases_Bool (eqb byte 34)) [
-      inl h ↦ let f = rw h at e in
-        let g = as_literal_some (literal_from bytes) parts f in
-        let l = literal_sound bytes g.0 g.1 in
-        subst (λ (p : Term × List ℕ). (w : List ℕ) × SpellsObject w p.0 × (byte ∷ bytes ≡ w ++ p.1)) g.2
-        (l.0, l.1, ap (λ b. b ∷ bytes) (eqb-true byte 34 h) ∙ l.2)
-    | inr h ↦ let f = rw h at e in
-        let g = as_iri_some (iri_of (byte ∷ bytes)) parts f in
-        let i = iri_sound (byte ∷ bytes) g.0 g.1 in
-        subst (λ (p : Term × List ℕ). (w : List ℕ) × SpellsObject w p.0 × (byte ∷ bytes ≡ w ++ p.1)) g.2
-        (iri_text g.0.0, (i.0, refl), i.1)
+      | inl h ↦ let f = rw h at e in
+          let g = as_literal_some (literal_from bytes) parts f in
+          let l = literal_sound bytes g.0 g.1 in
+          subst (λ (p : Term × List ℕ). (w : List ℕ) × SpellsObject w p.0 × (byte ∷ bytes ≡ w ++ p.1)) g.2
+          (l.0, l.1, ap (λ b. b ∷ bytes) (eqb-true byte 34 h) ∙ l.2)
+      | inr h ↦ let f = rw h at e in
+          let g = as_iri_some (iri_of (byte ∷ bytes)) parts f in
+          let i = iri_sound (byte ∷ bytes) g.0 g.1 in
+          subst (λ (p : Term × List ℕ). (w : List ℕ) × SpellsObject w p.0 × (byte ∷ bytes ≡ w ++ p.1)) g.2
+          (iri_text g.0.0, (i.0, refl), i.1)
     ]
 
 -- ---- the end, and the whole
@@ -265,27 +267,27 @@ end_sound text h =
     (b.0, d.0, b.1, d.1, b.2 ∙ ap (λ l. b.0 ++ l) d.2)
 
 with_end_some : (s p : List ℕ) (o : Option (Term × List ℕ)) (t : Triple) → with_end s p o ≡ Some t
-  → (q : Term × List ℕ) × (o ≡ Some q) × (is_end q.1 ≡ true) × (record { s = s; p = p; o = q.0 } ≡ t)
+    → (q : Term × List ℕ) × (o ≡ Some q) × (is_end q.1 ≡ true) × (record { s = s; p = p; o = q.0 } ≡ t)
 with_end_some s p None t e = absurd (none_some e)
 with_end_some s p (Some q) t e =
     elim (cases_Bool (is_end q.1)) [
-      inl h ↦ let f = rw h at e in (q, refl, h, some_inj f)
-    | inr h ↦ let f = rw h at e in absurd (none_some f)
+      | inl h ↦ let f = rw h at e in (q, refl, h, some_inj f)
+      | inr h ↦ let f = rw h at e in absurd (none_some f)
     ]
 
 with_predicate_some : (s : List ℕ) (o : Option (List ℕ × List ℕ)) (t : Triple) → with_predicate s o ≡ Some t
-  → (q : List ℕ × List ℕ) × (o ≡ Some q) × (with_end s q.0 (object_of (skip_blanks q.1)) ≡ Some t)
+    → (q : List ℕ × List ℕ) × (o ≡ Some q) × (with_end s q.0 (object_of (skip_blanks q.1)) ≡ Some t)
 with_predicate_some s None t e = absurd (none_some e)
 with_predicate_some s (Some q) t e = (q, refl, e)
 
 with_subject_some : (o : Option (List ℕ × List ℕ)) (t : Triple) → with_subject o ≡ Some t
-  → (q : List ℕ × List ℕ) × (o ≡ Some q) × (with_predicate q.0 (iri_of (skip_blanks q.1)) ≡ Some t)
+    → (q : List ℕ × List ℕ) × (o ≡ Some q) × (with_predicate q.0 (iri_of (skip_blanks q.1)) ≡ Some t)
 with_subject_some None t e = absurd (none_some e)
 with_subject_some (Some q) t e = (q, refl, e)
 
 -- five runs of blanks
 five_blanks : (a b c d e : List ℕ) → IsTrue (is_blanks a) → IsTrue (is_blanks b) → IsTrue (is_blanks c) → IsTrue (is_blanks d) → IsTrue (is_blanks e)
-  → IsTrue (is_blanks (a ++ b ++ c ++ d ++ e))
+    → IsTrue (is_blanks (a ++ b ++ c ++ d ++ e))
 five_blanks a b c d e f g h i j =
     all_append is_blank (a ++ b ++ c ++ d) e (all_append is_blank (a ++ b ++ c) d (all_append is_blank (a ++ b) c (all_append is_blank a b f g) h) i) j
 
@@ -304,16 +306,24 @@ triple_sound text t e =
     let k = object_sound (skip_blanks p.0.1) o.0 o.1 in
     let m = end_sound o.0.1 o.2 in
     let layout : Layout = record {
-      before = b0.0; after_subject = b1.0; after_predicate = b2.0; object = k.0; after_object = m.0; after_dot = m.1
+      before = b0.0;
+      after_subject = b1.0;
+      after_predicate = b2.0;
+      object = k.0;
+      after_object = m.0;
+      after_dot = m.1;
     } in
-    subst (λ (u : Triple). (l : Layout) × SpellsBy l text u) o.3 (layout, record {
-      blanks = five_blanks b0.0 b1.0 b2.0 m.0 m.1 b0.1 b1.1 b2.1 m.2 m.3;
-      subject = i.0;
-      predicate = j.0;
-      object = k.1;
-      whole = b0.2 ∙ ap (λ l. b0.0 ++ l) (i.1 ∙ ap (λ l. iri_text s.0.0 ++ l) (b1.2 ∙ ap (λ l. b1.0 ++ l) (j.1 ∙ ap (λ l. iri_text p.0.0 ++ l)
-          (b2.2 ∙ ap (λ l. b2.0 ++ l) (k.2 ∙ ap (λ l. k.0 ++ l) m.4)))))
-    })
+    subst (λ (u : Triple). (l : Layout) × SpellsBy l text u) o.3 (
+      layout,
+      record {
+        blanks = five_blanks b0.0 b1.0 b2.0 m.0 m.1 b0.1 b1.1 b2.1 m.2 m.3;
+        subject = i.0;
+        predicate = j.0;
+        object = k.1;
+        whole = b0.2 ∙ ap (λ l. b0.0 ++ l) (i.1 ∙ ap (λ l. iri_text s.0.0 ++ l) (b1.2 ∙ ap (λ l. b1.0 ++ l) (j.1 ∙ ap (λ l. iri_text p.0.0 ++ l)
+            (b2.2 ∙ ap (λ l. b2.0 ++ l) (k.2 ∙ ap (λ l. k.0 ++ l) m.4)))));
+      },
+    )
 
 -- ---- what is spelled is read
 
@@ -362,22 +372,22 @@ subtag_bytes : (full : Bool) (tag : List ℕ) → is_subtags full tag ≡ true �
 subtag_bytes full [] h = refl
 subtag_bytes full (byte ∷ bytes) h =
     elim (cases_Bool (eqb byte 45)) [
-      inl e ↦ let g = rw e at h in
-        and_from (is_tag_byte byte) (list_all is_tag_byte bytes) (dash_tag byte e) (subtag_bytes false bytes (and_parts full (is_subtags false bytes) g).1)
-    | inr e ↦ let g = rw e at h in
-        let p = and_parts (is_letter byte || is_digit byte) (is_subtags true bytes) g in
-        and_from (is_tag_byte byte) (list_all is_tag_byte bytes) (or_left (is_letter byte || is_digit byte) (eqb byte 45) p.0) (subtag_bytes true bytes p.1)
+      | inl e ↦ let g = rw e at h in
+          and_from (is_tag_byte byte) (list_all is_tag_byte bytes) (dash_tag byte e) (subtag_bytes false bytes (and_parts full (is_subtags false bytes) g).1)
+      | inr e ↦ let g = rw e at h in
+          let p = and_parts (is_letter byte || is_digit byte) (is_subtags true bytes) g in
+          and_from (is_tag_byte byte) (list_all is_tag_byte bytes) (or_left (is_letter byte || is_digit byte) (eqb byte 45) p.0) (subtag_bytes true bytes p.1)
     ]
 
 primary_bytes : (full : Bool) (tag : List ℕ) → is_primary full tag ≡ true → list_all is_tag_byte tag ≡ true
 primary_bytes full [] h = refl
 primary_bytes full (byte ∷ bytes) h =
     elim (cases_Bool (eqb byte 45)) [
-      inl e ↦ let g = rw e at h in
-        and_from (is_tag_byte byte) (list_all is_tag_byte bytes) (dash_tag byte e) (subtag_bytes false bytes (and_parts full (is_subtags false bytes) g).1)
-    | inr e ↦ let g = rw e at h in
-        let p = and_parts (is_letter byte) (is_primary true bytes) g in
-        and_from (is_tag_byte byte) (list_all is_tag_byte bytes) (letter_tag byte p.0) (primary_bytes true bytes p.1)
+      | inl e ↦ let g = rw e at h in
+          and_from (is_tag_byte byte) (list_all is_tag_byte bytes) (dash_tag byte e) (subtag_bytes false bytes (and_parts full (is_subtags false bytes) g).1)
+      | inr e ↦ let g = rw e at h in
+          let p = and_parts (is_letter byte) (is_primary true bytes) g in
+          and_from (is_tag_byte byte) (list_all is_tag_byte bytes) (letter_tag byte p.0) (primary_bytes true bytes p.1)
     ]
 
 tag_bytes : (tag : List ℕ) → IsTrue (is_language_tag tag) → list_all is_tag_byte tag ≡ true
@@ -395,19 +405,19 @@ quoted_complete : (lexical suffix rest : List ℕ) → IsTrue (is_plain lexical)
 unfolding object_of literal_from
 quoted_complete lexical suffix rest h =
     let e : ((lexical ++ 34 ∷ []) ++ suffix) ++ rest ≡ lexical ++ 34 ∷ (suffix ++ rest) =
-      append_assoc (lexical ++ 34 ∷ []) suffix rest ∙ append_assoc lexical (34 ∷ []) (suffix ++ rest) in
+    append_assoc (lexical ++ 34 ∷ []) suffix rest ∙ append_assoc lexical (34 ∷ []) (suffix ++ rest) in
     ap (λ l. as_literal (checked_lexical (cut 34 l))) e
     ∙ ap (λ o. as_literal (checked_lexical o)) (cut_complete 34 lexical (suffix ++ rest) (λ i k. plain_no_quote lexical i h k))
     ∙ rw h refl
 
 typed_complete : (lexical datatype rest : List ℕ) → IsTrue (is_iri datatype) → IsTrue (not (is_same datatype rdf_lang_string))
-  → suffix_of lexical (94 ∷ 94 ∷ (iri_text datatype ++ rest)) ≡ Some (Typed lexical datatype, rest)
+    → suffix_of lexical (94 ∷ 94 ∷ (iri_text datatype ++ rest)) ≡ Some (Typed lexical datatype, rest)
 unfolding suffix_of typed_of
 typed_complete lexical datatype rest h g =
     ap (checked_type lexical) (iri_complete datatype rest h) ∙ rw (not-true (is_same datatype rdf_lang_string) g) refl
 
 tagged_complete : (lexical written rest : List ℕ) → IsTrue (is_language_tag written) → StartsBreak rest
-  → suffix_of lexical (64 ∷ (written ++ rest)) ≡ Some (Tagged lexical (str_to_ascii_lowercase written), rest)
+    → suffix_of lexical (64 ∷ (written ++ rest)) ≡ Some (Tagged lexical (str_to_ascii_lowercase written), rest)
 unfolding suffix_of tagged_of
 tagged_complete lexical written rest h g =
     ap (λ n. tagged_at lexical n (written ++ rest)) (run_of is_tag_byte written rest (tag_bytes written h) (break_starts_no_tag rest g))
@@ -417,11 +427,11 @@ tagged_complete lexical written rest h g =
 literal_complete : (w : List ℕ) (l : LiteralValue) (rest : List ℕ) → SpellsLiteral w l → StartsBreak rest → object_of (w ++ rest) ≡ Some (terms.Literal l, rest)
 literal_complete w (Typed lexical datatype) rest h g =
     elim h.1 [
-      inl k ↦ ap (λ l. object_of (l ++ rest)) (k.0 ∙ sym (append-nil (quoted lexical))) ∙ quoted_complete lexical [] rest h.0
-        ∙ ap as_literal (suffix_other lexical rest (break_starts_no_at rest g) (break_starts_no_hat rest g))
-        ∙ ap (λ (d : List ℕ). Some (terms.Literal (Typed lexical d), rest)) (sym k.1)
-    | inr k ↦ ap (λ l. object_of (l ++ rest)) k.0 ∙ quoted_complete lexical (94 ∷ 94 ∷ iri_text datatype) rest h.0
-        ∙ ap as_literal (typed_complete lexical datatype rest k.1 k.2)
+      | inl k ↦ ap (λ l. object_of (l ++ rest)) (k.0 ∙ sym (append-nil (quoted lexical))) ∙ quoted_complete lexical [] rest h.0
+          ∙ ap as_literal (suffix_other lexical rest (break_starts_no_at rest g) (break_starts_no_hat rest g))
+          ∙ ap (λ (d : List ℕ). Some (terms.Literal (Typed lexical d), rest)) (sym k.1)
+      | inr k ↦ ap (λ l. object_of (l ++ rest)) k.0 ∙ quoted_complete lexical (94 ∷ 94 ∷ iri_text datatype) rest h.0
+          ∙ ap as_literal (typed_complete lexical datatype rest k.1 k.2)
     ]
 literal_complete w (Tagged lexical tag) rest h g =
     let k = h.1 in
@@ -442,8 +452,8 @@ object_complete w (terms.Literal l) rest h g = literal_complete w l rest h g
 literal_head : (w : List ℕ) (l : LiteralValue) (rest : List ℕ) → SpellsLiteral w l → StartsWithout is_blank (w ++ rest)
 literal_head w (Typed lexical datatype) rest h =
     elim h.1 [
-      inl k ↦ subst (λ l. StartsWithout is_blank (l ++ rest)) (sym k.0) refl
-    | inr k ↦ subst (λ l. StartsWithout is_blank (l ++ rest)) (sym k.0) refl
+      | inl k ↦ subst (λ l. StartsWithout is_blank (l ++ rest)) (sym k.0) refl
+      | inr k ↦ subst (λ l. StartsWithout is_blank (l ++ rest)) (sym k.0) refl
     ]
 literal_head w (Tagged lexical tag) rest h = subst (λ l. StartsWithout is_blank (l ++ rest)) (sym h.1.3) refl
 

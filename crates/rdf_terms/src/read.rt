@@ -191,7 +191,7 @@ fn is_end(text: &str) -> bool
 
 /// Reads a triple's text as its parts.
 #[tactic(auto, unfolding(crate::specs::Reading::triple_of))]
-fn read_parts(text: &str) -> Result<TripleParts<'_>, usize>
+pub fn read_parts(text: &str) -> Result<TripleParts<'_>, usize>
     ensures { MatchResult result (λ parts. triple_of text.now ≡ Some (triple_value parts)) (λ _. triple_of text.now ≡ None) }
 {
     let (s, rest) = read_iri(skip_blanks(text))?;
