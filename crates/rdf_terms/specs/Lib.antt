@@ -14,3 +14,4 @@ pub mod Fronts
 pub mod ReadingLaws
 pub mod Parts
 pub mod Building
+pub mod Plain

@@ -16,5 +16,5 @@ pub use grammar::{has_no_backslash, is_absolute, is_domain};
 pub use order::{cmp_terms, cmp_triples, order_is_total};
 pub use terms::{Iri, Literal, Term, Triple};
 pub use texts::Text;
-pub use triples::{one_triple, read_triple};
+pub use triples::{one_triple, read_triple, written_again};
 pub use write::write_triple;

@@ -3,6 +3,8 @@ ghost use Rattle.std.specs.Prelude.{◌≡◌, ℕ, List, IsTrue, IfOk, IfErr};
 ghost use Rattle.rdf_terms.specs.declared.terms.Triple.{Triple};
 ghost use Rattle.rdf_terms.specs.Building.{is_term_within, is_within, IsSound, IsSoundTriple, RefusesTriple};
 ghost use Rattle.rdf_terms.specs.Grammar.{has_no_backslash, SpellsTriple, IsWithin};
+ghost use Rattle.rdf_terms.specs.Plain.{IsPlainTriple};
+ghost use Rattle.rdf_terms.specs.Spelling.{triple_text};
 ghost use Rattle.rdf_terms.specs.Parts.{object_value, triple_value};
 
 use crate::faults::TripleFault;
@@ -90,3 +92,10 @@ pub fn read_triple(alloc: Global, text: &str) -> Result<Triple, TripleFault>
 pub fn one_triple()
     ensures { (text : List ℕ) (t u : Triple) → SpellsTriple text t → SpellsTriple text u → t ≡ u }
 {}
+
+/// A triple of terms that need no escapes is spelled as it is written.
+#[tactic(auto, using(crate::specs::Plain::written_spelled))]
+pub fn written_again()
+    ensures { (t : Triple) → IsPlainTriple t → SpellsTriple (triple_text t) t }
+{
+}
