@@ -12,31 +12,30 @@ use Rattle.std.proofs.lemmas.Bool.{cases_lt}
 use Rattle.tree_clock.specs.Clock.{ticks_of, IsClock, RaisesTo}
 use Rattle.tree_clock.specs.ClockLaws.{less_apart, greater_turned, less_turned, by_order, ticks_of-head, ticks_of-tail, ticks_of-below, ticks_of-under, IsBelowAll-weaker}
 use Rattle.tree_clock.specs.DotLaws.{path_total, path_exact}
-use Rattle.tree_clock.specs.Entries.{IsFound, IsGap, raised}
+use Rattle.tree_clock.specs.Entries.{entry_cmp, IsFound, IsGap, raised}
 use Rattle.tree_clock.specs.Lists.{IsBelowAll, IsAscending}
 use Rattle.tree_clock.specs.Path.{path_cmp}
 
-abbrev pub order : List ℕ × ℕ → List ℕ × ℕ → Ordering
-order = λ (a b : List ℕ × ℕ). path_cmp a.0 b.0
-
+-- one path is equal to itself in the order
 tied : (p q : List ℕ) → p ≡ q → path_cmp p q ≡ Equal
 tied p q e = ap (path_cmp p) (sym e) ∙ tied_itself path_total p
 
 -- ---- places
 
 -- a head is below each later entry
-pub IsBelowAll-at : (x : List ℕ × ℕ) (es : List (List ℕ × ℕ)) (i : ℕ) (d : List ℕ × ℕ) → IsBelowAll order x es → i < length es → path_cmp x.0 (get_or es i d).0 ≡ Less
+pub IsBelowAll-at : (x : List ℕ × ℕ) (es : List (List ℕ × ℕ)) (i : ℕ) (d : List ℕ × ℕ) → IsBelowAll entry_cmp x es → i < length es → path_cmp x.0 (get_or es i d).0 ≡ Less
 IsBelowAll-at x [] i d h l = absurd (omega arith)
 IsBelowAll-at x (e ∷ es) zero d h l = h.0
 IsBelowAll-at x (e ∷ es) (suc i) d h l = IsBelowAll-at x es i d h.1 (omega arith)
 
-pub IsAscending-drop : (i : ℕ) (es : List (List ℕ × ℕ)) → IsAscending order es → IsAscending order (drop i es)
+-- the rest of ascending entries ascends
+pub IsAscending-drop : (i : ℕ) (es : List (List ℕ × ℕ)) → IsAscending entry_cmp es → IsAscending entry_cmp (drop i es)
 IsAscending-drop zero es h = h
 IsAscending-drop (suc i) [] h = tt
 IsAscending-drop (suc i) (e ∷ es) h = IsAscending-drop i es h.1
 
 -- the ticks at the path of an entry
-pub ticks_of-at : (es : List (List ℕ × ℕ)) (i : ℕ) (d : List ℕ × ℕ) (p : List ℕ) → IsAscending order es → i < length es → (get_or es i d).0 ≡ p → ticks_of es p ≡ (get_or es i d).1
+pub ticks_of-at : (es : List (List ℕ × ℕ)) (i : ℕ) (d : List ℕ × ℕ) (p : List ℕ) → IsAscending entry_cmp es → i < length es → (get_or es i d).0 ≡ p → ticks_of es p ≡ (get_or es i d).1
 ticks_of-at [] i d p h l e = absurd (omega arith)
 ticks_of-at (x ∷ es) zero d p h l e = ap (ticks_of (x ∷ es)) (sym e) ∙ ticks_of-head x.0 x.1 es
 ticks_of-at (x ∷ es) (suc i) d p h l e =
@@ -50,9 +49,11 @@ ticks_of-absent [] p h = refl
 ticks_of-absent (x ∷ es) p h =
     ticks_of-tail x es p (h 0 x (omega arith)) ∙ ticks_of-absent es p (λ k d l. h (suc k) d (omega arith))
 
+-- the ticks of a path that a search found
 pub ticks_of-found : (es : List (List ℕ × ℕ)) (p : List ℕ) (i : ℕ) (d : List ℕ × ℕ) → IsClock es → IsFound es p i → ticks_of es p ≡ (get_or es i d).1
 ticks_of-found es p i d c f = ticks_of-at es i d p c.ascending f.within (f.same d)
 
+-- a path that a search did not find has no ticks
 pub ticks_of-gap : (es : List (List ℕ × ℕ)) (p : List ℕ) (i : ℕ) → IsGap es p i → ticks_of es p ≡ 0
 ticks_of-gap es p i g = ticks_of-absent es p (λ k d l.
     ⊎_elim
@@ -67,12 +68,13 @@ positive_at (x ∷ es) zero d c l = c.positive.0
 positive_at (x ∷ es) (suc i) d c l = positive_at es i d (record { ascending = c.ascending.1; positive = c.positive.1 }) (omega arith)
 
 -- an entry is below each later one
-ascending_at : (es : List (List ℕ × ℕ)) (i j : ℕ) (d : List ℕ × ℕ) → IsAscending order es → i < j → j < length es → path_cmp (get_or es i d).0 (get_or es j d).0 ≡ Less
+ascending_at : (es : List (List ℕ × ℕ)) (i j : ℕ) (d : List ℕ × ℕ) → IsAscending entry_cmp es → i < j → j < length es → path_cmp (get_or es i d).0 (get_or es j d).0 ≡ Less
 ascending_at [] i j d h l m = absurd (omega arith)
 ascending_at (x ∷ es) i zero d h l m = absurd (omega arith)
 ascending_at (x ∷ es) zero (suc j) d h l m = IsBelowAll-at x es j d h.0 (omega arith)
 ascending_at (x ∷ es) (suc i) (suc j) d h l m = ascending_at es i j d h.1 (omega arith) (omega arith)
 
+-- a higher path compares no lower
 index_rises : (p q r : List ℕ) → path_cmp p q ≡ Less → ordering_index (path_cmp p r) ≤ ordering_index (path_cmp q r)
 index_rises p q r l = by (path_cmp q r) (path_cmp p r) refl refl
   where
@@ -84,7 +86,7 @@ index_rises p q r l = by (path_cmp q r) (path_cmp p r) refl refl
     by Greater Greater e f = omega arith
 
 -- a binary search may be made
-pub searchable : (es : List (List ℕ × ℕ)) (p : List ℕ) → IsAscending order es → IsNonDecreasingBy (λ (e : List ℕ × ℕ). ordering_index (path_cmp e.0 p)) es
+pub searchable : (es : List (List ℕ × ℕ)) (p : List ℕ) → IsAscending entry_cmp es → IsNonDecreasingBy (λ (e : List ℕ × ℕ). ordering_index (path_cmp e.0 p)) es
 searchable es p h = λ i j d le lt.
     ⊎_elim
     (λ l. index_rises (get_or es i d).0 (get_or es j d).0 p (ascending_at es i j d h l lt))
@@ -93,7 +95,8 @@ searchable es p h = λ i j d le lt.
 
 -- ---- a raise
 
-pub raised-found : (es : List (List ℕ × ℕ)) (p : List ℕ) (t i : ℕ) (d : List ℕ × ℕ) → IsAscending order es → i < length es → (get_or es i d).0 ≡ p → raised es p t ≡ set es i ((get_or es i d).0, max (get_or es i d).1 t)
+-- a raise writes the entry that is there
+pub raised-found : (es : List (List ℕ × ℕ)) (p : List ℕ) (t i : ℕ) (d : List ℕ × ℕ) → IsAscending entry_cmp es → i < length es → (get_or es i d).0 ≡ p → raised es p t ≡ set es i ((get_or es i d).0, max (get_or es i d).1 t)
 raised-found [] p t i d h l e = absurd (omega arith)
 raised-found (x ∷ es) p t zero d h l e =
     ap (λ o. match_ordering o ((p, t) ∷ x ∷ es) ((x.0, max x.1 t) ∷ es) (x ∷ raised es p t)) (tied p x.0 (sym e))
@@ -103,6 +106,7 @@ raised-found (x ∷ es) p t (suc i) d h l e =
     ap (λ o. match_ordering o ((p, t) ∷ x ∷ es) ((x.0, max x.1 t) ∷ es) (x ∷ raised es p t)) (less_turned x.0 p lower)
     ∙ ap (λ rest. x ∷ rest) (raised-found es p t i d h.1 m e)
 
+-- a raise puts an entry in between
 pub raised-gap : (es : List (List ℕ × ℕ)) (p : List ℕ) (t i : ℕ) → IsGap es p i → raised es p t ≡ insert es i (p, t)
 raised-gap [] p t zero g = refl
 raised-gap [] p t (suc i) g = absurd (let w = g.within in omega arith)
@@ -117,25 +121,26 @@ raised-gap (x ∷ es) p t (suc i) g =
     }))
 
 -- what is below the path and the entries is below the raised entries
-IsBelowAll-raised : (x : List ℕ × ℕ) (es : List (List ℕ × ℕ)) (p : List ℕ) (t : ℕ) → path_cmp x.0 p ≡ Less → IsBelowAll order x es → IsBelowAll order x (raised es p t)
+IsBelowAll-raised : (x : List ℕ × ℕ) (es : List (List ℕ × ℕ)) (p : List ℕ) (t : ℕ) → path_cmp x.0 p ≡ Less → IsBelowAll entry_cmp x es → IsBelowAll entry_cmp x (raised es p t)
 IsBelowAll-raised x [] p t l h = (l, tt)
 IsBelowAll-raised x (e ∷ es) p t l h =
-    elim (path_cmp p e.0) as (λ o. IsBelowAll order x (match_ordering o ((p, t) ∷ e ∷ es) ((e.0, max e.1 t) ∷ es) (e ∷ raised es p t))) [
+    elim (path_cmp p e.0) as (λ o. IsBelowAll entry_cmp x (match_ordering o ((p, t) ∷ e ∷ es) ((e.0, max e.1 t) ∷ es) (e ∷ raised es p t))) [
       | Less ↦ (l, h)
       | Equal ↦ h
       | Greater ↦ (h.0, IsBelowAll-raised x es p t l h.1)
     ]
 
 -- raised entries ascend
-pub IsAscending-raised : (es : List (List ℕ × ℕ)) (p : List ℕ) (t : ℕ) → IsAscending order es → IsAscending order (raised es p t)
+pub IsAscending-raised : (es : List (List ℕ × ℕ)) (p : List ℕ) (t : ℕ) → IsAscending entry_cmp es → IsAscending entry_cmp (raised es p t)
 IsAscending-raised [] p t h = (tt, tt)
 IsAscending-raised (e ∷ es) p t h = by (IsAscending-raised es p t h.1) (path_cmp p e.0) refl
   where
-    by : IsAscending order (raised es p t) → (o : Ordering) → path_cmp p e.0 ≡ o → IsAscending order (match_ordering o ((p, t) ∷ e ∷ es) ((e.0, max e.1 t) ∷ es) (e ∷ raised es p t))
+    by : IsAscending entry_cmp (raised es p t) → (o : Ordering) → path_cmp p e.0 ≡ o → IsAscending entry_cmp (match_ordering o ((p, t) ∷ e ∷ es) ((e.0, max e.1 t) ∷ es) (e ∷ raised es p t))
     by rest Less l = ((l, IsBelowAll-weaker e (p, t) es (λ q m. path_total.trans p e.0 q l m) h.0), h)
     by rest Equal l = (IsBelowAll-weaker e (e.0, max e.1 t) es (λ q m. m) h.0, h.1)
     by rest Greater l = (IsBelowAll-raised e es p t (greater_turned p e.0 l) h.0, rest)
 
+-- raised entries have at least one tick
 AllByRecursion-raised : (es : List (List ℕ × ℕ)) (p : List ℕ) (t : ℕ) → 1 ≤ t → AllByRecursion (λ (entry : List ℕ × ℕ). 1 ≤ entry.1) es → AllByRecursion (λ (entry : List ℕ × ℕ). 1 ≤ entry.1) (raised es p t)
 AllByRecursion-raised [] p t h c = (h, tt)
 AllByRecursion-raised (e ∷ es) p t h c =
@@ -153,7 +158,7 @@ pub IsClock-raised : (es : List (List ℕ × ℕ)) (p : List ℕ) (t : ℕ) → 
 IsClock-raised es p t h c = record { ascending = IsAscending-raised es p t c.ascending; positive = AllByRecursion-raised es p t h c.positive }
 
 -- the raised path has the greater ticks
-pub ticks_of-raised : (es : List (List ℕ × ℕ)) (p : List ℕ) (t : ℕ) → IsAscending order es → ticks_of (raised es p t) p ≡ max (ticks_of es p) t
+pub ticks_of-raised : (es : List (List ℕ × ℕ)) (p : List ℕ) (t : ℕ) → IsAscending entry_cmp es → ticks_of (raised es p t) p ≡ max (ticks_of es p) t
 ticks_of-raised [] p t h = ticks_of-head p t [] ∙ omega arith
 ticks_of-raised (e ∷ es) p t h = by (ticks_of-raised es p t h.1) (path_cmp p e.0) refl
   where
@@ -193,7 +198,7 @@ IsFound-searched es p (Ok i) b h = record { within = b; same = λ d. path_exact 
 IsFound-searched es p (Err i) b h = tt
 
 -- where a binary search found nothing
-pub IsGap-searched : (es : List (List ℕ × ℕ)) (p : List ℕ) (r : Result ℕ ℕ) → IsAscending order es → IsSearchInRange r (length es) → IsBinarySearchResult (λ (e : List ℕ × ℕ). path_cmp e.0 p) es r → IfErr r (IsGap es p)
+pub IsGap-searched : (es : List (List ℕ × ℕ)) (p : List ℕ) (r : Result ℕ ℕ) → IsAscending entry_cmp es → IsSearchInRange r (length es) → IsBinarySearchResult (λ (e : List ℕ × ℕ). path_cmp e.0 p) es r → IfErr r (IsGap es p)
 IsGap-searched es p (Ok i) a b h = tt
 IsGap-searched es p (Err i) a b h = let at = h (searchable es p a) in record { within = b; below = at.0; above = at.1 }
 
@@ -209,7 +214,7 @@ ticks_of-within (x ∷ es) ys h q =
     (λ l. tail (λ s. less_apart q x.0 l (sym s)))
 
 -- one entry more is merged
-pub merge_step : (now rest : List (List ℕ × ℕ)) (e : List ℕ × ℕ) (q : List ℕ) → IsClock now → IsAscending order (e ∷ rest) → max (ticks_of (raised now e.0 e.1) q) (ticks_of rest q) ≡ max (ticks_of now q) (ticks_of (e ∷ rest) q)
+pub merge_step : (now rest : List (List ℕ × ℕ)) (e : List ℕ × ℕ) (q : List ℕ) → IsClock now → IsAscending entry_cmp (e ∷ rest) → max (ticks_of (raised now e.0 e.1) q) (ticks_of rest q) ≡ max (ticks_of now q) (ticks_of (e ∷ rest) q)
 merge_step now rest e q c a =
     let away : ¬ (e.0 ≡ q) → max (ticks_of (raised now e.0 e.1) q) (ticks_of rest q) ≡ max (ticks_of now q) (ticks_of (e ∷ rest) q) =
     λ n. let f = ticks_of-tail e rest q n in let g = ticks_of-raised_other now e.0 e.1 q (λ s. n (sym s)) in omega arith in

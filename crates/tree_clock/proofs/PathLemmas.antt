@@ -13,6 +13,7 @@ use Rattle.std.proofs.Math.Nat.{div-div-eq-div-mul, pow-succ'}
 use Rattle.tree_clock.specs.Letters.{IsLetter, number_of, length-letters, number_of-letters}
 use Rattle.tree_clock.specs.Path.{letters}
 
+-- the code of a bit is a letter
 IsLetter-bit : (bit : ℕ) → bit < 2 → IsLetter (48 + bit)
 IsLetter-bit zero h = inl refl
 IsLetter-bit (suc zero) h = inr refl
@@ -62,11 +63,13 @@ letter_at xs i len bits h e =
     let g = (same_from_push (letters i (b / 2)) (take i xs) (48 + b % 2) (get_or xs i 0) (f ∙ take_more xs i 0 (omega arith))).1 in
     grind (arith, nat_tests)
 
+-- an equal second part changes nothing
 then-Equal : (o : Ordering) → ordering_then o Equal ≡ o
 then-Equal Less = refl
 then-Equal Equal = refl
 then-Equal Greater = refl
 
+-- three parts, joined either way
 then-assoc : (o p q : Ordering) → ordering_then o (ordering_then p q) ≡ ordering_then (ordering_then o p) q
 then-assoc Less p q = refl
 then-assoc Equal p q = refl
@@ -81,9 +84,11 @@ slice_cmp-push (a ∷ xs) (b ∷ ys) x y e =
     ap (ordering_then (nat_cmp a b)) (slice_cmp-push xs ys x y (omega arith))
     ∙ then-assoc (nat_cmp a b) (slice_cmp nat_cmp xs ys) (nat_cmp x y)
 
+-- numbers are in the order of their halves, and else of their last bits
 nat_cmp-halves : (a b : ℕ) → ordering_then (nat_cmp (a / 2) (b / 2)) (nat_cmp (48 + a % 2) (48 + b % 2)) ≡ nat_cmp a b
 nat_cmp-halves a b = grind (arith, nat_tests)
 
+-- one more on both sides
 nat_cmp-suc : (a b : ℕ) → nat_cmp a b ≡ nat_cmp (suc a) (suc b)
 nat_cmp-suc a b = grind (arith, nat_tests)
 

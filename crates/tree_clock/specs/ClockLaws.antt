@@ -9,14 +9,17 @@ use Rattle.std.proofs.lemmas.Bool.{cases_lt}
 use Rattle.tree_clock.specs.declared.dots.Dot.{Dot}
 use Rattle.tree_clock.specs.Clock.{ticks_of, Covers, IsClock, RaisesTo}
 use Rattle.tree_clock.specs.DotLaws.{path_total, path_exact, path_eq-Decides}
+use Rattle.tree_clock.specs.Entries.{entry_cmp}
 use Rattle.tree_clock.specs.Lists.{IsBelowAll, IsAscending}
 use Rattle.tree_clock.specs.Path.{path_cmp}
 
 -- ---- paths that are the same, and paths that are not
 
+-- a path passes the test against itself
 pub same_test : (p : List ℕ) → pointwise nat_eq p p ≡ true
 same_test p = (path_eq-Decides p p).1 refl
 
+-- paths that are not one fail the test
 pub apart_test : (p q : List ℕ) → ¬ (p ≡ q) → pointwise nat_eq p q ≡ false
 apart_test p q n = by (pointwise nat_eq p q) (λ e. n ((path_eq-Decides p q).0 e))
   where
@@ -24,12 +27,15 @@ apart_test p q n = by (pointwise nat_eq p q) (λ e. n ((path_eq-Decides p q).0 e
     by true f = absurd (f refl)
     by false f = refl
 
+-- a path is not below itself
 pub less_apart : (p q : List ℕ) → path_cmp p q ≡ Less → ¬ (p ≡ q)
 less_apart p q h e = let t : path_cmp p p ≡ Equal = tied_itself path_total p in let u : path_cmp p p ≡ Less = ap (path_cmp p) e ∙ h in cc
 
+-- the order turned round
 pub greater_turned : (p q : List ℕ) → path_cmp p q ≡ Greater → path_cmp q p ≡ Less
 greater_turned p q h = path_total.antisymm q p ∙ ap ordering_reverse h
 
+-- the same from the other side
 pub less_turned : (p q : List ℕ) → path_cmp p q ≡ Less → path_cmp q p ≡ Greater
 less_turned p q h = path_total.antisymm q p ∙ ap ordering_reverse h
 
@@ -44,28 +50,27 @@ by_order {G} p q f g h = by (path_cmp p q) refl
 
 -- ---- look-ups
 
-abbrev order : List ℕ × ℕ → List ℕ × ℕ → Ordering
-order a b = path_cmp a.0 b.0
-
+-- the ticks of the first path
 pub ticks_of-head : (p : List ℕ) (n : ℕ) (es : List (List ℕ × ℕ)) → ticks_of ((p, n) ∷ es) p ≡ n
 ticks_of-head p n es = rw (same_test p)
 
+-- the first entry says nothing of another path
 pub ticks_of-tail : (e : List ℕ × ℕ) (es : List (List ℕ × ℕ)) (q : List ℕ) → ¬ (e.0 ≡ q) → ticks_of (e ∷ es) q ≡ ticks_of es q
 ticks_of-tail e es q n = rw (apart_test e.0 q n)
 
 -- a path below each entry has no ticks
-pub ticks_of-below : (x : List ℕ × ℕ) (es : List (List ℕ × ℕ)) → IsBelowAll (λ (a b : List ℕ × ℕ). path_cmp a.0 b.0) x es → ticks_of es x.0 ≡ 0
+pub ticks_of-below : (x : List ℕ × ℕ) (es : List (List ℕ × ℕ)) → IsBelowAll entry_cmp x es → ticks_of es x.0 ≡ 0
 ticks_of-below x [] h = refl
 ticks_of-below x (e ∷ es) h =
     ticks_of-tail e es x.0 (λ s. less_apart x.0 e.0 h.0 (sym s)) ∙ ticks_of-below x es h.1
 
 -- what is below a head is below all
-pub IsBelowAll-weaker : (x y : List ℕ × ℕ) (es : List (List ℕ × ℕ)) → ((q : List ℕ) → path_cmp x.0 q ≡ Less → path_cmp y.0 q ≡ Less) → IsBelowAll (λ (a b : List ℕ × ℕ). path_cmp a.0 b.0) x es → IsBelowAll (λ (a b : List ℕ × ℕ). path_cmp a.0 b.0) y es
+pub IsBelowAll-weaker : (x y : List ℕ × ℕ) (es : List (List ℕ × ℕ)) → ((q : List ℕ) → path_cmp x.0 q ≡ Less → path_cmp y.0 q ≡ Less) → IsBelowAll entry_cmp x es → IsBelowAll entry_cmp y es
 IsBelowAll-weaker x y [] f h = tt
 IsBelowAll-weaker x y (e ∷ es) f h = (f e.0 h.0, IsBelowAll-weaker x y es f h.1)
 
 -- a path below the head of ascending entries has no ticks
-pub ticks_of-under : (p : List ℕ) (e : List ℕ × ℕ) (es : List (List ℕ × ℕ)) → path_cmp p e.0 ≡ Less → IsAscending (λ (a b : List ℕ × ℕ). path_cmp a.0 b.0) (e ∷ es) → ticks_of (e ∷ es) p ≡ 0
+pub ticks_of-under : (p : List ℕ) (e : List ℕ × ℕ) (es : List (List ℕ × ℕ)) → path_cmp p e.0 ≡ Less → IsAscending entry_cmp (e ∷ es) → ticks_of (e ∷ es) p ≡ 0
 ticks_of-under p e es l h =
     ticks_of-below (p, 0) (e ∷ es) (l, IsBelowAll-weaker e (p, 0) es (λ q m. path_total.trans p e.0 q l m) h.0)
 
@@ -93,6 +98,7 @@ clock_from_ticks (x ∷ xs) (y ∷ ys) c d h =
 
 -- ---- dots
 
+-- what is at most the greater of two is at most one of them
 le_max : (t a b : ℕ) → t ≤ max a b → (t ≤ a) ⊎ (t ≤ b)
 le_max t a b h = ⊎_elim (λ l. inr (omega arith)) (λ l. inl l) (cases_lt a t)
 
@@ -137,3 +143,11 @@ Covers-within xs ys = (
       (λ l. omega arith)
       (cases_lt 0 (ticks_of xs path)),
 )
+
+-- a dot is one of the clock's, or it is not
+pub Covers_or_not : (ticks : List (List ℕ × ℕ)) (dot : Dot) → Covers ticks dot ⊎ (¬ Covers ticks dot)
+Covers_or_not ticks dot =
+    ⊎_elim
+    (λ low. ⊎_elim (λ high. inr (λ c. let w = c.within in omega arith)) (λ high. inl (record { positive = low; within = high })) (cases_lt (ticks_of ticks dot.path) dot.tick))
+    (λ none. inr (λ c. let p = c.positive in omega arith))
+    (cases_lt 0 dot.tick)

@@ -2,8 +2,13 @@
 use Rattle.std.specs.Prelude.{◌≡◌, ℕ, ◌<◌, ◌≤◌, List, [], ◌∷◌, max, length}
 use Rattle.std.specs.List.{HoldsAt, AllWithin}
 use Rattle.std.specs.Ordering.{match_ordering}
+use Rattle.std.specs.declared.cmp.Ordering.{Ordering}
 use Rattle.std.specs.declared.cmp.Ordering.TheVariants.{Less, Greater}
 use Rattle.tree_clock.specs.Path.{path_cmp}
+
+-- entries are ordered by path
+abbrev pub entry_cmp : List ℕ × ℕ → List ℕ × ℕ → Ordering
+entry_cmp a b = path_cmp a.0 b.0
 
 -- the entry at the place is of the path
 pub record IsFound (entries : List (List ℕ × ℕ)) (path : List ℕ) (place : ℕ) : Type 0 where

@@ -1,5 +1,5 @@
 //! Clocks: finite maps from paths to ticks.
-ghost use Rattle.std.specs.Prelude.{◌≡◌, ℕ, ◌+◌, ◌-◌, ◌<◌, ◌≤◌, ◌↔◌, ◌++◌, ◌∷◌, [], List, length, max, IsTrue, IfOk, IfErr, OnOk, OnErr, MatchBool, vec_len, vec_capacity};
+ghost use Rattle.std.specs.Prelude.{◌≡◌, ℕ, ◌+◌, ◌-◌, ◌<◌, ◌≤◌, ◌↔◌, ◌++◌, ◌∷◌, [], List, length, max, IsTrue, IfOk, IfErr, OnOk, OnErr, IsOk, MatchBool, vec_len, vec_capacity};
 ghost use Rattle.tree_clock.specs.Clock.{ticks_of, Covers, IsClock, HasRoom, RaisesTo};
 ghost use Rattle.tree_clock.specs.Entries.{IsFound, IsGap, raised};
 ghost use Rattle.tree_clock.specs.declared.dots.Dot.{Dot};
@@ -76,6 +76,7 @@ impl Clock {
     pub fn reserve(&mut self, path: &Path) -> Result<(), AllocError>
         ensures ticks { self.new.ticks ≡ self.old.ticks }
         ensures ok { OnOk result (HasRoom self.new path.now) }
+        ensures succeeds { HasRoom self.old path.now → IsOk result }
         ensures room { self.old.room ≤ self.new.room }
     {
         if self.ticks(path) == 0 {

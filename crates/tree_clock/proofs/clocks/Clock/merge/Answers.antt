@@ -1,7 +1,8 @@
 use Rattle.std.proofs.Common.{◌≡◌, ℕ, ◌+◌, ◌≤◌, ◌∷◌, List, drop, max, sym, ◌∙◌, ap, subst, arith}
 use Rattle.std.proofs.lemmas.List.{drop_more}
-use Rattle.tree_clock.proofs.ClockLemmas.{order, IsAscending-drop, IsClock-raised, positive_at, merge_step}
+use Rattle.tree_clock.proofs.ClockLemmas.{IsAscending-drop, IsClock-raised, positive_at, merge_step}
 use Rattle.tree_clock.specs.Clock.{ticks_of, IsClock}
+use Rattle.tree_clock.specs.Entries.{entry_cmp}
 use Rattle.tree_clock.specs.Lists.{IsAscending}
 use Rattle.tree_clock.proofs.clocks.Clock.merge.Goals as goal
 
@@ -24,7 +25,7 @@ loop-path-preserved c =
     let clock : IsClock xs = subst IsClock (sym c.deref-path-items.ensures.value) c.other.invariant in
     let positive : 1 ≤ item.1 = subst (λ (e : List ℕ × ℕ). 1 ≤ e.1) (sym c.loop-path-item.is) (positive_at xs i item clock c.loop-path-test.true) in
     let rest : drop i xs ≡ item ∷ drop (i + 1) xs = drop_more xs i item c.loop-path-test.true ∙ ap (λ e. e ∷ drop (i + 1) xs) (sym c.loop-path-item.is) in
-    let ascending : IsAscending order (item ∷ drop (i + 1) xs) = subst (IsAscending order) rest (IsAscending-drop i xs clock.ascending) in
+    let ascending : IsAscending entry_cmp (item ∷ drop (i + 1) xs) = subst (IsAscending entry_cmp) rest (IsAscending-drop i xs clock.ascending) in
     record {
       clock = subst IsClock (sym c.raise_entry.ensures.items) (IsClock-raised now item.0 item.1 positive c.loop-path.invariant.clock);
       room = omega (arith, c.raise_entry.ensures.len, c.raise_entry.ensures.capacity, c.loop-path.invariant.room, c.loop-path-test.true);
