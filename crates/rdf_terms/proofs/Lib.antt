@@ -1,2 +1,5 @@
 pub mod Comparing
 pub mod Tags
+pub mod Appending
+pub mod Cutting
+pub mod Fronts

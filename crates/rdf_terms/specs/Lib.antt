@@ -7,4 +7,8 @@ pub mod Order
 pub mod OrderLaws
 pub mod Compare
 pub mod Faults
+pub mod Kept
 pub mod Grammar
+pub mod Reading
+pub mod ReadingLaws
+pub mod Parts

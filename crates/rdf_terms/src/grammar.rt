@@ -2,8 +2,9 @@
 ghost use Rattle.std.specs.Prelude.{◌≡◌, false, not};
 ghost use Rattle.std.specs.List.{list_all};
 ghost use Rattle.rdf_terms.specs.Domain.{is_domain, is_domain_byte};
-ghost use Rattle.rdf_terms.specs.Grammar.{has_no_backslash, is_blank, is_plain};
+ghost use Rattle.rdf_terms.specs.Grammar.{has_no_backslash, is_blank, is_blanks, is_plain};
 ghost use Rattle.rdf_terms.specs.Iri.{is_letter, is_digit, is_scheme_byte, is_excluded, ends_scheme, has_scheme, is_iri, is_absolute};
+ghost use Rattle.rdf_terms.specs.Reading.{is_tag_byte};
 ghost use Rattle.rdf_terms.specs.Literal.{is_subtags, is_primary, is_language_tag};
 
 /// How many bytes an IRI has at most.
@@ -174,4 +175,18 @@ pub fn is_plain(text: &str) -> bool
         || *byte == b'\\'
         || *byte == b'\n'
         || *byte == b'\r'))
+}
+
+/// Whether a language tag may have this byte.
+pub fn is_tag_byte(byte: u8) -> bool
+    ensures { result ≡ is_tag_byte byte }
+{
+    is_letter(byte) || is_digit(byte) || byte == b'-'
+}
+
+/// Whether a text has blanks alone, or nothing.
+pub fn is_blanks(text: &str) -> bool
+    ensures { result ≡ is_blanks text.now }
+{
+    text.as_bytes().iter().all(|byte| is_blank(*byte))
 }

@@ -1,0 +1,21 @@
+-- The parts of a triple's text as the triple that they stand for.
+use Rattle.std.specs.Prelude.{ℕ, List}
+use Rattle.std.specs.Borrow.{Bor}
+use Rattle.std.specs.Str.{str_to_ascii_lowercase}
+use Rattle.rdf_terms.specs.declared.terms.Term.{Term}
+use Rattle.rdf_terms.specs.declared.terms.Term.TheVariants as terms
+use Rattle.rdf_terms.specs.declared.terms.Triple.{Triple}
+use Rattle.rdf_terms.specs.declared.read.ObjectParts.{ObjectParts}
+use Rattle.rdf_terms.specs.declared.read.ObjectParts.TheVariants as parts
+use Rattle.rdf_terms.specs.declared.read.TripleParts.{TripleParts}
+use Rattle.rdf_terms.specs.Literal.{LiteralValue, Typed, Tagged}
+
+-- the object of its parts
+abbrev pub object_value : ObjectParts → Term
+object_value (parts.Iri iri) = terms.Iri iri.now
+object_value (parts.Typed lexical datatype) = terms.Literal (Typed lexical.now datatype.now)
+object_value (parts.Tagged lexical tag) = terms.Literal (Tagged lexical.now (str_to_ascii_lowercase tag.now))
+
+-- the triple of its parts
+abbrev pub triple_value : TripleParts → Triple
+triple_value p = record { s = p.s.now; p = p.p.now; o = object_value p.o }

@@ -1,0 +1,143 @@
+//! Triples as they are written (N-Triples 1.1, canonical form).
+#![tactic(auto, using(std::proofs::lemmas::Grind::common_steps, crate::proofs::Appending::keeps_same, crate::proofs::Appending::keeps_more, crate::proofs::Appending::keeps_further))]
+
+ghost use Rattle.std.specs.Prelude.{◌≡◌, [], ◌∷◌, ◌++◌, OnOk, OnErr, MatchOption};
+ghost use Rattle.rdf_terms.specs.Compare.{suffix_text};
+ghost use Rattle.rdf_terms.specs.Iri.{iri_text};
+ghost use Rattle.rdf_terms.specs.Kept.{KeepsStart};
+ghost use Rattle.rdf_terms.specs.Spelling.{escaped, escaped_byte, datatype_text, literal_text, term_text, triple_text};
+
+use crate::order::is_string_type;
+use crate::terms::{Iri, Kind, Literal, Term, Triple};
+use std::alloc::AllocError;
+
+/// The byte that stands behind a backslash for a byte that is escaped.
+fn escape_code(byte: u8) -> Option<u8>
+    ensures { MatchOption result (escaped_byte byte ≡ byte ∷ []) (λ code. escaped_byte byte ≡ 92 ∷ code ∷ []) }
+{
+    match byte {
+        b'"' => Some(b'"'),
+        b'\\' => Some(b'\\'),
+        b'\n' => Some(b'n'),
+        b'\r' => Some(b'r'),
+        _ => None,
+    }
+}
+
+/// Appends a piece that needs no escapes, and then an escape.
+fn append_escape(out: &mut Vec<u8>, piece: &[u8], code: u8) -> Result<(), AllocError>
+    ensures ok { OnOk result (out.new.items ≡ out.old.items ++ (piece.now ++ 92 ∷ code ∷ [])) }
+    ensures err { OnErr result (KeepsStart out.old.items out.new.items) }
+{
+    out.extend_from_slice(piece)?;
+    out.extend_from_slice(&[b'\\', code])
+}
+
+/// Appends a lexical form with its escapes: the pieces between them are copied whole.
+fn append_escaped(out: &mut Vec<u8>, lexical: &[u8]) -> Result<(), AllocError>
+    ensures ok { OnOk result (out.new.items ≡ out.old.items ++ escaped lexical.now) }
+    ensures err { OnErr result (KeepsStart out.old.items out.new.items) }
+{
+    let mut start = 0;
+    for (i, byte) in lexical.iter().enumerate() {
+        if let Some(code) = escape_code(*byte) {
+            append_escape(out, &lexical[start..i], code)?;
+            start = i + 1;
+        }
+    }
+    out.extend_from_slice(&lexical[start..])
+}
+
+/// Appends an IRI in its angle brackets.
+fn append_iri(out: &mut Vec<u8>, iri: &Iri) -> Result<(), AllocError>
+    ensures ok { OnOk result (out.new.items ≡ out.old.items ++ iri_text iri.now) }
+    ensures err { OnErr result (KeepsStart out.old.items out.new.items) }
+{
+    out.extend_from_slice(b"<")?;
+    out.extend_from_slice(iri.as_str().as_bytes())?;
+    out.extend_from_slice(b">")
+}
+
+/// Appends an IRI and a space.
+fn append_spaced_iri(out: &mut Vec<u8>, iri: &Iri) -> Result<(), AllocError>
+    ensures ok { OnOk result (out.new.items ≡ out.old.items ++ (iri_text iri.now ++ 32 ∷ [])) }
+    ensures err { OnErr result (KeepsStart out.old.items out.new.items) }
+{
+    append_iri(out, iri)?;
+    out.extend_from_slice(b" ")
+}
+
+/// Appends what is written for a datatype: nothing for xsd:string.
+fn append_datatype(out: &mut Vec<u8>, datatype: &Iri) -> Result<(), AllocError>
+    ensures ok { OnOk result (out.new.items ≡ out.old.items ++ datatype_text datatype.now) }
+    ensures err { OnErr result (KeepsStart out.old.items out.new.items) }
+{
+    if is_string_type(datatype) {
+        return Ok(());
+    }
+    out.extend_from_slice(b"^^")?;
+    append_iri(out, datatype)
+}
+
+/// Appends what is written behind the quotes of a literal.
+fn append_suffix(out: &mut Vec<u8>, kind: &Kind) -> Result<(), AllocError>
+    ensures ok { OnOk result (out.new.items ≡ out.old.items ++ suffix_text kind.now) }
+    ensures err { OnErr result (KeepsStart out.old.items out.new.items) }
+{
+    match kind {
+        Kind::Datatype(datatype) => append_datatype(out, datatype),
+        Kind::Language(tag) => {
+            out.extend_from_slice(b"@")?;
+            out.extend_from_slice(tag.as_str().as_bytes())
+        }
+    }
+}
+
+/// Appends a literal.
+fn append_literal(out: &mut Vec<u8>, literal: &Literal) -> Result<(), AllocError>
+    ensures ok { OnOk result (out.new.items ≡ out.old.items ++ literal_text literal.now) }
+    ensures err { OnErr result (KeepsStart out.old.items out.new.items) }
+{
+    out.extend_from_slice(b"\"")?;
+    append_escaped(out, literal.lexical.as_str().as_bytes())?;
+    out.extend_from_slice(b"\"")?;
+    append_suffix(out, &literal.kind)
+}
+
+/// Appends a term.
+#[tactic(auto, unfolding(crate::specs::Spelling::term_text))]
+fn append_term(out: &mut Vec<u8>, term: &Term) -> Result<(), AllocError>
+    ensures ok { OnOk result (out.new.items ≡ out.old.items ++ term_text term.now) }
+    ensures err { OnErr result (KeepsStart out.old.items out.new.items) }
+{
+    match term {
+        Term::Iri(iri) => append_iri(out, iri),
+        Term::Literal(literal) => append_literal(out, literal),
+    }
+}
+
+/// Appends a triple.
+#[tactic(auto, unfolding(crate::specs::Spelling::triple_text))]
+fn append_triple(out: &mut Vec<u8>, triple: &Triple) -> Result<(), AllocError>
+    ensures ok { OnOk result (out.new.items ≡ out.old.items ++ triple_text triple.now) }
+    ensures err { OnErr result (KeepsStart out.old.items out.new.items) }
+{
+    append_spaced_iri(out, &triple.s)?;
+    append_spaced_iri(out, &triple.p)?;
+    append_term(out, &triple.o)?;
+    out.extend_from_slice(b" .")
+}
+
+/// Appends a triple as it is written in canonical form: one space between its terms and before the dot, and no end of
+/// line. Where memory runs out the buffer is as before.
+pub fn write_triple(out: &mut Vec<u8>, triple: &Triple) -> Result<(), AllocError>
+    ensures ok { OnOk result (out.new.items ≡ out.old.items ++ triple_text triple.now) }
+    ensures err { OnErr result (out.new.items ≡ out.old.items) }
+{
+    let start = out.len();
+    let written = append_triple(out, triple);
+    if written.is_err() {
+        out.truncate(start);
+    }
+    written
+}
