@@ -1,2 +1,4 @@
 pub mod Searching
 pub mod Walking
+pub mod Equality
+pub mod Computing

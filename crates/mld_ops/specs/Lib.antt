@@ -4,6 +4,7 @@ pub mod EntryParts
 pub mod History
 pub mod Meaning
 pub mod Net
+pub mod Deleted
 pub mod AscendingLaws
 pub mod TaggedLaws
 pub mod Effect

@@ -2,9 +2,13 @@
 #![tactic(auto)]
 
 mod entries;
+mod laws;
+mod operations;
 mod pairs;
 mod tagged;
 
 pub use entries::Entry;
+pub use laws::{meaning_of_taken, net_of_one, one_meaning};
+pub use operations::{Operation, meaning};
 pub use pairs::{copy_pairs, has_pair, insert_pair, remove_pair, remove_pairs};
 pub use tagged::Tagged;
