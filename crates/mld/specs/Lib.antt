@@ -1,0 +1,7 @@
+pub mod Words
+pub mod Reading
+pub mod Taking
+pub mod Clones
+pub mod Worlds
+pub mod Ran
+pub mod Stops

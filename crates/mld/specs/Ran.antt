@@ -1,0 +1,117 @@
+-- How a run ends, and what it has written then.
+use Rattle.std.specs.Prelude.{◌≡◌, ◌≢◌, ℕ, ◌≤◌, List, [], ◌∷◌, Option, None, Some, Result, IsErrOf, codes}
+use Rattle.std.specs.Io.KnownBytes.{Appends}
+use Rattle.mld_io.specs.Faults.{Rose}
+use Rattle.mld_io.specs.Lines.{lines_of, first_line, after_line}
+use Rattle.mld_model.specs.World.{World}
+use Rattle.mld_model.specs.Runs.{Stage, Waiting, Running, Acts, Outcome, Finished, BadLine, UnbuiltLine, Verdict}
+use Rattle.mld_model.specs.Sound.{IsSound}
+use Rattle.mld_model.specs.StandsFor.{RunningWorld, StandsFor}
+use Rattle.mld.specs.declared.run.RunFault.{RunFault}
+use Rattle.mld.specs.declared.run.RunFault.TheVariants as faults
+
+-- the status of the program
+abbrev pub status_of : Option RunFault → ℕ
+status_of None = 0
+status_of (Some faults.Usage) = 1
+status_of (Some faults.ReadFault) = 2
+status_of (Some faults.WriteFault) = 3
+status_of (Some (faults.BadLine line)) = 4
+status_of (Some faults.NoMemory) = 5
+status_of (Some (faults.TooLarge line)) = 7
+status_of (Some (faults.Unbuilt line)) = 20
+
+-- the one word is `replay`
+abbrev pub IsReplay : List (List ℕ) → Type 0
+IsReplay words = words ≡ codes "replay" ∷ []
+
+-- there was no line, or the first was taken
+abbrev pub TakesLine : List ℕ → Option (List ℕ) → Option (List ℕ) → Type 0
+TakesLine bytes left None = (bytes ≡ []) × (left ≡ Some [])
+TakesLine bytes left (Some line) = (bytes ≢ []) × (line ≡ first_line bytes) × (left ≡ Some (after_line bytes))
+
+-- what holds where there was a line
+abbrev pub IfSomeLine : (List ℕ → Type 0) → Option (List ℕ) → Type 0
+IfSomeLine P None = Unit {0}
+IfSomeLine P (Some line) = P line
+
+-- the faults of reading and writing: a failure, want of memory, a line that is too large
+abbrev pub IsEdgeFault : RunFault → Type 0
+IsEdgeFault faults.ReadFault = Unit {0}
+IsEdgeFault faults.WriteFault = Unit {0}
+IsEdgeFault faults.NoMemory = Unit {0}
+IsEdgeFault (faults.TooLarge line) = Unit {0}
+IsEdgeFault fault = ⊥
+
+-- the faults of a line: it is bad or unbuilt, or there was want of memory
+abbrev pub IsLineFault : RunFault → Type 0
+IsLineFault (faults.BadLine line) = Unit {0}
+IsLineFault (faults.Unbuilt line) = Unit {0}
+IsLineFault faults.NoMemory = Unit {0}
+IsLineFault fault = ⊥
+
+-- the count of the source's faults never falls, and rose where the fault is one of reading
+pub record HasReadCause {T : Type 0} (before now : ℕ) (result : Result T RunFault) : Type 0 where
+  pub later : before ≤ now
+  pub failed : IsErrOf result faults.ReadFault → Rose before now
+
+-- the count of the sink's faults never falls, and rose where the fault is one of writing
+pub record HasWriteCause {T : Type 0} (before now : ℕ) (result : Result T RunFault) : Type 0 where
+  pub later : before ≤ now
+  pub failed : IsErrOf result faults.WriteFault → Rose before now
+
+-- the source is at its end, and the text of a run over its lines, to a sound world, was written
+pub record Finishes (bytes : List ℕ) (left before after : Option (List ℕ)) : Type 0 where
+  pub text : List ℕ
+  pub world : World
+  pub verdict : Verdict (lines_of bytes) (Finished text world)
+  pub sound : IsSound world
+  pub all : left ≡ Some []
+  pub written : Appends before after text
+
+-- the line of the number is the first bad one, and the text of the lines before it was written
+pub record StopsAtBad (bytes : List ℕ) (number : ℕ) (before after : Option (List ℕ)) : Type 0 where
+  pub text : List ℕ
+  pub stage : Stage
+  pub verdict : Verdict (lines_of bytes) (BadLine number text stage)
+  pub written : Appends before after text
+
+-- the line of the number is the first unbuilt one, and the text of the lines before it was written
+pub record StopsAtUnbuilt (bytes : List ℕ) (number : ℕ) (before after : Option (List ℕ)) : Type 0 where
+  pub text : List ℕ
+  pub stage : Stage
+  pub verdict : Verdict (lines_of bytes) (UnbuiltLine number text stage)
+  pub written : Appends before after text
+
+-- the run ended as the verdict says, or by a fault of reading or writing, want of memory or a line that is too large
+abbrev pub Agrees : Option RunFault → Outcome → Type 0
+Agrees None (Finished text world) = Unit {0}
+Agrees (Some (faults.BadLine line)) (BadLine number text stage) = line ≡ number
+Agrees (Some (faults.Unbuilt line)) (UnbuiltLine number text stage) = line ≡ number
+Agrees (Some faults.ReadFault) outcome = Unit {0}
+Agrees (Some faults.WriteFault) outcome = Unit {0}
+Agrees (Some faults.NoMemory) outcome = Unit {0}
+Agrees (Some (faults.TooLarge line)) outcome = Unit {0}
+Agrees fault outcome = ⊥
+
+-- what a schedule's state stands for: nothing while no domain line has come, and a sound world then
+abbrev pub StageStands : Option RunningWorld → Stage → Type 0
+StageStands None Waiting = Unit {0}
+StageStands (Some running) (Running world) = StandsFor running world × IsSound world
+StageStands running stage = ⊥
+
+-- the steps made so far
+abbrev pub steps_of : Option RunningWorld → ℕ
+steps_of None = 0
+steps_of (Some running) = running.steps
+
+-- there is a stage that the state stands for
+pub record IsStandingStage (running : Option RunningWorld) : Type 0 where
+  pub stage : Stage
+  pub stands : StageStands running stage
+
+-- the line was done: the text is what the model adds, and the new state stands for the next stage
+pub record ActsWell (stage : Stage) (line text : List ℕ) (running : Option RunningWorld) : Type 0 where
+  pub next : Stage
+  pub acts : Acts stage line text next
+  pub stands : StageStands running next

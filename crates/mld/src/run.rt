@@ -1,0 +1,304 @@
+//! The run: all that the program does, over the words, the source and the sink that it is handed.
+ghost use Rattle.std.specs.Prelude.{◌≡◌, ◌↔◌, ◌≤◌, ◌<◌, ◌+◌, ℕ, List, map, IsTrue, IfOk, IfErr, OnOk, IsErrOf};
+ghost use Rattle.std.specs.Io.KnownBytes.{Appends};
+ghost use Rattle.std.specs.String.{string_bytes};
+ghost use Rattle.mld_io.specs.Lines.{lines_of};
+ghost use Rattle.mld_model.specs.World.{World as ModelWorld};
+ghost use Rattle.mld_model.specs.Runs.{Stage, Waiting, Running, Outcome, Verdict, IsBad, IsUnbuilt};
+ghost use Rattle.mld_model.specs.Sound.{IsSound};
+ghost use Rattle.mld_model.specs.StandsFor.{StandsFor};
+ghost use Rattle.mld.specs.Worlds.{IsStanding};
+ghost use Rattle.mld.specs.Ran.{status_of, IsReplay, Finishes, StopsAtBad, StopsAtUnbuilt, Agrees, StageStands, IsStandingStage, ActsWell, steps_of, TakesLine, IfSomeLine, IsEdgeFault, IsLineFault, HasReadCause, HasWriteCause};
+
+use std::alloc::{AllocError, Global};
+use std::thread::Threads;
+
+use mld_io::{LineFault, Lines, Piece, Sink, Source, WriteFault, write_all};
+use thiserror::Error;
+
+use crate::lines::{Line, Opening, read_line, read_opening};
+use crate::replies::push_ready;
+use crate::summaries::Summary;
+use crate::worlds::{Refusal, World};
+
+/// How many bytes a line has at most, without its LF.
+const LINE_LIMIT: usize = 1_048_576;
+
+/// How many bytes the input has at most.
+const INPUT_LIMIT: u64 = 16_777_216;
+
+/// Why a run ended before its input did.
+#[derive(Clone, Copy, Debug, PartialEq, Eq, Error)]
+pub enum RunFault {
+    /// The words are none that the program knows.
+    #[error("mld: usage")]
+    Usage,
+    /// The source failed.
+    #[error("mld: read fault")]
+    ReadFault,
+    /// The sink failed.
+    #[error("mld: write fault")]
+    WriteFault,
+    /// The line of this number is outside the grammar.
+    #[error("mld: line {0}: bad line")]
+    BadLine(u64),
+    /// No memory was found.
+    #[error("mld: no memory")]
+    NoMemory,
+    /// The line of this number is too large.
+    #[error("mld: line {0}: too large")]
+    TooLarge(u64),
+    /// The line of this number isn't built yet.
+    #[error("mld: line {0}: unbuilt")]
+    Unbuilt(u64),
+}
+
+/// How a run ended.
+#[derive(Drop)]
+pub struct Ran {
+    /// The status of the program.
+    pub status: u8,
+    /// Why it isn't 0.
+    pub fault: Option<RunFault>,
+    /// The world that it ended with; not given yet.
+    pub world: Option<Summary>,
+}
+
+/// Does all that the program does: by the word `replay` it reads a schedule from the source and writes the replies.
+///
+/// # Statuses
+/// 0: the source was read to its end. 1: the words are not `replay` alone; nothing is read or written. 2: the source
+/// failed. 3: the sink failed. 4: a line is outside the grammar, or the input ended before a `domain` line. 5: no memory.
+/// 7: a line is too large. 20: a line isn't built yet. Each line is answered before the next is read.
+pub fn run<R: Threads, S: Source, K: Sink>(
+    _rt: &R,
+    alloc: Global,
+    words: &Vec<String>,
+    source: &mut S,
+    sink: &mut K,
+) -> Ran
+    ensures status { result.status ≡ status_of result.fault }
+    ensures usage { (result.fault ≡ Some RunFault.Usage) ↔ (¬ IsReplay (map (λ w. string_bytes w) words.now.items)) }
+    ensures untouched { result.fault ≡ Some RunFault.Usage → (source.new ≡ source.old) × (sink.new ≡ sink.old) }
+
+    // At status 0 the source is read to its end, and what was written is the text of a run of the model over its lines.
+    ensures finished { result.fault ≡ None → (bytes : List ℕ) → S.left source.old ≡ Some bytes
+        → Finishes bytes (S.left source.new) (K.held sink.old) (K.held sink.new) }
+    // At 4 and 20 the line of that number is the first that is bad or unbuilt, and the text is that of the lines before it.
+    ensures bad { (line : ℕ) → result.fault ≡ Some (RunFault.BadLine line) → (bytes : List ℕ) → S.left source.old ≡ Some bytes
+        → StopsAtBad bytes line (K.held sink.old) (K.held sink.new) }
+    ensures unbuilt { (line : ℕ) → result.fault ≡ Some (RunFault.Unbuilt line) → (bytes : List ℕ) → S.left source.old ≡ Some bytes
+        → StopsAtUnbuilt bytes line (K.held sink.old) (K.held sink.new) }
+    // Whatever the verdict on the lines is, the run ends so, unless it ended by 2, 3, 5 or 7.
+    ensures exact { (bytes : List ℕ) → S.left source.old ≡ Some bytes → (outcome : Outcome) → Verdict (lines_of bytes) outcome
+        → IsReplay (map (λ w. string_bytes w) words.now.items) → Agrees result.fault outcome }
+{
+    let fault = if is_replay(words) {
+        replay(alloc, source, sink).err()
+    } else {
+        Some(RunFault::Usage)
+    };
+    Ran {
+        status: status_of(fault),
+        fault,
+        world: None,
+    }
+}
+
+/// The status of the program for the way in which a run ended.
+fn status_of(fault: Option<RunFault>) -> u8
+    ensures { result ≡ status_of fault }
+{
+    match fault {
+        None => 0,
+        Some(RunFault::Usage) => 1,
+        Some(RunFault::ReadFault) => 2,
+        Some(RunFault::WriteFault) => 3,
+        Some(RunFault::BadLine(_)) => 4,
+        Some(RunFault::NoMemory) => 5,
+        Some(RunFault::TooLarge(_)) => 7,
+        Some(RunFault::Unbuilt(_)) => 20,
+    }
+}
+
+/// The one word is `replay`.
+fn is_replay(words: &Vec<String>) -> bool
+    ensures { IsTrue result ↔ IsReplay (map (λ w. string_bytes w) words.now.items) }
+{
+    match words.as_slice() {
+        [word] => word.as_str() == "replay",
+        _ => false,
+    }
+}
+
+/// Replays the schedule of the source.
+fn replay<S: Source, K: Sink>(
+    alloc: Global,
+    source: &mut S,
+    sink: &mut K,
+) -> Result<(), RunFault>
+    ensures usage { ¬ IsErrOf result RunFault.Usage }
+    ensures finished { OnOk result ((bytes : List ℕ) → S.left source.old ≡ Some bytes
+        → Finishes bytes (S.left source.new) (K.held sink.old) (K.held sink.new)) }
+    ensures bad { (line : ℕ) → IsErrOf result (RunFault.BadLine line) → (bytes : List ℕ) → S.left source.old ≡ Some bytes
+        → StopsAtBad bytes line (K.held sink.old) (K.held sink.new) }
+    ensures unbuilt { (line : ℕ) → IsErrOf result (RunFault.Unbuilt line) → (bytes : List ℕ) → S.left source.old ≡ Some bytes
+        → StopsAtUnbuilt bytes line (K.held sink.old) (K.held sink.new) }
+{
+    let mut lines = Lines::new(alloc, LINE_LIMIT, INPUT_LIMIT)?;
+    let mut world = None;
+    let mut number = 1;
+    while let Some(line) = next_line(&mut lines, source, number)? {
+        let reply = act(alloc, &mut world, line.as_slice(), number)?;
+        write_reply(sink, reply.as_slice())?;
+        number += 1;
+    }
+    match world {
+        Some(_) => Ok(()),
+        None => Err(RunFault::BadLine(number)),
+    }
+}
+
+/// Why a line was not done.
+#[derive(Clone, Copy, Debug, PartialEq, Eq)]
+enum Stop {
+    /// It is outside the grammar.
+    Bad,
+    /// It isn't built yet.
+    Unbuilt,
+    /// No memory was found.
+    NoMemory,
+}
+
+/// The next line, where line `number` is due.
+fn next_line<S: Source>(
+    lines: &mut Lines,
+    source: &mut S,
+    number: u64,
+) -> Result<Option<Piece>, RunFault>
+    requires { IsTrue lines.old.good }
+    ensures line { (bytes : List ℕ) → S.left source.old ≡ Some bytes → IfOk result (TakesLine bytes (S.left source.new)) }
+    ensures good { OnOk result (IsTrue lines.new.good) }
+    ensures limit { lines.new.all ≡ lines.old.all }
+    ensures progress { IfOk result (IfSomeLine (λ _. (lines.old.taken < lines.new.taken) × (lines.new.taken ≤ lines.old.all))) }
+    ensures end { IfOk result (λ line. line ≡ None → lines.new.taken ≡ lines.old.taken) }
+    ensures fault { IfErr result IsEdgeFault }
+    ensures cause { HasReadCause (S.faults source.old) (S.faults source.new) result }
+{
+    lines.next(source).map_err(|fault| match fault {
+        LineFault::ReadFault => RunFault::ReadFault,
+        LineFault::TooLarge => RunFault::TooLarge(number),
+        LineFault::NoMemory => RunFault::NoMemory,
+    })
+}
+
+/// Writes the text of a line's reply as one piece.
+fn write_reply<K: Sink>(sink: &mut K, reply: &[u8]) -> Result<(), RunFault>
+    ensures ok { OnOk result (Appends (K.held sink.old) (K.held sink.new) reply.now) }
+    ensures fault { IfErr result IsEdgeFault }
+    ensures cause { HasWriteCause (K.faults sink.old) (K.faults sink.new) result }
+{
+    write_all(sink, reply).map_err(|fault| match fault {
+        WriteFault::Failed => RunFault::WriteFault,
+        WriteFault::NoMemory => RunFault::NoMemory,
+    })
+}
+
+/// Does a line, and gives the text of its reply.
+fn act(alloc: Global, world: &mut Option<World>, line: &[u8], number: u64) -> Result<Vec<u8>, RunFault>
+    requires few { steps_of world.old < 4294967295 }
+    requires standing { IsStandingStage world.old }
+    ensures ok { IfOk result (λ text. (stage : Stage) → StageStands world.old stage → ActsWell stage line.now text.items world.new) }
+    ensures steps { OnOk result (steps_of world.new ≤ steps_of world.old + 1) }
+    ensures bad { (at : ℕ) → IsErrOf result (RunFault.BadLine at) → (at ≡ number) × ((stage : Stage) → StageStands world.old stage → IsBad stage line.now) }
+    ensures unbuilt { (at : ℕ) → IsErrOf result (RunFault.Unbuilt at) → (at ≡ number) × ((stage : Stage) → StageStands world.old stage → IsUnbuilt stage line.now) }
+    ensures other { IfErr result IsLineFault }
+{
+    let done = match world {
+        None => open_world(alloc, line).map(|(opened, text)| {
+            *world = opened;
+            text
+        }),
+        Some(running) => command(alloc, running, line),
+    };
+    done.map_err(|stop| match stop {
+        Stop::Bad => RunFault::BadLine(number),
+        Stop::Unbuilt => RunFault::Unbuilt(number),
+        Stop::NoMemory => RunFault::NoMemory,
+    })
+}
+
+/// Does a line while no domain line has come: the world that it founds, if it does, and the text of its reply.
+fn open_world(alloc: Global, line: &[u8]) -> Result<(Option<World>, Vec<u8>), Stop>
+    ensures ok { IfOk result (λ done. ActsWell Waiting line.now done.1.items done.0) }
+    ensures steps { IfOk result (λ done. steps_of done.0 ≡ 0) }
+    ensures bad { IsErrOf result Stop.Bad → IsBad Waiting line.now }
+    ensures unbuilt { IsErrOf result Stop.Unbuilt → IsUnbuilt Waiting line.now }
+{
+    let mut text = Vec::new(alloc);
+    match read_opening(alloc, line)? {
+        Opening::Nothing => Ok((None, text)),
+        Opening::Unbuilt => Err(Stop::Unbuilt),
+        Opening::Bad => Err(Stop::Bad),
+        Opening::Setup(domain, count) => {
+            let world = World::found(alloc, domain, count)?;
+            push_ready(alloc, &mut text, count)?;
+            Ok((Some(world), text))
+        }
+    }
+}
+
+/// Does a line of a world that runs, and gives the text of its reply.
+fn command(alloc: Global, world: &mut World, line: &[u8]) -> Result<Vec<u8>, Stop>
+    requires few { world.old.steps < 4294967295 }
+    requires standing { IsStanding world.old }
+    ensures ok { IfOk result (λ text. (model : ModelWorld) → StandsFor world.old model → IsSound model → ActsWell (Running model) line.now text.items (Some world.new)) }
+    ensures steps { OnOk result (world.new.steps ≤ world.old.steps + 1) }
+    ensures bad { IsErrOf result Stop.Bad → (model : ModelWorld) → IsBad (Running model) line.now }
+    ensures unbuilt { IsErrOf result Stop.Unbuilt → (model : ModelWorld) → StandsFor world.old model → IsSound model → IsUnbuilt (Running model) line.now }
+{
+    let mut text = Vec::new(alloc);
+    match read_line(alloc, line)? {
+        Line::Nothing => {}
+        Line::Unbuilt => return Err(Stop::Unbuilt),
+        Line::Bad => return Err(Stop::Bad),
+        Line::Command(command) => world.step(alloc, command, &mut text)?,
+    }
+    Ok(text)
+}
+
+impl From<AllocError> for Stop {
+    ghost use Rattle.std.specs.Prelude.{◌≡◌};
+    ghost use Rattle.mld.specs.declared.run.Stop.TheVariants.{NoMemory};
+
+    ghost from_gives = { λ _ e. e ≡ NoMemory };
+
+    fn from(_error: AllocError) -> Stop {
+        Stop::NoMemory
+    }
+}
+
+impl From<Refusal> for Stop {
+    ghost use Rattle.std.specs.Prelude.{◌≡◌};
+    ghost use Rattle.mld.specs.Stops.{stop_of};
+
+    ghost from_gives = { λ r e. e ≡ stop_of r };
+
+    fn from(refusal: Refusal) -> Stop {
+        match refusal {
+            Refusal::Unbuilt => Stop::Unbuilt,
+            Refusal::NoMemory => Stop::NoMemory,
+        }
+    }
+}
+
+impl From<AllocError> for RunFault {
+    ghost use Rattle.std.specs.Prelude.{◌≡◌};
+    ghost use Rattle.mld.specs.declared.run.RunFault.TheVariants.{NoMemory};
+
+    ghost from_gives = { λ _ e. e ≡ NoMemory };
+
+    fn from(_error: AllocError) -> RunFault {
+        RunFault::NoMemory
+    }
+}
