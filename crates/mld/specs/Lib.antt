@@ -4,4 +4,5 @@ pub mod Taking
 pub mod Clones
 pub mod Worlds
 pub mod Ran
+pub mod UnderWay
 pub mod Stops

@@ -147,15 +147,15 @@ fn replay<S: Source, K: Sink>(
 {
     let mut lines = Lines::new(alloc, LINE_LIMIT, INPUT_LIMIT)?;
     let mut world = None;
-    let mut number = 1;
-    while let Some(line) = next_line(&mut lines, source, number)? {
-        let reply = act(alloc, &mut world, line.as_slice(), number)?;
+    let mut done = 0;
+    while let Some(line) = next_line(&mut lines, source, done + 1)? {
+        done += 1;
+        let reply = act(alloc, &mut world, line.as_slice(), done)?;
         write_reply(sink, reply.as_slice())?;
-        number += 1;
     }
     match world {
         Some(_) => Ok(()),
-        None => Err(RunFault::BadLine(number)),
+        None => Err(RunFault::BadLine(done + 1)),
     }
 }
 

@@ -1,0 +1,25 @@
+-- A replay that is under way: the lines done so far, what they wrote, and the model that the state stands for.
+use Rattle.std.specs.Prelude.{◌≡◌, ℕ, ◌≤◌, List, [], ◌∷◌, ◌++◌, Option, None, Some, length}
+use Rattle.std.specs.Io.KnownBytes.{Appends}
+use Rattle.mld_io.specs.Lines.{lines_of}
+use Rattle.mld_model.specs.Runs.{Stage, Waiting, Runs}
+use Rattle.mld_model.specs.StandsFor.{RunningWorld}
+use Rattle.mld.specs.Ran.{StageStands, steps_of}
+
+-- the bytes that were given are the lines done and what is left
+pub record IsLeft (bytes : List ℕ) (left : Option (List ℕ)) (lines : List (List ℕ)) : Type 0 where
+  pub rest : List ℕ
+  pub is : left ≡ Some rest
+  pub whole : lines_of bytes ≡ lines ++ lines_of rest
+
+-- so many lines are done: they are a run of the model that wrote this text, and the state stands for where it led
+pub record IsUnderWay (given left before now : Option (List ℕ)) (world : Option RunningWorld) (done : ℕ) : Type 0 where
+  pub lines : List (List ℕ)
+  pub text : List ℕ
+  pub stage : Stage
+  pub counted : done ≡ length lines
+  pub runs : Runs Waiting lines text stage
+  pub stands : StageStands world stage
+  pub steps : steps_of world ≤ done
+  pub left_of : (bytes : List ℕ) → given ≡ Some bytes → IsLeft bytes left lines
+  pub written : Appends before now text
