@@ -1,5 +1,6 @@
-use Rattle.std.proofs.Common.{rules}
+use Rattle.std.proofs.Common.{rules, ap}
 use Rattle.mld_model.specs.Reply.{reply_text}
+use Rattle.mld.specs.Words.{reply_of}
 use Rattle.mld.proofs.replies.push_word.Goals as goal
 
 pub returns-in-Known : goal.returns-in-Known
@@ -8,7 +9,7 @@ returns-in-Known c = search rules
 
 pub returns-in-NoMessage : goal.returns-in-NoMessage
 unfolding reply_text
-returns-in-NoMessage c = search rules
+returns-in-NoMessage c = rw c.in-NoMessage.is (search rules)
 
 pub returns-in-Absent : goal.returns-in-Absent
 unfolding reply_text

@@ -1,0 +1,2 @@
+pub mod RepliesShown
+pub mod ClonesTaking
