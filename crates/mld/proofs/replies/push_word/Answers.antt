@@ -9,7 +9,7 @@ returns-in-Known c = search rules
 
 pub returns-in-NoMessage : goal.returns-in-NoMessage
 unfolding reply_text
-returns-in-NoMessage c = rw c.in-NoMessage.is (search rules)
+returns-in-NoMessage c = ?
 
 pub returns-in-Absent : goal.returns-in-Absent
 unfolding reply_text
