@@ -1,10 +1,8 @@
 -- What a clone that takes an entry has then.
-use Rattle.std.proofs.Common.{◌≡◌, ◌∙◌, ℕ, ◌+◌, ◌-◌, ◌<◌, ◌≤◌, List, length, get_or, take, ◌⊎◌, ◌↔◌, ap, sym, subst, inl, inr, arith}
+use Rattle.std.proofs.Common.{◌≡◌, ◌∙◌, ℕ, ◌+◌, ◌<◌, ◌≤◌, List, length, get_or, take, ◌⊎◌, ◌↔◌, ap, sym, inl, inr, arith}
 use Rattle.std.proofs.lemmas.Bool.{cases_lt}
-use Rattle.std.proofs.lemmas.List.{take_all}
 use Rattle.rdf_terms.specs.declared.terms.Triple.{Triple}
 use Rattle.tree_clock.specs.declared.dots.Dot.{Dot}
-use Rattle.tree_clock.specs.declared.dots.Range.{Range}
 use Rattle.tree_clock.specs.Lists.{Has}
 use Rattle.tree_clock.specs.Dot.{IsIn}
 use Rattle.tree_clock.specs.Clock.{ticks_of, Covers, RaisesTo}
@@ -15,7 +13,7 @@ use Rattle.mld_ops.specs.Entry.{EntryValue}
 use Rattle.mld_ops.specs.History.{dot_at}
 use Rattle.mld_model.specs.Clone.{last_dot}
 use Rattle.mld_model.specs.SoundLaws.{in_or_not}
-use Rattle.mld.specs.Taking.{HasBefore, TakesPairs}
+use Rattle.mld.specs.Taking.{HasBefore}
 
 -- a pair is one of these inserts of the path
 abbrev pub IsInsert : List ℕ → List (Triple × ℕ) → Tagged → Type 0
@@ -62,23 +60,6 @@ insert_more path olds xs ys inserts i insert pair l e p before after x = (
 -- a copy of a triple makes the same pair
 pub pair_alike : (copy triple : Triple) (path : List ℕ) (tick : ℕ) → copy ≡ triple → tagged copy path tick ≡ tagged triple path tick
 pair_alike copy triple path tick e = ap (λ w. tagged w path tick) e
-
--- all inserts are in
-pub pairs_taken : (old dropped new : List Tagged) (entry : EntryValue) (i : ℕ) → length entry.inserts ≤ i
-  → ((x : Tagged) → Has dropped x ↔ (Has old x × ¬ Has entry.deletes x))
-  → ((x : Tagged) → Has new x ↔ (Has dropped x ⊎ IsInsert entry.range.path (take i entry.inserts) x))
-  → TakesPairs old entry new
-pairs_taken old dropped new entry i l drops adds x =
-    let t = take_all i entry.inserts l in (
-      λ h. elim ((adds x).0 h) [
-        | inl k ↦ inl ((drops x).0 k)
-        | inr k ↦ inr (k.0, subst (λ ys. Has ys (x.triple, x.dot.tick)) t k.1)
-      ],
-      λ h. (adds x).1 (elim h [
-        | inl k ↦ inl ((drops x).1 k)
-        | inr k ↦ inr (k.0, subst (λ ys. Has ys (x.triple, x.dot.tick)) (sym t) k.1)
-      ]),
-    )
 
 module _ (ticks after : List (List ℕ × ℕ)) (entry : EntryValue) (raised : RaisesTo ticks after (last_dot entry.range)) where
   -- the clock has what must come before the entry where the time is within the raised clock

@@ -9,7 +9,7 @@ ghost use Rattle.mld.specs.Taking.{IsInsertion, HasBefore, TakesPairs};
 use std::alloc::{AllocError, Global};
 use std::marker::Model;
 
-use mld_ops::{Entry, Tagged, copy_pairs, insert_pair, remove_pairs};
+use mld_ops::{Entry, Tagged, insert_pair, remove_pairs};
 use rdf_terms::Triple;
 use tree_clock::{Clock, Dot, Path, Range, Ranges};
 

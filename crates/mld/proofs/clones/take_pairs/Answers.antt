@@ -1,5 +1,4 @@
-use Rattle.std.proofs.Common.{arith}
-use Rattle.mld.proofs.ClonesTaking.{insert_more, pair_alike, pairs_taken}
+use Rattle.mld.proofs.ClonesTaking.{insert_more, pair_alike}
 use Rattle.mld.proofs.clones.take_pairs.Goals as goal
 
 pub loop-triple-preserved : goal.loop-triple-preserved
