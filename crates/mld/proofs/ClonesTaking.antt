@@ -25,10 +25,10 @@ tagged triple path tick = record { triple = triple; dot = dot_at path tick }
 
 -- one more insert
 pub insert_more : (path : List ℕ) (olds xs ys : List Tagged) (inserts : List (Triple × ℕ)) (i : ℕ) (insert : Triple × ℕ) (pair : Tagged)
-  → i < length inserts → insert ≡ get_or inserts i insert → pair ≡ record { triple = insert.0; dot = dot_at path insert.1 }
-  → ((x : Tagged) → Has xs x ↔ (Has olds x ⊎ IsInsert path (take i inserts) x))
-  → ((x : Tagged) → Has ys x ↔ (Has xs x ⊎ (x ≡ pair)))
-  → (x : Tagged) → Has ys x ↔ (Has olds x ⊎ IsInsert path (take (i + 1) inserts) x)
+    → i < length inserts → insert ≡ get_or inserts i insert → pair ≡ record { triple = insert.0; dot = dot_at path insert.1 }
+    → ((x : Tagged) → Has xs x ↔ (Has olds x ⊎ IsInsert path (take i inserts) x))
+    → ((x : Tagged) → Has ys x ↔ (Has xs x ⊎ (x ≡ pair)))
+    → (x : Tagged) → Has ys x ↔ (Has olds x ⊎ IsInsert path (take (i + 1) inserts) x)
 insert_more path olds xs ys inserts i insert pair l e p before after x = (
   λ h. elim ((after x).0 h) [
     | inl k ↦ elim ((before x).0 k) [
@@ -65,15 +65,15 @@ module _ (ticks after : List (List ℕ × ℕ)) (entry : EntryValue) (raised : R
   -- the clock has what must come before the entry where the time is within the raised clock
   pub before_of_within : entry.range.first ≤ ticks_of ticks entry.range.path + 1 → ((dot : Dot) → Covers entry.time dot → Covers after dot) → HasBefore ticks entry
   before_of_within first within = record {
-      before = first;
-      time = λ dot covered outside. elim ((Covers-raised ticks after (last_dot entry.range) dot raised).0 (within dot covered)) [
-        | inl had ↦ had
-        | inr at ↦ elim (cases_lt dot.tick entry.range.first) [
-          | inl low ↦ record { positive = at.1; within = omega (arith, low, first, ap (λ p. ticks_of ticks p) at.0) }
-          | inr from ↦ absurd (outside (record { path = at.0; above = from; below = at.2 }))
-        ]
-      ];
-    }
+    before = first;
+    time = λ dot covered outside. elim ((Covers-raised ticks after (last_dot entry.range) dot raised).0 (within dot covered)) [
+      | inl had ↦ had
+      | inr at ↦ elim (cases_lt dot.tick entry.range.first) [
+        | inl low ↦ record { positive = at.1; within = omega (arith, low, first, ap (λ p. ticks_of ticks p) at.0) }
+        | inr from ↦ absurd (outside (record { path = at.0; above = from; below = at.2 }))
+      ]
+    ];
+  }
 
   -- and the other way round
   pub within_of_before : 1 ≤ entry.range.first → HasBefore ticks entry → (dot : Dot) → Covers entry.time dot → Covers after dot

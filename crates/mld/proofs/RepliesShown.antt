@@ -8,8 +8,8 @@ use Rattle.mld_model.specs.Reply.{reply_text, pair_line, Shows}
 
 -- a head and a line for each pair, in two steps
 pub pairs_shown : (old mid out head : List ℕ) (pairs : List Tagged) (i : ℕ) → length pairs ≤ i
-  → mid ≡ old ++ head → head ≡ codes "has " ++ (decimal (length pairs) ++ 10 ∷ []) → out ≡ mid ++ flat_map pair_line (take i pairs)
-  → out ≡ old ++ reply_text (Shows pairs)
+    → mid ≡ old ++ head → head ≡ codes "has " ++ (decimal (length pairs) ++ 10 ∷ []) → out ≡ mid ++ flat_map pair_line (take i pairs)
+    → out ≡ old ++ reply_text (Shows pairs)
 unfolding reply_text
 pairs_shown old mid out head pairs i l m h o =
     let first : List ℕ = codes "has " ++ (decimal (length pairs) ++ 10 ∷ []) in

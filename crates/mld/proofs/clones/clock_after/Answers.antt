@@ -16,7 +16,7 @@ returns c =
     let at_read : RaisesTo ticks after (last_dot c.range-range.result) = subst (λ ts. RaisesTo ts after (last_dot c.range-range.result)) same c.raise.ensures.raised in
     let raised : RaisesTo ticks after (last_dot entry.range) = subst (λ (range : Range). RaisesTo ticks after (last_dot range)) c.range-range.ensures.value at_read in
     let first : entry.range.first ≤ ticks_of ticks entry.range.path + 1 =
-      subst (λ (range : Range). range.first ≤ ticks_of ticks range.path + 1) c.range-range.ensures.value (omega (arith, c.if-range-ticks.false, c.ticks.ensures.value)) in
+    subst (λ (range : Range). range.first ≤ ticks_of ticks range.path + 1) c.range-range.ensures.value (omega (arith, c.if-range-ticks.false, c.ticks.ensures.value)) in
     elim c.if-leq.branch [
       | then-leq w ↦ rw w.result-is (
         before_of_within ticks after entry raised first (λ dot covered. c.leq.ensures.dots.0 w.if-leq.true dot (subst (λ ts. Covers ts dot) (sym c.time.ensures) covered)),
