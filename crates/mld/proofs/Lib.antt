@@ -1,1 +1,4 @@
 pub mod RunLemmas
+pub mod WorldLemmas
+pub mod RepliesShown
+pub mod ClonesTaking

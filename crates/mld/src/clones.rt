@@ -6,11 +6,10 @@ ghost use Rattle.mld_ops.specs.Tagged.{tagged_cmp};
 ghost use Rattle.mld_model.specs.Clone.{last_dot};
 ghost use Rattle.mld.specs.Taking.{IsInsertion, HasBefore, TakesPairs};
 
+use mld_ops::{Entry, Tagged, insert_pair, remove_pairs};
+use rdf_terms::Triple;
 use std::alloc::{AllocError, Global};
 use std::marker::Model;
-
-use mld_ops::{Entry, Tagged, copy_pairs, insert_pair, remove_pairs};
-use rdf_terms::Triple;
 use tree_clock::{Clock, Dot, Path, Range, Ranges};
 
 /// A live clone.
@@ -119,12 +118,7 @@ impl LiveClone {
 }
 
 /// The entry of the operation at a dot that inserts a triple, where all of the clock's dots are its causes.
-fn insertion(
-    alloc: Global,
-    clock: &Clock,
-    dot: &Dot,
-    triple: &Triple,
-) -> Result<Entry, AllocError>
+fn insertion(alloc: Global, clock: &Clock, dot: &Dot, triple: &Triple) -> Result<Entry, AllocError>
     requires { ticks_of clock.now.ticks dot.now.path < dot.now.tick }
     ensures { IfOk result (λ entry. IsInsertion clock.now.ticks dot.now triple.now entry) }
 {
@@ -156,7 +150,11 @@ fn clock_after(alloc: Global, clock: &Clock, entry: &Entry) -> Result<Option<Clo
         path: range.path,
         tick: range.last,
     });
-    Ok(if entry.time().leq(&after) { Some(after) } else { None })
+    Ok(if entry.time().leq(&after) {
+        Some(after)
+    } else {
+        None
+    })
 }
 
 /// Drops the pairs that an entry deletes, and adds those that it inserts. After an error a part of it was done.

@@ -3,10 +3,9 @@ ghost use Rattle.std.specs.Prelude.{◌≡◌, ◌<◌, ◌^◌, ◌++◌, ◌�
 ghost use Rattle.mld_model.specs.Reply.{reply_text, pair_line, Ready, Did, Took, Shows};
 ghost use Rattle.mld.specs.Words.{reply_of};
 
-use std::alloc::{AllocError, Global};
-
 use mld_ops::Tagged;
 use rdf_terms::write_triple;
+use std::alloc::{AllocError, Global};
 use tree_clock::{Dot, Range};
 
 /// The replies that are the same words each time.
@@ -73,11 +72,7 @@ pub fn push_took(alloc: Global, out: &mut Vec<u8>, range: &Range) -> Result<(), 
 }
 
 /// `has K`, then a line of dot and triple for each pair.
-pub fn push_pairs(
-    alloc: Global,
-    out: &mut Vec<u8>,
-    pairs: &[Tagged],
-) -> Result<(), AllocError>
+pub fn push_pairs(alloc: Global, out: &mut Vec<u8>, pairs: &[Tagged]) -> Result<(), AllocError>
     ensures { OnOk result (out.new.items ≡ out.old.items ++ reply_text (Shows pairs.now)) }
 {
     let head = format!(in alloc; "has {}\n", pairs.len())?;
