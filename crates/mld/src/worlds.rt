@@ -29,14 +29,14 @@ pub struct World {
 }
 
 impl Model for World {
-    ghost use Rattle.std.specs.Prelude.{◌≡◌, length};
+    ghost use Rattle.std.specs.Prelude.{◌≡◌, vec_len};
     ghost use Rattle.mld_model.specs.StandsFor.{RunningWorld};
 
     ghost Value = { RunningWorld };
 
     ghost view = { λ w. record { domain = w.domain; clones = w.clones.items; messages = w.messages.items; steps = w.steps } };
 
-    ghost invariant = { λ w. length w.clones.items ≡ 32 };
+    ghost invariant = { λ w. vec_len w.clones ≡ 32 };
 }
 
 /// Why a step was not made.
@@ -96,24 +96,24 @@ impl World {
         self.steps += 1;
         match command {
             Command::Add(number, triple) => {
-                add_to(alloc, &mut self.clones, &mut self.messages, number, triple, out)?
+                let messages = &mut self.messages;
+                Ok(add_to(alloc, &mut self.clones, messages, number, triple, out)?)
             }
             Command::Deliver(message, number) => {
                 let messages = self.messages.as_slice();
-                deliver_to(alloc, &mut self.clones, messages, message, number, out)?
+                deliver_to(alloc, &mut self.clones, messages, message, number, out)
             }
-            Command::Show(number) => show(alloc, self.clones.as_slice(), number, out)?,
+            Command::Show(number) => Ok(show(alloc, self.clones.as_slice(), number, out)?),
             Command::Compare(number, other) => {
-                compare(self.clones.as_slice(), number, other, out)?
+                Ok(compare(self.clones.as_slice(), number, other, out)?)
             }
         }
-        Ok(())
     }
 }
 
 /// The clones of the founded world.
 fn founded_clones(alloc: Global, count: u8) -> Result<Vec<Option<LiveClone>>, AllocError>
-    requires { 1 ≤ count }
+    requires { count ≤ 32 }
     ensures { IfOk result (λ clones. clones.items ≡ map (founded_live count) (range_with_len 0 32)) }
 {
     let mut clones = Vec::new(alloc);
@@ -125,8 +125,7 @@ fn founded_clones(alloc: Global, count: u8) -> Result<Vec<Option<LiveClone>>, Al
 
 /// A clone of the founded world, where it has one of that number.
 fn founded_clone(alloc: Global, count: u8, number: u8) -> Option<LiveClone>
-    requires some { 1 ≤ count }
-    requires most { number < 32 }
+    requires { count ≤ 32 }
     ensures { result ≡ founded_live count number }
 {
     if number < count {
@@ -139,7 +138,6 @@ fn founded_clone(alloc: Global, count: u8, number: u8) -> Option<LiveClone>
 /// The leaf of a clone of the founded world.
 fn founded_path(count: u8, number: u8) -> Path
     requires some { number < count }
-    requires most { number < 32 }
     requires room { count ≤ 32 }
     ensures { result ≡ founded_path count number }
 {
@@ -173,7 +171,8 @@ fn add_to(
 ) -> Result<(), AllocError>
     requires number { number < vec_len clones.old }
     requires ticks { HasNextTick clones.old.items number }
-    ensures { OnOk result (AddsTo clones.old.items messages.old.items number triple clones.new.items messages.new.items out.old.items out.new.items) }
+    ensures count { vec_len clones.new ≡ vec_len clones.old }
+    ensures ok { OnOk result (AddsTo clones.old.items messages.old.items number triple clones.new.items messages.new.items out.old.items out.new.items) }
 {
     match add_at(alloc, clones, number, triple)? {
         None => push_word(out, Word::Absent),
@@ -199,7 +198,8 @@ fn add_at(
 ) -> Result<Option<Entry>, AllocError>
     requires number { number < vec_len clones.old }
     requires ticks { HasNextTick clones.old.items number }
-    ensures { IfOk result (λ made. MatchOption made (IsMissing clones.old.items clones.new.items number) (AddsAt clones.old.items clones.new.items number triple)) }
+    ensures count { vec_len clones.new ≡ vec_len clones.old }
+    ensures ok { IfOk result (λ made. MatchOption made (IsMissing clones.old.items clones.new.items number) (AddsAt clones.old.items clones.new.items number triple)) }
 {
     match &mut clones[usize::from(number)] {
         None => Ok(None),
@@ -225,6 +225,7 @@ fn deliver_to(
     out: &mut Vec<u8>,
 ) -> Result<(), Refusal>
     requires number { number < vec_len clones.old }
+    ensures count { vec_len clones.new ≡ vec_len clones.old }
     ensures done { OnOk result (DeliversTo clones.old.items messages.now message number clones.new.items out.old.items out.new.items) }
     ensures waits { IsErrOf result Refusal.Unbuilt → WaitsAt clones.old.items messages.now message number }
 {
@@ -248,7 +249,8 @@ fn receive_at(
     entry: &Entry,
 ) -> Result<Option<Got>, AllocError>
     requires { number < vec_len clones.old }
-    ensures { IfOk result (λ got. MatchOption got (IsMissing clones.old.items clones.new.items number) (ReceivesAt clones.old.items clones.new.items number entry.now)) }
+    ensures count { vec_len clones.new ≡ vec_len clones.old }
+    ensures ok { IfOk result (λ got. MatchOption got (IsMissing clones.old.items clones.new.items number) (ReceivesAt clones.old.items clones.new.items number entry.now)) }
 {
     match &mut clones[usize::from(number)] {
         None => Ok(None),

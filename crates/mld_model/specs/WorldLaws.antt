@@ -82,7 +82,7 @@ pub sound_at : (world : World) → IsSound world → (number : ℕ) (stored : St
 sound_at world sound number stored held live = let K : Clone → Type 0 = λ c. Keeps c stored in sound.clones number stored (subst K (sym live) refl)
 
 -- the next tick of a clone is at most the number of the step that makes it
-next_tick_within : (running : RunningWorld) (world : World) → StandsFor running world → IsSound world → (number : ℕ) (live : RunningLive)
+pub next_tick_within : (running : RunningWorld) (world : World) → StandsFor running world → IsSound world → (number : ℕ) (live : RunningLive)
   → LiveAt world.history live (clone_at world number) → (next_dot live).tick ≤ running.steps + 1
 next_tick_within running world stands sound number live at = elim (cases_lt 0 (ticks_of live.ticks live.path)) [
     inl some ↦
