@@ -4,7 +4,7 @@ use Rattle.std.specs.List.{list_any, list_all}
 use Rattle.std.specs.Str.{IsUtf8}
 use Rattle.std.specs.Cmp.Lexicographic.{pointwise}
 use Rattle.std.proofs.lemmas.Bool.{eqb-true, ne_eqb, eq-eqb, false≢true}
-use Rattle.std.proofs.lemmas.List.{take_all, length-drop}
+use Rattle.std.proofs.lemmas.List.{take_all, length-drop, nil_from_length}
 use Rattle.std.specs.Bool.{one_answer}
 use Rattle.std.proofs.lemmas.Slice.Eq.{bytes_eq-Decides}
 use Rattle.std.proofs.lemmas.List.Sums.{take_while-cons}
@@ -25,16 +25,17 @@ front_lacks_space [] (suc place) h below = tt
 front_lacks_space (byte ∷ line) (suc place) h below = (h 0 (omega arith), front_lacks_space line place (λ k less. h (suc k) (omega arith)) (omega arith))
 
 -- a line is what stands before a space, the space, and what stands behind it
-pub split_there : (line : List ℕ) (place : ℕ) → place < length line → get_or line place 0 ≡ 32 → line ≡ take place line ++ 32 ∷ drop (place + 1) line
+split_there : (line : List ℕ) (place : ℕ) → place < length line → get_or line place 0 ≡ 32 → line ≡ take place line ++ 32 ∷ drop (suc place) line
 split_there [] place below e = absurd (omega arith)
 split_there (byte ∷ line) zero below e = cc
-split_there (byte ∷ line) (suc place) below e = ap (λ rest. byte ∷ rest) (split_there line place (omega arith) e)
+split_there (byte ∷ line) (suc place) below e = ap (λ (rest : List ℕ). byte ∷ rest) (split_there line place (omega arith) e)
 
 -- the same with the rest as the code cuts it
 pub split_cut : (line : List ℕ) (place : ℕ) → place < length line → get_or line place 0 ≡ 32 → line ≡ take place line ++ 32 ∷ take (length line - (place + 1)) (drop (place + 1) line)
 split_cut line place below e =
     let whole : take (length line - (place + 1)) (drop (place + 1) line) ≡ drop (place + 1) line = take_all (length line - (place + 1)) (drop (place + 1) line) (omega (arith, length-drop (place + 1) line)) in
-    split_there line place below e ∙ ap (λ rest. take place line ++ 32 ∷ rest) (sym whole)
+    let next : drop (place + 1) line ≡ drop (suc place) line = ap (λ (n : ℕ). drop n line) (omega arith) in
+    split_there line place below e ∙ ap (λ (rest : List ℕ). take place line ++ 32 ∷ rest) (sym (whole ∙ next))
 
 -- a text that lacks spaces has none
 pub has_space : (line front rest : List ℕ) → Lacks 32 line → line ≡ front ++ 32 ∷ rest → ⊥
@@ -55,15 +56,16 @@ word_before_space line word rest e h = subst (λ (l : List ℕ). word ≡ first_
 
 -- ---- lines that say nothing
 
-pub nothing_empty : (line : List ℕ) → line ≡ [] → IsNothing line
-nothing_empty line e = subst (λ (l : List ℕ). IsNothing l) (sym e) empty
+pub nothing_empty : (line : List ℕ) → length line ≡ 0 → IsNothing line
+nothing_empty line e = subst (λ (l : List ℕ). IsNothing l) (sym (nil_from_length line e)) empty
 
-pub nothing_comment : (line : List ℕ) → IsUtf8 line → (rest : List ℕ) → line ≡ 35 ∷ rest → IsNothing line
-nothing_comment line text rest e = subst (λ (l : List ℕ). IsNothing l) (sym e) (comment rest (subst (λ (l : List ℕ). IsUtf8 l) e text))
+pub nothing_comment : (line : List ℕ) → 0 < length line → get_or line 0 0 ≡ 35 → IsUtf8 line → IsNothing line
+nothing_comment [] below e text = absurd (omega arith)
+nothing_comment (byte ∷ line) below e text = subst (λ (l : List ℕ). IsNothing l) (sym (ap (λ (b : ℕ). b ∷ line) e)) (comment line (subst (λ (b : ℕ). IsUtf8 (b ∷ line)) e text))
 
-pub nothing_text : (line : List ℕ) → IsNothing line → 0 < length line → (IsUtf8 line) × (get_or line 0 0 ≡ 35)
-nothing_text [] h below = absurd (omega arith)
-nothing_text (byte ∷ line) (comment rest text) below = (text, refl)
+pub nothing_text : (line : List ℕ) → IsNothing line → 0 < length line → (get_or line 0 0 ≡ 35) × IsUtf8 line
+nothing_text _ empty below = absurd (omega arith)
+nothing_text _ (comment rest text) below = (refl, text)
 
 -- ---- lines that aren't built yet
 

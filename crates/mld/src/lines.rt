@@ -76,11 +76,10 @@ pub fn read_line(alloc: Global, line: &[u8]) -> Result<Line, AllocError>
 fn is_nothing(line: &[u8]) -> bool
     ensures { IsTrue result ↔ IsNothing line.now }
 {
-    match line {
-        [] => true,
-        [b'#', ..] => str::from_utf8(line).is_ok(),
-        _ => false,
+    if line.is_empty() {
+        return true;
     }
+    line[0] == b'#' && str::from_utf8(line).is_ok()
 }
 
 /// The first words of lines that aren't built yet.
@@ -188,7 +187,7 @@ fn read_count(alloc: Global, text: &[u8]) -> Result<Option<u8>, AllocError>
 
 /// A number below 2^64 as `decimal` writes it: no sign, no leading zero.
 fn read_number(alloc: Global, text: &[u8]) -> Result<Option<u64>, AllocError>
-    ensures { IfOk result (λ found. MatchOption found ((number : ℕ) → number < 2 ^ 64 → text.now ≢ decimal number) (λ number. text.now ≡ decimal number)) }
+    ensures { IfOk result (λ found. MatchOption found ((number : ℕ) → number < 2 ^ 64 → text.now ≢ decimal number) (λ number. (number < 2 ^ 64) × (text.now ≡ decimal number))) }
 {
     let Ok(text) = str::from_utf8(text) else {
         return Ok(None);
@@ -263,8 +262,9 @@ fn read_text(alloc: Global, text: &[u8]) -> Result<Option<Triple>, AllocError>
     };
     match read_triple(alloc, text) {
         Ok(triple) => Ok(Some(triple)),
+        Err(TripleFault::NotTriple { .. }) => Ok(None),
+        Err(TripleFault::TooLong) => Ok(None),
         Err(TripleFault::NoMemory) => Err(AllocError),
-        Err(_) => Ok(None),
     }
 }
 
