@@ -6,6 +6,9 @@ use Rattle.std.specs.Cmp.Lexicographic.{pointwise}
 use Rattle.std.proofs.lemmas.Bool.{eqb-true, ne_eqb, eq-eqb, false≢true}
 use Rattle.std.proofs.lemmas.List.{take_all, length-drop, nil_from_length}
 use Rattle.std.specs.Bool.{one_answer}
+use Rattle.std.specs.Result.{MatchResult, is_ok}
+use Rattle.std.specs.declared.result.Result.{Result}
+use Rattle.std.specs.declared.result.Result.TheVariants.{Ok, Err}
 use Rattle.std.proofs.lemmas.Slice.Eq.{bytes_eq-Decides}
 use Rattle.std.proofs.lemmas.List.Sums.{take_while-cons}
 use Rattle.mld_model.specs.Bytes.{Lacks, Lacks_parts}
@@ -34,7 +37,8 @@ split_there (byte ∷ line) (suc place) below e = ap (λ (rest : List ℕ). byte
 pub split_cut : (line : List ℕ) (place : ℕ) → place < length line → get_or line place 0 ≡ 32 → line ≡ take place line ++ 32 ∷ take (length line - (place + 1)) (drop (place + 1) line)
 split_cut line place below e =
     let whole : take (length line - (place + 1)) (drop (place + 1) line) ≡ drop (place + 1) line = take_all (length line - (place + 1)) (drop (place + 1) line) (omega (arith, length-drop (place + 1) line)) in
-    let next : drop (place + 1) line ≡ drop (suc place) line = ap (λ (n : ℕ). drop n line) (omega arith) in
+    let one : place + 1 ≡ suc place = omega arith in
+    let next : drop (place + 1) line ≡ drop (suc place) line = ap (λ (n : ℕ). drop n line) one in
     split_there line place below e ∙ ap (λ (rest : List ℕ). take place line ++ 32 ∷ rest) (sym (whole ∙ next))
 
 -- a text that lacks spaces has none
@@ -66,6 +70,15 @@ nothing_comment (byte ∷ line) below e text = subst (λ (l : List ℕ). IsNothi
 pub nothing_text : (line : List ℕ) → IsNothing line → 0 < length line → (get_or line 0 0 ≡ 35) × IsUtf8 line
 nothing_text _ empty below = absurd (omega arith)
 nothing_text _ (comment rest text) below = (refl, text)
+
+-- what the test of UTF-8 says
+pub text_tested : {T E : Type 0} (A : T → Type 0) (B : E → Type 0) (result : Result T E) (text : List ℕ)
+    → MatchResult result (λ t. A t × IsUtf8 text) (λ e. ¬ IsUtf8 text × B e) → IsTrue (is_ok result) ↔ IsUtf8 text
+text_tested A B (Ok t) text h = (λ e. h.1, λ k. refl)
+text_tested A B (Err e) text h = (λ k. absurd (false≢true k), λ k. absurd (h.0 k))
+
+pub nothing_tested : (line : List ℕ) (test : Bool) → 0 < length line → get_or line 0 0 ≡ 35 → IsTrue test ↔ IsUtf8 line → IsTrue test ↔ IsNothing line
+nothing_tested line test below e h = (λ k. nothing_comment line below e (h.0 k), λ n. h.1 (nothing_text line n below).1)
 
 -- ---- lines that aren't built yet
 
