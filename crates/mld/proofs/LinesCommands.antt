@@ -1,5 +1,5 @@
 -- Domain lines and commands, a part at a time.
-use Rattle.std.proofs.Common.{◌≡◌, ◌≢◌, ◌↔◌, ℕ, zero, suc, ◌+◌, ◌<◌, ◌≤◌, ◌^◌, List, [], ◌∷◌, ◌++◌, codes, Bool, true, false, ◌||◌, ◌==◌, not, IsTrue, Option, Some, None, MatchOption, IfOk, refl, sym, ◌∙◌, subst, ap, drop, arith}
+use Rattle.std.proofs.Common.{◌≡◌, ◌≢◌, ◌↔◌, ℕ, zero, suc, ◌<◌, ◌≤◌, ◌^◌, List, [], ◌∷◌, ◌++◌, codes, Bool, true, false, ◌||◌, ◌==◌, IsTrue, Option, Some, None, MatchOption, IfOk, refl, sym, ◌∙◌, subst, ap, drop, arith}
 use Rattle.std.specs.Fmt.{decimal}
 use Rattle.std.specs.Str.{IsUtf8, IsAscii}
 use Rattle.std.proofs.lemmas.Str.{IsUtf8-from_ascii}
@@ -7,9 +7,9 @@ use Rattle.std.proofs.lemmas.Bool.Decides.{nat_tests}
 use Rattle.std.specs.List.{list_all, list_any}
 use Rattle.std.specs.declared.result.Result.{Result}
 use Rattle.std.specs.declared.result.Result.TheVariants.{Ok, Err}
-use Rattle.std.proofs.lemmas.Bool.{false≢true, and_parts, ne_eqb, eqb-true, eqb-false}
+use Rattle.std.proofs.lemmas.Bool.{false≢true, and_parts, ne_eqb, eqb-false}
 use Rattle.rdf_terms.specs.Domain.{is_domain, is_domain_byte}
-use Rattle.rdf_terms.specs.Grammar.{SpellsTriple, IsWithin, has_no_backslash}
+use Rattle.rdf_terms.specs.Grammar.{IsWithin, has_no_backslash}
 use Rattle.rdf_terms.specs.Building.{RefusesTriple}
 use Rattle.rdf_terms.specs.ReadingLaws.{one_spelled}
 use Rattle.rdf_terms.specs.declared.terms.Triple.{Triple}
@@ -17,7 +17,7 @@ use Rattle.rdf_terms.specs.declared.faults.TripleFault.{TripleFault}
 use Rattle.rdf_terms.specs.declared.faults.TripleFault.TheVariants.{NotTriple, TooLong, NoMemory}
 use Rattle.mld_model.specs.declared.Command.{Command}
 use Rattle.mld_model.specs.declared.Command.TheVariants.{Add, Deliver, Show, Compare}
-use Rattle.mld_model.specs.Bytes.{Lacks, Lacks_parts, Lacks-from_test, one_split, apart}
+use Rattle.mld_model.specs.Bytes.{Lacks, Lacks-from_test, one_split, apart}
 use Rattle.mld_model.specs.Schedule.{SpellsSetup, SpellsCommand, is_unbuilt}
 use Rattle.mld.specs.Reading.{IsTripleOf, IsAddOf, IsDeliverOf, IsShowOf, IsCompareOf}
 use Rattle.mld.proofs.LinesText.{has_space}
@@ -117,10 +117,6 @@ pub no_add_triple : (rest front behind : List ℕ) → rest ≡ front ++ 32 ∷ 
 no_add_triple rest front behind e lacks none command h =
     none h.1 (subst (λ (t : List ℕ). IsTripleOf t h.1) (sym (number_first rest front behind h.2 h.0 lacks e (small h.5) h.4).1) h.6)
 
-pub is_add : (rest front behind : List ℕ) (number : ℕ) (triple : Triple) → rest ≡ front ++ 32 ∷ behind → number < 32 → front ≡ decimal number → IsTripleOf behind triple
-    → IsAddOf rest (Add number triple)
-is_add rest front behind number triple e h f t = (number, triple, behind, refl, cc, h, t)
-
 pub no_deliver_split : (rest : List ℕ) → Lacks 32 rest → (command : Command) → ¬ IsDeliverOf rest command
 no_deliver_split rest lacks command h = has_space rest (decimal h.0) (decimal h.1) lacks h.3
 
@@ -176,23 +172,24 @@ domain_bytes : (domain : List ℕ) → IsTrue (is_domain domain) → IsTrue (lis
 unfolding is_domain
 domain_bytes domain h = (and_parts _ (list_all is_domain_byte domain) h).1
 
-pub domain_lacks : (domain : List ℕ) → IsTrue (is_domain domain) → Lacks 32 domain
+domain_lacks : (domain : List ℕ) → IsTrue (is_domain domain) → Lacks 32 domain
 domain_lacks domain h = Lacks-from_test is_domain_byte 32 refl domain (domain_bytes domain h)
 
 -- what follows `domain` and a space
-pub setup_rest : (line rest domain : List ℕ) (count : ℕ) → line ≡ codes "domain " ++ rest → SpellsSetup line domain count → rest ≡ domain ++ 32 ∷ (codes "clones " ++ decimal count)
+setup_rest : (line rest domain : List ℕ) (count : ℕ) → line ≡ codes "domain " ++ rest → SpellsSetup line domain count → rest ≡ domain ++ 32 ∷ (codes "clones " ++ decimal count)
 setup_rest line rest domain count e s = ap (drop 7) (sym e ∙ s.whole)
 
 pub setup_spaced : (line rest : List ℕ) → line ≡ codes "domain " ++ rest → Lacks 32 rest → (domain : List ℕ) (count : ℕ) → ¬ SpellsSetup line domain count
 setup_spaced line rest e h domain count s = has_space rest domain (codes "clones " ++ decimal count) h (setup_rest line rest domain count e s)
 
+-- a domain line up to the space behind its name
 pub record IsCut (line name behind : List ℕ) : Type 0 where
   pub rest : List ℕ
   pub first : line ≡ codes "domain " ++ rest
   pub cut : rest ≡ name ++ 32 ∷ behind
   pub spaceless : Lacks 32 name
 
-pub setup_cut : (line name behind domain : List ℕ) (count : ℕ) → IsCut line name behind → SpellsSetup line domain count → (name ≡ domain) × (behind ≡ codes "clones " ++ decimal count)
+setup_cut : (line name behind domain : List ℕ) (count : ℕ) → IsCut line name behind → SpellsSetup line domain count → (name ≡ domain) × (behind ≡ codes "clones " ++ decimal count)
 setup_cut line name behind domain count k s =
     one_split 32 name domain behind (codes "clones " ++ decimal count) k.spaceless (domain_lacks domain s.name) (sym k.cut ∙ setup_rest line k.rest domain count k.first s)
 
@@ -206,10 +203,6 @@ pub setup_number : (line name behind number : List ℕ) → IsCut line name behi
     → (domain : List ℕ) (count : ℕ) → ¬ SpellsSetup line domain count
 setup_number line name behind number k e h domain count s =
     h count s.some s.most (ap (drop 7) (sym e ∙ (setup_cut line name behind domain count k s).1))
-
-pub is_setup : (line name behind number : List ℕ) (count : ℕ) → IsCut line name behind → behind ≡ codes "clones " ++ number → IsTrue (is_domain name)
-    → 1 ≤ count → count ≤ 32 → number ≡ decimal count → SpellsSetup line name count
-is_setup line name behind number count k e d some most n = record { whole = cc (k.first, k.cut); name = d; some = some; most = most }
 
 -- the name of a domain is ASCII
 domain_byte_small : (byte : ℕ) → is_domain_byte byte ≡ true → byte < 128

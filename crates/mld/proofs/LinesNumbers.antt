@@ -1,5 +1,5 @@
 -- Numbers as they are written, and texts that begin with one.
-use Rattle.std.proofs.Common.{◌≡◌, ◌≢◌, ℕ, ◌+◌, ◌<◌, ◌≤◌, ◌^◌, List, [], ◌∷◌, ◌++◌, Bool, true, false, not, nat_eq, refl, sym, ◌∙◌, subst, ap, arith}
+use Rattle.std.proofs.Common.{◌≡◌, ℕ, ◌<◌, ◌^◌, List, ◌∷◌, ◌++◌, Bool, true, not, nat_eq, sym, ◌∙◌, subst, ap, arith}
 use Rattle.std.specs.Fmt.{decimal}
 use Rattle.std.specs.Str.{IsUtf8}
 use Rattle.std.specs.Str.Parse.{ParsesUnsigned}
@@ -42,7 +42,7 @@ pub one_number : (text : List ℕ) (read number : ℕ) → read < 2 ^ 64 → num
 one_number text read number r n e f = decimal_injective read number r n (sym e ∙ f)
 
 -- numbers are written without spaces
-pub no_space : (number : ℕ) → number < 2 ^ 64 → Lacks 32 (decimal number)
+no_space : (number : ℕ) → number < 2 ^ 64 → Lacks 32 (decimal number)
 no_space = Lacks-decimal 32 (λ digit h e. omega arith)
 
 -- a number that is written, and what stands behind the space after it

@@ -1,9 +1,8 @@
 -- A line is split at its first space, and its first word says whether it isn't built yet.
-use Rattle.std.proofs.Common.{◌≡◌, ◌≢◌, ℕ, zero, suc, ◌+◌, ◌-◌, ◌<◌, ◌≤◌, List, [], ◌∷◌, ◌++◌, ◌↔◌, length, get_or, take, drop, Bool, true, false, ◌&&◌, ◌||◌, ◌==◌, nat_eq, codes, IsTrue, refl, sym, ap, subst, ◌∙◌, arith, below_more}
-use Rattle.std.specs.List.{list_any, list_all}
+use Rattle.std.proofs.Common.{◌≡◌, ◌≢◌, ℕ, zero, suc, ◌+◌, ◌-◌, ◌<◌, ◌≤◌, List, [], ◌∷◌, ◌++◌, ◌↔◌, length, get_or, take, drop, Bool, true, false, ◌&&◌, ◌||◌, ◌==◌, codes, IsTrue, refl, sym, ap, subst, ◌∙◌, arith}
+use Rattle.std.specs.List.{list_any}
 use Rattle.std.specs.Str.{IsUtf8}
-use Rattle.std.specs.Cmp.Lexicographic.{pointwise}
-use Rattle.std.proofs.lemmas.Bool.{eqb-true, ne_eqb, eq-eqb, false≢true}
+use Rattle.std.proofs.lemmas.Bool.{ne_eqb, false≢true}
 use Rattle.std.proofs.lemmas.List.{take_all, length-drop, nil_from_length}
 use Rattle.std.specs.Bool.{one_answer}
 use Rattle.std.specs.Result.{MatchResult, is_ok}
@@ -51,7 +50,7 @@ pub word_alone : (line : List ℕ) → Lacks 32 line → line ≡ first_word lin
 word_alone [] h = refl
 word_alone (byte ∷ line) h = rw (take_while-cons, ne_eqb byte 32 h.0) (ap (λ rest. byte ∷ rest) (word_alone line h.1))
 
-pub word_before : (word rest : List ℕ) → Lacks 32 word → word ≡ first_word (word ++ 32 ∷ rest)
+word_before : (word rest : List ℕ) → Lacks 32 word → word ≡ first_word (word ++ 32 ∷ rest)
 word_before [] rest h = rw take_while-cons refl
 word_before (byte ∷ word) rest h = rw (take_while-cons, ne_eqb byte 32 h.0) (ap (λ rest. byte ∷ rest) (word_before word rest h.1))
 
@@ -63,11 +62,11 @@ word_before_space line word rest e h = subst (λ (l : List ℕ). word ≡ first_
 pub nothing_empty : (line : List ℕ) → length line ≡ 0 → IsNothing line
 nothing_empty line e = subst (λ (l : List ℕ). IsNothing l) (sym (nil_from_length line e)) empty
 
-pub nothing_comment : (line : List ℕ) → 0 < length line → get_or line 0 0 ≡ 35 → IsUtf8 line → IsNothing line
+nothing_comment : (line : List ℕ) → 0 < length line → get_or line 0 0 ≡ 35 → IsUtf8 line → IsNothing line
 nothing_comment [] below e text = absurd (omega arith)
 nothing_comment (byte ∷ line) below e text = subst (λ (l : List ℕ). IsNothing l) (sym (ap (λ (b : ℕ). b ∷ line) e)) (comment line (subst (λ (b : ℕ). IsUtf8 (b ∷ line)) e text))
 
-pub nothing_text : (line : List ℕ) → IsNothing line → 0 < length line → (get_or line 0 0 ≡ 35) × IsUtf8 line
+nothing_text : (line : List ℕ) → IsNothing line → 0 < length line → (get_or line 0 0 ≡ 35) × IsUtf8 line
 nothing_text _ empty below = absurd (omega arith)
 nothing_text _ (comment rest text) below = (refl, text)
 
@@ -83,7 +82,7 @@ nothing_tested line test below e h = (λ k. nothing_comment line below e (h.0 k)
 -- ---- lines that aren't built yet
 
 -- texts compare the same in either order
-pub same_word : (a b : List ℕ) → is_word a b ≡ is_word b a
+same_word : (a b : List ℕ) → is_word a b ≡ is_word b a
 same_word a b =
     let there = bytes_eq-Decides a b in
     let back = bytes_eq-Decides b a in

@@ -9,10 +9,9 @@ ghost use Rattle.mld_model.specs.Schedule.{IsNothing, is_unbuilt, unbuilt_words,
 ghost use Rattle.mld_model.specs.declared.Command.{Command};
 ghost use Rattle.mld.specs.Reading.{OpeningIs, LineIs, IsTripleOf, IsAddOf, IsDeliverOf, IsShowOf, IsCompareOf};
 
-use std::alloc::{AllocError, Global};
-
 use mld_model::Command;
 use rdf_terms::{Text, Triple, TripleFault, is_domain, read_triple};
+use std::alloc::{AllocError, Global};
 
 /// A line as it is read while no domain line has come.
 #[derive(Debug, Drop)]
@@ -84,7 +83,17 @@ fn is_nothing(line: &[u8]) -> bool
 
 /// The first words of lines that aren't built yet.
 const UNBUILT_WORDS: [&[u8]; 11] = [
-    b"remove", b"join", b"stop", b"open", b"ask", b"compact", b"truncate", b"query", b"update", b"single", b"crash",
+    b"remove",
+    b"join",
+    b"stop",
+    b"open",
+    b"ask",
+    b"compact",
+    b"truncate",
+    b"query",
+    b"update",
+    b"single",
+    b"crash",
 ];
 
 /// A line that isn't built yet: one of those words comes first, or `add` does and a backslash stands somewhere.
@@ -124,9 +133,7 @@ fn first_space(line: &[u8]) -> Option<usize>
 fn split_at_space(line: &[u8]) -> Option<(&[u8], &[u8])>
     ensures { MatchOption result (Lacks 32 line.now) (λ parts. (line.now ≡ parts.0.now ++ 32 ∷ parts.1.now) × Lacks 32 parts.0.now) }
 {
-    let Some(place) = first_space(line) else {
-        return None;
-    };
+    let place = first_space(line)?;
     Some((&line[..place], &line[place + 1..]))
 }
 
@@ -246,14 +253,14 @@ fn read_add(alloc: Global, rest: &[u8]) -> Result<Option<Command>, AllocError>
     let Some(number) = read_clone(alloc, number)? else {
         return Ok(None);
     };
-    let Some(triple) = read_text(alloc, text)? else {
+    let Some(triple) = read_triple_bytes(alloc, text)? else {
         return Ok(None);
     };
     Ok(Some(Command::Add(number, triple)))
 }
 
 /// The triple of a text, where the text is UTF-8 and spells one within the limits.
-fn read_text(alloc: Global, text: &[u8]) -> Result<Option<Triple>, AllocError>
+fn read_triple_bytes(alloc: Global, text: &[u8]) -> Result<Option<Triple>, AllocError>
     requires { Lacks 92 text.now }
     ensures { IfOk result (λ found. MatchOption found ((triple : Triple) → ¬ IsTripleOf text.now triple) (λ triple. IsTripleOf text.now triple)) }
 {

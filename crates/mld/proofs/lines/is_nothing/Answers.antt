@@ -6,8 +6,9 @@ use Rattle.mld.proofs.lines.is_nothing.Goals as goal
 
 pub returns-then-is_empty : goal.returns-then-is_empty
 returns-then-is_empty c = (
-    λ h. nothing_empty c.args.line.now (eqb-true (length c.args.line.now) 0 (sym c.is_empty.ensures ∙ c.if-is_empty.true)),
-    λ h. refl)
+  λ h. nothing_empty c.args.line.now (eqb-true (length c.args.line.now) 0 (sym c.is_empty.ensures ∙ c.if-is_empty.true)),
+  λ h. refl,
+)
 
 pub returns-then-line-eq35 : goal.returns-then-line-eq35
 returns-then-line-eq35 c =
