@@ -94,15 +94,6 @@ compare_back line rest e (Compare number other) h = (number, other, refl, ap (dr
 pub compare_behind : (line rest : List ℕ) → line ≡ codes "compare " ++ rest → (command : Command) → IsCompareOf rest command ↔ SpellsCommand line command
 compare_behind line rest e command = (compare_there line rest e command, compare_back line rest e command)
 
--- a line that begins with none of the words is no command
-pub no_command : (line : List ℕ) → ((rest : List ℕ) → line ≢ codes "add " ++ rest) → ((rest : List ℕ) → line ≢ codes "deliver " ++ rest)
-    → ((rest : List ℕ) → line ≢ codes "show " ++ rest) → ((rest : List ℕ) → line ≢ codes "compare " ++ rest)
-    → (command : Command) → ¬ SpellsCommand line command
-no_command line a d s c (Add number triple) h = a (decimal number ++ 32 ∷ h.0) h.1
-no_command line a d s c (Deliver message number) h = d (decimal message ++ 32 ∷ decimal number) h.0
-no_command line a d s c (Show number) h = s (decimal number) h.0
-no_command line a d s c (Compare number other) h = c (decimal number ++ 32 ∷ decimal other) h.0
-
 -- ---- the parts of a command
 
 pub no_add_split : (rest : List ℕ) → Lacks 32 rest → (command : Command) → ¬ IsAddOf rest command
@@ -163,9 +154,6 @@ no_triple text TooLong h other triple t = h.2 (subst (λ (u : Triple). IsWithin 
 no_triple text NoMemory h other triple t = other refl
 
 -- ---- domain lines
-
-pub setup_named : (line : List ℕ) → ((rest : List ℕ) → line ≢ codes "domain " ++ rest) → (domain : List ℕ) (count : ℕ) → ¬ SpellsSetup line domain count
-setup_named line h domain count s = h (domain ++ (codes " clones " ++ decimal count)) s.whole
 
 -- the name of a domain is ASCII, and has no space
 domain_bytes : (domain : List ℕ) → IsTrue (is_domain domain) → IsTrue (list_all is_domain_byte domain)

@@ -27,13 +27,13 @@ LineIs line lines.Unbuilt = IsTrue (is_unbuilt line)
 LineIs line (lines.Command command) = SpellsCommand line command
 LineIs line lines.Bad = ¬ IsNothing line × ¬ IsTrue (is_unbuilt line) × ((command : Command) → ¬ SpellsCommand line command)
 
--- what follows the first word of a command and its space
-
 -- the text of a triple within the limits
 pub record IsTripleOf (text : List ℕ) (triple : Triple) : Type 0 where
   pub bytes : IsUtf8 text
   pub spelled : SpellsTriple text triple
   pub within : IsWithin triple
+
+-- what follows the first word of a command and its space
 
 abbrev pub IsAddOf : List ℕ → Command → Type 0
 IsAddOf rest command = (number : ℕ) × (triple : Triple) × (text : List ℕ) × (command ≡ Add number triple) × (rest ≡ decimal number ++ 32 ∷ text)
