@@ -27,11 +27,17 @@ LineIs line lines.Unbuilt = IsTrue (is_unbuilt line)
 LineIs line (lines.Command command) = SpellsCommand line command
 LineIs line lines.Bad = ¬ IsNothing line × ¬ IsTrue (is_unbuilt line) × ((command : Command) → ¬ SpellsCommand line command)
 
+-- the text of a triple within the limits
+pub record IsTripleOf (text : List ℕ) (triple : Triple) : Type 0 where
+  pub bytes : IsUtf8 text
+  pub spelled : SpellsTriple text triple
+  pub within : IsWithin triple
+
 -- what follows the first word of a command and its space
 
 abbrev pub IsAddOf : List ℕ → Command → Type 0
 IsAddOf rest command = (number : ℕ) × (triple : Triple) × (text : List ℕ) × (command ≡ Add number triple) × (rest ≡ decimal number ++ 32 ∷ text)
-    × IsCloneNumber number × IsUtf8 text × SpellsTriple text triple × IsWithin triple
+    × IsCloneNumber number × IsTripleOf text triple
 
 abbrev pub IsDeliverOf : List ℕ → Command → Type 0
 IsDeliverOf rest command = (message : ℕ) × (number : ℕ) × (command ≡ Deliver message number) × (rest ≡ decimal message ++ 32 ∷ decimal number)

@@ -1,15 +1,17 @@
 //! Reading the lines of a schedule.
-ghost use Rattle.std.specs.Prelude.{◌≡◌, ◌≢◌, ◌<◌, ◌^◌, ◌++◌, ◌∷◌, ◌↔◌, ℕ, List, IsTrue, IfOk, MatchOption};
+ghost use Rattle.std.specs.Prelude.{◌≡◌, ◌≢◌, ◌<◌, ◌≤◌, ◌^◌, ◌++◌, ◌∷◌, ◌↔◌, ℕ, List, IsTrue, IfOk, MatchOption, EachIndex, slice_index, length};
+ghost use Rattle.std.specs.List.{list_any};
 ghost use Rattle.std.specs.Fmt.{decimal};
 ghost use Rattle.mld_model.specs.Bytes.{Lacks};
-ghost use Rattle.mld_model.specs.Schedule.{IsNothing, is_unbuilt, first_word, SpellsSetup, SpellsCommand};
+ghost use Rattle.rdf_terms.specs.Domain.{is_domain};
+ghost use Rattle.rdf_terms.specs.declared.terms.Triple.{Triple};
+ghost use Rattle.mld_model.specs.Schedule.{IsNothing, is_unbuilt, unbuilt_words, is_word, first_word, SpellsSetup, SpellsCommand};
 ghost use Rattle.mld_model.specs.declared.Command.{Command};
-ghost use Rattle.mld.specs.Reading.{OpeningIs, LineIs, IsAddOf, IsDeliverOf, IsShowOf, IsCompareOf};
-
-use std::alloc::{AllocError, Global};
+ghost use Rattle.mld.specs.Reading.{OpeningIs, LineIs, IsTripleOf, IsAddOf, IsDeliverOf, IsShowOf, IsCompareOf};
 
 use mld_model::Command;
-use rdf_terms::{Text, TripleFault, is_domain, read_triple};
+use rdf_terms::{Text, Triple, TripleFault, is_domain, read_triple};
+use std::alloc::{AllocError, Global};
 
 /// A line as it is read while no domain line has come.
 #[derive(Debug, Drop)]
@@ -73,16 +75,25 @@ pub fn read_line(alloc: Global, line: &[u8]) -> Result<Line, AllocError>
 fn is_nothing(line: &[u8]) -> bool
     ensures { IsTrue result ↔ IsNothing line.now }
 {
-    match line {
-        [] => true,
-        [b'#', ..] => str::from_utf8(line).is_ok(),
-        _ => false,
+    if line.is_empty() {
+        return true;
     }
+    line[0] == b'#' && str::from_utf8(line).is_ok()
 }
 
 /// The first words of lines that aren't built yet.
 const UNBUILT_WORDS: [&[u8]; 11] = [
-    b"remove", b"join", b"stop", b"open", b"ask", b"compact", b"truncate", b"query", b"update", b"single", b"crash",
+    b"remove",
+    b"join",
+    b"stop",
+    b"open",
+    b"ask",
+    b"compact",
+    b"truncate",
+    b"query",
+    b"update",
+    b"single",
+    b"crash",
 ];
 
 /// A line that isn't built yet: one of those words comes first, or `add` does and a backslash stands somewhere.
@@ -90,11 +101,18 @@ fn is_unbuilt(line: &[u8]) -> bool
     ensures { result ≡ is_unbuilt line.now }
 {
     let word = first_word(line);
+    is_unbuilt_word(word) || (word == b"add".as_slice() && line.contains(&b'\\'))
+}
+
+/// One of the first words of lines that aren't built yet.
+fn is_unbuilt_word(word: &[u8]) -> bool
+    ensures { result ≡ list_any (λ unbuilt. is_word unbuilt word.now) unbuilt_words }
+{
     UNBUILT_WORDS.iter().any(|unbuilt| *unbuilt == word)
-        || (word == b"add".as_slice() && line.contains(&b'\\'))
 }
 
 /// The bytes before the first space, or all of them.
+#[tactic(auto, using(crate::proofs::LinesText::word_alone, crate::proofs::LinesText::word_before_space))]
 fn first_word(line: &[u8]) -> &[u8]
     ensures { result.now ≡ first_word line.now }
 {
@@ -104,48 +122,79 @@ fn first_word(line: &[u8]) -> &[u8]
     }
 }
 
+/// Where the first space is.
+fn first_space(line: &[u8]) -> Option<usize>
+    ensures { MatchOption result (EachIndex line.now (λ k. slice_index line.now k ≢ 32)) (λ place. (place < length line.now) × (slice_index line.now place ≡ 32) × ((k : ℕ) → k < place → slice_index line.now k ≢ 32)) }
+{
+    line.iter().position(|byte| *byte == b' ')
+}
+
 /// The bytes before the first space, and those behind it.
 fn split_at_space(line: &[u8]) -> Option<(&[u8], &[u8])>
     ensures { MatchOption result (Lacks 32 line.now) (λ parts. (line.now ≡ parts.0.now ++ 32 ∷ parts.1.now) × Lacks 32 parts.0.now) }
 {
-    let place = line.iter().position(|byte| *byte == b' ')?;
+    let place = first_space(line)?;
     Some((&line[..place], &line[place + 1..]))
+}
+
+/// What follows a front, where the line has it.
+fn behind<'a>(line: &'a [u8], front: &[u8]) -> Option<&'a [u8]>
+    ensures { MatchOption result ((rest : List ℕ) → line.now ≢ front.now ++ rest) (λ rest. line.now ≡ front.now ++ rest.now) }
+{
+    line.strip_prefix(front)
 }
 
 /// `domain D clones N`, where the line spells it.
 fn read_setup(alloc: Global, line: &[u8]) -> Result<Option<(Text, u8)>, AllocError>
     ensures { IfOk result (λ found. MatchOption found ((domain : List ℕ) (count : ℕ) → ¬ SpellsSetup line.now domain count) (λ setup. SpellsSetup line.now setup.0 setup.1)) }
 {
-    let Some(rest) = behind_word(line, b"domain") else {
+    let Some(rest) = behind(line, b"domain ") else {
         return Ok(None);
     };
     let Some((name, rest)) = split_at_space(rest) else {
         return Ok(None);
     };
-    let Some(number) = behind_word(rest, b"clones") else {
+    let Some(number) = behind(rest, b"clones ") else {
         return Ok(None);
     };
-    let (Ok(name), Some(count)) = (str::from_utf8(name), read_number(alloc, number)?) else {
+    let Some(domain) = read_domain(alloc, name)? else {
         return Ok(None);
     };
-    if !is_domain(name) || count < 1 || count > 32 {
+    let Some(count) = read_count(alloc, number)? else {
         return Ok(None);
-    }
-    Ok(Some((Text::new(alloc, name)?, count as u8)))
+    };
+    Ok(Some((domain, count)))
 }
 
-/// What follows a first word and its space, where the line has that word first.
-fn behind_word<'a>(line: &'a [u8], word: &[u8]) -> Option<&'a [u8]>
-    requires { Lacks 32 word.now }
-    ensures { MatchOption result ((rest : List ℕ) → line.now ≢ word.now ++ 32 ∷ rest) (λ rest. line.now ≡ word.now ++ 32 ∷ rest.now) }
+/// The name of a domain.
+fn read_domain(alloc: Global, text: &[u8]) -> Result<Option<Text>, AllocError>
+    ensures { IfOk result (λ found. MatchOption found (¬ IsTrue (is_domain text.now)) (λ domain. IsTrue (is_domain text.now) × (domain ≡ text.now))) }
 {
-    let (first, rest) = split_at_space(line)?;
-    if first == word { Some(rest) } else { None }
+    let Ok(text) = str::from_utf8(text) else {
+        return Ok(None);
+    };
+    if !is_domain(text) {
+        return Ok(None);
+    }
+    Ok(Some(Text::new(alloc, text)?))
+}
+
+/// How many clones there are, 1 to 32.
+fn read_count(alloc: Global, text: &[u8]) -> Result<Option<u8>, AllocError>
+    ensures { IfOk result (λ found. MatchOption found ((number : ℕ) → 1 ≤ number → number ≤ 32 → text.now ≢ decimal number) (λ number. (1 ≤ number) × (number ≤ 32) × (text.now ≡ decimal number))) }
+{
+    let Some(number) = read_number(alloc, text)? else {
+        return Ok(None);
+    };
+    if number < 1 || number > 32 {
+        return Ok(None);
+    }
+    Ok(Some(number as u8))
 }
 
 /// A number below 2^64 as `decimal` writes it: no sign, no leading zero.
 fn read_number(alloc: Global, text: &[u8]) -> Result<Option<u64>, AllocError>
-    ensures { IfOk result (λ found. MatchOption found ((number : ℕ) → number < 2 ^ 64 → text.now ≢ decimal number) (λ number. text.now ≡ decimal number)) }
+    ensures { IfOk result (λ found. MatchOption found ((number : ℕ) → number < 2 ^ 64 → text.now ≢ decimal number) (λ number. (number < 2 ^ 64) × (text.now ≡ decimal number))) }
 {
     let Ok(text) = str::from_utf8(text) else {
         return Ok(None);
@@ -154,17 +203,23 @@ fn read_number(alloc: Global, text: &[u8]) -> Result<Option<u64>, AllocError>
         return Ok(None);
     };
     let written = number.to_string(alloc)?;
-    Ok(if written.as_str() == text { Some(number) } else { None })
+    if written.as_str() != text {
+        return Ok(None);
+    }
+    Ok(Some(number))
 }
 
 /// The number of a clone, 0 to 31.
 fn read_clone(alloc: Global, text: &[u8]) -> Result<Option<u8>, AllocError>
     ensures { IfOk result (λ found. MatchOption found ((number : ℕ) → number < 32 → text.now ≢ decimal number) (λ number. (number < 32) × (text.now ≡ decimal number))) }
 {
-    match read_number(alloc, text)? {
-        Some(number) if number < 32 => Ok(Some(number as u8)),
-        _ => Ok(None),
+    let Some(number) = read_number(alloc, text)? else {
+        return Ok(None);
+    };
+    if number >= 32 {
+        return Ok(None);
     }
+    Ok(Some(number as u8))
 }
 
 /// The command of a line, where the line spells one.
@@ -172,16 +227,16 @@ fn read_command(alloc: Global, line: &[u8]) -> Result<Option<Command>, AllocErro
     requires { ¬ IsTrue (is_unbuilt line.now) }
     ensures { IfOk result (λ found. MatchOption found ((command : Command) → ¬ SpellsCommand line.now command) (λ command. SpellsCommand line.now command)) }
 {
-    if let Some(rest) = behind_word(line, b"add") {
+    if let Some(rest) = behind(line, b"add ") {
         return read_add(alloc, rest);
     }
-    if let Some(rest) = behind_word(line, b"deliver") {
+    if let Some(rest) = behind(line, b"deliver ") {
         return read_deliver(alloc, rest);
     }
-    if let Some(rest) = behind_word(line, b"show") {
+    if let Some(rest) = behind(line, b"show ") {
         return read_show(alloc, rest);
     }
-    if let Some(rest) = behind_word(line, b"compare") {
+    if let Some(rest) = behind(line, b"compare ") {
         return read_compare(alloc, rest);
     }
     Ok(None)
@@ -195,13 +250,28 @@ fn read_add(alloc: Global, rest: &[u8]) -> Result<Option<Command>, AllocError>
     let Some((number, text)) = split_at_space(rest) else {
         return Ok(None);
     };
-    let (Some(number), Ok(text)) = (read_clone(alloc, number)?, str::from_utf8(text)) else {
+    let Some(number) = read_clone(alloc, number)? else {
+        return Ok(None);
+    };
+    let Some(triple) = read_triple_bytes(alloc, text)? else {
+        return Ok(None);
+    };
+    Ok(Some(Command::Add(number, triple)))
+}
+
+/// The triple of a text, where the text is UTF-8 and spells one within the limits.
+fn read_triple_bytes(alloc: Global, text: &[u8]) -> Result<Option<Triple>, AllocError>
+    requires { Lacks 92 text.now }
+    ensures { IfOk result (λ found. MatchOption found ((triple : Triple) → ¬ IsTripleOf text.now triple) (λ triple. IsTripleOf text.now triple)) }
+{
+    let Ok(text) = str::from_utf8(text) else {
         return Ok(None);
     };
     match read_triple(alloc, text) {
-        Ok(triple) => Ok(Some(Command::Add(number, triple))),
+        Ok(triple) => Ok(Some(triple)),
+        Err(TripleFault::NotTriple { .. }) => Ok(None),
+        Err(TripleFault::TooLong) => Ok(None),
         Err(TripleFault::NoMemory) => Err(AllocError),
-        Err(_) => Ok(None),
     }
 }
 
@@ -212,10 +282,13 @@ fn read_deliver(alloc: Global, rest: &[u8]) -> Result<Option<Command>, AllocErro
     let Some((message, number)) = split_at_space(rest) else {
         return Ok(None);
     };
-    match (read_number(alloc, message)?, read_clone(alloc, number)?) {
-        (Some(message), Some(number)) => Ok(Some(Command::Deliver(message, number))),
-        _ => Ok(None),
-    }
+    let Some(message) = read_number(alloc, message)? else {
+        return Ok(None);
+    };
+    let Some(number) = read_clone(alloc, number)? else {
+        return Ok(None);
+    };
+    Ok(Some(Command::Deliver(message, number)))
 }
 
 /// What follows `show` and a space: a clone's number.
@@ -232,8 +305,11 @@ fn read_compare(alloc: Global, rest: &[u8]) -> Result<Option<Command>, AllocErro
     let Some((number, other)) = split_at_space(rest) else {
         return Ok(None);
     };
-    match (read_clone(alloc, number)?, read_clone(alloc, other)?) {
-        (Some(number), Some(other)) => Ok(Some(Command::Compare(number, other))),
-        _ => Ok(None),
-    }
+    let Some(number) = read_clone(alloc, number)? else {
+        return Ok(None);
+    };
+    let Some(other) = read_clone(alloc, other)? else {
+        return Ok(None);
+    };
+    Ok(Some(Command::Compare(number, other)))
 }
