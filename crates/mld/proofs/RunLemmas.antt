@@ -1,5 +1,9 @@
 -- A replay from line to line, and how it ends.
-use Rattle.std.proofs.Common.{◌≡◌, ◌≢◌, ℕ, zero, suc, ◌+◌, ◌≤◌, ◌<◌, List, [], ◌∷◌, ◌++◌, ◌⊎◌, inl, inr, refl, sym, ◌∙◌, ap, arith, subst, length, Option, None, Some, append_assoc, append-nil, length-append}
+use Rattle.std.proofs.Common.{◌≡◌, ◌≢◌, ℕ, zero, suc, ◌+◌, ◌≤◌, ◌<◌, List, [], ◌∷◌, ◌++◌, ◌⊎◌, ◌↔◌, inl, inr, refl, sym, ◌∙◌, ap, arith, subst, length, Option, None, Some, append_assoc, append-nil, length-append, get_or, map, Bool, Ok, Err, Result}
+use Rattle.std.specs.Prelude.{IsTrue, nat_eq}
+use Rattle.std.specs.Cmp.Lexicographic.{pointwise}
+use Rattle.tree_clock.specs.DotLaws.{path_eq-Decides}
+use Rattle.mld_io.specs.Lines.{LinesValue, NextLine}
 use Rattle.std.specs.Io.KnownBytes.{Appends}
 use Rattle.mld_io.specs.Lines.{lines_of, first_line, after_line}
 use Rattle.mld_io.specs.LinesLaws.{first_of_lines_lem}
@@ -7,7 +11,29 @@ use Rattle.mld_model.specs.World.{World}
 use Rattle.mld_model.specs.Runs.{Stage, Waiting, Running, Acts, Runs, IsBad, IsUnbuilt, Before, StopsBad, StopsUnbuilt, Outcome, Finished, BadLine, UnbuiltLine, Verdict}
 use Rattle.mld_model.specs.Sound.{IsSound}
 use Rattle.mld_model.specs.StandsFor.{RunningWorld, StandsFor}
-use Rattle.mld.specs.Ran.{Finishes, StopsAtBad, StopsAtUnbuilt, StageStands, IsStandingStage, ActsWell, TakesLine, steps_of}
+use Rattle.mld.specs.Ran.{Finishes, StopsAtBad, StopsAtUnbuilt, StageStands, IsStandingStage, ActsWell, TakesLine, IfSomeLine, Agrees, steps_of}
+use Rattle.mld_model.specs.declared.Command.{Command}
+use Rattle.mld_model.specs.World.{founded}
+use Rattle.mld_model.specs.Reply.{Ready, reply_text}
+use Rattle.mld_model.specs.Schedule.{IsNothing, SpellsSetup, SpellsCommand}
+use Rattle.mld_model.specs.StandsFor.{founded_running}
+use Rattle.mld_model.specs.FoundedLaws.{founded_sound}
+use Rattle.mld_model.specs.WorldLaws.{founded_stands}
+use Rattle.mld_model.specs.WorldStep.{Follows}
+use Rattle.mld_model.specs.RunsLaws.{one_verdict}
+use Rattle.mld.specs.declared.run.RunFault.{RunFault}
+use Rattle.mld.specs.declared.run.RunFault.TheVariants as faults
+use Rattle.mld.specs.declared.lines.Line.{Line}
+use Rattle.mld.specs.declared.lines.Line.TheVariants as lines
+use Rattle.mld.specs.declared.lines.Opening.{Opening}
+use Rattle.mld.specs.declared.lines.Opening.TheVariants as opening
+use Rattle.mld.specs.declared.worlds.Refusal.{Refusal}
+use Rattle.mld.specs.declared.worlds.Refusal.TheVariants as refusals
+use Rattle.mld.specs.declared.run.Stop.{Stop}
+use Rattle.mld.specs.declared.run.Stop.TheVariants as stops
+use Rattle.mld.specs.Stops.{stop_of, fault_of}
+use Rattle.mld.specs.Reading.{OpeningIs, LineIs}
+use Rattle.mld.specs.Worlds.{Stepped, MustWait}
 use Rattle.mld.specs.UnderWay.{IsLeft, IsUnderWay}
 
 -- a run goes on by one line
@@ -57,6 +83,35 @@ taken_left given left lines line rest left_of takes bytes is =
         ∙ sym (append_assoc lines (line ∷ []) (lines_of (after_line before.rest)));
     }
 
+-- a line was taken, said of an equal line
+pub takes_some : (left rest line : Option (List ℕ)) (piece text : List ℕ) → line ≡ Some piece → text ≡ piece
+  → ((bytes : List ℕ) → left ≡ Some bytes → TakesLine bytes rest line) → (bytes : List ℕ) → left ≡ Some bytes → TakesLine bytes rest (Some text)
+takes_some left rest line piece text is same takes bytes told =
+    let P : Option (List ℕ) → Type 0 = λ o. TakesLine bytes rest o in
+    let Q : List ℕ → Type 0 = λ t. TakesLine bytes rest (Some t) in
+    subst Q (sym same) (subst P is (takes bytes told))
+
+pub takes_none : (left rest line : Option (List ℕ)) → line ≡ None
+  → ((bytes : List ℕ) → left ≡ Some bytes → TakesLine bytes rest line) → (bytes : List ℕ) → left ≡ Some bytes → TakesLine bytes rest None
+takes_none left rest line is takes bytes told = let P : Option (List ℕ) → Type 0 = λ o. TakesLine bytes rest o in subst P is (takes bytes told)
+
+-- what a call for the next line says of a line
+pub takes_line : (lines : LinesValue) (bytes : List ℕ) (line : Option (List ℕ)) (taken : ℕ) (left : Option (List ℕ)) → NextLine lines bytes (Ok line) taken left → TakesLine bytes left line
+takes_line lines bytes None taken left next = (next.empty, next.none_left)
+takes_line lines bytes (Some piece) taken left next = (next.some, next.piece_is, next.left_is)
+
+-- the one word of a list is the text, or the list is another
+pub one_word : {X : Type 0} (f : X → List ℕ) (words : List X) (word : X) (spelled text : List ℕ) (same : Bool) → 1 ≤ length words → length words < 2
+  → word ≡ get_or words 0 word → spelled ≡ f word → same ≡ pointwise nat_eq spelled text → IsTrue same ↔ (map f words ≡ text ∷ [])
+one_word f [] word spelled text same some few is spells tests = absurd (omega (arith, some))
+one_word f (first ∷ []) word spelled text same some few is spells tests =
+    let e : spelled ≡ f first = spells ∙ ap f is in
+    (λ h. ap (λ t. t ∷ []) (sym e ∙ (path_eq-Decides spelled text).0 (sym tests ∙ h)), λ h. tests ∙ (path_eq-Decides spelled text).1 (e ∙ heads_same (f first) text h))
+  where
+    heads_same : (a b : List ℕ) → a ∷ [] ≡ b ∷ [] → a ≡ b
+    heads_same a b h = cc
+one_word f (first ∷ second ∷ words) word spelled text same some few is spells tests = absurd (omega (arith, few))
+
 -- one more line is done
 pub under_way_more : (given left rest before now after : Option (List ℕ)) (world next : Option RunningWorld) (done : ℕ) (line text : List ℕ)
   → IsUnderWay given left before now world done
@@ -81,6 +136,14 @@ under_way_more given left rest before now after world next done line text way ta
 pub standing_from : (given left before now : Option (List ℕ)) (world : Option RunningWorld) (done : ℕ) → IsUnderWay given left before now world done → IsStandingStage world
 standing_from given left before now world done way = record { stage = way.stage; stands = way.stands }
 
+end_of : (bytes : List ℕ) (rest before now : Option (List ℕ)) (running : RunningWorld) (lines : List (List ℕ)) (text : List ℕ) (stage : Stage) → StageStands (Some running) stage
+  → Runs Waiting lines text stage → lines_of bytes ≡ lines → rest ≡ Some [] → Appends before now text → Finishes bytes rest before now
+unfolding Verdict
+end_of bytes rest before now running lines text Waiting stands runs whole all written = absurd stands
+end_of bytes rest before now running lines text (Running world) stands runs whole all written =
+    let P : List (List ℕ) → Type 0 = λ ls. Runs Waiting ls text (Running world) in
+    record { text = text; world = world; verdict = subst P (sym whole) runs; sound = stands.1; all = all; written = written }
+
 -- the source is at its end, and a world runs
 pub finishes : (given left rest before now : Option (List ℕ)) (running : RunningWorld) (done : ℕ) → IsUnderWay given left before now (Some running) done
   → ((bytes : List ℕ) → left ≡ Some bytes → TakesLine bytes rest None) → (bytes : List ℕ) → given ≡ Some bytes → Finishes bytes rest before now
@@ -90,14 +153,6 @@ finishes given left rest before now running done way takes bytes is =
     let end : TakesLine at.rest rest None = takes at.rest at.is in
     let lines : lines_of bytes ≡ way.lines = at.whole ∙ ap (λ b. way.lines ++ lines_of b) end.0 ∙ append-nil way.lines in
     end_of bytes rest before now running way.lines way.text way.stage way.stands way.runs lines end.1 way.written
-  where
-    end_of : (bytes : List ℕ) (rest before now : Option (List ℕ)) (running : RunningWorld) (lines : List (List ℕ)) (text : List ℕ) (stage : Stage) → StageStands (Some running) stage
-      → Runs Waiting lines text stage → lines_of bytes ≡ lines → rest ≡ Some [] → Appends before now text → Finishes bytes rest before now
-    unfolding Verdict
-    end_of bytes rest before now running lines text Waiting stands runs whole all written = absurd stands
-    end_of bytes rest before now running lines text (Running world) stands runs whole all written =
-        let P : List (List ℕ) → Type 0 = λ ls. Runs Waiting ls text (Running world) in
-        record { text = text; world = world; verdict = subst P (sym whole) runs; sound = stands.1; all = all; written = written }
 
 -- the source is at its end, and no line was a domain line
 pub ends_waiting : (given left rest before now : Option (List ℕ)) (done : ℕ) → IsUnderWay given left before now None done
@@ -147,3 +202,150 @@ unfolding Verdict
 stops_unbuilt given left rest before now world done line way takes unbuilt bytes is =
     let b = before_line given left rest before now world done line way takes bytes is in
     record { text = way.text; stage = way.stage; verdict = record { before = b.0; line = line; first = b.1; unbuilt = unbuilt way.stage way.stands }; written = way.written }
+
+-- a line of a world that runs
+
+pub unbuilt_refusal : (refusal : Refusal) → stop_of refusal ≡ stops.Unbuilt → refusal ≡ refusals.Unbuilt
+unbuilt_refusal refusals.Unbuilt same = refl
+unbuilt_refusal refusals.NoMemory same = cc
+
+-- a refusal that became the stop of an unbuilt line
+pub refused_unbuilt : {T U : Type 0} (result : Result T Stop) (refusal : Refusal) (stop : Stop) → result ≡ Err stop → stop ≡ stop_of refusal → result ≡ Err stops.Unbuilt
+  → ◌≡◌ {A = Result U Refusal} (Err refusal) (Err refusals.Unbuilt)
+refused_unbuilt result refusal stop is from unbuilt = let same : stop ≡ stops.Unbuilt = cc (is, unbuilt) in ap (λ (r : Refusal). Err r) (unbuilt_refusal refusal (sym from ∙ same))
+
+pub unbuilt_command : (line : List ℕ) (read : Line) (command : Command) (old : RunningWorld) → read ≡ lines.Command command → LineIs line read → MustWait old command
+  → (model : World) → StandsFor old model → IsSound model → IsUnbuilt (Running model) line
+unbuilt_command line read command old is reads waits model stands sound =
+    let P : Line → Type 0 = λ l. LineIs line l in
+    let Q : Command → Type 0 = λ c. SpellsCommand line c in
+    inr (waits.message, waits.number, subst Q waits.is (subst P is reads), waits.waits model stands sound)
+
+pub commanded : (line : List ℕ) (read : Line) (command : Command) (old new : RunningWorld) (text : List ℕ) → read ≡ lines.Command command → LineIs line read → Stepped old command new [] text
+  → (model : World) → StandsFor old model → IsSound model → ActsWell (Running model) line text (Some new)
+commanded line read command old new text is reads stepped model stands sound =
+    let P : Line → Type 0 = λ l. LineIs line l in
+    let follows : Follows model command stepped.reply new = stepped.follows model stands sound in
+    record {
+      next = Running follows.next;
+      acts = inr (record { command = command; reply = stepped.reply; after = follows.next; spells = subst P is reads; steps = follows.steps; replies = stepped.text; changes = refl });
+      stands = (follows.stands, follows.sound);
+    }
+
+pub said_nothing : (line : List ℕ) (read : Line) (old : RunningWorld) → read ≡ lines.Nothing → LineIs line read
+  → (model : World) → StandsFor old model → IsSound model → ActsWell (Running model) line [] (Some old)
+said_nothing line read old is reads model stands sound =
+    let P : Line → Type 0 = λ l. LineIs line l in
+    record { next = Running model; acts = inl (subst P is reads, refl, refl); stands = (stands, sound) }
+
+-- a line while no domain line has come
+
+pub opened : (line : List ℕ) (read : Opening) (domain : List ℕ) (count : ℕ) (new : RunningWorld) (text : List ℕ) → read ≡ opening.Setup domain count → OpeningIs line read
+  → new ≡ founded_running domain count → text ≡ reply_text (Ready count) → ActsWell Waiting line text (Some new)
+opened line read domain count new text is reads founds writes =
+    let P : Opening → Type 0 = λ o. OpeningIs line o in
+    let Q : RunningWorld → Type 0 = λ r. StandsFor r (founded domain count) in
+    record {
+      next = Running (founded domain count);
+      acts = inr (record { domain = domain; count = count; spells = subst P is reads; replies = writes; changes = refl });
+      stands = (subst Q (sym founds) (founded_stands domain count), founded_sound domain count);
+    }
+
+-- what the stage of a state is
+
+pub waiting_stage : (P : Stage → Type 0) → P Waiting → (stage : Stage) → StageStands None stage → P stage
+waiting_stage P h Waiting stands = h
+waiting_stage P h (Running world) stands = absurd stands
+
+pub running_stage : (P : Stage → Type 0) (running : RunningWorld) → ((model : World) → StandsFor running model → IsSound model → P (Running model))
+  → (stage : Stage) → StageStands (Some running) stage → P stage
+running_stage P running h Waiting stands = absurd stands
+running_stage P running h (Running model) stands = h model stands.0 stands.1
+
+pub running_stage_at : (P : Stage → Type 0) (state : Option RunningWorld) (running : RunningWorld) → state ≡ Some running
+  → ((model : World) → StandsFor running model → IsSound model → P (Running model)) → (stage : Stage) → StageStands state stage → P stage
+running_stage_at P state running is h stage stands = let Q : Option RunningWorld → Type 0 = λ s. StageStands s stage in running_stage P running h stage (subst Q is stands)
+
+-- the run ends as the verdict says
+
+pub agrees_finished : (bytes : List ℕ) (left before now : Option (List ℕ)) → Finishes bytes left before now → (outcome : Outcome) → Verdict (lines_of bytes) outcome → Agrees None outcome
+agrees_finished bytes left before now ends outcome verdict =
+    let P : Outcome → Type 0 = λ o. Agrees None o in
+    subst P (one_verdict (lines_of bytes) (Finished ends.text ends.world) outcome ends.verdict verdict) tt
+
+pub agrees_fault : (bytes : List ℕ) (before now : Option (List ℕ)) (fault : RunFault) → (fault ≢ faults.Usage)
+  → ((line : ℕ) → fault ≡ faults.BadLine line → StopsAtBad bytes line before now) → ((line : ℕ) → fault ≡ faults.Unbuilt line → StopsAtUnbuilt bytes line before now)
+  → (outcome : Outcome) → Verdict (lines_of bytes) outcome → Agrees (Some fault) outcome
+agrees_fault bytes before now faults.Usage usage bad unbuilt outcome verdict = absurd (usage refl)
+agrees_fault bytes before now faults.ReadFault usage bad unbuilt outcome verdict = tt
+agrees_fault bytes before now faults.WriteFault usage bad unbuilt outcome verdict = tt
+agrees_fault bytes before now faults.NoMemory usage bad unbuilt outcome verdict = tt
+agrees_fault bytes before now (faults.TooLarge line) usage bad unbuilt outcome verdict = tt
+agrees_fault bytes before now (faults.BadLine line) usage bad unbuilt outcome verdict =
+    let ends : StopsAtBad bytes line before now = bad line refl in
+    let P : Outcome → Type 0 = λ o. Agrees (Some (faults.BadLine line)) o in
+    subst P (one_verdict (lines_of bytes) (BadLine line ends.text ends.stage) outcome ends.verdict verdict) refl
+agrees_fault bytes before now (faults.Unbuilt line) usage bad unbuilt outcome verdict =
+    let ends : StopsAtUnbuilt bytes line before now = unbuilt line refl in
+    let P : Outcome → Type 0 = λ o. Agrees (Some (faults.Unbuilt line)) o in
+    subst P (one_verdict (lines_of bytes) (UnbuiltLine line ends.text ends.stage) outcome ends.verdict verdict) refl
+
+-- a line that was taken and not done, said of equal values
+
+pub stops_bad_at : (given left rest before now : Option (List ℕ)) (world : Option RunningWorld) (done : ℕ) (taken : Option (List ℕ)) (piece line : List ℕ) (at : ℕ)
+  → IsUnderWay given left before now world done → taken ≡ Some piece → line ≡ piece → ((bytes : List ℕ) → left ≡ Some bytes → TakesLine bytes rest taken)
+  → at ≡ done + 1 → ((stage : Stage) → StageStands world stage → IsBad stage line)
+  → (bytes : List ℕ) → given ≡ Some bytes → StopsAtBad bytes at before now
+stops_bad_at given left rest before now world done taken piece line at way is same takes counts bad bytes told =
+    let P : ℕ → Type 0 = λ n. StopsAtBad bytes n before now in
+    subst P (sym counts) (stops_bad given left rest before now world done line way (takes_some left rest taken piece line is same takes) bad bytes told)
+
+pub stops_unbuilt_at : (given left rest before now : Option (List ℕ)) (world : Option RunningWorld) (done : ℕ) (taken : Option (List ℕ)) (piece line : List ℕ) (at : ℕ)
+  → IsUnderWay given left before now world done → taken ≡ Some piece → line ≡ piece → ((bytes : List ℕ) → left ≡ Some bytes → TakesLine bytes rest taken)
+  → at ≡ done + 1 → ((stage : Stage) → StageStands world stage → IsUnbuilt stage line)
+  → (bytes : List ℕ) → given ≡ Some bytes → StopsAtUnbuilt bytes at before now
+stops_unbuilt_at given left rest before now world done taken piece line at way is same takes counts unbuilt bytes told =
+    let P : ℕ → Type 0 = λ n. StopsAtUnbuilt bytes n before now in
+    subst P (sym counts) (stops_unbuilt given left rest before now world done line way (takes_some left rest taken piece line is same takes) unbuilt bytes told)
+
+-- the state at the end of the source, said of an equal state
+
+pub finishes_at : (given left rest before now : Option (List ℕ)) (world : Option RunningWorld) (running : RunningWorld) (done : ℕ) (taken : Option (List ℕ))
+  → IsUnderWay given left before now world done → world ≡ Some running → taken ≡ None → ((bytes : List ℕ) → left ≡ Some bytes → TakesLine bytes rest taken)
+  → (bytes : List ℕ) → given ≡ Some bytes → Finishes bytes rest before now
+finishes_at given left rest before now world running done taken way is none takes bytes told =
+    let P : Option RunningWorld → Type 0 = λ w. IsUnderWay given left before now w done in
+    finishes given left rest before now running done (subst P is way) (takes_none left rest taken none takes) bytes told
+
+pub ends_waiting_at : (given left rest before now : Option (List ℕ)) (world : Option RunningWorld) (done : ℕ) (taken : Option (List ℕ)) (at : ℕ)
+  → IsUnderWay given left before now world done → world ≡ None → taken ≡ None → ((bytes : List ℕ) → left ≡ Some bytes → TakesLine bytes rest taken) → at ≡ done + 1
+  → (bytes : List ℕ) → given ≡ Some bytes → StopsAtBad bytes at before now
+ends_waiting_at given left rest before now world done taken at way is none takes counts bytes told =
+    let P : Option RunningWorld → Type 0 = λ w. IsUnderWay given left before now w done in
+    let Q : ℕ → Type 0 = λ n. StopsAtBad bytes n before now in
+    subst Q (sym counts) (ends_waiting given left rest before now done (subst P is way) (takes_none left rest taken none takes) bytes told)
+
+-- which line a fault names
+pub same_bad : (line other : ℕ) → ◌≡◌ {A = Result (Unit {0}) RunFault} (Err (faults.BadLine line)) (Err (faults.BadLine other)) → other ≡ line
+same_bad line other same = cc
+
+-- the fault of a bad line came from a stop at a bad line
+pub bad_fault : {T U : Type 0} (stop : Stop) (number at : ℕ) (fault : RunFault) → fault ≡ fault_of stop number → ◌≡◌ {A = Result T RunFault} (Err fault) (Err (faults.BadLine at))
+  → (◌≡◌ {A = Result U Stop} (Err stop) (Err stops.Bad)) × (at ≡ number)
+bad_fault {U = U} stop number at fault is same = let fault_is : fault ≡ faults.BadLine at = cc in bad_stop stop number at (sym is ∙ fault_is)
+  where
+    bad_stop : (stop : Stop) (number at : ℕ) → fault_of stop number ≡ faults.BadLine at → (◌≡◌ {A = Result U Stop} (Err stop) (Err stops.Bad)) × (at ≡ number)
+    bad_stop stops.Bad number at same = (refl, cc)
+    bad_stop stops.Unbuilt number at same = absurd (cc)
+    bad_stop stops.NoMemory number at same = absurd (cc)
+
+-- what holds of a line that was there
+pub of_line : (P : List ℕ → Type 0) (taken : Option (List ℕ)) (line : List ℕ) → taken ≡ Some line → IfSomeLine P taken → P line
+of_line P taken line is h = let Q : Option (List ℕ) → Type 0 = λ o. IfSomeLine P o in subst Q is h
+
+pub err_same : {T : Type 0} (fault other : RunFault) → fault ≡ other → ◌≡◌ {A = Result T RunFault} (Err fault) (Err other)
+err_same fault other same = ap (λ (f : RunFault). Err f) same
+
+-- a result that is an error with a fault, and with another
+pub same_fault : {T : Type 0} (result : Result T RunFault) (passed fault other : RunFault) → result ≡ Err passed → passed ≡ fault → result ≡ Err other → fault ≡ other
+same_fault result passed fault other is from same = let e : passed ≡ other = cc (is, same) in sym from ∙ e

@@ -8,6 +8,7 @@ ghost use Rattle.mld_model.specs.Runs.{Stage, Waiting, Running, Outcome, Verdict
 ghost use Rattle.mld_model.specs.Sound.{IsSound};
 ghost use Rattle.mld_model.specs.StandsFor.{StandsFor};
 ghost use Rattle.mld.specs.Worlds.{IsStanding};
+ghost use Rattle.mld.specs.Stops.{fault_of};
 ghost use Rattle.mld.specs.Ran.{status_of, IsReplay, Finishes, StopsAtBad, StopsAtUnbuilt, Agrees, StageStands, IsStandingStage, ActsWell, steps_of, TakesLine, IfSomeLine, IsEdgeFault, IsLineFault, HasReadCause, HasWriteCause};
 
 use std::alloc::{AllocError, Global};
@@ -93,11 +94,20 @@ pub fn run<R: Threads, S: Source, K: Sink>(
     ensures exact { (bytes : List ℕ) → S.left source.old ≡ Some bytes → (outcome : Outcome) → Verdict (lines_of bytes) outcome
         → IsReplay (map (λ w. string_bytes w) words.now.items) → Agrees result.fault outcome }
 {
-    let fault = if is_replay(words) {
-        replay(alloc, source, sink).err()
-    } else {
-        Some(RunFault::Usage)
-    };
+    if !is_replay(words) {
+        return ended(Some(RunFault::Usage));
+    }
+    match replay(alloc, source, sink) {
+        Ok(()) => ended(None),
+        Err(fault) => ended(Some(fault)),
+    }
+}
+
+/// A run that ended so.
+fn ended(fault: Option<RunFault>) -> Ran
+    ensures fault { result.fault ≡ fault }
+    ensures status { result.status ≡ status_of fault }
+{
     Ran {
         status: status_of(fault),
         fault,
@@ -185,11 +195,12 @@ fn next_line<S: Source>(
     ensures fault { IfErr result IsEdgeFault }
     ensures cause { HasReadCause (S.faults source.old) (S.faults source.new) result }
 {
-    lines.next(source).map_err(|fault| match fault {
-        LineFault::ReadFault => RunFault::ReadFault,
-        LineFault::TooLarge => RunFault::TooLarge(number),
-        LineFault::NoMemory => RunFault::NoMemory,
-    })
+    match lines.next(source) {
+        Ok(line) => Ok(line),
+        Err(LineFault::ReadFault) => Err(RunFault::ReadFault),
+        Err(LineFault::TooLarge) => Err(RunFault::TooLarge(number)),
+        Err(LineFault::NoMemory) => Err(RunFault::NoMemory),
+    }
 }
 
 /// Writes the text of a line's reply as one piece.
@@ -214,18 +225,30 @@ fn act(alloc: Global, world: &mut Option<World>, line: &[u8], number: u64) -> Re
     ensures unbuilt { (at : ℕ) → IsErrOf result (RunFault.Unbuilt at) → (at ≡ number) × ((stage : Stage) → StageStands world.old stage → IsUnbuilt stage line.now) }
     ensures other { IfErr result IsLineFault }
 {
-    let done = match world {
-        None => open_world(alloc, line).map(|(opened, text)| {
-            *world = opened;
-            text
-        }),
-        Some(running) => command(alloc, running, line),
-    };
-    done.map_err(|stop| match stop {
+    match world {
+        None => match open_world(alloc, line) {
+            Ok((opened, text)) => {
+                *world = opened;
+                Ok(text)
+            }
+            Err(stop) => Err(fault_of(stop, number)),
+        },
+        Some(running) => match command(alloc, running, line) {
+            Ok(text) => Ok(text),
+            Err(stop) => Err(fault_of(stop, number)),
+        },
+    }
+}
+
+/// Why the run ends at line `number`.
+fn fault_of(stop: Stop, number: u64) -> RunFault
+    ensures { result ≡ fault_of stop number }
+{
+    match stop {
         Stop::Bad => RunFault::BadLine(number),
         Stop::Unbuilt => RunFault::Unbuilt(number),
         Stop::NoMemory => RunFault::NoMemory,
-    })
+    }
 }
 
 /// Does a line while no domain line has come: the world that it founds, if it does, and the text of its reply.
@@ -259,12 +282,14 @@ fn command(alloc: Global, world: &mut World, line: &[u8]) -> Result<Vec<u8>, Sto
 {
     let mut text = Vec::new(alloc);
     match read_line(alloc, line)? {
-        Line::Nothing => {}
-        Line::Unbuilt => return Err(Stop::Unbuilt),
-        Line::Bad => return Err(Stop::Bad),
-        Line::Command(command) => world.step(alloc, command, &mut text)?,
+        Line::Nothing => Ok(text),
+        Line::Unbuilt => Err(Stop::Unbuilt),
+        Line::Bad => Err(Stop::Bad),
+        Line::Command(command) => {
+            world.step(alloc, command, &mut text)?;
+            Ok(text)
+        }
     }
-    Ok(text)
 }
 
 impl From<AllocError> for Stop {
