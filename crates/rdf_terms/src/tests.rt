@@ -12,11 +12,22 @@ fn read(alloc: Global, text: &str) -> Result<Triple, TripleFault> {
     read_triple(alloc, text)
 }
 
-/// What is written for the triple of a text.
-fn rewritten(alloc: Global, text: &str) -> Result<Vec<u8>, Fail> {
+/// Whether a text is refused as no triple.
+fn is_refused(alloc: Global, text: &str) -> bool {
+    matches!(read(alloc, text), Err(TripleFault::NotTriple { .. }))
+}
+
+/// Whether a text is refused for its lengths.
+fn is_too_long(alloc: Global, text: &str) -> bool {
+    matches!(read(alloc, text), Err(TripleFault::TooLong))
+}
+
+/// Whether just this is written for the triple of a text.
+fn is_rewritten(alloc: Global, text: &str, wanted: &str) -> Result<bool, Fail> {
+    let triple = read(alloc, text)?;
     let mut out = Vec::new(alloc);
-    write_triple(&mut out, &read(alloc, text)?)?;
-    Ok(out)
+    write_triple(&mut out, &triple)?;
+    Ok(out.as_slice() == wanted.as_bytes())
 }
 
 /// A text of so many times `a` behind a start.
@@ -30,18 +41,22 @@ fn long(alloc: Global, start: &str, count: usize) -> Result<String, Fail> {
 
 #[test]
 fn triples_are_written_in_canonical_form(rt: HostRuntime) -> Result<(), Fail> {
-    let alloc = rt.alloc();
-    let number = rewritten(
-        alloc,
-        "<http://d/a><http://d/#p>\"042\"^^<http://www.w3.org/2001/XMLSchema#integer>.",
-    )?;
-    assert_eq!(rt; number.as_slice(), b"<http://d/a> <http://d/#p> \"042\"^^<http://www.w3.org/2001/XMLSchema#integer> .".as_slice());
-    let tagged = rewritten(alloc, " <http://d/a>\t<http://d/p> \"x\"@EN-gb . \t")?;
-    assert_eq!(rt; tagged.as_slice(), b"<http://d/a> <http://d/p> \"x\"@en-gb .".as_slice());
-    let string = rewritten(alloc, "<http://d/a> <http://d/p> \"x\"^^<http://www.w3.org/2001/XMLSchema#string> .")?;
-    assert_eq!(rt; string.as_slice(), b"<http://d/a> <http://d/p> \"x\" .".as_slice());
-    let iri = rewritten(alloc, "<http://d/a> <http://d/p> <urn:x> .")?;
-    assert_eq!(rt; iri.as_slice(), b"<http://d/a> <http://d/p> <urn:x> .".as_slice());
+    let number = "<http://d/a><http://d/#p>\"042\"^^<http://www.w3.org/2001/XMLSchema#integer>.";
+    let spaced = "<http://d/a> <http://d/#p> \"042\"^^<http://www.w3.org/2001/XMLSchema#integer> .";
+    assert!(rt; is_rewritten(rt.alloc(), number, spaced)?);
+    let tagged = " <http://d/a>\t<http://d/p> \"x\"@EN-gb . \t";
+    let lower = "<http://d/a> <http://d/p> \"x\"@en-gb .";
+    assert!(rt; is_rewritten(rt.alloc(), tagged, lower)?);
+    Ok(())
+}
+
+#[test]
+fn strings_are_written_without_datatype(rt: HostRuntime) -> Result<(), Fail> {
+    let string = "<http://d/a> <http://d/p> \"x\"^^<http://www.w3.org/2001/XMLSchema#string> .";
+    let bare = "<http://d/a> <http://d/p> \"x\" .";
+    assert!(rt; is_rewritten(rt.alloc(), string, bare)?);
+    let iri = "<http://d/a> <http://d/p> <urn:x> .";
+    assert!(rt; is_rewritten(rt.alloc(), iri, iri)?);
     Ok(())
 }
 
@@ -60,95 +75,116 @@ fn what_is_no_triple_is_refused(rt: HostRuntime) {
         "<http://d/a> <http://d/p b> \"x\" .",
     ];
     for text in texts {
-        assert!(rt; matches!(read(rt.alloc(), text), Err(TripleFault::NotTriple { .. })), "{text}");
+        assert!(rt; is_refused(rt.alloc(), text), "{text}");
     }
 }
 
 #[test]
-fn lengths_are_limited(rt: HostRuntime) -> Result<(), Fail> {
+fn iris_are_limited(rt: HostRuntime) -> Result<(), Fail> {
     let alloc = rt.alloc();
     let iri = long(alloc, "<http://d/", 2039)?;
     let fits = format!(in alloc; "{iri}> <http://d/p> \"x\" .")?;
-    assert!(rt; read(alloc, fits.as_str()).is_ok());
+    assert!(rt; !is_too_long(alloc, fits.as_str()));
     let longer = format!(in alloc; "{iri}a> <http://d/p> \"x\" .")?;
-    assert!(rt; matches!(read(alloc, longer.as_str()), Err(TripleFault::TooLong)));
-    let lexical = long(alloc, "<http://d/a> <http://d/p> \"", 1_048_577)?;
-    let text = format!(in alloc; "{lexical}\" .")?;
-    assert!(rt; matches!(read(alloc, text.as_str()), Err(TripleFault::TooLong)));
+    assert!(rt; is_too_long(alloc, longer.as_str()));
     Ok(())
 }
 
 #[test]
-fn equality_and_order(rt: HostRuntime) -> Result<(), Fail> {
+fn lexical_forms_are_limited(rt: HostRuntime) -> Result<(), Fail> {
     let alloc = rt.alloc();
-    let long_form = read(alloc, "<http://d/a> <http://d/p> \"042\" .")?;
-    let short_form = read(alloc, "<http://d/a> <http://d/p> \"42\" .")?;
-    assert!(rt; long_form != short_form);
-    assert!(rt; long_form < short_form);
-    assert!(rt; long_form == long_form.copy_in(alloc)?);
+    let lexical = long(alloc, "<http://d/a> <http://d/p> \"", 1_048_577)?;
+    let text = format!(in alloc; "{lexical}\" .")?;
+    assert!(rt; is_too_long(alloc, text.as_str()));
+    Ok(())
+}
+
+#[test]
+fn numbers_that_are_written_apart_differ(rt: HostRuntime) -> Result<(), Fail> {
+    let alloc = rt.alloc();
+    let padded = read(alloc, "<http://d/a> <http://d/p> \"042\" .")?;
+    let bare = read(alloc, "<http://d/a> <http://d/p> \"42\" .")?;
+    let copy = padded.copy_in(alloc)?;
+    assert!(rt; padded != bare);
+    assert!(rt; padded < bare);
+    assert!(rt; padded == copy);
+    Ok(())
+}
+
+#[test]
+fn literals_come_before_iris(rt: HostRuntime) -> Result<(), Fail> {
+    let alloc = rt.alloc();
     let hash = read(alloc, "<http://d/a#> <http://d/p> <urn:x> .")?;
     let bare = read(alloc, "<http://d/a> <http://d/p> \"x\" .")?;
-    assert_eq!(rt; cmp_triples(&hash, &bare), Ordering::Less);
-    assert_eq!(rt; cmp_terms(&bare.o, &hash.o), Ordering::Less);
+    assert!(rt; cmp_triples(&hash, &bare) == Ordering::Less);
+    assert!(rt; cmp_terms(&bare.o, &hash.o) == Ordering::Less);
     assert!(rt; bare.o < hash.o);
-    assert!(rt; bare.o == bare.o.copy_in(alloc)?);
+    assert!(rt; bare.o != hash.o);
+    Ok(())
+}
+
+#[test]
+fn escapes_count_in_the_order(rt: HostRuntime) -> Result<(), Fail> {
+    let alloc = rt.alloc();
     let spaced = Term::Literal(Literal::tagged(alloc, "x y", "en")?);
     let quoted = Term::Literal(Literal::tagged(alloc, "x\"", "en")?);
-    assert_eq!(rt; cmp_terms(&spaced, &quoted), Ordering::Less);
-    assert_eq!(rt; cmp_terms(&quoted, &spaced), Ordering::Greater);
-    order_is_total();
-    one_triple();
-    written_again();
+    assert!(rt; cmp_terms(&spaced, &quoted) == Ordering::Less);
+    assert!(rt; cmp_terms(&quoted, &spaced) == Ordering::Greater);
     Ok(())
 }
 
 #[test]
 fn escapes_are_written(rt: HostRuntime) -> Result<(), Fail> {
     let alloc = rt.alloc();
-    let triple = Triple {
-        s: Iri::new(alloc, "http://d/a")?,
-        p: Iri::new(alloc, "http://d/p")?,
-        o: Term::Literal(Literal::tagged(alloc, "a\"b\\c\nd\re", "EN")?),
-    };
+    let s = Iri::new(alloc, "http://d/a")?;
+    let p = s.copy_in(alloc)?;
+    let o = Term::Literal(Literal::tagged(alloc, "a\"b\\c\nd\re", "EN")?);
     let mut out = Vec::new(alloc);
-    write_triple(&mut out, &triple)?;
-    assert_eq!(rt; out.as_slice(), b"<http://d/a> <http://d/p> \"a\\\"b\\\\c\\nd\\re\"@en .".as_slice());
+    write_triple(&mut out, &Triple { s, p, o })?;
+    let wanted = "<http://d/a> <http://d/a> \"a\\\"b\\\\c\\nd\\re\"@en .";
+    assert!(rt; out.as_slice() == wanted.as_bytes());
     Ok(())
 }
 
 #[test]
-fn constructors_test_their_texts(rt: HostRuntime) -> Result<(), Fail> {
+fn iris_are_tested(rt: HostRuntime) -> Result<(), Fail> {
     let alloc = rt.alloc();
     let iri = Iri::new(alloc, "http://d/a")?;
-    assert_eq!(rt; iri.as_str(), "http://d/a");
-    assert!(rt; iri == iri.copy_in(alloc)?);
+    let copy = iri.copy_in(alloc)?;
+    assert!(rt; iri == copy);
+    assert!(rt; iri.as_str() == "http://d/a");
     assert!(rt; matches!(Iri::new(alloc, "a"), Err(TermFault::BadIri)));
-    let other = Iri::new(alloc, "http://www.w3.org/1999/02/22-rdf-syntax-ns#langString")?;
-    assert!(rt; matches!(Literal::new(alloc, "x", &other), Err(TermFault::BadType)));
-    assert!(rt; matches!(Literal::tagged(alloc, "x", "en-"), Err(TermFault::BadTag)));
-    let literal = Literal::new(alloc, "x", &iri)?;
-    let copy = literal.copy_in(alloc)?;
-    assert!(rt; Term::Literal(literal) == Term::Literal(copy));
-    let lexical = long(alloc, "", 1_048_577)?;
-    assert!(rt; matches!(Literal::new(alloc, lexical.as_str(), &iri), Err(TermFault::TooLong)));
-    assert!(rt; matches!(Literal::tagged(alloc, lexical.as_str(), "en"), Err(TermFault::TooLong)));
     Ok(())
 }
 
 #[test]
-fn names_of_domains_and_iris(rt: HostRuntime) -> Result<(), Fail> {
+fn literals_are_tested(rt: HostRuntime) -> Result<(), Fail> {
     let alloc = rt.alloc();
-    assert!(rt; is_domain("data.example-1"));
-    assert!(rt; !is_domain(""));
-    assert!(rt; !is_domain("Data"));
-    assert!(rt; is_domain(long(alloc, "", 200)?.as_str()));
-    assert!(rt; !is_domain(long(alloc, "", 201)?.as_str()));
-    assert!(rt; is_absolute("urn:x"));
-    assert!(rt; !is_absolute("1x:y"));
-    let text = Text::new(alloc, "x")?;
-    assert!(rt; text == text.copy_in(alloc)?);
-    assert_eq!(rt; text.len(), 1);
-    assert!(rt; !text.is_empty());
-    assert_eq!(rt; text.as_str(), "x");
+    let iri = Iri::new(alloc, "http://d/a")?;
+    let literal = Literal::new(alloc, "x", &iri)?;
+    let copy = Term::Literal(literal.copy_in(alloc)?);
+    assert!(rt; Term::Literal(literal) == copy);
+    assert!(rt; matches!(Literal::tagged(alloc, "x", "en-"), Err(TermFault::BadTag)));
+    let tag_type = Iri::new(alloc, "http://www.w3.org/1999/02/22-rdf-syntax-ns#langString")?;
+    assert!(rt; matches!(Literal::new(alloc, "x", &tag_type), Err(TermFault::BadType)));
+    Ok(())
+}
+
+#[test]
+fn names_of_domains_are_tested(rt: HostRuntime) -> Result<(), Fail> {
+    let most = long(rt.alloc(), "", 200)?;
+    let more = long(rt.alloc(), "", 201)?;
+    assert!(rt; is_domain("data.example-1") && is_domain(most.as_str()));
+    assert!(rt; !is_domain("") && !is_domain("Data") && !is_domain(more.as_str()));
+    assert!(rt; is_absolute("urn:x") && !is_absolute("1x:y"));
+    Ok(())
+}
+
+#[test]
+fn texts_are_copied(rt: HostRuntime) -> Result<(), Fail> {
+    let text = Text::new(rt.alloc(), "x")?;
+    let copy = text.copy_in(rt.alloc())?;
+    assert!(rt; text == copy);
+    assert!(rt; text.len() == 1 && !text.is_empty() && text.as_str() == "x");
     Ok(())
 }
