@@ -18,3 +18,6 @@ pub use terms::{Iri, Literal, Term, Triple};
 pub use texts::Text;
 pub use triples::{one_triple, read_triple, written_again};
 pub use write::write_triple;
+
+#[cfg(test)]
+mod tests;
