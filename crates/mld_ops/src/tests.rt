@@ -20,6 +20,12 @@ fn pair(alloc: Global, object: &str, dot: &Dot) -> Result<Tagged, Fail> {
     })
 }
 
+fn pairs(alloc: Global, object: &str, dot: &Dot) -> Result<Vec<Tagged>, Fail> {
+    let mut pairs = Vec::new(alloc);
+    pairs.push(pair(alloc, object, dot)?)?;
+    Ok(pairs)
+}
+
 fn one(dot: &Dot) -> Range {
     Range {
         path: dot.path,
@@ -28,15 +34,119 @@ fn one(dot: &Dot) -> Range {
     }
 }
 
-fn inserting(alloc: Global, dot: &Dot, object: &str) -> Result<Operation, Fail> {
+fn left(tick: u32) -> Dot {
+    Dot {
+        path: Path::root().child(false),
+        tick,
+    }
+}
+
+fn right(tick: u32) -> Dot {
+    Dot {
+        path: Path::root().child(true),
+        tick,
+    }
+}
+
+fn inserting(alloc: Global, dot: &Dot) -> Result<Operation, Fail> {
     let mut inserts = Vec::new(alloc);
-    inserts.push(triple(alloc, object)?)?;
+    inserts.push(triple(alloc, "http://example.org/t")?)?;
     Ok(Operation {
         dot: *dot,
         causes: Ranges::new(alloc),
         deletes: Vec::new(alloc),
         inserts,
     })
+}
+
+fn deleting(alloc: Global, dot: &Dot, cause: &Dot) -> Result<Operation, Fail> {
+    let mut causes = Ranges::new(alloc);
+    causes.push(one(cause))?;
+    Ok(Operation {
+        dot: *dot,
+        causes,
+        deletes: pairs(alloc, "http://example.org/t", cause)?,
+        inserts: Vec::new(alloc),
+    })
+}
+
+// Both leaves insert a triple, and then the right one deletes its own pair.
+fn three(alloc: Global) -> Result<Vec<Operation>, Fail> {
+    let mut history = Vec::new(alloc);
+    history.push(deleting(alloc, &right(2), &right(1))?)?;
+    history.push(inserting(alloc, &right(1))?)?;
+    history.push(inserting(alloc, &left(1))?)?;
+    Ok(history)
+}
+
+#[test]
+fn a_delete_leaves_the_triple_by_another_dot(rt: HostRuntime) -> Result<(), Fail> {
+    let history = three(rt.alloc())?;
+    let known = [one(&left(1)), one(&right(1)), one(&right(2))];
+    let after = meaning(rt.alloc(), &history, &known)?;
+    assert_eq!(rt; after.len(), 1);
+    assert!(rt; after[0].dot == left(1));
+    Ok(())
+}
+
+#[test]
+fn what_is_not_known_deletes_nothing(rt: HostRuntime) -> Result<(), Fail> {
+    let history = three(rt.alloc())?;
+    let known = [one(&right(1)), one(&left(1))];
+    let before = meaning(rt.alloc(), &history, &known)?;
+    assert_eq!(rt; before.len(), 2);
+    assert!(rt; before[0].dot == left(1));
+    assert!(rt; before[1].dot == right(1));
+    Ok(())
+}
+
+// The pairs with the objects b, a and b, put in one after another.
+fn two(alloc: Global, dot: &Dot) -> Result<Vec<Tagged>, Fail> {
+    let mut pairs = Vec::new(alloc);
+    insert_pair(&mut pairs, pair(alloc, "http://example.org/b", dot)?)?;
+    insert_pair(&mut pairs, pair(alloc, "http://example.org/a", dot)?)?;
+    insert_pair(&mut pairs, pair(alloc, "http://example.org/b", dot)?)?;
+    Ok(pairs)
+}
+
+#[test]
+fn a_list_has_each_pair_once_in_order(rt: HostRuntime) -> Result<(), Fail> {
+    let inserted = two(rt.alloc(), &left(1))?;
+    let copy = copy_pairs(rt.alloc(), &inserted)?;
+    let expected = pairs(rt.alloc(), "http://example.org/a", &left(1))?;
+    assert_eq!(rt; copy.len(), 2);
+    assert!(rt; copy[..1] == expected[..]);
+    Ok(())
+}
+
+fn without_first(alloc: Global, dot: &Dot) -> Result<Vec<Tagged>, Fail> {
+    let first = pairs(alloc, "http://example.org/a", dot)?;
+    let mut pairs = Vec::new(alloc);
+    insert_pair(&mut pairs, pair(alloc, "http://example.org/b", dot)?)?;
+    insert_pair(&mut pairs, pair(alloc, "http://example.org/a", dot)?)?;
+    remove_pairs(&mut pairs, &first);
+    Ok(pairs)
+}
+
+#[test]
+fn a_pair_is_taken_out_and_the_other_stays(rt: HostRuntime) -> Result<(), Fail> {
+    let left_over = without_first(rt.alloc(), &left(1))?;
+    let expected = pairs(rt.alloc(), "http://example.org/b", &left(1))?;
+    assert!(rt; left_over == expected);
+    Ok(())
+}
+
+fn has_object(alloc: Global, object: &str) -> Result<bool, Fail> {
+    let mut pairs = Vec::new(alloc);
+    insert_pair(&mut pairs, pair(alloc, "http://example.org/b", &left(1))?)?;
+    Ok(has_pair(&pairs, &pair(alloc, object, &left(1))?))
+}
+
+#[test]
+fn a_pair_is_found_by_its_triple(rt: HostRuntime) -> Result<(), Fail> {
+    assert!(rt; has_object(rt.alloc(), "http://example.org/b")?);
+    assert!(rt; !has_object(rt.alloc(), "http://example.org/a")?);
+    Ok(())
 }
 
 // A clock of one path.
@@ -47,80 +157,11 @@ fn clock(alloc: Global, dot: &Dot) -> Result<Clock, Fail> {
     Ok(clock)
 }
 
-#[test]
-fn a_delete_takes_the_pair_and_leaves_the_triple_by_another_dot(
-    rt: HostRuntime,
-) -> Result<(), Fail> {
-    let alloc = rt.alloc();
-    let left = Dot {
-        path: Path::root().child(false),
-        tick: 1,
-    };
-    let right = Dot {
-        path: Path::root().child(true),
-        tick: 1,
-    };
-    let next = Dot {
-        path: Path::root().child(true),
-        tick: 2,
-    };
-    let mut causes = Ranges::new(alloc);
-    causes.push(one(&right))?;
-    let mut deletes = Vec::new(alloc);
-    deletes.push(pair(alloc, "http://example.org/t", &right)?)?;
-    let deleting = Operation {
-        dot: next,
-        causes,
-        deletes,
-        inserts: Vec::new(alloc),
-    };
-    let history = [
-        deleting,
-        inserting(alloc, &right, "http://example.org/t")?,
-        inserting(alloc, &left, "http://example.org/t")?,
-    ];
-    let by_left = pair(alloc, "http://example.org/t", &left)?;
-    let by_right = pair(alloc, "http://example.org/t", &right)?;
-    let all = meaning(alloc, &history, &[one(&left), one(&right), one(&next)])?;
-    assert_eq!(rt; all.len(), 1);
-    assert!(rt; all[0] == by_left);
-    let before = meaning(alloc, &history, &[one(&right), one(&left)])?;
-    assert_eq!(rt; before.len(), 2);
-    assert!(rt; before[0] == by_left);
-    assert!(rt; before[1] == by_right);
-    Ok(())
-}
-
-#[test]
-fn a_list_keeps_its_order_and_its_members(rt: HostRuntime) -> Result<(), Fail> {
-    let alloc = rt.alloc();
-    let dot = Dot {
-        path: Path::root(),
-        tick: 1,
-    };
-    let mut pairs = Vec::new(alloc);
-    insert_pair(&mut pairs, pair(alloc, "http://example.org/b", &dot)?)?;
-    insert_pair(&mut pairs, pair(alloc, "http://example.org/a", &dot)?)?;
-    insert_pair(&mut pairs, pair(alloc, "http://example.org/b", &dot)?)?;
-    assert_eq!(rt; pairs.len(), 2);
-    let first = pair(alloc, "http://example.org/a", &dot)?;
-    assert!(rt; pairs[0] == first);
-    let copy = copy_pairs(alloc, &pairs)?;
-    remove_pairs(&mut pairs, &[first]);
-    assert_eq!(rt; pairs.len(), 1);
-    let second = pair(alloc, "http://example.org/b", &dot)?;
-    assert!(rt; has_pair(&pairs, &second));
-    assert_eq!(rt; copy.len(), 2);
-    Ok(())
-}
-
-// Whether there is an entry of the root's range from `first` to `last`, at a time of `ticks` ticks, that deletes the
-// first object at the first tick and the second object at the second, and inserts a triple at the last tick named.
+// Whether there is an entry of the root's ticks from `first` to `last`, at a time of `ticks` ticks, that deletes pairs
+// of these objects and ticks, and inserts a triple at the tick `insert`.
 fn is_entry(
     alloc: Global,
-    first: u32,
-    last: u32,
-    ticks: u32,
+    (first, last, ticks): (u32, u32, u32),
     deletes: [(&str, u32); 2],
     insert: u32,
 ) -> Result<bool, Fail> {
@@ -138,62 +179,44 @@ fn is_entry(
 
 #[test]
 fn an_entry_is_refused_where_a_part_is_none_of_an_entry(rt: HostRuntime) -> Result<(), Fail> {
-    let alloc = rt.alloc();
     let sorted = [("http://example.org/a", 1), ("http://example.org/b", 2)];
-    assert!(rt; is_entry(alloc, 3, 5, 5, sorted, 4)?);
-    assert!(rt; !is_entry(alloc, 0, 5, 5, sorted, 4)?, "tick 0");
-    assert!(rt; !is_entry(alloc, 5, 4, 4, sorted, 4)?, "no tick");
-    assert!(rt;
-        !is_entry(alloc, 3, 5, 6, sorted, 4)?,
-        "a time that ends elsewhere"
-    );
     let unsorted = [("http://example.org/b", 2), ("http://example.org/a", 1)];
-    assert!(rt;
-        !is_entry(alloc, 3, 5, 5, unsorted, 4)?,
-        "deletes out of order"
-    );
     let twice = [("http://example.org/a", 1), ("http://example.org/a", 1)];
-    assert!(rt; !is_entry(alloc, 3, 5, 5, twice, 4)?, "a delete twice");
     let inside = [("http://example.org/a", 1), ("http://example.org/b", 3)];
-    assert!(rt;
-        !is_entry(alloc, 3, 5, 5, inside, 4)?,
-        "a delete of the range"
-    );
     let later = [("http://example.org/a", 1), ("http://example.org/b", 6)];
-    assert!(rt;
-        !is_entry(alloc, 3, 5, 5, later, 4)?,
-        "a delete that isn't covered"
-    );
-    assert!(rt;
-        !is_entry(alloc, 3, 5, 5, sorted, 2)?,
-        "an insert before the range"
-    );
-    assert!(rt;
-        !is_entry(alloc, 3, 5, 5, sorted, 6)?,
-        "an insert after the range"
-    );
+    for (ticks, deletes, insert, want) in [
+        ((3, 5, 5), sorted, 4, true),
+        // A tick 0, a range with no dot, and a time that ends elsewhere.
+        ((0, 5, 5), sorted, 4, false),
+        ((5, 4, 4), sorted, 4, false),
+        ((3, 5, 6), sorted, 4, false),
+        // Deletes out of order, twice, of the range, and not covered.
+        ((3, 5, 5), unsorted, 4, false),
+        ((3, 5, 5), twice, 4, false),
+        ((3, 5, 5), inside, 4, false),
+        ((3, 5, 5), later, 4, false),
+        // An insert before the range, and one after it.
+        ((3, 5, 5), sorted, 2, false),
+        ((3, 5, 5), sorted, 6, false),
+    ] {
+        assert_eq!(rt; is_entry(rt.alloc(), ticks, deletes, insert)?, want);
+    }
     Ok(())
+}
+
+fn entry(alloc: Global) -> Result<Entry, Fail> {
+    let deletes = pairs(alloc, "http://example.org/a", &left(1))?;
+    let mut inserts = Vec::new(alloc);
+    inserts.push((triple(alloc, "http://example.org/b")?, 2))?;
+    let time = clock(alloc, &left(2))?;
+    Ok(Entry::new(one(&left(2)), time, deletes, inserts).ok_or("refused")?)
 }
 
 #[test]
 fn an_entry_gives_its_parts(rt: HostRuntime) -> Result<(), Fail> {
-    let alloc = rt.alloc();
-    let own = Dot {
-        path: Path::root(),
-        tick: 2,
-    };
-    let before = Dot {
-        path: Path::root(),
-        tick: 1,
-    };
-    let mut deletes = Vec::new(alloc);
-    deletes.push(pair(alloc, "http://example.org/a", &before)?)?;
-    let mut inserts = Vec::new(alloc);
-    inserts.push((triple(alloc, "http://example.org/b")?, 2))?;
-    let made = Entry::new(one(&own), clock(alloc, &own)?, deletes, inserts).ok_or("refused")?;
-    let entry = made.copy_in(alloc)?;
-    assert!(rt; entry.range() == one(&own));
-    assert_eq!(rt; entry.time().ticks(&own.path), 2);
+    let entry = entry(rt.alloc())?.copy_in(rt.alloc())?;
+    assert!(rt; entry.range() == one(&left(2)));
+    assert_eq!(rt; entry.time().ticks(&left(2).path), 2);
     assert_eq!(rt; entry.deletes().len(), 1);
     assert_eq!(rt; entry.inserts().len(), 1);
     Ok(())
