@@ -1,10 +1,8 @@
 -- Runs at the front of a text, and texts cut at a mark.
-use Rattle.std.proofs.Common.{◌≡◌, ◌≢◌, ℕ, zero, suc, ◌+◌, ◌<◌, ◌≤◌, List, [], ◌∷◌, ◌++◌, length, get_or, drop, Bool, true, false, cond, eqb, Option, Some, None, MatchOption, refl, sym, ap, subst, ◌∙◌, inl, inr, arith}
+use Rattle.std.proofs.Common.{◌≡◌, ◌≢◌, ℕ, suc, ◌+◌, ◌<◌, ◌≤◌, List, [], ◌∷◌, ◌++◌, length, get_or, drop, Bool, true, false, Option, Some, None, MatchOption, refl, ap, ◌∙◌, arith}
 use Rattle.std.specs.Borrow.{Bor}
-use Rattle.std.specs.Str.{IsUtf8, IsCharBoundary}
 use Rattle.std.proofs.lemmas.List.{drop_more, drop_all}
-use Rattle.std.proofs.lemmas.Bool.{eq-eqb, ne_eqb, cases_Bool}
-use Rattle.std.proofs.lemmas.Str.{IsCharBoundary-start, IsCharBoundary-after_ascii}
+use Rattle.std.proofs.lemmas.Bool.{eq-eqb, ne_eqb}
 use Rattle.std.proofs.lemmas.Bool.Decides.{nat_tests}
 use Rattle.rdf_terms.specs.Grammar.{is_blank}
 use Rattle.rdf_terms.specs.Reading.{run_len, cut, onto, is_tag_byte}
@@ -37,7 +35,7 @@ cut_first mark (byte ∷ front) rest h = rw (ne_eqb byte mark (h 0 (omega arith)
 
 -- what `split_once` says of a mark
 pub cut_from_parts : (mark : ℕ) (text : List ℕ) (r : Option (Bor (List ℕ) × Bor (List ℕ)))
-  → MatchOption r ((i : ℕ) → i < length text → get_or text i 0 ≢ mark) (λ x. (text ≡ x.0.now ++ (mark ∷ x.1.now)) × ((i : ℕ) → i < length x.0.now → get_or x.0.now i 0 ≢ mark))
-  → MatchOption r (cut mark text ≡ None) (λ x. cut mark text ≡ Some (x.0.now, x.1.now))
+    → MatchOption r ((i : ℕ) → i < length text → get_or text i 0 ≢ mark) (λ x. (text ≡ x.0.now ++ (mark ∷ x.1.now)) × ((i : ℕ) → i < length x.0.now → get_or x.0.now i 0 ≢ mark))
+    → MatchOption r (cut mark text ≡ None) (λ x. cut mark text ≡ Some (x.0.now, x.1.now))
 cut_from_parts mark text None h = cut_none mark text h
 cut_from_parts mark text (Some x) h = ap (cut mark) h.0 ∙ cut_first mark x.0.now x.1.now h.1

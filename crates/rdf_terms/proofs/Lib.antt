@@ -2,4 +2,4 @@ pub mod Comparing
 pub mod Tags
 pub mod Appending
 pub mod Cutting
-pub mod Fronts
+pub mod Sound

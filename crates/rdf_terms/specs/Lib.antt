@@ -10,5 +10,8 @@ pub mod Faults
 pub mod Kept
 pub mod Grammar
 pub mod Reading
+pub mod Fronts
 pub mod ReadingLaws
 pub mod Parts
+pub mod Building
+pub mod Plain

@@ -1,6 +1,4 @@
 -- The parts of a triple's text as the triple that they stand for.
-use Rattle.std.specs.Prelude.{ℕ, List}
-use Rattle.std.specs.Borrow.{Bor}
 use Rattle.std.specs.Str.{str_to_ascii_lowercase}
 use Rattle.rdf_terms.specs.declared.terms.Term.{Term}
 use Rattle.rdf_terms.specs.declared.terms.Term.TheVariants as terms
@@ -8,7 +6,7 @@ use Rattle.rdf_terms.specs.declared.terms.Triple.{Triple}
 use Rattle.rdf_terms.specs.declared.read.ObjectParts.{ObjectParts}
 use Rattle.rdf_terms.specs.declared.read.ObjectParts.TheVariants as parts
 use Rattle.rdf_terms.specs.declared.read.TripleParts.{TripleParts}
-use Rattle.rdf_terms.specs.Literal.{LiteralValue, Typed, Tagged}
+use Rattle.rdf_terms.specs.Literal.{Typed, Tagged}
 
 -- the object of its parts
 abbrev pub object_value : ObjectParts → Term

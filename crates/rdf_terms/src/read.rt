@@ -165,7 +165,7 @@ fn read_literal(text: &str) -> Result<(ObjectParts<'_>, &str), usize>
 }
 
 /// Reads an object.
-#[tactic(auto, using(crate::proofs::Fronts::object_other), unfolding(crate::specs::Reading::object_of))]
+#[tactic(auto, using(crate::specs::Fronts::object_other), unfolding(crate::specs::Reading::object_of))]
 fn read_object(text: &str) -> Result<(ObjectParts<'_>, &str), usize>
     ensures { MatchResult result
         (λ parts. object_of text.now ≡ Some (object_value parts.0, parts.1.now))
@@ -191,7 +191,7 @@ fn is_end(text: &str) -> bool
 
 /// Reads a triple's text as its parts.
 #[tactic(auto, unfolding(crate::specs::Reading::triple_of))]
-fn read_parts(text: &str) -> Result<TripleParts<'_>, usize>
+pub fn read_parts(text: &str) -> Result<TripleParts<'_>, usize>
     ensures { MatchResult result (λ parts. triple_of text.now ≡ Some (triple_value parts)) (λ _. triple_of text.now ≡ None) }
 {
     let (s, rest) = read_iri(skip_blanks(text))?;

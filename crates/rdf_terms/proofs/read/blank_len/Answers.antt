@@ -1,14 +1,13 @@
-use Rattle.std.proofs.Common.{◌≡◌, ℕ, ◌<◌, ◌+◌, true, length, get_or, drop, suc, sym, subst, ◌∙◌, arith}
+use Rattle.std.proofs.Common.{◌≡◌, ◌<◌, true, length, get_or, sym, subst, ◌∙◌, arith}
 use Rattle.std.proofs.lemmas.Str.{IsCharBoundary-start, IsCharBoundary-after_ascii}
 use Rattle.rdf_terms.specs.Grammar.{is_blank}
-use Rattle.rdf_terms.specs.Reading.{run_len}
 use Rattle.rdf_terms.proofs.Cutting.{run_more, blank_small}
 use Rattle.rdf_terms.proofs.read.blank_len.Goals as goal
 
 pub loop-i-init : goal.loop-i-init
 loop-i-init c = record {
   count = omega arith;
-  boundary = IsCharBoundary-start c.args.text.now c.utf8.text
+  boundary = IsCharBoundary-start c.args.text.now c.utf8.text;
 }
 
 pub loop-i-preserved : goal.loop-i-preserved
@@ -19,5 +18,5 @@ loop-i-preserved c =
     let passes : is_blank (get_or text i 0) ≡ true = subst (λ l. is_blank (get_or l i 0) ≡ true) c.as_bytes-bytes.ensures.value (sym c.is_blank.ensures ∙ c.if-not-is_blank.false) in
     record {
       count = omega (arith, run_more is_blank text i lt passes);
-      boundary = IsCharBoundary-after_ascii text i c.utf8.text lt (blank_small (get_or text i 0) passes)
+      boundary = IsCharBoundary-after_ascii text i c.utf8.text lt (blank_small (get_or text i 0) passes);
     }

@@ -8,5 +8,5 @@ use Rattle.rdf_terms.proofs.read.blank_len.Given as goal
 abbrev pub invariant-loop-i : goal.invariant-loop-i
 invariant-loop-i l = record {
   count : run_len is_blank l.text ≡ l.i + run_len is_blank (drop l.i l.text);
-  boundary : IsCharBoundary l.text l.i
+  boundary : IsCharBoundary l.text l.i;
 }

@@ -1,6 +1,6 @@
 use Rattle.std.proofs.Common.{ap, ◌∙◌}
 use Rattle.rdf_terms.specs.Reading.{as_iri}
-use Rattle.rdf_terms.proofs.Fronts.{object_other}
+use Rattle.rdf_terms.specs.Fronts.{object_other}
 use Rattle.rdf_terms.proofs.read.read_object.Goals as goal
 
 pub returns : goal.returns

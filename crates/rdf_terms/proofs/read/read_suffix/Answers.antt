@@ -1,7 +1,7 @@
 use Rattle.std.proofs.Common.{ap}
 use Rattle.rdf_terms.specs.Literal.{xsd_string}
 use Rattle.rdf_terms.specs.Reading.{as_literal}
-use Rattle.rdf_terms.proofs.Fronts.{suffix_other}
+use Rattle.rdf_terms.specs.Fronts.{suffix_other}
 use Rattle.rdf_terms.proofs.read.read_suffix.Goals as goal
 
 pub returns : goal.returns

@@ -1,8 +1,8 @@
 -- What is read where a front does not come.
-use Rattle.std.proofs.Common.{◌≡◌, ◌≢◌, ℕ, List, [], ◌∷◌, Bool, true, false, Option, Some, None, refl, sym, ap, ◌∙◌, arith}
+use Rattle.std.proofs.Common.{◌≡◌, ◌≢◌, ℕ, List, [], ◌∷◌, Some, refl, ap}
 use Rattle.std.proofs.lemmas.Bool.{ne_eqb}
 use Rattle.rdf_terms.specs.Literal.{Typed, xsd_string}
-use Rattle.rdf_terms.specs.Reading.{iri_of, as_iri, as_literal, suffix_of, object_of}
+use Rattle.rdf_terms.specs.Reading.{iri_of, as_iri, suffix_of, object_of}
 
 -- with no tag and no datatype it is xsd:string
 pub suffix_other : (lexical text : List ℕ) → ((rest : List ℕ) → text ≢ 64 ∷ rest) → ((rest : List ℕ) → text ≢ 94 ∷ rest) → suffix_of lexical text ≡ Some (Typed lexical xsd_string, text)
