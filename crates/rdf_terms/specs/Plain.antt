@@ -43,11 +43,13 @@ behind_quotes lexical suffix h = ap (λ l. 34 ∷ (l ++ 34 ∷ suffix)) (escaped
 object_written : (o : Term) → IsPlainTerm o → SpellsObject (term_text o) o
 unfolding term_text
 object_written (terms.Iri iri) h = (h, refl)
-object_written (terms.Literal (Typed lexical datatype)) h =
-    (h.0, elim (cases_Bool (is_same datatype xsd_string)) [
-      inl e ↦ inl (ap (λ l. 34 ∷ (escaped lexical ++ 34 ∷ l)) (nothing datatype e) ∙ ap (λ l. 34 ∷ (l ++ 34 ∷ [])) (escaped_plain lexical h.0), (bytes_eq-Decides datatype xsd_string).0 e)
+object_written (terms.Literal (Typed lexical datatype)) h = (
+  h.0,
+  elim (cases_Bool (is_same datatype xsd_string)) [
+    | inl e ↦ inl (ap (λ l. 34 ∷ (escaped lexical ++ 34 ∷ l)) (nothing datatype e) ∙ ap (λ l. 34 ∷ (l ++ 34 ∷ [])) (escaped_plain lexical h.0), (bytes_eq-Decides datatype xsd_string).0 e)
     | inr e ↦ inr (ap (λ l. 34 ∷ (escaped lexical ++ 34 ∷ l)) (named datatype e) ∙ behind_quotes lexical (94 ∷ 94 ∷ iri_text datatype) h.0, h.1, h.2)
-    ])
+  ],
+)
   where
     nothing : (d : List ℕ) → is_same d xsd_string ≡ true → datatype_text d ≡ []
     nothing d e = rw e refl
@@ -59,8 +61,20 @@ object_written (terms.Literal (Tagged lexical tag)) h = (h.0, (tag, h.1, sym h.2
 -- a triple that needs no escapes is spelled as it is written
 pub written_spelled : (t : Triple) → IsPlainTriple t → SpellsTriple (triple_text t) t
 unfolding triple_text SpellsTriple
-written_spelled t h = (record {
-  before = []; after_subject = 32 ∷ []; after_predicate = 32 ∷ []; object = term_text t.o; after_object = 32 ∷ []; after_dot = []
-}, record {
-  blanks = refl; subject = h.subject; predicate = h.predicate; object = object_written t.o h.object; whole = refl
-})
+written_spelled t h = (
+  record {
+    before = [];
+    after_subject = 32 ∷ [];
+    after_predicate = 32 ∷ [];
+    object = term_text t.o;
+    after_object = 32 ∷ [];
+    after_dot = [];
+  },
+  record {
+    blanks = refl;
+    subject = h.subject;
+    predicate = h.predicate;
+    object = object_written t.o h.object;
+    whole = refl;
+  },
+)

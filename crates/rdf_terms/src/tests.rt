@@ -165,7 +165,10 @@ fn literals_are_tested(rt: HostRuntime) -> Result<(), Fail> {
     let copy = Term::Literal(literal.copy_in(alloc)?);
     assert!(rt; Term::Literal(literal) == copy);
     assert!(rt; matches!(Literal::tagged(alloc, "x", "en-"), Err(TermFault::BadTag)));
-    let tag_type = Iri::new(alloc, "http://www.w3.org/1999/02/22-rdf-syntax-ns#langString")?;
+    let tag_type = Iri::new(
+        alloc,
+        "http://www.w3.org/1999/02/22-rdf-syntax-ns#langString",
+    )?;
     assert!(rt; matches!(Literal::new(alloc, "x", &tag_type), Err(TermFault::BadType)));
     Ok(())
 }

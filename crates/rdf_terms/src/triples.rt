@@ -97,5 +97,4 @@ pub fn one_triple()
 #[tactic(auto, using(crate::specs::Plain::written_spelled))]
 pub fn written_again()
     ensures { (t : Triple) → IsPlainTriple t → SpellsTriple (triple_text t) t }
-{
-}
+{}
