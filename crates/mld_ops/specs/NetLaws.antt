@@ -144,9 +144,9 @@ module _ (history : List Operation) (operation : Operation) (lawful : IsLawful h
 
 -- an entry of the range of one dot is its net effect just where it has the effect of the operation of that dot
 pub net_iff_effect : (history : List Operation) (operation : Operation) (entry : EntryValue)
-  → IsLawful history → Has history operation → entry.range ≡ range_of operation.dot → IsAscending tagged_cmp entry.deletes → IsAscending insert_cmp entry.inserts
-  → IsNet history (range_of operation.dot) entry ↔ IsEffect operation entry
-net_iff_effect history operation entry lawful stands same deletes inserts =
-    ( λ n. net_of_one_back history operation lawful stands (range_of operation.dot) entry n refl refl
-    , λ f. net_of_one history operation lawful stands entry same deletes inserts f
-    )
+    → IsLawful history → Has history operation → entry.range ≡ range_of operation.dot → IsAscending tagged_cmp entry.deletes → IsAscending insert_cmp entry.inserts
+    → IsNet history (range_of operation.dot) entry ↔ IsEffect operation entry
+net_iff_effect history operation entry lawful stands same deletes inserts = (
+  λ n. net_of_one_back history operation lawful stands (range_of operation.dot) entry n refl refl,
+  λ f. net_of_one history operation lawful stands entry same deletes inserts f,
+)

@@ -6,6 +6,8 @@ mod laws;
 mod operations;
 mod pairs;
 mod tagged;
+#[cfg(test)]
+mod tests;
 
 pub use entries::Entry;
 pub use laws::{meaning_of_taken, net_of_one, one_meaning};
