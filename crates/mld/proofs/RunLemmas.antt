@@ -1,21 +1,21 @@
 -- A replay from line to line, and how it ends.
-use Rattle.std.proofs.Common.{◌≡◌, ◌≢◌, ℕ, zero, suc, ◌+◌, ◌≤◌, ◌<◌, List, [], ◌∷◌, ◌++◌, ◌⊎◌, ◌↔◌, inl, inr, refl, sym, ◌∙◌, ap, arith, subst, length, Option, None, Some, append_assoc, append-nil, length-append, get_or, map, Bool, Ok, Err, Result}
+use Rattle.std.proofs.Common.{◌≡◌, ◌≢◌, ℕ, ◌+◌, ◌≤◌, ◌<◌, List, [], ◌∷◌, ◌++◌, ◌↔◌, inl, inr, refl, sym, ◌∙◌, ap, arith, subst, length, Option, None, Some, append_assoc, append-nil, length-append, get_or, map, Bool, Ok, Err, Result}
 use Rattle.std.specs.Prelude.{IsTrue, nat_eq}
 use Rattle.std.specs.Cmp.Lexicographic.{pointwise}
 use Rattle.tree_clock.specs.DotLaws.{path_eq-Decides}
 use Rattle.mld_io.specs.Lines.{LinesValue, NextLine}
 use Rattle.std.specs.Io.KnownBytes.{Appends}
-use Rattle.mld_io.specs.Lines.{lines_of, first_line, after_line}
+use Rattle.mld_io.specs.Lines.{lines_of, after_line}
 use Rattle.mld_io.specs.LinesLaws.{first_of_lines_lem}
 use Rattle.mld_model.specs.World.{World}
-use Rattle.mld_model.specs.Runs.{Stage, Waiting, Running, Acts, Runs, IsBad, IsUnbuilt, Before, StopsBad, StopsUnbuilt, Outcome, Finished, BadLine, UnbuiltLine, Verdict}
+use Rattle.mld_model.specs.Runs.{Stage, Waiting, Running, Acts, Runs, IsBad, IsUnbuilt, Before, Outcome, Finished, BadLine, UnbuiltLine, Verdict}
 use Rattle.mld_model.specs.Sound.{IsSound}
 use Rattle.mld_model.specs.StandsFor.{RunningWorld, StandsFor}
 use Rattle.mld.specs.Ran.{Finishes, StopsAtBad, StopsAtUnbuilt, StageStands, IsStandingStage, ActsWell, TakesLine, IfSomeLine, Agrees, steps_of}
 use Rattle.mld_model.specs.declared.Command.{Command}
 use Rattle.mld_model.specs.World.{founded}
 use Rattle.mld_model.specs.Reply.{Ready, reply_text}
-use Rattle.mld_model.specs.Schedule.{IsNothing, SpellsSetup, SpellsCommand}
+use Rattle.mld_model.specs.Schedule.{SpellsCommand}
 use Rattle.mld_model.specs.StandsFor.{founded_running}
 use Rattle.mld_model.specs.FoundedLaws.{founded_sound}
 use Rattle.mld_model.specs.WorldLaws.{founded_stands}
@@ -38,7 +38,7 @@ use Rattle.mld.specs.UnderWay.{IsLeft, IsUnderWay}
 
 -- a run goes on by one line
 runs_more : (stage middle next : Stage) (lines : List (List ℕ)) (text line more : List ℕ) → Runs stage lines text middle → Acts middle line more next
-  → Runs stage (lines ++ line ∷ []) (text ++ more) next
+    → Runs stage (lines ++ line ∷ []) (text ++ more) next
 runs_more stage middle next [] text line more runs acts =
     let P : List ℕ → Type 0 = λ t. Runs stage (line ∷ []) (t ++ more) next in
     let Q : Stage → Type 0 = λ s. Acts s line more next in
@@ -59,20 +59,20 @@ appends_nothing (Some xs) = sym (append-nil xs)
 -- nothing is done yet
 pub under_way_first : (given before : Option (List ℕ)) → IsUnderWay given given before before None 0
 under_way_first given before = record {
-    lines = [];
-    text = [];
-    stage = Waiting;
-    counted = refl;
-    runs = (refl, refl);
-    stands = tt;
-    steps = omega arith;
-    left_of = λ bytes is. record { rest = bytes; is = is; whole = refl };
-    written = appends_nothing before;
-  }
+  lines = [];
+  text = [];
+  stage = Waiting;
+  counted = refl;
+  runs = (refl, refl);
+  stands = tt;
+  steps = omega arith;
+  left_of = λ bytes is. record { rest = bytes; is = is; whole = refl };
+  written = appends_nothing before;
+}
 
 -- the lines done, and the next line that was taken
 taken_left : (given left : Option (List ℕ)) (lines : List (List ℕ)) (line : List ℕ) (rest : Option (List ℕ)) → ((bytes : List ℕ) → given ≡ Some bytes → IsLeft bytes left lines)
-  → ((bytes : List ℕ) → left ≡ Some bytes → TakesLine bytes rest (Some line)) → (bytes : List ℕ) → given ≡ Some bytes → IsLeft bytes rest (lines ++ line ∷ [])
+    → ((bytes : List ℕ) → left ≡ Some bytes → TakesLine bytes rest (Some line)) → (bytes : List ℕ) → given ≡ Some bytes → IsLeft bytes rest (lines ++ line ∷ [])
 taken_left given left lines line rest left_of takes bytes is =
     let before : IsLeft bytes left lines = left_of bytes is in
     let taken : TakesLine before.rest rest (Some line) = takes before.rest before.is in
@@ -80,19 +80,19 @@ taken_left given left lines line rest left_of takes bytes is =
       rest = after_line before.rest;
       is = taken.2;
       whole = before.whole ∙ ap (λ ls. lines ++ ls) (first_of_lines_lem before.rest taken.0 ∙ ap (λ l. l ∷ lines_of (after_line before.rest)) (sym taken.1))
-        ∙ sym (append_assoc lines (line ∷ []) (lines_of (after_line before.rest)));
+          ∙ sym (append_assoc lines (line ∷ []) (lines_of (after_line before.rest)));
     }
 
 -- a line was taken, said of an equal line
 pub takes_some : (left rest line : Option (List ℕ)) (piece text : List ℕ) → line ≡ Some piece → text ≡ piece
-  → ((bytes : List ℕ) → left ≡ Some bytes → TakesLine bytes rest line) → (bytes : List ℕ) → left ≡ Some bytes → TakesLine bytes rest (Some text)
+    → ((bytes : List ℕ) → left ≡ Some bytes → TakesLine bytes rest line) → (bytes : List ℕ) → left ≡ Some bytes → TakesLine bytes rest (Some text)
 takes_some left rest line piece text is same takes bytes told =
     let P : Option (List ℕ) → Type 0 = λ o. TakesLine bytes rest o in
     let Q : List ℕ → Type 0 = λ t. TakesLine bytes rest (Some t) in
     subst Q (sym same) (subst P is (takes bytes told))
 
 pub takes_none : (left rest line : Option (List ℕ)) → line ≡ None
-  → ((bytes : List ℕ) → left ≡ Some bytes → TakesLine bytes rest line) → (bytes : List ℕ) → left ≡ Some bytes → TakesLine bytes rest None
+    → ((bytes : List ℕ) → left ≡ Some bytes → TakesLine bytes rest line) → (bytes : List ℕ) → left ≡ Some bytes → TakesLine bytes rest None
 takes_none left rest line is takes bytes told = let P : Option (List ℕ) → Type 0 = λ o. TakesLine bytes rest o in subst P is (takes bytes told)
 
 -- what a call for the next line says of a line
@@ -102,7 +102,7 @@ takes_line lines bytes (Some piece) taken left next = (next.some, next.piece_is,
 
 -- the one word of a list is the text, or the list is another
 pub one_word : {X : Type 0} (f : X → List ℕ) (words : List X) (word : X) (spelled text : List ℕ) (same : Bool) → 1 ≤ length words → length words < 2
-  → word ≡ get_or words 0 word → spelled ≡ f word → same ≡ pointwise nat_eq spelled text → IsTrue same ↔ (map f words ≡ text ∷ [])
+    → word ≡ get_or words 0 word → spelled ≡ f word → same ≡ pointwise nat_eq spelled text → IsTrue same ↔ (map f words ≡ text ∷ [])
 one_word f [] word spelled text same some few is spells tests = absurd (omega (arith, some))
 one_word f (first ∷ []) word spelled text same some few is spells tests =
     let e : spelled ≡ f first = spells ∙ ap f is in
@@ -114,10 +114,10 @@ one_word f (first ∷ second ∷ words) word spelled text same some few is spell
 
 -- one more line is done
 pub under_way_more : (given left rest before now after : Option (List ℕ)) (world next : Option RunningWorld) (done : ℕ) (line text : List ℕ)
-  → IsUnderWay given left before now world done
-  → ((bytes : List ℕ) → left ≡ Some bytes → TakesLine bytes rest (Some line))
-  → ((stage : Stage) → StageStands world stage → ActsWell stage line text next) → steps_of next ≤ steps_of world + 1
-  → Appends now after text → IsUnderWay given rest before after next (done + 1)
+    → IsUnderWay given left before now world done
+    → ((bytes : List ℕ) → left ≡ Some bytes → TakesLine bytes rest (Some line))
+    → ((stage : Stage) → StageStands world stage → ActsWell stage line text next) → steps_of next ≤ steps_of world + 1
+    → Appends now after text → IsUnderWay given rest before after next (done + 1)
 under_way_more given left rest before now after world next done line text way takes acts few writes =
     let act : ActsWell way.stage line text next = acts way.stage way.stands in
     record {
@@ -137,7 +137,7 @@ pub standing_from : (given left before now : Option (List ℕ)) (world : Option 
 standing_from given left before now world done way = record { stage = way.stage; stands = way.stands }
 
 end_of : (bytes : List ℕ) (rest before now : Option (List ℕ)) (running : RunningWorld) (lines : List (List ℕ)) (text : List ℕ) (stage : Stage) → StageStands (Some running) stage
-  → Runs Waiting lines text stage → lines_of bytes ≡ lines → rest ≡ Some [] → Appends before now text → Finishes bytes rest before now
+    → Runs Waiting lines text stage → lines_of bytes ≡ lines → rest ≡ Some [] → Appends before now text → Finishes bytes rest before now
 unfolding Verdict
 end_of bytes rest before now running lines text Waiting stands runs whole all written = absurd stands
 end_of bytes rest before now running lines text (Running world) stands runs whole all written =
@@ -146,7 +146,7 @@ end_of bytes rest before now running lines text (Running world) stands runs whol
 
 -- the source is at its end, and a world runs
 pub finishes : (given left rest before now : Option (List ℕ)) (running : RunningWorld) (done : ℕ) → IsUnderWay given left before now (Some running) done
-  → ((bytes : List ℕ) → left ≡ Some bytes → TakesLine bytes rest None) → (bytes : List ℕ) → given ≡ Some bytes → Finishes bytes rest before now
+    → ((bytes : List ℕ) → left ≡ Some bytes → TakesLine bytes rest None) → (bytes : List ℕ) → given ≡ Some bytes → Finishes bytes rest before now
 unfolding Verdict
 finishes given left rest before now running done way takes bytes is =
     let at : IsLeft bytes left way.lines = way.left_of bytes is in
@@ -156,7 +156,7 @@ finishes given left rest before now running done way takes bytes is =
 
 -- the source is at its end, and no line was a domain line
 pub ends_waiting : (given left rest before now : Option (List ℕ)) (done : ℕ) → IsUnderWay given left before now None done
-  → ((bytes : List ℕ) → left ≡ Some bytes → TakesLine bytes rest None) → (bytes : List ℕ) → given ≡ Some bytes → StopsAtBad bytes (done + 1) before now
+    → ((bytes : List ℕ) → left ≡ Some bytes → TakesLine bytes rest None) → (bytes : List ℕ) → given ≡ Some bytes → StopsAtBad bytes (done + 1) before now
 unfolding Verdict
 ends_waiting given left rest before now done way takes bytes is =
     let at : IsLeft bytes left way.lines = way.left_of bytes is in
@@ -177,18 +177,19 @@ ends_waiting given left rest before now done way takes bytes is =
 
 -- the lines before a line that was taken
 before_line : (given left rest before now : Option (List ℕ)) (world : Option RunningWorld) (done : ℕ) (line : List ℕ) → (way : IsUnderWay given left before now world done)
-  → ((bytes : List ℕ) → left ≡ Some bytes → TakesLine bytes rest (Some line)) → (bytes : List ℕ) → given ≡ Some bytes
-  → (b : Before (lines_of bytes) (done + 1) way.text way.stage) × ((others : List (List ℕ)) × (b.rest ≡ line ∷ others))
+    → ((bytes : List ℕ) → left ≡ Some bytes → TakesLine bytes rest (Some line)) → (bytes : List ℕ) → given ≡ Some bytes
+    → (b : Before (lines_of bytes) (done + 1) way.text way.stage) × ((others : List (List ℕ)) × (b.rest ≡ line ∷ others))
 before_line given left rest before now world done line way takes bytes is =
     let at : IsLeft bytes left way.lines = way.left_of bytes is in
-    let taken : TakesLine at.rest rest (Some line) = takes at.rest at.is in
-    (record { front = way.lines; rest = lines_of at.rest; whole = at.whole; counted = ap (λ n. n + 1) way.counted; runs = way.runs },
-      (lines_of (after_line at.rest), first_of_lines_lem at.rest taken.0 ∙ ap (λ l. l ∷ lines_of (after_line at.rest)) (sym taken.1)))
+    let taken : TakesLine at.rest rest (Some line) = takes at.rest at.is in (
+      record { front = way.lines; rest = lines_of at.rest; whole = at.whole; counted = ap (λ n. n + 1) way.counted; runs = way.runs },
+      (lines_of (after_line at.rest), first_of_lines_lem at.rest taken.0 ∙ ap (λ l. l ∷ lines_of (after_line at.rest)) (sym taken.1)),
+    )
 
 -- a line that was taken is bad
 pub stops_bad : (given left rest before now : Option (List ℕ)) (world : Option RunningWorld) (done : ℕ) (line : List ℕ) → IsUnderWay given left before now world done
-  → ((bytes : List ℕ) → left ≡ Some bytes → TakesLine bytes rest (Some line)) → ((stage : Stage) → StageStands world stage → IsBad stage line)
-  → (bytes : List ℕ) → given ≡ Some bytes → StopsAtBad bytes (done + 1) before now
+    → ((bytes : List ℕ) → left ≡ Some bytes → TakesLine bytes rest (Some line)) → ((stage : Stage) → StageStands world stage → IsBad stage line)
+    → (bytes : List ℕ) → given ≡ Some bytes → StopsAtBad bytes (done + 1) before now
 unfolding Verdict
 stops_bad given left rest before now world done line way takes bad bytes is =
     let b = before_line given left rest before now world done line way takes bytes is in
@@ -196,8 +197,8 @@ stops_bad given left rest before now world done line way takes bad bytes is =
 
 -- a line that was taken isn't built
 pub stops_unbuilt : (given left rest before now : Option (List ℕ)) (world : Option RunningWorld) (done : ℕ) (line : List ℕ) → IsUnderWay given left before now world done
-  → ((bytes : List ℕ) → left ≡ Some bytes → TakesLine bytes rest (Some line)) → ((stage : Stage) → StageStands world stage → IsUnbuilt stage line)
-  → (bytes : List ℕ) → given ≡ Some bytes → StopsAtUnbuilt bytes (done + 1) before now
+    → ((bytes : List ℕ) → left ≡ Some bytes → TakesLine bytes rest (Some line)) → ((stage : Stage) → StageStands world stage → IsUnbuilt stage line)
+    → (bytes : List ℕ) → given ≡ Some bytes → StopsAtUnbuilt bytes (done + 1) before now
 unfolding Verdict
 stops_unbuilt given left rest before now world done line way takes unbuilt bytes is =
     let b = before_line given left rest before now world done line way takes bytes is in
@@ -211,18 +212,18 @@ unbuilt_refusal refusals.NoMemory same = cc
 
 -- a refusal that became the stop of an unbuilt line
 pub refused_unbuilt : {T U : Type 0} (result : Result T Stop) (refusal : Refusal) (stop : Stop) → result ≡ Err stop → stop ≡ stop_of refusal → result ≡ Err stops.Unbuilt
-  → ◌≡◌ {A = Result U Refusal} (Err refusal) (Err refusals.Unbuilt)
+    → ◌≡◌ {A = Result U Refusal} (Err refusal) (Err refusals.Unbuilt)
 refused_unbuilt result refusal stop is from unbuilt = let same : stop ≡ stops.Unbuilt = cc (is, unbuilt) in ap (λ (r : Refusal). Err r) (unbuilt_refusal refusal (sym from ∙ same))
 
 pub unbuilt_command : (line : List ℕ) (read : Line) (command : Command) (old : RunningWorld) → read ≡ lines.Command command → LineIs line read → MustWait old command
-  → (model : World) → StandsFor old model → IsSound model → IsUnbuilt (Running model) line
+    → (model : World) → StandsFor old model → IsSound model → IsUnbuilt (Running model) line
 unbuilt_command line read command old is reads waits model stands sound =
     let P : Line → Type 0 = λ l. LineIs line l in
     let Q : Command → Type 0 = λ c. SpellsCommand line c in
     inr (waits.message, waits.number, subst Q waits.is (subst P is reads), waits.waits model stands sound)
 
 pub commanded : (line : List ℕ) (read : Line) (command : Command) (old new : RunningWorld) (text : List ℕ) → read ≡ lines.Command command → LineIs line read → Stepped old command new [] text
-  → (model : World) → StandsFor old model → IsSound model → ActsWell (Running model) line text (Some new)
+    → (model : World) → StandsFor old model → IsSound model → ActsWell (Running model) line text (Some new)
 commanded line read command old new text is reads stepped model stands sound =
     let P : Line → Type 0 = λ l. LineIs line l in
     let follows : Follows model command stepped.reply new = stepped.follows model stands sound in
@@ -233,7 +234,7 @@ commanded line read command old new text is reads stepped model stands sound =
     }
 
 pub said_nothing : (line : List ℕ) (read : Line) (old : RunningWorld) → read ≡ lines.Nothing → LineIs line read
-  → (model : World) → StandsFor old model → IsSound model → ActsWell (Running model) line [] (Some old)
+    → (model : World) → StandsFor old model → IsSound model → ActsWell (Running model) line [] (Some old)
 said_nothing line read old is reads model stands sound =
     let P : Line → Type 0 = λ l. LineIs line l in
     record { next = Running model; acts = inl (subst P is reads, refl, refl); stands = (stands, sound) }
@@ -241,7 +242,7 @@ said_nothing line read old is reads model stands sound =
 -- a line while no domain line has come
 
 pub opened : (line : List ℕ) (read : Opening) (domain : List ℕ) (count : ℕ) (new : RunningWorld) (text : List ℕ) → read ≡ opening.Setup domain count → OpeningIs line read
-  → new ≡ founded_running domain count → text ≡ reply_text (Ready count) → ActsWell Waiting line text (Some new)
+    → new ≡ founded_running domain count → text ≡ reply_text (Ready count) → ActsWell Waiting line text (Some new)
 opened line read domain count new text is reads founds writes =
     let P : Opening → Type 0 = λ o. OpeningIs line o in
     let Q : RunningWorld → Type 0 = λ r. StandsFor r (founded domain count) in
@@ -258,12 +259,12 @@ waiting_stage P h Waiting stands = h
 waiting_stage P h (Running world) stands = absurd stands
 
 pub running_stage : (P : Stage → Type 0) (running : RunningWorld) → ((model : World) → StandsFor running model → IsSound model → P (Running model))
-  → (stage : Stage) → StageStands (Some running) stage → P stage
+    → (stage : Stage) → StageStands (Some running) stage → P stage
 running_stage P running h Waiting stands = absurd stands
 running_stage P running h (Running model) stands = h model stands.0 stands.1
 
 pub running_stage_at : (P : Stage → Type 0) (state : Option RunningWorld) (running : RunningWorld) → state ≡ Some running
-  → ((model : World) → StandsFor running model → IsSound model → P (Running model)) → (stage : Stage) → StageStands state stage → P stage
+    → ((model : World) → StandsFor running model → IsSound model → P (Running model)) → (stage : Stage) → StageStands state stage → P stage
 running_stage_at P state running is h stage stands = let Q : Option RunningWorld → Type 0 = λ s. StageStands s stage in running_stage P running h stage (subst Q is stands)
 
 -- the run ends as the verdict says
@@ -274,8 +275,8 @@ agrees_finished bytes left before now ends outcome verdict =
     subst P (one_verdict (lines_of bytes) (Finished ends.text ends.world) outcome ends.verdict verdict) tt
 
 pub agrees_fault : (bytes : List ℕ) (before now : Option (List ℕ)) (fault : RunFault) → (fault ≢ faults.Usage)
-  → ((line : ℕ) → fault ≡ faults.BadLine line → StopsAtBad bytes line before now) → ((line : ℕ) → fault ≡ faults.Unbuilt line → StopsAtUnbuilt bytes line before now)
-  → (outcome : Outcome) → Verdict (lines_of bytes) outcome → Agrees (Some fault) outcome
+    → ((line : ℕ) → fault ≡ faults.BadLine line → StopsAtBad bytes line before now) → ((line : ℕ) → fault ≡ faults.Unbuilt line → StopsAtUnbuilt bytes line before now)
+    → (outcome : Outcome) → Verdict (lines_of bytes) outcome → Agrees (Some fault) outcome
 agrees_fault bytes before now faults.Usage usage bad unbuilt outcome verdict = absurd (usage refl)
 agrees_fault bytes before now faults.ReadFault usage bad unbuilt outcome verdict = tt
 agrees_fault bytes before now faults.WriteFault usage bad unbuilt outcome verdict = tt
@@ -293,17 +294,17 @@ agrees_fault bytes before now (faults.Unbuilt line) usage bad unbuilt outcome ve
 -- a line that was taken and not done, said of equal values
 
 pub stops_bad_at : (given left rest before now : Option (List ℕ)) (world : Option RunningWorld) (done : ℕ) (taken : Option (List ℕ)) (piece line : List ℕ) (at : ℕ)
-  → IsUnderWay given left before now world done → taken ≡ Some piece → line ≡ piece → ((bytes : List ℕ) → left ≡ Some bytes → TakesLine bytes rest taken)
-  → at ≡ done + 1 → ((stage : Stage) → StageStands world stage → IsBad stage line)
-  → (bytes : List ℕ) → given ≡ Some bytes → StopsAtBad bytes at before now
+    → IsUnderWay given left before now world done → taken ≡ Some piece → line ≡ piece → ((bytes : List ℕ) → left ≡ Some bytes → TakesLine bytes rest taken)
+    → at ≡ done + 1 → ((stage : Stage) → StageStands world stage → IsBad stage line)
+    → (bytes : List ℕ) → given ≡ Some bytes → StopsAtBad bytes at before now
 stops_bad_at given left rest before now world done taken piece line at way is same takes counts bad bytes told =
     let P : ℕ → Type 0 = λ n. StopsAtBad bytes n before now in
     subst P (sym counts) (stops_bad given left rest before now world done line way (takes_some left rest taken piece line is same takes) bad bytes told)
 
 pub stops_unbuilt_at : (given left rest before now : Option (List ℕ)) (world : Option RunningWorld) (done : ℕ) (taken : Option (List ℕ)) (piece line : List ℕ) (at : ℕ)
-  → IsUnderWay given left before now world done → taken ≡ Some piece → line ≡ piece → ((bytes : List ℕ) → left ≡ Some bytes → TakesLine bytes rest taken)
-  → at ≡ done + 1 → ((stage : Stage) → StageStands world stage → IsUnbuilt stage line)
-  → (bytes : List ℕ) → given ≡ Some bytes → StopsAtUnbuilt bytes at before now
+    → IsUnderWay given left before now world done → taken ≡ Some piece → line ≡ piece → ((bytes : List ℕ) → left ≡ Some bytes → TakesLine bytes rest taken)
+    → at ≡ done + 1 → ((stage : Stage) → StageStands world stage → IsUnbuilt stage line)
+    → (bytes : List ℕ) → given ≡ Some bytes → StopsAtUnbuilt bytes at before now
 stops_unbuilt_at given left rest before now world done taken piece line at way is same takes counts unbuilt bytes told =
     let P : ℕ → Type 0 = λ n. StopsAtUnbuilt bytes n before now in
     subst P (sym counts) (stops_unbuilt given left rest before now world done line way (takes_some left rest taken piece line is same takes) unbuilt bytes told)
@@ -311,15 +312,15 @@ stops_unbuilt_at given left rest before now world done taken piece line at way i
 -- the state at the end of the source, said of an equal state
 
 pub finishes_at : (given left rest before now : Option (List ℕ)) (world : Option RunningWorld) (running : RunningWorld) (done : ℕ) (taken : Option (List ℕ))
-  → IsUnderWay given left before now world done → world ≡ Some running → taken ≡ None → ((bytes : List ℕ) → left ≡ Some bytes → TakesLine bytes rest taken)
-  → (bytes : List ℕ) → given ≡ Some bytes → Finishes bytes rest before now
+    → IsUnderWay given left before now world done → world ≡ Some running → taken ≡ None → ((bytes : List ℕ) → left ≡ Some bytes → TakesLine bytes rest taken)
+    → (bytes : List ℕ) → given ≡ Some bytes → Finishes bytes rest before now
 finishes_at given left rest before now world running done taken way is none takes bytes told =
     let P : Option RunningWorld → Type 0 = λ w. IsUnderWay given left before now w done in
     finishes given left rest before now running done (subst P is way) (takes_none left rest taken none takes) bytes told
 
 pub ends_waiting_at : (given left rest before now : Option (List ℕ)) (world : Option RunningWorld) (done : ℕ) (taken : Option (List ℕ)) (at : ℕ)
-  → IsUnderWay given left before now world done → world ≡ None → taken ≡ None → ((bytes : List ℕ) → left ≡ Some bytes → TakesLine bytes rest taken) → at ≡ done + 1
-  → (bytes : List ℕ) → given ≡ Some bytes → StopsAtBad bytes at before now
+    → IsUnderWay given left before now world done → world ≡ None → taken ≡ None → ((bytes : List ℕ) → left ≡ Some bytes → TakesLine bytes rest taken) → at ≡ done + 1
+    → (bytes : List ℕ) → given ≡ Some bytes → StopsAtBad bytes at before now
 ends_waiting_at given left rest before now world done taken at way is none takes counts bytes told =
     let P : Option RunningWorld → Type 0 = λ w. IsUnderWay given left before now w done in
     let Q : ℕ → Type 0 = λ n. StopsAtBad bytes n before now in
@@ -331,7 +332,7 @@ same_bad line other same = cc
 
 -- the fault of a bad line came from a stop at a bad line
 pub bad_fault : {T U : Type 0} (stop : Stop) (number at : ℕ) (fault : RunFault) → fault ≡ fault_of stop number → ◌≡◌ {A = Result T RunFault} (Err fault) (Err (faults.BadLine at))
-  → (◌≡◌ {A = Result U Stop} (Err stop) (Err stops.Bad)) × (at ≡ number)
+    → (◌≡◌ {A = Result U Stop} (Err stop) (Err stops.Bad)) × (at ≡ number)
 bad_fault {U = U} stop number at fault is same = let fault_is : fault ≡ faults.BadLine at = cc in bad_stop stop number at (sym is ∙ fault_is)
   where
     bad_stop : (stop : Stop) (number at : ℕ) → fault_of stop number ≡ faults.BadLine at → (◌≡◌ {A = Result U Stop} (Err stop) (Err stops.Bad)) × (at ≡ number)

@@ -1,29 +1,25 @@
 -- What the parts of a world's step do is the model's step.
-use Rattle.std.proofs.Common.{◌≡◌, ℕ, zero, suc, ◌+◌, ◌<◌, ◌≤◌, ◌^◌, List, [], ◌∷◌, ◌++◌, ◌⊎◌, inl, inr, refl, sym, ◌∙◌, ap, arith, subst, length, get_or, set, Option, Some, None}
+use Rattle.std.proofs.Common.{◌≡◌, ℕ, zero, suc, ◌+◌, ◌<◌, List, [], ◌∷◌, inl, inr, refl, sym, ◌∙◌, arith, subst, length, Option, Some}
 use Rattle.rdf_terms.specs.declared.terms.Triple.{Triple}
-use Rattle.tree_clock.specs.declared.dots.Dot.{Dot}
-use Rattle.tree_clock.specs.Clock.{ticks_of, Covers}
 use Rattle.mld_ops.specs.Entry.{EntryValue}
 use Rattle.mld_model.specs.declared.Command.{Command}
 use Rattle.mld_model.specs.declared.Command.TheVariants.{Add, Deliver, Show, Compare}
 use Rattle.mld_model.specs.Clone.{last_dot}
 use Rattle.mld_model.specs.World.{World, clone_at}
-use Rattle.mld_model.specs.Reply.{Reply, reply_text, Did, Took, AlreadyKnown, Shows, Same, Less, More, Apart, NoMessage, IsAbsent}
-use Rattle.mld_model.specs.Runs.{Waits}
-use Rattle.mld_model.specs.Sound.{IsSound}
-use Rattle.mld_model.specs.StandsFor.{RunningLive, RunningWorld, StandsFor}
-use Rattle.mld_model.specs.Local.{next_dot, LocallyMakes, LocallyKnown, LocallyReady, LocallyTakes}
+use Rattle.mld_model.specs.Reply.{Reply, Did, Took, AlreadyKnown, Shows, NoMessage, IsAbsent}
+use Rattle.mld_model.specs.StandsFor.{RunningLive, RunningWorld}
+use Rattle.mld_model.specs.Local.{next_dot}
 use Rattle.mld_model.specs.StandsForLaws.{LiveAt, live_at}
 use Rattle.mld_model.specs.WorldStep.{Follows}
 use Rattle.mld_model.specs.WorldLaws.{stepped, stepped_with, stepped_sending, entry_at, LocallyCompares, next_tick_within, add_follows, add_absent, deliver_nothing, deliver_absent, deliver_known, deliver_taken, deliver_waits, show_follows, show_absent, compare_follows, compare_absent_first, compare_absent_second}
 use Rattle.mld.specs.declared.replies.Word.{Word}
 use Rattle.mld.specs.declared.replies.Word.TheVariants as words
 use Rattle.mld.specs.Words.{reply_of}
-use Rattle.mld.specs.Worlds.{IsStanding, Stepped, MustWait, HasNextTick, nth_entry, Changes, IsMissing, AddsAt, Writes, AddsTo, Answered, DeliversTo, WaitsAt, ShowsAt, ComparesAs, ComparesAt}
+use Rattle.mld.specs.Worlds.{IsStanding, Stepped, MustWait, HasNextTick, nth_entry, AddsTo, Answered, DeliversTo, WaitsAt, ShowsAt, ComparesAs, ComparesAt}
 
 -- the same step, said of equal replies and worlds
 follows_as : (world : World) (command : Command) (reply other : Reply) (running next : RunningWorld) → reply ≡ other → running ≡ next
-  → Follows world command reply running → Follows world command other next
+    → Follows world command reply running → Follows world command other next
 follows_as world command reply other running next same is follows =
     let P : Reply → Type 0 = λ r. Follows world command r running in
     let Q : RunningWorld → Type 0 = λ r. Follows world command other r in
@@ -31,7 +27,7 @@ follows_as world command reply other running next same is follows =
 
 -- the same step, said of an equal world and command
 pub stepped_of : (old view : RunningWorld) (command actual : Command) (new : RunningWorld) (before after : List ℕ) → view ≡ old → command ≡ actual
-  → Stepped view actual new before after → Stepped old command new before after
+    → Stepped view actual new before after → Stepped old command new before after
 stepped_of old view command actual new before after same is stepped =
     let P : Command → Type 0 = λ k. Stepped view k new before after in
     let Q : RunningWorld → Type 0 = λ r. Stepped r command new before after in
@@ -54,47 +50,49 @@ has_next_tick running number standing few live is =
     omega (arith, next_tick_within running standing.world standing.stands standing.sound number live at, few)
 
 pub added : (running : RunningWorld) (number : ℕ) (triple : Triple) (new : List (Option RunningLive)) (sent : List EntryValue) (before after : List ℕ)
-  → AddsTo running.clones running.messages number triple new sent before after → Stepped running (Add number triple) (after_step running new sent) before after
+    → AddsTo running.clones running.messages number triple new sent before after → Stepped running (Add number triple) (after_step running new sent) before after
 added running number triple new sent before after (inl (missing, same, writes)) = record {
-    reply = IsAbsent;
-    text = writes;
-    follows = λ world stands sound. follows_as world (Add number triple) IsAbsent IsAbsent (stepped running) (after_step running new sent) refl
+  reply = IsAbsent;
+  text = writes;
+  follows = λ world stands sound. follows_as world (Add number triple) IsAbsent IsAbsent (stepped running) (after_step running new sent) refl
       (λ i. after_step running (sym missing.same i) (sym same i)) (add_absent running world stands sound number triple missing.was);
-  }
+}
 added running number triple new sent before after (inr (entry, adds, same, writes)) = record {
-    reply = Did (last_dot entry.range) (length running.messages + 1);
-    text = writes;
-    follows = λ world stands sound. follows_as world (Add number triple) (Did (next_dot adds.before) (length running.messages + 1)) (Did (last_dot entry.range) (length running.messages + 1))
+  reply = Did (last_dot entry.range) (length running.messages + 1);
+  text = writes;
+  follows = λ world stands sound. follows_as world (Add number triple) (Did (next_dot adds.before) (length running.messages + 1)) (Did (last_dot entry.range) (length running.messages + 1))
       (stepped_sending running number adds.after entry) (after_step running new sent)
       (λ i. Did (last_dot (sym adds.makes.range i)) (length running.messages + 1))
       (λ i. after_step running (sym adds.changes.now i) (sym same i))
       (add_follows running world stands sound number triple adds.before adds.changes.was adds.after entry adds.makes);
-  }
+}
 
 delivered_to : (running : RunningWorld) (message number : ℕ) (entry : EntryValue) (new : List (Option RunningLive)) (before after : List ℕ)
-  → entry_at running message ≡ Some entry → Answered running.clones number entry new before after
-  → Stepped running (Deliver message number) (after_step running new running.messages) before after
+    → entry_at running message ≡ Some entry → Answered running.clones number entry new before after
+    → Stepped running (Deliver message number) (after_step running new running.messages) before after
 delivered_to running message number entry new before after sent answered = elim answered.got [
-    inl absent ↦ record {
-      reply = IsAbsent;
-      text = absent.1;
-      follows = λ world stands sound. follows_as world (Deliver message number) IsAbsent IsAbsent (stepped running) (after_step running new running.messages) refl
+  | inl absent ↦ record {
+    reply = IsAbsent;
+    text = absent.1;
+    follows = λ world stands sound. follows_as world (Deliver message number) IsAbsent IsAbsent (stepped running) (after_step running new running.messages) refl
         (λ i. after_step running (sym absent.0.same i) running.messages) (deliver_absent running world stands sound message number entry sent absent.0.was);
-    }
+  }
   | inr live ↦ elim live [
-        inl known ↦ record {
-          reply = AlreadyKnown;
-          text = known.4;
-          follows = λ world stands sound. follows_as world (Deliver message number) AlreadyKnown AlreadyKnown (stepped running) (after_step running new running.messages) refl
-            (λ i. after_step running (sym known.3 i) running.messages) (deliver_known running world stands sound message number entry known.0 sent known.1 known.2);
-        }
-      | inr took ↦ record {
-          reply = Took (entry.range ∷ []);
-          text = took.5;
-          follows = λ world stands sound. follows_as world (Deliver message number) (Took (entry.range ∷ [])) (Took (entry.range ∷ [])) (stepped_with running number took.1) (after_step running new running.messages) refl
-            (λ i. after_step running (sym took.2.now i) running.messages)
-            (deliver_taken running world stands sound message number entry took.0 took.1 sent took.2.was took.3 took.4);
-        } ] ]
+    | inl known ↦ record {
+      reply = AlreadyKnown;
+      text = known.4;
+      follows = λ world stands sound. follows_as world (Deliver message number) AlreadyKnown AlreadyKnown (stepped running) (after_step running new running.messages) refl
+          (λ i. after_step running (sym known.3 i) running.messages) (deliver_known running world stands sound message number entry known.0 sent known.1 known.2);
+    }
+    | inr took ↦ record {
+      reply = Took (entry.range ∷ []);
+      text = took.5;
+      follows = λ world stands sound. follows_as world (Deliver message number) (Took (entry.range ∷ [])) (Took (entry.range ∷ [])) (stepped_with running number took.1) (after_step running new running.messages) refl
+          (λ i. after_step running (sym took.2.now i) running.messages)
+          (deliver_taken running world stands sound message number entry took.0 took.1 sent took.2.was took.3 took.4);
+    }
+  ]
+]
 
 -- the two ways in which a message's entry is looked up are one
 pub same_entry : (running : RunningWorld) (message : ℕ) → nth_entry running.messages message ≡ entry_at running message
@@ -102,38 +100,38 @@ same_entry running zero = refl
 same_entry running (suc before) = refl
 
 pub delivered : (running : RunningWorld) (message number : ℕ) (new : List (Option RunningLive)) (before after : List ℕ)
-  → DeliversTo running.clones running.messages message number new before after
-  → Stepped running (Deliver message number) (after_step running new running.messages) before after
+    → DeliversTo running.clones running.messages message number new before after
+    → Stepped running (Deliver message number) (after_step running new running.messages) before after
 delivered running message number new before after (inl (none, same, writes)) = record {
-    reply = NoMessage;
-    text = writes;
-    follows = λ world stands sound. follows_as world (Deliver message number) NoMessage NoMessage (stepped running) (after_step running new running.messages) refl
+  reply = NoMessage;
+  text = writes;
+  follows = λ world stands sound. follows_as world (Deliver message number) NoMessage NoMessage (stepped running) (after_step running new running.messages) refl
       (λ i. after_step running (sym same i) running.messages) (deliver_nothing running world stands sound message number (sym (same_entry running message) ∙ none));
-  }
+}
 delivered running message number new before after (inr (entry, sent, answered)) =
     delivered_to running message number entry new before after (sym (same_entry running message) ∙ sent) answered
 
 pub must_wait : (running : RunningWorld) (message number : ℕ) → WaitsAt running.clones running.messages message number → MustWait running (Deliver message number)
 must_wait running message number waits = record {
-    message = message;
-    number = number;
-    is = refl;
-    waits = λ world stands sound. deliver_waits running world stands sound message number waits.entry waits.live
+  message = message;
+  number = number;
+  is = refl;
+  waits = λ world stands sound. deliver_waits running world stands sound message number waits.entry waits.live
       (sym (same_entry running message) ∙ waits.sent) waits.is waits.unknown waits.unready;
-  }
+}
 
 pub shown : (running : RunningWorld) (number : ℕ) (before after : List ℕ) → ShowsAt running.clones number before after
-  → Stepped running (Show number) (after_step running running.clones running.messages) before after
+    → Stepped running (Show number) (after_step running running.clones running.messages) before after
 shown running number before after (inl (absent, writes)) = record {
-    reply = IsAbsent;
-    text = writes;
-    follows = λ world stands sound. show_absent running world stands sound number absent;
-  }
+  reply = IsAbsent;
+  text = writes;
+  follows = λ world stands sound. show_absent running world stands sound number absent;
+}
 shown running number before after (inr (live, is, writes)) = record {
-    reply = Shows live.pairs;
-    text = writes;
-    follows = λ world stands sound. show_follows running world stands sound number live is;
-  }
+  reply = Shows live.pairs;
+  text = writes;
+  follows = λ world stands sound. show_follows running world stands sound number live is;
+}
 
 -- words that compare two clocks are the reply of the comparison
 compares_as : (live other : RunningLive) (word : Word) → ComparesAs live.ticks other.ticks word → LocallyCompares live other (reply_of word)
@@ -146,19 +144,19 @@ compares_as live other words.NoMessage h = absurd h
 compares_as live other words.Absent h = absurd h
 
 pub compared : (running : RunningWorld) (number second : ℕ) (before after : List ℕ) → ComparesAt running.clones number second before after
-  → Stepped running (Compare number second) (after_step running running.clones running.messages) before after
+    → Stepped running (Compare number second) (after_step running running.clones running.messages) before after
 compared running number second before after (inl (absent, writes)) = record {
-    reply = IsAbsent;
-    text = writes;
-    follows = λ world stands sound. compare_absent_first running world stands sound number second absent;
-  }
+  reply = IsAbsent;
+  text = writes;
+  follows = λ world stands sound. compare_absent_first running world stands sound number second absent;
+}
 compared running number second before after (inr (inl (live, is, absent, writes))) = record {
-    reply = IsAbsent;
-    text = writes;
-    follows = λ world stands sound. compare_absent_second running world stands sound number second live is absent;
-  }
+  reply = IsAbsent;
+  text = writes;
+  follows = λ world stands sound. compare_absent_second running world stands sound number second live is absent;
+}
 compared running number second before after (inr (inr (live, other, word, is, was, compares, writes))) = record {
-    reply = reply_of word;
-    text = writes;
-    follows = λ world stands sound. compare_follows running world stands sound number second live other (reply_of word) is was (compares_as live other word compares);
-  }
+  reply = reply_of word;
+  text = writes;
+  follows = λ world stands sound. compare_follows running world stands sound number second live other (reply_of word) is was (compares_as live other word compares);
+}

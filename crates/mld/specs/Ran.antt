@@ -35,13 +35,18 @@ abbrev pub IfSomeLine : (List ℕ → Type 0) → Option (List ℕ) → Type 0
 IfSomeLine P None = Unit {0}
 IfSomeLine P (Some line) = P line
 
--- the faults of reading and writing: a failure, want of memory, a line that is too large
-abbrev pub IsEdgeFault : RunFault → Type 0
-IsEdgeFault faults.ReadFault = Unit {0}
-IsEdgeFault faults.WriteFault = Unit {0}
-IsEdgeFault faults.NoMemory = Unit {0}
-IsEdgeFault (faults.TooLarge line) = Unit {0}
-IsEdgeFault fault = ⊥
+-- the faults of reading a line: a failure, want of memory, a line that is too large
+abbrev pub IsReadingFault : RunFault → Type 0
+IsReadingFault faults.ReadFault = Unit {0}
+IsReadingFault faults.NoMemory = Unit {0}
+IsReadingFault (faults.TooLarge line) = Unit {0}
+IsReadingFault fault = ⊥
+
+-- the faults of writing a reply: a failure, want of memory
+abbrev pub IsWritingFault : RunFault → Type 0
+IsWritingFault faults.WriteFault = Unit {0}
+IsWritingFault faults.NoMemory = Unit {0}
+IsWritingFault fault = ⊥
 
 -- the faults of a line: it is bad or unbuilt, or there was want of memory
 abbrev pub IsLineFault : RunFault → Type 0

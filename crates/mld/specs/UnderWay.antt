@@ -1,5 +1,5 @@
 -- A replay that is under way: the lines done so far, what they wrote, and the model that the state stands for.
-use Rattle.std.specs.Prelude.{◌≡◌, ℕ, ◌≤◌, List, [], ◌∷◌, ◌++◌, Option, None, Some, length}
+use Rattle.std.specs.Prelude.{◌≡◌, ℕ, ◌≤◌, List, ◌++◌, Option, Some, length}
 use Rattle.std.specs.Io.KnownBytes.{Appends}
 use Rattle.mld_io.specs.Lines.{lines_of}
 use Rattle.mld_model.specs.Runs.{Stage, Waiting, Runs}

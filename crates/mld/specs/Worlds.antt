@@ -88,14 +88,14 @@ abbrev pub AddsTo : List (Option RunningLive) → List EntryValue → ℕ → Tr
 AddsTo clones messages number triple new sent before after =
     (IsMissing clones new number × (sent ≡ messages) × Writes IsAbsent before after)
     ⊎ ((entry : EntryValue) × AddsAt clones new number triple entry × (sent ≡ messages ++ entry ∷ [])
-       × Writes (Did (last_dot entry.range) (length messages + 1)) before after)
+    × Writes (Did (last_dot entry.range) (length messages + 1)) before after)
 
 -- an entry was sent by the number, and the clone's answer to it was written
 pub record Answered (clones : List (Option RunningLive)) (number : ℕ) (entry : EntryValue) (new : List (Option RunningLive)) (before after : List ℕ) : Type 0 where
   pub got : (IsMissing clones new number × Writes IsAbsent before after)
-    ⊎ (((old : RunningLive) × (slice_index_or clones number None ≡ Some old) × LocallyKnown old entry × (new ≡ clones) × Writes AlreadyKnown before after)
-    ⊎ ((old : RunningLive) × (next : RunningLive) × Changes clones new number old next × LocallyReady old entry × LocallyTakes old entry next
-       × Writes (Took (entry.range ∷ [])) before after))
+      ⊎ (((old : RunningLive) × (slice_index_or clones number None ≡ Some old) × LocallyKnown old entry × (new ≡ clones) × Writes AlreadyKnown before after)
+      ⊎ ((old : RunningLive) × (next : RunningLive) × Changes clones new number old next × LocallyReady old entry × LocallyTakes old entry next
+      × Writes (Took (entry.range ∷ [])) before after))
 
 -- no message has the number, or its entry was answered
 abbrev pub DeliversTo : List (Option RunningLive) → List EntryValue → ℕ → ℕ → List (Option RunningLive) → List ℕ → List ℕ → Type 0
@@ -136,4 +136,4 @@ ComparesAt clones number second before after =
     ((slice_index_or clones number None ≡ None) × Writes IsAbsent before after)
     ⊎ (((live : RunningLive) × (slice_index_or clones number None ≡ Some live) × (slice_index_or clones second None ≡ None) × Writes IsAbsent before after)
     ⊎ ((live : RunningLive) × (other : RunningLive) × (word : Word) × (slice_index_or clones number None ≡ Some live) × (slice_index_or clones second None ≡ Some other)
-       × ComparesAs live.ticks other.ticks word × Writes (reply_of word) before after))
+    × ComparesAs live.ticks other.ticks word × Writes (reply_of word) before after))

@@ -1,11 +1,10 @@
 //! `mld replay` reads a schedule of one shared graph and its clones from standard input, and writes the replies.
 #![tactic(auto)]
 
+use mld_io::{StdSink, StdSource};
 use std::env;
 use std::io::{self, BufReader};
 use std::process::ExitCode;
-
-use mld_io::{StdSink, StdSource};
 
 mod clones;
 mod lines;

@@ -2,6 +2,7 @@
 ghost use Rattle.std.specs.Prelude.{◌≡◌, ◌↔◌, ◌≤◌, ◌<◌, ◌+◌, ℕ, List, map, IsTrue, IfOk, IfErr, OnOk, IsErrOf};
 ghost use Rattle.std.specs.Io.KnownBytes.{Appends};
 ghost use Rattle.std.specs.String.{string_bytes};
+ghost use Rattle.mld_io.specs.Faults.{Rose};
 ghost use Rattle.mld_io.specs.Lines.{lines_of};
 ghost use Rattle.mld_model.specs.World.{World as ModelWorld};
 ghost use Rattle.mld_model.specs.Runs.{Stage, Waiting, Running, Outcome, Verdict, IsBad, IsUnbuilt};
@@ -9,18 +10,16 @@ ghost use Rattle.mld_model.specs.Sound.{IsSound};
 ghost use Rattle.mld_model.specs.StandsFor.{StandsFor};
 ghost use Rattle.mld.specs.Worlds.{IsStanding};
 ghost use Rattle.mld.specs.Stops.{fault_of};
-ghost use Rattle.mld.specs.Ran.{status_of, IsReplay, Finishes, StopsAtBad, StopsAtUnbuilt, Agrees, StageStands, IsStandingStage, ActsWell, steps_of, TakesLine, IfSomeLine, IsEdgeFault, IsLineFault, HasReadCause, HasWriteCause};
-
-use std::alloc::{AllocError, Global};
-use std::thread::Threads;
-
-use mld_io::{LineFault, Lines, Piece, Sink, Source, WriteFault, write_all};
-use thiserror::Error;
+ghost use Rattle.mld.specs.Ran.{status_of, IsReplay, Finishes, StopsAtBad, StopsAtUnbuilt, Agrees, StageStands, IsStandingStage, ActsWell, steps_of, TakesLine, IfSomeLine, IsReadingFault, IsWritingFault, IsLineFault, HasReadCause, HasWriteCause};
 
 use crate::lines::{Line, Opening, read_line, read_opening};
 use crate::replies::push_ready;
 use crate::summaries::Summary;
 use crate::worlds::{Refusal, World};
+use mld_io::{LineFault, Lines, Piece, Sink, Source, WriteFault, write_all};
+use std::alloc::{AllocError, Global};
+use std::thread::Threads;
+use thiserror::Error;
 
 /// How many bytes a line has at most, without its LF.
 const LINE_LIMIT: usize = 1_048_576;
@@ -90,6 +89,9 @@ pub fn run<R: Threads, S: Source, K: Sink>(
         → StopsAtBad bytes line (K.held sink.old) (K.held sink.new) }
     ensures unbuilt { (line : ℕ) → result.fault ≡ Some (RunFault.Unbuilt line) → (bytes : List ℕ) → S.left source.old ≡ Some bytes
         → StopsAtUnbuilt bytes line (K.held sink.old) (K.held sink.new) }
+    // 2 comes only where the source's count of faults rose, and 3 only where the sink's did.
+    ensures read { result.fault ≡ Some RunFault.ReadFault → Rose (S.faults source.old) (S.faults source.new) }
+    ensures write { result.fault ≡ Some RunFault.WriteFault → Rose (K.faults sink.old) (K.faults sink.new) }
     // Whatever the verdict on the lines is, the run ends so, unless it ended by 2, 3, 5 or 7.
     ensures exact { (bytes : List ℕ) → S.left source.old ≡ Some bytes → (outcome : Outcome) → Verdict (lines_of bytes) outcome
         → IsReplay (map (λ w. string_bytes w) words.now.items) → Agrees result.fault outcome }
@@ -142,11 +144,7 @@ fn is_replay(words: &Vec<String>) -> bool
 }
 
 /// Replays the schedule of the source.
-fn replay<S: Source, K: Sink>(
-    alloc: Global,
-    source: &mut S,
-    sink: &mut K,
-) -> Result<(), RunFault>
+fn replay<S: Source, K: Sink>(alloc: Global, source: &mut S, sink: &mut K) -> Result<(), RunFault>
     ensures usage { ¬ IsErrOf result RunFault.Usage }
     ensures finished { OnOk result ((bytes : List ℕ) → S.left source.old ≡ Some bytes
         → Finishes bytes (S.left source.new) (K.held sink.old) (K.held sink.new)) }
@@ -154,6 +152,8 @@ fn replay<S: Source, K: Sink>(
         → StopsAtBad bytes line (K.held sink.old) (K.held sink.new) }
     ensures unbuilt { (line : ℕ) → IsErrOf result (RunFault.Unbuilt line) → (bytes : List ℕ) → S.left source.old ≡ Some bytes
         → StopsAtUnbuilt bytes line (K.held sink.old) (K.held sink.new) }
+    ensures read { IsErrOf result RunFault.ReadFault → Rose (S.faults source.old) (S.faults source.new) }
+    ensures write { IsErrOf result RunFault.WriteFault → Rose (K.faults sink.old) (K.faults sink.new) }
 {
     let mut lines = Lines::new(alloc, LINE_LIMIT, INPUT_LIMIT)?;
     let mut world = None;
@@ -192,7 +192,7 @@ fn next_line<S: Source>(
     ensures limit { lines.new.all ≡ lines.old.all }
     ensures progress { IfOk result (IfSomeLine (λ _. (lines.old.taken < lines.new.taken) × (lines.new.taken ≤ lines.old.all))) }
     ensures end { IfOk result (λ line. line ≡ None → lines.new.taken ≡ lines.old.taken) }
-    ensures fault { IfErr result IsEdgeFault }
+    ensures fault { IfErr result IsReadingFault }
     ensures cause { HasReadCause (S.faults source.old) (S.faults source.new) result }
 {
     match lines.next(source) {
@@ -206,7 +206,7 @@ fn next_line<S: Source>(
 /// Writes the text of a line's reply as one piece.
 fn write_reply<K: Sink>(sink: &mut K, reply: &[u8]) -> Result<(), RunFault>
     ensures ok { OnOk result (Appends (K.held sink.old) (K.held sink.new) reply.now) }
-    ensures fault { IfErr result IsEdgeFault }
+    ensures fault { IfErr result IsWritingFault }
     ensures cause { HasWriteCause (K.faults sink.old) (K.faults sink.new) result }
 {
     write_all(sink, reply).map_err(|fault| match fault {
@@ -216,7 +216,12 @@ fn write_reply<K: Sink>(sink: &mut K, reply: &[u8]) -> Result<(), RunFault>
 }
 
 /// Does a line, and gives the text of its reply.
-fn act(alloc: Global, world: &mut Option<World>, line: &[u8], number: u64) -> Result<Vec<u8>, RunFault>
+fn act(
+    alloc: Global,
+    world: &mut Option<World>,
+    line: &[u8],
+    number: u64,
+) -> Result<Vec<u8>, RunFault>
     requires few { steps_of world.old < 4294967295 }
     requires standing { IsStandingStage world.old }
     ensures ok { IfOk result (λ text. (stage : Stage) → StageStands world.old stage → ActsWell stage line.now text.items world.new) }

@@ -5,16 +5,14 @@ ghost use Rattle.mld_model.specs.World.{founded_path};
 ghost use Rattle.mld_model.specs.StandsFor.{founded_live};
 ghost use Rattle.mld.specs.Worlds.{nth_entry, HasNextTick, IsMissing, AddsAt, AddsTo, ReceivesAt, DeliversTo, WaitsAt, ShowsAt, ComparesAs, ComparesAt};
 
-use std::alloc::{AllocError, Global};
-use std::marker::Model;
-
+use crate::clones::{Got, LiveClone};
+use crate::replies::{Word, push_did, push_pairs, push_took, push_word};
 use mld_model::Command;
 use mld_ops::Entry;
 use rdf_terms::{Text, Triple};
+use std::alloc::{AllocError, Global};
+use std::marker::Model;
 use tree_clock::{Clock, Dot, Path};
-
-use crate::clones::{Got, LiveClone};
-use crate::replies::{Word, push_did, push_pairs, push_took, push_word};
 
 /// How many clones there are.
 const CLONE_COUNT: u8 = 32;

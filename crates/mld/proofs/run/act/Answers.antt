@@ -1,7 +1,4 @@
-use Rattle.std.proofs.Common.{◌≡◌, ◌∙◌, ℕ, List, [], sym, subst, ap}
-use Rattle.mld_model.specs.Runs.{Stage, IsBad}
-use Rattle.mld_model.specs.StandsFor.{RunningWorld}
-use Rattle.mld.specs.Ran.{StageStands}
+use Rattle.mld_model.specs.Runs.{IsBad}
 use Rattle.mld.proofs.RunLemmas.{bad_fault, running_stage_at}
 use Rattle.mld.proofs.run.act.Goals as goal
 

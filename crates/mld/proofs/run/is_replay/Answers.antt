@@ -1,4 +1,4 @@
-use Rattle.std.proofs.Common.{sym, ap, subst, ◌∙◌, ◌≡◌, ◌≤◌, ◌<◌, ◌∷◌, [], length, List, arith}
+use Rattle.std.proofs.Common.{◌∷◌, [], arith}
 use Rattle.std.specs.String.{string_bytes}
 use Rattle.mld.proofs.RunLemmas.{one_word}
 use Rattle.mld.proofs.run.is_replay.Goals as goal

@@ -1,7 +1,3 @@
-use Rattle.std.proofs.Common.{◌≡◌, sym, subst, Option, Some, None, refl}
-use Rattle.mld_model.specs.Runs.{Outcome}
-use Rattle.mld.specs.declared.run.RunFault.{RunFault}
-use Rattle.mld.specs.Ran.{Agrees}
 use Rattle.mld.proofs.RunLemmas.{agrees_finished, agrees_fault, err_same}
 use Rattle.mld.proofs.run.run.Goals as goal
 
@@ -12,4 +8,4 @@ returns-in-Ok-clause-exact g c = λ bytes told outcome verdict words.
 pub returns-in-Err-clause-exact : goal.returns-in-Err-clause-exact
 returns-in-Err-clause-exact g c = λ bytes told outcome verdict words.
     rw c.ended-in-Err.ensures.fault (agrees_fault bytes _ _ c.in-Err.fault (λ is. c.in-Err.ensures.usage (err_same _ _ is))
-      (λ line is. c.in-Err.ensures.bad line (err_same _ _ is) bytes told) (λ line is. c.in-Err.ensures.unbuilt line (err_same _ _ is) bytes told) outcome verdict)
+    (λ line is. c.in-Err.ensures.bad line (err_same _ _ is) bytes told) (λ line is. c.in-Err.ensures.unbuilt line (err_same _ _ is) bytes told) outcome verdict)
