@@ -13,6 +13,8 @@ pub data Reply : Type 0 where
   Ready : ℕ → Reply
   -- the operation of the dot was made and sent in the message of the number
   Did : Dot → ℕ → Reply
+  -- there was nothing to do, and no operation was made
+  NoOperation : Reply
   -- the ranges were taken, in this order
   Took : List Range → Reply
   -- the range was known
@@ -44,6 +46,7 @@ spaced_range range = 32 ∷ range_text range
 unfoldable pub reply_text : Reply → List ℕ
 reply_text (Ready count) = codes "ready " ++ (decimal count ++ 10 ∷ [])
 reply_text (Did dot number) = codes "did " ++ (dot_text dot ++ (codes " m" ++ (decimal number ++ 10 ∷ [])))
+reply_text NoOperation = codes "none\n"
 reply_text (Took ranges) = codes "took" ++ (flat_map spaced_range ranges ++ 10 ∷ [])
 reply_text AlreadyKnown = codes "known\n"
 reply_text (Shows pairs) = codes "has " ++ (decimal (length pairs) ++ 10 ∷ flat_map pair_line pairs)

@@ -7,7 +7,7 @@ use Rattle.std.specs.Fmt.{decimal}
 use Rattle.rdf_terms.specs.Domain.{is_domain}
 use Rattle.rdf_terms.specs.Grammar.{SpellsTriple, IsWithin}
 use Rattle.mld_model.specs.declared.Command.{Command}
-use Rattle.mld_model.specs.declared.Command.TheVariants.{Add, Deliver, Show, Compare}
+use Rattle.mld_model.specs.declared.Command.TheVariants.{Add, Remove, Deliver, Show, Compare}
 
 -- an empty line, or a comment: `#` first, and UTF-8 throughout
 pub data IsNothing : List ℕ → Type 0 where
@@ -25,14 +25,14 @@ is_word = pointwise nat_eq
 -- the first words of lines that aren't built yet
 abbrev pub unbuilt_words : List (List ℕ)
 unbuilt_words =
-    codes "remove" ∷ codes "join" ∷ codes "stop" ∷ codes "open" ∷ codes "ask" ∷ codes "compact" ∷ codes "truncate"
+    codes "join" ∷ codes "stop" ∷ codes "open" ∷ codes "ask" ∷ codes "compact" ∷ codes "truncate"
     ∷ codes "query" ∷ codes "update" ∷ codes "single" ∷ codes "crash" ∷ []
 
--- a line that isn't built yet, whatever its rest is: one of those words first, or `add` with a backslash somewhere
+-- a line that isn't built yet, whatever its rest is: one of those words first, or `add` or `remove` with a backslash somewhere
 unfoldable pub is_unbuilt : List ℕ → Bool
 is_unbuilt line =
     list_any (λ word. is_word word (first_word line)) unbuilt_words
-    || (is_word (codes "add") (first_word line) && list_any (λ byte. byte == 92) line)
+    || ((is_word (codes "add") (first_word line) || is_word (codes "remove") (first_word line)) && list_any (λ byte. byte == 92) line)
 
 -- `domain D clones N`
 pub record SpellsSetup (line domain : List ℕ) (count : ℕ) : Type 0 where
@@ -49,6 +49,9 @@ IsCloneNumber number = number < 32
 abbrev pub SpellsCommand : List ℕ → Command → Type 0
 SpellsCommand line (Add number triple) =
     (text : List ℕ) × (line ≡ codes "add " ++ (decimal number ++ 32 ∷ text)) × IsCloneNumber number
+    × IsUtf8 text × SpellsTriple text triple × IsWithin triple
+SpellsCommand line (Remove number triple) =
+    (text : List ℕ) × (line ≡ codes "remove " ++ (decimal number ++ 32 ∷ text)) × IsCloneNumber number
     × IsUtf8 text × SpellsTriple text triple × IsWithin triple
 SpellsCommand line (Deliver message number) =
     (line ≡ codes "deliver " ++ (decimal message ++ 32 ∷ decimal number)) × (message < 2 ^ 64) × IsCloneNumber number

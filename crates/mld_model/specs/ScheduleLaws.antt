@@ -8,7 +8,7 @@ use Rattle.std.proofs.lemmas.Fmt.{decimal_injective}
 use Rattle.rdf_terms.specs.Domain.{is_domain, is_domain_byte}
 use Rattle.rdf_terms.specs.Grammar.{SpellsTriple}
 use Rattle.mld_model.specs.declared.Command.{Command}
-use Rattle.mld_model.specs.declared.Command.TheVariants.{Add, Deliver, Show, Compare}
+use Rattle.mld_model.specs.declared.Command.TheVariants.{Add, Remove, Deliver, Show, Compare}
 use Rattle.mld_model.specs.Schedule.{IsNothing, empty, comment, is_unbuilt, SpellsSetup, SpellsCommand}
 use Rattle.mld_model.specs.Bytes.{Lacks, Lacks-append, Lacks-from_test, Lacks-decimal, list_any-Lacks, one_split, apart}
 use Rattle.mld_model.specs.TripleBytes.{Lacks-triple}
@@ -32,6 +32,7 @@ nothing_apart h e other = elim (nothing_begins h) [
 -- the first byte of a command
 begins : Command → ℕ
 begins (Add number triple) = 97
+begins (Remove number triple) = 114
 begins (Deliver message number) = 100
 begins (Show number) = 115
 begins (Compare number other) = 99
@@ -40,6 +41,7 @@ begins (Compare number other) = 99
 command_begins : (line : List ℕ) (command : Command) → SpellsCommand line command → (rest : List ℕ) × (line ≡ begins command ∷ rest)
 unfolding begins
 command_begins line (Add number triple) h = (_, h.1)
+command_begins line (Remove number triple) h = (_, h.1)
 command_begins line (Deliver message number) h = (_, h.0)
 command_begins line (Show number) h = (_, h.0)
 command_begins line (Compare number other) h = (_, h.0)
@@ -48,6 +50,7 @@ command_begins line (Compare number other) h = (_, h.0)
 begins_apart : (command : Command) → nat_eq 35 (begins command) ≡ false
 unfolding begins
 begins_apart (Add number triple) = refl
+begins_apart (Remove number triple) = refl
 begins_apart (Deliver message number) = refl
 begins_apart (Show number) = refl
 begins_apart (Compare number other) = refl
@@ -97,6 +100,9 @@ unfolding is_unbuilt
 unbuilt_command line (Add number triple) u h =
     let lacks : Lacks 92 (decimal number ++ 32 ∷ h.0) = Lacks-append 92 (decimal number) (32 ∷ h.0) (no_backslash number (small h.2)) (λ e. omega arith, Lacks-triple h.0 triple h.4) in
     false≢true (sym (list_any-Lacks 92 (decimal number ++ 32 ∷ h.0) lacks) ∙ subst (λ (l : List ℕ). is_unbuilt l ≡ true) h.1 u)
+unbuilt_command line (Remove number triple) u h =
+    let lacks : Lacks 92 (decimal number ++ 32 ∷ h.0) = Lacks-append 92 (decimal number) (32 ∷ h.0) (no_backslash number (small h.2)) (λ e. omega arith, Lacks-triple h.0 triple h.4) in
+    false≢true (sym (list_any-Lacks 92 (decimal number ++ 32 ∷ h.0) lacks) ∙ subst (λ (l : List ℕ). is_unbuilt l ≡ true) h.1 u)
 unbuilt_command line (Deliver message number) u h = false≢true (subst (λ (l : List ℕ). is_unbuilt l ≡ true) h.0 u)
 unbuilt_command line (Show number) u h = false≢true (subst (λ (l : List ℕ). is_unbuilt l ≡ true) h.0 u)
 unbuilt_command line (Compare number other) u h = false≢true (subst (λ (l : List ℕ). is_unbuilt l ≡ true) h.0 u)
@@ -106,6 +112,7 @@ unbuilt_command line (Compare number other) u h = false≢true (subst (λ (l : L
 -- no domain line is a command
 setup_command : (line domain : List ℕ) (count : ℕ) (command : Command) → SpellsSetup line domain count → ¬ SpellsCommand line command
 setup_command line domain count (Add number triple) p q = apart p.whole q.1 refl
+setup_command line domain count (Remove number triple) p q = apart p.whole q.1 refl
 setup_command line domain count (Deliver message number) p q = apart (ap (drop 1) p.whole) (ap (drop 1) q.0) refl
 setup_command line domain count (Show number) p q = apart p.whole q.0 refl
 setup_command line domain count (Compare number other) p q = apart p.whole q.0 refl
@@ -138,6 +145,10 @@ pub one_command : OneCommand
 unfolding begins
 one_command line (Add number triple) (Add other second) p q =
     let parts = one_number number other p.0 q.0 (small p.2) (small q.2) (ap (drop 4) (sym p.1 ∙ q.1)) in
+    let same = one_triple q.0 triple second (subst (λ (text : List ℕ). SpellsTriple text triple) parts.1 p.4) q.4 in
+    cc (parts.0, same)
+one_command line (Remove number triple) (Remove other second) p q =
+    let parts = one_number number other p.0 q.0 (small p.2) (small q.2) (ap (drop 7) (sym p.1 ∙ q.1)) in
     let same = one_triple q.0 triple second (subst (λ (text : List ℕ). SpellsTriple text triple) parts.1 p.4) q.4 in
     cc (parts.0, same)
 one_command line (Deliver message number) (Deliver other second) p q =

@@ -1,19 +1,21 @@
 -- One step of the world: a command, its reply, and the world after it. Each pair of a command and a state of its clone
 -- is listed.
-use Rattle.std.specs.Prelude.{◌≡◌, ℕ, ◌+◌, ◌<◌, ◌≤◌, List, [], ◌∷◌, ◌++◌, ◌⊎◌, ◌↔◌, length, MatchOption}
+use Rattle.std.specs.Prelude.{◌≡◌, ◌≢◌, ℕ, ◌+◌, ◌<◌, ◌≤◌, List, [], ◌∷◌, ◌++◌, ◌⊎◌, ◌↔◌, length, MatchOption}
 use Rattle.rdf_terms.specs.declared.terms.Triple.{Triple}
 use Rattle.tree_clock.specs.declared.dots.Dot.{Dot}
 use Rattle.tree_clock.specs.declared.dots.Range.{Range}
+use Rattle.tree_clock.specs.Lists.{Has, IsAscending}
 use Rattle.tree_clock.specs.Dot.{Knows}
 use Rattle.mld_ops.specs.declared.tagged.Tagged.{Tagged}
+use Rattle.mld_ops.specs.Tagged.{tagged_cmp}
 use Rattle.mld_ops.specs.History.{Operation, dot_at}
 use Rattle.mld_ops.specs.Effect.{range_of}
 use Rattle.mld_ops.specs.Meaning.{IsMeaning}
 use Rattle.mld_model.specs.declared.Command.{Command}
-use Rattle.mld_model.specs.declared.Command.TheVariants.{Add, Deliver, Show, Compare}
+use Rattle.mld_model.specs.declared.Command.TheVariants.{Add, Remove, Deliver, Show, Compare}
 use Rattle.mld_model.specs.Clone.{Clone, Absent, Asking, Empty, Down, Live, Stored, known_of, with_range, IsKnown, IsReady, IsWithin}
 use Rattle.mld_model.specs.World.{World, Message, RangeOf, Want, SnapshotOf, JoinAsk, JoinGive, message_at, clone_at, with_clone}
-use Rattle.mld_model.specs.Reply.{Reply, Did, Took, AlreadyKnown, Shows, Same, Less, More, Apart, NoMessage, Ignored, IsAbsent, IsAsking, IsDown}
+use Rattle.mld_model.specs.Reply.{Reply, Did, NoOperation, Took, AlreadyKnown, Shows, Same, Less, More, Apart, NoMessage, Ignored, IsAbsent, IsAsking, IsDown}
 
 -- a reply that changes nothing
 abbrev pub Answers : World → Reply → Reply → World → Type 0
@@ -48,6 +50,21 @@ Adds world number triple Asking reply next = Answers world IsAsking reply next
 Adds world number triple Empty reply next = Answers world IsDown reply next
 Adds world number triple (Down stored) reply next = Answers world IsDown reply next
 Adds world number triple (Live stored held) reply next = Makes world number stored held [] (triple ∷ []) reply next
+
+-- the pairs of a triple, ascending
+pub record ArePairsOf (triple : Triple) (pairs deletes : List Tagged) : Type 0 where
+  pub ascending : IsAscending tagged_cmp deletes
+  pub members : (pair : Tagged) → Has deletes pair ↔ (Has pairs pair × (pair.triple ≡ triple))
+
+-- a triple is removed by the operation that deletes all pairs which are present for it; where there is none, no operation is made
+abbrev pub Removes : World → ℕ → Triple → Clone → Reply → World → Type 0
+Removes world number triple Absent reply next = Answers world IsAbsent reply next
+Removes world number triple Asking reply next = Answers world IsAsking reply next
+Removes world number triple Empty reply next = Answers world IsDown reply next
+Removes world number triple (Down stored) reply next = Answers world IsDown reply next
+Removes world number triple (Live stored held) reply next =
+    (pairs : List Tagged) × (deletes : List Tagged) × IsMeaning world.history (known_of stored) pairs × ArePairsOf triple pairs deletes
+    × (((deletes ≡ []) × Answers world NoOperation reply next) ⊎ ((deletes ≢ []) × Makes world number stored held deletes [] reply next))
 
 -- a range that comes to a live clone which holds nothing back: it is known, or it is ready and taken
 abbrev pub Receives : World → ℕ → Stored → List Range → Range → Reply → World → Type 0
@@ -101,6 +118,7 @@ Weighs world (Live stored held) other reply next = ComparesWith world stored oth
 -- the step: the world before, the command, the reply, the world after
 unfoldable pub Step : World → Command → Reply → World → Type 0
 Step world (Add number triple) reply next = Adds world number triple (clone_at world number) reply next
+Step world (Remove number triple) reply next = Removes world number triple (clone_at world number) reply next
 Step world (Deliver message number) reply next =
     MatchOption (message_at world message) (Answers world NoMessage reply next) (λ sent. Takes world number sent (clone_at world number) reply next)
 Step world (Show number) reply next = Lists world (clone_at world number) reply next

@@ -1,17 +1,21 @@
 -- A step of the world has one outcome.
 use Rattle.std.specs.Prelude.{◌≡◌, ℕ, ◌+◌, ◌<◌, List, [], ◌∷◌, length, Option, Some, None, MatchOption}
-use Rattle.std.proofs.Common.{sym, ◌∙◌, ap, arith, inl, inr}
+use Rattle.std.proofs.Common.{sym, ◌∙◌, ap, arith, inl, inr, subst}
 use Rattle.std.proofs.lemmas.Bool.{cases_order}
 use Rattle.rdf_terms.specs.declared.terms.Triple.{Triple}
 use Rattle.tree_clock.specs.declared.dots.Range.{Range}
+use Rattle.tree_clock.specs.Lists.{Has}
 use Rattle.mld_ops.specs.declared.tagged.Tagged.{Tagged}
 use Rattle.mld_ops.specs.History.{dot_at}
+use Rattle.mld_ops.specs.Tagged.{tagged_cmp}
+use Rattle.mld_ops.specs.TaggedLaws.{tagged_total, tagged_exact}
+use Rattle.mld_ops.specs.AscendingLaws.{same_ascending}
 use Rattle.mld_ops.specs.MeaningLaws.{one_meaning}
-use Rattle.mld_model.specs.declared.Command.TheVariants.{Add, Deliver, Show, Compare}
+use Rattle.mld_model.specs.declared.Command.TheVariants.{Add, Remove, Deliver, Show, Compare}
 use Rattle.mld_model.specs.Clone.{Clone, Absent, Asking, Empty, Down, Live, Stored, known_of}
 use Rattle.mld_model.specs.World.{World, Message, RangeOf, message_at, clone_at}
 use Rattle.mld_model.specs.Reply.{Reply, Did, Shows, NoMessage}
-use Rattle.mld_model.specs.Step.{Answers, IsNextTick, after_operation, Makes, Adds, Receives, Takes, Lists, Compares, ComparesWith, Weighs, Step}
+use Rattle.mld_model.specs.Step.{Answers, IsNextTick, after_operation, Makes, Adds, ArePairsOf, Removes, Receives, Takes, Lists, Compares, ComparesWith, Weighs, Step}
 use Rattle.mld_model.specs.Laws.{OneStep}
 
 -- two outcomes are the same
@@ -55,6 +59,31 @@ adds_once world number triple Asking reply other next after p q = answers_once p
 adds_once world number triple Empty reply other next after p q = answers_once p q
 adds_once world number triple (Down stored) reply other next after p q = answers_once p q
 adds_once world number triple (Live stored held) reply other next after p q = makes_once world number stored held [] (triple ∷ []) reply other next after p q
+
+-- a triple has one list of pairs among the pairs of a clone
+pairs_once : (triple : Triple) (pairs others deletes second : List Tagged) → pairs ≡ others → ArePairsOf triple pairs deletes → ArePairsOf triple others second → deletes ≡ second
+pairs_once triple pairs others deletes second same p q =
+    same_ascending tagged_cmp tagged_total tagged_exact deletes second p.ascending q.ascending
+    (λ x h. let m = (p.members x).0 h in (q.members x).1 (subst (λ (ps : List Tagged). Has ps x) same m.0, m.1))
+    (λ x h. let m = (q.members x).0 h in (p.members x).1 (subst (λ (ps : List Tagged). Has ps x) (sym same) m.0, m.1))
+
+-- a `remove` has one outcome
+removes_once : (world : World) (number : ℕ) (triple : Triple) (clone : Clone) (reply other : Reply) (next after : World)
+    → Removes world number triple clone reply next → Removes world number triple clone other after → Same reply next other after
+removes_once world number triple Absent reply other next after p q = answers_once p q
+removes_once world number triple Asking reply other next after p q = answers_once p q
+removes_once world number triple Empty reply other next after p q = answers_once p q
+removes_once world number triple (Down stored) reply other next after p q = answers_once p q
+removes_once world number triple (Live stored held) reply other next after p q =
+    let same : p.1 ≡ q.1 = pairs_once triple p.0 q.0 p.1 q.1 (one_meaning world.history (known_of stored) p.0 q.0 p.2 q.2) p.3 q.3 in
+    elim p.4 [
+      | inl none ↦ elim q.4 [ inl too ↦ answers_once none.1 too.1 | inr some ↦ absurd (some.0 (sym same ∙ none.0)) ]
+      | inr some ↦ elim q.4 [
+          | inl none ↦ absurd (some.0 (same ∙ none.0))
+          | inr too ↦ makes_once world number stored held p.1 [] reply other next after some.1
+              (subst (λ (ds : List Tagged). Makes world number stored held ds [] other after) (sym same) too.1)
+        ]
+    ]
 
 -- a range that comes to a live clone has one outcome: what is known isn't ready
 receives_once : (world : World) (number : ℕ) (stored : Stored) (held : List Range) (range : Range) (reply other : Reply) (next after : World)
@@ -135,6 +164,7 @@ delivers_once world number (Some message) reply other next after p q = takes_onc
 pub one_step : OneStep
 unfolding Step
 one_step world (Add number triple) reply other next after p q = adds_once world number triple (clone_at world number) reply other next after p q
+one_step world (Remove number triple) reply other next after p q = removes_once world number triple (clone_at world number) reply other next after p q
 one_step world (Deliver message number) reply other next after p q = delivers_once world number (message_at world message) reply other next after p q
 one_step world (Show number) reply other next after p q = lists_once world (clone_at world number) reply other next after p q
 one_step world (Compare number second) reply other next after p q =

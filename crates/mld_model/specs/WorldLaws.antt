@@ -15,12 +15,12 @@ use Rattle.mld_ops.specs.History.{Operation, IsDone, IsInserted, IsNext, dot_at}
 use Rattle.mld_ops.specs.Effect.{range_of}
 use Rattle.mld_ops.specs.Net.{IsNet}
 use Rattle.mld_model.specs.declared.Command.{Command}
-use Rattle.mld_model.specs.declared.Command.TheVariants.{Add, Deliver, Show, Compare}
+use Rattle.mld_model.specs.declared.Command.TheVariants.{Add, Remove, Deliver, Show, Compare}
 use Rattle.mld_model.specs.Clone.{Clone, Absent, Asking, Empty, Down, Live, Stored, known_of, with_range, last_dot, IsKnown, IsReady, IsHeldBack, IsWithin}
 use Rattle.mld_model.specs.World.{World, Message, RangeOf, message_at, clone_at, with_clone, founded, founded_clone}
-use Rattle.mld_model.specs.Step.{Step, Answers, Adds, IsNextTick, Makes, after_operation, Receives, Takes, Lists, Compares, ComparesWith, Weighs}
+use Rattle.mld_model.specs.Step.{Step, Answers, Adds, ArePairsOf, Removes, IsNextTick, Makes, after_operation, Receives, Takes, Lists, Compares, ComparesWith, Weighs}
 use Rattle.mld_model.specs.Runs.{Waits}
-use Rattle.mld_model.specs.Reply.{Reply, Did, Took, AlreadyKnown, Shows, Same, Less, More, Apart, NoMessage, IsAbsent}
+use Rattle.mld_model.specs.Reply.{Reply, Did, NoOperation, Took, AlreadyKnown, Shows, Same, Less, More, Apart, NoMessage, IsAbsent}
 use Rattle.mld_model.specs.Sound.{Keeps, IsSoundMessage, IsSoundClone, IsSound}
 use Rattle.mld_model.specs.StandsFor.{RunningLive, RunningWorld, LiveStandsFor, CloneStandsFor, ClonesStandFor, StandsFor, founded_live, founded_running}
 use Rattle.mld_model.specs.Local.{next_dot, LocallyMakes, LocallyKnown, LocallyReady, LocallyTakes}
@@ -95,6 +95,7 @@ next_tick_within running world stands sound number live at = elim (cases_lt 0 (t
 pub record MakesSoundly (world : World) (number : ℕ) (live : RunningLive) (deletes : List Tagged) (inserts : List Triple) (reply : Reply) (running : RunningWorld) : Type 0 where
   pub base : List Range
   pub was_live : clone_at world number ≡ Live (kept_by live base) []
+  pub stood : LiveStandsFor world.history live (kept_by live base)
   pub next : World
   pub makes : Makes world number (kept_by live base) [] deletes inserts reply next
   pub sound : IsSound next
@@ -117,6 +118,7 @@ makes_soundly running world stands sound number live is deletes inserts new entr
     record {
       base = at.base;
       was_live = at.live;
+      stood = at.stands;
       next = next;
       makes = record { tick = (next_dot live).tick; is_next = tick; replies = ap (λ n. Did (next_dot live) (n + 1)) (messages_count world.history running.messages world.messages stands.messages); changes = refl };
       sound = made_sound world number stored [] (next_dot live).tick deletes inserts sound at.live tick covered inserted;
@@ -154,6 +156,35 @@ pub add_absent : (running : RunningWorld) (world : World) → StandsFor running 
 unfolding Step
 add_absent running world stands sound number triple is =
     let P : Clone → Type 0 = λ c. Adds world number triple c IsAbsent world in
+    record { next = world; steps = subst P (sym (absent_at running world stands number is)) (refl, refl); sound = sound; stands = stepped_stands running world stands }
+
+-- remove
+
+pub remove_follows : (running : RunningWorld) (world : World) → StandsFor running world → IsSound world → (number : ℕ) (triple : Triple) (live : RunningLive)
+  → get_or running.clones number None ≡ Some live → (deletes : List Tagged) (new : RunningLive) (entry : EntryValue) → ArePairsOf triple live.pairs deletes → deletes ≢ []
+  → LocallyMakes live deletes [] new entry
+  → Follows world (Remove number triple) (Did (next_dot live) (length running.messages + 1)) (stepped_sending running number new entry)
+unfolding Step
+remove_follows running world stands sound number triple live is deletes new entry are some makes =
+    let reply : Reply = Did (next_dot live) (length running.messages + 1) in
+    let made : MakesSoundly world number live deletes [] reply (stepped_sending running number new entry)
+      = makes_soundly running world stands sound number live is deletes [] new entry (λ pair h. ((are.members pair).0 h).0) makes in
+    let P : Clone → Type 0 = λ c. Removes world number triple c reply made.next in
+    record { next = made.next; steps = subst P (sym made.was_live) (live.pairs, deletes, made.stood.pairs, are, inr (some, made.makes)); sound = made.sound; stands = made.stands }
+
+pub remove_nothing : (running : RunningWorld) (world : World) → StandsFor running world → IsSound world → (number : ℕ) (triple : Triple) (live : RunningLive)
+  → get_or running.clones number None ≡ Some live → ArePairsOf triple live.pairs [] → Follows world (Remove number triple) NoOperation (stepped running)
+unfolding Step
+remove_nothing running world stands sound number triple live is none =
+    let at : LiveAt world.history live (clone_at world number) = live_at running world stands number live is in
+    let P : Clone → Type 0 = λ c. Removes world number triple c NoOperation world in
+    record { next = world; steps = subst P (sym at.live) (live.pairs, [], at.stands.pairs, none, inl (refl, (refl, refl))); sound = sound; stands = stepped_stands running world stands }
+
+pub remove_absent : (running : RunningWorld) (world : World) → StandsFor running world → IsSound world → (number : ℕ) (triple : Triple)
+  → get_or running.clones number None ≡ None → Follows world (Remove number triple) IsAbsent (stepped running)
+unfolding Step
+remove_absent running world stands sound number triple is =
+    let P : Clone → Type 0 = λ c. Removes world number triple c IsAbsent world in
     record { next = world; steps = subst P (sym (absent_at running world stands number is)) (refl, refl); sound = sound; stands = stepped_stands running world stands }
 
 -- deliver

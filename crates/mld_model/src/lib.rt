@@ -12,6 +12,8 @@ pub use verdicts::{one_reading, one_step, one_verdict};
 pub enum Command {
     /// `add C TRIPLE`: clone C inserts the triple.
     Add(u8, Triple),
+    /// `remove C TRIPLE`: clone C deletes the triple.
+    Remove(u8, Triple),
     /// `deliver M C`: message M comes to clone C.
     Deliver(u64, u8),
     /// `show C`: the pairs of clone C.
