@@ -1,8 +1,8 @@
 //! Schedules worked by hand, each with what the run writes and how it ends.
 use crate::run::{Ran, RunFault, run};
 use mld_io::{MemorySink, MemorySource, Source};
-use mld_ops::{Operation, meaning};
-use rdf_terms::{Triple, has_no_backslash, read_triple, write_triple};
+use mld_ops::{Operation, Tagged, meaning};
+use rdf_terms::{has_no_backslash, read_triple, write_triple};
 use std::alloc::{AllocError, Global};
 use std::process::Abort;
 use std::test::Fail;
@@ -28,15 +28,12 @@ fn ends<R: Threads>(
     alloc: Global,
     schedule: &[u8],
     status: u8,
-    text: &str,
+    text: &[u8],
 ) -> Result<(bool, Option<RunFault>), AllocError> {
     let mut source = MemorySource::new(alloc, schedule, &[])?;
     let mut sink = MemorySink::new(alloc, &[])?;
     let ran = ran_by(rt, alloc, "replay", &mut source, &mut sink)?;
-    Ok((
-        ran.status == status && sink.bytes() == text.as_bytes(),
-        ran.fault,
-    ))
+    Ok((ran.status == status && sink.bytes() == text, ran.fault))
 }
 
 /// Asserts that a schedule is read to its end, and that this is written.
@@ -46,7 +43,7 @@ fn finishes<R: Threads + Abort>(
     schedule: &str,
     text: &str,
 ) -> Result<(), AllocError> {
-    let (is_so, fault) = ends(rt, alloc, schedule.as_bytes(), 0, text)?;
+    let (is_so, fault) = ends(rt, alloc, schedule.as_bytes(), 0, text.as_bytes())?;
     assert_eq!(rt; fault, None, "{schedule}");
     assert!(rt; is_so, "{schedule}");
     Ok(())
@@ -149,7 +146,7 @@ fn stops<R: Threads + Abort>(
         RunFault::Unbuilt(_) => 20,
         _ => 7,
     };
-    let (is_so, found) = ends(rt, alloc, schedule, status, text)?;
+    let (is_so, found) = ends(rt, alloc, schedule, status, text.as_bytes())?;
     assert_eq!(rt; found, Some(fault), "{schedule:?}");
     assert!(rt; is_so, "{schedule:?}");
     Ok(())
@@ -303,7 +300,7 @@ fn with_comment(alloc: Global, count: usize) -> Result<Vec<u8>, AllocError> {
 #[test]
 fn a_line_has_a_limit(rt: HostRuntime) -> Result<(), Fail> {
     let most = with_comment(rt.alloc(), 1_048_576)?;
-    let (is_so, fault) = ends(&rt, rt.alloc(), &most, 0, "ready 2\nhas 0\n")?;
+    let (is_so, fault) = ends(&rt, rt.alloc(), &most, 0, b"ready 2\nhas 0\n")?;
     assert!(rt; is_so && fault.is_none());
     let larger = with_comment(rt.alloc(), 1_048_577)?;
     stops(&rt, rt.alloc(), &larger, RunFault::TooLarge(2), "ready 2\n")?;
@@ -362,5 +359,90 @@ fn other_words_are_refused(rt: HostRuntime) -> Result<(), Fail> {
     refuses(&rt, rt.alloc(), &[])?;
     refuses(&rt, rt.alloc(), &["replay", "x"])?;
     refuses(&rt, rt.alloc(), &["Replay"])?;
+    Ok(())
+}
+
+/// The leaf of a clone of two, with a tick.
+fn dot(one: bool, tick: u32) -> Dot {
+    Dot {
+        path: Path::root().child(one),
+        tick,
+    }
+}
+
+/// The dots of a leaf up to a tick.
+fn up_to(one: bool, last: u32) -> Range {
+    Range {
+        path: Path::root().child(one),
+        first: 1,
+        last,
+    }
+}
+
+/// The operation at a dot that inserts a triple where these dots were known.
+fn insertion(alloc: Global, dot: Dot, known: &[Range], text: &str) -> Result<Operation, Fail> {
+    let mut causes = Ranges::new(alloc);
+    for range in known {
+        causes.push(*range)?;
+    }
+    if !has_no_backslash(text) {
+        return Err(Fail::from("a backslash"));
+    }
+    let mut inserts = Vec::new(alloc);
+    inserts.push(read_triple(alloc, text)?)?;
+    Ok(Operation {
+        dot,
+        causes,
+        deletes: Vec::new(alloc),
+        inserts,
+    })
+}
+
+/// Clone 0 adds a triple, clone 1 another one, and then, knowing both, the first once more.
+fn three(alloc: Global) -> Result<Vec<Operation>, Fail> {
+    let first = "<http://d/a> <http://d/p> \"x\" .";
+    let both = [up_to(false, 1), up_to(true, 1)];
+    let mut history = Vec::new(alloc);
+    history.push(insertion(alloc, dot(true, 2), &both, first)?)?;
+    history.push(insertion(alloc, dot(false, 1), &[], first)?)?;
+    let other = "<http://d/b> <http://d/p> <urn:x> .";
+    history.push(insertion(alloc, dot(true, 1), &[], other)?)?;
+    Ok(history)
+}
+
+/// Adds what `show` writes for these pairs.
+fn push_shown(alloc: Global, out: &mut Vec<u8>, pairs: &[Tagged]) -> Result<(), Fail> {
+    let head = format!(in alloc; "has {}\n", pairs.len())?;
+    out.extend_from_slice(head.as_bytes())?;
+    for pair in pairs {
+        let dot = &pair.dot;
+        let tag = format!(in alloc; "{dot} ")?;
+        out.extend_from_slice(tag.as_bytes())?;
+        write_triple(out, &pair.triple)?;
+        out.push(b'\n')?;
+    }
+    Ok(())
+}
+
+/// The replies where both clones of `three` are shown, by what the history means for each.
+fn replies_of_three(alloc: Global) -> Result<Vec<u8>, Fail> {
+    let history = three(alloc)?;
+    let mut text = Vec::new(alloc);
+    text.extend_from_slice(b"ready 2\ndid r0.1 m1\ndid r1.1 m2\ntook r0.1-1\ndid r1.2 m3\n")?;
+    let all = meaning(alloc, &history, &[up_to(false, 1), up_to(true, 2)])?;
+    push_shown(alloc, &mut text, &all)?;
+    let own = meaning(alloc, &history, &[up_to(false, 1)])?;
+    push_shown(alloc, &mut text, &own)?;
+    Ok(text)
+}
+
+#[test]
+fn clones_show_what_the_history_means(rt: HostRuntime) -> Result<(), Fail> {
+    let schedule =
+        "domain d clones 2\nadd 0 <http://d/a> <http://d/p> \"x\" .\nadd 1 <http://d/b> <http://d/p> <urn:x> .\ndeliver 1 1\nadd 1 <http://d/a> <http://d/p> \"x\" .\nshow 1\nshow 0\n";
+    let text = replies_of_three(rt.alloc())?;
+    let (is_so, fault) = ends(&rt, rt.alloc(), schedule.as_bytes(), 0, &text)?;
+    assert_eq!(rt; fault, None);
+    assert!(rt; is_so);
     Ok(())
 }
