@@ -11,6 +11,8 @@ mod lines;
 mod replies;
 mod run;
 mod summaries;
+#[cfg(test)]
+mod tests;
 mod worlds;
 
 use run::run;
