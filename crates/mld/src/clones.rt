@@ -48,7 +48,7 @@ impl LiveClone {
     ghost use Rattle.std.specs.Prelude.{◌≡◌, ◌+◌, ◌^◌, ◌<◌, ◌∷◌, [], IfOk};
     ghost use Rattle.tree_clock.specs.Clock.{ticks_of};
     ghost use Rattle.mld_model.specs.Local.{LocallyMakes};
-    ghost use Rattle.mld.specs.Clones.{Receives};
+    ghost use Rattle.mld.specs.Clones.{KnowsItsPairs, Removes, Receives};
 
     /// A clone with this path that knows nothing.
     pub fn new(alloc: Global, path: Path) -> LiveClone
@@ -93,6 +93,16 @@ impl LiveClone {
         self.journal.push(entry.range())?;
         insert_pair(&mut self.pairs, Tagged { triple, dot })?;
         Ok(entry)
+    }
+
+    /// Makes the operation that deletes every pair of a triple, and gives the entry that carries it; where there is no pair of
+    /// the triple, does nothing. After an error the clone may have done a part of it, and is not used again.
+    pub fn remove(&mut self, alloc: Global, triple: &Triple) -> Result<Option<Entry>, AllocError>
+        requires ticks { ticks_of self.old.ticks self.old.path + 1 < 2 ^ 32 }
+        requires pairs { KnowsItsPairs self.old }
+        ensures { IfOk result (λ made. Removes self.old triple.now made self.new) }
+    {
+        Err(AllocError)
     }
 
     /// Takes an entry that is ready. After an error the clone may have done a part of it, and is not used again.
