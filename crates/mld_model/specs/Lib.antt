@@ -21,3 +21,4 @@ pub mod Laws
 pub mod ScheduleLaws
 pub mod StepLaws
 pub mod RunsLaws
+pub mod StepSoundLaws
