@@ -29,6 +29,7 @@ use Rattle.mld_model.specs.HistoryLaws.{done_not_fresh}
 abbrev pub kept_by : RunningLive → List Range → Stored
 kept_by running base = record { path = running.path; base = base; journal = running.journal }
 
+-- a running clone that stands for what is kept has the same path and journal
 pub same_stored : (history : List Operation) (running : RunningLive) (stored : Stored) → LiveStandsFor history running stored
     → kept_by running stored.base ≡ stored
 same_stored history running stored stands = λ i. record { path = stands.path i; base = stored.base; journal = stands.journal i }
@@ -112,11 +113,13 @@ module _ (history : List Operation) (old : RunningLive) (base : List Range) (del
 
 module _ (history : List Operation) (running : RunningLive) (stored : Stored) (range : Range) (entry : EntryValue)
     (stands : LiveStandsFor history running stored) (net : IsNet history range entry) where
+  -- the range is known to the running clone where it is known in the model
   pub known_alike : LocallyKnown running entry ↔ IsKnown (known_of stored) range
   known_alike =
       let P : Range → Type 0 = λ r. Covers running.ticks (last_dot r) in
       (λ c. (stands.known (last_dot range)).0 (subst P net.same c), λ k. subst P (sym net.same) ((stands.known (last_dot range)).1 k))
 
+  -- the range is ready for the running clone where it is ready in the model
   pub ready_alike : 1 ≤ range.first → LocallyReady running entry ↔ IsReady history (known_of stored) range
   ready_alike positive = (
     λ local. record {

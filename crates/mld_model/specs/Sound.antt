@@ -33,6 +33,7 @@ IsSoundMessage history (SnapshotOf dots) = IsClosed history dots
 IsSoundMessage history (JoinAsk id) = Unit {0}
 IsSoundMessage history (JoinGive id path dots) = IsClosed history dots
 
+-- a world is sound: its history is lawful, and its clones and messages fit that history
 pub record IsSound (world : World) : Type 0 where
   -- the history is lawful
   pub lawful : IsLawful world.history

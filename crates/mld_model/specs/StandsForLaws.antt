@@ -16,8 +16,9 @@ use Rattle.mld_model.specs.StandsFor.{RunningLive, RunningWorld, LiveStandsFor, 
 use Rattle.mld_model.specs.HistoryLaws.{done_not_fresh}
 use Rattle.mld_model.specs.LocalLaws.{kept_by, same_stored}
 
--- clones, one by one
+-- ---- clones, one by one
 
+-- at each number the running clone stands for the clone
 pub clone_stands_at : (history : List Operation) (running : List (Option RunningLive)) (clones : List Clone) → ClonesStandFor history running clones
     → (number : ℕ) → CloneStandsFor history (get_or running number None) (get_or clones number Absent)
 clone_stands_at history [] [] stands number = tt
@@ -26,6 +27,7 @@ clone_stands_at history (one ∷ running) (clone ∷ clones) stands (suc number)
 clone_stands_at history [] (clone ∷ clones) stands number = absurd stands
 clone_stands_at history (one ∷ running) [] stands number = absurd stands
 
+-- the clones still stand for each other once one on each side is replaced by such a pair
 pub clones_stand_set : (history : List Operation) (running : List (Option RunningLive)) (clones : List Clone) → ClonesStandFor history running clones
     → (number : ℕ) (one : Option RunningLive) (clone : Clone) → CloneStandsFor history one clone
     → ClonesStandFor history (set running number one) (set clones number clone)
@@ -49,6 +51,7 @@ clone_still_stands history next (Some running) (Live stored held) stands unknown
 )
 clone_still_stands history next running clone stands unknown = absurd stands
 
+-- clones that don't know the dot of a new operation stand for the same clones in the longer history
 pub clones_still_stand : (history : List Operation) (next : Operation) (running : List (Option RunningLive)) (clones : List Clone) → ClonesStandFor history running clones
     → ((number : ℕ) (stored : Stored) → Keeps (get_or clones number Absent) stored → ¬ Knows (known_of stored) next.dot)
     → ClonesStandFor (next ∷ history) running clones
@@ -81,20 +84,23 @@ absent_from history Empty stands = absurd stands
 absent_from history (Down stored) stands = absurd stands
 absent_from history (Live stored held) stands = absurd stands
 
+-- where a clone runs, the model has a live clone for which it stands
 pub live_at : (running : RunningWorld) (world : World) → StandsFor running world → (number : ℕ) (live : RunningLive)
     → get_or running.clones number None ≡ Some live → LiveAt world.history live (clone_at world number)
 live_at running world stands number live is =
     let P : Option RunningLive → Type 0 = λ r. CloneStandsFor world.history r (clone_at world number) in
     live_from world.history live (clone_at world number) (subst P is (clone_stands_at world.history running.clones world.clones stands.clones number))
 
+-- where no clone runs, the model's clone is absent
 pub absent_at : (running : RunningWorld) (world : World) → StandsFor running world → (number : ℕ)
     → get_or running.clones number None ≡ None → clone_at world number ≡ Absent
 absent_at running world stands number is =
     let P : Option RunningLive → Type 0 = λ r. CloneStandsFor world.history r (clone_at world number) in
     absent_from world.history (clone_at world number) (subst P is (clone_stands_at world.history running.clones world.clones stands.clones number))
 
--- messages, one by one
+-- ---- messages, one by one
 
+-- entries stand for the same messages in the longer history
 pub messages_still_stand : (history : List Operation) (next : Operation) (entries : List EntryValue) (messages : List Message) → MessagesStandFor history entries messages
     → ((message : Message) → Has messages message → IsSoundMessage history message) → IsNext history next
     → MessagesStandFor (next ∷ history) entries messages
@@ -115,6 +121,7 @@ messages_still_stand history next (entry ∷ entries) (JoinGive id path dots ∷
 messages_still_stand history next [] (message ∷ messages) stands sound is_next = absurd stands
 messages_still_stand history next (entry ∷ entries) [] stands sound is_next = absurd stands
 
+-- and with one more of each at the end
 pub messages_stand_more : (history : List Operation) (entries : List EntryValue) (messages : List Message) → MessagesStandFor history entries messages
     → (entry : EntryValue) (message : Message) → MessageStandsFor history entry message
     → MessagesStandFor history (entries ++ entry ∷ []) (messages ++ message ∷ [])
@@ -123,6 +130,7 @@ messages_stand_more history (one ∷ entries) (other ∷ messages) stands entry 
 messages_stand_more history [] (other ∷ messages) stands entry message now = absurd stands
 messages_stand_more history (one ∷ entries) [] stands entry message now = absurd stands
 
+-- there are as many entries as messages
 pub messages_count : (history : List Operation) (entries : List EntryValue) (messages : List Message) → MessagesStandFor history entries messages
     → length entries ≡ length messages
 messages_count history [] [] stands = refl
@@ -151,6 +159,7 @@ sent_from history (one ∷ entries) (message ∷ messages) stands (suc place) en
 sent_from history (one ∷ entries) (message ∷ messages) stands zero entry is = absurd stands.0
 sent_from history (one ∷ entries) [] stands place entry is = absurd stands
 
+-- the entry at a place was sent as the message at that place
 pub sent_at : (running : RunningWorld) (world : World) → StandsFor running world → (place : ℕ) (entry : EntryValue)
     → slice_get running.messages place ≡ Some entry → SentAs world.history entry world.messages place
 sent_at running world stands place entry is = sent_from world.history running.messages world.messages stands.messages place entry is
@@ -163,6 +172,7 @@ none_from history (one ∷ entries) (message ∷ messages) stands (suc place) is
 none_from history [] (message ∷ messages) stands place is = absurd stands
 none_from history (one ∷ entries) [] stands place is = absurd stands
 
+-- where there is no entry there is no message
 pub none_at : (running : RunningWorld) (world : World) → StandsFor running world → (place : ℕ)
     → slice_get running.messages place ≡ None → slice_get world.messages place ≡ None
 none_at running world stands place is = none_from world.history running.messages world.messages stands.messages place is

@@ -14,6 +14,7 @@ pub data Message : Type 0 where
   JoinAsk : ℕ → Message
   JoinGive : ℕ → List ℕ → List Range → Message
 
+-- the world: its domain, its properties, every operation made, its clones, and every message sent
 pub record World : Type 0 where
   pub domain : List ℕ
   pub properties : List (List ℕ)

@@ -29,7 +29,7 @@ use Rattle.mld_model.specs.LocalLaws.{kept_by, next_tick_of, made_by, maker_stan
 use Rattle.mld_model.specs.StandsForLaws.{clones_stand_set, clones_still_stand, messages_still_stand, messages_stand_more, messages_count, LiveAt, live_at, absent_at, SentAs, sent_at, none_at}
 use Rattle.mld_model.specs.WorldStep.{Follows}
 
--- founding
+-- ---- founding
 
 founded_clone_stands : (count number : ℕ) → CloneStandsFor [] (founded_live count number) (founded_clone count number)
 founded_clone_stands count number = elim (cases_Bool (ltb number count)) [
@@ -58,14 +58,16 @@ founded_stands domain count = record {
   ticks = λ operation h. absurd h;
 }
 
--- a running world after one more step, with another clone and with one more entry sent
+-- a running world after one more step
 abbrev pub stepped : RunningWorld → RunningWorld
 stepped running = record { domain = running.domain; clones = running.clones; messages = running.messages; steps = running.steps + 1 }
 
+-- with another clone
 abbrev pub stepped_with : RunningWorld → ℕ → RunningLive → RunningWorld
 stepped_with running number clone =
     record { domain = running.domain; clones = set running.clones number (Some clone); messages = running.messages; steps = running.steps + 1 }
 
+-- with another clone and one more entry
 abbrev pub stepped_sending : RunningWorld → ℕ → RunningLive → EntryValue → RunningWorld
 stepped_sending running number clone entry =
     record { domain = running.domain; clones = set running.clones number (Some clone); messages = running.messages ++ entry ∷ []; steps = running.steps + 1 }
@@ -104,6 +106,7 @@ pub record MakesSoundly (world : World) (number : ℕ) (live : RunningLive) (del
   pub sound : IsSound next
   pub stands : StandsFor running next
 
+-- a live clone that makes an operation does so in the model, and the running world stands for what that makes
 pub makes_soundly : (running : RunningWorld) (world : World) → StandsFor running world → IsSound world → (number : ℕ) (live : RunningLive)
     → get_or running.clones number None ≡ Some live → (deletes : List Tagged) (inserts : List Triple) (new : RunningLive) (entry : EntryValue)
     → ((pair : Tagged) → Has deletes pair → Has live.pairs pair) → LocallyMakes live deletes inserts new entry
@@ -142,8 +145,9 @@ makes_soundly running world stands sound number live is deletes inserts new entr
       };
     }
 
--- add
+-- ---- add
 
+-- a live clone adds a triple
 pub add_follows : (running : RunningWorld) (world : World) → StandsFor running world → IsSound world → (number : ℕ) (triple : Triple) (live : RunningLive)
     → get_or running.clones number None ≡ Some live → (new : RunningLive) (entry : EntryValue) → LocallyMakes live [] (triple ∷ []) new entry
     → Follows world (Add number triple) (Did (next_dot live) (length running.messages + 1)) (stepped_sending running number new entry)
@@ -154,6 +158,7 @@ add_follows running world stands sound number triple live is new entry makes =
     let P : Clone → Type 0 = λ c. Adds world number triple c (Did (next_dot live) (length running.messages + 1)) made.next in
     record { next = made.next; steps = subst P (sym made.was_live) made.makes; sound = made.sound; stands = made.stands }
 
+-- an absent clone adds nothing
 pub add_absent : (running : RunningWorld) (world : World) → StandsFor running world → IsSound world → (number : ℕ) (triple : Triple)
     → get_or running.clones number None ≡ None → Follows world (Add number triple) IsAbsent (stepped running)
 unfolding Step
@@ -161,13 +166,14 @@ add_absent running world stands sound number triple is =
     let P : Clone → Type 0 = λ c. Adds world number triple c IsAbsent world in
     record { next = world; steps = subst P (sym (absent_at running world stands number is)) (refl, refl); sound = sound; stands = stepped_stands running world stands }
 
--- deliver
+-- ---- deliver
 
 -- the entry of a message's number; the first has number 1
 abbrev pub entry_at : RunningWorld → ℕ → Option EntryValue
 entry_at running zero = None
 entry_at running (suc before) = slice_get running.messages before
 
+-- where there is no entry of a number there is no message of it
 pub no_message : (running : RunningWorld) (world : World) → StandsFor running world → (message : ℕ)
     → entry_at running message ≡ None → message_at world message ≡ None
 no_message running world stands zero is = refl
@@ -181,6 +187,7 @@ pub record SentBy (world : World) (entry : EntryValue) (message : ℕ) : Type 0 
   pub net : IsNet world.history range entry
   pub one : range.first ≡ range.last
 
+-- the entry of a number was sent as the message of that number
 pub sent_by : (running : RunningWorld) (world : World) → StandsFor running world → (message : ℕ) (entry : EntryValue)
     → entry_at running message ≡ Some entry → SentBy world entry message
 sent_by running world stands zero entry is = cc
@@ -188,6 +195,7 @@ sent_by running world stands (suc before) entry is =
     let s : SentAs world.history entry world.messages before = sent_at running world stands before entry is in
     record { range = s.range; at = s.at; sent = s.sent; net = s.net; one = s.one }
 
+-- no message of the number comes
 pub deliver_nothing : (running : RunningWorld) (world : World) → StandsFor running world → IsSound world → (message number : ℕ)
     → entry_at running message ≡ None → Follows world (Deliver message number) NoMessage (stepped running)
 unfolding Step
@@ -195,6 +203,7 @@ deliver_nothing running world stands sound message number is =
     let P : Option Message → Type 0 = λ o. MatchOption o (Answers world NoMessage NoMessage world) (λ sent. Takes world number sent (clone_at world number) NoMessage world) in
     record { next = world; steps = subst P (sym (no_message running world stands message is)) (refl, refl); sound = sound; stands = stepped_stands running world stands }
 
+-- a message comes to an absent clone
 pub deliver_absent : (running : RunningWorld) (world : World) → StandsFor running world → IsSound world → (message number : ℕ) (entry : EntryValue)
     → entry_at running message ≡ Some entry → get_or running.clones number None ≡ None → Follows world (Deliver message number) IsAbsent (stepped running)
 unfolding Step
@@ -204,6 +213,7 @@ deliver_absent running world stands sound message number entry sent is =
     let Q : Clone → Type 0 = λ c. Takes world number (RangeOf s.range) c IsAbsent world in
     record { next = world; steps = subst P (sym s.at) (subst Q (sym (absent_at running world stands number is)) (refl, refl)); sound = sound; stands = stepped_stands running world stands }
 
+-- a message comes to a clone that knows it
 pub deliver_known : (running : RunningWorld) (world : World) → StandsFor running world → IsSound world → (message number : ℕ) (entry : EntryValue) (live : RunningLive)
     → entry_at running message ≡ Some entry → get_or running.clones number None ≡ Some live → LocallyKnown live entry
     → Follows world (Deliver message number) AlreadyKnown (stepped running)
@@ -220,6 +230,7 @@ deliver_known running world stands sound message number entry live sent is known
       stands = stepped_stands running world stands;
     }
 
+-- a message comes to a clone that is ready for it
 pub deliver_taken : (running : RunningWorld) (world : World) → StandsFor running world → IsSound world → (message number : ℕ) (entry : EntryValue) (live new : RunningLive)
     → entry_at running message ≡ Some entry → get_or running.clones number None ≡ Some live → LocallyReady live entry → LocallyTakes live entry new
     → Follows world (Deliver message number) (Took (entry.range ∷ [])) (stepped_with running number new)
@@ -248,6 +259,7 @@ deliver_taken running world stands sound message number entry live new sent is r
       };
     }
 
+-- a message comes to a clone that would have to hold it back
 pub deliver_waits : (running : RunningWorld) (world : World) → StandsFor running world → IsSound world → (message number : ℕ) (entry : EntryValue) (live : RunningLive)
     → entry_at running message ≡ Some entry → get_or running.clones number None ≡ Some live → ¬ LocallyKnown live entry → ¬ LocallyReady live entry
     → Waits world message number
@@ -267,8 +279,9 @@ deliver_waits running world stands sound message number entry live sent is unkno
       };
     }
 
--- show
+-- ---- show
 
+-- a live clone shows its pairs
 pub show_follows : (running : RunningWorld) (world : World) → StandsFor running world → IsSound world → (number : ℕ) (live : RunningLive)
     → get_or running.clones number None ≡ Some live → Follows world (Show number) (Shows live.pairs) (stepped running)
 unfolding Step
@@ -277,6 +290,7 @@ show_follows running world stands sound number live is =
     let P : Clone → Type 0 = λ c. Lists world c (Shows live.pairs) world in
     record { next = world; steps = subst P (sym at.live) (live.pairs, at.stands.pairs, (refl, refl)); sound = sound; stands = stepped_stands running world stands }
 
+-- an absent clone shows none
 pub show_absent : (running : RunningWorld) (world : World) → StandsFor running world → IsSound world → (number : ℕ)
     → get_or running.clones number None ≡ None → Follows world (Show number) IsAbsent (stepped running)
 unfolding Step
@@ -284,7 +298,7 @@ show_absent running world stands sound number is =
     let P : Clone → Type 0 = λ c. Lists world c IsAbsent world in
     record { next = world; steps = subst P (sym (absent_at running world stands number is)) (refl, refl); sound = sound; stands = stepped_stands running world stands }
 
--- compare
+-- ---- compare
 
 -- the first clock's dots are all among the second's
 abbrev pub LocallyWithin : RunningLive → RunningLive → Type 0
@@ -305,6 +319,7 @@ within_alike history live other stored kept a b = (
   λ within dot covered. (b.known dot).1 (within dot ((a.known dot).0 covered)),
 )
 
+-- two live clones compare
 pub compare_follows : (running : RunningWorld) (world : World) → StandsFor running world → IsSound world → (number second : ℕ) (live other : RunningLive) (reply : Reply)
     → get_or running.clones number None ≡ Some live → get_or running.clones second None ≡ Some other → LocallyCompares live other reply
     → Follows world (Compare number second) reply (stepped running)
@@ -328,6 +343,7 @@ compare_follows running world stands sound number second live other reply is was
     ] in
     record { next = world; steps = subst P (sym a.live) (subst Q (sym b.live) (found, refl)); sound = sound; stands = stepped_stands running world stands }
 
+-- the first of two clones is absent
 pub compare_absent_first : (running : RunningWorld) (world : World) → StandsFor running world → IsSound world → (number second : ℕ)
     → get_or running.clones number None ≡ None → Follows world (Compare number second) IsAbsent (stepped running)
 unfolding Step
@@ -335,6 +351,7 @@ compare_absent_first running world stands sound number second is =
     let P : Clone → Type 0 = λ c. Weighs world c (clone_at world second) IsAbsent world in
     record { next = world; steps = subst P (sym (absent_at running world stands number is)) (refl, refl); sound = sound; stands = stepped_stands running world stands }
 
+-- the second of two clones is absent
 pub compare_absent_second : (running : RunningWorld) (world : World) → StandsFor running world → IsSound world → (number second : ℕ) (live : RunningLive)
     → get_or running.clones number None ≡ Some live → get_or running.clones second None ≡ None → Follows world (Compare number second) IsAbsent (stepped running)
 unfolding Step
