@@ -12,8 +12,8 @@ use Rattle.mld_ops.specs.Entry.{EntryValue}
 use Rattle.mld_ops.specs.History.{Operation}
 use Rattle.mld_ops.specs.Meaning.{IsMeaning}
 use Rattle.mld_ops.specs.Net.{IsNet}
-use Rattle.mld_model.specs.Clone.{Clone, Absent, Asking, Empty, Down, Live, Stored, known_of}
-use Rattle.mld_model.specs.World.{World, Message, RangeOf, Want, SnapshotOf, JoinAsk, JoinGive, founded_path, clone_count}
+use Rattle.mld_model.specs.Clone.{Clone, Absent, Live, Stored, known_of}
+use Rattle.mld_model.specs.World.{World, Message, RangeOf, founded_path, clone_count}
 
 -- a live clone as it runs: its path, the ticks of its clock, the ranges of its journal, and its pairs
 pub record RunningLive : Type 0 where
