@@ -11,7 +11,7 @@ use Rattle.mld_ops.specs.AscendingLaws.{has_take_more}
 use Rattle.mld_ops.specs.Entry.{EntryValue}
 use Rattle.mld_ops.specs.History.{dot_at}
 use Rattle.mld_model.specs.Clone.{last_dot}
-use Rattle.mld_model.specs.SoundLaws.{in_or_not}
+use Rattle.tree_clock.specs.DotLaws.{IsIn_or_not}
 use Rattle.mld.specs.Taking.{HasBefore}
 
 -- a pair is one of these inserts of the path
@@ -77,7 +77,7 @@ module _ (ticks after : List (List ℕ × ℕ)) (entry : EntryValue) (raised : R
   -- and the other way round
   pub within_of_before : 1 ≤ entry.range.first → HasBefore ticks entry → (dot : Dot) → Covers entry.time dot → Covers after dot
   within_of_before positive has dot covered =
-      (Covers-raised ticks after (last_dot entry.range) dot raised).1 (elim (in_or_not entry.range dot) [
+      (Covers-raised ticks after (last_dot entry.range) dot raised).1 (elim (IsIn_or_not entry.range dot) [
         | inl inside ↦ inr (inside.path, omega (arith, positive, inside.above), inside.below)
         | inr outside ↦ inl (has.time dot covered outside)
       ])

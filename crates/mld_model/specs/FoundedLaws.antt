@@ -1,17 +1,12 @@
 -- The founded world is sound.
-use Rattle.std.proofs.Common.{◌≡◌, ◌≢◌, ℕ, zero, suc, ◌+◌, ◌-◌, ◌<◌, ◌≤◌, List, [], ◌∷◌, ◌++◌, ◌⊎◌, inl, inr, refl, sym, ◌∙◌, ap, arith, rules, subst, length, cond, ltb, true, false, get_or, set, map, append-nil, replicate}
+use Rattle.std.proofs.Common.{◌≡◌, ◌≢◌, ℕ, zero, suc, ◌-◌, ◌<◌, List, [], ◌∷◌, ◌++◌, inl, inr, refl, sym, ap, arith, subst, ltb, map, append-nil, replicate}
 use Rattle.std.specs.List.{range_with_len}
-use Rattle.std.proofs.lemmas.Bool.{cases_eq, cases_lt, cases_Bool, lt-ltb, le-ltb, ltb-true, cases_order}
+use Rattle.std.proofs.lemmas.Bool.{cases_lt, cases_Bool, ltb-true, cases_order}
 use Rattle.std.proofs.lemmas.List.{get_or_past}
 use Rattle.std.proofs.lemmas.List.FromFn.{get_or-map-range_with_len, length-map-range_with_len}
-use Rattle.tree_clock.specs.declared.dots.Dot.{Dot}
-use Rattle.tree_clock.specs.declared.dots.Range.{Range}
-use Rattle.tree_clock.specs.Lists.{Has}
-use Rattle.tree_clock.specs.Path.{IsPrefix, IsProperPrefix, AreApart}
-use Rattle.tree_clock.specs.Dot.{IsIn, Knows}
-use Rattle.mld_ops.specs.History.{Operation}
-use Rattle.mld_model.specs.Clone.{Clone, Absent, Asking, Empty, Down, Live, Stored, known_of}
-use Rattle.mld_model.specs.World.{World, Message, clone_at, founded, founded_path, founded_clone, clone_count}
+use Rattle.tree_clock.specs.Path.{IsPrefix, AreApart}
+use Rattle.mld_model.specs.Clone.{Clone, Absent, Live, Stored}
+use Rattle.mld_model.specs.World.{clone_at, founded, founded_path, founded_clone}
 use Rattle.mld_model.specs.Sound.{Keeps, IsSoundClone, IsSound}
 use Rattle.mld_model.specs.SoundLaws.{AreApart-swap}
 
@@ -48,42 +43,46 @@ founded_apart count (suc one) zero h k differ =
     let P : List ℕ → Type 0 = λ p. AreApart (replicate one 48 ++ 49 ∷ []) p in
     subst P (append-nil (replicate (count - 1) 48)) (turns_apart one (count - 1) [] (omega (arith, h)))
 founded_apart count (suc one) (suc other) h k differ = elim (cases_order one other) [
-    inl same ↦ absurd (differ (ap suc same))
+  | inl same ↦ absurd (differ (ap suc same))
   | inr unlike ↦ elim unlike [
-        inl before ↦ turns_apart one other (49 ∷ []) before
-      | inr after ↦ AreApart-swap _ _ (turns_apart other one (49 ∷ []) after) ] ]
+    | inl before ↦ turns_apart one other (49 ∷ []) before
+    | inr after ↦ AreApart-swap _ _ (turns_apart other one (49 ∷ []) after)
+  ]
+]
 
 -- which clone of the founded world keeps what
 founded_keeps : (count number : ℕ) (stored : Stored) → Keeps (founded_clone count number) stored
-  → (number < count) × (record { path = founded_path count number; base = []; journal = [] } ≡ stored)
+    → (number < count) × (record { path = founded_path count number; base = []; journal = [] } ≡ stored)
 founded_keeps count number stored keeps = elim (cases_Bool (ltb number count)) [
-    inl below ↦ let P : Clone → Type 0 = λ c. Keeps c stored in
+  | inl below ↦ let P : Clone → Type 0 = λ c. Keeps c stored in
       let e : founded_clone count number ≡ Live (record { path = founded_path count number; base = []; journal = [] }) [] = rw below refl in
       (ltb-true number count below, subst P e keeps)
   | inr above ↦ let P : Clone → Type 0 = λ c. Keeps c stored in
       let e : founded_clone count number ≡ Absent = rw above refl in
-      absurd (subst P e keeps) ]
+      absurd (subst P e keeps)
+]
 
 founded_at : (domain : List ℕ) (count number : ℕ) (stored : Stored) → Keeps (clone_at (founded domain count) number) stored
-  → (number < count) × (record { path = founded_path count number; base = []; journal = [] } ≡ stored)
+    → (number < count) × (record { path = founded_path count number; base = []; journal = [] } ≡ stored)
 founded_at domain count number stored keeps = elim (cases_lt number 32) [
-    inl inside ↦ let P : Clone → Type 0 = λ c. Keeps c stored in
+  | inl inside ↦ let P : Clone → Type 0 = λ c. Keeps c stored in
       founded_keeps count number stored (subst P (get_or-map-range_with_len (founded_clone count) 0 32 number number Absent inside (omega arith)) keeps)
   | inr past ↦ let P : Clone → Type 0 = λ c. Keeps c stored in
-      absurd (subst P (get_or_past (map (founded_clone count) (range_with_len 0 32)) number Absent (omega (arith, past, length-map-range_with_len (founded_clone count) 0 32))) keeps) ]
+      absurd (subst P (get_or_past (map (founded_clone count) (range_with_len 0 32)) number Absent (omega (arith, past, length-map-range_with_len (founded_clone count) 0 32))) keeps)
+]
 
 -- the founded world is sound
 pub founded_sound : (domain : List ℕ) (count : ℕ) → IsSound (founded domain count)
 founded_sound domain count = record {
-    lawful = tt;
-    count = length-map-range_with_len (founded_clone count) 0 32;
-    apart = λ one other first second differ one_keeps other_keeps.
+  lawful = tt;
+  count = length-map-range_with_len (founded_clone count) 0 32;
+  apart = λ one other first second differ one_keeps other_keeps.
       let a = founded_at domain count one first one_keeps in
       let b = founded_at domain count other second other_keeps in
       let P : Stored → Type 0 = λ s. AreApart s.path second.path in
       let Q : Stored → Type 0 = λ s. AreApart (founded_path count one) s.path in
       subst P a.1 (subst Q b.1 (founded_apart count one other a.0 b.0 differ));
-    clones = λ number stored keeps.
+  clones = λ number stored keeps.
       let a = founded_at domain count number stored keeps in
       let P : Stored → Type 0 = λ s. IsSoundClone [] s in
       subst P a.1 (record {
@@ -92,5 +91,5 @@ founded_sound domain count = record {
         above = λ operation stands. absurd stands;
         below = λ operation stands. absurd stands;
       });
-    messages = λ message sent. absurd sent;
-  }
+  messages = λ message sent. absurd sent;
+}

@@ -1,11 +1,21 @@
--- The laws of schedules, as the contracts of the crate state them.
-use Rattle.std.specs.Prelude.{◌≡◌, ℕ, List, IsTrue}
+-- The laws of schedules and of the worlds that they reach, as the contracts of the crate state them.
+use Rattle.std.specs.Prelude.{◌≡◌, ◌≢◌, ℕ, List, IsTrue}
+use Rattle.rdf_terms.specs.declared.terms.Triple.{Triple}
+use Rattle.tree_clock.specs.declared.dots.Dot.{Dot}
+use Rattle.tree_clock.specs.declared.dots.Range.{Range}
+use Rattle.tree_clock.specs.Dot.{Knows}
+use Rattle.mld_ops.specs.declared.tagged.Tagged.{Tagged}
+use Rattle.mld_ops.specs.History.{Operation, IsInserted}
+use Rattle.mld_ops.specs.Meaning.{IsMeaning}
 use Rattle.mld_model.specs.declared.Command.{Command}
-use Rattle.mld_model.specs.World.{World}
-use Rattle.mld_model.specs.Reply.{Reply}
+use Rattle.mld_model.specs.declared.Command.TheVariants.{Add}
+use Rattle.mld_model.specs.Clone.{Stored, Live, known_of, IsWithin}
+use Rattle.mld_model.specs.World.{World, clone_at, founded}
+use Rattle.mld_model.specs.Reply.{Reply, Did}
 use Rattle.mld_model.specs.Step.{Step}
+use Rattle.mld_model.specs.Sound.{Keeps, IsSound}
 use Rattle.mld_model.specs.Schedule.{IsNothing, is_unbuilt, SpellsSetup, SpellsCommand}
-use Rattle.mld_model.specs.Runs.{Stage, Acts, Runs, IsBad, IsUnbuilt, Outcome, Verdict}
+use Rattle.mld_model.specs.Runs.{Stage, Waiting, Running, Acts, Runs, IsBad, IsUnbuilt, Outcome, Verdict}
 
 -- a line is at most one of these: it says nothing, it isn't built yet, it is a domain line, it is a command
 pub record IsOfOneKind (line : List ℕ) : Type 0 where
@@ -55,3 +65,38 @@ OneRun = (stage : Stage) (lines : List (List ℕ)) (text other : List ℕ) (next
 -- the lines of a schedule have one verdict
 abbrev pub OneVerdict : Type 0
 OneVerdict = (lines : List (List ℕ)) (outcome other : Outcome) → Verdict lines outcome → Verdict lines other → outcome ≡ other
+
+-- the founded world is sound
+abbrev pub FoundedIsSound : Type 0
+FoundedIsSound = (domain : List ℕ) (count : ℕ) → IsSound (founded domain count)
+
+-- a step of a sound world leads to a sound world
+abbrev pub StepIsSound : Type 0
+StepIsSound = (world : World) (command : Command) (reply : Reply) (next : World) → IsSound world → Step world command reply next → IsSound next
+
+-- each world that a schedule reaches is sound
+abbrev pub RunsAreSound : Type 0
+RunsAreSound = (lines : List (List ℕ)) (text : List ℕ) (world : World) → Runs Waiting lines text (Running world) → IsSound world
+
+-- clones that know the same dots have the same pairs
+abbrev pub SamePairs : Type 0
+SamePairs = (history : List Operation) (known other : List Range) (pairs others : List Tagged)
+    → IsWithin known other → IsWithin other known → IsMeaning history known pairs → IsMeaning history other others → pairs ≡ others
+
+-- the clone of the number is live and knows the dot, and the operation of the dot stands in the history and inserts the triple
+pub record Remembers (world : World) (number : ℕ) (triple : Triple) (dot : Dot) : Type 0 where
+  pub stored : Stored
+  pub held : List Range
+  pub live : clone_at world number ≡ Live stored held
+  pub known : Knows (known_of stored) dot
+  pub inserted : IsInserted world.history (record { triple = triple; dot = dot })
+
+-- the dot that an `add` tells of is known to its clone, and its operation inserts the triple
+abbrev pub AddRemembers : Type 0
+AddRemembers = (world : World) (number : ℕ) (triple : Triple) (dot : Dot) (message : ℕ) (next : World)
+    → Step world (Add number triple) (Did dot message) next → Remembers next number triple dot
+
+-- no two clones of a sound world hold one leaf
+abbrev pub OneLeaf : Type 0
+OneLeaf = (world : World) → IsSound world → (number other : ℕ) (stored kept : Stored) → number ≢ other
+    → Keeps (clone_at world number) stored → Keeps (clone_at world other) kept → stored.path ≢ kept.path

@@ -17,8 +17,8 @@ pub mod SoundLaws
 pub mod FoundedLaws
 pub mod Bytes
 pub mod TripleBytes
-pub mod TripleLaws
 pub mod Laws
 pub mod ScheduleLaws
 pub mod StepLaws
 pub mod RunsLaws
+pub mod StepSoundLaws

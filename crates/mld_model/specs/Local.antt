@@ -52,4 +52,4 @@ pub record LocallyTakes (old : RunningLive) (entry : EntryValue) (new : RunningL
   pub clock : RaisesTo old.ticks new.ticks (last_dot entry.range)
   pub ascending : IsAscending tagged_cmp new.pairs
   pub pairs : PairsAfter old.pairs entry.deletes
-    (λ pair. (pair.dot.path ≡ entry.range.path) × Has entry.inserts (pair.triple, pair.dot.tick)) new.pairs
+      (λ pair. (pair.dot.path ≡ entry.range.path) × Has entry.inserts (pair.triple, pair.dot.tick)) new.pairs

@@ -8,6 +8,7 @@ use Rattle.tree_clock.specs.declared.dots.Range.{Range}
 use Rattle.tree_clock.specs.Dot.{dot_text, range_text}
 use Rattle.mld_ops.specs.declared.tagged.Tagged.{Tagged}
 
+-- what a step answers
 pub data Reply : Type 0 where
   -- so many clones are ready
   Ready : ℕ → Reply
@@ -43,6 +44,7 @@ pair_line pair = dot_text pair.dot ++ 32 ∷ (triple_text pair.triple ++ 10 ∷ 
 abbrev pub spaced_range : Range → List ℕ
 spaced_range range = 32 ∷ range_text range
 
+-- the text of a reply
 unfoldable pub reply_text : Reply → List ℕ
 reply_text (Ready count) = codes "ready " ++ (decimal count ++ 10 ∷ [])
 reply_text (Did dot number) = codes "did " ++ (dot_text dot ++ (codes " m" ++ (decimal number ++ 10 ∷ [])))

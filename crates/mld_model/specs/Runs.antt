@@ -95,6 +95,7 @@ pub data Outcome : Type 0 where
   BadLine : ℕ → List ℕ → Stage → Outcome
   UnbuiltLine : ℕ → List ℕ → Stage → Outcome
 
+-- the lines of a schedule have this outcome
 unfoldable pub Verdict : List (List ℕ) → Outcome → Type 0
 Verdict lines (Finished text world) = Runs Waiting lines text (Running world)
 Verdict lines (BadLine number text stage) = StopsBad lines number text stage

@@ -12,7 +12,7 @@ use Rattle.mld_model.specs.declared.Command.TheVariants.{Add, Remove, Deliver, S
 use Rattle.mld_model.specs.Schedule.{IsNothing, empty, comment, is_unbuilt, SpellsSetup, SpellsCommand}
 use Rattle.mld_model.specs.Bytes.{Lacks, Lacks-append, Lacks-from_test, Lacks-decimal, list_any-Lacks, one_split, apart}
 use Rattle.mld_model.specs.TripleBytes.{Lacks-triple}
-use Rattle.mld_model.specs.TripleLaws.{one_triple}
+use Rattle.rdf_terms.specs.ReadingLaws.{one_spelled}
 use Rattle.mld_model.specs.Laws.{OneKind, OneSetup, OneCommand}
 
 -- ---- what a line begins with
@@ -145,11 +145,11 @@ pub one_command : OneCommand
 unfolding begins
 one_command line (Add number triple) (Add other second) p q =
     let parts = one_number number other p.0 q.0 (small p.2) (small q.2) (ap (drop 4) (sym p.1 ∙ q.1)) in
-    let same = one_triple q.0 triple second (subst (λ (text : List ℕ). SpellsTriple text triple) parts.1 p.4) q.4 in
+    let same = one_spelled q.0 triple second (subst (λ (text : List ℕ). SpellsTriple text triple) parts.1 p.4) q.4 in
     cc (parts.0, same)
 one_command line (Remove number triple) (Remove other second) p q =
     let parts = one_number number other p.0 q.0 (small p.2) (small q.2) (ap (drop 7) (sym p.1 ∙ q.1)) in
-    let same = one_triple q.0 triple second (subst (λ (text : List ℕ). SpellsTriple text triple) parts.1 p.4) q.4 in
+    let same = one_spelled q.0 triple second (subst (λ (text : List ℕ). SpellsTriple text triple) parts.1 p.4) q.4 in
     cc (parts.0, same)
 one_command line (Deliver message number) (Deliver other second) p q =
     let parts = one_number message other (decimal number) (decimal second) p.1 q.1 (ap (drop 8) (sym p.0 ∙ q.0)) in

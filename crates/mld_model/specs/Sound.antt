@@ -1,7 +1,6 @@
 -- What every world that a schedule reaches keeps.
-use Rattle.std.specs.Prelude.{◌≡◌, ◌≢◌, ℕ, ◌<◌, ◌≤◌, List, length}
+use Rattle.std.specs.Prelude.{◌≡◌, ◌≢◌, ℕ, ◌≤◌, List, length}
 use Rattle.tree_clock.specs.declared.dots.Dot.{Dot}
-use Rattle.tree_clock.specs.declared.dots.Range.{Range}
 use Rattle.tree_clock.specs.Lists.{Has}
 use Rattle.tree_clock.specs.Path.{IsProperPrefix, AreApart}
 use Rattle.tree_clock.specs.Dot.{IsIn, Knows}
@@ -23,7 +22,7 @@ pub record IsSoundClone (history : List Operation) (stored : Stored) : Type 0 wh
   pub closed : IsClosed history (known_of stored)
   pub own : (operation : Operation) → Has history operation → operation.dot.path ≡ stored.path → Knows (known_of stored) operation.dot
   pub above : (operation : Operation) → Has history operation → IsProperPrefix operation.dot.path stored.path
-    → Knows (known_of stored) operation.dot
+      → Knows (known_of stored) operation.dot
   pub below : (operation : Operation) → Has history operation → ¬ IsProperPrefix stored.path operation.dot.path
 
 -- a range was sent only once all of its dots stand in the history
@@ -34,6 +33,7 @@ IsSoundMessage history (SnapshotOf dots) = IsClosed history dots
 IsSoundMessage history (JoinAsk id) = Unit {0}
 IsSoundMessage history (JoinGive id path dots) = IsClosed history dots
 
+-- a world is sound: its history is lawful, and its clones and messages fit that history
 pub record IsSound (world : World) : Type 0 where
   -- the history is lawful
   pub lawful : IsLawful world.history
@@ -41,7 +41,7 @@ pub record IsSound (world : World) : Type 0 where
   pub count : length world.clones ≡ 32
   -- no two clones hold one leaf, nor one below another's
   pub apart : (number other : ℕ) (stored kept : Stored) → number ≢ other
-    → Keeps (clone_at world number) stored → Keeps (clone_at world other) kept → AreApart stored.path kept.path
+      → Keeps (clone_at world number) stored → Keeps (clone_at world other) kept → AreApart stored.path kept.path
   -- what each clone that holds a leaf knows
   pub clones : (number : ℕ) (stored : Stored) → Keeps (clone_at world number) stored → IsSoundClone world.history stored
   -- what was sent

@@ -1,45 +1,47 @@
--- Laws of sound worlds: founding makes one, and making or taking operations keeps a world sound.
-use Rattle.std.proofs.Common.{◌≡◌, ◌≢◌, ℕ, zero, suc, ◌+◌, ◌-◌, ◌<◌, ◌≤◌, List, [], ◌∷◌, ◌++◌, ◌⊎◌, ◌↔◌, inl, inr, refl, sym, ◌∙◌, ap, arith, rules, subst, length, cond, ltb, true, false, get_or, set, map, append-nil, length-append}
-use Rattle.std.specs.List.{range_with_len}
-use Rattle.std.proofs.lemmas.Bool.{cases_eq, cases_lt, lt-ltb, le-ltb}
+-- Laws of sound worlds: making or taking an operation keeps a world sound.
+use Rattle.std.proofs.Common.{◌≡◌, ◌≢◌, ℕ, ◌+◌, ◌<◌, ◌≤◌, List, [], ◌∷◌, ◌⊎◌, inl, inr, refl, sym, ◌∙◌, ap, arith, subst, length, get_or, set, append-nil, length-append}
+use Rattle.std.proofs.lemmas.Bool.{cases_eq, cases_lt}
 use Rattle.std.proofs.lemmas.List.{get_or-set_same, get_or-set_other, get_or_past, length-set}
-use Rattle.std.proofs.lemmas.List.FromFn.{get_or-map-range_with_len, length-map-range_with_len}
 use Rattle.tree_clock.specs.declared.dots.Dot.{Dot}
 use Rattle.tree_clock.specs.declared.dots.Range.{Range}
 use Rattle.tree_clock.specs.Lists.{Has}
-use Rattle.tree_clock.specs.Path.{IsPrefix, IsProperPrefix, AreApart}
+use Rattle.tree_clock.specs.Path.{IsProperPrefix, AreApart}
 use Rattle.tree_clock.specs.Dot.{IsIn, Knows}
+use Rattle.tree_clock.specs.DotLaws.{IsIn_or_not}
 use Rattle.rdf_terms.specs.declared.terms.Triple.{Triple}
 use Rattle.mld_ops.specs.declared.tagged.Tagged.{Tagged}
 use Rattle.mld_ops.specs.History.{Operation, IsDone, IsInserted, IsClosed, IsNext, IsLawful, dot_at}
 use Rattle.mld_ops.specs.Effect.{range_of}
-use Rattle.mld_ops.specs.HistoryLaws.{same_dot}
+use Rattle.mld_ops.specs.HistoryLaws.{same_dot, range_of_has, before, closed_with_taken}
 use Rattle.mld_ops.specs.AscendingLaws.{has_append}
 use Rattle.mld_ops.specs.Net.{IsTime}
-use Rattle.mld_model.specs.Clone.{Clone, Absent, Asking, Empty, Down, Live, Stored, known_of, with_range, last_dot, IsKnown, IsReady}
-use Rattle.mld_model.specs.World.{World, Message, RangeOf, Want, SnapshotOf, JoinAsk, JoinGive, clone_at, with_clone, founded, founded_path, founded_clone, clone_count}
+use Rattle.mld_model.specs.Clone.{Clone, Absent, Live, Stored, known_of, with_range, last_dot, IsReady}
+use Rattle.mld_model.specs.World.{World, Message, RangeOf, Want, SnapshotOf, JoinAsk, JoinGive, clone_at, with_clone}
 use Rattle.mld_model.specs.Step.{IsNextTick, after_operation}
 use Rattle.mld_model.specs.Sound.{Keeps, IsSoundClone, IsSoundMessage, IsSound}
-use Rattle.mld_model.specs.KnownLaws.{known_with-old, known_with-new, known_with-split}
-use Rattle.mld_model.specs.HistoryLaws.{IsDone-more, done_not_fresh, IsClosed-more, causes_closed, earlier_ticks, tick_positive}
+use Rattle.mld_model.specs.KnownLaws.{known_with, known_with-old, known_with-new, known_with-split}
+use Rattle.mld_model.specs.HistoryLaws.{IsDone-more, IsClosed-more, causes_closed}
 
 -- a number at which a clone stands is one of the list's places
 pub place_of_clone : (clones : List Clone) (number : ℕ) (stored : Stored) → Keeps (get_or clones number Absent) stored → number < length clones
 place_of_clone clones number stored keeps = elim (cases_lt number (length clones)) [
-    inl inside ↦ inside
-  | inr past ↦ let P : Clone → Type 0 = λ c. Keeps c stored in absurd (subst P (get_or_past clones number Absent past) keeps) ]
+  | inl inside ↦ inside
+  | inr past ↦ let P : Clone → Type 0 = λ c. Keeps c stored in absurd (subst P (get_or_past clones number Absent past) keeps)
+]
 
 -- who keeps what once one live clone keeps something else
 pub keeps_after : (clones : List Clone) (number : ℕ) (next : Stored) (held : List Range) (other : ℕ) (stored : Stored)
-  → Keeps (get_or (set clones number (Live next held)) other Absent) stored
-  → ((other ≡ number) × (next ≡ stored)) ⊎ ((other ≢ number) × Keeps (get_or clones other Absent) stored)
+    → Keeps (get_or (set clones number (Live next held)) other Absent) stored
+    → ((other ≡ number) × (next ≡ stored)) ⊎ ((other ≢ number) × Keeps (get_or clones other Absent) stored)
 keeps_after clones number next held other stored keeps =
     let P : Clone → Type 0 = λ c. Keeps c stored in
     elim (cases_eq other number) [
-      inl same ↦ elim (cases_lt number (length clones)) [
-          inl inside ↦ inl (same, subst P (ap (λ k. get_or (set clones number (Live next held)) k Absent) same ∙ get_or-set_same clones number (Live next held) Absent inside) keeps)
-        | inr past ↦ absurd (subst P (get_or_past (set clones number (Live next held)) other Absent (omega (arith, length-set clones number (Live next held)))) keeps) ]
-    | inr differs ↦ inr (differs, subst P (get_or-set_other clones number other (Live next held) Absent differs) keeps) ]
+      | inl same ↦ elim (cases_lt number (length clones)) [
+        | inl inside ↦ inl (same, subst P (ap (λ k. get_or (set clones number (Live next held)) k Absent) same ∙ get_or-set_same clones number (Live next held) Absent inside) keeps)
+        | inr past ↦ absurd (subst P (get_or_past (set clones number (Live next held)) other Absent (omega (arith, length-set clones number (Live next held)))) keeps)
+      ]
+      | inr differs ↦ inr (differs, subst P (get_or-set_other clones number other (Live next held) Absent differs) keeps)
+    ]
 
 -- paths that are apart aren't equal, and neither is a proper prefix of the other
 pub apart_differ : (path other : List ℕ) → AreApart path other → path ≢ other
@@ -47,44 +49,47 @@ apart_differ path other apart same = apart.not_below ([], sym same ∙ sym (appe
 
 -- an operation that a sound clone makes may come next
 pub made_is_next : (history : List Operation) (stored : Stored) (tick : ℕ) (deletes : List Tagged) (inserts : List Triple)
-  → IsSoundClone history stored → IsNextTick (known_of stored) stored.path tick
-  → ((pair : Tagged) → Has deletes pair → Knows (known_of stored) pair.dot)
-  → ((pair : Tagged) → Has deletes pair → IsInserted history pair)
-  → IsNext history (record { dot = dot_at stored.path tick; causes = known_of stored; deletes = deletes; inserts = inserts })
+    → IsSoundClone history stored → IsNextTick (known_of stored) stored.path tick
+    → ((pair : Tagged) → Has deletes pair → Knows (known_of stored) pair.dot)
+    → ((pair : Tagged) → Has deletes pair → IsInserted history pair)
+    → IsNext history (record { dot = dot_at stored.path tick; causes = known_of stored; deletes = deletes; inserts = inserts })
 made_is_next history stored tick deletes inserts sound is_next covered inserted = record {
-    fresh = λ other stands same.
+  fresh = λ other stands same.
       let P : Dot → Type 0 = λ d. Knows (known_of stored) d in
       let known : Knows (known_of stored) (dot_at stored.path tick) = subst P same (sound.own other stands (ap (λ (d : Dot). d.path) same)) in
       let below : (1 ≤ tick) × (tick < tick) = (is_next.after tick).0 known in
       omega (arith, below.1);
-    tick = is_next.positive;
-    causes = sound.closed;
-    ticks = λ other positive before. (is_next.after other).1 (positive, before);
-    above = sound.above;
-    below = sound.below;
-    deletes = covered;
-    deletes_inserted = inserted;
-  }
+  tick = is_next.positive;
+  causes = sound.closed;
+  ticks = λ other positive before. (is_next.after other).1 (positive, before);
+  above = sound.above;
+  below = sound.below;
+  deletes = covered;
+  deletes_inserted = inserted;
+}
 
 -- a clone that keeps what it kept stays sound when another makes an operation at a path apart from its own
 pub other_stays_sound : (history : List Operation) (next : Operation) (stored : Stored)
-  → IsNext history next → AreApart next.dot.path stored.path → IsSoundClone history stored → IsSoundClone (next ∷ history) stored
+    → IsNext history next → AreApart next.dot.path stored.path → IsSoundClone history stored → IsSoundClone (next ∷ history) stored
 other_stays_sound history next stored is_next apart sound = record {
-    closed = IsClosed-more history next (known_of stored) is_next sound.closed;
-    own = λ operation stands same. elim stands [
-        inl is ↦ absurd (apart_differ next.dot.path stored.path apart (ap (λ (o : Operation). o.dot.path) is ∙ same))
-      | inr earlier ↦ sound.own operation earlier same ];
-    above = λ operation stands goes_on. elim stands [
-        inl is ↦ let P : Operation → Type 0 = λ o. IsProperPrefix o.dot.path stored.path in
-          let q : IsProperPrefix next.dot.path stored.path = subst P (sym is) goes_on in
-          absurd (apart.not_below (q.0, q.2))
-      | inr earlier ↦ sound.above operation earlier goes_on ];
-    below = λ operation stands goes_on. elim stands [
-        inl is ↦ let P : Operation → Type 0 = λ o. IsProperPrefix stored.path o.dot.path in
-          let q : IsProperPrefix stored.path next.dot.path = subst P (sym is) goes_on in
-          absurd (apart.not_above (q.0, q.2))
-      | inr earlier ↦ sound.below operation earlier goes_on ];
-  }
+  closed = IsClosed-more history next (known_of stored) is_next sound.closed;
+  own = λ operation stands same. elim stands [
+    | inl is ↦ absurd (apart_differ next.dot.path stored.path apart (ap (λ (o : Operation). o.dot.path) is ∙ same))
+    | inr earlier ↦ sound.own operation earlier same
+  ];
+  above = λ operation stands goes_on. elim stands [
+    | inl is ↦ let P : Operation → Type 0 = λ o. IsProperPrefix o.dot.path stored.path in
+        let q : IsProperPrefix next.dot.path stored.path = subst P (sym is) goes_on in
+        absurd (apart.not_below (q.0, q.2))
+    | inr earlier ↦ sound.above operation earlier goes_on
+  ];
+  below = λ operation stands goes_on. elim stands [
+    | inl is ↦ let P : Operation → Type 0 = λ o. IsProperPrefix stored.path o.dot.path in
+        let q : IsProperPrefix stored.path next.dot.path = subst P (sym is) goes_on in
+        absurd (apart.not_above (q.0, q.2))
+    | inr earlier ↦ sound.below operation earlier goes_on
+  ];
+}
 
 -- a list of length 0 is empty
 pub empty_list : (xs : List ℕ) → length xs ≡ 0 → xs ≡ []
@@ -98,46 +103,39 @@ no_proper_prefix path (rest, some, same) =
     some (empty_list rest (omega arith))
 
 -- the clone that makes an operation stays sound
-pub maker_stays_sound : (history : List Operation) (next : Operation) (stored : Stored) (tick : ℕ)
-  → next.dot ≡ dot_at stored.path tick → next.causes ≡ known_of stored
-  → IsNext history next → IsSoundClone history stored
-  → IsSoundClone (next ∷ history) (with_range stored (range_of (dot_at stored.path tick)))
-maker_stays_sound history next stored tick dot causes is_next sound =
-    let range : Range = range_of (dot_at stored.path tick) in
-    let inside : IsIn range next.dot = record { path = ap (λ (d : Dot). d.path) dot; above = omega (arith, ap (λ (d : Dot). d.tick) dot); below = omega (arith, ap (λ (d : Dot). d.tick) dot) } in
-    let of_range : (d : Dot) → IsIn range d → d ≡ next.dot = λ d i. same_dot d next.dot (i.path ∙ sym inside.path) (omega (arith, i.above, i.below, inside.above, inside.below)) in
-    let done : (d : Dot) → Knows (known_of (with_range stored range)) d → IsDone (next ∷ history) d = λ d h. elim (known_with-split stored range d h) [
-          inl old ↦ IsDone-more history next d (sound.closed.done d old)
-        | inr new ↦ record { operation = next; stands = inl refl; is = sym (of_range d new) } ] in
+pub maker_stays_sound : (history : List Operation) (next : Operation) (stored : Stored)
+    → next.dot.path ≡ stored.path → next.causes ≡ known_of stored
+    → IsLawful history → IsNext history next → IsSoundClone history stored
+    → IsSoundClone (next ∷ history) (with_range stored (range_of next.dot))
+maker_stays_sound history next stored path causes lawful is_next sound =
+    let range : Range = range_of next.dot in
+    let inside : IsIn range next.dot = range_of_has next.dot next.dot refl in
+    let ready : (dot : Dot) → Knows next.causes dot → Knows (known_of stored) dot = λ dot k. (let P : List Range → Type 0 = λ l. Knows l dot in subst P causes k) in
     record {
-      closed = record {
-        done = done;
-        causes = λ operation stands h d cause. elim stands [
-            inl same ↦ let P : Operation → Type 0 = λ o. Knows o.causes d in
-              let Q : List Range → Type 0 = λ k. Knows k d in
-              known_with-old stored range d (subst Q causes (subst P (sym same) cause))
-          | inr earlier ↦ elim (known_with-split stored range operation.dot h) [
-                inl old ↦ known_with-old stored range d (sound.closed.causes operation earlier old d cause)
-              | inr new ↦ absurd (is_next.fresh operation earlier (of_range operation.dot new)) ] ];
-      };
+      closed = (let P : List Range → Type 0 = IsClosed (next ∷ history) in
+          subst P (sym (known_with stored range))
+          (closed_with_taken (next ∷ history) (known_of stored) next (is_next, lawful) (IsClosed-more history next (known_of stored) is_next sound.closed) (inl refl) ready));
       own = λ operation stands same. elim stands [
-          inl is ↦ let P : Operation → Type 0 = λ o. IsIn range o.dot in known_with-new stored range operation.dot (subst P is inside)
-        | inr earlier ↦ known_with-old stored range operation.dot (sound.own operation earlier same) ];
+        | inl is ↦ let P : Operation → Type 0 = λ o. IsIn range o.dot in known_with-new stored range operation.dot (subst P is inside)
+        | inr earlier ↦ known_with-old stored range operation.dot (sound.own operation earlier same)
+      ];
       above = λ operation stands goes_on. elim stands [
-          inl is ↦ let P : Operation → Type 0 = λ o. IsProperPrefix o.dot.path stored.path in
+        | inl is ↦ let P : Operation → Type 0 = λ o. IsProperPrefix o.dot.path stored.path in
             let Q : List ℕ → Type 0 = λ p. IsProperPrefix p stored.path in
-            absurd (no_proper_prefix stored.path (subst Q inside.path (subst P (sym is) goes_on)))
-        | inr earlier ↦ known_with-old stored range operation.dot (sound.above operation earlier goes_on) ];
+            absurd (no_proper_prefix stored.path (subst Q path (subst P (sym is) goes_on)))
+        | inr earlier ↦ known_with-old stored range operation.dot (sound.above operation earlier goes_on)
+      ];
       below = λ operation stands goes_on. elim stands [
-          inl is ↦ let P : Operation → Type 0 = λ o. IsProperPrefix stored.path o.dot.path in
+        | inl is ↦ let P : Operation → Type 0 = λ o. IsProperPrefix stored.path o.dot.path in
             let Q : List ℕ → Type 0 = λ p. IsProperPrefix stored.path p in
-            absurd (no_proper_prefix stored.path (subst Q inside.path (subst P (sym is) goes_on)))
-        | inr earlier ↦ sound.below operation earlier goes_on ];
+            absurd (no_proper_prefix stored.path (subst Q path (subst P (sym is) goes_on)))
+        | inr earlier ↦ sound.below operation earlier goes_on
+      ];
     }
 
 -- what was sent stays as good when an operation is made
 pub IsSoundMessage-more : (history : List Operation) (next : Operation) (message : Message) → IsNext history next
-  → IsSoundMessage history message → IsSoundMessage (next ∷ history) message
+    → IsSoundMessage history message → IsSoundMessage (next ∷ history) message
 IsSoundMessage-more history next (RangeOf range) is_next sound = (sound.0, sound.1, λ dot inside. IsDone-more history next dot (sound.2 dot inside))
 IsSoundMessage-more history next (Want dots) is_next sound = λ dot h. IsDone-more history next dot (sound dot h)
 IsSoundMessage-more history next (SnapshotOf dots) is_next sound = IsClosed-more history next dots is_next sound
@@ -150,28 +148,31 @@ AreApart-swap path other apart = record { not_below = apart.not_above; not_above
 
 -- the leaves of a world are still apart once one clone has one more range in its journal
 pub leaves_apart_after : (world : World) (number : ℕ) (stored : Stored) (held : List Range) (range : Range)
-  → IsSound world → clone_at world number ≡ Live stored held
-  → (one other : ℕ) (first second : Stored) → one ≢ other
-  → Keeps (get_or (set world.clones number (Live (with_range stored range) held)) one Absent) first
-  → Keeps (get_or (set world.clones number (Live (with_range stored range) held)) other Absent) second
-  → AreApart first.path second.path
+    → IsSound world → clone_at world number ≡ Live stored held
+    → (one other : ℕ) (first second : Stored) → one ≢ other
+    → Keeps (get_or (set world.clones number (Live (with_range stored range) held)) one Absent) first
+    → Keeps (get_or (set world.clones number (Live (with_range stored range) held)) other Absent) second
+    → AreApart first.path second.path
 leaves_apart_after world number stored held range sound live one other first second differ one_keeps other_keeps =
     let K : Clone → Type 0 = λ c. Keeps c stored in
     let keeps : Keeps (clone_at world number) stored = subst K (sym live) refl in
     elim (keeps_after world.clones number (with_range stored range) held one first one_keeps) [
-        inl a ↦ elim (keeps_after world.clones number (with_range stored range) held other second other_keeps) [
-            inl b ↦ absurd (differ (a.0 ∙ sym b.0))
-          | inr b ↦ let P : Stored → Type 0 = λ s. AreApart s.path second.path in subst P a.1 (sound.apart number other stored second (λ e. differ (a.0 ∙ e)) keeps b.1) ]
+      | inl a ↦ elim (keeps_after world.clones number (with_range stored range) held other second other_keeps) [
+        | inl b ↦ absurd (differ (a.0 ∙ sym b.0))
+        | inr b ↦ let P : Stored → Type 0 = λ s. AreApart s.path second.path in subst P a.1 (sound.apart number other stored second (λ e. differ (a.0 ∙ e)) keeps b.1)
+      ]
       | inr a ↦ elim (keeps_after world.clones number (with_range stored range) held other second other_keeps) [
-            inl b ↦ let P : Stored → Type 0 = λ s. AreApart first.path s.path in subst P b.1 (sound.apart one number first stored (λ e. differ (e ∙ sym b.0)) a.1 keeps)
-          | inr b ↦ sound.apart one other first second differ a.1 b.1 ] ]
+        | inl b ↦ let P : Stored → Type 0 = λ s. AreApart first.path s.path in subst P b.1 (sound.apart one number first stored (λ e. differ (e ∙ sym b.0)) a.1 keeps)
+        | inr b ↦ sound.apart one other first second differ a.1 b.1
+      ]
+    ]
 
 -- making an operation keeps a world sound
 pub made_sound : (world : World) (number : ℕ) (stored : Stored) (held : List Range) (tick : ℕ) (deletes : List Tagged) (inserts : List Triple)
-  → IsSound world → clone_at world number ≡ Live stored held → IsNextTick (known_of stored) stored.path tick
-  → ((pair : Tagged) → Has deletes pair → Knows (known_of stored) pair.dot)
-  → ((pair : Tagged) → Has deletes pair → IsInserted world.history pair)
-  → IsSound (after_operation world number stored held (record { dot = dot_at stored.path tick; causes = known_of stored; deletes = deletes; inserts = inserts }))
+    → IsSound world → clone_at world number ≡ Live stored held → IsNextTick (known_of stored) stored.path tick
+    → ((pair : Tagged) → Has deletes pair → Knows (known_of stored) pair.dot)
+    → ((pair : Tagged) → Has deletes pair → IsInserted world.history pair)
+    → IsSound (after_operation world number stored held (record { dot = dot_at stored.path tick; causes = known_of stored; deletes = deletes; inserts = inserts }))
 made_sound world number stored held tick deletes inserts sound live is_next covered inserted =
     let operation : Operation = record { dot = dot_at stored.path tick; causes = known_of stored; deletes = deletes; inserts = inserts } in
     let range : Range = range_of (dot_at stored.path tick) in
@@ -179,65 +180,52 @@ made_sound world number stored held tick deletes inserts sound live is_next cove
     let keeps : Keeps (clone_at world number) stored = subst K (sym live) refl in
     let maker : IsSoundClone world.history stored = sound.clones number stored keeps in
     let next : IsNext world.history operation = made_is_next world.history stored tick deletes inserts maker is_next covered inserted in
-    let made : IsSoundClone (operation ∷ world.history) (with_range stored range) = maker_stays_sound world.history operation stored tick refl refl next maker in
+    let made : IsSoundClone (operation ∷ world.history) (with_range stored range) = maker_stays_sound world.history operation stored refl refl sound.lawful next maker in
     record {
       lawful = (next, sound.lawful);
       count = length-set world.clones number (Live (with_range stored range) held) ∙ sound.count;
       apart = leaves_apart_after world number stored held (range) sound live;
       clones = λ one first one_keeps. elim (keeps_after world.clones number (with_range stored range) held one first one_keeps) [
-          inl a ↦ let P : Stored → Type 0 = λ s. IsSoundClone (operation ∷ world.history) s in subst P a.1 made
-        | inr a ↦ other_stays_sound world.history operation first next (sound.apart number one stored first (λ e. a.0 (sym e)) keeps a.1) (sound.clones one first a.1) ];
+        | inl a ↦ let P : Stored → Type 0 = λ s. IsSoundClone (operation ∷ world.history) s in subst P a.1 made
+        | inr a ↦ other_stays_sound world.history operation first next (sound.apart number one stored first (λ e. a.0 (sym e)) keeps a.1) (sound.clones one first a.1)
+      ];
       messages = λ message sent. elim (has_append world.messages (RangeOf range ∷ []) message sent) [
-          inl old ↦ IsSoundMessage-more world.history operation message next (sound.messages message old)
+        | inl old ↦ IsSoundMessage-more world.history operation message next (sound.messages message old)
         | inr new ↦ elim new [
-            inl is ↦ let P : Message → Type 0 = λ m. IsSoundMessage (operation ∷ world.history) m in
+          | inl is ↦ let P : Message → Type 0 = λ m. IsSoundMessage (operation ∷ world.history) m in
               subst P is (is_next.positive, omega arith, λ dot inside. record { operation = operation; stands = inl refl; is = same_dot operation.dot dot (sym inside.path) (omega (arith, inside.above, inside.below)) })
-          | inr none ↦ absurd none ] ];
+          | inr none ↦ absurd none
+        ]
+      ];
     }
-
--- two paths are the same, or they differ
-pub same_or_not : (path other : List ℕ) → (path ≡ other) ⊎ (path ≢ other)
-same_or_not [] [] = inl refl
-same_or_not [] (y ∷ other) = inr (λ e. cc)
-same_or_not (x ∷ path) [] = inr (λ e. cc)
-same_or_not (x ∷ path) (y ∷ other) = elim (cases_eq x y) [
-    inl h ↦ elim (same_or_not path other) [ inl t ↦ inl cc | inr n ↦ inr (λ e. n cc) ]
-  | inr n ↦ inr (λ e. n cc) ]
-
--- a dot is of a range, or it isn't
-pub in_or_not : (range : Range) (dot : Dot) → IsIn range dot ⊎ ¬ IsIn range dot
-in_or_not range dot = elim (same_or_not dot.path range.path) [
-    inl same ↦ elim (cases_lt dot.tick range.first) [
-        inl before ↦ inr (λ i. omega (arith, i.above))
-      | inr from ↦ elim (cases_lt range.last dot.tick) [
-            inl after ↦ inr (λ i. omega (arith, i.below))
-          | inr upto ↦ inl (record { path = same; above = from; below = upto }) ] ]
-  | inr differs ↦ inr (λ i. differs i.path) ]
 
 -- a clone that takes a ready range stays sound
 pub taker_stays_sound : (history : List Operation) (stored : Stored) (range : Range) → IsLawful history
-  → IsSoundMessage history (RangeOf range) → IsReady history (known_of stored) range → IsSoundClone history stored
-  → IsSoundClone history (with_range stored range)
+    → IsSoundMessage history (RangeOf range) → IsReady history (known_of stored) range → IsSoundClone history stored
+    → IsSoundClone history (with_range stored range)
 taker_stays_sound history stored range lawful sent ready sound =
     let last : IsDone history (last_dot range) = sent.2 (last_dot range) (record { path = refl; above = sent.1; below = omega arith }) in
     let ends : IsIn range last.operation.dot = (let P : Dot → Type 0 = λ d. IsIn range d in subst P (sym last.is) (record { path = refl; above = sent.1; below = omega arith })) in
     let timed : (operation : Operation) → Has history operation → IsIn range operation.dot → (dot : Dot) → Knows operation.causes dot → IsTime history range dot
-      = λ operation stands inside dot cause. elim (cases_lt operation.dot.tick range.last) [
-            inl before ↦
-              let reached : operation.dot.tick < last.operation.dot.tick = omega (arith, before, ap (λ (d : Dot). d.tick) last.is) in
-              let e : dot_at last.operation.dot.path operation.dot.tick ≡ operation.dot = same_dot (dot_at last.operation.dot.path operation.dot.tick) operation.dot (ends.path ∙ sym inside.path) refl in
-              let P : Dot → Type 0 = λ d. Knows last.operation.causes d in
-              let known : Knows last.operation.causes operation.dot = subst P e (earlier_ticks history last.operation lawful last.stands operation.dot.tick (tick_positive history operation lawful stands) reached) in
-              record { last = last.operation; stands = last.stands; is = last.is; cause = inl ((causes_closed history last.operation lawful last.stands).causes operation stands known dot cause) }
-          | inr end ↦ record { last = operation; stands = stands; is = same_dot operation.dot (last_dot range) inside.path (omega (arith, end, inside.below)); cause = inl cause } ] in
+    = λ operation stands inside dot cause. elim (cases_lt operation.dot.tick range.last) [
+      | inl sooner ↦
+          let reached : operation.dot.tick < last.operation.dot.tick = omega (arith, sooner, ap (λ (d : Dot). d.tick) last.is) in
+          let e : dot_at last.operation.dot.path operation.dot.tick ≡ operation.dot = same_dot (dot_at last.operation.dot.path operation.dot.tick) operation.dot (ends.path ∙ sym inside.path) refl in
+          let P : Dot → Type 0 = λ d. Knows last.operation.causes d in
+          let known : Knows last.operation.causes operation.dot = subst P e ((before history last.operation lawful last.stands).next.ticks operation.dot.tick (before history operation lawful stands).next.tick reached) in
+          record { last = last.operation; stands = last.stands; is = last.is; cause = inl ((causes_closed history last.operation lawful last.stands).causes operation stands known dot cause) }
+      | inr end ↦ record { last = operation; stands = stands; is = same_dot operation.dot (last_dot range) inside.path (omega (arith, end, inside.below)); cause = inl cause }
+    ] in
     record {
       closed = record {
         done = λ dot h. elim (known_with-split stored range dot h) [ inl old ↦ sound.closed.done dot old | inr new ↦ sent.2 dot new ];
         causes = λ operation stands h dot cause. elim (known_with-split stored range operation.dot h) [
-            inl old ↦ known_with-old stored range dot (sound.closed.causes operation stands old dot cause)
-          | inr new ↦ elim (in_or_not range dot) [
-                inl inside ↦ known_with-new stored range dot inside
-              | inr outside ↦ known_with-old stored range dot (ready.time dot (timed operation stands new dot cause) outside) ] ];
+          | inl old ↦ known_with-old stored range dot (sound.closed.causes operation stands old dot cause)
+          | inr new ↦ elim (IsIn_or_not range dot) [
+            | inl inside ↦ known_with-new stored range dot inside
+            | inr outside ↦ known_with-old stored range dot (ready.time dot (timed operation stands new dot cause) outside)
+          ]
+        ];
       };
       own = λ operation stands same. known_with-old stored range operation.dot (sound.own operation stands same);
       above = λ operation stands goes_on. known_with-old stored range operation.dot (sound.above operation stands goes_on);
@@ -246,19 +234,20 @@ taker_stays_sound history stored range lawful sent ready sound =
 
 -- taking a ready range keeps a world sound
 pub taken_sound : (world : World) (number : ℕ) (stored : Stored) (held : List Range) (range : Range)
-  → IsSound world → clone_at world number ≡ Live stored held → Has world.messages (RangeOf range)
-  → IsReady world.history (known_of stored) range → IsSound (with_clone world number (Live (with_range stored range) held))
+    → IsSound world → clone_at world number ≡ Live stored held → Has world.messages (RangeOf range)
+    → IsReady world.history (known_of stored) range → IsSound (with_clone world number (Live (with_range stored range) held))
 taken_sound world number stored held range sound live sent ready =
     let K : Clone → Type 0 = λ c. Keeps c stored in
     let keeps : Keeps (clone_at world number) stored = subst K (sym live) refl in
     let taken : IsSoundClone world.history (with_range stored range) =
-      taker_stays_sound world.history stored range sound.lawful (sound.messages (RangeOf range) sent) ready (sound.clones number stored keeps) in
+    taker_stays_sound world.history stored range sound.lawful (sound.messages (RangeOf range) sent) ready (sound.clones number stored keeps) in
     record {
       lawful = sound.lawful;
       count = length-set world.clones number (Live (with_range stored range) held) ∙ sound.count;
       apart = leaves_apart_after world number stored held (range) sound live;
       clones = λ one first one_keeps. elim (keeps_after world.clones number (with_range stored range) held one first one_keeps) [
-          inl a ↦ let P : Stored → Type 0 = λ s. IsSoundClone world.history s in subst P a.1 taken
-        | inr a ↦ sound.clones one first a.1 ];
+        | inl a ↦ let P : Stored → Type 0 = λ s. IsSoundClone world.history s in subst P a.1 taken
+        | inr a ↦ sound.clones one first a.1
+      ];
       messages = sound.messages;
     }

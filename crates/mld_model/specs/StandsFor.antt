@@ -12,8 +12,8 @@ use Rattle.mld_ops.specs.Entry.{EntryValue}
 use Rattle.mld_ops.specs.History.{Operation}
 use Rattle.mld_ops.specs.Meaning.{IsMeaning}
 use Rattle.mld_ops.specs.Net.{IsNet}
-use Rattle.mld_model.specs.Clone.{Clone, Absent, Asking, Empty, Down, Live, Stored, known_of}
-use Rattle.mld_model.specs.World.{World, Message, RangeOf, Want, SnapshotOf, JoinAsk, JoinGive, founded_path, clone_count}
+use Rattle.mld_model.specs.Clone.{Clone, Absent, Live, Stored, known_of}
+use Rattle.mld_model.specs.World.{World, Message, RangeOf, founded_path, clone_count}
 
 -- a live clone as it runs: its path, the ticks of its clock, the ranges of its journal, and its pairs
 pub record RunningLive : Type 0 where
@@ -40,11 +40,12 @@ abbrev pub founded_running : List ℕ → ℕ → RunningWorld
 founded_running domain count =
     record { domain = domain; clones = map (founded_live count) (range_with_len 0 clone_count); messages = []; steps = 0 }
 
--- a live clone stands for what a clone of the model keeps: the same path and journal, the same known dots, and their
--- meaning as its pairs
+-- a live clone stands for what a clone of the model keeps: the same path and journal, nothing in its base yet, the same
+-- known dots, and their meaning as its pairs
 pub record LiveStandsFor (history : List Operation) (running : RunningLive) (stored : Stored) : Type 0 where
   pub path : running.path ≡ stored.path
   pub journal : running.journal ≡ stored.journal
+  pub base : stored.base ≡ []
   pub known : (dot : Dot) → Covers running.ticks dot ↔ Knows (known_of stored) dot
   pub pairs : IsMeaning history (known_of stored) running.pairs
 

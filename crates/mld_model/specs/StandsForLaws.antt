@@ -1,46 +1,36 @@
 -- A running world that stands for a sound world of the model: its clones and messages, one by one, and its steps.
-use Rattle.std.proofs.Common.{◌≡◌, ◌≢◌, ℕ, zero, suc, ◌+◌, ◌-◌, ◌<◌, ◌≤◌, List, [], ◌∷◌, ◌++◌, ◌⊎◌, ◌↔◌, inl, inr, refl, sym, ◌∙◌, ap, arith, subst, length, get_or, set, Option, Some, None, length-append}
+use Rattle.std.proofs.Common.{◌≡◌, ℕ, zero, suc, List, [], ◌∷◌, ◌++◌, inl, inr, refl, sym, ap, subst, length, get_or, set, Option, Some, None}
 use Rattle.std.specs.Prelude.{slice_get}
-use Rattle.std.proofs.lemmas.Bool.{cases_lt}
-use Rattle.std.proofs.lemmas.List.{get_or-set_same, get_or-set_other, length-set}
-use Rattle.rdf_terms.specs.declared.terms.Triple.{Triple}
-use Rattle.tree_clock.specs.declared.dots.Dot.{Dot}
 use Rattle.tree_clock.specs.declared.dots.Range.{Range}
-use Rattle.tree_clock.specs.Lists.{Has, IsAscending}
-use Rattle.tree_clock.specs.Dot.{IsIn, Knows}
-use Rattle.tree_clock.specs.Clock.{ticks_of, Covers, RaisesTo}
-use Rattle.mld_ops.specs.declared.tagged.Tagged.{Tagged}
+use Rattle.tree_clock.specs.Lists.{Has}
+use Rattle.tree_clock.specs.Dot.{Knows}
 use Rattle.mld_ops.specs.Entry.{EntryValue}
-use Rattle.mld_ops.specs.History.{Operation, IsDone, IsInserted, IsClosed, IsNext, IsLawful, dot_at}
-use Rattle.mld_ops.specs.Effect.{range_of}
-use Rattle.mld_ops.specs.Meaning.{IsMeaning}
+use Rattle.mld_ops.specs.History.{Operation, IsNext}
 use Rattle.mld_ops.specs.MeaningLaws.{meaning_with_unknown}
 use Rattle.mld_ops.specs.Net.{IsNet}
 use Rattle.mld_ops.specs.NetLaws.{net_with_unknown}
-use Rattle.mld_model.specs.Clone.{Clone, Absent, Asking, Empty, Down, Live, Stored, known_of, with_range, last_dot, IsKnown, IsReady, IsHeldBack, IsWithin}
-use Rattle.mld_model.specs.World.{World, Message, RangeOf, Want, SnapshotOf, JoinAsk, JoinGive, message_at, clone_at, with_clone}
-use Rattle.mld_model.specs.Step.{IsNextTick, Makes, after_operation}
-use Rattle.mld_model.specs.Reply.{Reply, Did}
-use Rattle.mld_model.specs.Sound.{Keeps, IsSoundMessage, IsSoundClone, IsSound}
+use Rattle.mld_model.specs.Clone.{Clone, Absent, Asking, Empty, Down, Live, Stored, known_of}
+use Rattle.mld_model.specs.World.{World, Message, RangeOf, Want, SnapshotOf, JoinAsk, JoinGive, clone_at}
+use Rattle.mld_model.specs.Sound.{Keeps, IsSoundMessage}
 use Rattle.mld_model.specs.StandsFor.{RunningLive, RunningWorld, LiveStandsFor, CloneStandsFor, ClonesStandFor, MessageStandsFor, MessagesStandFor, StandsFor}
-use Rattle.mld_model.specs.Local.{next_dot, LocallyMakes, LocallyKnown, LocallyReady, LocallyTakes}
 use Rattle.mld_model.specs.HistoryLaws.{done_not_fresh}
-use Rattle.mld_model.specs.SoundLaws.{made_is_next, made_sound, taken_sound}
-use Rattle.mld_model.specs.LocalLaws.{kept_by, same_stored, next_tick_of, made_by, maker_stands, made_net, known_alike, ready_alike, taker_stands}
+use Rattle.mld_model.specs.LocalLaws.{kept_by, same_stored}
 
--- clones, one by one
+-- ---- clones, one by one
 
+-- at each number the running clone stands for the clone
 pub clone_stands_at : (history : List Operation) (running : List (Option RunningLive)) (clones : List Clone) → ClonesStandFor history running clones
-  → (number : ℕ) → CloneStandsFor history (get_or running number None) (get_or clones number Absent)
+    → (number : ℕ) → CloneStandsFor history (get_or running number None) (get_or clones number Absent)
 clone_stands_at history [] [] stands number = tt
 clone_stands_at history (one ∷ running) (clone ∷ clones) stands zero = stands.0
 clone_stands_at history (one ∷ running) (clone ∷ clones) stands (suc number) = clone_stands_at history running clones stands.1 number
 clone_stands_at history [] (clone ∷ clones) stands number = absurd stands
 clone_stands_at history (one ∷ running) [] stands number = absurd stands
 
+-- the clones still stand for each other once one on each side is replaced by such a pair
 pub clones_stand_set : (history : List Operation) (running : List (Option RunningLive)) (clones : List Clone) → ClonesStandFor history running clones
-  → (number : ℕ) (one : Option RunningLive) (clone : Clone) → CloneStandsFor history one clone
-  → ClonesStandFor history (set running number one) (set clones number clone)
+    → (number : ℕ) (one : Option RunningLive) (clone : Clone) → CloneStandsFor history one clone
+    → ClonesStandFor history (set running number one) (set clones number clone)
 clones_stand_set history [] [] stands number new with now = tt
 clones_stand_set history (one ∷ running) (clone ∷ clones) stands zero new with now = (now, stands.1)
 clones_stand_set history (one ∷ running) (clone ∷ clones) stands (suc number) new with now = (stands.0, clones_stand_set history running clones stands.1 number new with now)
@@ -48,19 +38,24 @@ clones_stand_set history [] (clone ∷ clones) stands number new with now = absu
 clones_stand_set history (one ∷ running) [] stands number new with now = absurd stands
 
 clone_still_stands : (history : List Operation) (next : Operation) (running : Option RunningLive) (clone : Clone) → CloneStandsFor history running clone
-  → ((stored : Stored) → Keeps clone stored → ¬ Knows (known_of stored) next.dot) → CloneStandsFor (next ∷ history) running clone
+    → ((stored : Stored) → Keeps clone stored → ¬ Knows (known_of stored) next.dot) → CloneStandsFor (next ∷ history) running clone
 clone_still_stands history next None Absent stands unknown = tt
-clone_still_stands history next (Some running) (Live stored held) stands unknown = (record {
+clone_still_stands history next (Some running) (Live stored held) stands unknown = (
+  record {
     path = stands.0.path;
     journal = stands.0.journal;
+    base = stands.0.base;
     known = stands.0.known;
     pairs = meaning_with_unknown history (known_of stored) next running.pairs stands.0.pairs (unknown stored refl);
-  }, stands.1)
+  },
+  stands.1,
+)
 clone_still_stands history next running clone stands unknown = absurd stands
 
+-- clones that don't know the dot of a new operation stand for the same clones in the longer history
 pub clones_still_stand : (history : List Operation) (next : Operation) (running : List (Option RunningLive)) (clones : List Clone) → ClonesStandFor history running clones
-  → ((number : ℕ) (stored : Stored) → Keeps (get_or clones number Absent) stored → ¬ Knows (known_of stored) next.dot)
-  → ClonesStandFor (next ∷ history) running clones
+    → ((number : ℕ) (stored : Stored) → Keeps (get_or clones number Absent) stored → ¬ Knows (known_of stored) next.dot)
+    → ClonesStandFor (next ∷ history) running clones
 clones_still_stand history next [] [] stands unknown = tt
 clones_still_stand history next (one ∷ running) (clone ∷ clones) stands unknown =
     (clone_still_stands history next one clone stands.0 (unknown 0), clones_still_stand history next running clones stands.1 (λ number. unknown (suc number)))
@@ -90,29 +85,36 @@ absent_from history Empty stands = absurd stands
 absent_from history (Down stored) stands = absurd stands
 absent_from history (Live stored held) stands = absurd stands
 
+-- where a clone runs, the model has a live clone for which it stands
 pub live_at : (running : RunningWorld) (world : World) → StandsFor running world → (number : ℕ) (live : RunningLive)
-  → get_or running.clones number None ≡ Some live → LiveAt world.history live (clone_at world number)
+    → get_or running.clones number None ≡ Some live → LiveAt world.history live (clone_at world number)
 live_at running world stands number live is =
     let P : Option RunningLive → Type 0 = λ r. CloneStandsFor world.history r (clone_at world number) in
     live_from world.history live (clone_at world number) (subst P is (clone_stands_at world.history running.clones world.clones stands.clones number))
 
+-- where no clone runs, the model's clone is absent
 pub absent_at : (running : RunningWorld) (world : World) → StandsFor running world → (number : ℕ)
-  → get_or running.clones number None ≡ None → clone_at world number ≡ Absent
+    → get_or running.clones number None ≡ None → clone_at world number ≡ Absent
 absent_at running world stands number is =
     let P : Option RunningLive → Type 0 = λ r. CloneStandsFor world.history r (clone_at world number) in
     absent_from world.history (clone_at world number) (subst P is (clone_stands_at world.history running.clones world.clones stands.clones number))
 
--- messages, one by one
+-- ---- messages, one by one
 
+-- entries stand for the same messages in the longer history
 pub messages_still_stand : (history : List Operation) (next : Operation) (entries : List EntryValue) (messages : List Message) → MessagesStandFor history entries messages
-  → ((message : Message) → Has messages message → IsSoundMessage history message) → IsNext history next
-  → MessagesStandFor (next ∷ history) entries messages
+    → ((message : Message) → Has messages message → IsSoundMessage history message) → IsNext history next
+    → MessagesStandFor (next ∷ history) entries messages
 messages_still_stand history next [] [] stands sound is_next = tt
-messages_still_stand history next (entry ∷ entries) (RangeOf range ∷ messages) stands sound is_next =
-    ((net_with_unknown history range entry next stands.0.0
+messages_still_stand history next (entry ∷ entries) (RangeOf range ∷ messages) stands sound is_next = (
+  (
+    net_with_unknown history range entry next stands.0.0
         (λ inside. done_not_fresh history next next.dot is_next ((sound (RangeOf range) (inl refl)).2 next.dot inside) refl)
-        (sound (RangeOf range) (inl refl)).1, stands.0.1),
-      messages_still_stand history next entries messages stands.1 (λ message h. sound message (inr h)) is_next)
+        (sound (RangeOf range) (inl refl)).1,
+    stands.0.1,
+  ),
+  messages_still_stand history next entries messages stands.1 (λ message h. sound message (inr h)) is_next,
+)
 messages_still_stand history next (entry ∷ entries) (Want dots ∷ messages) stands sound is_next = absurd stands.0
 messages_still_stand history next (entry ∷ entries) (SnapshotOf dots ∷ messages) stands sound is_next = absurd stands.0
 messages_still_stand history next (entry ∷ entries) (JoinAsk id ∷ messages) stands sound is_next = absurd stands.0
@@ -120,16 +122,18 @@ messages_still_stand history next (entry ∷ entries) (JoinGive id path dots ∷
 messages_still_stand history next [] (message ∷ messages) stands sound is_next = absurd stands
 messages_still_stand history next (entry ∷ entries) [] stands sound is_next = absurd stands
 
+-- and with one more of each at the end
 pub messages_stand_more : (history : List Operation) (entries : List EntryValue) (messages : List Message) → MessagesStandFor history entries messages
-  → (entry : EntryValue) (message : Message) → MessageStandsFor history entry message
-  → MessagesStandFor history (entries ++ entry ∷ []) (messages ++ message ∷ [])
+    → (entry : EntryValue) (message : Message) → MessageStandsFor history entry message
+    → MessagesStandFor history (entries ++ entry ∷ []) (messages ++ message ∷ [])
 messages_stand_more history [] [] stands entry message now = (now, tt)
 messages_stand_more history (one ∷ entries) (other ∷ messages) stands entry message now = (stands.0, messages_stand_more history entries messages stands.1 entry message now)
 messages_stand_more history [] (other ∷ messages) stands entry message now = absurd stands
 messages_stand_more history (one ∷ entries) [] stands entry message now = absurd stands
 
+-- there are as many entries as messages
 pub messages_count : (history : List Operation) (entries : List EntryValue) (messages : List Message) → MessagesStandFor history entries messages
-  → length entries ≡ length messages
+    → length entries ≡ length messages
 messages_count history [] [] stands = refl
 messages_count history (one ∷ entries) (other ∷ messages) stands = ap suc (messages_count history entries messages stands.1)
 messages_count history [] (other ∷ messages) stands = absurd stands
@@ -144,7 +148,7 @@ pub record SentAs (history : List Operation) (entry : EntryValue) (messages : Li
   pub one : range.first ≡ range.last
 
 sent_from : (history : List Operation) (entries : List EntryValue) (messages : List Message) → MessagesStandFor history entries messages
-  → (place : ℕ) (entry : EntryValue) → slice_get entries place ≡ Some entry → SentAs history entry messages place
+    → (place : ℕ) (entry : EntryValue) → slice_get entries place ≡ Some entry → SentAs history entry messages place
 sent_from history [] messages stands place entry is = cc
 sent_from history (one ∷ entries) (RangeOf range ∷ messages) stands zero entry is =
     let P : EntryValue → Type 0 = λ e. IsNet history range e in
@@ -156,18 +160,20 @@ sent_from history (one ∷ entries) (message ∷ messages) stands (suc place) en
 sent_from history (one ∷ entries) (message ∷ messages) stands zero entry is = absurd stands.0
 sent_from history (one ∷ entries) [] stands place entry is = absurd stands
 
+-- the entry at a place was sent as the message at that place
 pub sent_at : (running : RunningWorld) (world : World) → StandsFor running world → (place : ℕ) (entry : EntryValue)
-  → slice_get running.messages place ≡ Some entry → SentAs world.history entry world.messages place
+    → slice_get running.messages place ≡ Some entry → SentAs world.history entry world.messages place
 sent_at running world stands place entry is = sent_from world.history running.messages world.messages stands.messages place entry is
 
 none_from : (history : List Operation) (entries : List EntryValue) (messages : List Message) → MessagesStandFor history entries messages
-  → (place : ℕ) → slice_get entries place ≡ None → slice_get messages place ≡ None
+    → (place : ℕ) → slice_get entries place ≡ None → slice_get messages place ≡ None
 none_from history [] [] stands place is = refl
 none_from history (one ∷ entries) (message ∷ messages) stands zero is = cc
 none_from history (one ∷ entries) (message ∷ messages) stands (suc place) is = none_from history entries messages stands.1 place is
 none_from history [] (message ∷ messages) stands place is = absurd stands
 none_from history (one ∷ entries) [] stands place is = absurd stands
 
+-- where there is no entry there is no message
 pub none_at : (running : RunningWorld) (world : World) → StandsFor running world → (place : ℕ)
-  → slice_get running.messages place ≡ None → slice_get world.messages place ≡ None
+    → slice_get running.messages place ≡ None → slice_get world.messages place ≡ None
 none_at running world stands place is = none_from world.history running.messages world.messages stands.messages place is

@@ -2,7 +2,6 @@
 -- is listed.
 use Rattle.std.specs.Prelude.{◌≡◌, ◌≢◌, ℕ, ◌+◌, ◌<◌, ◌≤◌, List, [], ◌∷◌, ◌++◌, ◌⊎◌, ◌↔◌, length, MatchOption}
 use Rattle.rdf_terms.specs.declared.terms.Triple.{Triple}
-use Rattle.tree_clock.specs.declared.dots.Dot.{Dot}
 use Rattle.tree_clock.specs.declared.dots.Range.{Range}
 use Rattle.tree_clock.specs.Lists.{Has, IsAscending}
 use Rattle.tree_clock.specs.Dot.{Knows}
@@ -14,7 +13,7 @@ use Rattle.mld_ops.specs.Meaning.{IsMeaning}
 use Rattle.mld_model.specs.declared.Command.{Command}
 use Rattle.mld_model.specs.declared.Command.TheVariants.{Add, Remove, Deliver, Show, Compare}
 use Rattle.mld_model.specs.Clone.{Clone, Absent, Asking, Empty, Down, Live, Stored, known_of, with_range, IsKnown, IsReady, IsWithin}
-use Rattle.mld_model.specs.World.{World, Message, RangeOf, Want, SnapshotOf, JoinAsk, JoinGive, message_at, clone_at, with_clone}
+use Rattle.mld_model.specs.World.{World, Message, RangeOf, message_at, clone_at, with_clone}
 use Rattle.mld_model.specs.Reply.{Reply, Did, NoOperation, Took, AlreadyKnown, Shows, Same, Less, More, Apart, NoMessage, Ignored, IsAbsent, IsAsking, IsDown}
 
 -- a reply that changes nothing
@@ -41,7 +40,7 @@ pub record Makes (world : World) (number : ℕ) (stored : Stored) (held : List R
   pub is_next : IsNextTick (known_of stored) stored.path tick
   pub replies : reply ≡ Did (dot_at stored.path tick) (length world.messages + 1)
   pub changes : next ≡ after_operation world number stored held
-    (record { dot = dot_at stored.path tick; causes = known_of stored; deletes = deletes; inserts = inserts })
+      (record { dot = dot_at stored.path tick; causes = known_of stored; deletes = deletes; inserts = inserts })
 
 -- a triple is added by the operation that inserts it
 abbrev pub Adds : World → ℕ → Triple → Clone → Reply → World → Type 0
@@ -71,7 +70,7 @@ abbrev pub Receives : World → ℕ → Stored → List Range → Range → Repl
 Receives world number stored held range reply next =
     (IsKnown (known_of stored) range × Answers world AlreadyKnown reply next)
     ⊎ (IsReady world.history (known_of stored) range × (held ≡ []) × (reply ≡ Took (range ∷ []))
-       × (next ≡ with_clone world number (Live (with_range stored range) held)))
+    × (next ≡ with_clone world number (Live (with_range stored range) held)))
 
 -- a message comes to a clone; other messages than ranges are never sent yet
 abbrev pub Takes : World → ℕ → Message → Clone → Reply → World → Type 0

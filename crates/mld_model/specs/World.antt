@@ -1,9 +1,9 @@
 -- The model of a world: one history, 32 clones, and every message ever sent.
-use Rattle.std.specs.Prelude.{◌≡◌, ℕ, zero, suc, ◌+◌, ◌-◌, List, [], ◌∷◌, ◌++◌, Option, None, Some, slice_get, slice_index_or, slice_set, replicate, map, nat_lt, if◌then◌else◌, length}
+use Rattle.std.specs.Prelude.{ℕ, zero, suc, ◌-◌, List, [], ◌∷◌, ◌++◌, Option, None, slice_get, slice_index_or, slice_set, replicate, map, nat_lt, if◌then◌else◌}
 use Rattle.std.specs.List.{range_with_len}
 use Rattle.tree_clock.specs.declared.dots.Range.{Range}
 use Rattle.mld_ops.specs.History.{Operation}
-use Rattle.mld_model.specs.Clone.{Clone, Absent, Live, Stored}
+use Rattle.mld_model.specs.Clone.{Clone, Absent, Live}
 
 -- a message: a range of operations, a want of whoever knows these dots, a snapshot of these dots, one who asks to join,
 -- and a leaf that is given to whoever asked, with a snapshot of these dots
@@ -14,6 +14,7 @@ pub data Message : Type 0 where
   JoinAsk : ℕ → Message
   JoinGive : ℕ → List ℕ → List Range → Message
 
+-- the world: its domain, its properties, every operation made, its clones, and every message sent
 pub record World : Type 0 where
   pub domain : List ℕ
   pub properties : List (List ℕ)
@@ -52,9 +53,9 @@ founded_clone count number =
 -- the founded world
 abbrev pub founded : List ℕ → ℕ → World
 founded domain count = record {
-    domain = domain;
-    properties = [];
-    history = [];
-    clones = map (founded_clone count) (range_with_len 0 clone_count);
-    messages = [];
-  }
+  domain = domain;
+  properties = [];
+  history = [];
+  clones = map (founded_clone count) (range_with_len 0 clone_count);
+  messages = [];
+}

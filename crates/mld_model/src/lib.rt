@@ -2,9 +2,11 @@
 //! laws over them. Its functions have no code: each carries a law as its contract.
 #![tactic(auto)]
 
+mod soundness;
 mod verdicts;
 
 use rdf_terms::Triple;
+pub use soundness::sound_worlds;
 pub use verdicts::{one_reading, one_step, one_verdict};
 
 /// A command of a schedule. The numbers of clones are 0 to 31, those of messages begin with 1.

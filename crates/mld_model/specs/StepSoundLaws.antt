@@ -1,0 +1,190 @@
+-- Each world that a schedule reaches is sound, and what a reader may take from that.
+use Rattle.std.specs.Prelude.{◌≡◌, ℕ, zero, suc, ◌<◌, List, [], ◌∷◌, Option, Some, None, MatchOption, slice_get, length}
+use Rattle.std.proofs.Common.{refl, sym, subst, inl, inr}
+use Rattle.std.proofs.lemmas.List.{get_or-set_same}
+use Rattle.rdf_terms.specs.declared.terms.Triple.{Triple}
+use Rattle.tree_clock.specs.declared.dots.Dot.{Dot}
+use Rattle.tree_clock.specs.declared.dots.Range.{Range}
+use Rattle.tree_clock.specs.Lists.{Has}
+use Rattle.mld_ops.specs.History.{dot_at}
+use Rattle.mld_ops.specs.Effect.{range_of}
+use Rattle.mld_ops.specs.HistoryLaws.{range_of_has}
+use Rattle.mld_ops.specs.MeaningLaws.{one_meaning, same_known}
+use Rattle.mld_model.specs.declared.Command.TheVariants.{Add, Remove, Deliver, Show, Compare}
+use Rattle.mld_model.specs.Clone.{Clone, Absent, Asking, Empty, Down, Live, Stored, with_range}
+use Rattle.mld_model.specs.World.{World, Message, RangeOf, message_at, clone_at}
+use Rattle.mld_model.specs.Reply.{Reply, Did, NoMessage}
+use Rattle.mld_model.specs.Step.{Answers, Makes, Adds, Removes, Receives, Takes, Lists, ComparesWith, Weighs, Step}
+use Rattle.mld_model.specs.Runs.{Stage, Waiting, Running, Acts, Runs}
+use Rattle.mld_model.specs.Sound.{Keeps, IsSound}
+use Rattle.mld_model.specs.SoundLaws.{place_of_clone, apart_differ, made_sound, taken_sound}
+use Rattle.mld_model.specs.FoundedLaws.{founded_sound}
+use Rattle.mld_model.specs.KnownLaws.{known_with-new}
+use Rattle.mld_model.specs.Laws.{StepIsSound, RunsAreSound, SamePairs, Remembers, AddRemembers, OneLeaf}
+
+-- ---- steps
+
+-- a world that is left as it was stays sound
+same_sound : (world next : World) → IsSound world → next ≡ world → IsSound next
+same_sound world next sound same = subst IsSound (sym same) sound
+
+-- an `add` leads to a sound world
+adds_sound : (world : World) (number : ℕ) (triple : Triple) (clone : Clone) (reply : Reply) (next : World)
+    → IsSound world → clone_at world number ≡ clone → Adds world number triple clone reply next → IsSound next
+adds_sound world number triple Absent reply next sound is p = same_sound world next sound p.1
+adds_sound world number triple Asking reply next sound is p = same_sound world next sound p.1
+adds_sound world number triple Empty reply next sound is p = same_sound world next sound p.1
+adds_sound world number triple (Down stored) reply next sound is p = same_sound world next sound p.1
+adds_sound world number triple (Live stored held) reply next sound is p =
+    subst IsSound (sym p.changes)
+    (made_sound world number stored held p.tick [] (triple ∷ []) sound is p.is_next (λ pair h. absurd h) (λ pair h. absurd h))
+
+-- and so does a `remove`
+removes_sound : (world : World) (number : ℕ) (triple : Triple) (clone : Clone) (reply : Reply) (next : World)
+    → IsSound world → clone_at world number ≡ clone → Removes world number triple clone reply next → IsSound next
+removes_sound world number triple Absent reply next sound is p = same_sound world next sound p.1
+removes_sound world number triple Asking reply next sound is p = same_sound world next sound p.1
+removes_sound world number triple Empty reply next sound is p = same_sound world next sound p.1
+removes_sound world number triple (Down stored) reply next sound is p = same_sound world next sound p.1
+removes_sound world number triple (Live stored held) reply next sound is (pairs, deletes, meant, are, inl nothing) = same_sound world next sound nothing.1.1
+removes_sound world number triple (Live stored held) reply next sound is (pairs, deletes, meant, are, inr made) =
+    let p : Makes world number stored held deletes [] reply next = made.1 in
+    subst IsSound (sym p.changes) (made_sound world number stored held p.tick deletes [] sound is p.is_next
+    (λ pair h. (meant.sound pair ((are.members pair).0 h).0).covered) (λ pair h. (meant.sound pair ((are.members pair).0 h).0).inserted))
+
+-- a range that comes to a live clone leads to a sound world
+receives_sound : (world : World) (number : ℕ) (stored : Stored) (held : List Range) (range : Range) (reply : Reply) (next : World)
+    → IsSound world → clone_at world number ≡ Live stored held → Has world.messages (RangeOf range)
+    → Receives world number stored held range reply next → IsSound next
+receives_sound world number stored held range reply next sound is sent (inl p) = same_sound world next sound p.1.1
+receives_sound world number stored held range reply next sound is sent (inr p) =
+    subst IsSound (sym p.3) (taken_sound world number stored held range sound is sent p.0)
+
+-- and so does a message that comes to a clone
+takes_sound : (world : World) (number : ℕ) (message : Message) (clone : Clone) (reply : Reply) (next : World)
+    → IsSound world → clone_at world number ≡ clone → Has world.messages message
+    → Takes world number message clone reply next → IsSound next
+takes_sound world number message Absent reply next sound is sent p = same_sound world next sound p.1
+takes_sound world number (RangeOf range) Asking reply next sound is sent p = same_sound world next sound p.1
+takes_sound world number message Empty reply next sound is sent p = same_sound world next sound p.1
+takes_sound world number message (Down stored) reply next sound is sent p = same_sound world next sound p.1
+takes_sound world number (RangeOf range) (Live stored held) reply next sound is sent p =
+    receives_sound world number stored held range reply next sound is sent p
+takes_sound world number message clone reply next sound is sent p = absurd p
+
+-- a message that stands at a place was sent
+stands_at : (messages : List Message) (place : ℕ) (message : Message) → slice_get messages place ≡ Some message → Has messages message
+stands_at [] place message is = cc
+stands_at (first ∷ messages) zero message is = inl (cc)
+stands_at (first ∷ messages) (suc place) message is = inr (stands_at messages place message is)
+
+-- the message of a number was sent
+was_sent : (world : World) (number : ℕ) (message : Message) → message_at world number ≡ Some message → Has world.messages message
+was_sent world zero message is = cc
+was_sent world (suc before) message is = stands_at world.messages before message is
+
+-- a `deliver` leads to a sound world
+delivers_sound : (world : World) (number : ℕ) (sent : Option Message) (reply : Reply) (next : World)
+    → IsSound world → ((message : Message) → sent ≡ Some message → Has world.messages message)
+    → MatchOption sent (Answers world NoMessage reply next) (λ message. Takes world number message (clone_at world number) reply next)
+    → IsSound next
+delivers_sound world number None reply next sound has p = same_sound world next sound p.1
+delivers_sound world number (Some message) reply next sound has p =
+    takes_sound world number message (clone_at world number) reply next sound refl (has message refl) p
+
+-- a `show` leaves the world as it was
+lists_same : (world : World) (clone : Clone) (reply : Reply) (next : World) → Lists world clone reply next → next ≡ world
+lists_same world Absent reply next p = p.1
+lists_same world Asking reply next p = p.1
+lists_same world Empty reply next p = p.1
+lists_same world (Down stored) reply next p = p.1
+lists_same world (Live stored held) reply next p = p.2.1
+
+-- and so does a `compare`
+compares_same : (world : World) (stored : Stored) (clone : Clone) (reply : Reply) (next : World) → ComparesWith world stored clone reply next → next ≡ world
+compares_same world stored Absent reply next p = p.1
+compares_same world stored Asking reply next p = p.1
+compares_same world stored Empty reply next p = p.1
+compares_same world stored (Down other) reply next p = p.1
+compares_same world stored (Live other held) reply next p = p.1
+
+weighs_same : (world : World) (clone other : Clone) (reply : Reply) (next : World) → Weighs world clone other reply next → next ≡ world
+weighs_same world Absent other reply next p = p.1
+weighs_same world Asking other reply next p = p.1
+weighs_same world Empty other reply next p = p.1
+weighs_same world (Down stored) other reply next p = p.1
+weighs_same world (Live stored held) other reply next p = compares_same world stored other reply next p
+
+-- a step of a sound world leads to a sound world
+pub step_sound : StepIsSound
+unfolding Step
+step_sound world (Add number triple) reply next sound p = adds_sound world number triple (clone_at world number) reply next sound refl p
+step_sound world (Remove number triple) reply next sound p = removes_sound world number triple (clone_at world number) reply next sound refl p
+step_sound world (Deliver message number) reply next sound p = delivers_sound world number (message_at world message) reply next sound (was_sent world message) p
+step_sound world (Show number) reply next sound p = same_sound world next sound (lists_same world (clone_at world number) reply next p)
+step_sound world (Compare number other) reply next sound p =
+    same_sound world next sound (weighs_same world (clone_at world number) (clone_at world other) reply next p)
+
+-- ---- runs
+
+-- the world that runs at a stage is sound
+abbrev IsSoundStage : Stage → Type 0
+IsSoundStage Waiting = Unit {0}
+IsSoundStage (Running world) = IsSound world
+
+-- a line leads from such a stage to another
+acts_sound : (stage : Stage) (line text : List ℕ) (next : Stage) → IsSoundStage stage → Acts stage line text next → IsSoundStage next
+acts_sound Waiting line text next sound (inl p) = subst IsSoundStage (sym p.2) tt
+acts_sound Waiting line text next sound (inr p) = subst IsSoundStage (sym p.changes) (founded_sound p.domain p.count)
+acts_sound (Running world) line text next sound (inl p) = subst IsSoundStage (sym p.2) sound
+acts_sound (Running world) line text next sound (inr p) = subst IsSoundStage (sym p.changes) (step_sound world p.command p.reply p.after sound p.steps)
+
+-- and so do lines
+lines_sound : (stage : Stage) (lines : List (List ℕ)) (text : List ℕ) (next : Stage) → IsSoundStage stage → Runs stage lines text next → IsSoundStage next
+lines_sound stage [] text next sound p = subst IsSoundStage (sym p.1) sound
+lines_sound stage (line ∷ lines) text next sound p = lines_sound p.2 lines p.1 next (acts_sound stage line p.0 p.2 sound p.3) p.4
+
+-- each world that a schedule reaches is sound
+pub runs_sound : RunsAreSound
+runs_sound lines text world p = lines_sound Waiting lines text (Running world) tt p
+
+-- ---- what a reader may take from that
+
+-- clones that know the same dots have the same pairs
+pub same_pairs : SamePairs
+same_pairs history known other pairs others here there p q =
+    one_meaning history other pairs others (same_known history known other pairs here there p) q
+
+-- the clone that made an operation remembers it
+makes_remembers : (world : World) (number : ℕ) (triple : Triple) (stored : Stored) (held : List Range) (dot : Dot) (message : ℕ) (next : World)
+    → clone_at world number ≡ Live stored held → Makes world number stored held [] (triple ∷ []) (Did dot message) next → Remembers next number triple dot
+makes_remembers world number triple stored held dot message next is p =
+    let own : Dot = dot_at stored.path p.tick in
+    let told : dot ≡ own = cc (p.replies) in
+    let inside : number < length world.clones = place_of_clone world.clones number stored (subst (λ (clone : Clone). Keeps clone stored) (sym is) refl) in
+    subst (λ (world : World). Remembers world number triple dot) (sym p.changes) (record {
+      stored = with_range stored (range_of own);
+      held = held;
+      live = get_or-set_same world.clones number (Live (with_range stored (range_of own)) held) Absent inside;
+      known = known_with-new stored (range_of own) dot (range_of_has own dot told);
+      inserted = record { operation = _; stands = inl refl; is = sym told; inserts = inl refl };
+    })
+
+-- an `add` that a clone doesn't do tells of no dot
+adds_remembers : (world : World) (number : ℕ) (triple : Triple) (clone : Clone) (dot : Dot) (message : ℕ) (next : World)
+    → clone_at world number ≡ clone → Adds world number triple clone (Did dot message) next → Remembers next number triple dot
+adds_remembers world number triple Absent dot message next is p = absurd (cc (p.0))
+adds_remembers world number triple Asking dot message next is p = absurd (cc (p.0))
+adds_remembers world number triple Empty dot message next is p = absurd (cc (p.0))
+adds_remembers world number triple (Down stored) dot message next is p = absurd (cc (p.0))
+adds_remembers world number triple (Live stored held) dot message next is p = makes_remembers world number triple stored held dot message next is p
+
+-- the dot that an `add` tells of is known to its clone, and its operation inserts the triple
+pub add_remembers : AddRemembers
+unfolding Step
+add_remembers world number triple dot message next p = adds_remembers world number triple (clone_at world number) dot message next refl p
+
+-- no two clones of a sound world hold one leaf
+pub one_leaf : OneLeaf
+one_leaf world sound number other stored kept differ here there =
+    apart_differ stored.path kept.path (sound.apart number other stored kept differ here there)
