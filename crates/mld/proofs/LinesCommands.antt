@@ -16,10 +16,10 @@ use Rattle.rdf_terms.specs.declared.terms.Triple.{Triple}
 use Rattle.rdf_terms.specs.declared.faults.TripleFault.{TripleFault}
 use Rattle.rdf_terms.specs.declared.faults.TripleFault.TheVariants.{NotTriple, TooLong, NoMemory}
 use Rattle.mld_model.specs.declared.Command.{Command}
-use Rattle.mld_model.specs.declared.Command.TheVariants.{Add, Deliver, Show, Compare}
+use Rattle.mld_model.specs.declared.Command.TheVariants.{Add, Remove, Deliver, Show, Compare}
 use Rattle.mld_model.specs.Bytes.{Lacks, Lacks-from_test, one_split, apart}
 use Rattle.mld_model.specs.Schedule.{SpellsSetup, SpellsCommand, is_unbuilt}
-use Rattle.mld.specs.Reading.{IsTripleOf, IsAddOf, IsDeliverOf, IsShowOf, IsCompareOf}
+use Rattle.mld.specs.Reading.{IsTripleOf, IsCloneAndTriple, IsAddOf, IsRemoveOf, IsDeliverOf, IsShowOf, IsCompareOf}
 use Rattle.mld.proofs.LinesText.{has_space}
 use Rattle.mld.proofs.LinesNumbers.{small, number_first}
 
@@ -43,11 +43,12 @@ read_behind P Q (Err e) same h = h
 
 add_there : (line rest : List ℕ) → line ≡ codes "add " ++ rest → (command : Command) → IsAddOf rest command → SpellsCommand line command
 add_there line rest e command h =
-    subst (λ (k : Command). SpellsCommand line k) (sym h.3) (h.2, e ∙ ap (λ (r : List ℕ). codes "add " ++ r) h.4, h.5, h.6.bytes, h.6.spelled, h.6.within)
+    subst (λ (k : Command). SpellsCommand line k) (sym h.2) (h.3.text, e ∙ ap (λ (r : List ℕ). codes "add " ++ r) h.3.whole, h.3.clone, h.3.spelled.bytes, h.3.spelled.spelled, h.3.spelled.within)
 
 add_back : (line rest : List ℕ) → line ≡ codes "add " ++ rest → (command : Command) → SpellsCommand line command → IsAddOf rest command
 add_back line rest e (Add number triple) h =
-    (number, triple, h.0, refl, ap (drop 4) (sym e ∙ h.1), h.2, record { bytes = h.3; spelled = h.4; within = h.5 })
+    (number, triple, refl, record { text = h.0; whole = ap (drop 4) (sym e ∙ h.1); clone = h.2; spelled = record { bytes = h.3; spelled = h.4; within = h.5 } })
+add_back line rest e (Remove number triple) h = absurd (apart e h.1 refl)
 add_back line rest e (Deliver message number) h = absurd (apart e h.0 refl)
 add_back line rest e (Show number) h = absurd (apart e h.0 refl)
 add_back line rest e (Compare number other) h = absurd (apart e h.0 refl)
@@ -55,12 +56,28 @@ add_back line rest e (Compare number other) h = absurd (apart e h.0 refl)
 pub add_behind : (line rest : List ℕ) → line ≡ codes "add " ++ rest → (command : Command) → IsAddOf rest command ↔ SpellsCommand line command
 add_behind line rest e command = (add_there line rest e command, add_back line rest e command)
 
+remove_there : (line rest : List ℕ) → line ≡ codes "remove " ++ rest → (command : Command) → IsRemoveOf rest command → SpellsCommand line command
+remove_there line rest e command h =
+    subst (λ (k : Command). SpellsCommand line k) (sym h.2) (h.3.text, e ∙ ap (λ (r : List ℕ). codes "remove " ++ r) h.3.whole, h.3.clone, h.3.spelled.bytes, h.3.spelled.spelled, h.3.spelled.within)
+
+remove_back : (line rest : List ℕ) → line ≡ codes "remove " ++ rest → (command : Command) → SpellsCommand line command → IsRemoveOf rest command
+remove_back line rest e (Add number triple) h = absurd (apart e h.1 refl)
+remove_back line rest e (Remove number triple) h =
+    (number, triple, refl, record { text = h.0; whole = ap (drop 7) (sym e ∙ h.1); clone = h.2; spelled = record { bytes = h.3; spelled = h.4; within = h.5 } })
+remove_back line rest e (Deliver message number) h = absurd (apart e h.0 refl)
+remove_back line rest e (Show number) h = absurd (apart e h.0 refl)
+remove_back line rest e (Compare number other) h = absurd (apart e h.0 refl)
+
+pub remove_behind : (line rest : List ℕ) → line ≡ codes "remove " ++ rest → (command : Command) → IsRemoveOf rest command ↔ SpellsCommand line command
+remove_behind line rest e command = (remove_there line rest e command, remove_back line rest e command)
+
 deliver_there : (line rest : List ℕ) → line ≡ codes "deliver " ++ rest → (command : Command) → IsDeliverOf rest command → SpellsCommand line command
 deliver_there line rest e command h =
     subst (λ (k : Command). SpellsCommand line k) (sym h.2) (e ∙ ap (λ (r : List ℕ). codes "deliver " ++ r) h.3, h.4, h.5)
 
 deliver_back : (line rest : List ℕ) → line ≡ codes "deliver " ++ rest → (command : Command) → SpellsCommand line command → IsDeliverOf rest command
 deliver_back line rest e (Add number triple) h = absurd (apart e h.1 refl)
+deliver_back line rest e (Remove number triple) h = absurd (apart e h.1 refl)
 deliver_back line rest e (Deliver message number) h = (message, number, refl, ap (drop 8) (sym e ∙ h.0), h.1, h.2)
 deliver_back line rest e (Show number) h = absurd (apart e h.0 refl)
 deliver_back line rest e (Compare number other) h = absurd (apart e h.0 refl)
@@ -74,6 +91,7 @@ show_there line rest e command h =
 
 show_back : (line rest : List ℕ) → line ≡ codes "show " ++ rest → (command : Command) → SpellsCommand line command → IsShowOf rest command
 show_back line rest e (Add number triple) h = absurd (apart e h.1 refl)
+show_back line rest e (Remove number triple) h = absurd (apart e h.1 refl)
 show_back line rest e (Deliver message number) h = absurd (apart e h.0 refl)
 show_back line rest e (Show number) h = (number, refl, ap (drop 5) (sym e ∙ h.0), h.1)
 show_back line rest e (Compare number other) h = absurd (apart e h.0 refl)
@@ -87,6 +105,7 @@ compare_there line rest e command h =
 
 compare_back : (line rest : List ℕ) → line ≡ codes "compare " ++ rest → (command : Command) → SpellsCommand line command → IsCompareOf rest command
 compare_back line rest e (Add number triple) h = absurd (apart e h.1 refl)
+compare_back line rest e (Remove number triple) h = absurd (apart e h.1 refl)
 compare_back line rest e (Deliver message number) h = absurd (apart e h.0 refl)
 compare_back line rest e (Show number) h = absurd (apart e h.0 refl)
 compare_back line rest e (Compare number other) h = (number, other, refl, ap (drop 8) (sym e ∙ h.0), h.1, h.2)
@@ -96,17 +115,23 @@ compare_behind line rest e command = (compare_there line rest e command, compare
 
 -- ---- the parts of a command
 
-pub no_add_split : (rest : List ℕ) → Lacks 32 rest → (command : Command) → ¬ IsAddOf rest command
-no_add_split rest lacks command h = has_space rest (decimal h.0) h.2 lacks h.4
+pub no_triple_split : (rest : List ℕ) → Lacks 32 rest → (number : ℕ) (triple : Triple) → ¬ IsCloneAndTriple rest number triple
+no_triple_split rest lacks number triple h = has_space rest (decimal number) h.text lacks h.whole
 
-pub no_add_number : (rest front behind : List ℕ) → rest ≡ front ++ 32 ∷ behind → Lacks 32 front → ((number : ℕ) → number < 32 → front ≢ decimal number)
-    → (command : Command) → ¬ IsAddOf rest command
-no_add_number rest front behind e lacks none command h = none h.0 h.5 (number_first rest front behind h.2 h.0 lacks e (small h.5) h.4).0
+pub no_triple_number : (rest front behind : List ℕ) → rest ≡ front ++ 32 ∷ behind → Lacks 32 front → ((number : ℕ) → number < 32 → front ≢ decimal number)
+    → (number : ℕ) (triple : Triple) → ¬ IsCloneAndTriple rest number triple
+no_triple_number rest front behind e lacks none number triple h = none number h.clone (number_first rest front behind h.text number lacks e (small h.clone) h.whole).0
 
-pub no_add_triple : (rest front behind : List ℕ) → rest ≡ front ++ 32 ∷ behind → Lacks 32 front → ((triple : Triple) → ¬ IsTripleOf behind triple)
-    → (command : Command) → ¬ IsAddOf rest command
-no_add_triple rest front behind e lacks none command h =
-    none h.1 (subst (λ (t : List ℕ). IsTripleOf t h.1) (sym (number_first rest front behind h.2 h.0 lacks e (small h.5) h.4).1) h.6)
+pub no_triple_text : (rest front behind : List ℕ) → rest ≡ front ++ 32 ∷ behind → Lacks 32 front → ((triple : Triple) → ¬ IsTripleOf behind triple)
+    → (number : ℕ) (triple : Triple) → ¬ IsCloneAndTriple rest number triple
+no_triple_text rest front behind e lacks none number triple h =
+    none triple (subst (λ (t : List ℕ). IsTripleOf t triple) (sym (number_first rest front behind h.text number lacks e (small h.clone) h.whole).1) h.spelled)
+
+pub no_add : (rest : List ℕ) → ((number : ℕ) (triple : Triple) → ¬ IsCloneAndTriple rest number triple) → (command : Command) → ¬ IsAddOf rest command
+no_add rest none command h = none h.0 h.1 h.3
+
+pub no_remove : (rest : List ℕ) → ((number : ℕ) (triple : Triple) → ¬ IsCloneAndTriple rest number triple) → (command : Command) → ¬ IsRemoveOf rest command
+no_remove rest none command h = none h.0 h.1 h.3
 
 pub no_deliver_split : (rest : List ℕ) → Lacks 32 rest → (command : Command) → ¬ IsDeliverOf rest command
 no_deliver_split rest lacks command h = has_space rest (decimal h.0) (decimal h.1) lacks h.3
@@ -137,10 +162,14 @@ lacks_from_any : (byte : ℕ) (text : List ℕ) → list_any (λ b. b == byte) t
 lacks_from_any byte [] h = tt
 lacks_from_any byte (first ∷ rest) h = let parts = none_of (first == byte) (list_any (λ b. b == byte) rest) h in (eqb-false first byte parts.0, lacks_from_any byte rest parts.1)
 
--- a line that is built, and begins with `add` and a space, has none
+-- a line that is built, and begins with `add` or `remove` and a space, has none
 pub built_add : (line rest : List ℕ) → ¬ IsTrue (is_unbuilt line) → line ≡ codes "add " ++ rest → Lacks 92 rest
 unfolding is_unbuilt
 built_add line rest h e = lacks_from_any 92 rest (not_true (list_any (λ b. b == 92) rest) (λ k. h (subst (λ (l : List ℕ). is_unbuilt l ≡ true) (sym e) k)))
+
+pub built_remove : (line rest : List ℕ) → ¬ IsTrue (is_unbuilt line) → line ≡ codes "remove " ++ rest → Lacks 92 rest
+unfolding is_unbuilt
+built_remove line rest h e = lacks_from_any 92 rest (not_true (list_any (λ b. b == 92) rest) (λ k. h (subst (λ (l : List ℕ). is_unbuilt l ≡ true) (sym e) k)))
 
 -- as the test that the reader of triples asks for
 pub lacks_backslash : (text : List ℕ) → Lacks 92 text → IsTrue (has_no_backslash text)

@@ -4,11 +4,9 @@ use Rattle.std.specs.List.{list_any}
 use Rattle.std.specs.Str.{IsUtf8}
 use Rattle.std.proofs.lemmas.Bool.{ne_eqb, false≢true}
 use Rattle.std.proofs.lemmas.List.{take_all, length-drop, nil_from_length}
-use Rattle.std.specs.Bool.{one_answer}
 use Rattle.std.specs.Result.{MatchResult, is_ok}
 use Rattle.std.specs.declared.result.Result.{Result}
 use Rattle.std.specs.declared.result.Result.TheVariants.{Ok, Err}
-use Rattle.std.proofs.lemmas.Slice.Eq.{bytes_eq-Decides}
 use Rattle.std.proofs.lemmas.List.Sums.{take_while-cons}
 use Rattle.mld_model.specs.Bytes.{Lacks, Lacks_parts}
 use Rattle.mld_model.specs.Schedule.{IsNothing, empty, comment, first_word, is_word, unbuilt_words, is_unbuilt}
@@ -81,16 +79,9 @@ nothing_tested line test below e h = (λ k. nothing_comment line below e (h.0 k)
 
 -- ---- lines that aren't built yet
 
--- texts compare the same in either order
-same_word : (a b : List ℕ) → is_word a b ≡ is_word b a
-same_word a b =
-    let there = bytes_eq-Decides a b in
-    let back = bytes_eq-Decides b a in
-    one_answer (is_word a b) (is_word b a) there (λ e. sym (back.0 e), λ e. back.1 (sym e))
-
 -- by the first word
 unbuilt_by : (line word : List ℕ) → word ≡ first_word line
-    → is_unbuilt line ≡ (list_any (λ unbuilt. is_word unbuilt word) unbuilt_words || (is_word (codes "add") word && list_any (λ byte. byte == 92) line))
+    → is_unbuilt line ≡ (list_any (λ unbuilt. is_word unbuilt word) unbuilt_words || ((is_word (codes "add") word || is_word (codes "remove") word) && list_any (λ byte. byte == 92) line))
 unfolding is_unbuilt
 unbuilt_by line word e = rw e refl
 
@@ -98,12 +89,12 @@ pub unbuilt_word : (line word : List ℕ) (listed : Bool) → word ≡ first_wor
     → listed ≡ list_any (λ unbuilt. is_word unbuilt word) unbuilt_words → listed ≡ true → listed ≡ is_unbuilt line
 unbuilt_word line word listed e h k = k ∙ sym (unbuilt_by line word e ∙ rw (sym h ∙ k) refl)
 
-pub unbuilt_slash : (line word : List ℕ) (listed adds slash : Bool) → word ≡ first_word line
+pub unbuilt_slash : (line word : List ℕ) (listed before slash : Bool) → word ≡ first_word line
     → listed ≡ list_any (λ unbuilt. is_word unbuilt word) unbuilt_words → listed ≡ false
-    → adds ≡ is_word word (codes "add") → adds ≡ true → slash ≡ list_any (λ byte. byte == 92) line → slash ≡ is_unbuilt line
-unbuilt_slash line word listed adds slash e h k a b s = s ∙ sym (unbuilt_by line word e ∙ rw (sym h ∙ k, same_word (codes "add") word ∙ (sym a ∙ b)) refl)
+    → before ≡ (is_word (codes "add") word || is_word (codes "remove") word) → before ≡ true → slash ≡ list_any (λ byte. byte == 92) line → slash ≡ is_unbuilt line
+unbuilt_slash line word listed before slash e h k a b s = s ∙ sym (unbuilt_by line word e ∙ rw (sym h ∙ k, sym a ∙ b) refl)
 
-pub unbuilt_other : (line word : List ℕ) (listed adds : Bool) → word ≡ first_word line
+pub unbuilt_other : (line word : List ℕ) (listed before : Bool) → word ≡ first_word line
     → listed ≡ list_any (λ unbuilt. is_word unbuilt word) unbuilt_words → listed ≡ false
-    → adds ≡ is_word word (codes "add") → adds ≡ false → adds ≡ is_unbuilt line
-unbuilt_other line word listed adds e h k a b = b ∙ sym (unbuilt_by line word e ∙ rw (sym h ∙ k, same_word (codes "add") word ∙ (sym a ∙ b)) refl)
+    → before ≡ (is_word (codes "add") word || is_word (codes "remove") word) → before ≡ false → before ≡ is_unbuilt line
+unbuilt_other line word listed before e h k a b = b ∙ sym (unbuilt_by line word e ∙ rw (sym h ∙ k, sym a ∙ b) refl)

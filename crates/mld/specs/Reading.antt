@@ -4,7 +4,7 @@ use Rattle.std.specs.Str.{IsUtf8}
 use Rattle.std.specs.Fmt.{decimal}
 use Rattle.rdf_terms.specs.declared.terms.Triple.{Triple}
 use Rattle.rdf_terms.specs.Grammar.{SpellsTriple, IsWithin}
-use Rattle.mld_model.specs.declared.Command.TheVariants.{Add, Deliver, Show, Compare}
+use Rattle.mld_model.specs.declared.Command.TheVariants.{Add, Remove, Deliver, Show, Compare}
 use Rattle.mld_model.specs.declared.Command.{Command}
 use Rattle.mld_model.specs.Schedule.{IsNothing, is_unbuilt, SpellsSetup, SpellsCommand, IsCloneNumber}
 use Rattle.mld_model.specs.Runs.{IsBad, Waiting}
@@ -35,9 +35,18 @@ pub record IsTripleOf (text : List ℕ) (triple : Triple) : Type 0 where
 
 -- what follows the first word of a command and its space
 
+-- a clone's number, a space, and the text of a triple
+pub record IsCloneAndTriple (rest : List ℕ) (number : ℕ) (triple : Triple) : Type 0 where
+  pub text : List ℕ
+  pub whole : rest ≡ decimal number ++ 32 ∷ text
+  pub clone : IsCloneNumber number
+  pub spelled : IsTripleOf text triple
+
 abbrev pub IsAddOf : List ℕ → Command → Type 0
-IsAddOf rest command = (number : ℕ) × (triple : Triple) × (text : List ℕ) × (command ≡ Add number triple) × (rest ≡ decimal number ++ 32 ∷ text)
-    × IsCloneNumber number × IsTripleOf text triple
+IsAddOf rest command = (number : ℕ) × (triple : Triple) × (command ≡ Add number triple) × IsCloneAndTriple rest number triple
+
+abbrev pub IsRemoveOf : List ℕ → Command → Type 0
+IsRemoveOf rest command = (number : ℕ) × (triple : Triple) × (command ≡ Remove number triple) × IsCloneAndTriple rest number triple
 
 abbrev pub IsDeliverOf : List ℕ → Command → Type 0
 IsDeliverOf rest command = (message : ℕ) × (number : ℕ) × (command ≡ Deliver message number) × (rest ≡ decimal message ++ 32 ∷ decimal number)

@@ -1,5 +1,5 @@
 //! Reading the lines of a schedule.
-ghost use Rattle.std.specs.Prelude.{◌≡◌, ◌≢◌, ◌<◌, ◌≤◌, ◌^◌, ◌++◌, ◌∷◌, ◌↔◌, ℕ, List, IsTrue, IfOk, MatchOption, EachIndex, slice_index, length};
+ghost use Rattle.std.specs.Prelude.{◌≡◌, ◌≢◌, ◌<◌, ◌≤◌, ◌^◌, ◌++◌, ◌∷◌, ◌↔◌, ◌||◌, ℕ, List, codes, IsTrue, IfOk, MatchOption, EachIndex, slice_index, length};
 ghost use Rattle.std.specs.List.{list_any};
 ghost use Rattle.std.specs.Fmt.{decimal};
 ghost use Rattle.mld_model.specs.Bytes.{Lacks};
@@ -7,7 +7,7 @@ ghost use Rattle.rdf_terms.specs.Domain.{is_domain};
 ghost use Rattle.rdf_terms.specs.declared.terms.Triple.{Triple};
 ghost use Rattle.mld_model.specs.Schedule.{IsNothing, is_unbuilt, unbuilt_words, is_word, first_word, SpellsSetup, SpellsCommand};
 ghost use Rattle.mld_model.specs.declared.Command.{Command};
-ghost use Rattle.mld.specs.Reading.{OpeningIs, LineIs, IsTripleOf, IsAddOf, IsDeliverOf, IsShowOf, IsCompareOf};
+ghost use Rattle.mld.specs.Reading.{OpeningIs, LineIs, IsTripleOf, IsCloneAndTriple, IsAddOf, IsRemoveOf, IsDeliverOf, IsShowOf, IsCompareOf};
 
 use mld_model::Command;
 use rdf_terms::{Text, Triple, TripleFault, is_domain, read_triple};
@@ -82,8 +82,7 @@ fn is_nothing(line: &[u8]) -> bool
 }
 
 /// The first words of lines that aren't built yet.
-const UNBUILT_WORDS: [&[u8]; 11] = [
-    b"remove",
+const UNBUILT_WORDS: [&[u8]; 10] = [
     b"join",
     b"stop",
     b"open",
@@ -96,12 +95,12 @@ const UNBUILT_WORDS: [&[u8]; 11] = [
     b"crash",
 ];
 
-/// A line that isn't built yet: one of those words comes first, or `add` does and a backslash stands somewhere.
+/// A line that isn't built yet: one of those words comes first, or `add` or `remove` does and a backslash stands somewhere.
 fn is_unbuilt(line: &[u8]) -> bool
     ensures { result ≡ is_unbuilt line.now }
 {
     let word = first_word(line);
-    is_unbuilt_word(word) || (word == b"add".as_slice() && line.contains(&b'\\'))
+    is_unbuilt_word(word) || (is_before_triple(word) && line.contains(&b'\\'))
 }
 
 /// One of the first words of lines that aren't built yet.
@@ -109,6 +108,13 @@ fn is_unbuilt_word(word: &[u8]) -> bool
     ensures { result ≡ list_any (λ unbuilt. is_word unbuilt word.now) unbuilt_words }
 {
     UNBUILT_WORDS.iter().any(|unbuilt| *unbuilt == word)
+}
+
+/// `add` or `remove`, the first words of lines that end with a triple.
+fn is_before_triple(word: &[u8]) -> bool
+    ensures { result ≡ (is_word (codes "add") word.now || is_word (codes "remove") word.now) }
+{
+    word == b"add".as_slice() || word == b"remove".as_slice()
 }
 
 /// The bytes before the first space, or all of them.
@@ -230,6 +236,9 @@ fn read_command(alloc: Global, line: &[u8]) -> Result<Option<Command>, AllocErro
     if let Some(rest) = behind(line, b"add ") {
         return read_add(alloc, rest);
     }
+    if let Some(rest) = behind(line, b"remove ") {
+        return read_remove(alloc, rest);
+    }
     if let Some(rest) = behind(line, b"deliver ") {
         return read_deliver(alloc, rest);
     }
@@ -247,6 +256,28 @@ fn read_add(alloc: Global, rest: &[u8]) -> Result<Option<Command>, AllocError>
     requires { Lacks 92 rest.now }
     ensures { IfOk result (λ found. MatchOption found ((command : Command) → ¬ IsAddOf rest.now command) (λ command. IsAddOf rest.now command)) }
 {
+    let Some((number, triple)) = read_clone_and_triple(alloc, rest)? else {
+        return Ok(None);
+    };
+    Ok(Some(Command::Add(number, triple)))
+}
+
+/// What follows `remove` and a space: a clone's number, a space, and a triple.
+fn read_remove(alloc: Global, rest: &[u8]) -> Result<Option<Command>, AllocError>
+    requires { Lacks 92 rest.now }
+    ensures { IfOk result (λ found. MatchOption found ((command : Command) → ¬ IsRemoveOf rest.now command) (λ command. IsRemoveOf rest.now command)) }
+{
+    let Some((number, triple)) = read_clone_and_triple(alloc, rest)? else {
+        return Ok(None);
+    };
+    Ok(Some(Command::Remove(number, triple)))
+}
+
+/// A clone's number, a space, and a triple.
+fn read_clone_and_triple(alloc: Global, rest: &[u8]) -> Result<Option<(u8, Triple)>, AllocError>
+    requires { Lacks 92 rest.now }
+    ensures { IfOk result (λ found. MatchOption found ((number : ℕ) (triple : Triple) → ¬ IsCloneAndTriple rest.now number triple) (λ parts. IsCloneAndTriple rest.now parts.0 parts.1)) }
+{
     let Some((number, text)) = split_at_space(rest) else {
         return Ok(None);
     };
@@ -256,7 +287,7 @@ fn read_add(alloc: Global, rest: &[u8]) -> Result<Option<Command>, AllocError>
     let Some(triple) = read_triple_bytes(alloc, text)? else {
         return Ok(None);
     };
-    Ok(Some(Command::Add(number, triple)))
+    Ok(Some((number, triple)))
 }
 
 /// The triple of a text, where the text is UTF-8 and spells one within the limits.

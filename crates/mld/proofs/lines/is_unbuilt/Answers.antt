@@ -5,12 +5,12 @@ pub returns-then-is_unbuilt_word : goal.returns-then-is_unbuilt_word
 returns-then-is_unbuilt_word c =
     unbuilt_word c.args.line.now c.first_word-word.result.now c.is_unbuilt_word.result c.first_word-word.ensures c.is_unbuilt_word.ensures c.if-is_unbuilt_word.true
 
-pub returns-then-eq : goal.returns-then-eq
-returns-then-eq c =
-    unbuilt_slash c.args.line.now c.first_word-word.result.now c.is_unbuilt_word.result c.eq.result c.contains.result c.first_word-word.ensures
-    c.is_unbuilt_word.ensures c.if-is_unbuilt_word.false (cc) c.if-eq.true c.contains.ensures.value
+pub returns-then-is_before_triple : goal.returns-then-is_before_triple
+returns-then-is_before_triple c =
+    unbuilt_slash c.args.line.now c.first_word-word.result.now c.is_unbuilt_word.result c.is_before_triple.result c.contains.result c.first_word-word.ensures
+    c.is_unbuilt_word.ensures c.if-is_unbuilt_word.false c.is_before_triple.ensures c.if-is_before_triple.true c.contains.ensures.value
 
-pub returns-else-eq : goal.returns-else-eq
-returns-else-eq c =
-    unbuilt_other c.args.line.now c.first_word-word.result.now c.is_unbuilt_word.result c.eq.result c.first_word-word.ensures
-    c.is_unbuilt_word.ensures c.if-is_unbuilt_word.false (cc) c.if-eq.false
+pub returns-else-is_before_triple : goal.returns-else-is_before_triple
+returns-else-is_before_triple c =
+    unbuilt_other c.args.line.now c.first_word-word.result.now c.is_unbuilt_word.result c.is_before_triple.result c.first_word-word.ensures
+    c.is_unbuilt_word.ensures c.if-is_unbuilt_word.false c.is_before_triple.ensures c.if-is_before_triple.false

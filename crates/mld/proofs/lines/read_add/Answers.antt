@@ -1,19 +1,5 @@
-use Rattle.std.proofs.Common.{ℕ, List, ◌∷◌, subst}
-use Rattle.mld_model.specs.Bytes.{Lacks, Lacks_parts}
-use Rattle.mld.proofs.LinesCommands.{no_add_split, no_add_number, no_add_triple}
+use Rattle.mld.proofs.LinesCommands.{no_add}
 use Rattle.mld.proofs.lines.read_add.Goals as goal
 
 pub returns-in_default : goal.returns-in_default
-returns-in_default c = no_add_split c.args.rest.now c.in_default.ensures
-
-pub returns-in_default-2 : goal.returns-in_default-2
-returns-in_default-2 c =
-    no_add_number c.args.rest.now c.in-Some.number.now c.in-Some.text.now c.in-Some.ensures.0 c.in-Some.ensures.1 (rw c.in_default-2.is at c.in_ok-number.ensures)
-
-pub read_triple_bytes-requires : goal.read_triple_bytes-requires
-read_triple_bytes-requires c =
-    (Lacks_parts 92 c.in-Some.number.now (32 ∷ c.in-Some.text.now) (subst (λ (l : List ℕ). Lacks 92 l) c.in-Some.ensures.0 c.requires)).1.1
-
-pub returns-in_default-3 : goal.returns-in_default-3
-returns-in_default-3 c =
-    no_add_triple c.args.rest.now c.in-Some.number.now c.in-Some.text.now c.in-Some.ensures.0 c.in-Some.ensures.1 (rw c.in_default-3.is at c.in_ok-triple.ensures)
+returns-in_default c = no_add c.args.rest.now (rw c.in_default.is at c.in_ok-number.ensures)
