@@ -5,3 +5,4 @@ pub mod RepliesShown
 pub mod ClonesTaking
 pub mod WorldLemmas
 pub mod RunLemmas
+pub mod SummaryLemmas

@@ -3,6 +3,7 @@ pub mod Reading
 pub mod Taking
 pub mod Clones
 pub mod Worlds
+pub mod Summaries
 pub mod Ran
 pub mod UnderWay
 pub mod Stops

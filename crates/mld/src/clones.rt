@@ -62,6 +62,20 @@ impl LiveClone {
         }
     }
 
+    /// The clone's path.
+    pub fn path(&self) -> Path
+        ensures { result ≡ self.now.path }
+    {
+        self.path
+    }
+
+    /// The clone's journal, in order.
+    pub fn journal(&self) -> &[Range]
+        ensures { result.now ≡ self.now.journal }
+    {
+        self.journal.as_slice()
+    }
+
     /// The clone's clock.
     pub fn clock(&self) -> &Clock
         ensures { result.now.ticks ≡ self.now.ticks }

@@ -1,5 +1,11 @@
 //! What a run tells of the world that it ends with.
-use mld_ops::Tagged;
+ghost use Rattle.std.specs.Prelude.{IfOk};
+ghost use Rattle.mld.specs.Summaries.{IsBlank, IsSummaryOf, Summarizes, SummarizesAll};
+ghost use Rattle.mld.specs.declared.summaries.State.{State};
+
+use crate::clones::LiveClone;
+use mld_ops::{Tagged, copy_pairs};
+use std::alloc::{AllocError, Global};
 use tree_clock::{Path, Range};
 
 /// The state of a clone.
@@ -37,4 +43,57 @@ pub struct CloneSummary {
 pub struct Summary {
     /// The clones.
     pub clones: Vec<CloneSummary>,
+}
+
+/// What there is to tell of the clones of a world.
+pub fn summarize(alloc: Global, clones: &[Option<LiveClone>]) -> Result<Summary, AllocError>
+    ensures { IfOk result (λ summary. SummarizesAll clones.now summary.clones.items) }
+{
+    let mut summaries = Vec::with_capacity(alloc, clones.len())?;
+    for clone in clones {
+        summaries.push(summary_of(alloc, clone)?)?;
+    }
+    Ok(Summary { clones: summaries })
+}
+
+/// What there is to tell of a clone, where it may be absent.
+fn summary_of(alloc: Global, clone: &Option<LiveClone>) -> Result<CloneSummary, AllocError>
+    ensures { IfOk result (Summarizes clone.now) }
+{
+    match clone {
+        None => Ok(blank(alloc, State::Absent)),
+        Some(live) => summary_of_live(alloc, live),
+    }
+}
+
+/// What there is to tell of a live clone.
+fn summary_of_live(alloc: Global, clone: &LiveClone) -> Result<CloneSummary, AllocError>
+    ensures { IfOk result (IsSummaryOf clone.now) }
+{
+    let known = clone.clock().to_list(alloc)?;
+    let mut journal = Vec::new(alloc);
+    journal.extend_from_slice(clone.journal())?;
+    let tagged = copy_pairs(alloc, clone.pairs())?;
+    Ok(CloneSummary {
+        state: State::Live,
+        path: Some(clone.path()),
+        known,
+        base: Vec::new(alloc),
+        journal,
+        tagged,
+    })
+}
+
+/// What there is to tell of a clone that isn't live.
+fn blank(alloc: Global, state: State) -> CloneSummary
+    ensures { IsBlank result state }
+{
+    CloneSummary {
+        state,
+        path: None,
+        known: Vec::new(alloc),
+        base: Vec::new(alloc),
+        journal: Vec::new(alloc),
+        tagged: Vec::new(alloc),
+    }
 }

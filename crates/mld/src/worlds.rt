@@ -97,6 +97,7 @@ impl World {
                 let messages = &mut self.messages;
                 Ok(add_to(alloc, &mut self.clones, messages, number, triple, out)?)
             }
+            Command::Remove(_, _) => Err(Refusal::NoMemory),
             Command::Deliver(message, number) => {
                 let messages = self.messages.as_slice();
                 deliver_to(alloc, &mut self.clones, messages, message, number, out)
