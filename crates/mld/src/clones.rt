@@ -4,7 +4,8 @@ ghost use Rattle.tree_clock.specs.Lists.{IsAscending};
 ghost use Rattle.tree_clock.specs.Clock.{ticks_of, Covers, RaisesTo};
 ghost use Rattle.mld_ops.specs.Tagged.{tagged_cmp};
 ghost use Rattle.mld_model.specs.Clone.{last_dot};
-ghost use Rattle.mld.specs.Taking.{IsInsertion, HasBefore, TakesPairs};
+ghost use Rattle.mld_model.specs.Step.{ArePairsOf};
+ghost use Rattle.mld.specs.Taking.{IsInsertion, MayBeDeleted, IsDeletion, HasBefore, TakesPairs};
 
 use mld_ops::{Entry, Tagged, insert_pair, remove_pairs};
 use rdf_terms::Triple;
@@ -116,7 +117,21 @@ impl LiveClone {
         requires pairs { KnowsItsPairs self.old }
         ensures { IfOk result (λ made. Removes self.old triple.now made self.new) }
     {
-        Err(AllocError)
+        let deletes = pairs_of(alloc, &self.pairs, triple)?;
+        if deletes.is_empty() {
+            return Ok(None);
+        }
+        let path = self.path;
+        let dot = Dot {
+            path,
+            tick: self.clock.ticks(&path) + 1,
+        };
+        let entry = deletion(alloc, &self.clock, &dot, deletes)?;
+        self.clock.reserve(&path)?;
+        self.clock.raise(&dot);
+        self.journal.push(entry.range())?;
+        remove_pairs(&mut self.pairs, entry.deletes());
+        Ok(Some(entry))
     }
 
     /// Takes an entry that is ready. After an error the clone may have done a part of it, and is not used again.
@@ -157,6 +172,42 @@ fn insertion(alloc: Global, clock: &Clock, dot: &Dot, triple: &Triple) -> Result
         last: dot.tick,
     };
     Ok(Entry::new(range, time, Vec::new(alloc), inserts).unwrap())
+}
+
+/// Copies of the pairs of a triple, in the order of the given ones.
+fn pairs_of(alloc: Global, pairs: &[Tagged], triple: &Triple) -> Result<Vec<Tagged>, AllocError>
+    requires { IsAscending tagged_cmp pairs.now }
+    ensures { IfOk result (λ found. ArePairsOf triple.now pairs.now found.items) }
+{
+    let mut found = Vec::new(alloc);
+    for pair in pairs {
+        if pair.triple == *triple {
+            found.push(pair.copy_in(alloc)?)?;
+        }
+    }
+    Ok(found)
+}
+
+/// The entry of the operation at a dot that deletes pairs, where all of the clock's dots are its causes.
+fn deletion(
+    alloc: Global,
+    clock: &Clock,
+    dot: &Dot,
+    deletes: Vec<Tagged>,
+) -> Result<Entry, AllocError>
+    requires tick { ticks_of clock.now.ticks dot.now.path < dot.now.tick }
+    requires deletes { MayBeDeleted clock.now.ticks deletes.items }
+    ensures { IfOk result (λ entry. IsDeletion clock.now.ticks dot.now deletes.items entry) }
+{
+    let mut time = clock.copy_in(alloc)?;
+    time.reserve(&dot.path)?;
+    time.raise(dot);
+    let range = Range {
+        path: dot.path,
+        first: dot.tick,
+        last: dot.tick,
+    };
+    Ok(Entry::new(range, time, deletes, Vec::new(alloc)).unwrap())
 }
 
 /// The clock with the dots of an entry that is ready and isn't known, or `None` where it isn't ready.
