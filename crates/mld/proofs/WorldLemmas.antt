@@ -1,21 +1,22 @@
 -- What the parts of a world's step do is the model's step.
-use Rattle.std.proofs.Common.{◌≡◌, ℕ, zero, suc, ◌+◌, ◌<◌, List, [], ◌∷◌, inl, inr, refl, sym, ◌∙◌, arith, subst, length, Option, Some}
+use Rattle.std.proofs.Common.{◌≡◌, ℕ, zero, suc, ◌+◌, ◌<◌, List, [], ◌∷◌, inl, inr, refl, sym, ◌∙◌, ap, arith, subst, length, set, Option, Some, None}
+use Rattle.std.proofs.lemmas.List.{set-get_or}
 use Rattle.rdf_terms.specs.declared.terms.Triple.{Triple}
 use Rattle.mld_ops.specs.Entry.{EntryValue}
 use Rattle.mld_model.specs.declared.Command.{Command}
-use Rattle.mld_model.specs.declared.Command.TheVariants.{Add, Deliver, Show, Compare}
+use Rattle.mld_model.specs.declared.Command.TheVariants.{Add, Remove, Deliver, Show, Compare}
 use Rattle.mld_model.specs.Clone.{last_dot}
 use Rattle.mld_model.specs.World.{World, clone_at}
-use Rattle.mld_model.specs.Reply.{Reply, Did, Took, AlreadyKnown, Shows, NoMessage, IsAbsent}
+use Rattle.mld_model.specs.Reply.{Reply, Did, NoOperation, Took, AlreadyKnown, Shows, NoMessage, IsAbsent}
 use Rattle.mld_model.specs.StandsFor.{RunningLive, RunningWorld}
 use Rattle.mld_model.specs.Local.{next_dot}
 use Rattle.mld_model.specs.StandsForLaws.{LiveAt, live_at}
 use Rattle.mld_model.specs.WorldStep.{Follows}
-use Rattle.mld_model.specs.WorldLaws.{stepped, stepped_with, stepped_sending, entry_at, LocallyCompares, next_tick_within, add_follows, add_absent, deliver_nothing, deliver_absent, deliver_known, deliver_taken, deliver_waits, show_follows, show_absent, compare_follows, compare_absent_first, compare_absent_second}
+use Rattle.mld_model.specs.WorldLaws.{stepped, stepped_with, stepped_sending, entry_at, LocallyCompares, next_tick_within, add_follows, add_absent, remove_follows, remove_nothing, remove_absent, deliver_nothing, deliver_absent, deliver_known, deliver_taken, deliver_waits, show_follows, show_absent, compare_follows, compare_absent_first, compare_absent_second}
 use Rattle.mld.specs.declared.replies.Word.{Word}
 use Rattle.mld.specs.declared.replies.Word.TheVariants as words
 use Rattle.mld.specs.Words.{reply_of}
-use Rattle.mld.specs.Worlds.{IsStanding, Stepped, MustWait, HasNextTick, nth_entry, AddsTo, Answered, DeliversTo, WaitsAt, ShowsAt, ComparesAs, ComparesAt}
+use Rattle.mld.specs.Worlds.{IsStanding, Stepped, MustWait, HasNextTick, KnowsPairsAt, nth_entry, Changes, AddsTo, RemovesTo, Answered, DeliversTo, WaitsAt, ShowsAt, ComparesAs, ComparesAt}
 
 -- the same step, said of equal replies and worlds
 follows_as : (world : World) (command : Command) (reply other : Reply) (running next : RunningWorld) → reply ≡ other → running ≡ next
@@ -49,6 +50,12 @@ has_next_tick running number standing few live is =
     let at : LiveAt standing.world.history live (clone_at standing.world number) = live_at running standing.world standing.stands number live is in
     omega (arith, next_tick_within running standing.world standing.stands standing.sound number live at, few)
 
+-- a clone of a world that stands for a sound one knows the dots of its pairs
+pub knows_pairs_at : (running : RunningWorld) (number : ℕ) → IsStanding running → KnowsPairsAt running.clones number
+knows_pairs_at running number standing live is = λ pair h.
+    let at : LiveAt standing.world.history live (clone_at standing.world number) = live_at running standing.world standing.stands number live is in
+    (at.stands.known pair.dot).1 (at.stands.pairs.sound pair h).covered
+
 pub added : (running : RunningWorld) (number : ℕ) (triple : Triple) (new : List (Option RunningLive)) (sent : List EntryValue) (before after : List ℕ)
     → AddsTo running.clones running.messages number triple new sent before after → Stepped running (Add number triple) (after_step running new sent) before after
 added running number triple new sent before after (inl (missing, same, writes)) = record {
@@ -57,14 +64,45 @@ added running number triple new sent before after (inl (missing, same, writes)) 
   follows = λ world stands sound. follows_as world (Add number triple) IsAbsent IsAbsent (stepped running) (after_step running new sent) refl
       (λ i. after_step running (sym missing.same i) (sym same i)) (add_absent running world stands sound number triple missing.was);
 }
-added running number triple new sent before after (inr (entry, adds, same, writes)) = record {
+added running number triple new sent before after (inr (entry, adds, sends)) = record {
   reply = Did (last_dot entry.range) (length running.messages + 1);
-  text = writes;
+  text = sends.1;
   follows = λ world stands sound. follows_as world (Add number triple) (Did (next_dot adds.before) (length running.messages + 1)) (Did (last_dot entry.range) (length running.messages + 1))
       (stepped_sending running number adds.after entry) (after_step running new sent)
       (λ i. Did (last_dot (sym adds.makes.range i)) (length running.messages + 1))
-      (λ i. after_step running (sym adds.changes.now i) (sym same i))
+      (λ i. after_step running (sym adds.changes.now i) (sym sends.0 i))
       (add_follows running world stands sound number triple adds.before adds.changes.was adds.after entry adds.makes);
+}
+
+-- a clone that is as it was
+unchanged : (clones new : List (Option RunningLive)) (number : ℕ) (before after : RunningLive) → Changes clones new number before after → after ≡ before → new ≡ clones
+unchanged clones new number before after changes same =
+    changes.now ∙ ap (λ (c : Option RunningLive). set clones number c) (ap (λ (c : RunningLive). Some c) same ∙ sym changes.was) ∙ set-get_or clones number None
+
+pub removed : (running : RunningWorld) (number : ℕ) (triple : Triple) (new : List (Option RunningLive)) (sent : List EntryValue) (before after : List ℕ)
+    → RemovesTo running.clones running.messages number triple new sent before after → Stepped running (Remove number triple) (after_step running new sent) before after
+removed running number triple new sent before after (inl (missing, same, writes)) = record {
+  reply = IsAbsent;
+  text = writes;
+  follows = λ world stands sound. follows_as world (Remove number triple) IsAbsent IsAbsent (stepped running) (after_step running new sent) refl
+      (λ i. after_step running (sym missing.same i) (sym same i)) (remove_absent running world stands sound number triple missing.was);
+}
+removed running number triple new sent before after (inr (inl (removes, same, writes))) = record {
+  reply = NoOperation;
+  text = writes;
+  follows = λ world stands sound. follows_as world (Remove number triple) NoOperation NoOperation (stepped running) (after_step running new sent) refl
+      (λ i. after_step running (sym (unchanged running.clones new number removes.before removes.after removes.changes removes.removes.1) i) (sym same i))
+      (remove_nothing running world stands sound number triple removes.before removes.changes.was removes.removes.0);
+}
+removed running number triple new sent before after (inr (inr (entry, removes, sends))) = record {
+  reply = Did (last_dot entry.range) (length running.messages + 1);
+  text = sends.1;
+  follows = λ world stands sound. follows_as world (Remove number triple) (Did (next_dot removes.before) (length running.messages + 1)) (Did (last_dot entry.range) (length running.messages + 1))
+      (stepped_sending running number removes.after entry) (after_step running new sent)
+      (λ i. Did (last_dot (sym removes.removes.makes.range i)) (length running.messages + 1))
+      (λ i. after_step running (sym removes.changes.now i) (sym sends.0 i))
+      (remove_follows running world stands sound number triple removes.before removes.changes.was removes.removes.deletes removes.after entry removes.removes.are removes.removes.some
+      removes.removes.makes);
 }
 
 delivered_to : (running : RunningWorld) (message number : ℕ) (entry : EntryValue) (new : List (Option RunningLive)) (before after : List ℕ)
@@ -139,6 +177,7 @@ compares_as live other words.Same h = inl (h.0, h.1, refl)
 compares_as live other words.Less h = inr (inl (h.0, h.1, refl))
 compares_as live other words.More h = inr (inr (inl (h.0, h.1, refl)))
 compares_as live other words.Apart h = inr (inr (inr (h.0, h.1, refl)))
+compares_as live other words.NoOperation h = absurd h
 compares_as live other words.Known h = absurd h
 compares_as live other words.NoMessage h = absurd h
 compares_as live other words.Absent h = absurd h

@@ -3,9 +3,9 @@ use Rattle.std.specs.Prelude.{◌≡◌, ℕ, zero, suc, ◌+◌, ◌<◌, ◌^�
 use Rattle.rdf_terms.specs.declared.terms.Triple.{Triple}
 use Rattle.mld_ops.specs.Entry.{EntryValue}
 use Rattle.mld_model.specs.declared.Command.{Command}
-use Rattle.mld_model.specs.declared.Command.TheVariants.{Add, Deliver, Show, Compare}
+use Rattle.mld_model.specs.declared.Command.TheVariants.{Add, Remove, Deliver, Show, Compare}
 use Rattle.mld_model.specs.World.{World}
-use Rattle.mld_model.specs.Reply.{Reply, reply_text, Did, Took, AlreadyKnown, Shows, NoMessage, IsAbsent}
+use Rattle.mld_model.specs.Reply.{Reply, reply_text, Did, NoOperation, Took, AlreadyKnown, Shows, NoMessage, IsAbsent}
 use Rattle.mld_model.specs.Runs.{Waits}
 use Rattle.mld_model.specs.Sound.{IsSound}
 use Rattle.mld_model.specs.StandsFor.{RunningLive, RunningWorld, StandsFor}
@@ -14,7 +14,7 @@ use Rattle.tree_clock.specs.Clock.{ticks_of, Covers}
 use Rattle.mld_model.specs.Clone.{last_dot}
 use Rattle.mld_model.specs.Local.{LocallyMakes, LocallyKnown, LocallyReady, LocallyTakes}
 use Rattle.mld.specs.declared.clones.Got.{Got}
-use Rattle.mld.specs.Clones.{Receives}
+use Rattle.mld.specs.Clones.{KnowsItsPairs, Removes, Receives}
 use Rattle.mld.specs.declared.replies.Word.{Word}
 use Rattle.mld.specs.declared.replies.Word.TheVariants as words
 use Rattle.mld.specs.Words.{reply_of}
@@ -42,6 +42,7 @@ pub record MustWait (old : RunningWorld) (command : Command) : Type 0 where
 -- the numbers of clones in a command are 0 to 31
 abbrev pub HasCloneNumbers : Command → Type 0
 HasCloneNumbers (Add number triple) = number < 32
+HasCloneNumbers (Remove number triple) = number < 32
 HasCloneNumbers (Deliver message number) = number < 32
 HasCloneNumbers (Show number) = number < 32
 HasCloneNumbers (Compare number other) = (number < 32) × (other < 32)
@@ -49,6 +50,10 @@ HasCloneNumbers (Compare number other) = (number < 32) × (other < 32)
 -- the clone of the number, where it is live, has a tick left
 abbrev pub HasNextTick : List (Option RunningLive) → ℕ → Type 0
 HasNextTick clones number = (live : RunningLive) → slice_index_or clones number None ≡ Some live → ticks_of live.ticks live.path + 1 < 2 ^ 32
+
+-- the clone of the number, where it is live, knows the dots of its pairs
+abbrev pub KnowsPairsAt : List (Option RunningLive) → ℕ → Type 0
+KnowsPairsAt clones number = (live : RunningLive) → slice_index_or clones number None ≡ Some live → KnowsItsPairs live
 
 -- the entry of a message's number; the first has number 1
 abbrev pub nth_entry : List EntryValue → ℕ → Option EntryValue
@@ -72,6 +77,13 @@ pub record AddsAt (old new : List (Option RunningLive)) (number : ℕ) (triple :
   pub changes : Changes old new number before after
   pub makes : LocallyMakes before [] (triple ∷ []) after entry
 
+-- the clone of the number made the operation that deletes the pairs of the triple, or there were none
+pub record RemovesAt (old new : List (Option RunningLive)) (number : ℕ) (triple : Triple) (made : Option EntryValue) : Type 0 where
+  pub before : RunningLive
+  pub after : RunningLive
+  pub changes : Changes old new number before after
+  pub removes : Removes before triple made after
+
 -- the clone of the number answered the entry
 pub record ReceivesAt (old new : List (Option RunningLive)) (number : ℕ) (entry : EntryValue) (got : Got) : Type 0 where
   pub before : RunningLive
@@ -83,12 +95,22 @@ pub record ReceivesAt (old new : List (Option RunningLive)) (number : ℕ) (entr
 abbrev pub Writes : Reply → List ℕ → List ℕ → Type 0
 Writes reply before after = after ≡ before ++ reply_text reply
 
+-- the entry is the next message, and the reply names the last dot of its range and the message's number
+abbrev pub Sends : List EntryValue → EntryValue → List EntryValue → List ℕ → List ℕ → Type 0
+Sends messages entry sent before after = (sent ≡ messages ++ entry ∷ []) × Writes (Did (last_dot entry.range) (length messages + 1)) before after
+
 -- the clone is absent, or it made the operation and the entry of it was sent
 abbrev pub AddsTo : List (Option RunningLive) → List EntryValue → ℕ → Triple → List (Option RunningLive) → List EntryValue → List ℕ → List ℕ → Type 0
 AddsTo clones messages number triple new sent before after =
     (IsMissing clones new number × (sent ≡ messages) × Writes IsAbsent before after)
-    ⊎ ((entry : EntryValue) × AddsAt clones new number triple entry × (sent ≡ messages ++ entry ∷ [])
-    × Writes (Did (last_dot entry.range) (length messages + 1)) before after)
+    ⊎ ((entry : EntryValue) × AddsAt clones new number triple entry × Sends messages entry sent before after)
+
+-- the clone is absent, or there was no pair of the triple, or it made the operation and the entry of it was sent
+abbrev pub RemovesTo : List (Option RunningLive) → List EntryValue → ℕ → Triple → List (Option RunningLive) → List EntryValue → List ℕ → List ℕ → Type 0
+RemovesTo clones messages number triple new sent before after =
+    (IsMissing clones new number × (sent ≡ messages) × Writes IsAbsent before after)
+    ⊎ ((RemovesAt clones new number triple None × (sent ≡ messages) × Writes NoOperation before after)
+    ⊎ ((entry : EntryValue) × RemovesAt clones new number triple (Some entry) × Sends messages entry sent before after))
 
 -- an entry was sent by the number, and the clone's answer to it was written
 pub record Answered (clones : List (Option RunningLive)) (number : ℕ) (entry : EntryValue) (new : List (Option RunningLive)) (before after : List ℕ) : Type 0 where

@@ -11,6 +11,8 @@ use tree_clock::{Dot, Range};
 /// The replies that are the same words each time.
 #[derive(Clone, Copy, Debug, PartialEq, Eq)]
 pub enum Word {
+    /// `none`: there was nothing to do.
+    NoOperation,
     /// `known`: the range was known.
     Known,
     /// `no message`: no message has the number.
@@ -32,6 +34,7 @@ pub fn push_word(out: &mut Vec<u8>, word: Word) -> Result<(), AllocError>
     ensures { OnOk result (out.new.items ≡ out.old.items ++ reply_text (reply_of word)) }
 {
     match word {
+        Word::NoOperation => out.extend_from_slice(b"none\n"),
         Word::Known => out.extend_from_slice(b"known\n"),
         Word::NoMessage => out.extend_from_slice(b"no message\n"),
         Word::Absent => out.extend_from_slice(b"absent\n"),

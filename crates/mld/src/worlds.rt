@@ -3,10 +3,11 @@ ghost use Rattle.std.specs.Prelude.{◌≡◌, ◌<◌, ◌≤◌, length, vec_l
 ghost use Rattle.std.specs.List.{range_with_len};
 ghost use Rattle.mld_model.specs.World.{founded_path};
 ghost use Rattle.mld_model.specs.StandsFor.{founded_live};
-ghost use Rattle.mld.specs.Worlds.{nth_entry, HasNextTick, IsMissing, AddsAt, AddsTo, ReceivesAt, DeliversTo, WaitsAt, ShowsAt, ComparesAs, ComparesAt};
+ghost use Rattle.mld.specs.Worlds.{nth_entry, HasNextTick, KnowsPairsAt, IsMissing, Sends, AddsAt, AddsTo, RemovesAt, RemovesTo, ReceivesAt, DeliversTo, WaitsAt, ShowsAt, ComparesAs, ComparesAt};
 
 use crate::clones::{Got, LiveClone};
 use crate::replies::{Word, push_did, push_pairs, push_took, push_word};
+use crate::summaries::{Summary, summarize};
 use mld_model::Command;
 use mld_ops::Entry;
 use rdf_terms::{Text, Triple};
@@ -61,6 +62,7 @@ impl World {
     ghost use Rattle.std.specs.Prelude.{◌≡◌, ◌+◌, ◌<◌, ◌≤◌, IfOk, OnOk, IsErrOf};
     ghost use Rattle.mld_model.specs.StandsFor.{founded_running};
     ghost use Rattle.mld.specs.Worlds.{IsStanding, HasCloneNumbers, Stepped, MustWait};
+    ghost use Rattle.mld.specs.Summaries.{SummarizesAll};
 
     /// The founded world: the clones from 0 on are live, each with a leaf of its own, and the others are absent.
     pub fn found(alloc: Global, domain: Text, count: u8) -> Result<World, AllocError>
@@ -74,6 +76,13 @@ impl World {
             messages: Vec::new(alloc),
             steps: 0,
         })
+    }
+
+    /// What there is to tell of the world.
+    pub fn summary(&self, alloc: Global) -> Result<Summary, AllocError>
+        ensures { IfOk result (λ summary. SummarizesAll self.now.clones summary.clones.items) }
+    {
+        summarize(alloc, self.clones.as_slice())
     }
 
     /// Does a command, and adds the text of its reply to the output. After a refusal the world may have done a part of it,
@@ -97,7 +106,10 @@ impl World {
                 let messages = &mut self.messages;
                 Ok(add_to(alloc, &mut self.clones, messages, number, triple, out)?)
             }
-            Command::Remove(_, _) => Err(Refusal::NoMemory),
+            Command::Remove(number, triple) => {
+                let messages = &mut self.messages;
+                Ok(remove_to(alloc, &mut self.clones, messages, number, &triple, out)?)
+            }
             Command::Deliver(message, number) => {
                 let messages = self.messages.as_slice();
                 deliver_to(alloc, &mut self.clones, messages, message, number, out)
@@ -175,16 +187,7 @@ fn add_to(
 {
     match add_at(alloc, clones, number, triple)? {
         None => push_word(out, Word::Absent),
-        Some(entry) => {
-            let range = entry.range();
-            let dot = Dot {
-                path: range.path,
-                tick: range.last,
-            };
-            push_did(alloc, out, &dot, messages.len() + 1)?;
-            messages.push(entry)?;
-            Ok(())
-        }
+        Some(entry) => send_operation(alloc, messages, entry, out),
     }
 }
 
@@ -204,6 +207,66 @@ fn add_at(
         None => Ok(None),
         Some(clone) => Ok(Some(clone.add(alloc, triple)?)),
     }
+}
+
+/// Clone `number` deletes the pairs of a triple, and the entry of that, where there were some, is sent.
+fn remove_to(
+    alloc: Global,
+    clones: &mut Vec<Option<LiveClone>>,
+    messages: &mut Vec<Entry>,
+    number: u8,
+    triple: &Triple,
+    out: &mut Vec<u8>,
+) -> Result<(), AllocError>
+    requires number { number < vec_len clones.old }
+    requires ticks { HasNextTick clones.old.items number }
+    requires pairs { KnowsPairsAt clones.old.items number }
+    ensures count { vec_len clones.new ≡ vec_len clones.old }
+    ensures ok { OnOk result (RemovesTo clones.old.items messages.old.items number triple.now clones.new.items messages.new.items out.old.items out.new.items) }
+{
+    match remove_at(alloc, clones, number, triple)? {
+        None => push_word(out, Word::Absent),
+        Some(None) => push_word(out, Word::NoOperation),
+        Some(Some(entry)) => send_operation(alloc, messages, entry, out),
+    }
+}
+
+/// Clone `number`, where it is live, makes the operation that deletes the pairs of a triple, where there are some.
+fn remove_at(
+    alloc: Global,
+    clones: &mut Vec<Option<LiveClone>>,
+    number: u8,
+    triple: &Triple,
+) -> Result<Option<Option<Entry>>, AllocError>
+    requires number { number < vec_len clones.old }
+    requires ticks { HasNextTick clones.old.items number }
+    requires pairs { KnowsPairsAt clones.old.items number }
+    ensures count { vec_len clones.new ≡ vec_len clones.old }
+    ensures ok { IfOk result (λ made. MatchOption made (IsMissing clones.old.items clones.new.items number) (RemovesAt clones.old.items clones.new.items number triple.now)) }
+{
+    match &mut clones[usize::from(number)] {
+        None => Ok(None),
+        Some(clone) => Ok(Some(clone.remove(alloc, triple)?)),
+    }
+}
+
+/// Sends the entry of an operation that was made: it is the next message, and the reply names its dot and its number.
+fn send_operation(
+    alloc: Global,
+    messages: &mut Vec<Entry>,
+    entry: Entry,
+    out: &mut Vec<u8>,
+) -> Result<(), AllocError>
+    ensures { OnOk result (Sends messages.old.items entry messages.new.items out.old.items out.new.items) }
+{
+    let range = entry.range();
+    let dot = Dot {
+        path: range.path,
+        tick: range.last,
+    };
+    push_did(alloc, out, &dot, messages.len() + 1)?;
+    messages.push(entry)?;
+    Ok(())
 }
 
 /// The entry of a message's number; the first has number 1.

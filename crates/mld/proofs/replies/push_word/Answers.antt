@@ -4,6 +4,10 @@ use Rattle.mld.specs.Words.{reply_of}
 use Rattle.mld.proofs.RepliesShown.{word_pushed}
 use Rattle.mld.proofs.replies.push_word.Goals as goal
 
+pub returns-in-NoOperation : goal.returns-in-NoOperation
+unfolding reply_text
+returns-in-NoOperation c = search rules
+
 pub returns-in-Known : goal.returns-in-Known
 unfolding reply_text
 returns-in-Known c = search rules
