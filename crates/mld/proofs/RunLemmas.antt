@@ -2,16 +2,19 @@
 use Rattle.std.proofs.Common.{◌≡◌, ◌≢◌, ℕ, ◌+◌, ◌≤◌, ◌<◌, List, [], ◌∷◌, ◌++◌, ◌↔◌, inl, inr, refl, sym, ◌∙◌, ap, arith, subst, length, Option, None, Some, append_assoc, append-nil, length-append, get_or, map, Bool, Ok, Err, Result}
 use Rattle.std.specs.Prelude.{IsTrue, nat_eq}
 use Rattle.std.specs.Cmp.Lexicographic.{pointwise}
+use Rattle.std.proofs.lemmas.Bool.Decides.{eqb_tells}
 use Rattle.tree_clock.specs.DotLaws.{path_eq-Decides}
-use Rattle.mld_io.specs.Lines.{LinesValue, NextLine}
+use Rattle.mld_io.specs.declared.faults.LineFault.{LineFault}
+use Rattle.mld_io.specs.declared.faults.LineFault.TheVariants as line_faults
+use Rattle.mld_io.specs.Lines.{LinesValue, NextLine, IsTooLarge}
 use Rattle.std.specs.Io.KnownBytes.{Appends}
-use Rattle.mld_io.specs.Lines.{lines_of, after_line}
+use Rattle.mld_io.specs.Lines.{lines_of, after_line, line_size}
 use Rattle.mld_io.specs.LinesLaws.{first_of_lines_lem}
 use Rattle.mld_model.specs.World.{World}
 use Rattle.mld_model.specs.Runs.{Stage, Waiting, Running, Acts, Runs, IsBad, IsUnbuilt, Before, Outcome, Finished, BadLine, UnbuiltLine, Verdict}
 use Rattle.mld_model.specs.Sound.{IsSound}
 use Rattle.mld_model.specs.StandsFor.{RunningWorld, StandsFor}
-use Rattle.mld.specs.Ran.{Finishes, StopsAtBad, StopsAtUnbuilt, StageStands, IsStandingStage, ActsWell, TakesLine, IfSomeLine, Agrees, steps_of}
+use Rattle.mld.specs.Ran.{Finishes, StopsAtBad, StopsAtUnbuilt, StopsAtLarge, StageStands, IsStandingStage, ActsWell, TakesLine, BreaksLimits, IfSomeLine, Agrees, steps_of}
 use Rattle.mld_model.specs.declared.Command.{Command}
 use Rattle.mld_model.specs.World.{founded}
 use Rattle.mld_model.specs.Reply.{Ready, reply_text}
@@ -57,48 +60,79 @@ appends_nothing None = tt
 appends_nothing (Some xs) = sym (append-nil xs)
 
 -- nothing is done yet
-pub under_way_first : (given before : Option (List ℕ)) → IsUnderWay given given before before None 0
-under_way_first given before = record {
-  lines = [];
-  text = [];
-  stage = Waiting;
-  counted = refl;
-  runs = (refl, refl);
-  stands = tt;
-  steps = omega arith;
-  left_of = λ bytes is. record { rest = bytes; is = is; whole = refl };
-  written = appends_nothing before;
-}
+pub under_way_first : (given before : Option (List ℕ)) (size : ℕ) (world : Option RunningWorld) → size ≡ 0 → world ≡ None → IsUnderWay given given before before size world 0
+under_way_first given before size world nothing none =
+  let P : Option RunningWorld → Type 0 = λ w. IsUnderWay given given before before size w 0 in
+  subst P (sym none) (record {
+    lines = [];
+    text = [];
+    stage = Waiting;
+    counted = refl;
+    runs = (refl, refl);
+    stands = tt;
+    steps = omega arith;
+    left_of = λ bytes is. record { front = []; rest = bytes; is = is; split = refl; counted = sym nothing; whole = refl };
+    written = appends_nothing before;
+  })
+
+-- the bytes of the first line, and those behind it
+record IsHead (bytes head : List ℕ) : Type 0 where
+  pub split : bytes ≡ head ++ after_line bytes
+  pub counted : length head ≡ line_size bytes
+
+head_of : (bytes : List ℕ) → (head : List ℕ) × IsHead bytes head
+head_of [] = ([], record { split = refl; counted = refl })
+head_of (b ∷ bs) = elim (eqb_tells b 10) [
+  | inl e ↦ (b ∷ [], record { split = rw e.0 refl; counted = rw e.0 refl })
+  | inr e ↦
+      let rest = head_of bs in
+      (b ∷ rest.0, record { split = rw e.0 (ap (λ (t : List ℕ). b ∷ t) rest.1.split); counted = rw e.0 (let h = rest.1.counted in omega (arith, h)) })
+]
 
 -- the lines done, and the next line that was taken
-taken_left : (given left : Option (List ℕ)) (lines : List (List ℕ)) (line : List ℕ) (rest : Option (List ℕ)) → ((bytes : List ℕ) → given ≡ Some bytes → IsLeft bytes left lines)
-    → ((bytes : List ℕ) → left ≡ Some bytes → TakesLine bytes rest (Some line)) → (bytes : List ℕ) → given ≡ Some bytes → IsLeft bytes rest (lines ++ line ∷ [])
-taken_left given left lines line rest left_of takes bytes is =
-    let before : IsLeft bytes left lines = left_of bytes is in
-    let taken : TakesLine before.rest rest (Some line) = takes before.rest before.is in
+taken_left : (given left : Option (List ℕ)) (size grown : ℕ) (lines : List (List ℕ)) (line : List ℕ) (rest : Option (List ℕ)) → ((bytes : List ℕ) → given ≡ Some bytes → IsLeft bytes left size lines)
+    → ((bytes : List ℕ) → left ≡ Some bytes → TakesLine size bytes rest grown (Some line)) → (bytes : List ℕ) → given ≡ Some bytes → IsLeft bytes rest grown (lines ++ line ∷ [])
+taken_left given left size grown lines line rest left_of takes bytes is =
+    let before : IsLeft bytes left size lines = left_of bytes is in
+    let taken : TakesLine size before.rest rest grown (Some line) = takes before.rest before.is in
+    let head = head_of before.rest in
     record {
+      front = before.front ++ head.0;
       rest = after_line before.rest;
       is = taken.2;
+      split = before.split ∙ ap (λ (t : List ℕ). before.front ++ t) head.1.split ∙ sym (append_assoc before.front head.0 (after_line before.rest));
+      counted = omega (arith, length-append before.front head.0, before.counted, head.1.counted, taken.3);
       whole = before.whole ∙ ap (λ ls. lines ++ ls) (first_of_lines_lem before.rest taken.0 ∙ ap (λ l. l ∷ lines_of (after_line before.rest)) (sym taken.1))
           ∙ sym (append_assoc lines (line ∷ []) (lines_of (after_line before.rest)));
     }
 
 -- a line was taken, said of an equal line
-pub takes_some : (left rest line : Option (List ℕ)) (piece text : List ℕ) → line ≡ Some piece → text ≡ piece
-    → ((bytes : List ℕ) → left ≡ Some bytes → TakesLine bytes rest line) → (bytes : List ℕ) → left ≡ Some bytes → TakesLine bytes rest (Some text)
-takes_some left rest line piece text is same takes bytes told =
-    let P : Option (List ℕ) → Type 0 = λ o. TakesLine bytes rest o in
-    let Q : List ℕ → Type 0 = λ t. TakesLine bytes rest (Some t) in
+pub takes_some : (left rest line : Option (List ℕ)) (size grown : ℕ) (piece text : List ℕ) → line ≡ Some piece → text ≡ piece
+    → ((bytes : List ℕ) → left ≡ Some bytes → TakesLine size bytes rest grown line) → (bytes : List ℕ) → left ≡ Some bytes → TakesLine size bytes rest grown (Some text)
+takes_some left rest line size grown piece text is same takes bytes told =
+    let P : Option (List ℕ) → Type 0 = λ o. TakesLine size bytes rest grown o in
+    let Q : List ℕ → Type 0 = λ t. TakesLine size bytes rest grown (Some t) in
     subst Q (sym same) (subst P is (takes bytes told))
 
-pub takes_none : (left rest line : Option (List ℕ)) → line ≡ None
-    → ((bytes : List ℕ) → left ≡ Some bytes → TakesLine bytes rest line) → (bytes : List ℕ) → left ≡ Some bytes → TakesLine bytes rest None
-takes_none left rest line is takes bytes told = let P : Option (List ℕ) → Type 0 = λ o. TakesLine bytes rest o in subst P is (takes bytes told)
+pub takes_none : (left rest line : Option (List ℕ)) (size grown : ℕ) → line ≡ None
+    → ((bytes : List ℕ) → left ≡ Some bytes → TakesLine size bytes rest grown line) → (bytes : List ℕ) → left ≡ Some bytes → TakesLine size bytes rest grown None
+takes_none left rest line size grown is takes bytes told = let P : Option (List ℕ) → Type 0 = λ o. TakesLine size bytes rest grown o in subst P is (takes bytes told)
 
 -- what a call for the next line says of a line
-pub takes_line : (lines : LinesValue) (bytes : List ℕ) (line : Option (List ℕ)) (taken : ℕ) (left : Option (List ℕ)) → NextLine lines bytes (Ok line) taken left → TakesLine bytes left line
+pub takes_line : (lines : LinesValue) (bytes : List ℕ) (line : Option (List ℕ)) (taken : ℕ) (left : Option (List ℕ)) → NextLine lines bytes (Ok line) taken left → TakesLine lines.taken bytes left taken line
 takes_line lines bytes None taken left next = (next.empty, next.none_left)
-takes_line lines bytes (Some piece) taken left next = (next.some, next.piece_is, next.left_is)
+takes_line lines bytes (Some piece) taken left next = (next.some, next.piece_is, next.left_is, next.taken_is)
+
+-- and of one that is too large
+pub breaks_limits : (lines : LinesValue) (bytes : List ℕ) (fault : LineFault) (taken : ℕ) (left : Option (List ℕ)) → lines.line ≡ 1048576 → lines.all ≡ 16777216
+    → fault ≡ line_faults.TooLarge → NextLine lines bytes (Err fault) taken left → BreaksLimits lines.taken bytes
+breaks_limits lines bytes fault taken left line all is next =
+    let P : LineFault → Type 0 = λ f. NextLine lines bytes (Err f) taken left in
+    let large : IsTooLarge lines bytes = subst P is next in
+    record {
+      some = large.some;
+      too_large = λ fits. large.too_large (record { in_line = omega (arith, line, fits.0); in_all = omega (arith, all, fits.1) });
+    }
 
 -- the one word of a list is the text, or the list is another
 pub one_word : {X : Type 0} (f : X → List ℕ) (words : List X) (word : X) (spelled text : List ℕ) (same : Bool) → 1 ≤ length words → length words < 2
@@ -113,12 +147,12 @@ one_word f (first ∷ []) word spelled text same some few is spells tests =
 one_word f (first ∷ second ∷ words) word spelled text same some few is spells tests = absurd (omega (arith, few))
 
 -- one more line is done
-pub under_way_more : (given left rest before now after : Option (List ℕ)) (world next : Option RunningWorld) (done : ℕ) (line text : List ℕ)
-    → IsUnderWay given left before now world done
-    → ((bytes : List ℕ) → left ≡ Some bytes → TakesLine bytes rest (Some line))
+pub under_way_more : (given left rest before now after : Option (List ℕ)) (size grown : ℕ) (world next : Option RunningWorld) (done : ℕ) (line text : List ℕ)
+    → IsUnderWay given left before now size world done
+    → ((bytes : List ℕ) → left ≡ Some bytes → TakesLine size bytes rest grown (Some line))
     → ((stage : Stage) → StageStands world stage → ActsWell stage line text next) → steps_of next ≤ steps_of world + 1
-    → Appends now after text → IsUnderWay given rest before after next (done + 1)
-under_way_more given left rest before now after world next done line text way takes acts few writes =
+    → Appends now after text → IsUnderWay given rest before after grown next (done + 1)
+under_way_more given left rest before now after size grown world next done line text way takes acts few writes =
     let act : ActsWell way.stage line text next = acts way.stage way.stands in
     record {
       lines = way.lines ++ line ∷ [];
@@ -128,39 +162,39 @@ under_way_more given left rest before now after world next done line text way ta
       runs = runs_more Waiting way.stage act.next way.lines way.text line text way.runs act.acts;
       stands = act.stands;
       steps = omega (arith, few, way.steps);
-      left_of = taken_left given left way.lines line rest way.left_of takes;
+      left_of = taken_left given left size grown way.lines line rest way.left_of takes;
       written = appends_more before now after way.text text way.written writes;
     }
 
 -- the state stands for some stage
-pub standing_from : (given left before now : Option (List ℕ)) (world : Option RunningWorld) (done : ℕ) → IsUnderWay given left before now world done → IsStandingStage world
-standing_from given left before now world done way = record { stage = way.stage; stands = way.stands }
+pub standing_from : (given left before now : Option (List ℕ)) (size : ℕ) (world : Option RunningWorld) (done : ℕ) → IsUnderWay given left before now size world done → IsStandingStage world
+standing_from given left before now size world done way = record { stage = way.stage; stands = way.stands }
 
 end_of : (bytes : List ℕ) (rest before now : Option (List ℕ)) (running : RunningWorld) (lines : List (List ℕ)) (text : List ℕ) (stage : Stage) → StageStands (Some running) stage
-    → Runs Waiting lines text stage → lines_of bytes ≡ lines → rest ≡ Some [] → Appends before now text → Finishes bytes rest before now
+    → Runs Waiting lines text stage → lines_of bytes ≡ lines → rest ≡ Some [] → Appends before now text → Finishes (StageStands (Some running)) bytes rest before now
 unfolding Verdict
 end_of bytes rest before now running lines text Waiting stands runs whole all written = absurd stands
 end_of bytes rest before now running lines text (Running world) stands runs whole all written =
     let P : List (List ℕ) → Type 0 = λ ls. Runs Waiting ls text (Running world) in
-    record { text = text; world = world; verdict = subst P (sym whole) runs; sound = stands.1; all = all; written = written }
+    record { text = text; world = world; verdict = subst P (sym whole) runs; sound = stands.1; all = all; written = written; holds = stands }
 
 -- the source is at its end, and a world runs
-pub finishes : (given left rest before now : Option (List ℕ)) (running : RunningWorld) (done : ℕ) → IsUnderWay given left before now (Some running) done
-    → ((bytes : List ℕ) → left ≡ Some bytes → TakesLine bytes rest None) → (bytes : List ℕ) → given ≡ Some bytes → Finishes bytes rest before now
+pub finishes : (given left rest before now : Option (List ℕ)) (size grown : ℕ) (running : RunningWorld) (done : ℕ) → IsUnderWay given left before now size (Some running) done
+    → ((bytes : List ℕ) → left ≡ Some bytes → TakesLine size bytes rest grown None) → (bytes : List ℕ) → given ≡ Some bytes → Finishes (StageStands (Some running)) bytes rest before now
 unfolding Verdict
-finishes given left rest before now running done way takes bytes is =
-    let at : IsLeft bytes left way.lines = way.left_of bytes is in
-    let end : TakesLine at.rest rest None = takes at.rest at.is in
+finishes given left rest before now size grown running done way takes bytes is =
+    let at : IsLeft bytes left size way.lines = way.left_of bytes is in
+    let end : TakesLine size at.rest rest grown None = takes at.rest at.is in
     let lines : lines_of bytes ≡ way.lines = at.whole ∙ ap (λ b. way.lines ++ lines_of b) end.0 ∙ append-nil way.lines in
     end_of bytes rest before now running way.lines way.text way.stage way.stands way.runs lines end.1 way.written
 
 -- the source is at its end, and no line was a domain line
-pub ends_waiting : (given left rest before now : Option (List ℕ)) (done : ℕ) → IsUnderWay given left before now None done
-    → ((bytes : List ℕ) → left ≡ Some bytes → TakesLine bytes rest None) → (bytes : List ℕ) → given ≡ Some bytes → StopsAtBad bytes (done + 1) before now
+pub ends_waiting : (given left rest before now : Option (List ℕ)) (size grown : ℕ) (done : ℕ) → IsUnderWay given left before now size None done
+    → ((bytes : List ℕ) → left ≡ Some bytes → TakesLine size bytes rest grown None) → (bytes : List ℕ) → given ≡ Some bytes → StopsAtBad (StageStands None) bytes (done + 1) before now
 unfolding Verdict
-ends_waiting given left rest before now done way takes bytes is =
-    let at : IsLeft bytes left way.lines = way.left_of bytes is in
-    let end : TakesLine at.rest rest None = takes at.rest at.is in
+ends_waiting given left rest before now size grown done way takes bytes is =
+    let at : IsLeft bytes left size way.lines = way.left_of bytes is in
+    let end : TakesLine size at.rest rest grown None = takes at.rest at.is in
     record {
       text = way.text;
       stage = way.stage;
@@ -169,6 +203,7 @@ ends_waiting given left rest before now done way takes bytes is =
         bad = inr (ap lines_of end.0, waiting way.stage way.stands);
       };
       written = way.written;
+      holds = way.stands;
     }
   where
     waiting : (stage : Stage) → StageStands None stage → stage ≡ Waiting
@@ -176,33 +211,52 @@ ends_waiting given left rest before now done way takes bytes is =
     waiting (Running world) stands = absurd stands
 
 -- the lines before a line that was taken
-before_line : (given left rest before now : Option (List ℕ)) (world : Option RunningWorld) (done : ℕ) (line : List ℕ) → (way : IsUnderWay given left before now world done)
-    → ((bytes : List ℕ) → left ≡ Some bytes → TakesLine bytes rest (Some line)) → (bytes : List ℕ) → given ≡ Some bytes
+before_line : (given left rest before now : Option (List ℕ)) (size grown : ℕ) (world : Option RunningWorld) (done : ℕ) (line : List ℕ) → (way : IsUnderWay given left before now size world done)
+    → ((bytes : List ℕ) → left ≡ Some bytes → TakesLine size bytes rest grown (Some line)) → (bytes : List ℕ) → given ≡ Some bytes
     → (b : Before (lines_of bytes) (done + 1) way.text way.stage) × ((others : List (List ℕ)) × (b.rest ≡ line ∷ others))
-before_line given left rest before now world done line way takes bytes is =
-    let at : IsLeft bytes left way.lines = way.left_of bytes is in
-    let taken : TakesLine at.rest rest (Some line) = takes at.rest at.is in (
+before_line given left rest before now size grown world done line way takes bytes is =
+    let at : IsLeft bytes left size way.lines = way.left_of bytes is in
+    let taken : TakesLine size at.rest rest grown (Some line) = takes at.rest at.is in (
       record { front = way.lines; rest = lines_of at.rest; whole = at.whole; counted = ap (λ n. n + 1) way.counted; runs = way.runs },
       (lines_of (after_line at.rest), first_of_lines_lem at.rest taken.0 ∙ ap (λ l. l ∷ lines_of (after_line at.rest)) (sym taken.1)),
     )
 
 -- a line that was taken is bad
-pub stops_bad : (given left rest before now : Option (List ℕ)) (world : Option RunningWorld) (done : ℕ) (line : List ℕ) → IsUnderWay given left before now world done
-    → ((bytes : List ℕ) → left ≡ Some bytes → TakesLine bytes rest (Some line)) → ((stage : Stage) → StageStands world stage → IsBad stage line)
-    → (bytes : List ℕ) → given ≡ Some bytes → StopsAtBad bytes (done + 1) before now
+pub stops_bad : (given left rest before now : Option (List ℕ)) (size grown : ℕ) (world : Option RunningWorld) (done : ℕ) (line : List ℕ) → IsUnderWay given left before now size world done
+    → ((bytes : List ℕ) → left ≡ Some bytes → TakesLine size bytes rest grown (Some line)) → ((stage : Stage) → StageStands world stage → IsBad stage line)
+    → (bytes : List ℕ) → given ≡ Some bytes → StopsAtBad (StageStands world) bytes (done + 1) before now
 unfolding Verdict
-stops_bad given left rest before now world done line way takes bad bytes is =
-    let b = before_line given left rest before now world done line way takes bytes is in
-    record { text = way.text; stage = way.stage; verdict = record { before = b.0; bad = inl (line, b.1, bad way.stage way.stands) }; written = way.written }
+stops_bad given left rest before now size grown world done line way takes bad bytes is =
+    let b = before_line given left rest before now size grown world done line way takes bytes is in
+    record { text = way.text; stage = way.stage; verdict = record { before = b.0; bad = inl (line, b.1, bad way.stage way.stands) }; written = way.written; holds = way.stands }
 
 -- a line that was taken isn't built
-pub stops_unbuilt : (given left rest before now : Option (List ℕ)) (world : Option RunningWorld) (done : ℕ) (line : List ℕ) → IsUnderWay given left before now world done
-    → ((bytes : List ℕ) → left ≡ Some bytes → TakesLine bytes rest (Some line)) → ((stage : Stage) → StageStands world stage → IsUnbuilt stage line)
+pub stops_unbuilt : (given left rest before now : Option (List ℕ)) (size grown : ℕ) (world : Option RunningWorld) (done : ℕ) (line : List ℕ) → IsUnderWay given left before now size world done
+    → ((bytes : List ℕ) → left ≡ Some bytes → TakesLine size bytes rest grown (Some line)) → ((stage : Stage) → StageStands world stage → IsUnbuilt stage line)
     → (bytes : List ℕ) → given ≡ Some bytes → StopsAtUnbuilt bytes (done + 1) before now
 unfolding Verdict
-stops_unbuilt given left rest before now world done line way takes unbuilt bytes is =
-    let b = before_line given left rest before now world done line way takes bytes is in
+stops_unbuilt given left rest before now size grown world done line way takes unbuilt bytes is =
+    let b = before_line given left rest before now size grown world done line way takes bytes is in
     record { text = way.text; stage = way.stage; verdict = record { before = b.0; line = line; first = b.1; unbuilt = unbuilt way.stage way.stands }; written = way.written }
+
+-- the line of the number is too large
+pub stops_large : (given left before now : Option (List ℕ)) (size : ℕ) (world : Option RunningWorld) (done number : ℕ) → IsUnderWay given left before now size world done → number ≡ done + 1
+    → ((bytes : List ℕ) → left ≡ Some bytes → BreaksLimits size bytes) → (bytes : List ℕ) → given ≡ Some bytes → StopsAtLarge (StageStands world) bytes number before now
+stops_large given left before now size world done number way counts breaks bytes is =
+    let at : IsLeft bytes left size way.lines = way.left_of bytes is in
+    let P : ℕ → Type 0 = λ n. BreaksLimits n at.rest in
+    record {
+      text = way.text;
+      stage = way.stage;
+      lines = record { front = way.lines; rest = lines_of at.rest; whole = at.whole; counted = counts ∙ ap (λ n. n + 1) way.counted; runs = way.runs };
+      front = at.front;
+      rest = at.rest;
+      whole = at.split;
+      next = refl;
+      large = subst P (sym at.counted) (breaks at.rest at.is);
+      written = way.written;
+      holds = way.stands;
+    }
 
 -- a line of a world that runs
 
@@ -269,62 +323,69 @@ running_stage_at P state running is h stage stands = let Q : Option RunningWorld
 
 -- the run ends as the verdict says
 
-pub agrees_finished : (bytes : List ℕ) (left before now : Option (List ℕ)) → Finishes bytes left before now → (outcome : Outcome) → Verdict (lines_of bytes) outcome → Agrees None outcome
-agrees_finished bytes left before now ends outcome verdict =
-    let P : Outcome → Type 0 = λ o. Agrees None o in
-    subst P (one_verdict (lines_of bytes) (Finished ends.text ends.world) outcome ends.verdict verdict) tt
+pub agrees_finished : (P : Stage → Type 0) (bytes : List ℕ) (left before now : Option (List ℕ)) → Finishes P bytes left before now → (outcome : Outcome) → Verdict (lines_of bytes) outcome → Agrees None outcome
+agrees_finished P bytes left before now ends outcome verdict =
+    let Q : Outcome → Type 0 = λ o. Agrees None o in
+    subst Q (one_verdict (lines_of bytes) (Finished ends.text ends.world) outcome ends.verdict verdict) tt
 
-pub agrees_fault : (bytes : List ℕ) (before now : Option (List ℕ)) (fault : RunFault) → (fault ≢ faults.Usage)
-    → ((line : ℕ) → fault ≡ faults.BadLine line → StopsAtBad bytes line before now) → ((line : ℕ) → fault ≡ faults.Unbuilt line → StopsAtUnbuilt bytes line before now)
+pub agrees_fault : (P : Stage → Type 0) (bytes : List ℕ) (before now : Option (List ℕ)) (fault : RunFault) → (fault ≢ faults.Usage)
+    → ((line : ℕ) → fault ≡ faults.BadLine line → StopsAtBad P bytes line before now) → ((line : ℕ) → fault ≡ faults.Unbuilt line → StopsAtUnbuilt bytes line before now)
     → (outcome : Outcome) → Verdict (lines_of bytes) outcome → Agrees (Some fault) outcome
-agrees_fault bytes before now faults.Usage usage bad unbuilt outcome verdict = absurd (usage refl)
-agrees_fault bytes before now faults.ReadFault usage bad unbuilt outcome verdict = tt
-agrees_fault bytes before now faults.WriteFault usage bad unbuilt outcome verdict = tt
-agrees_fault bytes before now faults.NoMemory usage bad unbuilt outcome verdict = tt
-agrees_fault bytes before now (faults.TooLarge line) usage bad unbuilt outcome verdict = tt
-agrees_fault bytes before now (faults.BadLine line) usage bad unbuilt outcome verdict =
-    let ends : StopsAtBad bytes line before now = bad line refl in
-    let P : Outcome → Type 0 = λ o. Agrees (Some (faults.BadLine line)) o in
-    subst P (one_verdict (lines_of bytes) (BadLine line ends.text ends.stage) outcome ends.verdict verdict) refl
-agrees_fault bytes before now (faults.Unbuilt line) usage bad unbuilt outcome verdict =
+agrees_fault P bytes before now faults.Usage usage bad unbuilt outcome verdict = absurd (usage refl)
+agrees_fault P bytes before now faults.ReadFault usage bad unbuilt outcome verdict = tt
+agrees_fault P bytes before now faults.WriteFault usage bad unbuilt outcome verdict = tt
+agrees_fault P bytes before now faults.NoMemory usage bad unbuilt outcome verdict = tt
+agrees_fault P bytes before now (faults.TooLarge line) usage bad unbuilt outcome verdict = tt
+agrees_fault P bytes before now (faults.BadLine line) usage bad unbuilt outcome verdict =
+    let ends : StopsAtBad P bytes line before now = bad line refl in
+    let Q : Outcome → Type 0 = λ o. Agrees (Some (faults.BadLine line)) o in
+    subst Q (one_verdict (lines_of bytes) (BadLine line ends.text ends.stage) outcome ends.verdict verdict) refl
+agrees_fault P bytes before now (faults.Unbuilt line) usage bad unbuilt outcome verdict =
     let ends : StopsAtUnbuilt bytes line before now = unbuilt line refl in
-    let P : Outcome → Type 0 = λ o. Agrees (Some (faults.Unbuilt line)) o in
-    subst P (one_verdict (lines_of bytes) (UnbuiltLine line ends.text ends.stage) outcome ends.verdict verdict) refl
+    let Q : Outcome → Type 0 = λ o. Agrees (Some (faults.Unbuilt line)) o in
+    subst Q (one_verdict (lines_of bytes) (UnbuiltLine line ends.text ends.stage) outcome ends.verdict verdict) refl
 
 -- a line that was taken and not done, said of equal values
 
-pub stops_bad_at : (given left rest before now : Option (List ℕ)) (world : Option RunningWorld) (done : ℕ) (taken : Option (List ℕ)) (piece line : List ℕ) (at : ℕ)
-    → IsUnderWay given left before now world done → taken ≡ Some piece → line ≡ piece → ((bytes : List ℕ) → left ≡ Some bytes → TakesLine bytes rest taken)
-    → at ≡ done + 1 → ((stage : Stage) → StageStands world stage → IsBad stage line)
-    → (bytes : List ℕ) → given ≡ Some bytes → StopsAtBad bytes at before now
-stops_bad_at given left rest before now world done taken piece line at way is same takes counts bad bytes told =
-    let P : ℕ → Type 0 = λ n. StopsAtBad bytes n before now in
-    subst P (sym counts) (stops_bad given left rest before now world done line way (takes_some left rest taken piece line is same takes) bad bytes told)
+pub stops_bad_at : (given left rest before now : Option (List ℕ)) (size grown : ℕ) (world : Option RunningWorld) (done : ℕ) (taken : Option (List ℕ)) (piece line : List ℕ) (at : ℕ)
+    → IsUnderWay given left before now size world done → taken ≡ Some piece → line ≡ piece → ((bytes : List ℕ) → left ≡ Some bytes → TakesLine size bytes rest grown taken)
+    → at ≡ done + 1 → ((stage : Stage) → StageStands world stage → IsBad stage line) → (next : Option RunningWorld) → next ≡ world
+    → (bytes : List ℕ) → given ≡ Some bytes → StopsAtBad (StageStands next) bytes at before now
+stops_bad_at given left rest before now size grown world done taken piece line at way is same takes counts bad next kept bytes told =
+    let P : ℕ → Type 0 = λ n. StopsAtBad (StageStands world) bytes n before now in
+    let Q : Option RunningWorld → Type 0 = λ w. StopsAtBad (StageStands w) bytes at before now in
+    subst Q (sym kept) (subst P (sym counts) (stops_bad given left rest before now size grown world done line way (takes_some left rest taken size grown piece line is same takes) bad bytes told))
 
-pub stops_unbuilt_at : (given left rest before now : Option (List ℕ)) (world : Option RunningWorld) (done : ℕ) (taken : Option (List ℕ)) (piece line : List ℕ) (at : ℕ)
-    → IsUnderWay given left before now world done → taken ≡ Some piece → line ≡ piece → ((bytes : List ℕ) → left ≡ Some bytes → TakesLine bytes rest taken)
+pub stops_unbuilt_at : (given left rest before now : Option (List ℕ)) (size grown : ℕ) (world : Option RunningWorld) (done : ℕ) (taken : Option (List ℕ)) (piece line : List ℕ) (at : ℕ)
+    → IsUnderWay given left before now size world done → taken ≡ Some piece → line ≡ piece → ((bytes : List ℕ) → left ≡ Some bytes → TakesLine size bytes rest grown taken)
     → at ≡ done + 1 → ((stage : Stage) → StageStands world stage → IsUnbuilt stage line)
     → (bytes : List ℕ) → given ≡ Some bytes → StopsAtUnbuilt bytes at before now
-stops_unbuilt_at given left rest before now world done taken piece line at way is same takes counts unbuilt bytes told =
+stops_unbuilt_at given left rest before now size grown world done taken piece line at way is same takes counts unbuilt bytes told =
     let P : ℕ → Type 0 = λ n. StopsAtUnbuilt bytes n before now in
-    subst P (sym counts) (stops_unbuilt given left rest before now world done line way (takes_some left rest taken piece line is same takes) unbuilt bytes told)
+    subst P (sym counts) (stops_unbuilt given left rest before now size grown world done line way (takes_some left rest taken size grown piece line is same takes) unbuilt bytes told)
 
 -- the state at the end of the source, said of an equal state
 
-pub finishes_at : (given left rest before now : Option (List ℕ)) (world : Option RunningWorld) (running : RunningWorld) (done : ℕ) (taken : Option (List ℕ))
-    → IsUnderWay given left before now world done → world ≡ Some running → taken ≡ None → ((bytes : List ℕ) → left ≡ Some bytes → TakesLine bytes rest taken)
-    → (bytes : List ℕ) → given ≡ Some bytes → Finishes bytes rest before now
-finishes_at given left rest before now world running done taken way is none takes bytes told =
-    let P : Option RunningWorld → Type 0 = λ w. IsUnderWay given left before now w done in
-    finishes given left rest before now running done (subst P is way) (takes_none left rest taken none takes) bytes told
+pub finishes_at : (given left rest before now : Option (List ℕ)) (size grown : ℕ) (world : Option RunningWorld) (running : RunningWorld) (done : ℕ) (taken : Option (List ℕ))
+    → IsUnderWay given left before now size world done → world ≡ Some running → taken ≡ None → ((bytes : List ℕ) → left ≡ Some bytes → TakesLine size bytes rest grown taken)
+    → (bytes : List ℕ) → given ≡ Some bytes → Finishes (StageStands world) bytes rest before now
+finishes_at given left rest before now size grown world running done taken way is none takes bytes told =
+    let P : Option RunningWorld → Type 0 = λ w. IsUnderWay given left before now size w done in
+    let Q : Option RunningWorld → Type 0 = λ w. Finishes (StageStands w) bytes rest before now in
+    subst Q (sym is) (finishes given left rest before now size grown running done (subst P is way) (takes_none left rest taken size grown none takes) bytes told)
 
-pub ends_waiting_at : (given left rest before now : Option (List ℕ)) (world : Option RunningWorld) (done : ℕ) (taken : Option (List ℕ)) (at : ℕ)
-    → IsUnderWay given left before now world done → world ≡ None → taken ≡ None → ((bytes : List ℕ) → left ≡ Some bytes → TakesLine bytes rest taken) → at ≡ done + 1
-    → (bytes : List ℕ) → given ≡ Some bytes → StopsAtBad bytes at before now
-ends_waiting_at given left rest before now world done taken at way is none takes counts bytes told =
-    let P : Option RunningWorld → Type 0 = λ w. IsUnderWay given left before now w done in
-    let Q : ℕ → Type 0 = λ n. StopsAtBad bytes n before now in
-    subst Q (sym counts) (ends_waiting given left rest before now done (subst P is way) (takes_none left rest taken none takes) bytes told)
+pub ends_waiting_at : (given left rest before now : Option (List ℕ)) (size grown : ℕ) (world : Option RunningWorld) (done : ℕ) (taken : Option (List ℕ)) (at : ℕ)
+    → IsUnderWay given left before now size world done → world ≡ None → taken ≡ None → ((bytes : List ℕ) → left ≡ Some bytes → TakesLine size bytes rest grown taken) → at ≡ done + 1
+    → (bytes : List ℕ) → given ≡ Some bytes → StopsAtBad (StageStands world) bytes at before now
+ends_waiting_at given left rest before now size grown world done taken at way is none takes counts bytes told =
+    let P : Option RunningWorld → Type 0 = λ w. IsUnderWay given left before now size w done in
+    let Q : ℕ → Type 0 = λ n. StopsAtBad (StageStands world) bytes n before now in
+    let R : Option RunningWorld → Type 0 = λ w. StopsAtBad (StageStands w) bytes (done + 1) before now in
+    subst Q (sym counts) (subst R (sym is) (ends_waiting given left rest before now size grown done (subst P is way) (takes_none left rest taken size grown none takes) bytes told))
+
+-- the fault of a line that is too large names the line
+pub large_number : (number at : ℕ) → ◌≡◌ {A = Result (Option (List ℕ)) RunFault} (Err (faults.TooLarge number)) (Err (faults.TooLarge at)) → at ≡ number
+large_number number at same = cc
 
 -- which line a fault names
 pub same_bad : (line other : ℕ) → ◌≡◌ {A = Result (Unit {0}) RunFault} (Err (faults.BadLine line)) (Err (faults.BadLine other)) → other ≡ line

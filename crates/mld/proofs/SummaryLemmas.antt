@@ -1,5 +1,6 @@
 -- What is told of clones is told of the clones that they stand for.
-use Rattle.std.proofs.Common.{◌≡◌, ◌∙◌, ◌<◌, ◌+◌, ℕ, zero, suc, List, [], ◌∷◌, ◌++◌, ◌↔◌, sym, subst, refl, length, get_or, take, Option, Some, None, arith}
+use Rattle.std.specs.Prelude.{IsTrue}
+use Rattle.std.proofs.Common.{◌≡◌, ◌≢◌, ◌∙◌, inl, inr, ap, Bool, true, false, ◌<◌, ◌+◌, ℕ, zero, suc, List, [], ◌∷◌, ◌++◌, ◌↔◌, sym, subst, refl, length, get_or, take, Option, Some, None, arith}
 use Rattle.std.proofs.lemmas.List.{take_more}
 use Rattle.tree_clock.specs.declared.dots.Dot.{Dot}
 use Rattle.tree_clock.specs.Dot.{Knows}
@@ -14,7 +15,10 @@ use Rattle.mld_model.specs.StandsFor.{RunningLive, RunningWorld, LiveStandsFor, 
 use Rattle.mld.specs.declared.summaries.CloneSummary.{CloneSummary}
 use Rattle.mld.specs.declared.summaries.Summary.{Summary}
 use Rattle.mld.specs.Summaries.{IsBlank, TellsOfLive, TellsOfClone, TellsOfClones, TellsOf, IsSummaryOf, Summarizes, SummarizesAll}
-use Rattle.mld.specs.Ran.{StageStands}
+use Rattle.mld.specs.Ran.{StageStands, Finishes, StopsAtBad, StopsAtLarge, SummarizesWorld, IfTold, EndsBy, tells}
+use Rattle.mld.specs.declared.run.Ran.{Ran}
+use Rattle.mld.specs.declared.run.RunFault.{RunFault}
+use Rattle.mld.specs.declared.run.RunFault.TheVariants as faults
 
 -- one more clone is told of
 summarizes_one : (clones : List (Option RunningLive)) (summaries : List CloneSummary) (clone : Option RunningLive) (summary : CloneSummary)
@@ -73,6 +77,73 @@ clones_told history (live ∷ running) (clone ∷ clones) [] stands told = absur
 clones_told history running clones summaries stands told = absurd stands
 
 -- what is told of a world that runs is told of each world that it stands for
-pub stage_told : (running : RunningWorld) (summary : Summary) (stage : Stage) → SummarizesAll running.clones summary.clones.items → StageStands (Some running) stage → TellsOf (Some summary) stage
-stage_told running summary Waiting told stands = absurd stands
-stage_told running summary (Running world) told stands = clones_told world.history running.clones world.clones summary.clones.items stands.0.clones told
+stage_told : (running : Option RunningWorld) (told : Option Summary) (stage : Stage) → SummarizesWorld running told → StageStands running stage → TellsOf told stage
+stage_told None None Waiting tells stands = tt
+stage_told None None (Running world) tells stands = absurd stands
+stage_told None (Some summary) stage tells stands = absurd tells
+stage_told (Some running) None stage tells stands = absurd tells
+stage_told (Some running) (Some summary) Waiting tells stands = absurd stands
+stage_told (Some running) (Some summary) (Running world) tells stands = clones_told world.history running.clones world.clones summary.clones.items stands.0.clones tells
+
+-- ---- how a run that ended tells of its world
+
+-- the fault that the run ended by, where it isn't want of memory
+pub ended_by : (fault : Option RunFault) (world : Option RunningWorld) (ran : Ran) → EndsBy fault world ran → (other : Option RunFault) → other ≢ Some faults.NoMemory → ran.fault ≡ other → fault ≡ other
+ended_by fault world ran (inl ends) other differs is = sym ends.0 ∙ is
+ended_by fault world ran (inr ends) other differs is = absurd (differs (sym is ∙ ends.0))
+
+-- what it tells of its world, where it has to
+told_by : (fault : Option RunFault) (world : Option RunningWorld) (ran : Ran) → EndsBy fault world ran → ran.fault ≢ Some faults.NoMemory → tells fault ≡ true → SummarizesWorld world ran.world
+told_by fault world ran (inl ends) differs has = let P : Bool → Type 0 = λ b. IfTold b world ran.world in subst P has ends.1
+told_by fault world ran (inr ends) differs has = absurd (differs ends.0)
+
+pub told_stage : (fault : Option RunFault) (world : Option RunningWorld) (ran : Ran) → EndsBy fault world ran → ran.fault ≢ Some faults.NoMemory → tells fault ≡ true
+    → (stage : Stage) → StageStands world stage → TellsOf ran.world stage
+told_stage fault world ran ends differs has stage stands = stage_told world ran.world stage (told_by fault world ran ends differs has) stands
+
+-- nothing is told at the other faults
+pub silent_by : (fault : Option RunFault) (world : Option RunningWorld) (ran : Ran) → EndsBy fault world ran → ¬ IsTrue (tells ran.fault) → ran.world ≡ None
+silent_by fault world ran (inl ends) silent =
+    let P : Bool → Type 0 = λ b. IfTold b world ran.world in
+    let not_told : tells fault ≡ false = not_true (tells fault) (λ has. silent (ap tells ends.0 ∙ has)) in
+    subst P not_told ends.1
+  where
+    not_true : (b : Bool) → (b ≡ true → ⊥) → b ≡ false
+    not_true true h = absurd (h refl)
+    not_true false h = refl
+silent_by fault world ran (inr ends) silent = ends.1
+
+-- an end of a run says the same of what is told as of the world that runs
+pub finishes_as : (P Q : Stage → Type 0) (bytes : List ℕ) (left before now : Option (List ℕ)) → ((stage : Stage) → P stage → Q stage) → Finishes P bytes left before now → Finishes Q bytes left before now
+finishes_as P Q bytes left before now holds ends = record {
+  text = ends.text;
+  world = ends.world;
+  verdict = ends.verdict;
+  sound = ends.sound;
+  all = ends.all;
+  written = ends.written;
+  holds = holds (Running ends.world) ends.holds;
+}
+
+pub bad_as : (P Q : Stage → Type 0) (bytes : List ℕ) (line : ℕ) (before now : Option (List ℕ)) → ((stage : Stage) → P stage → Q stage) → StopsAtBad P bytes line before now → StopsAtBad Q bytes line before now
+bad_as P Q bytes line before now holds ends = record {
+  text = ends.text;
+  stage = ends.stage;
+  verdict = ends.verdict;
+  written = ends.written;
+  holds = holds ends.stage ends.holds;
+}
+
+pub large_as : (P Q : Stage → Type 0) (bytes : List ℕ) (line : ℕ) (before now : Option (List ℕ)) → ((stage : Stage) → P stage → Q stage) → StopsAtLarge P bytes line before now → StopsAtLarge Q bytes line before now
+large_as P Q bytes line before now holds ends = record {
+  text = ends.text;
+  stage = ends.stage;
+  lines = ends.lines;
+  front = ends.front;
+  rest = ends.rest;
+  whole = ends.whole;
+  next = ends.next;
+  large = ends.large;
+  written = ends.written;
+  holds = holds ends.stage ends.holds;
+}

@@ -1,12 +1,15 @@
 -- How a run ends, and what it has written then.
-use Rattle.std.specs.Prelude.{◌≡◌, ◌≢◌, ℕ, ◌≤◌, List, [], ◌∷◌, Option, None, Some, Result, IsErrOf, codes}
+use Rattle.std.specs.Prelude.{◌≡◌, ◌≢◌, ◌⊎◌, ℕ, ◌+◌, ◌≤◌, List, [], ◌∷◌, ◌++◌, length, Bool, true, false, Option, None, Some, Result, IsErrOf, codes}
 use Rattle.std.specs.Io.KnownBytes.{Appends}
 use Rattle.mld_io.specs.Faults.{Rose}
-use Rattle.mld_io.specs.Lines.{lines_of, first_line, after_line}
+use Rattle.mld_io.specs.Lines.{lines_of, first_line, after_line, line_size}
 use Rattle.mld_model.specs.World.{World}
-use Rattle.mld_model.specs.Runs.{Stage, Waiting, Running, Acts, Outcome, Finished, BadLine, UnbuiltLine, Verdict}
+use Rattle.mld_model.specs.Runs.{Stage, Waiting, Running, Acts, Before, Outcome, Finished, BadLine, UnbuiltLine, Verdict}
 use Rattle.mld_model.specs.Sound.{IsSound}
 use Rattle.mld_model.specs.StandsFor.{RunningWorld, StandsFor}
+use Rattle.mld.specs.Summaries.{SummarizesAll}
+use Rattle.mld.specs.declared.summaries.Summary.{Summary}
+use Rattle.mld.specs.declared.run.Ran.{Ran}
 use Rattle.mld.specs.declared.run.RunFault.{RunFault}
 use Rattle.mld.specs.declared.run.RunFault.TheVariants as faults
 
@@ -25,10 +28,16 @@ status_of (Some (faults.Unbuilt line)) = 20
 abbrev pub IsReplay : List (List ℕ) → Type 0
 IsReplay words = words ≡ codes "replay" ∷ []
 
--- there was no line, or the first was taken
-abbrev pub TakesLine : List ℕ → Option (List ℕ) → Option (List ℕ) → Type 0
-TakesLine bytes left None = (bytes ≡ []) × (left ≡ Some [])
-TakesLine bytes left (Some line) = (bytes ≢ []) × (line ≡ first_line bytes) × (left ≡ Some (after_line bytes))
+-- there was no line, or the first was taken, and counted with its LF
+abbrev pub TakesLine : ℕ → List ℕ → Option (List ℕ) → ℕ → Option (List ℕ) → Type 0
+TakesLine size bytes left grown None = (bytes ≡ []) × (left ≡ Some [])
+TakesLine size bytes left grown (Some line) = (bytes ≢ []) × (line ≡ first_line bytes) × (left ≡ Some (after_line bytes)) × (grown ≡ size + line_size bytes)
+
+-- the first of these lines, where so many bytes come before it, is too large: it has more than 1,048,576 bytes, or those
+-- before it and its own are more than 16,777,216
+pub record BreaksLimits (size : ℕ) (bytes : List ℕ) : Type 0 where
+  pub some : bytes ≢ []
+  pub too_large : ¬ ((length (first_line bytes) ≤ 1048576) × (size + line_size bytes ≤ 16777216))
 
 -- what holds where there was a line
 abbrev pub IfSomeLine : (List ℕ → Type 0) → Option (List ℕ) → Type 0
@@ -65,21 +74,38 @@ pub record HasWriteCause {T : Type 0} (before now : ℕ) (result : Result T RunF
   pub later : before ≤ now
   pub failed : IsErrOf result faults.WriteFault → Rose before now
 
--- the source is at its end, and the text of a run over its lines, to a sound world, was written
-pub record Finishes (bytes : List ℕ) (left before after : Option (List ℕ)) : Type 0 where
+-- the source is at its end, and the text of a run over its lines, to a sound world, was written; and this holds of that world
+pub record Finishes (P : Stage → Type 0) (bytes : List ℕ) (left before after : Option (List ℕ)) : Type 0 where
   pub text : List ℕ
   pub world : World
   pub verdict : Verdict (lines_of bytes) (Finished text world)
   pub sound : IsSound world
   pub all : left ≡ Some []
   pub written : Appends before after text
+  pub holds : P (Running world)
 
--- the line of the number is the first bad one, and the text of the lines before it was written
-pub record StopsAtBad (bytes : List ℕ) (number : ℕ) (before after : Option (List ℕ)) : Type 0 where
+-- the line of the number is the first bad one, and the text of the lines before it was written; and this holds of the stage
+-- that they led to
+pub record StopsAtBad (P : Stage → Type 0) (bytes : List ℕ) (number : ℕ) (before after : Option (List ℕ)) : Type 0 where
   pub text : List ℕ
   pub stage : Stage
   pub verdict : Verdict (lines_of bytes) (BadLine number text stage)
   pub written : Appends before after text
+  pub holds : P stage
+
+-- the line of the number is too large, the lines before it are a run, and their text was written; and this holds of the stage
+-- that they led to
+pub record StopsAtLarge (P : Stage → Type 0) (bytes : List ℕ) (number : ℕ) (before after : Option (List ℕ)) : Type 0 where
+  pub text : List ℕ
+  pub stage : Stage
+  pub lines : Before (lines_of bytes) number text stage
+  pub front : List ℕ
+  pub rest : List ℕ
+  pub whole : bytes ≡ front ++ rest
+  pub next : lines.rest ≡ lines_of rest
+  pub large : BreaksLimits (length front) rest
+  pub written : Appends before after text
+  pub holds : P stage
 
 -- the line of the number is the first unbuilt one, and the text of the lines before it was written
 pub record StopsAtUnbuilt (bytes : List ℕ) (number : ℕ) (before after : Option (List ℕ)) : Type 0 where
@@ -120,3 +146,25 @@ pub record ActsWell (stage : Stage) (line text : List ℕ) (running : Option Run
   pub next : Stage
   pub acts : Acts stage line text next
   pub stands : StageStands running next
+
+-- a run that ends so tells of its world: at the end of the input, at a bad line, and at a line that is too large
+abbrev pub tells : Option RunFault → Bool
+tells None = true
+tells (Some (faults.BadLine line)) = true
+tells (Some (faults.TooLarge line)) = true
+tells (Some fault) = false
+
+-- what is told of a world that runs, where there is one
+abbrev pub SummarizesWorld : Option RunningWorld → Option Summary → Type 0
+SummarizesWorld None None = Unit {0}
+SummarizesWorld (Some running) (Some summary) = SummarizesAll running.clones summary.clones.items
+SummarizesWorld running summary = ⊥
+
+-- what is told where a run has to tell of its world, and where not
+abbrev pub IfTold : Bool → Option RunningWorld → Option Summary → Type 0
+IfTold true world summary = SummarizesWorld world summary
+IfTold false world summary = summary ≡ None
+
+-- the run ended so, and tells of its world where it has to; or memory ran out over that
+abbrev pub EndsBy : Option RunFault → Option RunningWorld → Ran → Type 0
+EndsBy fault world ran = ((ran.fault ≡ fault) × IfTold (tells fault) world ran.world) ⊎ ((ran.fault ≡ Some faults.NoMemory) × (ran.world ≡ None))

@@ -6,14 +6,17 @@ use Rattle.mld_model.specs.Runs.{Stage, Waiting, Runs}
 use Rattle.mld_model.specs.StandsFor.{RunningWorld}
 use Rattle.mld.specs.Ran.{StageStands, steps_of}
 
--- the bytes that were given are the lines done and what is left
-pub record IsLeft (bytes : List ℕ) (left : Option (List ℕ)) (lines : List (List ℕ)) : Type 0 where
+-- the bytes that were given are those of the lines done, so many, and what is left
+pub record IsLeft (bytes : List ℕ) (left : Option (List ℕ)) (size : ℕ) (lines : List (List ℕ)) : Type 0 where
+  pub front : List ℕ
   pub rest : List ℕ
   pub is : left ≡ Some rest
+  pub split : bytes ≡ front ++ rest
+  pub counted : length front ≡ size
   pub whole : lines_of bytes ≡ lines ++ lines_of rest
 
--- so many lines are done: they are a run of the model that wrote this text, and the state stands for where it led
-pub record IsUnderWay (given left before now : Option (List ℕ)) (world : Option RunningWorld) (done : ℕ) : Type 0 where
+-- so many lines of so many bytes are done: they are a run of the model that wrote this text, and the state stands for where it led
+pub record IsUnderWay (given left before now : Option (List ℕ)) (size : ℕ) (world : Option RunningWorld) (done : ℕ) : Type 0 where
   pub lines : List (List ℕ)
   pub text : List ℕ
   pub stage : Stage
@@ -21,5 +24,5 @@ pub record IsUnderWay (given left before now : Option (List ℕ)) (world : Optio
   pub runs : Runs Waiting lines text stage
   pub stands : StageStands world stage
   pub steps : steps_of world ≤ done
-  pub left_of : (bytes : List ℕ) → given ≡ Some bytes → IsLeft bytes left lines
+  pub left_of : (bytes : List ℕ) → given ≡ Some bytes → IsLeft bytes left size lines
   pub written : Appends before now text

@@ -10,7 +10,8 @@ ghost use Rattle.mld_model.specs.Sound.{IsSound};
 ghost use Rattle.mld_model.specs.StandsFor.{StandsFor};
 ghost use Rattle.mld.specs.Worlds.{IsStanding};
 ghost use Rattle.mld.specs.Stops.{fault_of};
-ghost use Rattle.mld.specs.Ran.{status_of, IsReplay, Finishes, StopsAtBad, StopsAtUnbuilt, Agrees, StageStands, IsStandingStage, ActsWell, steps_of, TakesLine, IfSomeLine, IsReadingFault, IsWritingFault, IsLineFault, HasReadCause, HasWriteCause};
+ghost use Rattle.mld.specs.Summaries.{TellsOf};
+ghost use Rattle.mld.specs.Ran.{status_of, tells, IsReplay, Finishes, StopsAtBad, StopsAtUnbuilt, StopsAtLarge, SummarizesWorld, EndsBy, Agrees, StageStands, IsStandingStage, ActsWell, steps_of, TakesLine, BreaksLimits, IfSomeLine, IsReadingFault, IsWritingFault, IsLineFault, HasReadCause, HasWriteCause};
 
 use crate::lines::{Line, Opening, read_line, read_opening};
 use crate::replies::push_ready;
@@ -60,7 +61,7 @@ pub struct Ran {
     pub status: u8,
     /// Why it isn't 0.
     pub fault: Option<RunFault>,
-    /// The world that it ended with; not given yet.
+    /// What there is to tell of the world that it ended with: at the statuses 0, 4 and 7, where the clones were founded.
     pub world: Option<Summary>,
 }
 
@@ -81,14 +82,20 @@ pub fn run<R: Threads, S: Source, K: Sink>(
     ensures usage { (result.fault ≡ Some RunFault.Usage) ↔ (¬ IsReplay (map (λ w. string_bytes w) words.now.items)) }
     ensures untouched { result.fault ≡ Some RunFault.Usage → (source.new ≡ source.old) × (sink.new ≡ sink.old) }
 
-    // At status 0 the source is read to its end, and what was written is the text of a run of the model over its lines.
+    // At status 0 the source is read to its end, and what was written is the text of a run of the model over its lines. The
+    // world that they lead to is the one that is told of.
     ensures finished { result.fault ≡ None → (bytes : List ℕ) → S.left source.old ≡ Some bytes
-        → Finishes bytes (S.left source.new) (K.held sink.old) (K.held sink.new) }
-    // At 4 and 20 the line of that number is the first that is bad or unbuilt, and the text is that of the lines before it.
+        → Finishes (TellsOf result.world) bytes (S.left source.new) (K.held sink.old) (K.held sink.new) }
+    // At 4 and 20 the line of that number is the first that is bad or unbuilt, and the text is that of the lines before it. At
+    // 4 and 7 the world that those lead to is told of.
     ensures bad { (line : ℕ) → result.fault ≡ Some (RunFault.BadLine line) → (bytes : List ℕ) → S.left source.old ≡ Some bytes
-        → StopsAtBad bytes line (K.held sink.old) (K.held sink.new) }
+        → StopsAtBad (TellsOf result.world) bytes line (K.held sink.old) (K.held sink.new) }
     ensures unbuilt { (line : ℕ) → result.fault ≡ Some (RunFault.Unbuilt line) → (bytes : List ℕ) → S.left source.old ≡ Some bytes
         → StopsAtUnbuilt bytes line (K.held sink.old) (K.held sink.new) }
+    ensures large { (line : ℕ) → result.fault ≡ Some (RunFault.TooLarge line) → (bytes : List ℕ) → S.left source.old ≡ Some bytes
+        → StopsAtLarge (TellsOf result.world) bytes line (K.held sink.old) (K.held sink.new) }
+    // At the other statuses nothing is told.
+    ensures silent { ¬ IsTrue (tells result.fault) → result.world ≡ None }
     // 2 comes only where the source's count of faults rose, and 3 only where the sink's did.
     ensures read { result.fault ≡ Some RunFault.ReadFault → Rose (S.faults source.old) (S.faults source.new) }
     ensures write { result.fault ≡ Some RunFault.WriteFault → Rose (K.faults sink.old) (K.faults sink.new) }
@@ -97,23 +104,57 @@ pub fn run<R: Threads, S: Source, K: Sink>(
         → IsReplay (map (λ w. string_bytes w) words.now.items) → Agrees result.fault outcome }
 {
     if !is_replay(words) {
-        return ended(Some(RunFault::Usage));
+        return ended(Some(RunFault::Usage), None);
     }
-    match replay(alloc, source, sink) {
-        Ok(()) => ended(None),
-        Err(fault) => ended(Some(fault)),
+    let mut world = None;
+    let fault = replay(alloc, source, sink, &mut world).err();
+    ended_with(alloc, fault, &world)
+}
+
+/// A run that ended so, with what it tells of its world where it has to. Where there is no memory for that, it ended so.
+fn ended_with(alloc: Global, fault: Option<RunFault>, world: &Option<World>) -> Ran
+    ensures status { result.status ≡ status_of result.fault }
+    ensures ends { EndsBy fault world.now result }
+{
+    if !tells(fault) {
+        return ended(fault, None);
+    }
+    match summary_of(alloc, world) {
+        Ok(summary) => ended(fault, summary),
+        Err(AllocError) => ended(Some(RunFault::NoMemory), None),
     }
 }
 
-/// A run that ended so.
-fn ended(fault: Option<RunFault>) -> Ran
+/// A run that ended so, and tells this of its world.
+fn ended(fault: Option<RunFault>, world: Option<Summary>) -> Ran
     ensures fault { result.fault ≡ fault }
     ensures status { result.status ≡ status_of fault }
+    ensures world { result.world ≡ world }
 {
     Ran {
         status: status_of(fault),
         fault,
-        world: None,
+        world,
+    }
+}
+
+/// A run that ends so tells of its world.
+fn tells(fault: Option<RunFault>) -> bool
+    ensures { result ≡ tells fault }
+{
+    match fault {
+        None | Some(RunFault::BadLine(_) | RunFault::TooLarge(_)) => true,
+        Some(_) => false,
+    }
+}
+
+/// What there is to tell of a world, where there is one.
+fn summary_of(alloc: Global, world: &Option<World>) -> Result<Option<Summary>, AllocError>
+    ensures { IfOk result (SummarizesWorld world.now) }
+{
+    match world {
+        None => Ok(None),
+        Some(world) => Ok(Some(world.summary(alloc)?)),
     }
 }
 
@@ -143,24 +184,32 @@ fn is_replay(words: &Vec<String>) -> bool
     }
 }
 
-/// Replays the schedule of the source.
-fn replay<S: Source, K: Sink>(alloc: Global, source: &mut S, sink: &mut K) -> Result<(), RunFault>
+/// Replays the schedule of the source, and leaves the world that it leads to. Where a line isn't built or memory runs out,
+/// what is left is not to be used.
+fn replay<S: Source, K: Sink>(
+    alloc: Global,
+    source: &mut S,
+    sink: &mut K,
+    world: &mut Option<World>,
+) -> Result<(), RunFault>
+    requires { world.old ≡ None }
     ensures usage { ¬ IsErrOf result RunFault.Usage }
     ensures finished { OnOk result ((bytes : List ℕ) → S.left source.old ≡ Some bytes
-        → Finishes bytes (S.left source.new) (K.held sink.old) (K.held sink.new)) }
+        → Finishes (StageStands world.new) bytes (S.left source.new) (K.held sink.old) (K.held sink.new)) }
     ensures bad { (line : ℕ) → IsErrOf result (RunFault.BadLine line) → (bytes : List ℕ) → S.left source.old ≡ Some bytes
-        → StopsAtBad bytes line (K.held sink.old) (K.held sink.new) }
+        → StopsAtBad (StageStands world.new) bytes line (K.held sink.old) (K.held sink.new) }
     ensures unbuilt { (line : ℕ) → IsErrOf result (RunFault.Unbuilt line) → (bytes : List ℕ) → S.left source.old ≡ Some bytes
         → StopsAtUnbuilt bytes line (K.held sink.old) (K.held sink.new) }
+    ensures large { (line : ℕ) → IsErrOf result (RunFault.TooLarge line) → (bytes : List ℕ) → S.left source.old ≡ Some bytes
+        → StopsAtLarge (StageStands world.new) bytes line (K.held sink.old) (K.held sink.new) }
     ensures read { IsErrOf result RunFault.ReadFault → Rose (S.faults source.old) (S.faults source.new) }
     ensures write { IsErrOf result RunFault.WriteFault → Rose (K.faults sink.old) (K.faults sink.new) }
 {
     let mut lines = Lines::new(alloc, LINE_LIMIT, INPUT_LIMIT)?;
-    let mut world = None;
     let mut done = 0;
     while let Some(line) = next_line(&mut lines, source, done + 1)? {
         done += 1;
-        let reply = act(alloc, &mut world, line.as_slice(), done)?;
+        let reply = act(alloc, world, line.as_slice(), done)?;
         write_reply(sink, reply.as_slice())?;
     }
     match world {
@@ -186,10 +235,13 @@ fn next_line<S: Source>(
     source: &mut S,
     number: u64,
 ) -> Result<Option<Piece>, RunFault>
-    requires { IsTrue lines.old.good }
-    ensures line { (bytes : List ℕ) → S.left source.old ≡ Some bytes → IfOk result (TakesLine bytes (S.left source.new)) }
+    requires good { IsTrue lines.old.good }
+    requires line { lines.old.line ≡ 1048576 }
+    requires all { lines.old.all ≡ 16777216 }
+    ensures line { (bytes : List ℕ) → S.left source.old ≡ Some bytes → IfOk result (TakesLine lines.old.taken bytes (S.left source.new) lines.new.taken) }
+    ensures large { (at : ℕ) → IsErrOf result (RunFault.TooLarge at) → (at ≡ number) × ((bytes : List ℕ) → S.left source.old ≡ Some bytes → BreaksLimits lines.old.taken bytes) }
     ensures good { OnOk result (IsTrue lines.new.good) }
-    ensures limit { lines.new.all ≡ lines.old.all }
+    ensures limits { (lines.new.line ≡ lines.old.line) × (lines.new.all ≡ lines.old.all) }
     ensures progress { IfOk result (IfSomeLine (λ _. (lines.old.taken < lines.new.taken) × (lines.new.taken ≤ lines.old.all))) }
     ensures end { IfOk result (λ line. line ≡ None → lines.new.taken ≡ lines.old.taken) }
     ensures fault { IfErr result IsReadingFault }
@@ -227,6 +279,7 @@ fn act(
     ensures ok { IfOk result (λ text. (stage : Stage) → StageStands world.old stage → ActsWell stage line.now text.items world.new) }
     ensures steps { OnOk result (steps_of world.new ≤ steps_of world.old + 1) }
     ensures bad { (at : ℕ) → IsErrOf result (RunFault.BadLine at) → (at ≡ number) × ((stage : Stage) → StageStands world.old stage → IsBad stage line.now) }
+    ensures kept { (at : ℕ) → IsErrOf result (RunFault.BadLine at) → world.new ≡ world.old }
     ensures unbuilt { (at : ℕ) → IsErrOf result (RunFault.Unbuilt at) → (at ≡ number) × ((stage : Stage) → StageStands world.old stage → IsUnbuilt stage line.now) }
     ensures other { IfErr result IsLineFault }
 {
@@ -283,6 +336,7 @@ fn command(alloc: Global, world: &mut World, line: &[u8]) -> Result<Vec<u8>, Sto
     ensures ok { IfOk result (λ text. (model : ModelWorld) → StandsFor world.old model → IsSound model → ActsWell (Running model) line.now text.items (Some world.new)) }
     ensures steps { OnOk result (world.new.steps ≤ world.old.steps + 1) }
     ensures bad { IsErrOf result Stop.Bad → (model : ModelWorld) → IsBad (Running model) line.now }
+    ensures kept { IsErrOf result Stop.Bad → world.new ≡ world.old }
     ensures unbuilt { IsErrOf result Stop.Unbuilt → (model : ModelWorld) → StandsFor world.old model → IsSound model → IsUnbuilt (Running model) line.now }
 {
     let mut text = Vec::new(alloc);

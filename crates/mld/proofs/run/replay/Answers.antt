@@ -1,48 +1,56 @@
 use Rattle.std.proofs.Common.{◌∙◌, ◌+◌, sym, arith}
 use Rattle.std.proofs.lemmas.Result.{err_from_is_err_and}
-use Rattle.mld.proofs.RunLemmas.{under_way_more, takes_some, stops_bad_at, stops_unbuilt_at, finishes_at, ends_waiting_at, same_bad, same_fault, err_same, of_line}
+use Rattle.mld.proofs.RunLemmas.{under_way_more, takes_some, stops_bad_at, stops_unbuilt_at, stops_large, finishes_at, ends_waiting_at, same_bad, same_fault, err_same, of_line}
 use Rattle.mld.proofs.run.replay.Goals as goal
 
 pub returns-in_err-reply-clause-bad : goal.returns-in_err-reply-clause-bad
 returns-in_err-reply-clause-bad g c = λ line is bytes told.
     let p = err_from_is_err_and c.from_residual-in_err-reply.result c.from_residual-in_err-reply.ensures.1 in
     let b = c.in_err-reply.ensures.bad line (err_same _ _ (same_fault _ _ _ _ p.1 p.2 is)) in
-    stops_bad_at (g.S.Source.left c.args.source.now) (g.S.Source.left c.loop-world.source) (g.S.Source.left c.next_line.new.source)
-    (g.K.Sink.held c.args.sink.now) (g.K.Sink.held c.loop-world.sink) c.loop-world.world c.loop-world.done c.in_ok-line.field-0 c.in-Some.line c.as_slice.result.now line
-    c.loop-world.invariant.way c.in-Some.is c.as_slice.ensures c.in_ok-line.ensures.line b.0 b.1 bytes told
+    stops_bad_at (g.S.Source.left c.args.source.now) (g.S.Source.left c.loop-line.source) (g.S.Source.left c.next_line.new.source)
+    (g.K.Sink.held c.args.sink.now) (g.K.Sink.held c.loop-line.sink) c.loop-line.lines.taken c.next_line.new.lines.taken c.loop-line.world c.loop-line.done c.in_ok-line.field-0 c.in-Some.line c.as_slice.result.now line
+    c.loop-line.invariant.way c.in-Some.is c.as_slice.ensures c.in_ok-line.ensures.line b.0 b.1 c.act.new.world (c.in_err-reply.ensures.kept line (err_same _ _ (same_fault _ _ _ _ p.1 p.2 is))) bytes told
 
 pub returns-in_err-reply-clause-unbuilt : goal.returns-in_err-reply-clause-unbuilt
 returns-in_err-reply-clause-unbuilt g c = λ line is bytes told.
     let p = err_from_is_err_and c.from_residual-in_err-reply.result c.from_residual-in_err-reply.ensures.1 in
     let b = c.in_err-reply.ensures.unbuilt line (err_same _ _ (same_fault _ _ _ _ p.1 p.2 is)) in
-    stops_unbuilt_at (g.S.Source.left c.args.source.now) (g.S.Source.left c.loop-world.source) (g.S.Source.left c.next_line.new.source)
-    (g.K.Sink.held c.args.sink.now) (g.K.Sink.held c.loop-world.sink) c.loop-world.world c.loop-world.done c.in_ok-line.field-0 c.in-Some.line c.as_slice.result.now line
-    c.loop-world.invariant.way c.in-Some.is c.as_slice.ensures c.in_ok-line.ensures.line b.0 b.1 bytes told
+    stops_unbuilt_at (g.S.Source.left c.args.source.now) (g.S.Source.left c.loop-line.source) (g.S.Source.left c.next_line.new.source)
+    (g.K.Sink.held c.args.sink.now) (g.K.Sink.held c.loop-line.sink) c.loop-line.lines.taken c.next_line.new.lines.taken c.loop-line.world c.loop-line.done c.in_ok-line.field-0 c.in-Some.line c.as_slice.result.now line
+    c.loop-line.invariant.way c.in-Some.is c.as_slice.ensures c.in_ok-line.ensures.line b.0 b.1 bytes told
 
-pub loop-world-preserved : goal.loop-world-preserved
-loop-world-preserved g c = record {
-  way = under_way_more (g.S.Source.left c.args.source.now) (g.S.Source.left c.loop-world.source) (g.S.Source.left c.next_line.new.source)
-      (g.K.Sink.held c.args.sink.now) (g.K.Sink.held c.loop-world.sink) (g.K.Sink.held c.write_reply.new.sink) c.loop-world.world c.act.new.world c.loop-world.done c.as_slice.result.now c.in_ok-reply.reply.items
-      c.loop-world.invariant.way
-      (takes_some (g.S.Source.left c.loop-world.source) (g.S.Source.left c.next_line.new.source) c.in_ok-line.field-0 c.in-Some.line c.as_slice.result.now c.in-Some.is c.as_slice.ensures c.in_ok-line.ensures.line)
+pub loop-line-preserved : goal.loop-line-preserved
+loop-line-preserved g c = record {
+  way = under_way_more (g.S.Source.left c.args.source.now) (g.S.Source.left c.loop-line.source) (g.S.Source.left c.next_line.new.source)
+      (g.K.Sink.held c.args.sink.now) (g.K.Sink.held c.loop-line.sink) (g.K.Sink.held c.write_reply.new.sink) c.loop-line.lines.taken c.next_line.new.lines.taken c.loop-line.world c.act.new.world c.loop-line.done c.as_slice.result.now c.in_ok-reply.reply.items
+      c.loop-line.invariant.way
+      (takes_some (g.S.Source.left c.loop-line.source) (g.S.Source.left c.next_line.new.source) c.in_ok-line.field-0 c.loop-line.lines.taken c.next_line.new.lines.taken c.in-Some.line c.as_slice.result.now c.in-Some.is c.as_slice.ensures c.in_ok-line.ensures.line)
       c.in_ok-reply.ensures.ok c.in_ok-reply.ensures.steps
       (rw (sym c.as_slice-in-Some.ensures.value) c.in_ok-write_reply.ensures.ok);
   good = c.in_ok-line.ensures.good;
-  limit = c.next_line.ensures.limit ∙ c.loop-world.invariant.limit;
-  few = omega (arith, c.loop-world.invariant.few, (of_line _ c.in_ok-line.field-0 c.in-Some.line c.in-Some.is c.in_ok-line.ensures.progress).0);
-  reads = omega (arith, c.loop-world.invariant.reads, c.next_line.ensures.cause.later);
-  writes = omega (arith, c.loop-world.invariant.writes, c.write_reply.ensures.cause.later);
-  within = omega (arith, c.next_line.ensures.limit, (of_line _ c.in_ok-line.field-0 c.in-Some.line c.in-Some.is c.in_ok-line.ensures.progress).1);
+  line = c.next_line.ensures.limits.0 ∙ c.loop-line.invariant.line;
+  all = c.next_line.ensures.limits.1 ∙ c.loop-line.invariant.all;
+  few = omega (arith, c.loop-line.invariant.few, (of_line _ c.in_ok-line.field-0 c.in-Some.line c.in-Some.is c.in_ok-line.ensures.progress).0);
+  reads = omega (arith, c.loop-line.invariant.reads, c.next_line.ensures.cause.later);
+  writes = omega (arith, c.loop-line.invariant.writes, c.write_reply.ensures.cause.later);
+  within = omega (arith, c.next_line.ensures.limits.1, (of_line _ c.in_ok-line.field-0 c.in-Some.line c.in-Some.is c.in_ok-line.ensures.progress).1);
 }
 
 pub returns-in-Some-world-clause-finished : goal.returns-in-Some-world-clause-finished
 returns-in-Some-world-clause-finished g c = λ bytes told.
-    finishes_at (g.S.Source.left c.args.source.now) (g.S.Source.left c.loop-world.source) (g.S.Source.left c.next_line.new.source)
-    (g.K.Sink.held c.args.sink.now) (g.K.Sink.held c.loop-world.sink) c.loop-world.world c.in-Some-world.field-0 c.loop-world.done c.in_ok-line.field-0
-    c.loop-world.invariant.way c.in-Some-world.is c.in_default.is c.in_ok-line.ensures.line bytes told
+    finishes_at (g.S.Source.left c.args.source.now) (g.S.Source.left c.loop-line.source) (g.S.Source.left c.next_line.new.source)
+    (g.K.Sink.held c.args.sink.now) (g.K.Sink.held c.loop-line.sink) c.loop-line.lines.taken c.next_line.new.lines.taken c.loop-line.world c.in-Some-world.field-0 c.loop-line.done c.in_ok-line.field-0
+    c.loop-line.invariant.way c.in-Some-world.is c.in_default.is c.in_ok-line.ensures.line bytes told
 
-pub returns-clause-bad : goal.returns-clause-bad
-returns-clause-bad g c = λ line is bytes told.
-    ends_waiting_at (g.S.Source.left c.args.source.now) (g.S.Source.left c.loop-world.source) (g.S.Source.left c.next_line.new.source)
-    (g.K.Sink.held c.args.sink.now) (g.K.Sink.held c.loop-world.sink) c.loop-world.world c.loop-world.done c.in_ok-line.field-0 line
-    c.loop-world.invariant.way c.in-None.is c.in_default.is c.in_ok-line.ensures.line (same_bad (c.loop-world.done + 1) line is) bytes told
+pub returns-in-None-clause-bad : goal.returns-in-None-clause-bad
+returns-in-None-clause-bad g c = λ line is bytes told.
+    ends_waiting_at (g.S.Source.left c.args.source.now) (g.S.Source.left c.loop-line.source) (g.S.Source.left c.next_line.new.source)
+    (g.K.Sink.held c.args.sink.now) (g.K.Sink.held c.loop-line.sink) c.loop-line.lines.taken c.next_line.new.lines.taken c.loop-line.world c.loop-line.done c.in_ok-line.field-0 line
+    c.loop-line.invariant.way c.in-None.is c.in_default.is c.in_ok-line.ensures.line (same_bad (c.loop-line.done + 1) line is) bytes told
+
+pub returns-in_err-line-clause-large : goal.returns-in_err-line-clause-large
+returns-in_err-line-clause-large g c = λ line is bytes told.
+    let p = err_from_is_err_and c.from_residual-in_err-line.result c.from_residual-in_err-line.ensures.1 in
+    let b = c.in_err-line.ensures.large line (err_same _ _ (same_fault _ _ _ _ p.1 p.2 is)) in
+    stops_large (g.S.Source.left c.args.source.now) (g.S.Source.left c.loop-line.source) (g.K.Sink.held c.args.sink.now) (g.K.Sink.held c.loop-line.sink)
+    c.loop-line.lines.taken c.loop-line.world c.loop-line.done line c.loop-line.invariant.way b.0 b.1 bytes told
