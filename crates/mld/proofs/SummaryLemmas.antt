@@ -1,5 +1,7 @@
 -- What is told of clones is told of the clones that they stand for.
-use Rattle.std.specs.Prelude.{IsTrue}
+use Rattle.std.specs.Prelude.{IsTrue, Result, Ok, Err, OnOk}
+use Rattle.std.specs.Result.{result_err}
+use Rattle.std.proofs.lemmas.Bool.{false≢true}
 use Rattle.std.proofs.Common.{◌≡◌, ◌≢◌, ◌∙◌, inl, inr, ap, Bool, true, false, ◌<◌, ◌+◌, ℕ, zero, suc, List, [], ◌∷◌, ◌++◌, ◌↔◌, sym, subst, refl, length, get_or, take, Option, Some, None, arith}
 use Rattle.std.proofs.lemmas.List.{take_more}
 use Rattle.tree_clock.specs.declared.dots.Dot.{Dot}
@@ -10,13 +12,15 @@ use Rattle.mld_ops.specs.Meaning.{IsMeaning}
 use Rattle.mld_ops.specs.declared.tagged.Tagged.{Tagged}
 use Rattle.mld_model.specs.Clone.{Clone, Absent, Asking, Empty, Down, Live, Stored, known_of}
 use Rattle.mld_model.specs.World.{World}
-use Rattle.mld_model.specs.Runs.{Stage, Waiting, Running}
+use Rattle.mld_io.specs.Lines.{lines_of}
+use Rattle.mld_model.specs.Runs.{Stage, Waiting, Running, Outcome, Verdict}
 use Rattle.mld_model.specs.StandsFor.{RunningLive, RunningWorld, LiveStandsFor, CloneStandsFor, ClonesStandFor, StandsFor}
 use Rattle.mld.specs.declared.summaries.CloneSummary.{CloneSummary}
 use Rattle.mld.specs.declared.summaries.Summary.{Summary}
 use Rattle.mld.specs.Summaries.{IsBlank, TellsOfLive, TellsOfClone, TellsOfClones, TellsOf, IsSummaryOf, Summarizes, SummarizesAll}
-use Rattle.mld.specs.Ran.{StageStands, Finishes, StopsAtBad, StopsAtLarge, SummarizesWorld, IfTold, EndsBy, tells}
+use Rattle.mld.specs.Ran.{StageStands, Finishes, StopsAtBad, StopsAtUnbuilt, StopsAtLarge, Agrees, SummarizesWorld, IfTold, EndsBy, tells}
 use Rattle.mld.specs.declared.run.Ran.{Ran}
+use Rattle.mld.proofs.RunLemmas.{agrees_finished, agrees_fault, err_same}
 use Rattle.mld.specs.declared.run.RunFault.{RunFault}
 use Rattle.mld.specs.declared.run.RunFault.TheVariants as faults
 
@@ -147,3 +151,72 @@ large_as P Q bytes line before now holds ends = record {
   written = ends.written;
   holds = holds ends.stage ends.holds;
 }
+
+-- ---- the clauses of the run
+
+-- what is told at a fault at which a run has to tell of its world
+pub told_from : (fault : Option RunFault) (world : Option RunningWorld) (ran : Ran) → EndsBy fault world ran → (other : Option RunFault) → ran.fault ≡ other → tells other ≡ true
+    → (stage : Stage) → StageStands world stage → TellsOf ran.world stage
+told_from fault world ran ends other is has =
+    told_stage fault world ran ends (λ none. false≢true (sym (ap tells (sym is ∙ none)) ∙ has)) (ap tells (ended_by fault world ran ends other (λ none. false≢true (sym (ap tells none) ∙ has)) is) ∙ has)
+
+-- how the replay ended, by the fault that the run ended by
+
+pub ok_by : {P : Type 0} (result : Result (Unit {0}) RunFault) (fault : Option RunFault) → fault ≡ result_err result → fault ≡ None → OnOk result P → P
+ok_by (Ok done) fault is none h = h
+ok_by (Err other) fault is none h = absurd (cc (is, none))
+
+pub err_by : (result : Result (Unit {0}) RunFault) (fault : Option RunFault) (other : RunFault) → fault ≡ result_err result → fault ≡ Some other → result ≡ Err other
+err_by (Ok done) fault other is same = absurd (cc (is, same))
+err_by (Err first) fault other is same = cc (is, same)
+
+pub finishes_by : (result : Result (Unit {0}) RunFault) (fault : Option RunFault) (world : Option RunningWorld) (ran : Ran) (given left before now : Option (List ℕ))
+    → fault ≡ result_err result → EndsBy fault world ran → OnOk result ((bytes : List ℕ) → given ≡ Some bytes → Finishes (StageStands world) bytes left before now)
+    → ran.fault ≡ None → (bytes : List ℕ) → given ≡ Some bytes → Finishes (TellsOf ran.world) bytes left before now
+finishes_by result fault world ran given left before now by ends finished is bytes told =
+    finishes_as (StageStands world) (TellsOf ran.world) bytes left before now (told_from fault world ran ends None is refl)
+    (ok_by result fault by (ended_by fault world ran ends None (λ none. cc (none)) is) finished bytes told)
+
+pub bad_by : (result : Result (Unit {0}) RunFault) (fault : Option RunFault) (world : Option RunningWorld) (ran : Ran) (given before now : Option (List ℕ))
+    → fault ≡ result_err result → EndsBy fault world ran
+    → ((line : ℕ) → result ≡ Err (faults.BadLine line) → (bytes : List ℕ) → given ≡ Some bytes → StopsAtBad (StageStands world) bytes line before now)
+    → (line : ℕ) → ran.fault ≡ Some (faults.BadLine line) → (bytes : List ℕ) → given ≡ Some bytes → StopsAtBad (TellsOf ran.world) bytes line before now
+bad_by result fault world ran given before now by ends bad line is bytes told =
+    bad_as (StageStands world) (TellsOf ran.world) bytes line before now (told_from fault world ran ends (Some (faults.BadLine line)) is refl)
+    (bad line (err_by result fault (faults.BadLine line) by (ended_by fault world ran ends (Some (faults.BadLine line)) (λ none. cc (none)) is)) bytes told)
+
+pub large_by : (result : Result (Unit {0}) RunFault) (fault : Option RunFault) (world : Option RunningWorld) (ran : Ran) (given before now : Option (List ℕ))
+    → fault ≡ result_err result → EndsBy fault world ran
+    → ((line : ℕ) → result ≡ Err (faults.TooLarge line) → (bytes : List ℕ) → given ≡ Some bytes → StopsAtLarge (StageStands world) bytes line before now)
+    → (line : ℕ) → ran.fault ≡ Some (faults.TooLarge line) → (bytes : List ℕ) → given ≡ Some bytes → StopsAtLarge (TellsOf ran.world) bytes line before now
+large_by result fault world ran given before now by ends large line is bytes told =
+    large_as (StageStands world) (TellsOf ran.world) bytes line before now (told_from fault world ran ends (Some (faults.TooLarge line)) is refl)
+    (large line (err_by result fault (faults.TooLarge line) by (ended_by fault world ran ends (Some (faults.TooLarge line)) (λ none. cc (none)) is)) bytes told)
+
+-- the fault of the replay agrees with the verdict
+agrees_replay : (result : Result (Unit {0}) RunFault) (P : Stage → Type 0) (bytes : List ℕ) (left before now : Option (List ℕ)) → OnOk result (Finishes P bytes left before now)
+    → (result ≢ Err faults.Usage) → ((line : ℕ) → result ≡ Err (faults.BadLine line) → StopsAtBad P bytes line before now)
+    → ((line : ℕ) → result ≡ Err (faults.Unbuilt line) → StopsAtUnbuilt bytes line before now)
+    → (outcome : Outcome) → Verdict (lines_of bytes) outcome → Agrees (result_err result) outcome
+agrees_replay (Ok done) P bytes left before now finished usage bad unbuilt outcome verdict = agrees_finished P bytes left before now finished outcome verdict
+agrees_replay (Err fault) P bytes left before now finished usage bad unbuilt outcome verdict =
+    agrees_fault P bytes before now fault (λ is. usage (err_same fault faults.Usage is)) (λ line is. bad line (err_same fault (faults.BadLine line) is))
+    (λ line is. unbuilt line (err_same fault (faults.Unbuilt line) is)) outcome verdict
+
+on_ok : {A B : Type 0} (result : Result (Unit {0}) RunFault) → (A → B) → OnOk result A → OnOk result B
+on_ok (Ok done) f h = f h
+on_ok (Err fault) f h = tt
+
+pub agrees_by : (result : Result (Unit {0}) RunFault) (fault : Option RunFault) (world : Option RunningWorld) (ran : Ran) (given left before now : Option (List ℕ))
+    → fault ≡ result_err result → EndsBy fault world ran
+    → OnOk result ((bytes : List ℕ) → given ≡ Some bytes → Finishes (StageStands world) bytes left before now) → (result ≢ Err faults.Usage)
+    → ((line : ℕ) → result ≡ Err (faults.BadLine line) → (bytes : List ℕ) → given ≡ Some bytes → StopsAtBad (StageStands world) bytes line before now)
+    → ((line : ℕ) → result ≡ Err (faults.Unbuilt line) → (bytes : List ℕ) → given ≡ Some bytes → StopsAtUnbuilt bytes line before now)
+    → (bytes : List ℕ) → given ≡ Some bytes → (outcome : Outcome) → Verdict (lines_of bytes) outcome → Agrees ran.fault outcome
+agrees_by result fault world ran given left before now by (inl ends) finished usage bad unbuilt bytes told outcome verdict =
+    let P : Option RunFault → Type 0 = λ f. Agrees f outcome in
+    subst P (sym (ends.0 ∙ by)) (agrees_replay result (StageStands world) bytes left before now
+    (on_ok result (λ (h : (bytes : List ℕ) → given ≡ Some bytes → Finishes (StageStands world) bytes left before now). h bytes told) finished) usage
+    (λ line is. bad line is bytes told) (λ line is. unbuilt line is bytes told) outcome verdict)
+agrees_by result fault world ran given left before now by (inr ends) finished usage bad unbuilt bytes told outcome verdict =
+    let P : Option RunFault → Type 0 = λ f. Agrees f outcome in subst P (sym ends.0) tt

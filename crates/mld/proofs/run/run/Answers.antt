@@ -1,0 +1,23 @@
+use Rattle.mld.proofs.SummaryLemmas.{finishes_by, bad_by, large_by, agrees_by}
+use Rattle.mld.proofs.run.run.Goals as goal
+
+pub returns-clause-finished : goal.returns-clause-finished
+returns-clause-finished g c =
+    finishes_by c.replay.result c.err-fault.result c.replay.new.world c.ended_with.result (g.S.Source.left c.args.source.now) (g.S.Source.left c.replay.new.source)
+    (g.K.Sink.held c.args.sink.now) (g.K.Sink.held c.replay.new.sink) c.err-fault.ensures.value c.ended_with.ensures.ends c.replay.ensures.finished
+
+pub returns-clause-bad : goal.returns-clause-bad
+returns-clause-bad g c =
+    bad_by c.replay.result c.err-fault.result c.replay.new.world c.ended_with.result (g.S.Source.left c.args.source.now)
+    (g.K.Sink.held c.args.sink.now) (g.K.Sink.held c.replay.new.sink) c.err-fault.ensures.value c.ended_with.ensures.ends c.replay.ensures.bad
+
+pub returns-clause-large : goal.returns-clause-large
+returns-clause-large g c =
+    large_by c.replay.result c.err-fault.result c.replay.new.world c.ended_with.result (g.S.Source.left c.args.source.now)
+    (g.K.Sink.held c.args.sink.now) (g.K.Sink.held c.replay.new.sink) c.err-fault.ensures.value c.ended_with.ensures.ends c.replay.ensures.large
+
+pub returns-clause-exact : goal.returns-clause-exact
+returns-clause-exact g c = λ bytes told outcome verdict words.
+    agrees_by c.replay.result c.err-fault.result c.replay.new.world c.ended_with.result (g.S.Source.left c.args.source.now) (g.S.Source.left c.replay.new.source)
+    (g.K.Sink.held c.args.sink.now) (g.K.Sink.held c.replay.new.sink) c.err-fault.ensures.value c.ended_with.ensures.ends
+    c.replay.ensures.finished c.replay.ensures.usage c.replay.ensures.bad c.replay.ensures.unbuilt bytes told outcome verdict
