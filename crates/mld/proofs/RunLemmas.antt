@@ -62,18 +62,18 @@ appends_nothing (Some xs) = sym (append-nil xs)
 -- nothing is done yet
 pub under_way_first : (given before : Option (List ℕ)) (size : ℕ) (world : Option RunningWorld) → size ≡ 0 → world ≡ None → IsUnderWay given given before before size world 0
 under_way_first given before size world nothing none =
-  let P : Option RunningWorld → Type 0 = λ w. IsUnderWay given given before before size w 0 in
-  subst P (sym none) (record {
-    lines = [];
-    text = [];
-    stage = Waiting;
-    counted = refl;
-    runs = (refl, refl);
-    stands = tt;
-    steps = omega arith;
-    left_of = λ bytes is. record { front = []; rest = bytes; is = is; split = refl; counted = sym nothing; whole = refl };
-    written = appends_nothing before;
-  })
+    let P : Option RunningWorld → Type 0 = λ w. IsUnderWay given given before before size w 0 in
+    subst P (sym none) (record {
+      lines = [];
+      text = [];
+      stage = Waiting;
+      counted = refl;
+      runs = (refl, refl);
+      stands = tt;
+      steps = omega arith;
+      left_of = λ bytes is. record { front = []; rest = bytes; is = is; split = refl; counted = sym nothing; whole = refl };
+      written = appends_nothing before;
+    })
 
 -- the bytes of the first line, and those behind it
 record IsHead (bytes head : List ℕ) : Type 0 where

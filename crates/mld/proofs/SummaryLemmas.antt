@@ -2,7 +2,7 @@
 use Rattle.std.specs.Prelude.{IsTrue, Result, Ok, Err, OnOk}
 use Rattle.std.specs.Result.{result_err}
 use Rattle.std.proofs.lemmas.Bool.{false≢true}
-use Rattle.std.proofs.Common.{◌≡◌, ◌≢◌, ◌∙◌, inl, inr, ap, Bool, true, false, ◌<◌, ◌+◌, ℕ, zero, suc, List, [], ◌∷◌, ◌++◌, ◌↔◌, sym, subst, refl, length, get_or, take, Option, Some, None, arith}
+use Rattle.std.proofs.Common.{◌≡◌, ◌≢◌, ◌∙◌, inl, inr, ap, Bool, true, false, ◌<◌, ◌+◌, ℕ, List, [], ◌∷◌, ◌++◌, ◌↔◌, sym, subst, refl, length, get_or, take, Option, Some, None, arith}
 use Rattle.std.proofs.lemmas.List.{take_more}
 use Rattle.tree_clock.specs.declared.dots.Dot.{Dot}
 use Rattle.tree_clock.specs.Dot.{Knows}
@@ -10,14 +10,13 @@ use Rattle.tree_clock.specs.Clock.{IsClock, Covers}
 use Rattle.mld_ops.specs.History.{Operation}
 use Rattle.mld_ops.specs.Meaning.{IsMeaning}
 use Rattle.mld_ops.specs.declared.tagged.Tagged.{Tagged}
-use Rattle.mld_model.specs.Clone.{Clone, Absent, Asking, Empty, Down, Live, Stored, known_of}
-use Rattle.mld_model.specs.World.{World}
+use Rattle.mld_model.specs.Clone.{Clone, Absent, Live, known_of}
 use Rattle.mld_io.specs.Lines.{lines_of}
 use Rattle.mld_model.specs.Runs.{Stage, Waiting, Running, Outcome, Verdict}
-use Rattle.mld_model.specs.StandsFor.{RunningLive, RunningWorld, LiveStandsFor, CloneStandsFor, ClonesStandFor, StandsFor}
+use Rattle.mld_model.specs.StandsFor.{RunningLive, RunningWorld, LiveStandsFor, CloneStandsFor, ClonesStandFor}
 use Rattle.mld.specs.declared.summaries.CloneSummary.{CloneSummary}
 use Rattle.mld.specs.declared.summaries.Summary.{Summary}
-use Rattle.mld.specs.Summaries.{IsBlank, TellsOfLive, TellsOfClone, TellsOfClones, TellsOf, IsSummaryOf, Summarizes, SummarizesAll}
+use Rattle.mld.specs.Summaries.{TellsOfClone, TellsOfClones, TellsOf, Summarizes, SummarizesAll}
 use Rattle.mld.specs.Ran.{StageStands, Finishes, StopsAtBad, StopsAtUnbuilt, StopsAtLarge, Agrees, SummarizesWorld, IfTold, EndsBy, tells}
 use Rattle.mld.specs.declared.run.Ran.{Ran}
 use Rattle.mld.proofs.RunLemmas.{agrees_finished, agrees_fault, err_same}

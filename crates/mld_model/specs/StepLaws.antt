@@ -79,10 +79,10 @@ removes_once world number triple (Live stored held) reply other next after p q =
     elim p.4 [
       | inl none ↦ elim q.4 [ inl too ↦ answers_once none.1 too.1 | inr some ↦ absurd (some.0 (sym same ∙ none.0)) ]
       | inr some ↦ elim q.4 [
-          | inl none ↦ absurd (some.0 (same ∙ none.0))
-          | inr too ↦ makes_once world number stored held p.1 [] reply other next after some.1
-              (subst (λ (ds : List Tagged). Makes world number stored held ds [] other after) (sym same) too.1)
-        ]
+        | inl none ↦ absurd (some.0 (same ∙ none.0))
+        | inr too ↦ makes_once world number stored held p.1 [] reply other next after some.1
+            (subst (λ (ds : List Tagged). Makes world number stored held ds [] other after) (sym same) too.1)
+      ]
     ]
 
 -- a range that comes to a live clone has one outcome: what is known isn't ready

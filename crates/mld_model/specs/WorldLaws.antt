@@ -172,19 +172,19 @@ add_absent running world stands sound number triple is =
 -- ---- remove
 
 pub remove_follows : (running : RunningWorld) (world : World) → StandsFor running world → IsSound world → (number : ℕ) (triple : Triple) (live : RunningLive)
-  → get_or running.clones number None ≡ Some live → (deletes : List Tagged) (new : RunningLive) (entry : EntryValue) → ArePairsOf triple live.pairs deletes → deletes ≢ []
-  → LocallyMakes live deletes [] new entry
-  → Follows world (Remove number triple) (Did (next_dot live) (length running.messages + 1)) (stepped_sending running number new entry)
+    → get_or running.clones number None ≡ Some live → (deletes : List Tagged) (new : RunningLive) (entry : EntryValue) → ArePairsOf triple live.pairs deletes → deletes ≢ []
+    → LocallyMakes live deletes [] new entry
+    → Follows world (Remove number triple) (Did (next_dot live) (length running.messages + 1)) (stepped_sending running number new entry)
 unfolding Step
 remove_follows running world stands sound number triple live is deletes new entry are some makes =
     let reply : Reply = Did (next_dot live) (length running.messages + 1) in
     let made : MakesSoundly world number live deletes [] reply (stepped_sending running number new entry)
-      = makes_soundly running world stands sound number live is deletes [] new entry (λ pair h. ((are.members pair).0 h).0) makes in
+    = makes_soundly running world stands sound number live is deletes [] new entry (λ pair h. ((are.members pair).0 h).0) makes in
     let P : Clone → Type 0 = λ c. Removes world number triple c reply made.next in
     record { next = made.next; steps = subst P (sym made.was_live) (live.pairs, deletes, made.stood.pairs, are, inr (some, made.makes)); sound = made.sound; stands = made.stands }
 
 pub remove_nothing : (running : RunningWorld) (world : World) → StandsFor running world → IsSound world → (number : ℕ) (triple : Triple) (live : RunningLive)
-  → get_or running.clones number None ≡ Some live → ArePairsOf triple live.pairs [] → Follows world (Remove number triple) NoOperation (stepped running)
+    → get_or running.clones number None ≡ Some live → ArePairsOf triple live.pairs [] → Follows world (Remove number triple) NoOperation (stepped running)
 unfolding Step
 remove_nothing running world stands sound number triple live is none =
     let at : LiveAt world.history live (clone_at world number) = live_at running world stands number live is in
@@ -192,7 +192,7 @@ remove_nothing running world stands sound number triple live is none =
     record { next = world; steps = subst P (sym at.live) (live.pairs, [], at.stands.pairs, none, inl (refl, (refl, refl))); sound = sound; stands = stepped_stands running world stands }
 
 pub remove_absent : (running : RunningWorld) (world : World) → StandsFor running world → IsSound world → (number : ℕ) (triple : Triple)
-  → get_or running.clones number None ≡ None → Follows world (Remove number triple) IsAbsent (stepped running)
+    → get_or running.clones number None ≡ None → Follows world (Remove number triple) IsAbsent (stepped running)
 unfolding Step
 remove_absent running world stands sound number triple is =
     let P : Clone → Type 0 = λ c. Removes world number triple c IsAbsent world in
