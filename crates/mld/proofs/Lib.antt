@@ -5,5 +5,6 @@ pub mod RepliesShown
 pub mod ClonesTaking
 pub mod ClonesRemoving
 pub mod WorldLemmas
+pub mod LimitLemmas
 pub mod RunLemmas
 pub mod SummaryLemmas

@@ -14,7 +14,7 @@ use Rattle.mld_model.specs.World.{World}
 use Rattle.mld_model.specs.Runs.{Stage, Waiting, Running, Acts, Runs, IsBad, IsUnbuilt, Before, Outcome, Finished, BadLine, UnbuiltLine, Verdict}
 use Rattle.mld_model.specs.Sound.{IsSound}
 use Rattle.mld_model.specs.StandsFor.{RunningWorld, StandsFor}
-use Rattle.mld.specs.Ran.{Finishes, StopsAtBad, StopsAtUnbuilt, StopsAtLarge, StageStands, IsStandingStage, ActsWell, TakesLine, BreaksLimits, IfSomeLine, Agrees, steps_of}
+use Rattle.mld.specs.Ran.{Finishes, StopsAtBad, StopsAtUnbuilt, StopsAtLarge, StageStands, IsStandingStage, ActsWell, TakesLine, IfSomeLine, Agrees, steps_of}
 use Rattle.mld_model.specs.declared.Command.{Command}
 use Rattle.mld_model.specs.World.{founded}
 use Rattle.mld_model.specs.Reply.{Ready, reply_text}
@@ -38,6 +38,8 @@ use Rattle.mld.specs.Stops.{stop_of, fault_of}
 use Rattle.mld.specs.Reading.{OpeningIs, LineIs}
 use Rattle.mld.specs.Worlds.{Stepped, MustWait}
 use Rattle.mld.specs.UnderWay.{IsLeft, IsUnderWay}
+use Rattle.mld.specs.Limits.{BreaksLimits, IsTooLargeLine}
+use Rattle.mld.proofs.LimitLemmas.{left_first, taken_left, taken_fit, all_fit, large_next}
 
 -- a run goes on by one line
 runs_more : (stage middle next : Stage) (lines : List (List ℕ)) (text line more : List ℕ) → Runs stage lines text middle → Acts middle line more next
@@ -71,40 +73,9 @@ under_way_first given before size world nothing none =
       runs = (refl, refl);
       stands = tt;
       steps = omega arith;
-      left_of = λ bytes is. record { front = []; rest = bytes; is = is; split = refl; counted = sym nothing; whole = refl };
+      left_of = left_first given size nothing;
       written = appends_nothing before;
     })
-
--- the bytes of the first line, and those behind it
-record IsHead (bytes head : List ℕ) : Type 0 where
-  pub split : bytes ≡ head ++ after_line bytes
-  pub counted : length head ≡ line_size bytes
-
-head_of : (bytes : List ℕ) → (head : List ℕ) × IsHead bytes head
-head_of [] = ([], record { split = refl; counted = refl })
-head_of (b ∷ bs) = elim (eqb_tells b 10) [
-  | inl e ↦ (b ∷ [], record { split = rw e.0 refl; counted = rw e.0 refl })
-  | inr e ↦
-      let rest = head_of bs in
-      (b ∷ rest.0, record { split = rw e.0 (ap (λ (t : List ℕ). b ∷ t) rest.1.split); counted = rw e.0 (let h = rest.1.counted in omega (arith, h)) })
-]
-
--- the lines done, and the next line that was taken
-taken_left : (given left : Option (List ℕ)) (size grown : ℕ) (lines : List (List ℕ)) (line : List ℕ) (rest : Option (List ℕ)) → ((bytes : List ℕ) → given ≡ Some bytes → IsLeft bytes left size lines)
-    → ((bytes : List ℕ) → left ≡ Some bytes → TakesLine size bytes rest grown (Some line)) → (bytes : List ℕ) → given ≡ Some bytes → IsLeft bytes rest grown (lines ++ line ∷ [])
-taken_left given left size grown lines line rest left_of takes bytes is =
-    let before : IsLeft bytes left size lines = left_of bytes is in
-    let taken : TakesLine size before.rest rest grown (Some line) = takes before.rest before.is in
-    let head = head_of before.rest in
-    record {
-      front = before.front ++ head.0;
-      rest = after_line before.rest;
-      is = taken.2;
-      split = before.split ∙ ap (λ (t : List ℕ). before.front ++ t) head.1.split ∙ sym (append_assoc before.front head.0 (after_line before.rest));
-      counted = omega (arith, length-append before.front head.0, before.counted, head.1.counted, taken.3);
-      whole = before.whole ∙ ap (λ ls. lines ++ ls) (first_of_lines_lem before.rest taken.0 ∙ ap (λ l. l ∷ lines_of (after_line before.rest)) (sym taken.1))
-          ∙ sym (append_assoc lines (line ∷ []) (lines_of (after_line before.rest)));
-    }
 
 -- a line was taken, said of an equal line
 pub takes_some : (left rest line : Option (List ℕ)) (size grown : ℕ) (piece text : List ℕ) → line ≡ Some piece → text ≡ piece
@@ -117,22 +88,6 @@ takes_some left rest line size grown piece text is same takes bytes told =
 pub takes_none : (left rest line : Option (List ℕ)) (size grown : ℕ) → line ≡ None
     → ((bytes : List ℕ) → left ≡ Some bytes → TakesLine size bytes rest grown line) → (bytes : List ℕ) → left ≡ Some bytes → TakesLine size bytes rest grown None
 takes_none left rest line size grown is takes bytes told = let P : Option (List ℕ) → Type 0 = λ o. TakesLine size bytes rest grown o in subst P is (takes bytes told)
-
--- what a call for the next line says of a line
-pub takes_line : (lines : LinesValue) (bytes : List ℕ) (line : Option (List ℕ)) (taken : ℕ) (left : Option (List ℕ)) → NextLine lines bytes (Ok line) taken left → TakesLine lines.taken bytes left taken line
-takes_line lines bytes None taken left next = (next.empty, next.none_left)
-takes_line lines bytes (Some piece) taken left next = (next.some, next.piece_is, next.left_is, next.taken_is)
-
--- and of one that is too large
-pub breaks_limits : (lines : LinesValue) (bytes : List ℕ) (fault : LineFault) (taken : ℕ) (left : Option (List ℕ)) → lines.line ≡ 1048576 → lines.all ≡ 16777216
-    → fault ≡ line_faults.TooLarge → NextLine lines bytes (Err fault) taken left → BreaksLimits lines.taken bytes
-breaks_limits lines bytes fault taken left line all is next =
-    let P : LineFault → Type 0 = λ f. NextLine lines bytes (Err f) taken left in
-    let large : IsTooLarge lines bytes = subst P is next in
-    record {
-      some = large.some;
-      too_large = λ fits. large.too_large (record { in_line = omega (arith, line, fits.0); in_all = omega (arith, all, fits.1) });
-    }
 
 -- the one word of a list is the text, or the list is another
 pub one_word : {X : Type 0} (f : X → List ℕ) (words : List X) (word : X) (spelled text : List ℕ) (same : Bool) → 1 ≤ length words → length words < 2
@@ -162,7 +117,7 @@ under_way_more given left rest before now after size grown world next done line 
       runs = runs_more Waiting way.stage act.next way.lines way.text line text way.runs act.acts;
       stands = act.stands;
       steps = omega (arith, few, way.steps);
-      left_of = taken_left given left size grown way.lines line rest way.left_of takes;
+      left_of = taken_left given left size grown done way.lines line rest way.left_of takes;
       written = appends_more before now after way.text text way.written writes;
     }
 
@@ -171,29 +126,29 @@ pub standing_from : (given left before now : Option (List ℕ)) (size : ℕ) (wo
 standing_from given left before now size world done way = record { stage = way.stage; stands = way.stands }
 
 end_of : (bytes : List ℕ) (rest before now : Option (List ℕ)) (running : RunningWorld) (lines : List (List ℕ)) (text : List ℕ) (stage : Stage) → StageStands (Some running) stage
-    → Runs Waiting lines text stage → lines_of bytes ≡ lines → rest ≡ Some [] → Appends before now text → Finishes (StageStands (Some running)) bytes rest before now
+    → Runs Waiting lines text stage → lines_of bytes ≡ lines → rest ≡ Some [] → ((before : ℕ) → ¬ IsTooLargeLine bytes before) → Appends before now text → Finishes (StageStands (Some running)) bytes rest before now
 unfolding Verdict
-end_of bytes rest before now running lines text Waiting stands runs whole all written = absurd stands
-end_of bytes rest before now running lines text (Running world) stands runs whole all written =
+end_of bytes rest before now running lines text Waiting stands runs whole all fits written = absurd stands
+end_of bytes rest before now running lines text (Running world) stands runs whole all fits written =
     let P : List (List ℕ) → Type 0 = λ ls. Runs Waiting ls text (Running world) in
-    record { text = text; world = world; verdict = subst P (sym whole) runs; sound = stands.1; all = all; written = written; holds = stands }
+    record { text = text; world = world; verdict = subst P (sym whole) runs; sound = stands.1; all = all; fits = fits; written = written; holds = stands }
 
 -- the source is at its end, and a world runs
 pub finishes : (given left rest before now : Option (List ℕ)) (size grown : ℕ) (running : RunningWorld) (done : ℕ) → IsUnderWay given left before now size (Some running) done
     → ((bytes : List ℕ) → left ≡ Some bytes → TakesLine size bytes rest grown None) → (bytes : List ℕ) → given ≡ Some bytes → Finishes (StageStands (Some running)) bytes rest before now
 unfolding Verdict
 finishes given left rest before now size grown running done way takes bytes is =
-    let at : IsLeft bytes left size way.lines = way.left_of bytes is in
+    let at : IsLeft bytes left size done way.lines = way.left_of bytes is in
     let end : TakesLine size at.rest rest grown None = takes at.rest at.is in
     let lines : lines_of bytes ≡ way.lines = at.whole ∙ ap (λ b. way.lines ++ lines_of b) end.0 ∙ append-nil way.lines in
-    end_of bytes rest before now running way.lines way.text way.stage way.stands way.runs lines end.1 way.written
+    end_of bytes rest before now running way.lines way.text way.stage way.stands way.runs lines end.1 (all_fit bytes left size done way.lines at end.0) way.written
 
 -- the source is at its end, and no line was a domain line
 pub ends_waiting : (given left rest before now : Option (List ℕ)) (size grown : ℕ) (done : ℕ) → IsUnderWay given left before now size None done
     → ((bytes : List ℕ) → left ≡ Some bytes → TakesLine size bytes rest grown None) → (bytes : List ℕ) → given ≡ Some bytes → StopsAtBad (StageStands None) bytes (done + 1) before now
 unfolding Verdict
 ends_waiting given left rest before now size grown done way takes bytes is =
-    let at : IsLeft bytes left size way.lines = way.left_of bytes is in
+    let at : IsLeft bytes left size done way.lines = way.left_of bytes is in
     let end : TakesLine size at.rest rest grown None = takes at.rest at.is in
     record {
       text = way.text;
@@ -202,6 +157,7 @@ ends_waiting given left rest before now size grown done way takes bytes is =
         before = record { front = way.lines; rest = lines_of at.rest; whole = at.whole; counted = ap (λ n. n + 1) way.counted; runs = way.runs };
         bad = inr (ap lines_of end.0, waiting way.stage way.stands);
       };
+      fits = λ before below. all_fit bytes left size done way.lines at end.0 before;
       written = way.written;
       holds = way.stands;
     }
@@ -214,11 +170,13 @@ ends_waiting given left rest before now size grown done way takes bytes is =
 before_line : (given left rest before now : Option (List ℕ)) (size grown : ℕ) (world : Option RunningWorld) (done : ℕ) (line : List ℕ) → (way : IsUnderWay given left before now size world done)
     → ((bytes : List ℕ) → left ≡ Some bytes → TakesLine size bytes rest grown (Some line)) → (bytes : List ℕ) → given ≡ Some bytes
     → (b : Before (lines_of bytes) (done + 1) way.text way.stage) × ((others : List (List ℕ)) × (b.rest ≡ line ∷ others))
+    × ((before : ℕ) → before < done + 1 → ¬ IsTooLargeLine bytes before)
 before_line given left rest before now size grown world done line way takes bytes is =
-    let at : IsLeft bytes left size way.lines = way.left_of bytes is in
+    let at : IsLeft bytes left size done way.lines = way.left_of bytes is in
     let taken : TakesLine size at.rest rest grown (Some line) = takes at.rest at.is in (
       record { front = way.lines; rest = lines_of at.rest; whole = at.whole; counted = ap (λ n. n + 1) way.counted; runs = way.runs },
       (lines_of (after_line at.rest), first_of_lines_lem at.rest taken.0 ∙ ap (λ l. l ∷ lines_of (after_line at.rest)) (sym taken.1)),
+      taken_fit bytes left rest size grown done way.lines line at taken,
     )
 
 -- a line that was taken is bad
@@ -228,7 +186,7 @@ pub stops_bad : (given left rest before now : Option (List ℕ)) (size grown : �
 unfolding Verdict
 stops_bad given left rest before now size grown world done line way takes bad bytes is =
     let b = before_line given left rest before now size grown world done line way takes bytes is in
-    record { text = way.text; stage = way.stage; verdict = record { before = b.0; bad = inl (line, b.1, bad way.stage way.stands) }; written = way.written; holds = way.stands }
+    record { text = way.text; stage = way.stage; verdict = record { before = b.0; bad = inl (line, b.1, bad way.stage way.stands) }; fits = b.2; written = way.written; holds = way.stands }
 
 -- a line that was taken isn't built
 pub stops_unbuilt : (given left rest before now : Option (List ℕ)) (size grown : ℕ) (world : Option RunningWorld) (done : ℕ) (line : List ℕ) → IsUnderWay given left before now size world done
@@ -237,23 +195,22 @@ pub stops_unbuilt : (given left rest before now : Option (List ℕ)) (size grown
 unfolding Verdict
 stops_unbuilt given left rest before now size grown world done line way takes unbuilt bytes is =
     let b = before_line given left rest before now size grown world done line way takes bytes is in
-    record { text = way.text; stage = way.stage; verdict = record { before = b.0; line = line; first = b.1; unbuilt = unbuilt way.stage way.stands }; written = way.written }
+    record { text = way.text; stage = way.stage; verdict = record { before = b.0; line = line; first = b.1; unbuilt = unbuilt way.stage way.stands }; fits = b.2; written = way.written }
 
 -- the line of the number is too large
 pub stops_large : (given left before now : Option (List ℕ)) (size : ℕ) (world : Option RunningWorld) (done number : ℕ) → IsUnderWay given left before now size world done → number ≡ done + 1
     → ((bytes : List ℕ) → left ≡ Some bytes → BreaksLimits size bytes) → (bytes : List ℕ) → given ≡ Some bytes → StopsAtLarge (StageStands world) bytes number before now
 stops_large given left before now size world done number way counts breaks bytes is =
-    let at : IsLeft bytes left size way.lines = way.left_of bytes is in
-    let P : ℕ → Type 0 = λ n. BreaksLimits n at.rest in
+    let at : IsLeft bytes left size done way.lines = way.left_of bytes is in
     record {
       text = way.text;
       stage = way.stage;
-      lines = record { front = way.lines; rest = lines_of at.rest; whole = at.whole; counted = counts ∙ ap (λ n. n + 1) way.counted; runs = way.runs };
-      front = at.front;
-      rest = at.rest;
-      whole = at.split;
-      next = refl;
-      large = subst P (sym at.counted) (breaks at.rest at.is);
+      done = record { front = way.lines; rest = lines_of at.rest; whole = at.whole; counted = counts ∙ ap (λ n. n + 1) way.counted; runs = way.runs };
+      fits = λ lines below. at.fits lines (omega (arith, below, counts));
+      large = λ lines is_lines.
+      let P : ℕ → Type 0 = λ k. IsTooLargeLine bytes k in
+      let same : done ≡ lines = omega (arith, counts, is_lines) in
+      subst P same (large_next bytes left size done way.lines at (breaks at.rest at.is));
       written = way.written;
       holds = way.stands;
     }

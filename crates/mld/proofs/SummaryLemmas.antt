@@ -124,6 +124,7 @@ finishes_as P Q bytes left before now holds ends = record {
   verdict = ends.verdict;
   sound = ends.sound;
   all = ends.all;
+  fits = ends.fits;
   written = ends.written;
   holds = holds (Running ends.world) ends.holds;
 }
@@ -133,6 +134,7 @@ bad_as P Q bytes line before now holds ends = record {
   text = ends.text;
   stage = ends.stage;
   verdict = ends.verdict;
+  fits = ends.fits;
   written = ends.written;
   holds = holds ends.stage ends.holds;
 }
@@ -141,11 +143,8 @@ pub large_as : (P Q : Stage → Type 0) (bytes : List ℕ) (line : ℕ) (before 
 large_as P Q bytes line before now holds ends = record {
   text = ends.text;
   stage = ends.stage;
-  lines = ends.lines;
-  front = ends.front;
-  rest = ends.rest;
-  whole = ends.whole;
-  next = ends.next;
+  done = ends.done;
+  fits = ends.fits;
   large = ends.large;
   written = ends.written;
   holds = holds ends.stage ends.holds;

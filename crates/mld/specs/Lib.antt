@@ -4,6 +4,7 @@ pub mod Taking
 pub mod Clones
 pub mod Worlds
 pub mod Summaries
+pub mod Limits
 pub mod Ran
 pub mod UnderWay
 pub mod Stops

@@ -1,8 +1,9 @@
 -- How a run ends, and what it has written then.
-use Rattle.std.specs.Prelude.{◌≡◌, ◌≢◌, ◌⊎◌, ℕ, ◌+◌, ◌≤◌, List, [], ◌∷◌, ◌++◌, length, Bool, true, false, Option, None, Some, Result, IsErrOf, codes}
+use Rattle.std.specs.Prelude.{◌≡◌, ◌≢◌, ◌⊎◌, ℕ, ◌+◌, ◌<◌, ◌≤◌, List, [], ◌∷◌, Bool, true, false, Option, None, Some, Result, IsErrOf, codes}
 use Rattle.std.specs.Io.KnownBytes.{Appends}
 use Rattle.mld_io.specs.Faults.{Rose}
 use Rattle.mld_io.specs.Lines.{lines_of, first_line, after_line, line_size}
+use Rattle.mld.specs.Limits.{BreaksLimits, IsTooLargeLine}
 use Rattle.mld_model.specs.World.{World}
 use Rattle.mld_model.specs.Runs.{Stage, Waiting, Running, Acts, Before, Outcome, Finished, BadLine, UnbuiltLine, Verdict}
 use Rattle.mld_model.specs.Sound.{IsSound}
@@ -28,16 +29,10 @@ status_of (Some (faults.Unbuilt line)) = 20
 abbrev pub IsReplay : List (List ℕ) → Type 0
 IsReplay words = words ≡ codes "replay" ∷ []
 
--- there was no line, or the first was taken, and counted with its LF
+-- there was no line, or the first was taken, which keeps the limits, and its bytes were counted
 abbrev pub TakesLine : ℕ → List ℕ → Option (List ℕ) → ℕ → Option (List ℕ) → Type 0
 TakesLine size bytes left grown None = (bytes ≡ []) × (left ≡ Some [])
-TakesLine size bytes left grown (Some line) = (bytes ≢ []) × (line ≡ first_line bytes) × (left ≡ Some (after_line bytes)) × (grown ≡ size + line_size bytes)
-
--- the first of these lines, where so many bytes come before it, is too large: it has more than 1,048,576 bytes, or those
--- before it and its own are more than 16,777,216
-pub record BreaksLimits (size : ℕ) (bytes : List ℕ) : Type 0 where
-  pub some : bytes ≢ []
-  pub too_large : ¬ ((length (first_line bytes) ≤ 1048576) × (size + line_size bytes ≤ 16777216))
+TakesLine size bytes left grown (Some line) = (bytes ≢ []) × (line ≡ first_line bytes) × (left ≡ Some (after_line bytes)) × (grown ≡ size + line_size bytes) × (¬ BreaksLimits size bytes)
 
 -- what holds where there was a line
 abbrev pub IfSomeLine : (List ℕ → Type 0) → Option (List ℕ) → Type 0
@@ -74,45 +69,46 @@ pub record HasWriteCause {T : Type 0} (before now : ℕ) (result : Result T RunF
   pub later : before ≤ now
   pub failed : IsErrOf result faults.WriteFault → Rose before now
 
--- the source is at its end, and the text of a run over its lines, to a sound world, was written; and this holds of that world
+-- the source is at its end, none of its lines is too large, and the text of a run over them, to a sound world, was written; and
+-- this holds of that world
 pub record Finishes (P : Stage → Type 0) (bytes : List ℕ) (left before after : Option (List ℕ)) : Type 0 where
   pub text : List ℕ
   pub world : World
   pub verdict : Verdict (lines_of bytes) (Finished text world)
   pub sound : IsSound world
   pub all : left ≡ Some []
+  pub fits : (lines : ℕ) → ¬ IsTooLargeLine bytes lines
   pub written : Appends before after text
   pub holds : P (Running world)
 
--- the line of the number is the first bad one, and the text of the lines before it was written; and this holds of the stage
--- that they led to
+-- the line of the number is the first bad one, no line up to it is too large, and the text of the lines before it was written;
+-- and this holds of the stage that they led to
 pub record StopsAtBad (P : Stage → Type 0) (bytes : List ℕ) (number : ℕ) (before after : Option (List ℕ)) : Type 0 where
   pub text : List ℕ
   pub stage : Stage
   pub verdict : Verdict (lines_of bytes) (BadLine number text stage)
+  pub fits : (lines : ℕ) → lines < number → ¬ IsTooLargeLine bytes lines
   pub written : Appends before after text
   pub holds : P stage
 
--- the line of the number is too large, the lines before it are a run, and their text was written; and this holds of the stage
--- that they led to
-pub record StopsAtLarge (P : Stage → Type 0) (bytes : List ℕ) (number : ℕ) (before after : Option (List ℕ)) : Type 0 where
-  pub text : List ℕ
-  pub stage : Stage
-  pub lines : Before (lines_of bytes) number text stage
-  pub front : List ℕ
-  pub rest : List ℕ
-  pub whole : bytes ≡ front ++ rest
-  pub next : lines.rest ≡ lines_of rest
-  pub large : BreaksLimits (length front) rest
-  pub written : Appends before after text
-  pub holds : P stage
-
--- the line of the number is the first unbuilt one, and the text of the lines before it was written
+-- the line of the number is the first unbuilt one, no line up to it is too large, and the text of the lines before it was written
 pub record StopsAtUnbuilt (bytes : List ℕ) (number : ℕ) (before after : Option (List ℕ)) : Type 0 where
   pub text : List ℕ
   pub stage : Stage
   pub verdict : Verdict (lines_of bytes) (UnbuiltLine number text stage)
+  pub fits : (lines : ℕ) → lines < number → ¬ IsTooLargeLine bytes lines
   pub written : Appends before after text
+
+-- the line of the number is the first that is too large, the lines before it are a run, and their text was written; and this
+-- holds of the stage that they led to
+pub record StopsAtLarge (P : Stage → Type 0) (bytes : List ℕ) (number : ℕ) (before after : Option (List ℕ)) : Type 0 where
+  pub text : List ℕ
+  pub stage : Stage
+  pub done : Before (lines_of bytes) number text stage
+  pub fits : (lines : ℕ) → lines + 1 < number → ¬ IsTooLargeLine bytes lines
+  pub large : (lines : ℕ) → number ≡ lines + 1 → IsTooLargeLine bytes lines
+  pub written : Appends before after text
+  pub holds : P stage
 
 -- the run ended as the verdict says, or by a fault of reading or writing, want of memory or a line that is too large
 abbrev pub Agrees : Option RunFault → Outcome → Type 0

@@ -1,18 +1,19 @@
 -- A replay that is under way: the lines done so far, what they wrote, and the model that the state stands for.
-use Rattle.std.specs.Prelude.{◌≡◌, ℕ, ◌≤◌, List, ◌++◌, Option, Some, length}
+use Rattle.std.specs.Prelude.{◌≡◌, ℕ, ◌<◌, ◌≤◌, List, ◌++◌, Option, Some, length}
 use Rattle.std.specs.Io.KnownBytes.{Appends}
 use Rattle.mld_io.specs.Lines.{lines_of}
 use Rattle.mld_model.specs.Runs.{Stage, Waiting, Runs}
 use Rattle.mld_model.specs.StandsFor.{RunningWorld}
+use Rattle.mld.specs.Limits.{left_after, size_of_lines, IsTooLargeLine}
 use Rattle.mld.specs.Ran.{StageStands, steps_of}
 
--- the bytes that were given are those of the lines done, so many, and what is left
-pub record IsLeft (bytes : List ℕ) (left : Option (List ℕ)) (size : ℕ) (lines : List (List ℕ)) : Type 0 where
-  pub front : List ℕ
+-- so many lines of so many bytes are done, none of them too large, and this is left of the bytes that were given
+pub record IsLeft (bytes : List ℕ) (left : Option (List ℕ)) (size done : ℕ) (lines : List (List ℕ)) : Type 0 where
   pub rest : List ℕ
   pub is : left ≡ Some rest
-  pub split : bytes ≡ front ++ rest
-  pub counted : length front ≡ size
+  pub behind : rest ≡ left_after done bytes
+  pub counted : size ≡ size_of_lines done bytes
+  pub fits : (lines : ℕ) → lines < done → ¬ IsTooLargeLine bytes lines
   pub whole : lines_of bytes ≡ lines ++ lines_of rest
 
 -- so many lines of so many bytes are done: they are a run of the model that wrote this text, and the state stands for where it led
@@ -24,5 +25,5 @@ pub record IsUnderWay (given left before now : Option (List ℕ)) (size : ℕ) (
   pub runs : Runs Waiting lines text stage
   pub stands : StageStands world stage
   pub steps : steps_of world ≤ done
-  pub left_of : (bytes : List ℕ) → given ≡ Some bytes → IsLeft bytes left size lines
+  pub left_of : (bytes : List ℕ) → given ≡ Some bytes → IsLeft bytes left size done lines
   pub written : Appends before now text

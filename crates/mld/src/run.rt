@@ -10,8 +10,9 @@ ghost use Rattle.mld_model.specs.Sound.{IsSound};
 ghost use Rattle.mld_model.specs.StandsFor.{StandsFor};
 ghost use Rattle.mld.specs.Worlds.{IsStanding};
 ghost use Rattle.mld.specs.Stops.{fault_of};
+ghost use Rattle.mld.specs.Limits.{BreaksLimits};
 ghost use Rattle.mld.specs.Summaries.{TellsOf};
-ghost use Rattle.mld.specs.Ran.{status_of, tells, IsReplay, Finishes, StopsAtBad, StopsAtUnbuilt, StopsAtLarge, SummarizesWorld, EndsBy, Agrees, StageStands, IsStandingStage, ActsWell, steps_of, TakesLine, BreaksLimits, IfSomeLine, IsReadingFault, IsWritingFault, IsLineFault, HasReadCause, HasWriteCause};
+ghost use Rattle.mld.specs.Ran.{status_of, tells, IsReplay, Finishes, StopsAtBad, StopsAtUnbuilt, StopsAtLarge, SummarizesWorld, EndsBy, Agrees, StageStands, IsStandingStage, ActsWell, steps_of, TakesLine, IfSomeLine, IsReadingFault, IsWritingFault, IsLineFault, HasReadCause, HasWriteCause};
 
 use crate::lines::{Line, Opening, read_line, read_opening};
 use crate::replies::push_ready;

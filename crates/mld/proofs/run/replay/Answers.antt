@@ -1,6 +1,6 @@
-use Rattle.std.proofs.Common.{◌∙◌, ◌+◌, sym, arith}
+use Rattle.std.proofs.Common.{◌∙◌, ◌+◌, sym, ap, arith}
 use Rattle.std.proofs.lemmas.Result.{err_from_is_err_and}
-use Rattle.mld.proofs.RunLemmas.{under_way_more, takes_some, stops_bad_at, stops_unbuilt_at, stops_large, finishes_at, ends_waiting_at, same_bad, same_fault, err_same, of_line}
+use Rattle.mld.proofs.RunLemmas.{under_way_first, under_way_more, takes_some, stops_bad_at, stops_unbuilt_at, stops_large, finishes_at, ends_waiting_at, same_bad, same_fault, err_same, of_line}
 use Rattle.mld.proofs.run.replay.Goals as goal
 
 pub returns-in_err-reply-clause-bad : goal.returns-in_err-reply-clause-bad
@@ -54,3 +54,15 @@ returns-in_err-line-clause-large g c = λ line is bytes told.
     let b = c.in_err-line.ensures.large line (err_same _ _ (same_fault _ _ _ _ p.1 p.2 is)) in
     stops_large (g.S.Source.left c.args.source.now) (g.S.Source.left c.loop-line.source) (g.K.Sink.held c.args.sink.now) (g.K.Sink.held c.loop-line.sink)
     c.loop-line.lines.taken c.loop-line.world c.loop-line.done line c.loop-line.invariant.way b.0 b.1 bytes told
+
+pub loop-line-init : goal.loop-line-init
+loop-line-init g c = record {
+  way = under_way_first (g.S.Source.left c.args.source.now) (g.K.Sink.held c.args.sink.now) c.in_ok-lines.lines.taken c.args.world.now (ap (λ l. l.taken) c.in_ok-lines.ensures) c.requires;
+  good = ap (λ l. l.good) c.in_ok-lines.ensures;
+  line = ap (λ l. l.line) c.in_ok-lines.ensures;
+  all = ap (λ l. l.all) c.in_ok-lines.ensures;
+  few = omega arith;
+  within = omega (arith, ap (λ l. l.taken) c.in_ok-lines.ensures);
+  reads = omega arith;
+  writes = omega arith;
+}
