@@ -1,6 +1,8 @@
 -- A replay from line to line, and how it ends.
-use Rattle.std.proofs.Common.{◌≡◌, ◌≢◌, ℕ, ◌+◌, ◌≤◌, ◌<◌, List, [], ◌∷◌, ◌++◌, ◌↔◌, inl, inr, refl, sym, ◌∙◌, ap, arith, subst, length, Option, None, Some, append_assoc, append-nil, length-append, get_or, map, Bool, Ok, Err, Result}
+use Rattle.std.proofs.Common.{◌≡◌, ◌≢◌, ℕ, ◌+◌, ◌≤◌, ◌<◌, List, [], ◌∷◌, ◌++◌, ◌↔◌, inl, inr, refl, sym, ◌∙◌, ap, arith, subst, length, Option, None, Some, append_assoc, append-nil, length-append, get_or, map, take, Bool, Ok, Err, Result}
 use Rattle.std.specs.Prelude.{IsTrue, nat_eq}
+use Rattle.std.proofs.lemmas.List.{take_all}
+use Rattle.std.proofs.Math.Seq.{take-append-add}
 use Rattle.std.specs.Cmp.Lexicographic.{pointwise}
 use Rattle.std.proofs.lemmas.Bool.Decides.{eqb_tells}
 use Rattle.tree_clock.specs.DotLaws.{path_eq-Decides}
@@ -14,7 +16,7 @@ use Rattle.mld_model.specs.World.{World}
 use Rattle.mld_model.specs.Runs.{Stage, Waiting, Running, Acts, Runs, IsBad, IsUnbuilt, Before, Outcome, Finished, BadLine, UnbuiltLine, Verdict}
 use Rattle.mld_model.specs.Sound.{IsSound}
 use Rattle.mld_model.specs.StandsFor.{RunningWorld, StandsFor}
-use Rattle.mld.specs.Ran.{Finishes, StopsAtBad, StopsAtUnbuilt, StopsAtLarge, StageStands, IsStandingStage, ActsWell, TakesLine, IfSomeLine, Agrees, steps_of}
+use Rattle.mld.specs.Ran.{Finishes, StopsAtBad, StopsAtUnbuilt, StopsAtLarge, WritesFront, StageStands, IsStandingStage, ActsWell, TakesLine, IfSomeLine, Agrees, steps_of}
 use Rattle.mld_model.specs.declared.Command.{Command}
 use Rattle.mld_model.specs.World.{founded}
 use Rattle.mld_model.specs.Reply.{Ready, reply_text}
@@ -119,6 +121,48 @@ under_way_more given left rest before now after size grown world next done line 
       steps = omega (arith, few, way.steps);
       left_of = taken_left given left size grown done way.lines line rest way.left_of takes;
       written = appends_more before now after way.text text way.written writes;
+    }
+
+-- ---- what was written is a front of the text of a run over the first lines
+
+pub front_first : (before : Option (List ℕ)) (bytes : List ℕ) → WritesFront bytes before before
+front_first before bytes = record { lines = []; rest = lines_of bytes; whole = refl; text = []; stage = Waiting; runs = (refl, refl); size = 0; written = appends_nothing before }
+
+pub front_of_way : (given left before now : Option (List ℕ)) (size : ℕ) (world : Option RunningWorld) (done : ℕ) → IsUnderWay given left before now size world done
+    → (bytes : List ℕ) → given ≡ Some bytes → WritesFront bytes before now
+front_of_way given left before now size world done way bytes is =
+    let at : IsLeft bytes left size done way.lines = way.left_of bytes is in
+    let P : List ℕ → Type 0 = λ t. Appends before now t in
+    record {
+      lines = way.lines;
+      rest = lines_of at.rest;
+      whole = at.whole;
+      text = way.text;
+      stage = way.stage;
+      runs = way.runs;
+      size = length way.text;
+      written = subst P (sym (take_all (length way.text) way.text (omega arith))) way.written;
+    }
+
+-- and so is it where the reply to a line was cut short
+pub front_of_reply : (given left rest before now after : Option (List ℕ)) (size grown : ℕ) (world next : Option RunningWorld) (done : ℕ) (line text : List ℕ)
+    → IsUnderWay given left before now size world done
+    → ((bytes : List ℕ) → left ≡ Some bytes → TakesLine size bytes rest grown (Some line))
+    → ((stage : Stage) → StageStands world stage → ActsWell stage line text next)
+    → (n : ℕ) → Appends now after (take n text) → (bytes : List ℕ) → given ≡ Some bytes → WritesFront bytes before after
+front_of_reply given left rest before now after size grown world next done line text way takes acts n writes bytes is =
+    let act : ActsWell way.stage line text next = acts way.stage way.stands in
+    let at : IsLeft bytes rest grown (done + 1) (way.lines ++ line ∷ []) = taken_left given left size grown done way.lines line rest way.left_of takes bytes is in
+    let P : List ℕ → Type 0 = λ t. Appends before after t in
+    record {
+      lines = way.lines ++ line ∷ [];
+      rest = lines_of at.rest;
+      whole = at.whole;
+      text = way.text ++ text;
+      stage = act.next;
+      runs = runs_more Waiting way.stage act.next way.lines way.text line text way.runs act.acts;
+      size = length way.text + n;
+      written = subst P (sym (take-append-add way.text text n)) (appends_more before now after way.text (take n text) way.written writes);
     }
 
 -- the state stands for some stage

@@ -1,11 +1,11 @@
 -- How a run ends, and what it has written then.
-use Rattle.std.specs.Prelude.{◌≡◌, ◌≢◌, ◌⊎◌, ℕ, ◌+◌, ◌<◌, ◌≤◌, List, [], ◌∷◌, Bool, true, false, Option, None, Some, Result, IsErrOf, codes}
+use Rattle.std.specs.Prelude.{◌≡◌, ◌≢◌, ◌⊎◌, ℕ, ◌+◌, ◌<◌, ◌≤◌, List, [], ◌∷◌, ◌++◌, take, Bool, true, false, Option, None, Some, Result, IsErrOf, codes}
 use Rattle.std.specs.Io.KnownBytes.{Appends}
 use Rattle.mld_io.specs.Faults.{Rose}
 use Rattle.mld_io.specs.Lines.{lines_of, first_line, after_line, line_size}
 use Rattle.mld.specs.Limits.{BreaksLimits, IsTooLargeLine}
 use Rattle.mld_model.specs.World.{World}
-use Rattle.mld_model.specs.Runs.{Stage, Waiting, Running, Acts, Before, Outcome, Finished, BadLine, UnbuiltLine, Verdict}
+use Rattle.mld_model.specs.Runs.{Stage, Waiting, Running, Acts, Runs, Before, Outcome, Finished, BadLine, UnbuiltLine, Verdict}
 use Rattle.mld_model.specs.Sound.{IsSound}
 use Rattle.mld_model.specs.StandsFor.{RunningWorld, StandsFor}
 use Rattle.mld.specs.Summaries.{SummarizesAll}
@@ -109,6 +109,17 @@ pub record StopsAtLarge (P : Stage → Type 0) (bytes : List ℕ) (number : ℕ)
   pub large : (lines : ℕ) → number ≡ lines + 1 → IsTooLargeLine bytes lines
   pub written : Appends before after text
   pub holds : P stage
+
+-- what was written is a front of the text of a run over the first lines of these bytes
+pub record WritesFront (bytes : List ℕ) (before after : Option (List ℕ)) : Type 0 where
+  pub lines : List (List ℕ)
+  pub rest : List (List ℕ)
+  pub whole : lines_of bytes ≡ lines ++ rest
+  pub text : List ℕ
+  pub stage : Stage
+  pub runs : Runs Waiting lines text stage
+  pub size : ℕ
+  pub written : Appends before after (take size text)
 
 -- the run ended as the verdict says, or by a fault of reading or writing, want of memory or a line that is too large
 abbrev pub Agrees : Option RunFault → Outcome → Type 0

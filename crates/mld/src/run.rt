@@ -1,5 +1,5 @@
 //! The run: all that the program does, over the words, the source and the sink that it is handed.
-ghost use Rattle.std.specs.Prelude.{◌≡◌, ◌↔◌, ◌≤◌, ◌<◌, ◌+◌, ℕ, List, map, IsTrue, IfOk, IfErr, OnOk, IsErrOf};
+ghost use Rattle.std.specs.Prelude.{◌≡◌, ◌↔◌, ◌≤◌, ◌<◌, ◌+◌, ℕ, List, map, take, IsTrue, IfOk, IfErr, OnOk, OnErr, IsErrOf};
 ghost use Rattle.std.specs.Io.KnownBytes.{Appends};
 ghost use Rattle.std.specs.String.{string_bytes};
 ghost use Rattle.mld_io.specs.Faults.{Rose};
@@ -12,7 +12,7 @@ ghost use Rattle.mld.specs.Worlds.{IsStanding};
 ghost use Rattle.mld.specs.Stops.{fault_of};
 ghost use Rattle.mld.specs.Limits.{BreaksLimits};
 ghost use Rattle.mld.specs.Summaries.{TellsOf};
-ghost use Rattle.mld.specs.Ran.{status_of, tells, IsReplay, Finishes, StopsAtBad, StopsAtUnbuilt, StopsAtLarge, SummarizesWorld, EndsBy, Agrees, StageStands, IsStandingStage, ActsWell, steps_of, TakesLine, IfSomeLine, IsReadingFault, IsWritingFault, IsLineFault, HasReadCause, HasWriteCause};
+ghost use Rattle.mld.specs.Ran.{status_of, tells, IsReplay, Finishes, StopsAtBad, StopsAtUnbuilt, StopsAtLarge, WritesFront, SummarizesWorld, EndsBy, Agrees, StageStands, IsStandingStage, ActsWell, steps_of, TakesLine, IfSomeLine, IsReadingFault, IsWritingFault, IsLineFault, HasReadCause, HasWriteCause};
 
 use crate::lines::{Line, Opening, read_line, read_opening};
 use crate::replies::push_ready;
@@ -83,19 +83,21 @@ pub fn run<R: Threads, S: Source, K: Sink>(
     ensures usage { (result.fault ≡ Some RunFault.Usage) ↔ (¬ IsReplay (map (λ w. string_bytes w) words.now.items)) }
     ensures untouched { result.fault ≡ Some RunFault.Usage → (source.new ≡ source.old) × (sink.new ≡ sink.old) }
 
-    // At status 0 the source is read to its end, and what was written is the text of a run of the model over its lines. The
-    // world that they lead to is the one that is told of.
+    // At status 0 the source is read to its end, none of its lines is too large, and what was written is the text of a run of
+    // the model over them. The world that they lead to is the one that is told of.
     ensures finished { result.fault ≡ None → (bytes : List ℕ) → S.left source.old ≡ Some bytes
         → Finishes (TellsOf result.world) bytes (S.left source.new) (K.held sink.old) (K.held sink.new) }
-    // At 4 and 20 the line of that number is the first that is bad or unbuilt, and the text is that of the lines before it. At
-    // 4 and 7 the world that those lead to is told of.
+    // At 4, 20 and 7 the line of that number is the first that is bad, unbuilt or too large; at 4 and 20 none up to it is too
+    // large. The text is that of the lines before it. At 4 and 7 the world that those lead to is told of.
     ensures bad { (line : ℕ) → result.fault ≡ Some (RunFault.BadLine line) → (bytes : List ℕ) → S.left source.old ≡ Some bytes
         → StopsAtBad (TellsOf result.world) bytes line (K.held sink.old) (K.held sink.new) }
     ensures unbuilt { (line : ℕ) → result.fault ≡ Some (RunFault.Unbuilt line) → (bytes : List ℕ) → S.left source.old ≡ Some bytes
         → StopsAtUnbuilt bytes line (K.held sink.old) (K.held sink.new) }
     ensures large { (line : ℕ) → result.fault ≡ Some (RunFault.TooLarge line) → (bytes : List ℕ) → S.left source.old ≡ Some bytes
         → StopsAtLarge (TellsOf result.world) bytes line (K.held sink.old) (K.held sink.new) }
-    // At the other statuses nothing is told.
+    // Whatever the status is, what was written is a front of the text of a run over the first lines.
+    ensures front { (bytes : List ℕ) → S.left source.old ≡ Some bytes → WritesFront bytes (K.held sink.old) (K.held sink.new) }
+    // At the other statuses nothing is told of the world.
     ensures silent { ¬ IsTrue (tells result.fault) → result.world ≡ None }
     // 2 comes only where the source's count of faults rose, and 3 only where the sink's did.
     ensures read { result.fault ≡ Some RunFault.ReadFault → Rose (S.faults source.old) (S.faults source.new) }
@@ -203,6 +205,7 @@ fn replay<S: Source, K: Sink>(
         → StopsAtUnbuilt bytes line (K.held sink.old) (K.held sink.new) }
     ensures large { (line : ℕ) → IsErrOf result (RunFault.TooLarge line) → (bytes : List ℕ) → S.left source.old ≡ Some bytes
         → StopsAtLarge (StageStands world.new) bytes line (K.held sink.old) (K.held sink.new) }
+    ensures front { (bytes : List ℕ) → S.left source.old ≡ Some bytes → WritesFront bytes (K.held sink.old) (K.held sink.new) }
     ensures read { IsErrOf result RunFault.ReadFault → Rose (S.faults source.old) (S.faults source.new) }
     ensures write { IsErrOf result RunFault.WriteFault → Rose (K.faults sink.old) (K.faults sink.new) }
 {
@@ -259,6 +262,7 @@ fn next_line<S: Source>(
 /// Writes the text of a line's reply as one piece.
 fn write_reply<K: Sink>(sink: &mut K, reply: &[u8]) -> Result<(), RunFault>
     ensures ok { OnOk result (Appends (K.held sink.old) (K.held sink.new) reply.now) }
+    ensures err { OnErr result ((n : ℕ) × Appends (K.held sink.old) (K.held sink.new) (take n reply.now)) }
     ensures fault { IfErr result IsWritingFault }
     ensures cause { HasWriteCause (K.faults sink.old) (K.faults sink.new) result }
 {

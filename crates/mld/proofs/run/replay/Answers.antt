@@ -1,6 +1,6 @@
 use Rattle.std.proofs.Common.{◌∙◌, ◌+◌, sym, ap, arith}
 use Rattle.std.proofs.lemmas.Result.{err_from_is_err_and}
-use Rattle.mld.proofs.RunLemmas.{under_way_first, under_way_more, takes_some, stops_bad_at, stops_unbuilt_at, stops_large, finishes_at, ends_waiting_at, same_bad, same_fault, err_same, of_line}
+use Rattle.mld.proofs.RunLemmas.{under_way_first, under_way_more, front_first, front_of_way, front_of_reply, takes_some, stops_bad_at, stops_unbuilt_at, stops_large, finishes_at, ends_waiting_at, same_bad, same_fault, err_same, of_line}
 use Rattle.mld.proofs.run.replay.Goals as goal
 
 pub returns-in_err-reply-clause-bad : goal.returns-in_err-reply-clause-bad
@@ -66,3 +66,35 @@ loop-line-init g c = record {
   reads = omega arith;
   writes = omega arith;
 }
+
+pub returns-in_err-lines-clause-front : goal.returns-in_err-lines-clause-front
+returns-in_err-lines-clause-front g c = λ bytes told. front_first (g.K.Sink.held c.args.sink.now) bytes
+
+pub returns-in_err-line-clause-front : goal.returns-in_err-line-clause-front
+returns-in_err-line-clause-front g c =
+    front_of_way (g.S.Source.left c.args.source.now) (g.S.Source.left c.loop-line.source) (g.K.Sink.held c.args.sink.now) (g.K.Sink.held c.loop-line.sink)
+    c.loop-line.lines.taken c.loop-line.world c.loop-line.done c.loop-line.invariant.way
+
+pub returns-in_err-reply-clause-front : goal.returns-in_err-reply-clause-front
+returns-in_err-reply-clause-front g c =
+    front_of_way (g.S.Source.left c.args.source.now) (g.S.Source.left c.loop-line.source) (g.K.Sink.held c.args.sink.now) (g.K.Sink.held c.loop-line.sink)
+    c.loop-line.lines.taken c.loop-line.world c.loop-line.done c.loop-line.invariant.way
+
+pub returns-in_err-write_reply-clause-front : goal.returns-in_err-write_reply-clause-front
+returns-in_err-write_reply-clause-front g c =
+    front_of_reply (g.S.Source.left c.args.source.now) (g.S.Source.left c.loop-line.source) (g.S.Source.left c.next_line.new.source)
+    (g.K.Sink.held c.args.sink.now) (g.K.Sink.held c.loop-line.sink) (g.K.Sink.held c.write_reply.new.sink) c.loop-line.lines.taken c.next_line.new.lines.taken
+    c.loop-line.world c.act.new.world c.loop-line.done c.as_slice.result.now c.in_ok-reply.reply.items c.loop-line.invariant.way
+    (takes_some (g.S.Source.left c.loop-line.source) (g.S.Source.left c.next_line.new.source) c.in_ok-line.field-0 c.loop-line.lines.taken c.next_line.new.lines.taken c.in-Some.line c.as_slice.result.now
+    c.in-Some.is c.as_slice.ensures c.in_ok-line.ensures.line)
+    c.in_ok-reply.ensures.ok c.in_err-write_reply.ensures.err.0 (rw (sym c.as_slice-in-Some.ensures.value) c.in_err-write_reply.ensures.err.1)
+
+pub returns-in-Some-world-clause-front : goal.returns-in-Some-world-clause-front
+returns-in-Some-world-clause-front g c =
+    front_of_way (g.S.Source.left c.args.source.now) (g.S.Source.left c.loop-line.source) (g.K.Sink.held c.args.sink.now) (g.K.Sink.held c.loop-line.sink)
+    c.loop-line.lines.taken c.loop-line.world c.loop-line.done c.loop-line.invariant.way
+
+pub returns-in-None-clause-front : goal.returns-in-None-clause-front
+returns-in-None-clause-front g c =
+    front_of_way (g.S.Source.left c.args.source.now) (g.S.Source.left c.loop-line.source) (g.K.Sink.held c.args.sink.now) (g.K.Sink.held c.loop-line.sink)
+    c.loop-line.lines.taken c.loop-line.world c.loop-line.done c.loop-line.invariant.way

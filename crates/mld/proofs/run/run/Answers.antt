@@ -1,3 +1,4 @@
+use Rattle.mld.proofs.RunLemmas.{front_first}
 use Rattle.mld.proofs.SummaryLemmas.{finishes_by, bad_by, large_by, agrees_by}
 use Rattle.mld.proofs.run.run.Goals as goal
 
@@ -21,3 +22,6 @@ returns-clause-exact g c = λ bytes told outcome verdict words.
     agrees_by c.replay.result c.err-fault.result c.replay.new.world c.ended_with.result (g.S.Source.left c.args.source.now) (g.S.Source.left c.replay.new.source)
     (g.K.Sink.held c.args.sink.now) (g.K.Sink.held c.replay.new.sink) c.err-fault.ensures.value c.ended_with.ensures.ends
     c.replay.ensures.finished c.replay.ensures.usage c.replay.ensures.bad c.replay.ensures.unbuilt bytes told outcome verdict
+
+pub returns-then-not-is_replay-clause-front : goal.returns-then-not-is_replay-clause-front
+returns-then-not-is_replay-clause-front g c = λ bytes told. front_first (g.K.Sink.held c.args.sink.now) bytes
