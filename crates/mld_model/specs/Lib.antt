@@ -13,6 +13,7 @@ pub mod WorldStep
 pub mod WorldLaws
 pub mod KnownLaws
 pub mod HistoryLaws
+pub mod JournalLaws
 pub mod SoundLaws
 pub mod FoundedLaws
 pub mod Bytes
