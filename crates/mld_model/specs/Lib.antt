@@ -18,8 +18,10 @@ pub mod SoundLaws
 pub mod FoundedLaws
 pub mod Bytes
 pub mod TripleBytes
+pub mod Answers
 pub mod Laws
 pub mod ScheduleLaws
 pub mod StepLaws
 pub mod RunsLaws
 pub mod StepSoundLaws
+pub mod AnswersLaws
