@@ -87,6 +87,7 @@ founded_sound domain count = record {
       let P : Stored → Type 0 = λ s. IsSoundClone [] s in
       subst P a.1 (record {
         closed = record { done = λ dot h. absurd h; causes = λ operation stands. absurd stands };
+        journal = record { done = λ dot h. absurd h; causes = λ operation stands. absurd stands };
         own = λ operation stands. absurd stands;
         above = λ operation stands. absurd stands;
         below = λ operation stands. absurd stands;

@@ -3,18 +3,18 @@ use Rattle.std.specs.Prelude.{◌≡◌, ◌≢◌, ℕ, List, IsTrue}
 use Rattle.rdf_terms.specs.declared.terms.Triple.{Triple}
 use Rattle.tree_clock.specs.declared.dots.Dot.{Dot}
 use Rattle.tree_clock.specs.declared.dots.Range.{Range}
-use Rattle.tree_clock.specs.Dot.{Knows}
 use Rattle.mld_ops.specs.declared.tagged.Tagged.{Tagged}
-use Rattle.mld_ops.specs.History.{Operation, IsInserted}
+use Rattle.mld_ops.specs.History.{Operation}
 use Rattle.mld_ops.specs.Meaning.{IsMeaning}
 use Rattle.mld_model.specs.declared.Command.{Command}
-use Rattle.mld_model.specs.declared.Command.TheVariants.{Add}
-use Rattle.mld_model.specs.Clone.{Stored, Live, known_of, IsWithin}
+use Rattle.mld_model.specs.declared.Command.TheVariants.{Add, Remove}
+use Rattle.mld_model.specs.Clone.{Stored, IsWithin}
 use Rattle.mld_model.specs.World.{World, clone_at, founded}
 use Rattle.mld_model.specs.Reply.{Reply, Did}
 use Rattle.mld_model.specs.Step.{Step}
 use Rattle.mld_model.specs.Sound.{Keeps, IsSound}
 use Rattle.mld_model.specs.Schedule.{IsNothing, is_unbuilt, SpellsSetup, SpellsCommand}
+use Rattle.mld_model.specs.Answers.{Remembers, IsAddOf, IsRemoveOf, IsAnswered, Survives}
 use Rattle.mld_model.specs.Runs.{Stage, Waiting, Running, Acts, Runs, IsBad, IsUnbuilt, Outcome, Verdict}
 
 -- a line is at most one of these: it says nothing, it isn't built yet, it is a domain line, it is a command
@@ -83,18 +83,30 @@ abbrev pub SamePairs : Type 0
 SamePairs = (history : List Operation) (known other : List Range) (pairs others : List Tagged)
     → IsWithin known other → IsWithin other known → IsMeaning history known pairs → IsMeaning history other others → pairs ≡ others
 
--- the clone of the number is live and knows the dot, and the operation of the dot stands in the history and inserts the triple
-pub record Remembers (world : World) (number : ℕ) (triple : Triple) (dot : Dot) : Type 0 where
-  pub stored : Stored
-  pub held : List Range
-  pub live : clone_at world number ≡ Live stored held
-  pub known : Knows (known_of stored) dot
-  pub inserted : IsInserted world.history (record { triple = triple; dot = dot })
-
--- the dot that an `add` tells of is known to its clone, and its operation inserts the triple
+-- the dot that an `add` tells of is that of an operation with the triple as its one insert and no deletes, and its clone
+-- remembers the operation
 abbrev pub AddRemembers : Type 0
 AddRemembers = (world : World) (number : ℕ) (triple : Triple) (dot : Dot) (message : ℕ) (next : World)
-    → Step world (Add number triple) (Did dot message) next → Remembers next number triple dot
+    → Step world (Add number triple) (Did dot message) next
+    → (operation : Operation) × IsAddOf triple dot operation × Remembers next number operation
+
+-- the dot that a `remove` tells of is that of an operation with no inserts, which deletes the pairs of the triple that
+-- its clone had, at least one; and its clone remembers the operation
+abbrev pub RemoveRemembers : Type 0
+RemoveRemembers = (world : World) (number : ℕ) (triple : Triple) (dot : Dot) (message : ℕ) (next : World)
+    → Step world (Remove number triple) (Did dot message) next
+    → (operation : Operation) × IsRemoveOf world number triple dot operation × Remembers next number operation
+
+-- what a clone remembers before a step it remembers after it
+abbrev pub StepRemembers : Type 0
+StepRemembers = (world : World) (number : ℕ) (operation : Operation) (command : Command) (reply : Reply) (next : World)
+    → Remembers world number operation → Step world command reply next → Remembers next number operation
+
+-- in the world that a schedule reaches, each clone remembers the operation of each `add` and `remove` that was answered with a dot
+abbrev pub AnswersSurvive : Type 0
+AnswersSurvive = (lines : List (List ℕ)) (text : List ℕ) (world : World) (number : ℕ) (dot : Dot)
+    → Runs Waiting lines text (Running world) → (answered : IsAnswered lines number dot)
+    → Survives answered.before answered.command dot world number
 
 -- no two clones of a sound world hold one leaf
 abbrev pub OneLeaf : Type 0

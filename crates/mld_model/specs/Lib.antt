@@ -13,12 +13,15 @@ pub mod WorldStep
 pub mod WorldLaws
 pub mod KnownLaws
 pub mod HistoryLaws
+pub mod JournalLaws
 pub mod SoundLaws
 pub mod FoundedLaws
 pub mod Bytes
 pub mod TripleBytes
+pub mod Answers
 pub mod Laws
 pub mod ScheduleLaws
 pub mod StepLaws
 pub mod RunsLaws
 pub mod StepSoundLaws
+pub mod AnswersLaws

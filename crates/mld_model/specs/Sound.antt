@@ -1,11 +1,12 @@
 -- What every world that a schedule reaches keeps.
-use Rattle.std.specs.Prelude.{◌≡◌, ◌≢◌, ℕ, ◌≤◌, List, length}
+use Rattle.std.specs.Prelude.{◌≡◌, ◌≢◌, ℕ, ◌≤◌, List, [], ◌∷◌, ◌++◌, length}
 use Rattle.tree_clock.specs.declared.dots.Dot.{Dot}
+use Rattle.tree_clock.specs.declared.dots.Range.{Range}
 use Rattle.tree_clock.specs.Lists.{Has}
 use Rattle.tree_clock.specs.Path.{IsProperPrefix, AreApart}
 use Rattle.tree_clock.specs.Dot.{IsIn, Knows}
 use Rattle.mld_ops.specs.History.{Operation, IsDone, IsClosed, IsLawful}
-use Rattle.mld_model.specs.Clone.{Clone, Absent, Asking, Empty, Down, Live, Stored, known_of}
+use Rattle.mld_model.specs.Clone.{Clone, Absent, Asking, Empty, Down, Live, Stored, known_of, IsReady}
 use Rattle.mld_model.specs.World.{World, Message, RangeOf, Want, SnapshotOf, JoinAsk, JoinGive, clone_at}
 
 -- the clone of the number keeps this: it holds the path as its leaf
@@ -16,10 +17,23 @@ Keeps Empty stored = ⊥
 Keeps (Down kept) stored = kept ≡ stored
 Keeps (Live kept held) stored = kept ≡ stored
 
--- of a clone that holds a path: what it knows is closed; each dot at its path or at a proper prefix is known to it, and
--- none goes on from its path
+-- the range may follow in a journal where these dots are known: it has dots, with ticks of 1 or more, and it is ready
+pub record MayFollow (history : List Operation) (known : List Range) (range : Range) : Type 0 where
+  pub positive : 1 ≤ range.first
+  pub some : range.first ≤ range.last
+  pub ready : IsReady history known range
+
+-- a journal over these known dots: they are closed, and each of its ranges is ready (so not known) once those before it are known
+abbrev pub IsSoundJournal : List Operation → List Range → List Range → Type 0
+IsSoundJournal history known [] = IsClosed history known
+IsSoundJournal history known (range ∷ ranges) =
+    IsClosed history known × MayFollow history known range × IsSoundJournal history (known ++ range ∷ []) ranges
+
+-- of a clone that holds a path: what it knows is closed, and so is its base with each front of its journal; each dot at
+-- its path or at a proper prefix is known to it, and none goes on from its path
 pub record IsSoundClone (history : List Operation) (stored : Stored) : Type 0 where
   pub closed : IsClosed history (known_of stored)
+  pub journal : IsSoundJournal history stored.base stored.journal
   pub own : (operation : Operation) → Has history operation → operation.dot.path ≡ stored.path → Knows (known_of stored) operation.dot
   pub above : (operation : Operation) → Has history operation → IsProperPrefix operation.dot.path stored.path
       → Knows (known_of stored) operation.dot

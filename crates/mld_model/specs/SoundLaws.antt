@@ -1,5 +1,5 @@
 -- Laws of sound worlds: making or taking an operation keeps a world sound.
-use Rattle.std.proofs.Common.{◌≡◌, ◌≢◌, ℕ, ◌+◌, ◌<◌, ◌≤◌, List, [], ◌∷◌, ◌⊎◌, inl, inr, refl, sym, ◌∙◌, ap, arith, subst, length, get_or, set, append-nil, length-append}
+use Rattle.std.proofs.Common.{◌≡◌, ◌≢◌, ℕ, ◌+◌, ◌<◌, ◌≤◌, List, [], ◌∷◌, ◌++◌, ◌⊎◌, inl, inr, refl, sym, ◌∙◌, ap, arith, subst, length, get_or, set, append-nil, length-append}
 use Rattle.std.proofs.lemmas.Bool.{cases_eq, cases_lt}
 use Rattle.std.proofs.lemmas.List.{get_or-set_same, get_or-set_other, get_or_past, length-set}
 use Rattle.tree_clock.specs.declared.dots.Dot.{Dot}
@@ -12,14 +12,15 @@ use Rattle.rdf_terms.specs.declared.terms.Triple.{Triple}
 use Rattle.mld_ops.specs.declared.tagged.Tagged.{Tagged}
 use Rattle.mld_ops.specs.History.{Operation, IsDone, IsInserted, IsClosed, IsNext, IsLawful, dot_at}
 use Rattle.mld_ops.specs.Effect.{range_of}
-use Rattle.mld_ops.specs.HistoryLaws.{same_dot, range_of_has, before, closed_with_taken}
+use Rattle.mld_ops.specs.HistoryLaws.{same_dot, range_of_has, before, closed_with_taken, knows_more, knows_still, knows_last}
 use Rattle.mld_ops.specs.AscendingLaws.{has_append}
 use Rattle.mld_ops.specs.Net.{IsTime}
 use Rattle.mld_model.specs.Clone.{Clone, Absent, Live, Stored, known_of, with_range, last_dot, IsReady}
 use Rattle.mld_model.specs.World.{World, Message, RangeOf, Want, SnapshotOf, JoinAsk, JoinGive, clone_at, with_clone}
 use Rattle.mld_model.specs.Step.{IsNextTick, after_operation}
 use Rattle.mld_model.specs.Sound.{Keeps, IsSoundClone, IsSoundMessage, IsSound}
-use Rattle.mld_model.specs.KnownLaws.{known_with, known_with-old, known_with-new, known_with-split}
+use Rattle.mld_model.specs.KnownLaws.{known_with, known_with-old, known_with-new}
+use Rattle.mld_model.specs.JournalLaws.{journal_with, journal_more, own_may_follow}
 use Rattle.mld_model.specs.HistoryLaws.{IsDone-more, IsClosed-more, causes_closed}
 
 -- a number at which a clone stands is one of the list's places
@@ -73,6 +74,7 @@ pub other_stays_sound : (history : List Operation) (next : Operation) (stored : 
     → IsNext history next → AreApart next.dot.path stored.path → IsSoundClone history stored → IsSoundClone (next ∷ history) stored
 other_stays_sound history next stored is_next apart sound = record {
   closed = IsClosed-more history next (known_of stored) is_next sound.closed;
+  journal = journal_more history next stored.base stored.journal is_next sound.journal;
   own = λ operation stands same. elim stands [
     | inl is ↦ absurd (apart_differ next.dot.path stored.path apart (ap (λ (o : Operation). o.dot.path) is ∙ same))
     | inr earlier ↦ sound.own operation earlier same
@@ -111,10 +113,13 @@ maker_stays_sound history next stored path causes lawful is_next sound =
     let range : Range = range_of next.dot in
     let inside : IsIn range next.dot = range_of_has next.dot next.dot refl in
     let ready : (dot : Dot) → Knows next.causes dot → Knows (known_of stored) dot = λ dot k. (let P : List Range → Type 0 = λ l. Knows l dot in subst P causes k) in
+    let closed : IsClosed (next ∷ history) (known_of stored ++ range ∷ []) =
+    closed_with_taken (next ∷ history) (known_of stored) next (is_next, lawful) (IsClosed-more history next (known_of stored) is_next sound.closed) (inl refl) ready in
     record {
-      closed = (let P : List Range → Type 0 = IsClosed (next ∷ history) in
-          subst P (sym (known_with stored range))
-          (closed_with_taken (next ∷ history) (known_of stored) next (is_next, lawful) (IsClosed-more history next (known_of stored) is_next sound.closed) (inl refl) ready));
+      closed = (let P : List Range → Type 0 = IsClosed (next ∷ history) in subst P (sym (known_with stored range)) closed);
+      journal = journal_with (next ∷ history) stored.base stored.journal range
+          (journal_more history next stored.base stored.journal is_next sound.journal)
+          (own_may_follow history next (known_of stored) lawful is_next sound.closed ready) closed;
       own = λ operation stands same. elim stands [
         | inl is ↦ let P : Operation → Type 0 = λ o. IsIn range o.dot in known_with-new stored range operation.dot (subst P is inside)
         | inr earlier ↦ known_with-old stored range operation.dot (sound.own operation earlier same)
@@ -216,17 +221,19 @@ taker_stays_sound history stored range lawful sent ready sound =
           record { last = last.operation; stands = last.stands; is = last.is; cause = inl ((causes_closed history last.operation lawful last.stands).causes operation stands known dot cause) }
       | inr end ↦ record { last = operation; stands = stands; is = same_dot operation.dot (last_dot range) inside.path (omega (arith, end, inside.below)); cause = inl cause }
     ] in
+    let closed : IsClosed history (known_of stored ++ range ∷ []) = record {
+      done = λ dot h. elim (knows_more (known_of stored) range dot h) [ inl old ↦ sound.closed.done dot old | inr new ↦ sent.2 dot new ];
+      causes = λ operation stands h dot cause. elim (knows_more (known_of stored) range operation.dot h) [
+        | inl old ↦ knows_still (known_of stored) range dot (sound.closed.causes operation stands old dot cause)
+        | inr new ↦ elim (IsIn_or_not range dot) [
+          | inl inside ↦ knows_last (known_of stored) range dot inside
+          | inr outside ↦ knows_still (known_of stored) range dot (ready.time dot (timed operation stands new dot cause) outside)
+        ]
+      ];
+    } in
     record {
-      closed = record {
-        done = λ dot h. elim (known_with-split stored range dot h) [ inl old ↦ sound.closed.done dot old | inr new ↦ sent.2 dot new ];
-        causes = λ operation stands h dot cause. elim (known_with-split stored range operation.dot h) [
-          | inl old ↦ known_with-old stored range dot (sound.closed.causes operation stands old dot cause)
-          | inr new ↦ elim (IsIn_or_not range dot) [
-            | inl inside ↦ known_with-new stored range dot inside
-            | inr outside ↦ known_with-old stored range dot (ready.time dot (timed operation stands new dot cause) outside)
-          ]
-        ];
-      };
+      closed = (let P : List Range → Type 0 = IsClosed history in subst P (sym (known_with stored range)) closed);
+      journal = journal_with history stored.base stored.journal range sound.journal (record { positive = sent.0; some = sent.1; ready = ready }) closed;
       own = λ operation stands same. known_with-old stored range operation.dot (sound.own operation stands same);
       above = λ operation stands goes_on. known_with-old stored range operation.dot (sound.above operation stands goes_on);
       below = sound.below;

@@ -1,26 +1,20 @@
 -- Each world that a schedule reaches is sound, and what a reader may take from that.
-use Rattle.std.specs.Prelude.{◌≡◌, ℕ, zero, suc, ◌<◌, List, [], ◌∷◌, Option, Some, None, MatchOption, slice_get, length}
+use Rattle.std.specs.Prelude.{◌≡◌, ℕ, zero, suc, List, [], ◌∷◌, Option, Some, None, MatchOption, slice_get}
 use Rattle.std.proofs.Common.{refl, sym, subst, inl, inr}
-use Rattle.std.proofs.lemmas.List.{get_or-set_same}
 use Rattle.rdf_terms.specs.declared.terms.Triple.{Triple}
-use Rattle.tree_clock.specs.declared.dots.Dot.{Dot}
 use Rattle.tree_clock.specs.declared.dots.Range.{Range}
 use Rattle.tree_clock.specs.Lists.{Has}
-use Rattle.mld_ops.specs.History.{dot_at}
-use Rattle.mld_ops.specs.Effect.{range_of}
-use Rattle.mld_ops.specs.HistoryLaws.{range_of_has}
 use Rattle.mld_ops.specs.MeaningLaws.{one_meaning, same_known}
 use Rattle.mld_model.specs.declared.Command.TheVariants.{Add, Remove, Deliver, Show, Compare}
-use Rattle.mld_model.specs.Clone.{Clone, Absent, Asking, Empty, Down, Live, Stored, with_range}
+use Rattle.mld_model.specs.Clone.{Clone, Absent, Asking, Empty, Down, Live, Stored}
 use Rattle.mld_model.specs.World.{World, Message, RangeOf, message_at, clone_at}
-use Rattle.mld_model.specs.Reply.{Reply, Did, NoMessage}
+use Rattle.mld_model.specs.Reply.{Reply, NoMessage}
 use Rattle.mld_model.specs.Step.{Answers, Makes, Adds, Removes, Receives, Takes, Lists, ComparesWith, Weighs, Step}
 use Rattle.mld_model.specs.Runs.{Stage, Waiting, Running, Acts, Runs}
-use Rattle.mld_model.specs.Sound.{Keeps, IsSound}
-use Rattle.mld_model.specs.SoundLaws.{place_of_clone, apart_differ, made_sound, taken_sound}
+use Rattle.mld_model.specs.Sound.{IsSound}
+use Rattle.mld_model.specs.SoundLaws.{apart_differ, made_sound, taken_sound}
 use Rattle.mld_model.specs.FoundedLaws.{founded_sound}
-use Rattle.mld_model.specs.KnownLaws.{known_with-new}
-use Rattle.mld_model.specs.Laws.{StepIsSound, RunsAreSound, SamePairs, Remembers, AddRemembers, OneLeaf}
+use Rattle.mld_model.specs.Laws.{StepIsSound, RunsAreSound, SamePairs, OneLeaf}
 
 -- ---- steps
 
@@ -93,14 +87,14 @@ delivers_sound world number (Some message) reply next sound has p =
     takes_sound world number message (clone_at world number) reply next sound refl (has message refl) p
 
 -- a `show` leaves the world as it was
-lists_same : (world : World) (clone : Clone) (reply : Reply) (next : World) → Lists world clone reply next → next ≡ world
+pub lists_same : (world : World) (clone : Clone) (reply : Reply) (next : World) → Lists world clone reply next → next ≡ world
 lists_same world Absent reply next p = p.1
 lists_same world Asking reply next p = p.1
 lists_same world Empty reply next p = p.1
 lists_same world (Down stored) reply next p = p.1
 lists_same world (Live stored held) reply next p = p.2.1
 
--- and so does a `compare`
+-- and so does a `compare` at a live clone
 compares_same : (world : World) (stored : Stored) (clone : Clone) (reply : Reply) (next : World) → ComparesWith world stored clone reply next → next ≡ world
 compares_same world stored Absent reply next p = p.1
 compares_same world stored Asking reply next p = p.1
@@ -108,7 +102,8 @@ compares_same world stored Empty reply next p = p.1
 compares_same world stored (Down other) reply next p = p.1
 compares_same world stored (Live other held) reply next p = p.1
 
-weighs_same : (world : World) (clone other : Clone) (reply : Reply) (next : World) → Weighs world clone other reply next → next ≡ world
+-- whatever the states of its clones are
+pub weighs_same : (world : World) (clone other : Clone) (reply : Reply) (next : World) → Weighs world clone other reply next → next ≡ world
 weighs_same world Absent other reply next p = p.1
 weighs_same world Asking other reply next p = p.1
 weighs_same world Empty other reply next p = p.1
@@ -154,35 +149,6 @@ runs_sound lines text world p = lines_sound Waiting lines text (Running world) t
 pub same_pairs : SamePairs
 same_pairs history known other pairs others here there p q =
     one_meaning history other pairs others (same_known history known other pairs here there p) q
-
--- the clone that made an operation remembers it
-makes_remembers : (world : World) (number : ℕ) (triple : Triple) (stored : Stored) (held : List Range) (dot : Dot) (message : ℕ) (next : World)
-    → clone_at world number ≡ Live stored held → Makes world number stored held [] (triple ∷ []) (Did dot message) next → Remembers next number triple dot
-makes_remembers world number triple stored held dot message next is p =
-    let own : Dot = dot_at stored.path p.tick in
-    let told : dot ≡ own = cc (p.replies) in
-    let inside : number < length world.clones = place_of_clone world.clones number stored (subst (λ (clone : Clone). Keeps clone stored) (sym is) refl) in
-    subst (λ (world : World). Remembers world number triple dot) (sym p.changes) (record {
-      stored = with_range stored (range_of own);
-      held = held;
-      live = get_or-set_same world.clones number (Live (with_range stored (range_of own)) held) Absent inside;
-      known = known_with-new stored (range_of own) dot (range_of_has own dot told);
-      inserted = record { operation = _; stands = inl refl; is = sym told; inserts = inl refl };
-    })
-
--- an `add` that a clone doesn't do tells of no dot
-adds_remembers : (world : World) (number : ℕ) (triple : Triple) (clone : Clone) (dot : Dot) (message : ℕ) (next : World)
-    → clone_at world number ≡ clone → Adds world number triple clone (Did dot message) next → Remembers next number triple dot
-adds_remembers world number triple Absent dot message next is p = absurd (cc (p.0))
-adds_remembers world number triple Asking dot message next is p = absurd (cc (p.0))
-adds_remembers world number triple Empty dot message next is p = absurd (cc (p.0))
-adds_remembers world number triple (Down stored) dot message next is p = absurd (cc (p.0))
-adds_remembers world number triple (Live stored held) dot message next is p = makes_remembers world number triple stored held dot message next is p
-
--- the dot that an `add` tells of is known to its clone, and its operation inserts the triple
-pub add_remembers : AddRemembers
-unfolding Step
-add_remembers world number triple dot message next p = adds_remembers world number triple (clone_at world number) dot message next refl p
 
 -- no two clones of a sound world hold one leaf
 pub one_leaf : OneLeaf

@@ -14,8 +14,5 @@ returns-clause-runs c = laws.runs_sound
 pub returns-clause-same_pairs : goal.returns-clause-same_pairs
 returns-clause-same_pairs c = laws.same_pairs
 
-pub returns-clause-remembered : goal.returns-clause-remembered
-returns-clause-remembered c = laws.add_remembers
-
 pub returns-clause-one_leaf : goal.returns-clause-one_leaf
 returns-clause-one_leaf c = laws.one_leaf
