@@ -12,6 +12,8 @@ mod replies;
 mod run;
 mod summaries;
 #[cfg(test)]
+mod summary_tests;
+#[cfg(test)]
 mod tests;
 mod worlds;
 

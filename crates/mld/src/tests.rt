@@ -10,7 +10,7 @@ use std::thread::Threads;
 use tree_clock::{Dot, Path, Range, Ranges};
 
 /// Runs by the one word `replay`.
-fn ran_by<R: Threads>(
+pub fn ran_by<R: Threads>(
     rt: &R,
     alloc: Global,
     word: &str,
@@ -133,6 +133,34 @@ fn pairs_are_shown_in_order_and_written_in_one_form(rt: HostRuntime) -> Result<(
     Ok(())
 }
 
+#[test]
+fn a_remove_deletes_the_pairs_that_its_clone_has(rt: HostRuntime) -> Result<(), Fail> {
+    for (schedule, text) in [
+        (
+            "domain d clones 2\nadd 0 <http://d/a> <http://d/#p> \"x\" .\nadd 1 <http://d/a> <http://d/#p> \"x\" .\nremove 1 <http://d/a> <http://d/#p> \"x\" .\ndeliver 1 1\ndeliver 2 0\ndeliver 3 0\nshow 0\ncompare 0 1\nadd 0 <http://d/a> <http://d/#p> \"x\" .\nshow 0\ncompare 0 1\n",
+            "ready 2\ndid r0.1 m1\ndid r1.1 m2\ndid r1.2 m3\ntook r0.1-1\ntook r1.1-1\ntook r1.2-2\nhas 1\nr0.1 <http://d/a> <http://d/#p> \"x\" .\nsame\ndid r0.2 m4\nhas 2\nr0.1 <http://d/a> <http://d/#p> \"x\" .\nr0.2 <http://d/a> <http://d/#p> \"x\" .\nmore\n",
+        ),
+        // There is nothing to delete, and no operation is made. An absent clone makes none either.
+        (
+            "domain d clones 2\nremove 0 <http://d/a> <http://d/#p> \"x\" .\nremove 5 <http://d/a> <http://d/#p> \"x\" .\nadd 0 <http://d/a> <http://d/#p> \"x\" .\nremove 0 <http://d/b> <http://d/#p> \"x\" .\nremove 1 <http://d/a> <http://d/#p> \"x\" .\nshow 0\n",
+            "ready 2\nnone\nabsent\ndid r0.1 m1\nnone\nnone\nhas 1\nr0.1 <http://d/a> <http://d/#p> \"x\" .\n",
+        ),
+        // Both pairs of the triple go, here and where the entry comes to; what was added there meanwhile stays, and so does another triple.
+        (
+            "domain d clones 2\nadd 0 <http://d/a> <http://d/#p> \"x\" .\nadd 1 <http://d/a> <http://d/#p> \"x\" .\nadd 1 <http://d/b> <http://d/#p> \"x\" .\ndeliver 1 1\nremove 1 <http://d/a> <http://d/#p> \"x\" .\nshow 1\nadd 0 <http://d/a> <http://d/#p> \"x\" .\ndeliver 2 0\ndeliver 3 0\nshow 0\ndeliver 4 0\nshow 0\ndeliver 5 1\nshow 1\ncompare 0 1\n",
+            "ready 2\ndid r0.1 m1\ndid r1.1 m2\ndid r1.2 m3\ntook r0.1-1\ndid r1.3 m4\nhas 1\nr1.2 <http://d/b> <http://d/#p> \"x\" .\ndid r0.2 m5\ntook r1.1-1\ntook r1.2-2\nhas 4\nr0.1 <http://d/a> <http://d/#p> \"x\" .\nr0.2 <http://d/a> <http://d/#p> \"x\" .\nr1.1 <http://d/a> <http://d/#p> \"x\" .\nr1.2 <http://d/b> <http://d/#p> \"x\" .\ntook r1.3-3\nhas 2\nr0.2 <http://d/a> <http://d/#p> \"x\" .\nr1.2 <http://d/b> <http://d/#p> \"x\" .\ntook r0.2-2\nhas 2\nr0.2 <http://d/a> <http://d/#p> \"x\" .\nr1.2 <http://d/b> <http://d/#p> \"x\" .\nsame\n",
+        ),
+        // What was deleted is not there again where its insertion comes once more.
+        (
+            "domain d clones 1\nadd 0 <http://d/a> <http://d/#p> \"x\" .\nremove 0 <http://d/a> <http://d/#p> \"x\" .\nremove 0 <http://d/a> <http://d/#p> \"x\" .\ndeliver 1 0\nshow 0\nadd 0 <http://d/a> <http://d/#p> \"x\" .\nshow 0\n",
+            "ready 1\ndid r.1 m1\ndid r.2 m2\nnone\nknown\nhas 0\ndid r.3 m3\nhas 1\nr.3 <http://d/a> <http://d/#p> \"x\" .\n",
+        ),
+    ] {
+        finishes(&rt, rt.alloc(), schedule, text)?;
+    }
+    Ok(())
+}
+
 /// Asserts that a schedule ends at a line that is bad or unbuilt, and that this is written before.
 fn stops<R: Threads + Abort>(
     rt: &R,
@@ -170,9 +198,12 @@ fn third(alloc: Global, domain: bool, line: &[u8]) -> Result<Vec<u8>, AllocError
 fn a_schedule_has_a_domain_line_first(rt: HostRuntime) -> Result<(), Fail> {
     stops(&rt, rt.alloc(), b"", RunFault::BadLine(1), "")?;
     stops(&rt, rt.alloc(), b"# c\n\n", RunFault::BadLine(3), "")?;
-    let lines: [&[u8]; 16] = [
+    let lines: [&[u8]; 19] = [
         b"show 0",
         b"add 0 <http://d/a> <http://d/#p> \"x\" .",
+        b"remove 0 <http://d/a> <http://d/#p> \"x\" .",
+        b"remove 0",
+        b"remove",
         b"deliver 1 0",
         b"domain d clones 0",
         b"domain d clones 33",
@@ -197,7 +228,7 @@ fn a_schedule_has_a_domain_line_first(rt: HostRuntime) -> Result<(), Fail> {
 
 #[test]
 fn the_first_bad_line_ends_the_run(rt: HostRuntime) -> Result<(), Fail> {
-    let lines: [&[u8]; 26] = [
+    let lines: [&[u8]; 34] = [
         b"domain d clones 2",
         b"add 01 <http://d/a> <http://d/#p> \"x\" .",
         b"add 32 <http://d/a> <http://d/#p> \"x\" .",
@@ -223,6 +254,14 @@ fn the_first_bad_line_ends_the_run(rt: HostRuntime) -> Result<(), Fail> {
         b"compare 0",
         b"Show 0",
         b"removes 0",
+        b"remove",
+        b"remove ",
+        b"remove 0",
+        b"remove 0 ",
+        b"remove 0 \xff ",
+        b"remove 00 <http://d/a> <http://d/#p> \"x\" .",
+        b"remove 32 <http://d/a> <http://d/#p> \"x\" .",
+        b"remove 0 <http://d/a> <http://d/#p> \"x\"",
         b"#\xff",
     ];
     for line in lines {
@@ -241,7 +280,6 @@ fn the_first_bad_line_ends_the_run(rt: HostRuntime) -> Result<(), Fail> {
 #[test]
 fn lines_that_are_not_built_yet_end_the_run(rt: HostRuntime) -> Result<(), Fail> {
     let lines: [&[u8]; 14] = [
-        b"remove",
         b"join",
         b"stop",
         b"open",
@@ -252,7 +290,8 @@ fn lines_that_are_not_built_yet_end_the_run(rt: HostRuntime) -> Result<(), Fail>
         b"update",
         b"single",
         b"crash",
-        b"remove 0 \xff ",
+        b"remove \\",
+        b"remove 0 <http://d/a> <http://d/#p> \"x\\n\" .",
         b"add \\",
         b"add 0 <http://d/a> <http://d/#p> \"x\\n\" .",
     ];
@@ -267,7 +306,13 @@ fn lines_that_are_not_built_yet_end_the_run(rt: HostRuntime) -> Result<(), Fail>
 
 #[test]
 fn a_message_that_would_wait_ends_the_run(rt: HostRuntime) -> Result<(), Fail> {
-    let cases: [(&[u8], u64, &str); 2] = [
+    let cases: [(&[u8], u64, &str); 3] = [
+        // What is deleted was not taken.
+        (
+            b"domain d clones 2\nadd 0 <http://d/a> <http://d/#p> \"x\" .\nremove 0 <http://d/a> <http://d/#p> \"x\" .\ndeliver 2 1\n",
+            4,
+            "ready 2\ndid r0.1 m1\ndid r0.2 m2\n",
+        ),
         // The sender made another before.
         (
             b"domain d clones 2\nadd 0 <http://d/a> <http://d/#p> \"x\" .\nadd 0 <http://d/a> <http://d/#p> \"x\" .\ndeliver 2 1\n",
@@ -288,7 +333,7 @@ fn a_message_that_would_wait_ends_the_run(rt: HostRuntime) -> Result<(), Fail> {
 }
 
 /// A schedule whose second line is a comment of so many bytes.
-fn with_comment(alloc: Global, count: usize) -> Result<Vec<u8>, AllocError> {
+pub fn with_comment(alloc: Global, count: usize) -> Result<Vec<u8>, AllocError> {
     let mut schedule = Vec::from_slice(alloc, b"domain d clones 2\n")?;
     for _ in 0..count {
         schedule.push(b'#')?;
@@ -348,6 +393,7 @@ fn refuses<R: Threads + Abort>(rt: &R, alloc: Global, texts: &[&str]) -> Result<
     let ran = run(rt, alloc, &words, &mut source, &mut sink);
     assert_eq!(rt; ran.status, 1);
     assert_eq!(rt; ran.fault, Some(RunFault::Usage));
+    assert!(rt; ran.world.is_none());
     let mut byte = [0u8; 1];
     assert_eq!(rt; source.read(&mut byte), Ok(1));
     assert!(rt; byte[0] == b'd' && sink.bytes().is_empty());
