@@ -114,7 +114,8 @@ pub fn run<R: Threads, S: Source, K: Sink>(
     ended_with(alloc, fault, &world)
 }
 
-/// A run that ended so, with what it tells of its world where it has to. Where there is no memory for that, it ended so.
+/// A run that ended so, with what it tells of its world where it has to. Where there is no memory for that, it ended by want of
+/// memory.
 fn ended_with(alloc: Global, fault: Option<RunFault>, world: &Option<World>) -> Ran
     ensures status { result.status ≡ status_of result.fault }
     ensures ends { EndsBy fault world.now result }
