@@ -1,16 +1,12 @@
 -- A replay from line to line, and how it ends.
-use Rattle.std.proofs.Common.{◌≡◌, ◌≢◌, ℕ, ◌+◌, ◌≤◌, ◌<◌, List, [], ◌∷◌, ◌++◌, ◌↔◌, inl, inr, refl, sym, ◌∙◌, ap, arith, subst, length, Option, None, Some, append_assoc, append-nil, length-append, get_or, map, take, Bool, Ok, Err, Result}
+use Rattle.std.proofs.Common.{◌≡◌, ◌≢◌, ℕ, ◌+◌, ◌≤◌, ◌<◌, List, [], ◌∷◌, ◌++◌, ◌↔◌, inl, inr, refl, sym, ◌∙◌, ap, arith, subst, length, Option, None, Some, append_assoc, append-nil, length-append, get_or, map, take, Bool, Err, Result}
 use Rattle.std.specs.Prelude.{IsTrue, nat_eq}
 use Rattle.std.proofs.lemmas.List.{take_all}
 use Rattle.std.proofs.Math.Seq.{take-append-add}
 use Rattle.std.specs.Cmp.Lexicographic.{pointwise}
-use Rattle.std.proofs.lemmas.Bool.Decides.{eqb_tells}
 use Rattle.tree_clock.specs.DotLaws.{path_eq-Decides}
-use Rattle.mld_io.specs.declared.faults.LineFault.{LineFault}
-use Rattle.mld_io.specs.declared.faults.LineFault.TheVariants as line_faults
-use Rattle.mld_io.specs.Lines.{LinesValue, NextLine, IsTooLarge}
 use Rattle.std.specs.Io.KnownBytes.{Appends}
-use Rattle.mld_io.specs.Lines.{lines_of, after_line, line_size}
+use Rattle.mld_io.specs.Lines.{lines_of, after_line}
 use Rattle.mld_io.specs.LinesLaws.{first_of_lines_lem}
 use Rattle.mld_model.specs.World.{World}
 use Rattle.mld_model.specs.Runs.{Stage, Waiting, Running, Acts, Runs, IsBad, IsUnbuilt, Before, Outcome, Finished, BadLine, UnbuiltLine, Verdict}
@@ -252,9 +248,9 @@ stops_large given left before now size world done number way counts breaks bytes
       done = record { front = way.lines; rest = lines_of at.rest; whole = at.whole; counted = counts ∙ ap (λ n. n + 1) way.counted; runs = way.runs };
       fits = λ lines below. at.fits lines (omega (arith, below, counts));
       large = λ lines is_lines.
-      let P : ℕ → Type 0 = λ k. IsTooLargeLine bytes k in
-      let same : done ≡ lines = omega (arith, counts, is_lines) in
-      subst P same (large_next bytes left size done way.lines at (breaks at.rest at.is));
+          let P : ℕ → Type 0 = λ k. IsTooLargeLine bytes k in
+          let same : done ≡ lines = omega (arith, counts, is_lines) in
+          subst P same (large_next bytes left size done way.lines at (breaks at.rest at.is));
       written = way.written;
       holds = way.stands;
     }
