@@ -2,9 +2,11 @@
 #![tactic(auto)]
 
 use mld_io::{StdSink, StdSource};
-use std::env;
-use std::io::{self, BufReader};
+use std::alloc::{Alloc, Global};
+use std::env::{self, Env};
+use std::io::{self, BufReader, ErrorKind, Input, Print};
 use std::process::ExitCode;
+use std::thread::Threads;
 
 mod clones;
 mod lines;
@@ -17,18 +19,37 @@ mod summary_tests;
 mod tests;
 mod worlds;
 
-use run::run;
+use run::{Ran, RunFault, ended, run};
 
-fn main(rt: HostRuntime) -> io::Result<ExitCode> {
+fn main(rt: HostRuntime) -> ExitCode {
+    let ran = match run_on_standard(&rt) {
+        Ok(ran) => ran,
+        Err(error) => ended(Some(fault_before(&error)), None),
+    };
+    if let Some(fault) = &ran.fault {
+        // Where standard error fails too, the status still tells.
+        let _ = eprintln!(rt; "{fault}");
+    }
+    ExitCode::from(ran.status)
+}
+
+/// The run over the words of the process, its standard input and its standard output.
+fn run_on_standard<R: Alloc<A = Global> + Env + Input + Print + Threads>(
+    rt: &R,
+) -> io::Result<Ran> {
     let mut words = Vec::new(rt.alloc());
-    for word in env::args(&rt)?.skip(1) {
+    for word in env::args(rt)?.skip(1) {
         words.push(word)?;
     }
     let mut source = StdSource::new(BufReader::new(rt.alloc(), rt.reader())?);
-    let mut sink = StdSink::new(io::writer(&rt));
-    let ran = run(&rt, rt.alloc(), &words, &mut source, &mut sink);
-    if let Some(fault) = &ran.fault {
-        eprintln!(rt; "{fault}")?;
+    let mut sink = StdSink::new(io::writer(rt));
+    Ok(run(rt, rt.alloc(), &words, &mut source, &mut sink))
+}
+
+/// Why there was no run: memory ran out, or the words are not text.
+fn fault_before(error: &io::Error) -> RunFault {
+    match error.kind() {
+        ErrorKind::OutOfMemory => RunFault::NoMemory,
+        _ => RunFault::Usage,
     }
-    Ok(ExitCode::from(ran.status))
 }

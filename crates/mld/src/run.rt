@@ -130,7 +130,7 @@ fn ended_with(alloc: Global, fault: Option<RunFault>, world: &Option<World>) -> 
 }
 
 /// A run that ended so, and tells this of its world.
-fn ended(fault: Option<RunFault>, world: Option<Summary>) -> Ran
+pub fn ended(fault: Option<RunFault>, world: Option<Summary>) -> Ran
     ensures fault { result.fault ≡ fault }
     ensures status { result.status ≡ status_of fault }
     ensures world { result.world ≡ world }
