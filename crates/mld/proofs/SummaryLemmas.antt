@@ -93,12 +93,12 @@ stage_told (Some running) (Some summary) (Running world) tells stands = clones_t
 -- the fault that the run ended by, where it isn't want of memory
 pub ended_by : (fault : Option RunFault) (world : Option RunningWorld) (ran : Ran) → EndsBy fault world ran → (other : Option RunFault) → other ≢ Some faults.NoMemory → ran.fault ≡ other → fault ≡ other
 ended_by fault world ran (inl ends) other differs is = sym ends.0 ∙ is
-ended_by fault world ran (inr ends) other differs is = absurd (differs (sym is ∙ ends.0))
+ended_by fault world ran (inr ends) other differs is = absurd (differs (sym is ∙ ends.1))
 
 -- what it tells of its world, where it has to
 told_by : (fault : Option RunFault) (world : Option RunningWorld) (ran : Ran) → EndsBy fault world ran → ran.fault ≢ Some faults.NoMemory → tells fault ≡ true → SummarizesWorld world ran.world
 told_by fault world ran (inl ends) differs has = let P : Bool → Type 0 = λ b. IfTold b world ran.world in subst P has ends.1
-told_by fault world ran (inr ends) differs has = absurd (differs ends.0)
+told_by fault world ran (inr ends) differs has = absurd (differs ends.1)
 
 pub told_stage : (fault : Option RunFault) (world : Option RunningWorld) (ran : Ran) → EndsBy fault world ran → ran.fault ≢ Some faults.NoMemory → tells fault ≡ true
     → (stage : Stage) → StageStands world stage → TellsOf ran.world stage
@@ -114,7 +114,7 @@ silent_by fault world ran (inl ends) silent =
     not_true : (b : Bool) → (b ≡ true → ⊥) → b ≡ false
     not_true true h = absurd (h refl)
     not_true false h = refl
-silent_by fault world ran (inr ends) silent = ends.1
+silent_by fault world ran (inr ends) silent = ends.2
 
 -- an end of a run says the same of what is told as of the world that runs
 pub finishes_as : (P Q : Stage → Type 0) (bytes : List ℕ) (left before now : Option (List ℕ)) → ((stage : Stage) → P stage → Q stage) → Finishes P bytes left before now → Finishes Q bytes left before now
@@ -217,4 +217,14 @@ agrees_by result fault world ran given left before now by (inl ends) finished us
     (on_ok result (λ (h : (bytes : List ℕ) → given ≡ Some bytes → Finishes (StageStands world) bytes left before now). h bytes told) finished) usage
     (λ line is. bad line is bytes told) (λ line is. unbuilt line is bytes told) outcome verdict)
 agrees_by result fault world ran given left before now by (inr ends) finished usage bad unbuilt bytes told outcome verdict =
-    let P : Option RunFault → Type 0 = λ f. Agrees f outcome in subst P (sym ends.0) tt
+    let P : Option RunFault → Type 0 = λ f. Agrees f outcome in subst P (sym ends.1) tt
+
+-- a fault at which nothing is told is the fault of the replay only where it is that of the run
+pub not_fault : (result : Result (Unit {0}) RunFault) (fault : Option RunFault) (world : Option RunningWorld) (ran : Ran) → fault ≡ result_err result → EndsBy fault world ran
+    → (other : RunFault) → tells (Some other) ≡ false → ran.fault ≢ Some other → result ≢ Err other
+not_fault result fault world ran by ends other untold differs is =
+    let from : fault ≡ Some other = by ∙ ap (λ (r : Result (Unit {0}) RunFault). result_err r) is in
+    elim ends [
+      | inl same ↦ differs (same.0 ∙ from)
+      | inr told ↦ false≢true (sym (ap tells from ∙ untold) ∙ told.0)
+    ]

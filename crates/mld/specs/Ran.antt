@@ -1,5 +1,5 @@
 -- How a run ends, and what it has written then.
-use Rattle.std.specs.Prelude.{◌≡◌, ◌≢◌, ◌⊎◌, ℕ, ◌+◌, ◌<◌, ◌≤◌, List, [], ◌∷◌, ◌++◌, take, Bool, true, false, Option, None, Some, Result, IsErrOf, codes}
+use Rattle.std.specs.Prelude.{◌≡◌, ◌≢◌, ◌⊎◌, ℕ, ◌+◌, ◌<◌, List, [], ◌∷◌, ◌++◌, take, Bool, true, false, IsTrue, Option, None, Some, Result, IsErrOf, codes}
 use Rattle.std.specs.Io.KnownBytes.{Appends}
 use Rattle.mld_io.specs.Faults.{Rose}
 use Rattle.mld_io.specs.Lines.{lines_of, first_line, after_line, line_size}
@@ -59,15 +59,15 @@ IsLineFault (faults.Unbuilt line) = Unit {0}
 IsLineFault faults.NoMemory = Unit {0}
 IsLineFault fault = ⊥
 
--- the count of the source's faults never falls, and rose where the fault is one of reading
+-- the count of the source's faults rose where the fault is one of reading, and else it is what it was
 pub record HasReadCause {T : Type 0} (before now : ℕ) (result : Result T RunFault) : Type 0 where
-  pub later : before ≤ now
   pub failed : IsErrOf result faults.ReadFault → Rose before now
+  pub quiet : ¬ IsErrOf result faults.ReadFault → now ≡ before
 
--- the count of the sink's faults never falls, and rose where the fault is one of writing
+-- the count of the sink's faults rose where the fault is one of writing, and else it is what it was
 pub record HasWriteCause {T : Type 0} (before now : ℕ) (result : Result T RunFault) : Type 0 where
-  pub later : before ≤ now
   pub failed : IsErrOf result faults.WriteFault → Rose before now
+  pub quiet : ¬ IsErrOf result faults.WriteFault → now ≡ before
 
 -- the source is at its end, none of its lines is too large, and the text of a run over them, to a sound world, was written; and
 -- this holds of that world
@@ -172,6 +172,8 @@ abbrev pub IfTold : Bool → Option RunningWorld → Option Summary → Type 0
 IfTold true world summary = SummarizesWorld world summary
 IfTold false world summary = summary ≡ None
 
--- the run ended so, and tells of its world where it has to; or memory ran out over that
+-- the run ended so, and tells of its world where it has to; or it had to, and memory ran out over that
 abbrev pub EndsBy : Option RunFault → Option RunningWorld → Ran → Type 0
-EndsBy fault world ran = ((ran.fault ≡ fault) × IfTold (tells fault) world ran.world) ⊎ ((ran.fault ≡ Some faults.NoMemory) × (ran.world ≡ None))
+EndsBy fault world ran =
+    ((ran.fault ≡ fault) × IfTold (tells fault) world ran.world)
+    ⊎ (IsTrue (tells fault) × (ran.fault ≡ Some faults.NoMemory) × (ran.world ≡ None))

@@ -1,5 +1,5 @@
 //! The run: all that the program does, over the words, the source and the sink that it is handed.
-ghost use Rattle.std.specs.Prelude.{◌≡◌, ◌↔◌, ◌≤◌, ◌<◌, ◌+◌, ℕ, List, map, take, IsTrue, IfOk, IfErr, OnOk, OnErr, IsErrOf};
+ghost use Rattle.std.specs.Prelude.{◌≡◌, ◌≢◌, ◌↔◌, ◌≤◌, ◌<◌, ◌+◌, ℕ, List, map, take, IsTrue, IfOk, IfErr, OnOk, OnErr, IsErrOf};
 ghost use Rattle.std.specs.Io.KnownBytes.{Appends};
 ghost use Rattle.std.specs.String.{string_bytes};
 ghost use Rattle.mld_io.specs.Faults.{Rose};
@@ -99,9 +99,11 @@ pub fn run<R: Threads, S: Source, K: Sink>(
     ensures front { (bytes : List ℕ) → S.left source.old ≡ Some bytes → WritesFront bytes (K.held sink.old) (K.held sink.new) }
     // At the other statuses nothing is told of the world.
     ensures silent { ¬ IsTrue (tells result.fault) → result.world ≡ None }
-    // 2 comes only where the source's count of faults rose, and 3 only where the sink's did.
+    // 2 comes where the source's count of faults rose, and nowhere else; and so 3 with the sink's.
     ensures read { result.fault ≡ Some RunFault.ReadFault → Rose (S.faults source.old) (S.faults source.new) }
+    ensures no_read_fault { result.fault ≢ Some RunFault.ReadFault → S.faults source.new ≡ S.faults source.old }
     ensures write { result.fault ≡ Some RunFault.WriteFault → Rose (K.faults sink.old) (K.faults sink.new) }
+    ensures no_write_fault { result.fault ≢ Some RunFault.WriteFault → K.faults sink.new ≡ K.faults sink.old }
     // Whatever the verdict on the lines is, the run ends so, unless it ended by 2, 3, 5 or 7.
     ensures exact { (bytes : List ℕ) → S.left source.old ≡ Some bytes → (outcome : Outcome) → Verdict (lines_of bytes) outcome
         → IsReplay (map (λ w. string_bytes w) words.now.items) → Agrees result.fault outcome }
@@ -207,8 +209,8 @@ fn replay<S: Source, K: Sink>(
     ensures large { (line : ℕ) → IsErrOf result (RunFault.TooLarge line) → (bytes : List ℕ) → S.left source.old ≡ Some bytes
         → StopsAtLarge (StageStands world.new) bytes line (K.held sink.old) (K.held sink.new) }
     ensures front { (bytes : List ℕ) → S.left source.old ≡ Some bytes → WritesFront bytes (K.held sink.old) (K.held sink.new) }
-    ensures read { IsErrOf result RunFault.ReadFault → Rose (S.faults source.old) (S.faults source.new) }
-    ensures write { IsErrOf result RunFault.WriteFault → Rose (K.faults sink.old) (K.faults sink.new) }
+    ensures read { HasReadCause (S.faults source.old) (S.faults source.new) result }
+    ensures write { HasWriteCause (K.faults sink.old) (K.faults sink.new) result }
 {
     let mut lines = Lines::new(alloc, LINE_LIMIT, INPUT_LIMIT)?;
     let mut done = 0;

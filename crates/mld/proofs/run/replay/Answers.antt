@@ -1,6 +1,6 @@
-use Rattle.std.proofs.Common.{◌∙◌, ◌+◌, sym, ap, arith}
+use Rattle.std.proofs.Common.{◌∙◌, ◌+◌, refl, sym, ap, arith}
 use Rattle.std.proofs.lemmas.Result.{err_from_is_err_and}
-use Rattle.mld.proofs.RunLemmas.{under_way_first, under_way_more, front_first, front_of_way, front_of_reply, takes_some, stops_bad_at, stops_unbuilt_at, stops_large, finishes_at, ends_waiting_at, same_bad, same_fault, err_same, of_line}
+use Rattle.mld.proofs.RunLemmas.{under_way_first, under_way_more, front_first, front_of_way, front_of_reply, takes_some, stops_bad_at, stops_unbuilt_at, stops_large, finishes_at, ends_waiting_at, same_bad, read_well, wrote_well, same_fault, err_same, of_line}
 use Rattle.mld.proofs.run.replay.Goals as goal
 
 pub returns-in_err-reply-clause-bad : goal.returns-in_err-reply-clause-bad
@@ -31,8 +31,8 @@ loop-line-preserved g c = record {
   line = c.next_line.ensures.limits.0 ∙ c.loop-line.invariant.line;
   all = c.next_line.ensures.limits.1 ∙ c.loop-line.invariant.all;
   few = omega (arith, c.loop-line.invariant.few, (of_line _ c.in_ok-line.field-0 c.in-Some.line c.in-Some.is c.in_ok-line.ensures.progress).0);
-  reads = omega (arith, c.loop-line.invariant.reads, c.next_line.ensures.cause.later);
-  writes = omega (arith, c.loop-line.invariant.writes, c.write_reply.ensures.cause.later);
+  reads = read_well _ _ _ c.in_ok-line.ensures.cause ∙ c.loop-line.invariant.reads;
+  writes = wrote_well _ _ _ c.in_ok-write_reply.ensures.cause ∙ c.loop-line.invariant.writes;
   within = omega (arith, c.next_line.ensures.limits.1, (of_line _ c.in_ok-line.field-0 c.in-Some.line c.in-Some.is c.in_ok-line.ensures.progress).1);
 }
 
@@ -63,8 +63,8 @@ loop-line-init g c = record {
   all = ap (λ l. l.all) c.in_ok-lines.ensures;
   few = omega arith;
   within = omega (arith, ap (λ l. l.taken) c.in_ok-lines.ensures);
-  reads = omega arith;
-  writes = omega arith;
+  reads = refl;
+  writes = refl;
 }
 
 pub returns-in_err-lines-clause-front : goal.returns-in_err-lines-clause-front

@@ -10,8 +10,8 @@ invariant-loop-line g l = record {
   all : l.lines.all ≡ 16777216;
   few : l.done ≤ l.lines.taken;
   within : l.lines.taken ≤ l.lines.all;
-  reads : g.S.Source.faults l.fn.source ≤ g.S.Source.faults l.source;
-  writes : g.K.Sink.faults l.fn.sink ≤ g.K.Sink.faults l.sink;
+  reads : g.S.Source.faults l.source ≡ g.S.Source.faults l.fn.source;
+  writes : g.K.Sink.faults l.sink ≡ g.K.Sink.faults l.fn.sink;
 }
 
 abbrev pub decreases-loop-line : goal.decreases-loop-line

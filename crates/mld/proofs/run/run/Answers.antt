@@ -1,5 +1,7 @@
 use Rattle.mld.proofs.RunLemmas.{front_first}
-use Rattle.mld.proofs.SummaryLemmas.{finishes_by, bad_by, large_by, agrees_by}
+use Rattle.mld.proofs.SummaryLemmas.{finishes_by, bad_by, large_by, agrees_by, not_fault}
+use Rattle.std.proofs.Common.{refl}
+use Rattle.mld.specs.declared.run.RunFault.TheVariants as faults
 use Rattle.mld.proofs.run.run.Goals as goal
 
 pub returns-clause-finished : goal.returns-clause-finished
@@ -25,3 +27,11 @@ returns-clause-exact g c = λ bytes told outcome verdict words.
 
 pub returns-then-not-is_replay-clause-front : goal.returns-then-not-is_replay-clause-front
 returns-then-not-is_replay-clause-front g c = λ bytes told. front_first (g.K.Sink.held c.args.sink.now) bytes
+
+pub returns-clause-no_read_fault : goal.returns-clause-no_read_fault
+returns-clause-no_read_fault g c = λ differs.
+    c.replay.ensures.read.quiet (not_fault c.replay.result c.err-fault.result c.replay.new.world c.ended_with.result c.err-fault.ensures.value c.ended_with.ensures.ends faults.ReadFault refl differs)
+
+pub returns-clause-no_write_fault : goal.returns-clause-no_write_fault
+returns-clause-no_write_fault g c = λ differs.
+    c.replay.ensures.write.quiet (not_fault c.replay.result c.err-fault.result c.replay.new.world c.ended_with.result c.err-fault.ensures.value c.ended_with.ensures.ends faults.WriteFault refl differs)

@@ -47,7 +47,7 @@ loop-bytes-preserved g c = record {
       let front = c.loop-bytes.bytes.items in
       let m = more_bytes bytes front c.in-Some.byte _ _ s (at_option _ _ _ _ c.in-Some.is (c.in_ok-byte.ensures.byte s.rest s.left_is)) in
       rw c.in_ok-push.ensures.items (ReadSoFar-push bytes front m.0 c.in-Some.byte _ s.no_end c.if-byte-eq-LF.false m.1 m.2);
-  later = omega (arith, c.take_byte.ensures.cause.later);
+  no_fault = c.in_ok-byte.ensures.cause.good ∙ c.loop-bytes.invariant.no_fault;
 }
 
 pub returns-in_err-push-clause-line : goal.returns-in_err-push-clause-line

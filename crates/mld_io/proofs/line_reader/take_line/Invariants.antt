@@ -10,7 +10,7 @@ invariant-loop-bytes g l = record {
   in_line : vec_len l.bytes ≤ l.line;
   taken : l.taken ≡ l.initial.taken;
   left : (bytes : List ℕ) → g.S.Source.left l.initial.source ≡ Some bytes → ReadSoFar bytes l.bytes.items (g.S.Source.left l.source);
-  later : g.S.Source.faults l.initial.source ≤ g.S.Source.faults l.source;
+  no_fault : g.S.Source.faults l.source ≡ g.S.Source.faults l.initial.source;
 }
 
 abbrev pub decreases-loop-bytes : goal.decreases-loop-bytes
