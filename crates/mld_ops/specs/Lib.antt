@@ -11,3 +11,7 @@ pub mod Effect
 pub mod HistoryLaws
 pub mod MeaningLaws
 pub mod NetLaws
+pub mod Picking
+pub mod PickingLaws
+pub mod Ready
+pub mod Cut
