@@ -6,6 +6,8 @@ use Rattle.tree_clock.specs.declared.dots.Range.{Range}
 use Rattle.tree_clock.specs.Dot.{IsIn, Knows}
 use Rattle.mld_ops.specs.History.{Operation, dot_at}
 use Rattle.mld_ops.specs.Net.{IsTime}
+use Rattle.mld_ops.specs.Picking.{HasNone, DropsThose, TakesFirst}
+use Rattle.mld_ops.specs.Ready.{last_dot}
 
 -- what a clone keeps when it stops: its path, the dots of its base, and the ranges of its journal
 pub record Stored : Type 0 where
@@ -29,10 +31,6 @@ known_of stored = stored.base ++ stored.journal
 abbrev pub with_range : Stored → Range → Stored
 with_range stored range = record { path = stored.path; base = stored.base; journal = stored.journal ++ range ∷ [] }
 
--- the last dot of a range
-abbrev pub last_dot : Range → Dot
-last_dot range = dot_at range.path range.last
-
 -- the range is known: its last dot is
 abbrev pub IsKnown : List Range → Range → Type 0
 IsKnown known range = Knows known (last_dot range)
@@ -47,6 +45,19 @@ pub record IsReady (history : List Operation) (known : List Range) (range : Rang
 pub record IsHeldBack (history : List Operation) (known : List Range) (range : Range) : Type 0 where
   pub unknown : ¬ IsKnown known range
   pub unready : ¬ IsReady history known range
+
+-- how many ranges a clone holds back at most
+abbrev pub held_limit : ℕ
+held_limit = 4096
+
+-- of the ranges held back, in order of arrival, those that are known are dropped, then the first ready one is taken, and so on
+-- until none is ready: the ranges taken, what the clone keeps then, and what is still held back
+abbrev pub Releases : List Operation → Stored → List Range → List Range → Stored → List Range → Type 0
+Releases history stored held [] after left =
+    DropsThose (IsKnown (known_of stored)) held left × HasNone (IsReady history (known_of stored)) left × (after ≡ stored)
+Releases history stored held (range ∷ taken) after left =
+    (kept : List Range) × (rest : List Range) × DropsThose (IsKnown (known_of stored)) held kept
+    × TakesFirst (IsReady history (known_of stored)) kept range rest × Releases history (with_range stored range) rest taken after left
 
 -- every dot that the first knows is known to the second
 abbrev pub IsWithin : List Range → List Range → Type 0

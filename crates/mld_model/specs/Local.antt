@@ -1,20 +1,75 @@
--- The steps of one clone alone, over what it keeps: its clock, its journal and its pairs, without the history.
-use Rattle.std.specs.Prelude.{◌≡◌, ℕ, ◌+◌, ◌≤◌, List, [], ◌∷◌, ◌++◌, ◌⊎◌, ◌↔◌}
+-- One clone alone: what it has of its own, without the history, and its steps.
+use Rattle.std.specs.Prelude.{◌≡◌, ◌≢◌, ℕ, ◌+◌, ◌<◌, ◌≤◌, List, [], ◌∷◌, ◌++◌, ◌⊎◌, ◌↔◌, map, length}
 use Rattle.rdf_terms.specs.declared.terms.Triple.{Triple}
 use Rattle.tree_clock.specs.declared.dots.Dot.{Dot}
+use Rattle.tree_clock.specs.declared.dots.Range.{Range}
 use Rattle.tree_clock.specs.Lists.{Has, IsAscending}
-use Rattle.tree_clock.specs.Dot.{IsIn}
-use Rattle.tree_clock.specs.Clock.{ticks_of, Covers, RaisesTo}
+use Rattle.tree_clock.specs.Clock.{ticks_of, IsClock, RaisesTo}
 use Rattle.mld_ops.specs.declared.tagged.Tagged.{Tagged}
 use Rattle.mld_ops.specs.Tagged.{tagged_cmp, insert_cmp}
 use Rattle.mld_ops.specs.Entry.{EntryValue}
 use Rattle.mld_ops.specs.Effect.{range_of}
 use Rattle.mld_ops.specs.History.{dot_at}
-use Rattle.mld_model.specs.Clone.{last_dot}
-use Rattle.mld_model.specs.StandsFor.{RunningLive}
+use Rattle.mld_ops.specs.Picking.{HasNone, DropsThose, TakesFirst}
+use Rattle.mld_ops.specs.Ready.{last_dot, IsKnownEntry, IsReadyEntry}
+use Rattle.mld_ops.specs.Cut.{IsCutOf}
+use Rattle.mld_model.specs.Clone.{held_limit}
+
+-- a clone alone: its id, domain, single-valued properties and path; the clock and the pairs of its base; the entries of its
+-- journal; and those that it holds back, in order of arrival. Its own clock and pairs follow from these (`IsLocal`)
+pub record LocalClone : Type 0 where
+  pub id : List ℕ
+  pub domain : List ℕ
+  pub properties : List (List ℕ)
+  pub path : List ℕ
+  pub base : List (List ℕ × ℕ)
+  pub base_pairs : List Tagged
+  pub entries : List EntryValue
+  pub held : List EntryValue
+  pub ticks : List (List ℕ × ℕ)
+  pub pairs : List Tagged
+
+-- taking entries in order leads from a clock and pairs to others: each entry is ready, the clock is raised to its last dot, and
+-- the pairs are those that the entry leaves
+abbrev pub LeadsTo : List (List ℕ × ℕ) → List Tagged → List EntryValue → List (List ℕ × ℕ) → List Tagged → Type 0
+LeadsTo ticks pairs [] after new = (after ≡ ticks) × (new ≡ pairs)
+LeadsTo ticks pairs (entry ∷ entries) after new =
+    (next : List (List ℕ × ℕ)) × (middle : List Tagged) × IsReadyEntry ticks entry × RaisesTo ticks next (last_dot entry.range)
+    × IsCutOf entry (ticks_of ticks entry.range.path) pairs middle × LeadsTo next middle entries after new
+
+-- a clone's clock and pairs are what its journal leads to from its base
+pub record IsLocal (clone : LocalClone) : Type 0 where
+  pub base : IsClock clone.base
+  pub base_pairs : IsAscending tagged_cmp clone.base_pairs
+  pub leads : LeadsTo clone.base clone.base_pairs clone.entries clone.ticks clone.pairs
+  pub held : length clone.held ≤ held_limit
+
+-- a clone with this path that knows nothing
+abbrev pub blank_clone : List ℕ → List ℕ → List (List ℕ) → List ℕ → LocalClone
+blank_clone id domain properties path = record {
+  id = id;
+  domain = domain;
+  properties = properties;
+  path = path;
+  base = [];
+  base_pairs = [];
+  entries = [];
+  held = [];
+  ticks = [];
+  pairs = [];
+}
+
+-- what no step but joining and merging changes: who the clone is, and its base
+pub record IsSameClone (old new : LocalClone) : Type 0 where
+  pub id : new.id ≡ old.id
+  pub domain : new.domain ≡ old.domain
+  pub properties : new.properties ≡ old.properties
+  pub path : new.path ≡ old.path
+  pub base : new.base ≡ old.base
+  pub base_pairs : new.base_pairs ≡ old.base_pairs
 
 -- the dot of the clone's next operation
-abbrev pub next_dot : RunningLive → Dot
+abbrev pub next_dot : LocalClone → Dot
 next_dot clone = dot_at clone.path (ticks_of clone.ticks clone.path + 1)
 
 -- the pairs behind an operation are those before it that it doesn't delete, and those that it inserts
@@ -22,9 +77,10 @@ abbrev pub PairsAfter : List Tagged → List Tagged → (Tagged → Type 0) → 
 PairsAfter old deletes inserts new = (pair : Tagged) → Has new pair ↔ ((Has old pair × ¬ Has deletes pair) ⊎ inserts pair)
 
 -- the clone makes an operation of these deletes and inserts, and the entry carries it
-pub record LocallyMakes (old : RunningLive) (deletes : List Tagged) (inserts : List Triple) (new : RunningLive) (entry : EntryValue) : Type 0 where
-  pub path : new.path ≡ old.path
-  pub journal : new.journal ≡ old.journal ++ range_of (next_dot old) ∷ []
+pub record LocallyMakes (old : LocalClone) (deletes : List Tagged) (inserts : List Triple) (new : LocalClone) (entry : EntryValue) : Type 0 where
+  pub same : IsSameClone old new
+  pub entries : new.entries ≡ old.entries ++ entry ∷ []
+  pub held : new.held ≡ old.held
   pub clock : RaisesTo old.ticks new.ticks (next_dot old)
   pub ascending : IsAscending tagged_cmp new.pairs
   pub pairs : PairsAfter old.pairs deletes (λ pair. (pair.dot ≡ next_dot old) × Has inserts pair.triple) new.pairs
@@ -35,21 +91,47 @@ pub record LocallyMakes (old : RunningLive) (deletes : List Tagged) (inserts : L
   pub inserts_ascend : IsAscending insert_cmp entry.inserts
   pub inserts_same : (triple : Triple) (tick : ℕ) → Has entry.inserts (triple, tick) ↔ ((tick ≡ (next_dot old).tick) × Has inserts triple)
 
--- the clone has the last dot of the entry's range
-abbrev pub LocallyKnown : RunningLive → EntryValue → Type 0
-LocallyKnown clone entry = Covers clone.ticks (last_dot entry.range)
+-- the ranges of entries
+abbrev pub ranges_of : List EntryValue → List Range
+ranges_of entries = map (λ entry. entry.range) entries
 
--- the clone lacks that dot, and has all that must come before the entry
-pub record LocallyReady (clone : RunningLive) (entry : EntryValue) : Type 0 where
-  pub unknown : ¬ LocallyKnown clone entry
-  pub before : entry.range.first ≤ ticks_of clone.ticks entry.range.path + 1
-  pub time : (dot : Dot) → Covers entry.time dot → ¬ IsIn entry.range dot → Covers clone.ticks dot
+-- of the entries held back, in order of arrival, those that are known are dropped, then the first ready one is taken, and so on
+-- until none is ready: the entries taken, the clock then, and what is still held back
+abbrev pub LocallyReleases : List (List ℕ × ℕ) → List EntryValue → List EntryValue → List (List ℕ × ℕ) → List EntryValue → Type 0
+LocallyReleases ticks held [] after left =
+    DropsThose (IsKnownEntry ticks) held left × HasNone (IsReadyEntry ticks) left × (after ≡ ticks)
+LocallyReleases ticks held (entry ∷ taken) after left =
+    (kept : List EntryValue) × (rest : List EntryValue) × (next : List (List ℕ × ℕ)) × DropsThose (IsKnownEntry ticks) held kept
+    × TakesFirst (IsReadyEntry ticks) kept entry rest × RaisesTo ticks next (last_dot entry.range) × LocallyReleases next rest taken after left
 
--- the clone takes an entry of one operation
-pub record LocallyTakes (old : RunningLive) (entry : EntryValue) (new : RunningLive) : Type 0 where
-  pub path : new.path ≡ old.path
-  pub journal : new.journal ≡ old.journal ++ entry.range ∷ []
-  pub clock : RaisesTo old.ticks new.ticks (last_dot entry.range)
-  pub ascending : IsAscending tagged_cmp new.pairs
-  pub pairs : PairsAfter old.pairs entry.deletes
-      (λ pair. (pair.dot.path ≡ entry.range.path) × Has entry.inserts (pair.triple, pair.dot.tick)) new.pairs
+-- the clone takes an entry that is ready, and then those held back that this releases
+pub record LocallyAccepts (old : LocalClone) (entry : EntryValue) (new : LocalClone) (ranges : List Range) : Type 0 where
+  pub same : IsSameClone old new
+  pub ready : IsReadyEntry old.ticks entry
+  pub taken : List EntryValue
+  pub raised : List (List ℕ × ℕ)
+  pub clock : RaisesTo old.ticks raised (last_dot entry.range)
+  pub releases : LocallyReleases raised old.held taken new.ticks new.held
+  pub entries : new.entries ≡ old.entries ++ entry ∷ taken
+  pub leads : LeadsTo old.ticks old.pairs (entry ∷ taken) new.ticks new.pairs
+  pub told : ranges ≡ ranges_of (entry ∷ taken)
+
+-- the entry is neither known nor ready
+pub record MustBeHeld (clone : LocalClone) (entry : EntryValue) : Type 0 where
+  pub unknown : ¬ IsKnownEntry clone.ticks entry
+  pub unready : ¬ IsReadyEntry clone.ticks entry
+
+-- the clone holds an entry back: one of the same range is held already and nothing changes, or it comes at the end
+abbrev pub LocallyHolds : LocalClone → EntryValue → LocalClone → Type 0
+LocallyHolds old entry new =
+    (Has (ranges_of old.held) entry.range × (new ≡ old))
+    ⊎ (¬ Has (ranges_of old.held) entry.range × (length old.held < held_limit) × (new ≡ record old { held = old.held ++ entry ∷ [] }))
+
+-- too many others are held
+pub record IsFullFor (clone : LocalClone) (entry : EntryValue) : Type 0 where
+  pub lacks : ¬ Has (ranges_of clone.held) entry.range
+  pub full : held_limit ≤ length clone.held
+
+-- the dots that an entry rests on cover the clone's own path beyond its own clock: another one has used its leaf
+abbrev pub IsForeign : LocalClone → EntryValue → Type 0
+IsForeign clone entry = ticks_of clone.ticks clone.path < ticks_of entry.time clone.path

@@ -18,6 +18,10 @@ pub data Reply : Type 0 where
   NoOperation : Reply
   -- the ranges were taken, in this order
   Took : List Range → Reply
+  -- the range is held back
+  Held : Reply
+  -- the range would be held back, and too many are
+  HeldFull : Reply
   -- the range was known
   AlreadyKnown : Reply
   -- these are the pairs of the clone
@@ -50,6 +54,8 @@ reply_text (Ready count) = codes "ready " ++ (decimal count ++ 10 ∷ [])
 reply_text (Did dot number) = codes "did " ++ (dot_text dot ++ (codes " m" ++ (decimal number ++ 10 ∷ [])))
 reply_text NoOperation = codes "none\n"
 reply_text (Took ranges) = codes "took" ++ (flat_map spaced_range ranges ++ 10 ∷ [])
+reply_text Held = codes "held\n"
+reply_text HeldFull = codes "held full\n"
 reply_text AlreadyKnown = codes "known\n"
 reply_text (Shows pairs) = codes "has " ++ (decimal (length pairs) ++ 10 ∷ flat_map pair_line pairs)
 reply_text Same = codes "same\n"

@@ -1,10 +1,7 @@
 -- Runs of the model over lines, and the verdict on the lines of a schedule.
-use Rattle.std.specs.Prelude.{◌≡◌, ℕ, ◌+◌, List, [], ◌∷◌, ◌++◌, ◌⊎◌, IsTrue, length, Some}
+use Rattle.std.specs.Prelude.{◌≡◌, ℕ, ◌+◌, List, [], ◌∷◌, ◌++◌, ◌⊎◌, IsTrue, length}
 use Rattle.mld_model.specs.declared.Command.{Command}
-use Rattle.mld_model.specs.declared.Command.TheVariants.{Deliver}
-use Rattle.tree_clock.specs.declared.dots.Range.{Range}
-use Rattle.mld_model.specs.Clone.{Stored, Live, known_of, IsHeldBack}
-use Rattle.mld_model.specs.World.{World, RangeOf, message_at, clone_at, founded}
+use Rattle.mld_model.specs.World.{World, founded}
 use Rattle.mld_model.specs.Reply.{Reply, Ready, reply_text}
 use Rattle.mld_model.specs.Step.{Step}
 use Rattle.mld_model.specs.Schedule.{IsNothing, is_unbuilt, SpellsSetup, SpellsCommand}
@@ -43,20 +40,9 @@ Runs stage [] text next = (text ≡ []) × (next ≡ stage)
 Runs stage (line ∷ lines) text next =
     (front : List ℕ) × (rest : List ℕ) × (middle : Stage) × Acts stage line front middle × Runs middle lines rest next × (text ≡ front ++ rest)
 
--- a range that is sent comes to a live clone that would have to hold it back
-pub record Waits (world : World) (message number : ℕ) : Type 0 where
-  pub range : Range
-  pub stored : Stored
-  pub held : List Range
-  pub sent : message_at world message ≡ Some (RangeOf range)
-  pub live : clone_at world number ≡ Live stored held
-  pub back : IsHeldBack world.history (known_of stored) range
-
--- the line isn't built yet
+-- the line isn't built yet, whatever the stage is
 abbrev pub IsUnbuilt : Stage → List ℕ → Type 0
-IsUnbuilt Waiting line = IsTrue (is_unbuilt line)
-IsUnbuilt (Running world) line =
-    IsTrue (is_unbuilt line) ⊎ ((message : ℕ) × (number : ℕ) × SpellsCommand line (Deliver message number) × Waits world message number)
+IsUnbuilt stage line = IsTrue (is_unbuilt line)
 
 -- the line is outside the grammar at this stage, and isn't one that will be built
 abbrev pub IsBad : Stage → List ℕ → Type 0

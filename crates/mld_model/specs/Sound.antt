@@ -39,9 +39,15 @@ pub record IsSoundClone (history : List Operation) (stored : Stored) : Type 0 wh
       → Knows (known_of stored) operation.dot
   pub below : (operation : Operation) → Has history operation → ¬ IsProperPrefix stored.path operation.dot.path
 
+-- the range has dots, with ticks of 1 or more, and each of them stands in the history
+pub record IsDoneRange (history : List Operation) (range : Range) : Type 0 where
+  pub positive : 1 ≤ range.first
+  pub some : range.first ≤ range.last
+  pub done : (dot : Dot) → IsIn range dot → IsDone history dot
+
 -- a range was sent only once all of its dots stand in the history
 abbrev pub IsSoundMessage : List Operation → Message → Type 0
-IsSoundMessage history (RangeOf range) = (1 ≤ range.first) × (range.first ≤ range.last) × ((dot : Dot) → IsIn range dot → IsDone history dot)
+IsSoundMessage history (RangeOf range) = IsDoneRange history range
 IsSoundMessage history (Want dots) = (dot : Dot) → Knows dots dot → IsDone history dot
 IsSoundMessage history (SnapshotOf dots) = IsClosed history dots
 IsSoundMessage history (JoinAsk id) = Unit {0}
@@ -58,5 +64,8 @@ pub record IsSound (world : World) : Type 0 where
       → Keeps (clone_at world number) stored → Keeps (clone_at world other) kept → AreApart stored.path kept.path
   -- what each clone that holds a leaf knows
   pub clones : (number : ℕ) (stored : Stored) → Keeps (clone_at world number) stored → IsSoundClone world.history stored
+  -- what each live clone holds back
+  pub held : (number : ℕ) (stored : Stored) (held : List Range) → clone_at world number ≡ Live stored held
+      → (range : Range) → Has held range → IsDoneRange world.history range
   -- what was sent
   pub messages : (message : Message) → Has world.messages message → IsSoundMessage world.history message

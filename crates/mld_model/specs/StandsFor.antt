@@ -1,81 +1,85 @@
 -- What a running world stands for in the model. The running world has content and clocks where the model has sets of
 -- dots and one history.
-use Rattle.std.specs.Prelude.{◌≡◌, ℕ, ◌≤◌, List, [], ◌∷◌, ◌↔◌, Option, None, Some, map, nat_lt, if◌then◌else◌}
+use Rattle.std.specs.Prelude.{◌≡◌, ℕ, ◌≤◌, List, [], ◌∷◌, ◌↔◌, Option, None, Some, map, nat_lt, if◌then◌else◌, slice_index_or, length}
+use Rattle.std.specs.Int.{to_be_bytes, w128}
 use Rattle.std.specs.List.{range_with_len}
 use Rattle.tree_clock.specs.declared.dots.Dot.{Dot}
 use Rattle.tree_clock.specs.declared.dots.Range.{Range}
 use Rattle.tree_clock.specs.Lists.{Has}
 use Rattle.tree_clock.specs.Dot.{Knows}
 use Rattle.tree_clock.specs.Clock.{Covers}
-use Rattle.mld_ops.specs.declared.tagged.Tagged.{Tagged}
 use Rattle.mld_ops.specs.Entry.{EntryValue}
 use Rattle.mld_ops.specs.History.{Operation}
 use Rattle.mld_ops.specs.Meaning.{IsMeaning}
 use Rattle.mld_ops.specs.Net.{IsNet}
+use Rattle.mld_ops.specs.Picking.{AllPairs}
+use Rattle.mld_ops.specs.declared.messages.Message.{Message as SentMessage}
+use Rattle.mld_ops.specs.declared.messages.Message.TheVariants as sent
 use Rattle.mld_model.specs.Clone.{Clone, Absent, Live, Stored, known_of}
-use Rattle.mld_model.specs.World.{World, Message, RangeOf, founded_path, clone_count}
+use Rattle.mld_model.specs.Local.{LocalClone, blank_clone}
+use Rattle.mld_model.specs.World.{World, Message, RangeOf, clone_at, founded_path, clone_count}
 
--- a live clone as it runs: its path, the ticks of its clock, the ranges of its journal, and its pairs
-pub record RunningLive : Type 0 where
-  pub path : List ℕ
-  pub ticks : List (List ℕ × ℕ)
-  pub journal : List Range
-  pub pairs : List Tagged
-
--- a world as it runs: its domain, its clones (none where a clone is absent), the entries that were sent, and the number
--- of steps made
+-- a world as it runs: its domain, its clones (none where a clone is absent), the messages that were sent, and the number of
+-- steps made
 pub record RunningWorld : Type 0 where
   pub domain : List ℕ
-  pub clones : List (Option RunningLive)
-  pub messages : List EntryValue
+  pub clones : List (Option LocalClone)
+  pub messages : List SentMessage
   pub steps : ℕ
 
+-- the id of a clone of a world: the UUID whose number is the clone's
+abbrev pub id_of : ℕ → List ℕ
+id_of number = to_be_bytes w128 number
+
 -- a clone as it runs in a world that was just founded
-abbrev pub founded_live : ℕ → ℕ → Option RunningLive
-founded_live count number =
-    if nat_lt number count then Some (record { path = founded_path count number; ticks = []; journal = []; pairs = [] }) else None
+abbrev pub founded_local : List ℕ → ℕ → ℕ → Option LocalClone
+founded_local domain count number =
+    if nat_lt number count then Some (blank_clone (id_of number) domain [] (founded_path count number)) else None
 
 -- a world as it runs when it was just founded
 abbrev pub founded_running : List ℕ → ℕ → RunningWorld
 founded_running domain count =
-    record { domain = domain; clones = map (founded_live count) (range_with_len 0 clone_count); messages = []; steps = 0 }
+    record { domain = domain; clones = map (founded_local domain count) (range_with_len 0 clone_count); messages = []; steps = 0 }
 
--- a live clone stands for what a clone of the model keeps: the same path and journal, nothing in its base yet, the same
--- known dots, and their meaning as its pairs
-pub record LiveStandsFor (history : List Operation) (running : RunningLive) (stored : Stored) : Type 0 where
+-- an entry stands for the range of which it is the net effect; only ranges of one tick are sent yet
+pub record EntryStandsFor (history : List Operation) (entry : EntryValue) (range : Range) : Type 0 where
+  pub net : IsNet history range entry
+  pub one : range.first ≡ range.last
+
+-- a clone alone stands for what a live clone of the model keeps and holds back: the same path; a base of the same dots, with
+-- their meaning as its pairs; entries that stand for the ranges of the journal, and of those held back, in order; and a clock
+-- of the known dots, with their meaning as the pairs
+pub record LocalStandsFor (history : List Operation) (running : LocalClone) (stored : Stored) (held : List Range) : Type 0 where
   pub path : running.path ≡ stored.path
-  pub journal : running.journal ≡ stored.journal
-  pub base : stored.base ≡ []
+  pub base : (dot : Dot) → Covers running.base dot ↔ Knows stored.base dot
+  pub base_pairs : IsMeaning history stored.base running.base_pairs
+  pub entries : AllPairs (EntryStandsFor history) running.entries stored.journal
+  pub held : AllPairs (EntryStandsFor history) running.held held
   pub known : (dot : Dot) → Covers running.ticks dot ↔ Knows (known_of stored) dot
   pub pairs : IsMeaning history (known_of stored) running.pairs
 
--- a clone stands for a clone of the model in the same state, which holds nothing back
-abbrev pub CloneStandsFor : List Operation → Option RunningLive → Clone → Type 0
-CloneStandsFor history None Absent = Unit {0}
-CloneStandsFor history (Some running) (Live stored held) = LiveStandsFor history running stored × (held ≡ [])
-CloneStandsFor history running clone = ⊥
+-- a clone alone is the one of this number in the world
+pub record IsCloneOf (world : World) (number : ℕ) (running : LocalClone) : Type 0 where
+  pub id : running.id ≡ id_of number
+  pub domain : running.domain ≡ world.domain
+  pub properties : running.properties ≡ world.properties
 
--- the clones, one by one
-abbrev pub ClonesStandFor : List Operation → List (Option RunningLive) → List Clone → Type 0
-ClonesStandFor history [] [] = Unit {0}
-ClonesStandFor history (running ∷ others) (clone ∷ clones) = CloneStandsFor history running clone × ClonesStandFor history others clones
-ClonesStandFor history others clones = ⊥
+-- a clone stands for the clone of the model of its number, in the same state
+abbrev pub CloneStandsFor : World → ℕ → Option LocalClone → Clone → Type 0
+CloneStandsFor world number None Absent = Unit {0}
+CloneStandsFor world number (Some running) (Live stored held) = IsCloneOf world number running × LocalStandsFor world.history running stored held
+CloneStandsFor world number running clone = ⊥
 
--- an entry stands for the range of which it is the net effect; only ranges of one tick are sent yet
-abbrev pub MessageStandsFor : List Operation → EntryValue → Message → Type 0
-MessageStandsFor history entry (RangeOf range) = IsNet history range entry × (range.first ≡ range.last)
-MessageStandsFor history entry message = ⊥
-
--- the messages, one by one
-abbrev pub MessagesStandFor : List Operation → List EntryValue → List Message → Type 0
-MessagesStandFor history [] [] = Unit {0}
-MessagesStandFor history (entry ∷ entries) (message ∷ messages) = MessageStandsFor history entry message × MessagesStandFor history entries messages
-MessagesStandFor history entries messages = ⊥
+-- a message that was sent stands for one of the model; only ranges are sent yet
+abbrev pub MessageStandsFor : List Operation → SentMessage → Message → Type 0
+MessageStandsFor history (sent.Range entry) (RangeOf range) = EntryStandsFor history entry range
+MessageStandsFor history message other = ⊥
 
 -- a running world stands for a world of the model
 pub record StandsFor (running : RunningWorld) (world : World) : Type 0 where
   pub domain : running.domain ≡ world.domain
-  pub clones : ClonesStandFor world.history running.clones world.clones
-  pub messages : MessagesStandFor world.history running.messages world.messages
+  pub count : length running.clones ≡ clone_count
+  pub clones : (number : ℕ) → CloneStandsFor world number (slice_index_or running.clones number None) (clone_at world number)
+  pub messages : AllPairs (MessageStandsFor world.history) running.messages world.messages
   -- no tick is above the number of steps
   pub ticks : (operation : Operation) → Has world.history operation → operation.dot.tick ≤ running.steps

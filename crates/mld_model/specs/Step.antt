@@ -12,9 +12,9 @@ use Rattle.mld_ops.specs.Effect.{range_of}
 use Rattle.mld_ops.specs.Meaning.{IsMeaning}
 use Rattle.mld_model.specs.declared.Command.{Command}
 use Rattle.mld_model.specs.declared.Command.TheVariants.{Add, Remove, Deliver, Show, Compare}
-use Rattle.mld_model.specs.Clone.{Clone, Absent, Asking, Empty, Down, Live, Stored, known_of, with_range, IsKnown, IsReady, IsWithin}
+use Rattle.mld_model.specs.Clone.{Clone, Absent, Asking, Empty, Down, Live, Stored, known_of, with_range, IsKnown, IsReady, IsHeldBack, IsWithin, held_limit, Releases}
 use Rattle.mld_model.specs.World.{World, Message, RangeOf, message_at, clone_at, with_clone}
-use Rattle.mld_model.specs.Reply.{Reply, Did, NoOperation, Took, AlreadyKnown, Shows, Same, Less, More, Apart, NoMessage, Ignored, IsAbsent, IsAsking, IsDown}
+use Rattle.mld_model.specs.Reply.{Reply, Did, NoOperation, Took, Held, HeldFull, AlreadyKnown, Shows, Same, Less, More, Apart, NoMessage, Ignored, IsAbsent, IsAsking, IsDown}
 
 -- a reply that changes nothing
 abbrev pub Answers : World → Reply → Reply → World → Type 0
@@ -65,12 +65,29 @@ Removes world number triple (Live stored held) reply next =
     (pairs : List Tagged) × (deletes : List Tagged) × IsMeaning world.history (known_of stored) pairs × ArePairsOf triple pairs deletes
     × (((deletes ≡ []) × Answers world NoOperation reply next) ⊎ ((deletes ≢ []) × Makes world number stored held deletes [] reply next))
 
--- a range that comes to a live clone which holds nothing back: it is known, or it is ready and taken
+-- a live clone takes a range that is ready, and then those held back that this releases
+pub record Accepts (world : World) (number : ℕ) (stored : Stored) (held : List Range) (range : Range) (reply : Reply) (next : World) : Type 0 where
+  pub ready : IsReady world.history (known_of stored) range
+  pub taken : List Range
+  pub after : Stored
+  pub left : List Range
+  pub releases : Releases world.history (with_range stored range) held taken after left
+  pub replies : reply ≡ Took (range ∷ taken)
+  pub changes : next ≡ with_clone world number (Live after left)
+
+-- a live clone holds a range back: it is held already, or too many others are, or it is held from now on
+abbrev pub HoldsBack : World → ℕ → Stored → List Range → Range → Reply → World → Type 0
+HoldsBack world number stored held range reply next =
+    (Has held range × Answers world Held reply next)
+    ⊎ ((¬ Has held range × (held_limit ≤ length held) × Answers world HeldFull reply next)
+    ⊎ (¬ Has held range × (length held < held_limit) × (reply ≡ Held) × (next ≡ with_clone world number (Live stored (held ++ range ∷ [])))))
+
+-- a range that comes to a live clone: it is known, or it is ready and taken, or it is held back
 abbrev pub Receives : World → ℕ → Stored → List Range → Range → Reply → World → Type 0
 Receives world number stored held range reply next =
     (IsKnown (known_of stored) range × Answers world AlreadyKnown reply next)
-    ⊎ (IsReady world.history (known_of stored) range × (held ≡ []) × (reply ≡ Took (range ∷ []))
-    × (next ≡ with_clone world number (Live (with_range stored range) held)))
+    ⊎ (Accepts world number stored held range reply next
+    ⊎ (IsHeldBack world.history (known_of stored) range × HoldsBack world number stored held range reply next))
 
 -- a message comes to a clone; other messages than ranges are never sent yet
 abbrev pub Takes : World → ℕ → Message → Clone → Reply → World → Type 0
