@@ -4,7 +4,7 @@ use Rattle.rdf_terms.specs.declared.terms.Triple.{Triple}
 use Rattle.tree_clock.specs.declared.dots.Dot.{Dot}
 use Rattle.tree_clock.specs.declared.dots.Range.{Range}
 use Rattle.tree_clock.specs.Lists.{Has, IsAscending}
-use Rattle.tree_clock.specs.Clock.{ticks_of, IsClock, RaisesTo}
+use Rattle.tree_clock.specs.Clock.{ticks_of, Covers, IsClock, RaisesTo}
 use Rattle.mld_ops.specs.declared.tagged.Tagged.{Tagged}
 use Rattle.mld_ops.specs.Tagged.{tagged_cmp, insert_cmp}
 use Rattle.mld_ops.specs.Entry.{EntryValue}
@@ -37,11 +37,13 @@ LeadsTo ticks pairs (entry ∷ entries) after new =
     (next : List (List ℕ × ℕ)) × (middle : List Tagged) × IsReadyEntry ticks entry × RaisesTo ticks next (last_dot entry.range)
     × IsCutOf entry (ticks_of ticks entry.range.path) pairs middle × LeadsTo next middle entries after new
 
--- a clone's clock and pairs are what its journal leads to from its base
+-- a clone's clock and pairs are what its journal leads to from its base, and the clocks have the dots of the pairs
 pub record IsLocal (clone : LocalClone) : Type 0 where
   pub base : IsClock clone.base
   pub base_pairs : IsAscending tagged_cmp clone.base_pairs
+  pub base_covered : (pair : Tagged) → Has clone.base_pairs pair → Covers clone.base pair.dot
   pub leads : LeadsTo clone.base clone.base_pairs clone.entries clone.ticks clone.pairs
+  pub covered : (pair : Tagged) → Has clone.pairs pair → Covers clone.ticks pair.dot
   pub held : length clone.held ≤ held_limit
 
 -- a clone with this path that knows nothing
