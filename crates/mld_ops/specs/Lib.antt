@@ -15,3 +15,4 @@ pub mod Picking
 pub mod PickingLaws
 pub mod Ready
 pub mod Cut
+pub mod Messages
