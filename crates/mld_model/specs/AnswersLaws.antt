@@ -21,6 +21,7 @@ use Rattle.mld_model.specs.Step.{Answers, Makes, Adds, Removes, Receives, Takes,
 use Rattle.mld_model.specs.Runs.{Stage, Waiting, Running, Acts, Runs}
 use Rattle.mld_model.specs.Sound.{Keeps}
 use Rattle.mld_model.specs.SoundLaws.{place_of_clone}
+use Rattle.mld_model.specs.ReleaseLaws.{releases_known}
 use Rattle.mld_model.specs.KnownLaws.{known_with-old, known_with-new}
 use Rattle.mld_model.specs.StepSoundLaws.{lists_same, weighs_same}
 use Rattle.mld_model.specs.RunsLaws.{one_act, one_run}
@@ -117,30 +118,31 @@ same_remembers world next number operation remembers same = subst (λ (world : W
 one_live : (stored kept : Stored) (held back : List Range) → Live stored held ≡ Live kept back → stored ≡ kept
 one_live stored kept held back same = cc
 
--- a world where one live clone has one more range in its journal, and whose history has grown, remembers what it did
-grown_remembers : (world next : World) (number : ℕ) (operation : Operation) (grower : ℕ) (stored : Stored) (held : List Range) (range : Range)
+-- a world where one live clone knows no fewer dots, and whose history has grown, remembers what it did
+grown_remembers : (world next : World) (number : ℕ) (operation : Operation) (grower : ℕ) (stored grown : Stored) (held left : List Range)
     → Remembers world number operation → clone_at world grower ≡ Live stored held
-    → next.clones ≡ set world.clones grower (Live (with_range stored range) held)
+    → next.clones ≡ set world.clones grower (Live grown left)
+    → ((dot : Dot) → Knows (known_of stored) dot → Knows (known_of grown) dot)
     → ((other : Operation) → Has world.history other → Has next.history other) → Remembers next number operation
-grown_remembers world next number operation grower stored held range remembers live clones grows =
-    let grown : Clone = Live (with_range stored range) held in
-    let at : clone_at next number ≡ get_or (set world.clones grower grown) number Absent = ap (λ (cs : List Clone). get_or cs number Absent) clones in
+grown_remembers world next number operation grower stored grown held left remembers live clones knows grows =
+    let now : Clone = Live grown left in
+    let at : clone_at next number ≡ get_or (set world.clones grower now) number Absent = ap (λ (cs : List Clone). get_or cs number Absent) clones in
     elim (cases_eq number grower) [
       | inl same ↦
           let here : clone_at world number ≡ Live stored held = subst (λ (k : ℕ). clone_at world k ≡ Live stored held) (sym same) live in
           let kept : remembers.stored ≡ stored = one_live remembers.stored stored remembers.held held (sym remembers.live ∙ here) in
           record {
-            stored = with_range stored range;
-            held = held;
-            live = at ∙ ap (λ (k : ℕ). get_or (set world.clones grower grown) k Absent) same
-                ∙ get_or-set_same world.clones grower grown Absent (place_of_live world grower stored held live);
-            known = known_with-old stored range operation.dot (subst (λ (s : Stored). Knows (known_of s) operation.dot) kept remembers.known);
+            stored = grown;
+            held = left;
+            live = at ∙ ap (λ (k : ℕ). get_or (set world.clones grower now) k Absent) same
+                ∙ get_or-set_same world.clones grower now Absent (place_of_live world grower stored held live);
+            known = knows operation.dot (subst (λ (s : Stored). Knows (known_of s) operation.dot) kept remembers.known);
             stands = grows operation remembers.stands;
           }
       | inr differs ↦ record {
         stored = remembers.stored;
         held = remembers.held;
-        live = at ∙ get_or-set_other world.clones grower number grown Absent differs ∙ remembers.live;
+        live = at ∙ get_or-set_other world.clones grower number now Absent differs ∙ remembers.live;
         known = remembers.known;
         stands = grows operation remembers.stands;
       }
@@ -151,8 +153,9 @@ makes_keeps : (world : World) (number : ℕ) (operation : Operation) (maker : �
     → Remembers world number operation → clone_at world maker ≡ Live stored held
     → Makes world maker stored held deletes inserts reply next → Remembers next number operation
 makes_keeps world number operation maker stored held deletes inserts reply next remembers is made =
-    grown_remembers world next number operation maker stored held (range_of (dot_at stored.path made.tick)) remembers is
+    grown_remembers world next number operation maker stored (with_range stored (range_of (dot_at stored.path made.tick))) held held remembers is
     (ap (λ (w : World). w.clones) made.changes)
+    (known_with-old stored (range_of (dot_at stored.path made.tick)))
     (λ other stands. subst (λ (w : World). Has w.history other) (sym made.changes) (inr stands))
 
 -- what is remembered stays so at an `add`
@@ -182,9 +185,17 @@ receives_keep : (world : World) (number : ℕ) (operation : Operation) (taker : 
     → Remembers world number operation → clone_at world taker ≡ Live stored held
     → Receives world taker stored held range reply next → Remembers next number operation
 receives_keep world number operation taker stored held range reply next remembers is (inl p) = same_remembers world next number operation remembers p.1.1
-receives_keep world number operation taker stored held range reply next remembers is (inr p) =
-    grown_remembers world next number operation taker stored held range remembers is
+receives_keep world number operation taker stored held range reply next remembers is (inr (inl p)) =
+    grown_remembers world next number operation taker stored p.after held p.left remembers is
+    (ap (λ (w : World). w.clones) p.changes)
+    (λ dot known. releases_known world.history (with_range stored range) held p.taken p.after p.left p.releases dot (known_with-old stored range dot known))
+    (λ other stands. subst (λ (w : World). Has w.history other) (sym p.changes) stands)
+receives_keep world number operation taker stored held range reply next remembers is (inr (inr (back, inl p))) = same_remembers world next number operation remembers p.1.1
+receives_keep world number operation taker stored held range reply next remembers is (inr (inr (back, inr (inl p)))) = same_remembers world next number operation remembers p.2.1
+receives_keep world number operation taker stored held range reply next remembers is (inr (inr (back, inr (inr p)))) =
+    grown_remembers world next number operation taker stored stored held (held ++ range ∷ []) remembers is
     (ap (λ (w : World). w.clones) p.3)
+    (λ dot known. known)
     (λ other stands. subst (λ (w : World). Has w.history other) (sym p.3) stands)
 
 -- where a message comes to a clone

@@ -4,6 +4,8 @@ use Rattle.std.specs.List.{range_with_len}
 use Rattle.std.proofs.lemmas.Bool.{cases_lt, cases_Bool, ltb-true, cases_order}
 use Rattle.std.proofs.lemmas.List.{get_or_past}
 use Rattle.std.proofs.lemmas.List.FromFn.{get_or-map-range_with_len, length-map-range_with_len}
+use Rattle.tree_clock.specs.declared.dots.Range.{Range}
+use Rattle.tree_clock.specs.Lists.{Has}
 use Rattle.tree_clock.specs.Path.{IsPrefix, AreApart}
 use Rattle.mld_model.specs.Clone.{Clone, Absent, Live, Stored}
 use Rattle.mld_model.specs.World.{clone_at, founded, founded_path, founded_clone}
@@ -71,6 +73,24 @@ founded_at domain count number stored keeps = elim (cases_lt number 32) [
       absurd (subst P (get_or_past (map (founded_clone count) (range_with_len 0 32)) number Absent (omega (arith, past, length-map-range_with_len (founded_clone count) 0 32))) keeps)
 ]
 
+-- a clone that is live holds nothing back
+abbrev HoldsNothing : Clone → Type 0
+HoldsNothing (Live stored held) = held ≡ []
+HoldsNothing clone = Unit {0}
+
+holds_nothing : (clone : Clone) (stored : Stored) (held : List Range) → HoldsNothing clone → clone ≡ Live stored held → held ≡ []
+holds_nothing clone stored held nothing is = subst HoldsNothing is nothing
+
+-- and so it is with each clone of the founded world
+founded_holds : (domain : List ℕ) (count number : ℕ) → HoldsNothing (clone_at (founded domain count) number)
+founded_holds domain count number = elim (cases_lt number 32) [
+  | inl inside ↦ subst HoldsNothing (sym (get_or-map-range_with_len (founded_clone count) 0 32 number number Absent inside (omega arith))) (elim (cases_Bool (ltb number count)) [
+    | inl below ↦ rw below refl
+    | inr above ↦ rw above tt
+  ])
+  | inr past ↦ subst HoldsNothing (sym (get_or_past (map (founded_clone count) (range_with_len 0 32)) number Absent (omega (arith, past, length-map-range_with_len (founded_clone count) 0 32)))) tt
+]
+
 -- the founded world is sound
 pub founded_sound : (domain : List ℕ) (count : ℕ) → IsSound (founded domain count)
 founded_sound domain count = record {
@@ -92,5 +112,7 @@ founded_sound domain count = record {
         above = λ operation stands. absurd stands;
         below = λ operation stands. absurd stands;
       });
+  held = λ number stored held live range h.
+      absurd (subst (λ (ranges : List Range). Has ranges range) (holds_nothing (clone_at (founded domain count) number) stored held (founded_holds domain count number) live) h);
   messages = λ message sent. absurd sent;
 }

@@ -4,13 +4,14 @@ use Rattle.std.proofs.Common.{inl, inr, refl, sym, ◌∙◌, ap, arith, subst, 
 use Rattle.std.proofs.lemmas.Bool.{cases_lt}
 use Rattle.tree_clock.specs.declared.dots.Dot.{Dot}
 use Rattle.tree_clock.specs.declared.dots.Range.{Range}
+use Rattle.tree_clock.specs.Lists.{Has}
 use Rattle.tree_clock.specs.Dot.{Knows}
 use Rattle.mld_ops.specs.History.{Operation, IsDone, IsClosed, IsNext, IsLawful, dot_at}
 use Rattle.mld_ops.specs.Effect.{range_of}
 use Rattle.mld_ops.specs.HistoryLaws.{one_operation, range_of_has, knows_last}
 use Rattle.mld_ops.specs.Net.{IsTime}
-use Rattle.mld_model.specs.Clone.{last_dot}
-use Rattle.mld_model.specs.Sound.{MayFollow, IsSoundJournal}
+use Rattle.mld_ops.specs.Ready.{last_dot}
+use Rattle.mld_model.specs.Sound.{MayFollow, IsSoundJournal, IsDoneRange}
 use Rattle.mld_model.specs.HistoryLaws.{IsClosed-more, done_not_fresh}
 
 -- the dots that a journal is over are closed
@@ -102,3 +103,14 @@ own_may_follow history next known lawful is_next closed causes = record {
     ];
   };
 }
+
+-- each range of a sound journal has dots, all of them done
+pub journal_done : (history : List Operation) (known journal : List Range) → IsSoundJournal history known journal
+    → (range : Range) → Has journal range → IsDoneRange history range
+journal_done history known [] sound range h = absurd h
+journal_done history known (first ∷ journal) sound range (inl is) = subst (IsDoneRange history) is (record {
+  positive = sound.1.positive;
+  some = sound.1.some;
+  done = λ dot inside. (journal_over history (known ++ first ∷ []) journal sound.2).done dot (knows_last known first dot inside);
+})
+journal_done history known (first ∷ journal) sound range (inr h) = journal_done history (known ++ first ∷ []) journal sound.2 range h

@@ -7,11 +7,14 @@ pub mod Runs
 pub mod Sound
 pub mod StandsFor
 pub mod Local
+pub mod PairsLaws
 pub mod LocalLaws
+pub mod ReleasedLaws
 pub mod StandsForLaws
 pub mod WorldStep
 pub mod WorldLaws
 pub mod KnownLaws
+pub mod ReleaseLaws
 pub mod HistoryLaws
 pub mod JournalLaws
 pub mod SoundLaws

@@ -1,10 +1,12 @@
 -- A clone's own steps are those of the model: what it makes and takes means what the history says.
-use Rattle.std.proofs.Common.{◌≡◌, ℕ, ◌+◌, ◌-◌, ◌≤◌, List, [], ◌∷◌, ◌++◌, ◌⊎◌, ◌↔◌, inl, inr, refl, sym, ◌∙◌, ap, arith, subst}
+use Rattle.std.proofs.Common.{◌≡◌, ℕ, ◌+◌, ◌-◌, ◌<◌, ◌≤◌, List, [], ◌∷◌, ◌++◌, ◌⊎◌, ◌↔◌, inl, inr, refl, sym, ◌∙◌, ap, arith, subst}
 use Rattle.std.proofs.lemmas.Bool.{cases_lt}
 use Rattle.rdf_terms.specs.declared.terms.Triple.{Triple}
 use Rattle.tree_clock.specs.declared.dots.Dot.{Dot}
 use Rattle.tree_clock.specs.declared.dots.Range.{Range}
+use Rattle.tree_clock.specs.Lists.{Has}
 use Rattle.tree_clock.specs.Dot.{IsIn, Knows}
+use Rattle.tree_clock.specs.DotLaws.{Knows-append}
 use Rattle.tree_clock.specs.Clock.{ticks_of, Covers, RaisesTo}
 use Rattle.tree_clock.specs.ClockLaws.{Covers-raised}
 use Rattle.mld_ops.specs.declared.tagged.Tagged.{Tagged}
@@ -15,33 +17,31 @@ use Rattle.mld_ops.specs.HistoryLaws.{same_dot, closed_with_unknown}
 use Rattle.mld_ops.specs.Meaning.{IsMeaning}
 use Rattle.mld_ops.specs.MeaningLaws.{meaning_with_unknown, meaning_of_taken}
 use Rattle.mld_ops.specs.Net.{IsNet}
-use Rattle.mld_ops.specs.NetLaws.{net_of_one, net_of_one_back}
-use Rattle.mld_model.specs.Clone.{Stored, known_of, with_range, last_dot, IsKnown, IsReady}
-use Rattle.mld_model.specs.World.{RangeOf}
+use Rattle.mld_ops.specs.NetLaws.{net_of_one, net_of_one_back, net_with_unknown}
+use Rattle.mld_ops.specs.Picking.{AllPairs}
+use Rattle.mld_ops.specs.PickingLaws.{pairs_as, pairs_more}
+use Rattle.mld_ops.specs.Ready.{last_dot, IsKnownEntry, IsReadyEntry}
+use Rattle.mld_ops.specs.Cut.{IsCutOf}
+use Rattle.mld_model.specs.Clone.{Stored, known_of, with_range, IsKnown, IsReady}
 use Rattle.mld_model.specs.Step.{IsNextTick}
-use Rattle.mld_model.specs.Sound.{IsSoundMessage}
-use Rattle.mld_model.specs.StandsFor.{RunningLive, LiveStandsFor}
-use Rattle.mld_model.specs.Local.{next_dot, LocallyMakes, LocallyKnown, LocallyReady, LocallyTakes}
+use Rattle.mld_model.specs.Sound.{IsDoneRange}
+use Rattle.mld_model.specs.Local.{LocalClone, next_dot, LocallyMakes}
+use Rattle.mld_model.specs.StandsFor.{EntryStandsFor, LocalStandsFor}
 use Rattle.mld_model.specs.KnownLaws.{known_with, known_with-old, known_with-new, known_with-split}
 use Rattle.mld_model.specs.HistoryLaws.{done_not_fresh}
 
--- what a running clone stands for has its path and its journal
-abbrev pub kept_by : RunningLive → List Range → Stored
-kept_by running base = record { path = running.path; base = base; journal = running.journal }
-
--- a running clone that stands for what is kept has the same path and journal
-pub same_stored : (history : List Operation) (running : RunningLive) (stored : Stored) → LiveStandsFor history running stored
-    → kept_by running stored.base ≡ stored
-same_stored history running stored stands = λ i. record { path = stands.path i; base = stored.base; journal = stands.journal i }
+-- what a running clone stands for has its path
+abbrev pub kept_by : LocalClone → List Range → List Range → Stored
+kept_by running base journal = record { path = running.path; base = base; journal = journal }
 
 -- the tick after the clock's is the next that the model allows
-pub next_tick_of : (history : List Operation) (running : RunningLive) (base : List Range) → LiveStandsFor history running (kept_by running base)
-    → IsNextTick (known_of (kept_by running base)) running.path (next_dot running).tick
-next_tick_of history running base stands = record {
+pub next_tick_of : (running : LocalClone) (known : List Range) → ((dot : Dot) → Covers running.ticks dot ↔ Knows known dot)
+    → IsNextTick known running.path (next_dot running).tick
+next_tick_of running known alike = record {
   positive = omega arith;
   after = λ other. (
-    λ known. let c = (stands.known (dot_at running.path other)).1 known in (c.positive, omega (arith, c.within)),
-    λ range. (stands.known (dot_at running.path other)).0 (record { positive = range.0; within = omega (arith, range.1) }),
+    λ knows. let c = (alike (dot_at running.path other)).1 knows in (c.positive, omega (arith, c.within)),
+    λ range. (alike (dot_at running.path other)).0 (record { positive = range.0; within = omega (arith, range.1) }),
   );
 }
 
@@ -62,47 +62,59 @@ covers_next old new path dot raised = (
   ]),
 )
 
+-- ---- entries in a longer history
+
+-- an entry of a range that is done stands for it in the longer history too
+pub entry_still_stands : (history : List Operation) (next : Operation) (entry : EntryValue) (range : Range) → IsNext history next
+    → IsDoneRange history range → EntryStandsFor history entry range → EntryStandsFor (next ∷ history) entry range
+entry_still_stands history next entry range is_next done stands = record {
+  net = net_with_unknown history range entry next stands.net (λ inside. done_not_fresh history next next.dot is_next (done.done next.dot inside) refl) done.some;
+  one = stands.one;
+}
+
+-- and so do entries, one by one
+pub entries_still_stand : (history : List Operation) (next : Operation) (entries : List EntryValue) (ranges : List Range) → IsNext history next
+    → ((range : Range) → Has ranges range → IsDoneRange history range) → AllPairs (EntryStandsFor history) entries ranges
+    → AllPairs (EntryStandsFor (next ∷ history)) entries ranges
+entries_still_stand history next entries ranges is_next done all =
+    pairs_as (EntryStandsFor history) (EntryStandsFor (next ∷ history)) entries ranges all (λ entry range h stands. entry_still_stands history next entry range is_next (done range h) stands)
+
+-- the base is known
+base_known : (base journal : List Range) (dot : Dot) → Knows base dot → Knows (base ++ journal) dot
+base_known base journal dot h = (Knows-append base journal dot).1 (inl h)
+
+-- a clone that doesn't know the dot of a new operation stands for the same clone in the longer history
+pub local_still_stands : (history : List Operation) (next : Operation) (running : LocalClone) (stored : Stored) (held : List Range) → IsNext history next
+    → ¬ Knows (known_of stored) next.dot
+    → ((range : Range) → Has stored.journal range → IsDoneRange history range) → ((range : Range) → Has held range → IsDoneRange history range)
+    → LocalStandsFor history running stored held → LocalStandsFor (next ∷ history) running stored held
+local_still_stands history next running stored held is_next unknown journal_done held_done stands = record {
+  path = stands.path;
+  base = stands.base;
+  base_pairs = meaning_with_unknown history stored.base next running.base_pairs stands.base_pairs (λ k. unknown (base_known stored.base stored.journal next.dot k));
+  entries = entries_still_stand history next running.entries stored.journal is_next journal_done stands.entries;
+  held = entries_still_stand history next running.held held is_next held_done stands.held;
+  known = stands.known;
+  pairs = meaning_with_unknown history (known_of stored) next running.pairs stands.pairs unknown;
+}
+
+-- ---- making an operation
+
 -- the operation that a clone makes
-abbrev pub made_by : RunningLive → List Range → List Tagged → List Triple → Operation
-made_by running base deletes inserts = record { dot = next_dot running; causes = known_of (kept_by running base); deletes = deletes; inserts = inserts }
+abbrev pub made_by : LocalClone → List Range → List Range → List Tagged → List Triple → Operation
+made_by running base journal deletes inserts =
+    record { dot = next_dot running; causes = known_of (kept_by running base journal); deletes = deletes; inserts = inserts }
 
-module _ (history : List Operation) (old : RunningLive) (base : List Range) (deletes : List Tagged) (inserts : List Triple) (new : RunningLive) (entry : EntryValue)
-    (stands : LiveStandsFor history old (kept_by old base)) (makes : LocallyMakes old deletes inserts new entry)
-    (lawful : IsLawful history) (closed : IsClosed history (known_of (kept_by old base)))
-    (is_next : IsNext history (made_by old base deletes inserts)) where
-  unknown_yet : ¬ Knows (known_of (kept_by old base)) (next_dot old)
-  unknown_yet known = done_not_fresh history (made_by old base deletes inserts) (next_dot old) is_next (closed.done (next_dot old) known) refl
-
-  -- the clone that made the operation stands for what it knows then
-  pub maker_stands : LiveStandsFor (made_by old base deletes inserts ∷ history) new (with_range (kept_by old base) (range_of (next_dot old)))
-  maker_stands =
-      let operation : Operation = made_by old base deletes inserts in
-      record {
-        path = makes.path;
-        journal = makes.journal;
-        base = stands.base;
-        known = λ dot. (
-          λ c. elim ((covers_next old.ticks new.ticks old.path dot makes.clock).0 c) [
-            | inl before ↦ known_with-old (kept_by old base) (range_of (next_dot old)) dot ((stands.known dot).0 before)
-            | inr is ↦ known_with-new (kept_by old base) (range_of (next_dot old)) dot (record { path = ap (λ (d : Dot). d.path) is; above = omega (arith, ap (λ (d : Dot). d.tick) is); below = omega (arith, ap (λ (d : Dot). d.tick) is) })
-          ],
-          λ k. (covers_next old.ticks new.ticks old.path dot makes.clock).1 (elim (known_with-split (kept_by old base) (range_of (next_dot old)) dot k) [
-            | inl before ↦ inl ((stands.known dot).1 before)
-            | inr at ↦ inr (same_dot dot (next_dot old) at.path (omega (arith, at.above, at.below)))
-          ]),
-        );
-        pairs =
-            let P : List Range → Type 0 = λ k. IsMeaning (operation ∷ history) k new.pairs in
-            subst P (sym (known_with (kept_by old base) (range_of (next_dot old))))
-            (meaning_of_taken (operation ∷ history) (known_of (kept_by old base)) operation old.pairs new.pairs
-            (is_next, lawful) (closed_with_unknown history (known_of (kept_by old base)) operation closed unknown_yet) (inl refl) unknown_yet
-            (meaning_with_unknown history (known_of (kept_by old base)) operation old.pairs stands.pairs unknown_yet)
-            makes.ascending makes.pairs);
-      }
+module _ (history : List Operation) (old : LocalClone) (base journal held : List Range) (deletes : List Tagged) (inserts : List Triple) (new : LocalClone) (entry : EntryValue)
+    (stands : LocalStandsFor history old (kept_by old base journal) held) (makes : LocallyMakes old deletes inserts new entry)
+    (lawful : IsLawful history) (closed : IsClosed history (known_of (kept_by old base journal)))
+    (is_next : IsNext history (made_by old base journal deletes inserts)) where
+  unknown_yet : ¬ Knows (known_of (kept_by old base journal)) (next_dot old)
+  unknown_yet known = done_not_fresh history (made_by old base journal deletes inserts) (next_dot old) is_next (closed.done (next_dot old) known) refl
 
   -- the entry that it made is the net effect of the operation's range
-  pub made_net : IsNet (made_by old base deletes inserts ∷ history) (range_of (next_dot old)) entry
-  made_net = net_of_one (made_by old base deletes inserts ∷ history) (made_by old base deletes inserts) (is_next, lawful) (inl refl) entry makes.range
+  pub made_net : IsNet (made_by old base journal deletes inserts ∷ history) (range_of (next_dot old)) entry
+  made_net = net_of_one (made_by old base journal deletes inserts ∷ history) (made_by old base journal deletes inserts) (is_next, lawful) (inl refl) entry makes.range
       makes.deletes_ascend makes.inserts_ascend (record {
         deletes = makes.deletes_same;
         inserts = makes.inserts_same;
@@ -112,41 +124,79 @@ module _ (history : List Operation) (old : RunningLive) (base : List Range) (del
         );
       })
 
-module _ (history : List Operation) (running : RunningLive) (stored : Stored) (range : Range) (entry : EntryValue)
-    (stands : LiveStandsFor history running stored) (net : IsNet history range entry) where
-  -- the range is known to the running clone where it is known in the model
-  pub known_alike : LocallyKnown running entry ↔ IsKnown (known_of stored) range
-  known_alike =
-      let P : Range → Type 0 = λ r. Covers running.ticks (last_dot r) in
-      (λ c. (stands.known (last_dot range)).0 (subst P net.same c), λ k. subst P (sym net.same) ((stands.known (last_dot range)).1 k))
+  -- and so it stands for that range
+  pub made_entry : EntryStandsFor (made_by old base journal deletes inserts ∷ history) entry (range_of (next_dot old))
+  made_entry = record { net = made_net; one = refl }
 
-  -- the range is ready for the running clone where it is ready in the model
-  pub ready_alike : 1 ≤ range.first → LocallyReady running entry ↔ IsReady history (known_of stored) range
+  -- the clone that made the operation stands for what it knows then
+  pub maker_stands : ((range : Range) → Has journal range → IsDoneRange history range) → ((range : Range) → Has held range → IsDoneRange history range)
+      → LocalStandsFor (made_by old base journal deletes inserts ∷ history) new (with_range (kept_by old base journal) (range_of (next_dot old))) held
+  maker_stands journal_done held_done =
+      let operation : Operation = made_by old base journal deletes inserts in
+      let still : LocalStandsFor (operation ∷ history) old (kept_by old base journal) held =
+      local_still_stands history operation old (kept_by old base journal) held is_next unknown_yet journal_done held_done stands in
+      record {
+        path = makes.same.path;
+        base = λ dot. subst (λ (ticks : List (List ℕ × ℕ)). Covers ticks dot ↔ Knows base dot) (sym makes.same.base) (still.base dot);
+        base_pairs = subst (λ (pairs : List Tagged). IsMeaning (operation ∷ history) base pairs) (sym makes.same.base_pairs) still.base_pairs;
+        entries = subst (λ (entries : List EntryValue). AllPairs (EntryStandsFor (operation ∷ history)) entries (journal ++ range_of (next_dot old) ∷ [])) (sym makes.entries)
+            (pairs_more (EntryStandsFor (operation ∷ history)) old.entries journal entry (range_of (next_dot old)) still.entries made_entry);
+        held = subst (λ (entries : List EntryValue). AllPairs (EntryStandsFor (operation ∷ history)) entries held) (sym makes.held) still.held;
+        known = λ dot. (
+          λ c. elim ((covers_next old.ticks new.ticks old.path dot makes.clock).0 c) [
+            | inl before ↦ known_with-old (kept_by old base journal) (range_of (next_dot old)) dot ((stands.known dot).0 before)
+            | inr is ↦ known_with-new (kept_by old base journal) (range_of (next_dot old)) dot (record { path = ap (λ (d : Dot). d.path) is; above = omega (arith, ap (λ (d : Dot). d.tick) is); below = omega (arith, ap (λ (d : Dot). d.tick) is) })
+          ],
+          λ k. (covers_next old.ticks new.ticks old.path dot makes.clock).1 (elim (known_with-split (kept_by old base journal) (range_of (next_dot old)) dot k) [
+            | inl before ↦ inl ((stands.known dot).1 before)
+            | inr at ↦ inr (same_dot dot (next_dot old) at.path (omega (arith, at.above, at.below)))
+          ]),
+        );
+        pairs =
+            let P : List Range → Type 0 = λ k. IsMeaning (operation ∷ history) k new.pairs in
+            subst P (sym (known_with (kept_by old base journal) (range_of (next_dot old))))
+            (meaning_of_taken (operation ∷ history) (known_of (kept_by old base journal)) operation old.pairs new.pairs
+            (is_next, lawful) (closed_with_unknown history (known_of (kept_by old base journal)) operation closed unknown_yet) (inl refl) unknown_yet
+            still.pairs makes.ascending makes.pairs);
+      }
+
+-- ---- taking an entry
+
+module _ (history : List Operation) (ticks : List (List ℕ × ℕ)) (known : List Range) (alike : (dot : Dot) → Covers ticks dot ↔ Knows known dot)
+    (range : Range) (entry : EntryValue) (net : IsNet history range entry) where
+  -- the range is known to the clock where it is known in the model
+  pub known_alike : IsKnownEntry ticks entry ↔ IsKnown known range
+  known_alike =
+      let P : Range → Type 0 = λ r. Covers ticks (last_dot r) in
+      (λ c. (alike (last_dot range)).0 (subst P net.same c), λ k. subst P (sym net.same) ((alike (last_dot range)).1 k))
+
+  -- the range is ready for the clock where it is ready in the model
+  pub ready_alike : 1 ≤ range.first → IsReadyEntry ticks entry ↔ IsReady history known range
   ready_alike positive = (
     λ local. record {
       unknown = λ k. local.unknown (known_alike.1 k);
       time = λ dot time outside.
           let P : Range → Type 0 = λ r. ¬ IsIn r dot in
-          (stands.known dot).0 (local.time dot ((net.time dot).1 time) (subst P (sym net.same) outside));
+          (alike dot).0 (local.time dot ((net.time dot).1 time) (subst P (sym net.same) outside));
       before = elim (cases_lt 1 range.first) [
         | inl later ↦
-            let P : Range → Type 0 = λ r. r.first ≤ ticks_of running.ticks r.path + 1 in
-            let b : range.first ≤ ticks_of running.ticks range.path + 1 = subst P net.same local.before in
-            inr ((stands.known (dot_at range.path (range.first - 1))).0 (record { positive = omega arith; within = omega (arith, b) }))
+            let P : Range → Type 0 = λ r. r.first ≤ ticks_of ticks r.path + 1 in
+            let b : range.first ≤ ticks_of ticks range.path + 1 = subst P net.same local.before in
+            inr ((alike (dot_at range.path (range.first - 1))).0 (record { positive = omega arith; within = omega (arith, b) }))
         | inr first ↦ inl (omega arith)
       ];
     },
     λ ready. record {
       unknown = λ c. ready.unknown (known_alike.0 c);
       before =
-          let P : Range → Type 0 = λ r. r.first ≤ ticks_of running.ticks r.path + 1 in
+          let P : Range → Type 0 = λ r. r.first ≤ ticks_of ticks r.path + 1 in
           subst P (sym net.same) (elim ready.before [
             | inl first ↦ omega (arith, first)
-            | inr known ↦ let c = (stands.known (dot_at range.path (range.first - 1))).1 known in omega (arith, c.within)
+            | inr knows ↦ let c = (alike (dot_at range.path (range.first - 1))).1 knows in omega (arith, c.within)
           ]);
       time = λ dot covered outside.
           let P : Range → Type 0 = λ r. ¬ IsIn r dot in
-          (stands.known dot).1 (ready.time dot ((net.time dot).0 covered) (subst P net.same outside));
+          (alike dot).1 (ready.time dot ((net.time dot).0 covered) (subst P net.same outside));
     },
   )
 
@@ -158,54 +208,77 @@ range_of_one range dot one is = λ i. record {
   last = sym (ap (λ (d : Dot). d.tick) is) i;
 }
 
--- the clone that took a ready range of one tick stands for what it knows then
-pub taker_stands : (history : List Operation) (old : RunningLive) (base : List Range) (range : Range) (entry : EntryValue) (new : RunningLive)
-    → LiveStandsFor history old (kept_by old base) → IsNet history range entry → range.first ≡ range.last → IsSoundMessage history (RangeOf range)
-    → IsLawful history → IsClosed history (known_of (kept_by old base)) → LocallyReady old entry → LocallyTakes old entry new
-    → LiveStandsFor history new (with_range (kept_by old base) range)
-taker_stands history old base range entry new stands net one sent lawful closed ready takes =
-    let last : IsDone history (last_dot range) = sent.2 (last_dot range) (record { path = refl; above = sent.1; below = omega arith }) in
+-- a clock and pairs are those of one who knows these dots
+pub record KnowsAs (history : List Operation) (dots : List Range) (ticks : List (List ℕ × ℕ)) (list : List Tagged) : Type 0 where
+  pub known : (dot : Dot) → Covers ticks dot ↔ Knows dots dot
+  pub pairs : IsMeaning history dots list
+
+-- the clock raised to the last dot of a ready range has the known dots and those of the range
+pub raised_knows : (ticks next : List (List ℕ × ℕ)) (known : List Range) (range : Range) → ((dot : Dot) → Covers ticks dot ↔ Knows known dot)
+    → 1 ≤ range.first → range.first ≤ ticks_of ticks range.path + 1 → RaisesTo ticks next (last_dot range)
+    → (dot : Dot) → Covers next dot ↔ Knows (known ++ range ∷ []) dot
+raised_knows ticks next known range alike positive before clock dot = (
+  λ c. (Knows-append known (range ∷ []) dot).1 (elim ((Covers-raised ticks next (last_dot range) dot clock).0 c) [
+    | inl had ↦ inl ((alike dot).0 had)
+    | inr at ↦ elim (cases_lt dot.tick range.first) [
+      | inl early ↦ inl ((alike dot).0 (record { positive = at.1; within = omega (arith, early, before, ap (λ p. ticks_of ticks p) at.0) }))
+      | inr from ↦ inr (inl (record { path = at.0; above = from; below = at.2 }))
+    ]
+  ]),
+  λ k. (Covers-raised ticks next (last_dot range) dot clock).1 (elim ((Knows-append known (range ∷ []) dot).0 k) [
+    | inl had ↦ inl ((alike dot).1 had)
+    | inr at ↦ elim at [ inl inside ↦ inr (inside.path, omega (arith, positive, inside.above), inside.below) | inr none ↦ absurd none ]
+  ]),
+)
+
+-- what a ready entry of one tick leaves of the pairs is the meaning with that tick known
+pub taker_knows : (history : List Operation) (known : List Range) (ticks : List (List ℕ × ℕ)) (pairs : List Tagged) (range : Range) (entry : EntryValue)
+    (next : List (List ℕ × ℕ)) (new : List Tagged)
+    → KnowsAs history known ticks pairs → EntryStandsFor history entry range → IsDoneRange history range
+    → IsLawful history → IsClosed history known → IsReadyEntry ticks entry → RaisesTo ticks next (last_dot entry.range)
+    → IsCutOf entry (ticks_of ticks entry.range.path) pairs new → KnowsAs history (known ++ range ∷ []) next new
+taker_knows history known ticks pairs range entry next new knows stands done lawful closed ready raises cut =
+    let net : IsNet history range entry = stands.net in
+    let one : range.first ≡ range.last = stands.one in
+    let last : IsDone history (last_dot range) = done.done (last_dot range) (record { path = refl; above = done.some; below = omega arith }) in
     let operation : Operation = last.operation in
     let effect : IsEffect operation entry = net_of_one_back history operation lawful last.stands range entry net one last.is in
     let is_range : range ≡ range_of operation.dot = range_of_one range operation.dot one last.is in
-    let unready : IsReady history (known_of (kept_by old base)) range = (ready_alike history old (kept_by old base) range entry stands net sent.0).0 ready in
-    let unknown : ¬ Knows (known_of (kept_by old base)) operation.dot = (let P : Dot → Type 0 = λ d. ¬ Knows (known_of (kept_by old base)) d in subst P (sym last.is) unready.unknown) in
-    let clock : RaisesTo old.ticks new.ticks (last_dot range) = (let P : Range → Type 0 = λ r. RaisesTo old.ticks new.ticks (last_dot r) in subst P net.same takes.clock) in
-    let before : range.first ≤ ticks_of old.ticks range.path + 1 = (let P : Range → Type 0 = λ r. r.first ≤ ticks_of old.ticks r.path + 1 in subst P net.same ready.before) in
+    let can : IsReady history known range = (ready_alike history ticks known knows.known range entry net done.positive).0 ready in
+    let unknown : ¬ Knows known operation.dot = subst (λ (d : Dot). ¬ Knows known d) (sym last.is) can.unknown in
+    let clock : RaisesTo ticks next (last_dot range) = subst (λ (r : Range). RaisesTo ticks next (last_dot r)) net.same raises in
+    let before : range.first ≤ ticks_of ticks range.path + 1 = subst (λ (r : Range). r.first ≤ ticks_of ticks r.path + 1) net.same ready.before in
+    let had : ticks_of ticks range.path < range.last =
+    elim (cases_lt (ticks_of ticks range.path) range.last) [
+      | inl below ↦ below
+      | inr above ↦ absurd (can.unknown ((knows.known (last_dot range)).0 (record { positive = omega (arith, done.positive, done.some); within = above })))
+    ] in
+    let same_ticks : ticks_of ticks entry.range.path ≡ ticks_of ticks range.path = ap (λ (r : Range). ticks_of ticks r.path) net.same in
+    let same_path : entry.range.path ≡ range.path = ap (λ (r : Range). r.path) net.same in
+    let same_first : entry.range.first ≡ range.first = ap (λ (r : Range). r.first) net.same in
+    let last_path : operation.dot.path ≡ range.path = ap (λ (d : Dot). d.path) last.is in
+    let last_tick : operation.dot.tick ≡ range.last = ap (λ (d : Dot). d.tick) last.is in
     record {
-      path = takes.path;
-      journal = (let P : Range → Type 0 = λ r. new.journal ≡ old.journal ++ r ∷ [] in subst P net.same takes.journal);
-      base = stands.base;
-      known = λ dot. (
-        λ c. elim ((Covers-raised old.ticks new.ticks (last_dot range) dot clock).0 c) [
-          | inl had ↦ known_with-old (kept_by old base) range dot ((stands.known dot).0 had)
-          | inr at ↦ elim (cases_lt dot.tick range.first) [
-            | inl early ↦ known_with-old (kept_by old base) range dot ((stands.known dot).0 (record { positive = at.1; within = omega (arith, early, before, ap (λ p. ticks_of old.ticks p) at.0) }))
-            | inr from ↦ known_with-new (kept_by old base) range dot (record { path = at.0; above = from; below = at.2 })
-          ]
-        ],
-        λ k. (Covers-raised old.ticks new.ticks (last_dot range) dot clock).1 (elim (known_with-split (kept_by old base) range dot k) [
-          | inl had ↦ inl ((stands.known dot).1 had)
-          | inr at ↦ inr (at.path, omega (arith, sent.0, at.above), at.below)
-        ]),
-      );
-      pairs =
-          let P : List Range → Type 0 = λ k. IsMeaning history k new.pairs in
-          let Q : Range → Type 0 = λ r. IsMeaning history (known_of (kept_by old base) ++ r ∷ []) new.pairs in
-          subst P (sym (known_with (kept_by old base) range)) (subst Q (sym is_range)
-          (meaning_of_taken history (known_of (kept_by old base)) operation old.pairs new.pairs lawful closed last.stands unknown stands.pairs takes.ascending
+      known = raised_knows ticks next known range knows.known done.positive before clock;
+      pairs = subst (λ (r : Range). IsMeaning history (known ++ r ∷ []) new) (sym is_range)
+          (meaning_of_taken history known operation pairs new lawful closed last.stands unknown knows.pairs cut.ascending
           (λ pair. (
-            λ h. elim ((takes.pairs pair).0 h) [
+            λ h. elim ((cut.members pair).0 h) [
               | inl kept ↦ inl (kept.0, λ deleted. kept.1 ((effect.deletes pair).1 deleted))
-              | inr added ↦ let e = (effect.inserts pair.triple pair.dot.tick).0 added.1 in
-                  inr (same_dot pair.dot operation.dot (added.0 ∙ ap (λ (r : Range). r.path) net.same ∙ sym (ap (λ (d : Dot). d.path) last.is)) e.0, e.1)
+              | inr added ↦ let e = (effect.inserts pair.triple pair.dot.tick).0 added.inserts in
+                  inr (same_dot pair.dot operation.dot (added.path ∙ same_path ∙ sym last_path) e.0, e.1)
             ],
-            λ h. (takes.pairs pair).1 (elim h [
-              | inl kept ↦ inl (kept.0, λ deleted. kept.1 ((effect.deletes pair).0 deleted))
-              | inr added ↦ inr (
-                ap (λ (d : Dot). d.path) added.0 ∙ ap (λ (d : Dot). d.path) last.is ∙ sym (ap (λ (r : Range). r.path) net.same),
-                (effect.inserts pair.triple pair.dot.tick).1 (ap (λ (d : Dot). d.tick) added.0, added.1),
+            λ h. (cut.members pair).1 (elim h [
+              | inl kept ↦ inl (
+                kept.0,
+                λ deleted. kept.1 ((effect.deletes pair).0 deleted),
+                λ superseded. omega (arith, superseded.above, superseded.below, same_ticks, same_first, one, had),
               )
+              | inr added ↦ inr (record {
+                path = ap (λ (d : Dot). d.path) added.0 ∙ last_path ∙ sym same_path;
+                above = omega (arith, ap (λ (d : Dot). d.tick) added.0, last_tick, same_ticks, had);
+                inserts = (effect.inserts pair.triple pair.dot.tick).1 (ap (λ (d : Dot). d.tick) added.0, added.1);
+              })
             ]),
-          ))));
+          )));
     }

@@ -1,14 +1,11 @@
 -- A line acts in one way at each stage, a run has one end, and the lines of a schedule have one verdict.
-use Rattle.std.specs.Prelude.{◌≡◌, ℕ, suc, ◌+◌, List, [], ◌∷◌, ◌++◌, ◌⊎◌, length, Option, MatchOption}
+use Rattle.std.specs.Prelude.{◌≡◌, ℕ, suc, ◌+◌, List, [], ◌∷◌, ◌++◌, ◌⊎◌, length}
 use Rattle.std.proofs.Common.{refl, sym, ◌∙◌, subst, subst₂, ap, arith, inl, inr}
-use Rattle.tree_clock.specs.declared.dots.Range.{Range}
 use Rattle.mld_model.specs.declared.Command.{Command}
-use Rattle.mld_model.specs.declared.Command.TheVariants.{Deliver}
-use Rattle.mld_model.specs.Clone.{Clone, Stored, Live, known_of, IsHeldBack}
-use Rattle.mld_model.specs.World.{World, Message, RangeOf, clone_at}
-use Rattle.mld_model.specs.Reply.{Reply, Ready, NoMessage, reply_text}
-use Rattle.mld_model.specs.Step.{Step, Takes, Receives, Answers}
-use Rattle.mld_model.specs.Runs.{Stage, Waiting, Running, Founds, Commands, Acts, Runs, Waits, IsUnbuilt, IsBad, IsFirst, Outcome, Finished, BadLine, UnbuiltLine, Verdict}
+use Rattle.mld_model.specs.World.{World}
+use Rattle.mld_model.specs.Reply.{Ready, reply_text}
+use Rattle.mld_model.specs.Step.{Step}
+use Rattle.mld_model.specs.Runs.{Stage, Waiting, Running, Founds, Commands, Acts, Runs, IsUnbuilt, IsBad, IsFirst, Outcome, Finished, BadLine, UnbuiltLine, Verdict}
 use Rattle.mld_model.specs.Laws.{OneAct, OneOutcome, OneRun, OneVerdict}
 use Rattle.mld_model.specs.ScheduleLaws.{one_kind, one_setup, one_command}
 use Rattle.mld_model.specs.StepLaws.{one_step}
@@ -41,24 +38,6 @@ one_act (Running world) line text other next after (inl p) (inr q) = absurd ((on
 one_act (Running world) line text other next after (inr p) (inl q) = absurd ((one_kind line).nothing_command q.0 p.command p.spells)
 one_act (Running world) line text other next after (inr p) (inr q) = commands_once world line text other next after p q
 
--- ---- a range that would have to be held back
-
--- what is held back isn't received
-not_received : (world : World) (number : ℕ) (stored : Stored) (held : List Range) (range : Range) (reply : Reply) (next : World)
-    → IsHeldBack world.history (known_of stored) range → ¬ Receives world number stored held range reply next
-not_received world number stored held range reply next back (inl p) = back.unknown p.0
-not_received world number stored held range reply next back (inr p) = back.unready p.0
-
--- so a delivery that waits makes no step
-not_delivered : (world : World) (message number : ℕ) (reply : Reply) (next : World) → Waits world message number → ¬ Step world (Deliver message number) reply next
-unfolding Step
-not_delivered world message number reply next waits step =
-    let sent : Takes world number (RangeOf waits.range) (clone_at world number) reply next =
-    subst (λ (sent : Option Message). MatchOption sent (Answers world NoMessage reply next) (λ message. Takes world number message (clone_at world number) reply next)) waits.sent step in
-    let taken : Takes world number (RangeOf waits.range) (Live waits.stored waits.held) reply next =
-    subst (λ (clone : Clone). Takes world number (RangeOf waits.range) clone reply next) waits.live sent in
-    not_received world number waits.stored waits.held waits.range reply next waits.back taken
-
 -- ---- the outcomes of a line
 
 -- what acts isn't outside the grammar
@@ -72,18 +51,13 @@ acts_bad (Running world) line text next (inr p) bad = bad.2 p.command p.spells
 acts_unbuilt : (stage : Stage) (line text : List ℕ) (next : Stage) → Acts stage line text next → ¬ IsUnbuilt stage line
 acts_unbuilt Waiting line text next (inl p) u = (one_kind line).nothing_unbuilt p.0 u
 acts_unbuilt Waiting line text next (inr p) u = (one_kind line).unbuilt_setup u p.domain p.count p.spells
-acts_unbuilt (Running world) line text next (inl p) (inl u) = (one_kind line).nothing_unbuilt p.0 u
-acts_unbuilt (Running world) line text next (inl p) (inr u) = (one_kind line).nothing_command p.0 (Deliver u.0 u.1) u.2
-acts_unbuilt (Running world) line text next (inr p) (inl u) = (one_kind line).unbuilt_command u p.command p.spells
-acts_unbuilt (Running world) line text next (inr p) (inr u) =
-    let command = one_command line p.command (Deliver u.0 u.1) p.spells u.2 in
-    not_delivered world u.0 u.1 p.reply p.after u.3 (subst (λ (command : Command). Step world command p.reply p.after) command p.steps)
+acts_unbuilt (Running world) line text next (inl p) u = (one_kind line).nothing_unbuilt p.0 u
+acts_unbuilt (Running world) line text next (inr p) u = (one_kind line).unbuilt_command u p.command p.spells
 
 -- what is outside the grammar isn't among the lines that will be built
 bad_unbuilt : (stage : Stage) (line : List ℕ) → IsBad stage line → ¬ IsUnbuilt stage line
 bad_unbuilt Waiting line bad u = bad.1 u
-bad_unbuilt (Running world) line bad (inl u) = bad.1 u
-bad_unbuilt (Running world) line bad (inr u) = bad.2 (Deliver u.0 u.1) u.2
+bad_unbuilt (Running world) line bad u = bad.1 u
 
 -- each line has at most one of these outcomes at each stage
 pub one_outcome : OneOutcome

@@ -1,6 +1,6 @@
 -- What a running world stands for in the model. The running world has content and clocks where the model has sets of
 -- dots and one history.
-use Rattle.std.specs.Prelude.{◌≡◌, ℕ, ◌≤◌, List, [], ◌∷◌, ◌↔◌, Option, None, Some, map, nat_lt, if◌then◌else◌, slice_index_or, length}
+use Rattle.std.specs.Prelude.{◌≡◌, ℕ, ◌≤◌, List, [], ◌↔◌, Option, None, Some, map, nat_lt, if◌then◌else◌, slice_index_or, length}
 use Rattle.std.specs.Int.{to_be_bytes, w128}
 use Rattle.std.specs.List.{range_with_len}
 use Rattle.tree_clock.specs.declared.dots.Dot.{Dot}
@@ -49,12 +49,12 @@ pub record EntryStandsFor (history : List Operation) (entry : EntryValue) (range
 -- a clone alone stands for what a live clone of the model keeps and holds back: the same path; a base of the same dots, with
 -- their meaning as its pairs; entries that stand for the ranges of the journal, and of those held back, in order; and a clock
 -- of the known dots, with their meaning as the pairs
-pub record LocalStandsFor (history : List Operation) (running : LocalClone) (stored : Stored) (held : List Range) : Type 0 where
+pub record LocalStandsFor (history : List Operation) (running : LocalClone) (stored : Stored) (ranges : List Range) : Type 0 where
   pub path : running.path ≡ stored.path
   pub base : (dot : Dot) → Covers running.base dot ↔ Knows stored.base dot
   pub base_pairs : IsMeaning history stored.base running.base_pairs
   pub entries : AllPairs (EntryStandsFor history) running.entries stored.journal
-  pub held : AllPairs (EntryStandsFor history) running.held held
+  pub held : AllPairs (EntryStandsFor history) running.held ranges
   pub known : (dot : Dot) → Covers running.ticks dot ↔ Knows (known_of stored) dot
   pub pairs : IsMeaning history (known_of stored) running.pairs
 

@@ -1,179 +1,151 @@
--- A running world that stands for a sound world of the model: its clones and messages, one by one, and its steps.
-use Rattle.std.proofs.Common.{◌≡◌, ℕ, zero, suc, List, [], ◌∷◌, ◌++◌, inl, inr, refl, sym, ap, subst, length, get_or, set, Option, Some, None}
-use Rattle.std.specs.Prelude.{slice_get}
+-- A running world that stands for a sound world of the model: its clones and messages, one by one.
+use Rattle.std.proofs.Common.{◌≡◌, ℕ, ◌<◌, List, ◌∷◌, inl, inr, refl, sym, ◌∙◌, ap, subst, length, get_or, set, Option, Some, None}
+use Rattle.std.proofs.lemmas.Bool.{cases_eq, cases_lt}
+use Rattle.std.proofs.lemmas.List.{get_or-set_same, get_or-set_other, get_or_past}
 use Rattle.tree_clock.specs.declared.dots.Range.{Range}
 use Rattle.tree_clock.specs.Lists.{Has}
-use Rattle.tree_clock.specs.Dot.{Knows}
-use Rattle.mld_ops.specs.Entry.{EntryValue}
 use Rattle.mld_ops.specs.History.{Operation, IsNext}
-use Rattle.mld_ops.specs.MeaningLaws.{meaning_with_unknown}
-use Rattle.mld_ops.specs.Net.{IsNet}
-use Rattle.mld_ops.specs.NetLaws.{net_with_unknown}
-use Rattle.mld_model.specs.Clone.{Clone, Absent, Asking, Empty, Down, Live, Stored, known_of}
-use Rattle.mld_model.specs.World.{World, Message, RangeOf, Want, SnapshotOf, JoinAsk, JoinGive, clone_at}
-use Rattle.mld_model.specs.Sound.{Keeps, IsSoundMessage}
-use Rattle.mld_model.specs.StandsFor.{RunningLive, RunningWorld, LiveStandsFor, CloneStandsFor, ClonesStandFor, MessageStandsFor, MessagesStandFor, StandsFor}
+use Rattle.mld_ops.specs.Picking.{AllPairs}
+use Rattle.mld_ops.specs.PickingLaws.{pairs_as}
+use Rattle.mld_ops.specs.declared.messages.Message.{Message as SentMessage}
+use Rattle.mld_ops.specs.declared.messages.Message.TheVariants as sent
+use Rattle.mld_model.specs.Clone.{Clone, Absent, Asking, Empty, Down, Live, Stored}
+use Rattle.mld_model.specs.World.{World, Message, RangeOf, clone_at}
+use Rattle.mld_model.specs.Local.{LocalClone, IsSameClone}
+use Rattle.mld_model.specs.Sound.{IsSoundMessage, IsSound}
+use Rattle.mld_model.specs.StandsFor.{RunningWorld, IsCloneOf, LocalStandsFor, CloneStandsFor, MessageStandsFor, StandsFor}
+use Rattle.mld_model.specs.SoundLaws.{live_sound}
+use Rattle.mld_model.specs.JournalLaws.{journal_done}
 use Rattle.mld_model.specs.HistoryLaws.{done_not_fresh}
-use Rattle.mld_model.specs.LocalLaws.{kept_by, same_stored}
+use Rattle.mld_model.specs.LocalLaws.{kept_by, entry_still_stands, local_still_stands}
 
 -- ---- clones, one by one
 
--- at each number the running clone stands for the clone
-pub clone_stands_at : (history : List Operation) (running : List (Option RunningLive)) (clones : List Clone) → ClonesStandFor history running clones
-    → (number : ℕ) → CloneStandsFor history (get_or running number None) (get_or clones number Absent)
-clone_stands_at history [] [] stands number = tt
-clone_stands_at history (one ∷ running) (clone ∷ clones) stands zero = stands.0
-clone_stands_at history (one ∷ running) (clone ∷ clones) stands (suc number) = clone_stands_at history running clones stands.1 number
-clone_stands_at history [] (clone ∷ clones) stands number = absurd stands
-clone_stands_at history (one ∷ running) [] stands number = absurd stands
-
--- the clones still stand for each other once one on each side is replaced by such a pair
-pub clones_stand_set : (history : List Operation) (running : List (Option RunningLive)) (clones : List Clone) → ClonesStandFor history running clones
-    → (number : ℕ) (one : Option RunningLive) (clone : Clone) → CloneStandsFor history one clone
-    → ClonesStandFor history (set running number one) (set clones number clone)
-clones_stand_set history [] [] stands number new with now = tt
-clones_stand_set history (one ∷ running) (clone ∷ clones) stands zero new with now = (now, stands.1)
-clones_stand_set history (one ∷ running) (clone ∷ clones) stands (suc number) new with now = (stands.0, clones_stand_set history running clones stands.1 number new with now)
-clones_stand_set history [] (clone ∷ clones) stands number new with now = absurd stands
-clones_stand_set history (one ∷ running) [] stands number new with now = absurd stands
-
-clone_still_stands : (history : List Operation) (next : Operation) (running : Option RunningLive) (clone : Clone) → CloneStandsFor history running clone
-    → ((stored : Stored) → Keeps clone stored → ¬ Knows (known_of stored) next.dot) → CloneStandsFor (next ∷ history) running clone
-clone_still_stands history next None Absent stands unknown = tt
-clone_still_stands history next (Some running) (Live stored held) stands unknown = (
-  record {
-    path = stands.0.path;
-    journal = stands.0.journal;
-    base = stands.0.base;
-    known = stands.0.known;
-    pairs = meaning_with_unknown history (known_of stored) next running.pairs stands.0.pairs (unknown stored refl);
-  },
-  stands.1,
-)
-clone_still_stands history next running clone stands unknown = absurd stands
-
--- clones that don't know the dot of a new operation stand for the same clones in the longer history
-pub clones_still_stand : (history : List Operation) (next : Operation) (running : List (Option RunningLive)) (clones : List Clone) → ClonesStandFor history running clones
-    → ((number : ℕ) (stored : Stored) → Keeps (get_or clones number Absent) stored → ¬ Knows (known_of stored) next.dot)
-    → ClonesStandFor (next ∷ history) running clones
-clones_still_stand history next [] [] stands unknown = tt
-clones_still_stand history next (one ∷ running) (clone ∷ clones) stands unknown =
-    (clone_still_stands history next one clone stands.0 (unknown 0), clones_still_stand history next running clones stands.1 (λ number. unknown (suc number)))
-clones_still_stand history next [] (clone ∷ clones) stands unknown = absurd stands
-clones_still_stand history next (one ∷ running) [] stands unknown = absurd stands
-
 -- a live clone and what it stands for
-pub record LiveAt (history : List Operation) (running : RunningLive) (clone : Clone) : Type 0 where
+pub record LiveAt (world : World) (number : ℕ) (running : LocalClone) : Type 0 where
   pub base : List Range
-  pub live : clone ≡ Live (kept_by running base) []
-  pub stands : LiveStandsFor history running (kept_by running base)
+  pub journal : List Range
+  pub held : List Range
+  pub live : clone_at world number ≡ Live (kept_by running base journal) held
+  pub is : IsCloneOf world number running
+  pub stands : LocalStandsFor world.history running (kept_by running base journal) held
 
-live_from : (history : List Operation) (running : RunningLive) (clone : Clone) → CloneStandsFor history (Some running) clone → LiveAt history running clone
-live_from history running (Live stored held) stands =
-    let P : Stored → Type 0 = λ s. LiveStandsFor history running s in
-    let same : kept_by running stored.base ≡ stored = same_stored history running stored stands.0 in
-    record { base = stored.base; live = λ i. Live (sym same i) (stands.1 i); stands = subst P (sym same) stands.0 }
-live_from history running Absent stands = absurd stands
-live_from history running Asking stands = absurd stands
-live_from history running Empty stands = absurd stands
-live_from history running (Down stored) stands = absurd stands
+live_from : (world : World) (number : ℕ) (running : LocalClone) (clone : Clone) → clone_at world number ≡ clone
+    → CloneStandsFor world number (Some running) clone → LiveAt world number running
+live_from world number running (Live stored held) at stands =
+    let same : kept_by running stored.base stored.journal ≡ stored = λ i. record { path = stands.1.path i; base = stored.base; journal = stored.journal } in
+    record {
+      base = stored.base;
+      journal = stored.journal;
+      held = held;
+      live = at ∙ ap (λ (s : Stored). Live s held) (sym same);
+      is = stands.0;
+      stands = subst (λ (s : Stored). LocalStandsFor world.history running s held) (sym same) stands.1;
+    }
+live_from world number running Absent at stands = absurd stands
+live_from world number running Asking at stands = absurd stands
+live_from world number running Empty at stands = absurd stands
+live_from world number running (Down stored) at stands = absurd stands
 
-absent_from : (history : List Operation) (clone : Clone) → CloneStandsFor history None clone → clone ≡ Absent
-absent_from history Absent stands = refl
-absent_from history Asking stands = absurd stands
-absent_from history Empty stands = absurd stands
-absent_from history (Down stored) stands = absurd stands
-absent_from history (Live stored held) stands = absurd stands
+absent_from : (world : World) (number : ℕ) (clone : Clone) → CloneStandsFor world number None clone → clone ≡ Absent
+absent_from world number Absent stands = refl
+absent_from world number Asking stands = absurd stands
+absent_from world number Empty stands = absurd stands
+absent_from world number (Down stored) stands = absurd stands
+absent_from world number (Live stored held) stands = absurd stands
 
 -- where a clone runs, the model has a live clone for which it stands
-pub live_at : (running : RunningWorld) (world : World) → StandsFor running world → (number : ℕ) (live : RunningLive)
-    → get_or running.clones number None ≡ Some live → LiveAt world.history live (clone_at world number)
+pub live_at : (running : RunningWorld) (world : World) → StandsFor running world → (number : ℕ) (live : LocalClone)
+    → get_or running.clones number None ≡ Some live → LiveAt world number live
 live_at running world stands number live is =
-    let P : Option RunningLive → Type 0 = λ r. CloneStandsFor world.history r (clone_at world number) in
-    live_from world.history live (clone_at world number) (subst P is (clone_stands_at world.history running.clones world.clones stands.clones number))
+    live_from world number live (clone_at world number) refl
+    (subst (λ (r : Option LocalClone). CloneStandsFor world number r (clone_at world number)) is (stands.clones number))
 
 -- where no clone runs, the model's clone is absent
 pub absent_at : (running : RunningWorld) (world : World) → StandsFor running world → (number : ℕ)
     → get_or running.clones number None ≡ None → clone_at world number ≡ Absent
 absent_at running world stands number is =
-    let P : Option RunningLive → Type 0 = λ r. CloneStandsFor world.history r (clone_at world number) in
-    absent_from world.history (clone_at world number) (subst P is (clone_stands_at world.history running.clones world.clones stands.clones number))
+    absent_from world number (clone_at world number)
+    (subst (λ (r : Option LocalClone). CloneStandsFor world number r (clone_at world number)) is (stands.clones number))
+
+-- a clone runs at one of the places
+pub place_of_running : (clones : List (Option LocalClone)) (number : ℕ) (live : LocalClone) → get_or clones number None ≡ Some live → number < length clones
+place_of_running clones number live is = elim (cases_lt number (length clones)) [
+  | inl inside ↦ inside
+  | inr past ↦ absurd (nothing live (sym (get_or_past clones number None past) ∙ is))
+]
+  where
+    nothing : (live : LocalClone) → ¬ (None ≡ Some live)
+    nothing live same = cc
+
+-- the same clone in a world of the same history, domain and properties
+pub clone_stands_as : (world next : World) (number : ℕ) (running : Option LocalClone) (clone : Clone)
+    → next.history ≡ world.history → next.domain ≡ world.domain → next.properties ≡ world.properties
+    → CloneStandsFor world number running clone → CloneStandsFor next number running clone
+clone_stands_as world next number None Absent history domain properties stands = tt
+clone_stands_as world next number (Some running) (Live stored held) history domain properties stands = (
+  record { id = stands.0.id; domain = stands.0.domain ∙ sym domain; properties = stands.0.properties ∙ sym properties },
+  subst (λ (h : List Operation). LocalStandsFor h running stored held) (sym history) stands.1,
+)
+clone_stands_as world next number running clone history domain properties stands = absurd stands
+
+-- a clone that is still the one of its number
+pub still_clone_of : (world next : World) (number : ℕ) (old new : LocalClone) → IsSameClone old new → next.domain ≡ world.domain → next.properties ≡ world.properties
+    → IsCloneOf world number old → IsCloneOf next number new
+still_clone_of world next number old new same domain properties is = record {
+  id = same.id ∙ is.id;
+  domain = same.domain ∙ is.domain ∙ sym domain;
+  properties = same.properties ∙ is.properties ∙ sym properties;
+}
+
+-- the clones still stand for each other once one on each side is replaced by such a pair
+pub clones_stand_set : (next : World) (running : List (Option LocalClone)) (clones : List Clone) (number : ℕ) (new : LocalClone) (clone : Clone)
+    → number < length running → number < length clones
+    → ((other : ℕ) → CloneStandsFor next other (get_or running other None) (get_or clones other Absent))
+    → CloneStandsFor next number (Some new) clone
+    → (other : ℕ) → CloneStandsFor next other (get_or (set running number (Some new)) other None) (get_or (set clones number clone) other Absent)
+clones_stand_set next running clones number new clone inside within stands now other = elim (cases_eq other number) [
+  | inl same ↦ subst (λ (k : ℕ). CloneStandsFor next k (get_or (set running number (Some new)) k None) (get_or (set clones number clone) k Absent)) (sym same)
+      (subst (λ (c : Clone). CloneStandsFor next number (get_or (set running number (Some new)) number None) c) (sym (get_or-set_same clones number clone Absent within))
+      (subst (λ (r : Option LocalClone). CloneStandsFor next number r clone) (sym (get_or-set_same running number (Some new) None inside)) now))
+  | inr differs ↦
+      subst (λ (c : Clone). CloneStandsFor next other (get_or (set running number (Some new)) other None) c) (sym (get_or-set_other clones number other clone Absent differs))
+      (subst (λ (r : Option LocalClone). CloneStandsFor next other r (get_or clones other Absent)) (sym (get_or-set_other running number other (Some new) None differs)) (stands other))
+]
+
+clone_still_stands : (world next : World) (operation : Operation) (number : ℕ) (running : Option LocalClone) (clone : Clone)
+    → IsSound world → IsNext world.history operation → next.history ≡ operation ∷ world.history → next.domain ≡ world.domain → next.properties ≡ world.properties
+    → clone_at world number ≡ clone → CloneStandsFor world number running clone → CloneStandsFor next number running clone
+clone_still_stands world next operation number None Absent sound is_next history domain properties at stands = tt
+clone_still_stands world next operation number (Some running) (Live stored held) sound is_next history domain properties at stands =
+    let whole = live_sound world number stored held sound at in (
+      record { id = stands.0.id; domain = stands.0.domain ∙ sym domain; properties = stands.0.properties ∙ sym properties },
+      subst (λ (h : List Operation). LocalStandsFor h running stored held) (sym history)
+          (local_still_stands world.history operation running stored held is_next
+          (λ known. done_not_fresh world.history operation operation.dot is_next (whole.closed.done operation.dot known) refl)
+          (journal_done world.history stored.base stored.journal whole.journal)
+          (sound.held number stored held at) stands.1),
+    )
+clone_still_stands world next operation number running clone sound is_next history domain properties at stands = absurd stands
+
+-- the clones of a world stand for the same clones once an operation was made
+pub clones_still_stand : (running : RunningWorld) (world next : World) (operation : Operation) → StandsFor running world → IsSound world
+    → IsNext world.history operation → next.history ≡ operation ∷ world.history → next.domain ≡ world.domain → next.properties ≡ world.properties
+    → (number : ℕ) → CloneStandsFor next number (get_or running.clones number None) (clone_at world number)
+clones_still_stand running world next operation stands sound is_next history domain properties number =
+    clone_still_stands world next operation number (get_or running.clones number None) (clone_at world number) sound is_next history domain properties refl (stands.clones number)
 
 -- ---- messages, one by one
 
--- entries stand for the same messages in the longer history
-pub messages_still_stand : (history : List Operation) (next : Operation) (entries : List EntryValue) (messages : List Message) → MessagesStandFor history entries messages
-    → ((message : Message) → Has messages message → IsSoundMessage history message) → IsNext history next
-    → MessagesStandFor (next ∷ history) entries messages
-messages_still_stand history next [] [] stands sound is_next = tt
-messages_still_stand history next (entry ∷ entries) (RangeOf range ∷ messages) stands sound is_next = (
-  (
-    net_with_unknown history range entry next stands.0.0
-        (λ inside. done_not_fresh history next next.dot is_next ((sound (RangeOf range) (inl refl)).2 next.dot inside) refl)
-        (sound (RangeOf range) (inl refl)).1,
-    stands.0.1,
-  ),
-  messages_still_stand history next entries messages stands.1 (λ message h. sound message (inr h)) is_next,
-)
-messages_still_stand history next (entry ∷ entries) (Want dots ∷ messages) stands sound is_next = absurd stands.0
-messages_still_stand history next (entry ∷ entries) (SnapshotOf dots ∷ messages) stands sound is_next = absurd stands.0
-messages_still_stand history next (entry ∷ entries) (JoinAsk id ∷ messages) stands sound is_next = absurd stands.0
-messages_still_stand history next (entry ∷ entries) (JoinGive id path dots ∷ messages) stands sound is_next = absurd stands.0
-messages_still_stand history next [] (message ∷ messages) stands sound is_next = absurd stands
-messages_still_stand history next (entry ∷ entries) [] stands sound is_next = absurd stands
+message_still_stands : (history : List Operation) (next : Operation) (message : SentMessage) (other : Message) → IsNext history next
+    → IsSoundMessage history other → MessageStandsFor history message other → MessageStandsFor (next ∷ history) message other
+message_still_stands history next (sent.Range entry) (RangeOf range) is_next sound stands = entry_still_stands history next entry range is_next sound stands
+message_still_stands history next message other is_next sound stands = absurd stands
 
--- and with one more of each at the end
-pub messages_stand_more : (history : List Operation) (entries : List EntryValue) (messages : List Message) → MessagesStandFor history entries messages
-    → (entry : EntryValue) (message : Message) → MessageStandsFor history entry message
-    → MessagesStandFor history (entries ++ entry ∷ []) (messages ++ message ∷ [])
-messages_stand_more history [] [] stands entry message now = (now, tt)
-messages_stand_more history (one ∷ entries) (other ∷ messages) stands entry message now = (stands.0, messages_stand_more history entries messages stands.1 entry message now)
-messages_stand_more history [] (other ∷ messages) stands entry message now = absurd stands
-messages_stand_more history (one ∷ entries) [] stands entry message now = absurd stands
-
--- there are as many entries as messages
-pub messages_count : (history : List Operation) (entries : List EntryValue) (messages : List Message) → MessagesStandFor history entries messages
-    → length entries ≡ length messages
-messages_count history [] [] stands = refl
-messages_count history (one ∷ entries) (other ∷ messages) stands = ap suc (messages_count history entries messages stands.1)
-messages_count history [] (other ∷ messages) stands = absurd stands
-messages_count history (one ∷ entries) [] stands = absurd stands
-
--- an entry that was sent and the range of which it is the net effect
-pub record SentAs (history : List Operation) (entry : EntryValue) (messages : List Message) (place : ℕ) : Type 0 where
-  pub range : Range
-  pub at : slice_get messages place ≡ Some (RangeOf range)
-  pub sent : Has messages (RangeOf range)
-  pub net : IsNet history range entry
-  pub one : range.first ≡ range.last
-
-sent_from : (history : List Operation) (entries : List EntryValue) (messages : List Message) → MessagesStandFor history entries messages
-    → (place : ℕ) (entry : EntryValue) → slice_get entries place ≡ Some entry → SentAs history entry messages place
-sent_from history [] messages stands place entry is = cc
-sent_from history (one ∷ entries) (RangeOf range ∷ messages) stands zero entry is =
-    let P : EntryValue → Type 0 = λ e. IsNet history range e in
-    let same : one ≡ entry = cc in
-    record { range = range; at = refl; sent = inl refl; net = subst P same stands.0.0; one = stands.0.1 }
-sent_from history (one ∷ entries) (message ∷ messages) stands (suc place) entry is =
-    let rest : SentAs history entry messages place = sent_from history entries messages stands.1 place entry is in
-    record { range = rest.range; at = rest.at; sent = inr rest.sent; net = rest.net; one = rest.one }
-sent_from history (one ∷ entries) (message ∷ messages) stands zero entry is = absurd stands.0
-sent_from history (one ∷ entries) [] stands place entry is = absurd stands
-
--- the entry at a place was sent as the message at that place
-pub sent_at : (running : RunningWorld) (world : World) → StandsFor running world → (place : ℕ) (entry : EntryValue)
-    → slice_get running.messages place ≡ Some entry → SentAs world.history entry world.messages place
-sent_at running world stands place entry is = sent_from world.history running.messages world.messages stands.messages place entry is
-
-none_from : (history : List Operation) (entries : List EntryValue) (messages : List Message) → MessagesStandFor history entries messages
-    → (place : ℕ) → slice_get entries place ≡ None → slice_get messages place ≡ None
-none_from history [] [] stands place is = refl
-none_from history (one ∷ entries) (message ∷ messages) stands zero is = cc
-none_from history (one ∷ entries) (message ∷ messages) stands (suc place) is = none_from history entries messages stands.1 place is
-none_from history [] (message ∷ messages) stands place is = absurd stands
-none_from history (one ∷ entries) [] stands place is = absurd stands
-
--- where there is no entry there is no message
-pub none_at : (running : RunningWorld) (world : World) → StandsFor running world → (place : ℕ)
-    → slice_get running.messages place ≡ None → slice_get world.messages place ≡ None
-none_at running world stands place is = none_from world.history running.messages world.messages stands.messages place is
+-- messages stand for the same messages in the longer history
+pub messages_still_stand : (history : List Operation) (next : Operation) (messages : List SentMessage) (others : List Message) → AllPairs (MessageStandsFor history) messages others
+    → ((message : Message) → Has others message → IsSoundMessage history message) → IsNext history next
+    → AllPairs (MessageStandsFor (next ∷ history)) messages others
+messages_still_stand history next messages others all sound is_next =
+    pairs_as (MessageStandsFor history) (MessageStandsFor (next ∷ history)) messages others all
+    (λ message other h stands. message_still_stands history next message other is_next (sound other h) stands)

@@ -12,10 +12,11 @@ use Rattle.mld_ops.specs.TaggedLaws.{tagged_total, tagged_exact}
 use Rattle.mld_ops.specs.AscendingLaws.{same_ascending}
 use Rattle.mld_ops.specs.MeaningLaws.{one_meaning}
 use Rattle.mld_model.specs.declared.Command.TheVariants.{Add, Remove, Deliver, Show, Compare}
-use Rattle.mld_model.specs.Clone.{Clone, Absent, Asking, Empty, Down, Live, Stored, known_of}
-use Rattle.mld_model.specs.World.{World, Message, RangeOf, message_at, clone_at}
-use Rattle.mld_model.specs.Reply.{Reply, Did, Shows, NoMessage}
-use Rattle.mld_model.specs.Step.{Answers, IsNextTick, after_operation, Makes, Adds, ArePairsOf, Removes, Receives, Takes, Lists, Compares, ComparesWith, Weighs, Step}
+use Rattle.mld_model.specs.Clone.{Clone, Absent, Asking, Empty, Down, Live, Stored, known_of, with_range}
+use Rattle.mld_model.specs.World.{World, Message, RangeOf, message_at, clone_at, with_clone}
+use Rattle.mld_model.specs.Reply.{Reply, Did, Took, Shows, NoMessage}
+use Rattle.mld_model.specs.Step.{Answers, IsNextTick, after_operation, Makes, Adds, ArePairsOf, Removes, Accepts, HoldsBack, Receives, Takes, Lists, Compares, ComparesWith, Weighs, Step}
+use Rattle.mld_model.specs.ReleaseLaws.{releases_once}
 use Rattle.mld_model.specs.Laws.{OneStep}
 
 -- two outcomes are the same
@@ -85,13 +86,40 @@ removes_once world number triple (Live stored held) reply other next after p q =
       ]
     ]
 
--- a range that comes to a live clone has one outcome: what is known isn't ready
+-- a range that is taken has one outcome
+accepts_once : (world : World) (number : ℕ) (stored : Stored) (held : List Range) (range : Range) (reply other : Reply) (next after : World)
+    → Accepts world number stored held range reply next → Accepts world number stored held range other after → Same reply next other after
+accepts_once world number stored held range reply other next after p q =
+    let same = releases_once world.history (with_range stored range) held p.taken q.taken p.after q.after p.left q.left p.releases q.releases in (
+      p.replies ∙ ap (λ (taken : List Range). Took (range ∷ taken)) same.0 ∙ sym q.replies,
+      p.changes ∙ (λ i. with_clone world number (Live (same.1 i) (same.2 i))) ∙ sym q.changes,
+    )
+
+-- a range that is held back has one outcome
+holds_once : (world : World) (number : ℕ) (stored : Stored) (held : List Range) (range : Range) (reply other : Reply) (next after : World)
+    → HoldsBack world number stored held range reply next → HoldsBack world number stored held range other after → Same reply next other after
+holds_once world number stored held range reply other next after (inl p) (inl q) = answers_once p.1 q.1
+holds_once world number stored held range reply other next after (inl p) (inr (inl q)) = absurd (q.0 p.0)
+holds_once world number stored held range reply other next after (inl p) (inr (inr q)) = absurd (q.0 p.0)
+holds_once world number stored held range reply other next after (inr (inl p)) (inl q) = absurd (p.0 q.0)
+holds_once world number stored held range reply other next after (inr (inl p)) (inr (inl q)) = answers_once p.2 q.2
+holds_once world number stored held range reply other next after (inr (inl p)) (inr (inr q)) = absurd (omega (arith, p.1, q.1))
+holds_once world number stored held range reply other next after (inr (inr p)) (inl q) = absurd (p.0 q.0)
+holds_once world number stored held range reply other next after (inr (inr p)) (inr (inl q)) = absurd (omega (arith, q.1, p.1))
+holds_once world number stored held range reply other next after (inr (inr p)) (inr (inr q)) = (p.2 ∙ sym q.2, p.3 ∙ sym q.3)
+
+-- a range that comes to a live clone has one outcome: it is known, or it is ready, or it is neither
 receives_once : (world : World) (number : ℕ) (stored : Stored) (held : List Range) (range : Range) (reply other : Reply) (next after : World)
     → Receives world number stored held range reply next → Receives world number stored held range other after → Same reply next other after
 receives_once world number stored held range reply other next after (inl p) (inl q) = answers_once p.1 q.1
-receives_once world number stored held range reply other next after (inl p) (inr q) = absurd (q.0.unknown p.0)
-receives_once world number stored held range reply other next after (inr p) (inl q) = absurd (p.0.unknown q.0)
-receives_once world number stored held range reply other next after (inr p) (inr q) = (p.2 ∙ sym q.2, p.3 ∙ sym q.3)
+receives_once world number stored held range reply other next after (inl p) (inr (inl q)) = absurd (q.ready.unknown p.0)
+receives_once world number stored held range reply other next after (inl p) (inr (inr q)) = absurd (q.0.unknown p.0)
+receives_once world number stored held range reply other next after (inr (inl p)) (inl q) = absurd (p.ready.unknown q.0)
+receives_once world number stored held range reply other next after (inr (inl p)) (inr (inl q)) = accepts_once world number stored held range reply other next after p q
+receives_once world number stored held range reply other next after (inr (inl p)) (inr (inr q)) = absurd (q.0.unready p.ready)
+receives_once world number stored held range reply other next after (inr (inr p)) (inl q) = absurd (p.0.unknown q.0)
+receives_once world number stored held range reply other next after (inr (inr p)) (inr (inl q)) = absurd (p.0.unready q.ready)
+receives_once world number stored held range reply other next after (inr (inr p)) (inr (inr q)) = holds_once world number stored held range reply other next after p.1 q.1
 
 -- a message that comes to a clone has one outcome
 takes_once : (world : World) (number : ℕ) (message : Message) (clone : Clone) (reply other : Reply) (next after : World)

@@ -12,7 +12,7 @@ use Rattle.mld_model.specs.Reply.{Reply, NoMessage}
 use Rattle.mld_model.specs.Step.{Answers, Makes, Adds, Removes, Receives, Takes, Lists, ComparesWith, Weighs, Step}
 use Rattle.mld_model.specs.Runs.{Stage, Waiting, Running, Acts, Runs}
 use Rattle.mld_model.specs.Sound.{IsSound}
-use Rattle.mld_model.specs.SoundLaws.{apart_differ, made_sound, taken_sound}
+use Rattle.mld_model.specs.SoundLaws.{apart_differ, made_sound, taken_sound, holding_sound}
 use Rattle.mld_model.specs.FoundedLaws.{founded_sound}
 use Rattle.mld_model.specs.Laws.{StepIsSound, RunsAreSound, SamePairs, OneLeaf}
 
@@ -51,8 +51,12 @@ receives_sound : (world : World) (number : ℕ) (stored : Stored) (held : List R
     → IsSound world → clone_at world number ≡ Live stored held → Has world.messages (RangeOf range)
     → Receives world number stored held range reply next → IsSound next
 receives_sound world number stored held range reply next sound is sent (inl p) = same_sound world next sound p.1.1
-receives_sound world number stored held range reply next sound is sent (inr p) =
-    subst IsSound (sym p.3) (taken_sound world number stored held range sound is sent p.0)
+receives_sound world number stored held range reply next sound is sent (inr (inl p)) =
+    subst IsSound (sym p.changes) (taken_sound world number stored held range p.taken p.after p.left sound is (sound.messages (RangeOf range) sent) p.ready p.releases)
+receives_sound world number stored held range reply next sound is sent (inr (inr (back, inl p))) = same_sound world next sound p.1.1
+receives_sound world number stored held range reply next sound is sent (inr (inr (back, inr (inl p)))) = same_sound world next sound p.2.1
+receives_sound world number stored held range reply next sound is sent (inr (inr (back, inr (inr p)))) =
+    subst IsSound (sym p.3) (holding_sound world number stored held range sound is (sound.messages (RangeOf range) sent))
 
 -- and so does a message that comes to a clone
 takes_sound : (world : World) (number : ℕ) (message : Message) (clone : Clone) (reply : Reply) (next : World)

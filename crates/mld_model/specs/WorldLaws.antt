@@ -1,60 +1,87 @@
 -- A running world that takes a step stands for what the model's step makes.
-use Rattle.std.proofs.Common.{◌≡◌, ◌≢◌, ℕ, zero, suc, ◌+◌, ◌≤◌, List, [], ◌∷◌, ◌++◌, ◌⊎◌, ◌↔◌, inl, inr, refl, sym, ap, arith, subst, length, get_or, set, Option, Some, None, map, ltb}
+use Rattle.std.proofs.Common.{◌≡◌, ◌≢◌, ℕ, zero, suc, ◌+◌, ◌<◌, ◌≤◌, List, [], ◌∷◌, ◌++◌, ◌⊎◌, ◌↔◌, inl, inr, refl, sym, ◌∙◌, ap, arith, subst, length, get_or, set, Option, Some, None, map, ltb, append_assoc}
 use Rattle.std.specs.Prelude.{slice_get, MatchOption}
 use Rattle.std.specs.List.{range_with_len}
 use Rattle.std.proofs.lemmas.Bool.{cases_lt, cases_Bool}
+use Rattle.std.proofs.lemmas.List.{get_or_past, length-set}
+use Rattle.std.proofs.lemmas.List.FromFn.{get_or-map-range_with_len, length-map-range_with_len}
 use Rattle.rdf_terms.specs.declared.terms.Triple.{Triple}
 use Rattle.tree_clock.specs.declared.dots.Dot.{Dot}
 use Rattle.tree_clock.specs.declared.dots.Range.{Range}
 use Rattle.tree_clock.specs.Lists.{Has}
 use Rattle.tree_clock.specs.Dot.{Knows}
-use Rattle.tree_clock.specs.Clock.{ticks_of, Covers}
+use Rattle.tree_clock.specs.Clock.{ticks_of, Covers, RaisesTo}
 use Rattle.mld_ops.specs.declared.tagged.Tagged.{Tagged}
+use Rattle.mld_ops.specs.declared.messages.Message.{Message as SentMessage}
+use Rattle.mld_ops.specs.declared.messages.Message.TheVariants as sent
 use Rattle.mld_ops.specs.Entry.{EntryValue}
 use Rattle.mld_ops.specs.History.{Operation, IsDone, IsInserted, IsNext, dot_at}
 use Rattle.mld_ops.specs.Effect.{range_of}
-use Rattle.mld_ops.specs.Net.{IsNet}
+use Rattle.mld_ops.specs.Picking.{AllPairs}
+use Rattle.mld_ops.specs.PickingLaws.{pairs_more}
+use Rattle.mld_ops.specs.Meaning.{IsMeaning}
+use Rattle.mld_ops.specs.HistoryLaws.{causes_done}
+use Rattle.mld_ops.specs.Ready.{last_dot, IsKnownEntry}
 use Rattle.mld_model.specs.declared.Command.TheVariants.{Add, Remove, Deliver, Show, Compare}
-use Rattle.mld_model.specs.Clone.{Clone, Live, Stored, known_of, with_range, IsReady, IsWithin}
+use Rattle.mld_model.specs.Clone.{Clone, Absent, Live, Stored, known_of, with_range, IsReady, IsHeldBack, IsWithin, held_limit}
 use Rattle.mld_model.specs.World.{World, Message, RangeOf, message_at, clone_at, with_clone, founded, founded_clone}
-use Rattle.mld_model.specs.Step.{Step, Answers, Adds, ArePairsOf, Removes, IsNextTick, Makes, after_operation, Takes, Lists, Compares, ComparesWith, Weighs}
-use Rattle.mld_model.specs.Runs.{Waits}
-use Rattle.mld_model.specs.Reply.{Reply, Did, NoOperation, Took, AlreadyKnown, Shows, Same, Less, More, Apart, NoMessage, IsAbsent}
-use Rattle.mld_model.specs.Sound.{Keeps, IsSoundMessage, IsSoundClone, IsSound}
-use Rattle.mld_model.specs.StandsFor.{RunningLive, RunningWorld, LiveStandsFor, CloneStandsFor, ClonesStandFor, StandsFor, founded_live, founded_running}
-use Rattle.mld_model.specs.Local.{next_dot, LocallyMakes, LocallyKnown, LocallyReady, LocallyTakes}
-use Rattle.mld_model.specs.HistoryLaws.{done_not_fresh}
-use Rattle.mld_model.specs.SoundLaws.{made_is_next, made_sound, taken_sound}
-use Rattle.mld_model.specs.LocalLaws.{kept_by, next_tick_of, made_by, maker_stands, made_net, known_alike, ready_alike, taker_stands}
-use Rattle.mld_model.specs.StandsForLaws.{clones_stand_set, clones_still_stand, messages_still_stand, messages_stand_more, messages_count, LiveAt, live_at, absent_at, SentAs, sent_at, none_at}
+use Rattle.mld_model.specs.Step.{Step, Answers, Adds, ArePairsOf, Removes, IsNextTick, Makes, after_operation, Receives, Takes, Lists, Compares, ComparesWith, Weighs}
+use Rattle.mld_model.specs.Reply.{Reply, Did, NoOperation, Took, Held, HeldFull, AlreadyKnown, Shows, Same, Less, More, Apart, NoMessage, IsAbsent}
+use Rattle.mld_model.specs.Sound.{IsDoneRange, IsSoundClone, IsSound}
+use Rattle.mld_model.specs.Local.{LocalClone, next_dot, LocallyMakes, LocallyAccepts, MustBeHeld, IsFullFor, IsForeign, ranges_of}
+use Rattle.mld_model.specs.StandsFor.{RunningWorld, EntryStandsFor, LocalStandsFor, IsCloneOf, CloneStandsFor, MessageStandsFor, StandsFor, founded_local, founded_running}
+use Rattle.mld_model.specs.JournalLaws.{journal_done}
+use Rattle.mld_model.specs.SoundLaws.{made_is_next, made_sound, taken_sound, holding_sound, live_sound, taker_stays_sound}
+use Rattle.mld_model.specs.LocalLaws.{kept_by, next_tick_of, made_by, maker_stands, made_entry, known_alike, ready_alike, KnowsAs, raised_knows, taker_knows}
+use Rattle.mld_model.specs.ReleasedLaws.{stand_done, Released, release_stands}
+use Rattle.mld_model.specs.PairsLaws.{PairAt, pair_at, no_pair_at, pairs_count, pairs_append}
+use Rattle.mld_model.specs.StandsForLaws.{LiveAt, live_at, absent_at, place_of_running, clone_stands_as, still_clone_of, clones_stand_set, clones_still_stand, messages_still_stand}
+use Rattle.mld_model.specs.KnownLaws.{known_with}
 use Rattle.mld_model.specs.WorldStep.{Follows}
 
 -- ---- founding
 
-founded_clone_stands : (count number : ℕ) → CloneStandsFor [] (founded_live count number) (founded_clone count number)
-founded_clone_stands count number = elim (cases_Bool (ltb number count)) [
-  | inl below ↦ rw below ((
+-- the clone of a world of this domain that was just founded stands for the founded clone
+founded_clone_stands : (domain : List ℕ) (count number : ℕ) → CloneStandsFor (founded domain count) number (founded_local domain count number) (founded_clone count number)
+founded_clone_stands domain count number = elim (cases_Bool (ltb number count)) [
+  | inl below ↦ rw below (
+    record { id = refl; domain = refl; properties = refl },
     record {
       path = refl;
-      journal = refl;
-      base = refl;
+      base = λ dot. ((λ c. absurd (omega (arith, c.positive, c.within))), λ k. absurd k);
+      base_pairs = record { ascending = tt; sound = λ pair h. absurd h; complete = λ pair k. absurd k.covered };
+      entries = tt;
+      held = tt;
       known = λ dot. ((λ c. absurd (omega (arith, c.positive, c.within))), λ k. absurd k);
       pairs = record { ascending = tt; sound = λ pair h. absurd h; complete = λ pair k. absurd k.covered };
     },
-    refl,
-  ))
+  )
   | inr above ↦ rw above tt
 ]
 
-founded_clones_stand : (count : ℕ) (numbers : List ℕ) → ClonesStandFor [] (map (founded_live count) numbers) (map (founded_clone count) numbers)
-founded_clones_stand count [] = tt
-founded_clones_stand count (number ∷ numbers) = (founded_clone_stands count number, founded_clones_stand count numbers)
+founded_at : (domain : List ℕ) (count number : ℕ)
+    → CloneStandsFor (founded domain count) number (get_or (map (founded_local domain count) (range_with_len 0 32)) number None) (clone_at (founded domain count) number)
+founded_at domain count number = elim (cases_lt number 32) [
+  | inl inside ↦
+      subst (λ (r : Option LocalClone). CloneStandsFor (founded domain count) number r (clone_at (founded domain count) number))
+      (sym (get_or-map-range_with_len (founded_local domain count) 0 32 number number None inside (omega arith)))
+      (subst (λ (c : Clone). CloneStandsFor (founded domain count) number (founded_local domain count number) c)
+      (sym (get_or-map-range_with_len (founded_clone count) 0 32 number number Absent inside (omega arith)))
+      (founded_clone_stands domain count number))
+  | inr past ↦
+      subst (λ (r : Option LocalClone). CloneStandsFor (founded domain count) number r (clone_at (founded domain count) number))
+      (sym (get_or_past (map (founded_local domain count) (range_with_len 0 32)) number None (omega (arith, past, length-map-range_with_len (founded_local domain count) 0 32))))
+      (subst (λ (c : Clone). CloneStandsFor (founded domain count) number None c)
+      (sym (get_or_past (map (founded_clone count) (range_with_len 0 32)) number Absent (omega (arith, past, length-map-range_with_len (founded_clone count) 0 32))))
+      tt)
+]
 
 -- the world that runs when it was just founded stands for the founded world
 pub founded_stands : (domain : List ℕ) (count : ℕ) → StandsFor (founded_running domain count) (founded domain count)
 founded_stands domain count = record {
   domain = refl;
-  clones = founded_clones_stand count (range_with_len 0 32);
+  count = length-map-range_with_len (founded_local domain count) 0 32;
+  clones = founded_at domain count;
   messages = tt;
   ticks = λ operation h. absurd h;
 }
@@ -64,83 +91,84 @@ abbrev pub stepped : RunningWorld → RunningWorld
 stepped running = record { domain = running.domain; clones = running.clones; messages = running.messages; steps = running.steps + 1 }
 
 -- with another clone
-abbrev pub stepped_with : RunningWorld → ℕ → RunningLive → RunningWorld
+abbrev pub stepped_with : RunningWorld → ℕ → LocalClone → RunningWorld
 stepped_with running number clone =
     record { domain = running.domain; clones = set running.clones number (Some clone); messages = running.messages; steps = running.steps + 1 }
 
--- with another clone and one more entry
-abbrev pub stepped_sending : RunningWorld → ℕ → RunningLive → EntryValue → RunningWorld
+-- with another clone and the message of one more entry
+abbrev pub stepped_sending : RunningWorld → ℕ → LocalClone → EntryValue → RunningWorld
 stepped_sending running number clone entry =
-    record { domain = running.domain; clones = set running.clones number (Some clone); messages = running.messages ++ entry ∷ []; steps = running.steps + 1 }
+    record { domain = running.domain; clones = set running.clones number (Some clone); messages = running.messages ++ sent.Range entry ∷ []; steps = running.steps + 1 }
 
 -- nothing but the count of steps changes
 pub stepped_stands : (running : RunningWorld) (world : World) → StandsFor running world → StandsFor (stepped running) world
 stepped_stands running world stands = record {
   domain = stands.domain;
+  count = stands.count;
   clones = stands.clones;
   messages = stands.messages;
   ticks = λ operation h. omega (arith, stands.ticks operation h);
 }
 
--- the clone that is live at a number is sound
-pub sound_at : (world : World) → IsSound world → (number : ℕ) (stored : Stored) (held : List Range) → clone_at world number ≡ Live stored held
-    → IsSoundClone world.history stored
-sound_at world sound number stored held live = let K : Clone → Type 0 = λ c. Keeps c stored in sound.clones number stored (subst K (sym live) refl)
-
 -- the next tick of a clone is at most the number of the step that makes it
-pub next_tick_within : (running : RunningWorld) (world : World) → StandsFor running world → IsSound world → (number : ℕ) (live : RunningLive)
-    → LiveAt world.history live (clone_at world number) → (next_dot live).tick ≤ running.steps + 1
+pub next_tick_within : (running : RunningWorld) (world : World) → StandsFor running world → IsSound world → (number : ℕ) (live : LocalClone)
+    → LiveAt world number live → (next_dot live).tick ≤ running.steps + 1
 next_tick_within running world stands sound number live at = elim (cases_lt 0 (ticks_of live.ticks live.path)) [
   | inl some ↦
-      let known : Knows (known_of (kept_by live at.base)) (dot_at live.path (ticks_of live.ticks live.path)) = (at.stands.known (dot_at live.path (ticks_of live.ticks live.path))).0 (record { positive = omega arith; within = omega arith }) in
-      let done : IsDone world.history (dot_at live.path (ticks_of live.ticks live.path)) = (sound_at world sound number (kept_by live at.base) [] at.live).closed.done (dot_at live.path (ticks_of live.ticks live.path)) known in
+      let own : Dot = dot_at live.path (ticks_of live.ticks live.path) in
+      let known : Knows (known_of (kept_by live at.base at.journal)) own = (at.stands.known own).0 (record { positive = omega arith; within = omega arith }) in
+      let done : IsDone world.history own = (live_sound world number (kept_by live at.base at.journal) at.held sound at.live).closed.done own known in
       omega (arith, stands.ticks done.operation done.stands, ap (λ (d : Dot). d.tick) done.is)
   | inr none ↦ omega arith
 ]
 
 -- what making an operation gives
-pub record MakesSoundly (world : World) (number : ℕ) (live : RunningLive) (deletes : List Tagged) (inserts : List Triple) (reply : Reply) (running : RunningWorld) : Type 0 where
-  pub base : List Range
-  pub was_live : clone_at world number ≡ Live (kept_by live base) []
-  pub stood : LiveStandsFor world.history live (kept_by live base)
+pub record MakesSoundly (world : World) (number : ℕ) (live : LocalClone) (deletes : List Tagged) (inserts : List Triple) (reply : Reply) (running : RunningWorld) : Type 0 where
+  pub at : LiveAt world number live
   pub next : World
-  pub makes : Makes world number (kept_by live base) [] deletes inserts reply next
+  pub makes : Makes world number (kept_by live at.base at.journal) at.held deletes inserts reply next
   pub sound : IsSound next
   pub stands : StandsFor running next
 
 -- a live clone that makes an operation does so in the model, and the running world stands for what that makes
-pub makes_soundly : (running : RunningWorld) (world : World) → StandsFor running world → IsSound world → (number : ℕ) (live : RunningLive)
-    → get_or running.clones number None ≡ Some live → (deletes : List Tagged) (inserts : List Triple) (new : RunningLive) (entry : EntryValue)
+pub makes_soundly : (running : RunningWorld) (world : World) → StandsFor running world → IsSound world → (number : ℕ) (live : LocalClone)
+    → get_or running.clones number None ≡ Some live → (deletes : List Tagged) (inserts : List Triple) (new : LocalClone) (entry : EntryValue)
     → ((pair : Tagged) → Has deletes pair → Has live.pairs pair) → LocallyMakes live deletes inserts new entry
     → MakesSoundly world number live deletes inserts (Did (next_dot live) (length running.messages + 1)) (stepped_sending running number new entry)
 makes_soundly running world stands sound number live is deletes inserts new entry present makes =
-    let at : LiveAt world.history live (clone_at world number) = live_at running world stands number live is in
-    let stored : Stored = kept_by live at.base in
-    let whole : IsSoundClone world.history stored = sound_at world sound number stored [] at.live in
-    let tick : IsNextTick (known_of stored) live.path (next_dot live).tick = next_tick_of world.history live at.base at.stands in
+    let at : LiveAt world number live = live_at running world stands number live is in
+    let stored : Stored = kept_by live at.base at.journal in
+    let whole : IsSoundClone world.history stored = live_sound world number stored at.held sound at.live in
+    let tick : IsNextTick (known_of stored) live.path (next_dot live).tick = next_tick_of live (known_of stored) at.stands.known in
     let covered : (pair : Tagged) → Has deletes pair → Knows (known_of stored) pair.dot = λ pair h. (at.stands.pairs.sound pair (present pair h)).covered in
     let inserted : (pair : Tagged) → Has deletes pair → IsInserted world.history pair = λ pair h. (at.stands.pairs.sound pair (present pair h)).inserted in
-    let operation : Operation = made_by live at.base deletes inserts in
+    let operation : Operation = made_by live at.base at.journal deletes inserts in
     let is_next : IsNext world.history operation = made_is_next world.history stored (next_dot live).tick deletes inserts whole tick covered inserted in
-    let next : World = after_operation world number stored [] operation in
+    let next : World = after_operation world number stored at.held operation in
+    let inside : number < length running.clones = place_of_running running.clones number live is in
     record {
-      base = at.base;
-      was_live = at.live;
-      stood = at.stands;
+      at = at;
       next = next;
-      makes = record { tick = (next_dot live).tick; is_next = tick; replies = ap (λ n. Did (next_dot live) (n + 1)) (messages_count world.history running.messages world.messages stands.messages); changes = refl };
-      sound = made_sound world number stored [] (next_dot live).tick deletes inserts sound at.live tick covered inserted;
+      makes = record {
+        tick = (next_dot live).tick;
+        is_next = tick;
+        replies = ap (λ n. Did (next_dot live) (n + 1)) (pairs_count (MessageStandsFor world.history) running.messages world.messages stands.messages);
+        changes = refl;
+      };
+      sound = made_sound world number stored at.held (next_dot live).tick deletes inserts sound at.live tick covered inserted;
       stands = record {
         domain = stands.domain;
-        clones = clones_stand_set (operation ∷ world.history) running.clones world.clones
-            (clones_still_stand world.history operation running.clones world.clones stands.clones
-            (λ other kept keeps known. done_not_fresh world.history operation operation.dot is_next ((sound.clones other kept keeps).closed.done operation.dot known) refl))
-            number (Some new) (Live (with_range stored (range_of (next_dot live))) [])
-            (maker_stands world.history live at.base deletes inserts new entry at.stands makes sound.lawful whole.closed is_next, refl);
-        messages = messages_stand_more (operation ∷ world.history) running.messages world.messages
+        count = length-set running.clones number (Some new) ∙ stands.count;
+        clones = clones_stand_set next running.clones world.clones number new (Live (with_range stored (range_of (next_dot live))) at.held)
+            inside (omega (arith, inside, stands.count, sound.count))
+            (clones_still_stand running world next operation stands sound is_next refl refl refl) (
+              still_clone_of world next number live new makes.same refl refl at.is,
+              maker_stands world.history live at.base at.journal at.held deletes inserts new entry at.stands makes sound.lawful whole.closed is_next
+                  (journal_done world.history at.base at.journal whole.journal) (sound.held number stored at.held at.live),
+            );
+        messages = pairs_more (MessageStandsFor (operation ∷ world.history)) running.messages world.messages (sent.Range entry) (RangeOf (range_of (next_dot live)))
             (messages_still_stand world.history operation running.messages world.messages stands.messages sound.messages is_next)
-            entry (RangeOf (range_of (next_dot live)))
-            (made_net world.history live at.base deletes inserts new entry at.stands makes sound.lawful whole.closed is_next, refl);
+            (made_entry world.history live at.base at.journal at.held deletes inserts new entry at.stands makes sound.lawful whole.closed is_next);
         ticks = λ other h. elim h [
           | inl same ↦ let P : Operation → Type 0 = λ o. o.dot.tick ≤ running.steps + 1 in subst P same (next_tick_within running world stands sound number live at)
           | inr old ↦ omega (arith, stands.ticks other old)
@@ -151,15 +179,15 @@ makes_soundly running world stands sound number live is deletes inserts new entr
 -- ---- add
 
 -- a live clone adds a triple
-pub add_follows : (running : RunningWorld) (world : World) → StandsFor running world → IsSound world → (number : ℕ) (triple : Triple) (live : RunningLive)
-    → get_or running.clones number None ≡ Some live → (new : RunningLive) (entry : EntryValue) → LocallyMakes live [] (triple ∷ []) new entry
+pub add_follows : (running : RunningWorld) (world : World) → StandsFor running world → IsSound world → (number : ℕ) (triple : Triple) (live : LocalClone)
+    → get_or running.clones number None ≡ Some live → (new : LocalClone) (entry : EntryValue) → LocallyMakes live [] (triple ∷ []) new entry
     → Follows world (Add number triple) (Did (next_dot live) (length running.messages + 1)) (stepped_sending running number new entry)
 unfolding Step
 add_follows running world stands sound number triple live is new entry makes =
     let made : MakesSoundly world number live [] (triple ∷ []) (Did (next_dot live) (length running.messages + 1)) (stepped_sending running number new entry)
     = makes_soundly running world stands sound number live is [] (triple ∷ []) new entry (λ pair h. absurd h) makes in
     let P : Clone → Type 0 = λ c. Adds world number triple c (Did (next_dot live) (length running.messages + 1)) made.next in
-    record { next = made.next; steps = subst P (sym made.was_live) made.makes; sound = made.sound; stands = made.stands }
+    record { next = made.next; steps = subst P (sym made.at.live) made.makes; sound = made.sound; stands = made.stands }
 
 -- an absent clone adds nothing
 pub add_absent : (running : RunningWorld) (world : World) → StandsFor running world → IsSound world → (number : ℕ) (triple : Triple)
@@ -171,8 +199,8 @@ add_absent running world stands sound number triple is =
 
 -- ---- remove
 
-pub remove_follows : (running : RunningWorld) (world : World) → StandsFor running world → IsSound world → (number : ℕ) (triple : Triple) (live : RunningLive)
-    → get_or running.clones number None ≡ Some live → (deletes : List Tagged) (new : RunningLive) (entry : EntryValue) → ArePairsOf triple live.pairs deletes → deletes ≢ []
+pub remove_follows : (running : RunningWorld) (world : World) → StandsFor running world → IsSound world → (number : ℕ) (triple : Triple) (live : LocalClone)
+    → get_or running.clones number None ≡ Some live → (deletes : List Tagged) (new : LocalClone) (entry : EntryValue) → ArePairsOf triple live.pairs deletes → deletes ≢ []
     → LocallyMakes live deletes [] new entry
     → Follows world (Remove number triple) (Did (next_dot live) (length running.messages + 1)) (stepped_sending running number new entry)
 unfolding Step
@@ -181,13 +209,18 @@ remove_follows running world stands sound number triple live is deletes new entr
     let made : MakesSoundly world number live deletes [] reply (stepped_sending running number new entry)
     = makes_soundly running world stands sound number live is deletes [] new entry (λ pair h. ((are.members pair).0 h).0) makes in
     let P : Clone → Type 0 = λ c. Removes world number triple c reply made.next in
-    record { next = made.next; steps = subst P (sym made.was_live) (live.pairs, deletes, made.stood.pairs, are, inr (some, made.makes)); sound = made.sound; stands = made.stands }
+    record {
+      next = made.next;
+      steps = subst P (sym made.at.live) (live.pairs, deletes, made.at.stands.pairs, are, inr (some, made.makes));
+      sound = made.sound;
+      stands = made.stands;
+    }
 
-pub remove_nothing : (running : RunningWorld) (world : World) → StandsFor running world → IsSound world → (number : ℕ) (triple : Triple) (live : RunningLive)
+pub remove_nothing : (running : RunningWorld) (world : World) → StandsFor running world → IsSound world → (number : ℕ) (triple : Triple) (live : LocalClone)
     → get_or running.clones number None ≡ Some live → ArePairsOf triple live.pairs [] → Follows world (Remove number triple) NoOperation (stepped running)
 unfolding Step
 remove_nothing running world stands sound number triple live is none =
-    let at : LiveAt world.history live (clone_at world number) = live_at running world stands number live is in
+    let at : LiveAt world number live = live_at running world stands number live is in
     let P : Clone → Type 0 = λ c. Removes world number triple c NoOperation world in
     record { next = world; steps = subst P (sym at.live) (live.pairs, [], at.stands.pairs, none, inl (refl, (refl, refl))); sound = sound; stands = stepped_stands running world stands }
 
@@ -200,125 +233,283 @@ remove_absent running world stands sound number triple is =
 
 -- ---- deliver
 
--- the entry of a message's number; the first has number 1
-abbrev pub entry_at : RunningWorld → ℕ → Option EntryValue
-entry_at running zero = None
-entry_at running (suc before) = slice_get running.messages before
+-- the message of a number; the first has number 1
+abbrev pub sent_message : RunningWorld → ℕ → Option SentMessage
+sent_message running zero = None
+sent_message running (suc before) = slice_get running.messages before
 
--- where there is no entry of a number there is no message of it
+-- where there is no message of a number there is none of it in the model
 pub no_message : (running : RunningWorld) (world : World) → StandsFor running world → (message : ℕ)
-    → entry_at running message ≡ None → message_at world message ≡ None
+    → sent_message running message ≡ None → message_at world message ≡ None
 no_message running world stands zero is = refl
-no_message running world stands (suc before) is = none_at running world stands before is
+no_message running world stands (suc before) is = no_pair_at (MessageStandsFor world.history) running.messages world.messages stands.messages before is
 
--- the message of an entry that was sent
-pub record SentBy (world : World) (entry : EntryValue) (message : ℕ) : Type 0 where
+-- the model's message of a number, and what stands for it
+pub record SentAs (world : World) (message : SentMessage) (number : ℕ) : Type 0 where
+  pub other : Message
+  pub at : message_at world number ≡ Some other
+  pub stands : Has world.messages other
+  pub relates : MessageStandsFor world.history message other
+
+-- what was sent by a number stands for the model's message of that number
+pub sent_as : (running : RunningWorld) (world : World) → StandsFor running world → (number : ℕ) (message : SentMessage)
+    → sent_message running number ≡ Some message → SentAs world message number
+sent_as running world stands zero message is = cc
+sent_as running world stands (suc before) message is =
+    let p : PairAt (MessageStandsFor world.history) message world.messages before = pair_at (MessageStandsFor world.history) running.messages world.messages stands.messages before message is in
+    record { other = p.other; at = p.at; stands = p.stands; relates = p.relates }
+
+-- the range of an entry that was sent
+pub record SentRange (world : World) (entry : EntryValue) (number : ℕ) : Type 0 where
   pub range : Range
-  pub at : message_at world message ≡ Some (RangeOf range)
-  pub sent : Has world.messages (RangeOf range)
-  pub net : IsNet world.history range entry
-  pub one : range.first ≡ range.last
+  pub at : message_at world number ≡ Some (RangeOf range)
+  pub stands : Has world.messages (RangeOf range)
+  pub entry_stands : EntryStandsFor world.history entry range
 
--- the entry of a number was sent as the message of that number
-pub sent_by : (running : RunningWorld) (world : World) → StandsFor running world → (message : ℕ) (entry : EntryValue)
-    → entry_at running message ≡ Some entry → SentBy world entry message
-sent_by running world stands zero entry is = cc
-sent_by running world stands (suc before) entry is =
-    let s : SentAs world.history entry world.messages before = sent_at running world stands before entry is in
-    record { range = s.range; at = s.at; sent = s.sent; net = s.net; one = s.one }
+range_from : (world : World) (entry : EntryValue) (number : ℕ) (other : Message) → message_at world number ≡ Some other → Has world.messages other
+    → MessageStandsFor world.history (sent.Range entry) other → SentRange world entry number
+range_from world entry number (RangeOf range) at stands relates = record { range = range; at = at; stands = stands; entry_stands = relates }
+range_from world entry number other at stands relates = absurd relates
+
+-- an entry was sent as a range
+pub sent_range : (running : RunningWorld) (world : World) → StandsFor running world → (number : ℕ) (entry : EntryValue)
+    → sent_message running number ≡ Some (sent.Range entry) → SentRange world entry number
+sent_range running world stands number entry is =
+    let s : SentAs world (sent.Range entry) number = sent_as running world stands number (sent.Range entry) is in
+    range_from world entry number s.other s.at s.stands s.relates
 
 -- no message of the number comes
 pub deliver_nothing : (running : RunningWorld) (world : World) → StandsFor running world → IsSound world → (message number : ℕ)
-    → entry_at running message ≡ None → Follows world (Deliver message number) NoMessage (stepped running)
+    → sent_message running message ≡ None → Follows world (Deliver message number) NoMessage (stepped running)
 unfolding Step
 deliver_nothing running world stands sound message number is =
     let P : Option Message → Type 0 = λ o. MatchOption o (Answers world NoMessage NoMessage world) (λ sent. Takes world number sent (clone_at world number) NoMessage world) in
     record { next = world; steps = subst P (sym (no_message running world stands message is)) (refl, refl); sound = sound; stands = stepped_stands running world stands }
 
 -- a message comes to an absent clone
-pub deliver_absent : (running : RunningWorld) (world : World) → StandsFor running world → IsSound world → (message number : ℕ) (entry : EntryValue)
-    → entry_at running message ≡ Some entry → get_or running.clones number None ≡ None → Follows world (Deliver message number) IsAbsent (stepped running)
+pub deliver_absent : (running : RunningWorld) (world : World) → StandsFor running world → IsSound world → (message number : ℕ) (what : SentMessage)
+    → sent_message running message ≡ Some what → get_or running.clones number None ≡ None → Follows world (Deliver message number) IsAbsent (stepped running)
 unfolding Step
-deliver_absent running world stands sound message number entry sent is =
-    let s : SentBy world entry message = sent_by running world stands message entry sent in
+deliver_absent running world stands sound message number what sent is =
+    let s : SentAs world what message = sent_as running world stands message what sent in
     let P : Option Message → Type 0 = λ o. MatchOption o (Answers world NoMessage IsAbsent world) (λ m. Takes world number m (clone_at world number) IsAbsent world) in
-    let Q : Clone → Type 0 = λ c. Takes world number (RangeOf s.range) c IsAbsent world in
+    let Q : Clone → Type 0 = λ c. Takes world number s.other c IsAbsent world in
     record { next = world; steps = subst P (sym s.at) (subst Q (sym (absent_at running world stands number is)) (refl, refl)); sound = sound; stands = stepped_stands running world stands }
 
--- a message comes to a clone that knows it
-pub deliver_known : (running : RunningWorld) (world : World) → StandsFor running world → IsSound world → (message number : ℕ) (entry : EntryValue) (live : RunningLive)
-    → entry_at running message ≡ Some entry → get_or running.clones number None ≡ Some live → LocallyKnown live entry
-    → Follows world (Deliver message number) AlreadyKnown (stepped running)
+-- how a live clone's answer to an entry follows the model
+answer_follows : (running next : RunningWorld) (world after : World) (message number : ℕ) (entry : EntryValue) (live : LocalClone) (reply : Reply)
+    → (s : SentRange world entry message) → (at : LiveAt world number live)
+    → Receives world number (kept_by live at.base at.journal) at.held s.range reply after → IsSound after → StandsFor next after
+    → Follows world (Deliver message number) reply next
 unfolding Step
+answer_follows running next world after message number entry live reply s at receives sound stands =
+    let P : Option Message → Type 0 = λ o. MatchOption o (Answers world NoMessage reply after) (λ m. Takes world number m (clone_at world number) reply after) in
+    let Q : Clone → Type 0 = λ c. Takes world number (RangeOf s.range) c reply after in
+    record { next = after; steps = subst P (sym s.at) (subst Q (sym at.live) receives); sound = sound; stands = stands }
+
+-- a message comes to a clone that knows it
+pub deliver_known : (running : RunningWorld) (world : World) → StandsFor running world → IsSound world → (message number : ℕ) (entry : EntryValue) (live : LocalClone)
+    → sent_message running message ≡ Some (sent.Range entry) → get_or running.clones number None ≡ Some live → IsKnownEntry live.ticks entry
+    → Follows world (Deliver message number) AlreadyKnown (stepped running)
 deliver_known running world stands sound message number entry live sent is known =
-    let s : SentBy world entry message = sent_by running world stands message entry sent in
-    let at : LiveAt world.history live (clone_at world number) = live_at running world stands number live is in
-    let P : Option Message → Type 0 = λ o. MatchOption o (Answers world NoMessage AlreadyKnown world) (λ m. Takes world number m (clone_at world number) AlreadyKnown world) in
-    let Q : Clone → Type 0 = λ c. Takes world number (RangeOf s.range) c AlreadyKnown world in
+    let s : SentRange world entry message = sent_range running world stands message entry sent in
+    let at : LiveAt world number live = live_at running world stands number live is in
+    answer_follows running (stepped running) world world message number entry live AlreadyKnown s at
+    (inl ((known_alike world.history live.ticks (known_of (kept_by live at.base at.journal)) at.stands.known s.range entry s.entry_stands.net).0 known, (refl, refl)))
+    sound (stepped_stands running world stands)
+
+-- a running world where one live clone has changed, and nothing else
+changed_stands : (running : RunningWorld) (world : World) → StandsFor running world → IsSound world → (number : ℕ) (live new : LocalClone) (stored : Stored) (held : List Range)
+    → get_or running.clones number None ≡ Some live → IsCloneOf world number new → LocalStandsFor world.history new stored held
+    → StandsFor (stepped_with running number new) (with_clone world number (Live stored held))
+changed_stands running world stands sound number live new stored held is of now =
+    let inside : number < length running.clones = place_of_running running.clones number live is in
+    let next : World = with_clone world number (Live stored held) in
     record {
-      next = world;
-      steps = subst P (sym s.at) (subst Q (sym at.live) (inl ((known_alike world.history live (kept_by live at.base) s.range entry at.stands s.net).0 known, (refl, refl))));
-      sound = sound;
-      stands = stepped_stands running world stands;
+      domain = stands.domain;
+      count = length-set running.clones number (Some new) ∙ stands.count;
+      clones = clones_stand_set next running.clones world.clones number new (Live stored held) inside (omega (arith, inside, stands.count, sound.count))
+          (λ other. clone_stands_as world next other (get_or running.clones other None) (clone_at world other) refl refl refl (stands.clones other))
+          (record { id = of.id; domain = of.domain; properties = of.properties }, now);
+      messages = stands.messages;
+      ticks = λ operation h. omega (arith, stands.ticks operation h);
     }
 
 -- a message comes to a clone that is ready for it
-pub deliver_taken : (running : RunningWorld) (world : World) → StandsFor running world → IsSound world → (message number : ℕ) (entry : EntryValue) (live new : RunningLive)
-    → entry_at running message ≡ Some entry → get_or running.clones number None ≡ Some live → LocallyReady live entry → LocallyTakes live entry new
-    → Follows world (Deliver message number) (Took (entry.range ∷ [])) (stepped_with running number new)
-unfolding Step
-deliver_taken running world stands sound message number entry live new sent is ready takes =
-    let s : SentBy world entry message = sent_by running world stands message entry sent in
-    let at : LiveAt world.history live (clone_at world number) = live_at running world stands number live is in
-    let stored : Stored = kept_by live at.base in
-    let good : IsSoundMessage world.history (RangeOf s.range) = sound.messages (RangeOf s.range) s.sent in
-    let can : IsReady world.history (known_of stored) s.range = (ready_alike world.history live stored s.range entry at.stands s.net good.0).0 ready in
-    let whole : IsSoundClone world.history stored = sound_at world sound number stored [] at.live in
-    let next : World = with_clone world number (Live (with_range stored s.range) []) in
-    let reply : Reply = Took (entry.range ∷ []) in
-    let P : Option Message → Type 0 = λ o. MatchOption o (Answers world NoMessage reply next) (λ m. Takes world number m (clone_at world number) reply next) in
-    let Q : Clone → Type 0 = λ c. Takes world number (RangeOf s.range) c reply next in
-    record {
-      next = next;
-      steps = subst P (sym s.at) (subst Q (sym at.live) (inr (can, refl, ap (λ (r : Range). Took (r ∷ [])) s.net.same, refl)));
-      sound = taken_sound world number stored [] s.range sound at.live s.sent can;
-      stands = record {
-        domain = stands.domain;
-        clones = clones_stand_set world.history running.clones world.clones stands.clones number (Some new) (Live (with_range stored s.range) [])
-            (taker_stands world.history live at.base s.range entry new at.stands s.net s.one good sound.lawful whole.closed ready takes, refl);
-        messages = stands.messages;
-        ticks = λ operation h. omega (arith, stands.ticks operation h);
-      };
-    }
+pub deliver_taken : (running : RunningWorld) (world : World) → StandsFor running world → IsSound world → (message number : ℕ) (entry : EntryValue) (live new : LocalClone) (ranges : List Range)
+    → sent_message running message ≡ Some (sent.Range entry) → get_or running.clones number None ≡ Some live → LocallyAccepts live entry new ranges
+    → Follows world (Deliver message number) (Took ranges) (stepped_with running number new)
+deliver_taken running world stands sound message number entry live new ranges sent is accepts =
+    let s : SentRange world entry message = sent_range running world stands message entry sent in
+    let at : LiveAt world number live = live_at running world stands number live is in
+    let stored : Stored = kept_by live at.base at.journal in
+    let done : IsDoneRange world.history s.range = sound.messages (RangeOf s.range) s.stands in
+    let whole : IsSoundClone world.history stored = live_sound world number stored at.held sound at.live in
+    let ready : IsReady world.history (known_of stored) s.range =
+    (ready_alike world.history live.ticks (known_of stored) at.stands.known s.range entry s.entry_stands.net done.positive).0 accepts.ready in
+    let same : entry.range ≡ s.range = s.entry_stands.net.same in
+    let knows : KnowsAs world.history (known_of stored) live.ticks live.pairs = record { known = at.stands.known; pairs = at.stands.pairs } in
+    let before : s.range.first ≤ ticks_of live.ticks s.range.path + 1 = subst (λ (r : Range). r.first ≤ ticks_of live.ticks r.path + 1) same accepts.ready.before in
+    let alike : (dot : Dot) → Covers accepts.raised dot ↔ Knows (known_of (with_range stored s.range)) dot =
+    subst (λ (dots : List Range). (dot : Dot) → Covers accepts.raised dot ↔ Knows dots dot) (sym (known_with stored s.range))
+    (raised_knows live.ticks accepts.raised (known_of stored) s.range at.stands.known done.positive before
+    (subst (λ (r : Range). RaisesTo live.ticks accepts.raised (last_dot r)) same accepts.clock)) in
+    let leads = accepts.leads in
+    let taken_one : KnowsAs world.history (known_of (with_range stored s.range)) leads.0 leads.1 =
+    subst (λ (dots : List Range). KnowsAs world.history dots leads.0 leads.1) (sym (known_with stored s.range))
+    (taker_knows world.history (known_of stored) live.ticks live.pairs s.range entry leads.0 leads.1 knows s.entry_stands done sound.lawful whole.closed leads.2 leads.3 leads.4) in
+    let released : Released world.history (with_range stored s.range) at.held accepts.taken new.held new.ticks new.pairs =
+    release_stands world.history (with_range stored s.range) at.held live.held accepts.taken new.held accepts.raised leads.0 new.ticks leads.1 new.pairs sound.lawful
+    (taker_stays_sound world.history stored s.range sound.lawful done ready whole)
+    (stand_done world.history live.held at.held at.stands.held (sound.held number stored at.held at.live)) alike taken_one accepts.releases leads.5 in
+    let journal : List Range = (at.journal ++ s.range ∷ []) ++ released.ranges in
+    let flat : journal ≡ at.journal ++ s.range ∷ released.ranges = append_assoc at.journal (s.range ∷ []) released.ranges in
+    let after : Stored = record { path = live.path; base = at.base; journal = journal } in
+    let next : World = with_clone world number (Live after released.rest) in
+    let told : ranges ≡ s.range ∷ released.ranges = accepts.told ∙ (λ i. same i ∷ released.told i) in
+    answer_follows running (stepped_with running number new) world next message number entry live (Took ranges) s at
+    (inr (inl (record {
+      ready = ready;
+      taken = released.ranges;
+      after = after;
+      left = released.rest;
+      releases = released.releases;
+      replies = ap Took told;
+      changes = refl;
+    })))
+    (taken_sound world number stored at.held s.range released.ranges after released.rest sound at.live done ready released.releases)
+    (changed_stands running world stands sound number live new after released.rest is
+    (still_clone_of world world number live new accepts.same refl refl at.is)
+    (record {
+      path = accepts.same.path;
+      base = λ dot. subst (λ (ticks : List (List ℕ × ℕ)). Covers ticks dot ↔ Knows at.base dot) (sym accepts.same.base) (at.stands.base dot);
+      base_pairs = subst (λ (pairs : List Tagged). IsMeaning world.history at.base pairs) (sym accepts.same.base_pairs) at.stands.base_pairs;
+      entries = subst (λ (entries : List EntryValue). AllPairs (EntryStandsFor world.history) entries journal) (sym accepts.entries)
+          (subst (λ (ranges : List Range). AllPairs (EntryStandsFor world.history) (live.entries ++ entry ∷ accepts.taken) ranges) (sym flat)
+          (pairs_append (EntryStandsFor world.history) live.entries at.journal (entry ∷ accepts.taken) (s.range ∷ released.ranges) at.stands.entries (s.entry_stands, released.entries)));
+      held = released.held_stand;
+      known = released.knows.known;
+      pairs = released.knows.pairs;
+    }))
 
--- a message comes to a clone that would have to hold it back
-pub deliver_waits : (running : RunningWorld) (world : World) → StandsFor running world → IsSound world → (message number : ℕ) (entry : EntryValue) (live : RunningLive)
-    → entry_at running message ≡ Some entry → get_or running.clones number None ≡ Some live → ¬ LocallyKnown live entry → ¬ LocallyReady live entry
-    → Waits world message number
-deliver_waits running world stands sound message number entry live sent is unknown unready =
-    let s : SentBy world entry message = sent_by running world stands message entry sent in
-    let at : LiveAt world.history live (clone_at world number) = live_at running world stands number live is in
-    let good : IsSoundMessage world.history (RangeOf s.range) = sound.messages (RangeOf s.range) s.sent in
-    record {
-      range = s.range;
-      stored = kept_by live at.base;
-      held = [];
-      sent = s.at;
-      live = at.live;
-      back = record {
-        unknown = λ k. unknown ((known_alike world.history live (kept_by live at.base) s.range entry at.stands s.net).1 k);
-        unready = λ r. unready ((ready_alike world.history live (kept_by live at.base) s.range entry at.stands s.net good.0).1 r);
-      };
-    }
+-- the entry would have to be held back in the model too
+must_be_held : (world : World) (live : LocalClone) (stored : Stored) (held : List Range) (range : Range) (entry : EntryValue) → LocalStandsFor world.history live stored held
+    → EntryStandsFor world.history entry range → 1 ≤ range.first → MustBeHeld live entry → IsHeldBack world.history (known_of stored) range
+must_be_held world live stored held range entry stands entry_stands positive must = record {
+  unknown = λ k. must.unknown ((known_alike world.history live.ticks (known_of stored) stands.known range entry entry_stands.net).1 k);
+  unready = λ r. must.unready ((ready_alike world.history live.ticks (known_of stored) stands.known range entry entry_stands.net positive).1 r);
+}
+
+-- the ranges of entries that stand for ranges are those
+pub same_ranges : (history : List Operation) (entries : List EntryValue) (ranges : List Range) → AllPairs (EntryStandsFor history) entries ranges → ranges_of entries ≡ ranges
+same_ranges history [] [] all = refl
+same_ranges history (entry ∷ entries) (range ∷ ranges) all = λ i. all.0.net.same i ∷ same_ranges history entries ranges all.1 i
+same_ranges history [] (range ∷ ranges) all = absurd all
+same_ranges history (entry ∷ entries) [] all = absurd all
+
+-- a range is held just where an entry of it is
+held_alike : (history : List Operation) (entries : List EntryValue) (ranges : List Range) (entry : EntryValue) (range : Range) → AllPairs (EntryStandsFor history) entries ranges
+    → entry.range ≡ range → Has (ranges_of entries) entry.range ↔ Has ranges range
+held_alike history entries ranges entry range all same = (
+  λ h. subst (λ (r : Range). Has ranges r) same (subst (λ (rs : List Range). Has rs entry.range) (same_ranges history entries ranges all) h),
+  λ h. subst (λ (rs : List Range). Has rs entry.range) (sym (same_ranges history entries ranges all)) (subst (λ (r : Range). Has ranges r) (sym same) h),
+)
+
+-- a message comes to a clone that holds one of its range already
+pub deliver_held_already : (running : RunningWorld) (world : World) → StandsFor running world → IsSound world → (message number : ℕ) (entry : EntryValue) (live : LocalClone)
+    → sent_message running message ≡ Some (sent.Range entry) → get_or running.clones number None ≡ Some live → MustBeHeld live entry → Has (ranges_of live.held) entry.range
+    → Follows world (Deliver message number) Held (stepped running)
+deliver_held_already running world stands sound message number entry live sent is must has =
+    let s : SentRange world entry message = sent_range running world stands message entry sent in
+    let at : LiveAt world number live = live_at running world stands number live is in
+    let positive : 1 ≤ s.range.first = (sound.messages (RangeOf s.range) s.stands).positive in
+    answer_follows running (stepped running) world world message number entry live Held s at
+    (inr (inr (
+      must_be_held world live (kept_by live at.base at.journal) at.held s.range entry at.stands s.entry_stands positive must,
+      inl ((held_alike world.history live.held at.held entry s.range at.stands.held s.entry_stands.net.same).0 has, (refl, refl)),
+    )))
+    sound (stepped_stands running world stands)
+
+-- a message comes to a clone that holds too many others back
+pub deliver_full : (running : RunningWorld) (world : World) → StandsFor running world → IsSound world → (message number : ℕ) (entry : EntryValue) (live : LocalClone)
+    → sent_message running message ≡ Some (sent.Range entry) → get_or running.clones number None ≡ Some live → MustBeHeld live entry → IsFullFor live entry
+    → Follows world (Deliver message number) HeldFull (stepped running)
+deliver_full running world stands sound message number entry live sent is must full =
+    let s : SentRange world entry message = sent_range running world stands message entry sent in
+    let at : LiveAt world number live = live_at running world stands number live is in
+    let positive : 1 ≤ s.range.first = (sound.messages (RangeOf s.range) s.stands).positive in
+    answer_follows running (stepped running) world world message number entry live HeldFull s at
+    (inr (inr (
+      must_be_held world live (kept_by live at.base at.journal) at.held s.range entry at.stands s.entry_stands positive must,
+      inr (inl (
+        (λ h. full.lacks ((held_alike world.history live.held at.held entry s.range at.stands.held s.entry_stands.net.same).1 h)),
+        omega (arith, full.full, pairs_count (EntryStandsFor world.history) live.held at.held at.stands.held),
+        (refl, refl),
+      )),
+    )))
+    sound (stepped_stands running world stands)
+
+-- a message comes to a clone that holds it back from now on
+pub deliver_held : (running : RunningWorld) (world : World) → StandsFor running world → IsSound world → (message number : ℕ) (entry : EntryValue) (live : LocalClone)
+    → sent_message running message ≡ Some (sent.Range entry) → get_or running.clones number None ≡ Some live → MustBeHeld live entry
+    → ¬ Has (ranges_of live.held) entry.range → length live.held < held_limit
+    → Follows world (Deliver message number) Held (stepped_with running number (record live { held = live.held ++ entry ∷ [] }))
+deliver_held running world stands sound message number entry live sent is must lacks few =
+    let s : SentRange world entry message = sent_range running world stands message entry sent in
+    let at : LiveAt world number live = live_at running world stands number live is in
+    let stored : Stored = kept_by live at.base at.journal in
+    let done : IsDoneRange world.history s.range = sound.messages (RangeOf s.range) s.stands in
+    let new : LocalClone = record live { held = live.held ++ entry ∷ [] } in
+    let next : World = with_clone world number (Live stored (at.held ++ s.range ∷ [])) in
+    answer_follows running (stepped_with running number new) world next message number entry live Held s at
+    (inr (inr (
+      must_be_held world live stored at.held s.range entry at.stands s.entry_stands done.positive must,
+      inr (inr (
+        (λ h. lacks ((held_alike world.history live.held at.held entry s.range at.stands.held s.entry_stands.net.same).1 h)),
+        omega (arith, few, pairs_count (EntryStandsFor world.history) live.held at.held at.stands.held),
+        refl,
+        refl,
+      )),
+    )))
+    (holding_sound world number stored at.held s.range sound at.live done)
+    (changed_stands running world stands sound number live new stored (at.held ++ s.range ∷ []) is
+    (record { id = at.is.id; domain = at.is.domain; properties = at.is.properties })
+    (record {
+      path = at.stands.path;
+      base = at.stands.base;
+      base_pairs = at.stands.base_pairs;
+      entries = at.stands.entries;
+      held = pairs_more (EntryStandsFor world.history) live.held at.held entry s.range at.stands.held s.entry_stands;
+      known = at.stands.known;
+      pairs = at.stands.pairs;
+    }))
+
+-- an entry that was sent says no more of a clone's own path than the clone knows
+pub never_foreign : (running : RunningWorld) (world : World) → StandsFor running world → IsSound world → (message number : ℕ) (entry : EntryValue) (live : LocalClone)
+    → sent_message running message ≡ Some (sent.Range entry) → get_or running.clones number None ≡ Some live → ¬ IsForeign live entry
+never_foreign running world stands sound message number entry live sent is foreign =
+    let s : SentRange world entry message = sent_range running world stands message entry sent in
+    let at : LiveAt world number live = live_at running world stands number live is in
+    let stored : Stored = kept_by live at.base at.journal in
+    let own : Dot = dot_at live.path (ticks_of entry.time live.path) in
+    let covered : Covers entry.time own = record { positive = omega (arith, foreign); within = omega arith } in
+    let time = (s.entry_stands.net.time own).0 covered in
+    let done : IsDone world.history own = elim time.cause [
+      | inl cause ↦ causes_done world.history time.last own sound.lawful time.stands cause
+      | inr last ↦ record { operation = time.last; stands = time.stands; is = time.is ∙ sym last }
+    ] in
+    let known : Knows (known_of stored) done.operation.dot = (live_sound world number stored at.held sound at.live).own done.operation done.stands (ap (λ (d : Dot). d.path) done.is) in
+    let again : Covers live.ticks own = (at.stands.known own).1 (subst (λ (d : Dot). Knows (known_of stored) d) done.is known) in
+    omega (arith, again.within, foreign)
 
 -- ---- show
 
 -- a live clone shows its pairs
-pub show_follows : (running : RunningWorld) (world : World) → StandsFor running world → IsSound world → (number : ℕ) (live : RunningLive)
+pub show_follows : (running : RunningWorld) (world : World) → StandsFor running world → IsSound world → (number : ℕ) (live : LocalClone)
     → get_or running.clones number None ≡ Some live → Follows world (Show number) (Shows live.pairs) (stepped running)
 unfolding Step
 show_follows running world stands sound number live is =
-    let at : LiveAt world.history live (clone_at world number) = live_at running world stands number live is in
+    let at : LiveAt world number live = live_at running world stands number live is in
     let P : Clone → Type 0 = λ c. Lists world c (Shows live.pairs) world in
     record { next = world; steps = subst P (sym at.live) (live.pairs, at.stands.pairs, (refl, refl)); sound = sound; stands = stepped_stands running world stands }
 
@@ -333,37 +524,37 @@ show_absent running world stands sound number is =
 -- ---- compare
 
 -- the first clock's dots are all among the second's
-abbrev pub LocallyWithin : RunningLive → RunningLive → Type 0
+abbrev pub LocallyWithin : LocalClone → LocalClone → Type 0
 LocallyWithin live other = (dot : Dot) → Covers live.ticks dot → Covers other.ticks dot
 
 -- how two clocks compare
-abbrev pub LocallyCompares : RunningLive → RunningLive → Reply → Type 0
+abbrev pub LocallyCompares : LocalClone → LocalClone → Reply → Type 0
 LocallyCompares live other reply =
     (LocallyWithin live other × LocallyWithin other live × (reply ≡ Same))
     ⊎ ((LocallyWithin live other × ¬ LocallyWithin other live × (reply ≡ Less))
     ⊎ ((¬ LocallyWithin live other × LocallyWithin other live × (reply ≡ More))
     ⊎ (¬ LocallyWithin live other × ¬ LocallyWithin other live × (reply ≡ Apart))))
 
-within_alike : (history : List Operation) (live other : RunningLive) (stored kept : Stored) → LiveStandsFor history live stored → LiveStandsFor history other kept
-    → LocallyWithin live other ↔ IsWithin (known_of stored) (known_of kept)
-within_alike history live other stored kept a b = (
+within_alike : (history : List Operation) (live other : LocalClone) (stored kept : Stored) (held back : List Range) → LocalStandsFor history live stored held
+    → LocalStandsFor history other kept back → LocallyWithin live other ↔ IsWithin (known_of stored) (known_of kept)
+within_alike history live other stored kept held back a b = (
   λ local dot known. (b.known dot).0 (local dot ((a.known dot).1 known)),
   λ within dot covered. (b.known dot).1 (within dot ((a.known dot).0 covered)),
 )
 
 -- two live clones compare
-pub compare_follows : (running : RunningWorld) (world : World) → StandsFor running world → IsSound world → (number second : ℕ) (live other : RunningLive) (reply : Reply)
+pub compare_follows : (running : RunningWorld) (world : World) → StandsFor running world → IsSound world → (number second : ℕ) (live other : LocalClone) (reply : Reply)
     → get_or running.clones number None ≡ Some live → get_or running.clones second None ≡ Some other → LocallyCompares live other reply
     → Follows world (Compare number second) reply (stepped running)
 unfolding Step
 compare_follows running world stands sound number second live other reply is was compares =
-    let a : LiveAt world.history live (clone_at world number) = live_at running world stands number live is in
-    let b : LiveAt world.history other (clone_at world second) = live_at running world stands second other was in
-    let one = within_alike world.history live other (kept_by live a.base) (kept_by other b.base) a.stands b.stands in
-    let two = within_alike world.history other live (kept_by other b.base) (kept_by live a.base) b.stands a.stands in
+    let a : LiveAt world number live = live_at running world stands number live is in
+    let b : LiveAt world second other = live_at running world stands second other was in
+    let one = within_alike world.history live other (kept_by live a.base a.journal) (kept_by other b.base b.journal) a.held b.held a.stands b.stands in
+    let two = within_alike world.history other live (kept_by other b.base b.journal) (kept_by live a.base a.journal) b.held a.held b.stands a.stands in
     let P : Clone → Type 0 = λ c. Weighs world c (clone_at world second) reply world in
-    let Q : Clone → Type 0 = λ c. ComparesWith world (kept_by live a.base) c reply world in
-    let found : Compares (known_of (kept_by live a.base)) (known_of (kept_by other b.base)) reply = elim compares [
+    let Q : Clone → Type 0 = λ c. ComparesWith world (kept_by live a.base a.journal) c reply world in
+    let found : Compares (known_of (kept_by live a.base a.journal)) (known_of (kept_by other b.base b.journal)) reply = elim compares [
       | inl same ↦ inl (one.0 same.0, two.0 same.1, same.2)
       | inr rest ↦ inr (elim rest [
         | inl less ↦ inl (one.0 less.0, (λ w. less.1 (two.1 w)), less.2)
@@ -384,11 +575,11 @@ compare_absent_first running world stands sound number second is =
     record { next = world; steps = subst P (sym (absent_at running world stands number is)) (refl, refl); sound = sound; stands = stepped_stands running world stands }
 
 -- the second of two clones is absent
-pub compare_absent_second : (running : RunningWorld) (world : World) → StandsFor running world → IsSound world → (number second : ℕ) (live : RunningLive)
+pub compare_absent_second : (running : RunningWorld) (world : World) → StandsFor running world → IsSound world → (number second : ℕ) (live : LocalClone)
     → get_or running.clones number None ≡ Some live → get_or running.clones second None ≡ None → Follows world (Compare number second) IsAbsent (stepped running)
 unfolding Step
 compare_absent_second running world stands sound number second live is was =
-    let a : LiveAt world.history live (clone_at world number) = live_at running world stands number live is in
+    let a : LiveAt world number live = live_at running world stands number live is in
     let P : Clone → Type 0 = λ c. Weighs world c (clone_at world second) IsAbsent world in
-    let Q : Clone → Type 0 = λ c. ComparesWith world (kept_by live a.base) c IsAbsent world in
+    let Q : Clone → Type 0 = λ c. ComparesWith world (kept_by live a.base a.journal) c IsAbsent world in
     record { next = world; steps = subst P (sym a.live) (subst Q (sym (absent_at running world stands second was)) (refl, refl)); sound = sound; stands = stepped_stands running world stands }
