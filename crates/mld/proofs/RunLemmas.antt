@@ -16,7 +16,6 @@ use Rattle.mld.specs.Ran.{Finishes, StopsAtBad, StopsAtUnbuilt, StopsAtLarge, Wr
 use Rattle.mld_model.specs.declared.Command.{Command}
 use Rattle.mld_model.specs.World.{founded}
 use Rattle.mld_model.specs.Reply.{Ready, reply_text}
-use Rattle.mld_model.specs.Schedule.{SpellsCommand}
 use Rattle.mld_model.specs.StandsFor.{founded_running}
 use Rattle.mld_model.specs.FoundedLaws.{founded_sound}
 use Rattle.mld_model.specs.WorldLaws.{founded_stands}
@@ -24,17 +23,12 @@ use Rattle.mld_model.specs.WorldStep.{Follows}
 use Rattle.mld_model.specs.RunsLaws.{one_verdict}
 use Rattle.mld.specs.declared.run.RunFault.{RunFault}
 use Rattle.mld.specs.declared.run.RunFault.TheVariants as faults
-use Rattle.mld.specs.declared.lines.Line.{Line}
-use Rattle.mld.specs.declared.lines.Line.TheVariants as lines
-use Rattle.mld.specs.declared.lines.Opening.{Opening}
-use Rattle.mld.specs.declared.lines.Opening.TheVariants as opening
-use Rattle.mld.specs.declared.worlds.Refusal.{Refusal}
-use Rattle.mld.specs.declared.worlds.Refusal.TheVariants as refusals
-use Rattle.mld.specs.declared.run.Stop.{Stop}
-use Rattle.mld.specs.declared.run.Stop.TheVariants as stops
-use Rattle.mld.specs.Stops.{stop_of, fault_of}
-use Rattle.mld.specs.Reading.{OpeningIs, LineIs}
-use Rattle.mld.specs.Worlds.{Stepped, MustWait}
+use Rattle.net_world.specs.declared.lines.Setup.{Setup}
+use Rattle.net_world.specs.declared.lines.LineRefusal.{LineRefusal}
+use Rattle.net_world.specs.declared.lines.LineRefusal.TheVariants as refusals
+use Rattle.net_world.specs.Reading.{SetupIs, CommandIs}
+use Rattle.net_world.specs.Worlds.{Stepped}
+use Rattle.mld.specs.Stops.{fault_of}
 use Rattle.mld.specs.UnderWay.{IsLeft, IsUnderWay}
 use Rattle.mld.specs.Limits.{BreaksLimits, IsTooLargeLine}
 use Rattle.mld.proofs.LimitLemmas.{left_first, taken_left, taken_fit, all_fit, large_next}
@@ -257,26 +251,10 @@ stops_large given left before now size world done number way counts breaks bytes
 
 -- a line of a world that runs
 
-pub unbuilt_refusal : (refusal : Refusal) → stop_of refusal ≡ stops.Unbuilt → refusal ≡ refusals.Unbuilt
-unbuilt_refusal refusals.Unbuilt same = refl
-unbuilt_refusal refusals.NoMemory same = cc
-
--- a refusal that became the stop of an unbuilt line
-pub refused_unbuilt : {T U : Type 0} (result : Result T Stop) (refusal : Refusal) (stop : Stop) → result ≡ Err stop → stop ≡ stop_of refusal → result ≡ Err stops.Unbuilt
-    → ◌≡◌ {A = Result U Refusal} (Err refusal) (Err refusals.Unbuilt)
-refused_unbuilt result refusal stop is from unbuilt = let same : stop ≡ stops.Unbuilt = cc (is, unbuilt) in ap (λ (r : Refusal). Err r) (unbuilt_refusal refusal (sym from ∙ same))
-
-pub unbuilt_command : (line : List ℕ) (read : Line) (command : Command) (old : RunningWorld) → read ≡ lines.Command command → LineIs line read → MustWait old command
-    → (model : World) → StandsFor old model → IsSound model → IsUnbuilt (Running model) line
-unbuilt_command line read command old is reads waits model stands sound =
-    let P : Line → Type 0 = λ l. LineIs line l in
-    let Q : Command → Type 0 = λ c. SpellsCommand line c in
-    inr (waits.message, waits.number, subst Q waits.is (subst P is reads), waits.waits model stands sound)
-
-pub commanded : (line : List ℕ) (read : Line) (command : Command) (old new : RunningWorld) (text : List ℕ) → read ≡ lines.Command command → LineIs line read → Stepped old command new [] text
+pub commanded : (line : List ℕ) (read : Option Command) (command : Command) (old new : RunningWorld) (text : List ℕ) → read ≡ Some command → CommandIs line read → Stepped old command new [] text
     → (model : World) → StandsFor old model → IsSound model → ActsWell (Running model) line text (Some new)
 commanded line read command old new text is reads stepped model stands sound =
-    let P : Line → Type 0 = λ l. LineIs line l in
+    let P : Option Command → Type 0 = λ c. CommandIs line c in
     let follows : Follows model command stepped.reply new = stepped.follows model stands sound in
     record {
       next = Running follows.next;
@@ -284,23 +262,23 @@ commanded line read command old new text is reads stepped model stands sound =
       stands = (follows.stands, follows.sound);
     }
 
-pub said_nothing : (line : List ℕ) (read : Line) (old : RunningWorld) → read ≡ lines.Nothing → LineIs line read
+pub said_nothing : (line : List ℕ) (read : Option Command) (old : RunningWorld) → read ≡ None → CommandIs line read
     → (model : World) → StandsFor old model → IsSound model → ActsWell (Running model) line [] (Some old)
 said_nothing line read old is reads model stands sound =
-    let P : Line → Type 0 = λ l. LineIs line l in
+    let P : Option Command → Type 0 = λ c. CommandIs line c in
     record { next = Running model; acts = inl (subst P is reads, refl, refl); stands = (stands, sound) }
 
 -- a line while no domain line has come
 
-pub opened : (line : List ℕ) (read : Opening) (domain : List ℕ) (count : ℕ) (new : RunningWorld) (text : List ℕ) → read ≡ opening.Setup domain count → OpeningIs line read
-    → new ≡ founded_running domain count → text ≡ reply_text (Ready count) → ActsWell Waiting line text (Some new)
-opened line read domain count new text is reads founds writes =
-    let P : Opening → Type 0 = λ o. OpeningIs line o in
-    let Q : RunningWorld → Type 0 = λ r. StandsFor r (founded domain count) in
+pub opened : (line : List ℕ) (read : Option Setup) (setup : Setup) (new : RunningWorld) (text : List ℕ) → read ≡ Some setup → SetupIs line read
+    → new ≡ founded_running setup.domain setup.clones → text ≡ reply_text (Ready setup.clones) → ActsWell Waiting line text (Some new)
+opened line read setup new text is reads founds writes =
+    let P : Option Setup → Type 0 = λ o. SetupIs line o in
+    let Q : RunningWorld → Type 0 = λ r. StandsFor r (founded setup.domain setup.clones) in
     record {
-      next = Running (founded domain count);
-      acts = inr (record { domain = domain; count = count; spells = subst P is reads; replies = writes; changes = refl });
-      stands = (subst Q (sym founds) (founded_stands domain count), founded_sound domain count);
+      next = Running (founded setup.domain setup.clones);
+      acts = inr (record { domain = setup.domain; count = setup.clones; spells = subst P is reads; replies = writes; changes = refl });
+      stands = (subst Q (sym founds) (founded_stands setup.domain setup.clones), founded_sound setup.domain setup.clones);
     }
 
 -- what the stage of a state is
@@ -396,14 +374,24 @@ pub same_bad : (line other : ℕ) → ◌≡◌ {A = Result (Unit {0}) RunFault}
 same_bad line other same = cc
 
 -- the fault of a bad line came from a stop at a bad line
-pub bad_fault : {T U : Type 0} (stop : Stop) (number at : ℕ) (fault : RunFault) → fault ≡ fault_of stop number → ◌≡◌ {A = Result T RunFault} (Err fault) (Err (faults.BadLine at))
-    → (◌≡◌ {A = Result U Stop} (Err stop) (Err stops.Bad)) × (at ≡ number)
+pub bad_fault : {T U : Type 0} (stop : LineRefusal) (number at : ℕ) (fault : RunFault) → fault ≡ fault_of stop number → ◌≡◌ {A = Result T RunFault} (Err fault) (Err (faults.BadLine at))
+    → (◌≡◌ {A = Result U LineRefusal} (Err stop) (Err refusals.BadLine)) × (at ≡ number)
 bad_fault {U = U} stop number at fault is same = let fault_is : fault ≡ faults.BadLine at = cc in bad_stop stop number at (sym is ∙ fault_is)
   where
-    bad_stop : (stop : Stop) (number at : ℕ) → fault_of stop number ≡ faults.BadLine at → (◌≡◌ {A = Result U Stop} (Err stop) (Err stops.Bad)) × (at ≡ number)
-    bad_stop stops.Bad number at same = (refl, cc)
-    bad_stop stops.Unbuilt number at same = absurd (cc)
-    bad_stop stops.NoMemory number at same = absurd (cc)
+    bad_stop : (stop : LineRefusal) (number at : ℕ) → fault_of stop number ≡ faults.BadLine at → (◌≡◌ {A = Result U LineRefusal} (Err stop) (Err refusals.BadLine)) × (at ≡ number)
+    bad_stop refusals.BadLine number at same = (refl, cc)
+    bad_stop refusals.Unbuilt number at same = absurd (cc)
+    bad_stop refusals.NoMemory number at same = absurd (cc)
+
+-- and that of an unbuilt line from a stop at one
+pub unbuilt_fault : {T U : Type 0} (stop : LineRefusal) (number at : ℕ) (fault : RunFault) → fault ≡ fault_of stop number → ◌≡◌ {A = Result T RunFault} (Err fault) (Err (faults.Unbuilt at))
+    → (◌≡◌ {A = Result U LineRefusal} (Err stop) (Err refusals.Unbuilt)) × (at ≡ number)
+unbuilt_fault {U = U} stop number at fault is same = let fault_is : fault ≡ faults.Unbuilt at = cc in unbuilt_stop stop number at (sym is ∙ fault_is)
+  where
+    unbuilt_stop : (stop : LineRefusal) (number at : ℕ) → fault_of stop number ≡ faults.Unbuilt at → (◌≡◌ {A = Result U LineRefusal} (Err stop) (Err refusals.Unbuilt)) × (at ≡ number)
+    unbuilt_stop refusals.BadLine number at same = absurd (cc)
+    unbuilt_stop refusals.Unbuilt number at same = (refl, cc)
+    unbuilt_stop refusals.NoMemory number at same = absurd (cc)
 
 -- what holds of a line that was there
 pub of_line : (P : List ℕ → Type 0) (taken : Option (List ℕ)) (line : List ℕ) → taken ≡ Some line → IfSomeLine P taken → P line

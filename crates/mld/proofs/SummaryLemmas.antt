@@ -2,82 +2,17 @@
 use Rattle.std.specs.Prelude.{IsTrue, Result, Ok, Err, OnOk}
 use Rattle.std.specs.Result.{result_err}
 use Rattle.std.proofs.lemmas.Bool.{false≢true}
-use Rattle.std.proofs.Common.{◌≡◌, ◌≢◌, ◌∙◌, inl, inr, ap, Bool, true, false, ◌<◌, ◌+◌, ℕ, List, [], ◌∷◌, ◌++◌, ◌↔◌, sym, subst, refl, length, get_or, take, Option, Some, None, arith}
-use Rattle.std.proofs.lemmas.List.{take_more}
-use Rattle.tree_clock.specs.declared.dots.Dot.{Dot}
-use Rattle.tree_clock.specs.Dot.{Knows}
-use Rattle.tree_clock.specs.Clock.{IsClock, Covers}
-use Rattle.mld_ops.specs.History.{Operation}
-use Rattle.mld_ops.specs.Meaning.{IsMeaning}
-use Rattle.mld_ops.specs.declared.tagged.Tagged.{Tagged}
-use Rattle.mld_model.specs.Clone.{Clone, Absent, Live, known_of}
+use Rattle.std.proofs.Common.{◌≡◌, ◌≢◌, ◌∙◌, inl, inr, ap, Bool, true, false, ℕ, List, sym, subst, refl, Option, Some, None}
 use Rattle.mld_io.specs.Lines.{lines_of}
 use Rattle.mld_model.specs.Runs.{Stage, Waiting, Running, Outcome, Verdict}
-use Rattle.mld_model.specs.StandsFor.{RunningLive, RunningWorld, LiveStandsFor, CloneStandsFor, ClonesStandFor}
-use Rattle.mld.specs.declared.summaries.CloneSummary.{CloneSummary}
-use Rattle.mld.specs.declared.summaries.Summary.{Summary}
-use Rattle.mld.specs.Summaries.{TellsOfClone, TellsOfClones, TellsOf, Summarizes, SummarizesAll}
+use Rattle.mld_model.specs.StandsFor.{RunningWorld}
+use Rattle.net_world.specs.declared.summaries.Summary.{Summary}
+use Rattle.mld.specs.Summaries.{TellsOf}
 use Rattle.mld.specs.Ran.{StageStands, Finishes, StopsAtBad, StopsAtUnbuilt, StopsAtLarge, Agrees, SummarizesWorld, IfTold, EndsBy, tells}
 use Rattle.mld.specs.declared.run.Ran.{Ran}
 use Rattle.mld.proofs.RunLemmas.{agrees_finished, agrees_fault, err_same}
 use Rattle.mld.specs.declared.run.RunFault.{RunFault}
 use Rattle.mld.specs.declared.run.RunFault.TheVariants as faults
-
--- one more clone is told of
-summarizes_one : (clones : List (Option RunningLive)) (summaries : List CloneSummary) (clone : Option RunningLive) (summary : CloneSummary)
-    → SummarizesAll clones summaries → Summarizes clone summary → SummarizesAll (clones ++ clone ∷ []) (summaries ++ summary ∷ [])
-summarizes_one [] [] clone summary all one = (one, tt)
-summarizes_one [] (first ∷ summaries) clone summary all one = absurd all
-summarizes_one (first ∷ clones) [] clone summary all one = absurd all
-summarizes_one (first ∷ clones) (told ∷ summaries) clone summary all one = (all.0, summarizes_one clones summaries clone summary all.1 one)
-
-pub summarizes_more : (clones : List (Option RunningLive)) (i : ℕ) (summaries more : List CloneSummary) (clone : Option RunningLive) (summary : CloneSummary)
-    → i < length clones → clone ≡ get_or clones i clone → SummarizesAll (take i clones) summaries → Summarizes clone summary → more ≡ summaries ++ summary ∷ []
-    → SummarizesAll (take (i + 1) clones) more
-summarizes_more clones i summaries more clone summary l is all one grows =
-    let P : Option RunningLive → Type 0 = λ c. Summarizes c summary in
-    let Q : List (Option RunningLive) → Type 0 = λ cs. SummarizesAll cs (summaries ++ summary ∷ []) in
-    let R : List CloneSummary → Type 0 = λ ss. SummarizesAll (take (i + 1) clones) ss in
-    subst R (sym grows) (subst Q (sym (take_more clones i clone l)) (summarizes_one (take i clones) summaries (get_or clones i clone) summary all (subst P is one)))
-
--- what is told of a clone that runs is told of the clone that it stands for
-clone_told : (history : List Operation) (running : Option RunningLive) (clone : Clone) (summary : CloneSummary)
-    → CloneStandsFor history running clone → Summarizes running summary → TellsOfClone history clone summary
-clone_told history None Absent summary stands told = told
-clone_told history (Some live) (Live stored held) summary stands told =
-    let at : LiveStandsFor history live stored = stands.0 in
-    let P : List (List ℕ × ℕ) → Type 0 = λ ticks. (dot : Dot) → Covers ticks dot ↔ Knows (known_of stored) dot in
-    let Q : List (List ℕ × ℕ) → Type 0 = λ ticks. IsClock ticks in
-    let R : List Tagged → Type 0 = λ pairs. IsMeaning history (known_of stored) pairs in
-    record {
-      state = told.state;
-      path = told.path ∙ (λ i. Some (at.path i));
-      known_clock = subst Q (sym told.known) told.clock;
-      known = subst P (sym told.known) at.known;
-      base_clock = subst Q (sym told.base) (record { ascending = tt; positive = tt });
-      base = λ dot. (
-        λ c. absurd (nothing_covered dot (let S : List (List ℕ × ℕ) → Type 0 = λ ticks. Covers ticks dot in subst S told.base c)),
-        λ k. absurd (nothing_known dot (let S : List _ → Type 0 = λ ranges. Knows ranges dot in subst S at.base k)),
-      );
-      journal = told.journal ∙ at.journal;
-      tagged = subst R (sym told.tagged) at.pairs;
-    }
-  where
-    nothing_covered : (dot : Dot) → ¬ Covers [] dot
-    nothing_covered dot c = omega (arith, c.positive, c.within)
-
-    nothing_known : (dot : Dot) → ¬ Knows [] dot
-    nothing_known dot k = k
-clone_told history running clone summary stands told = absurd stands
-
-clones_told : (history : List Operation) (running : List (Option RunningLive)) (clones : List Clone) (summaries : List CloneSummary)
-    → ClonesStandFor history running clones → SummarizesAll running summaries → TellsOfClones history clones summaries
-clones_told history [] [] [] stands told = tt
-clones_told history [] [] (summary ∷ summaries) stands told = absurd told
-clones_told history (live ∷ running) (clone ∷ clones) (summary ∷ summaries) stands told =
-    (clone_told history live clone summary stands.0 told.0, clones_told history running clones summaries stands.1 told.1)
-clones_told history (live ∷ running) (clone ∷ clones) [] stands told = absurd told
-clones_told history running clones summaries stands told = absurd stands
 
 -- what is told of a world that runs is told of each world that it stands for
 stage_told : (running : Option RunningWorld) (told : Option Summary) (stage : Stage) → SummarizesWorld running told → StageStands running stage → TellsOf told stage
@@ -86,7 +21,7 @@ stage_told None None (Running world) tells stands = absurd stands
 stage_told None (Some summary) stage tells stands = absurd tells
 stage_told (Some running) None stage tells stands = absurd tells
 stage_told (Some running) (Some summary) Waiting tells stands = absurd stands
-stage_told (Some running) (Some summary) (Running world) tells stands = clones_told world.history running.clones world.clones summary.clones.items stands.0.clones tells
+stage_told (Some running) (Some summary) (Running world) tells stands = tells world stands.0 stands.1
 
 -- ---- how a run that ended tells of its world
 

@@ -1,8 +1,3 @@
-pub mod Words
-pub mod Reading
-pub mod Taking
-pub mod Clones
-pub mod Worlds
 pub mod Summaries
 pub mod Limits
 pub mod Ran

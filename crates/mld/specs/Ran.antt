@@ -8,8 +8,8 @@ use Rattle.mld_model.specs.World.{World}
 use Rattle.mld_model.specs.Runs.{Stage, Waiting, Running, Acts, Runs, Before, Outcome, Finished, BadLine, UnbuiltLine, Verdict}
 use Rattle.mld_model.specs.Sound.{IsSound}
 use Rattle.mld_model.specs.StandsFor.{RunningWorld, StandsFor}
-use Rattle.mld.specs.Summaries.{SummarizesAll}
-use Rattle.mld.specs.declared.summaries.Summary.{Summary}
+use Rattle.net_world.specs.Summaries.{Tells}
+use Rattle.net_world.specs.declared.summaries.Summary.{Summary}
 use Rattle.mld.specs.declared.run.Ran.{Ran}
 use Rattle.mld.specs.declared.run.RunFault.{RunFault}
 use Rattle.mld.specs.declared.run.RunFault.TheVariants as faults
@@ -164,7 +164,7 @@ tells (Some fault) = false
 -- what is told of a world that runs, where there is one
 abbrev pub SummarizesWorld : Option RunningWorld → Option Summary → Type 0
 SummarizesWorld None None = Unit {0}
-SummarizesWorld (Some running) (Some summary) = SummarizesAll running.clones summary.clones.items
+SummarizesWorld (Some running) (Some summary) = Tells running summary
 SummarizesWorld running summary = ⊥
 
 -- what is told where a run has to tell of its world, and where not

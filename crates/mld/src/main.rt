@@ -8,16 +8,13 @@ use std::io::{self, BufReader, ErrorKind, Input, Print};
 use std::process::ExitCode;
 use std::thread::Threads;
 
-mod clones;
-mod lines;
-mod replies;
+#[cfg(test)]
+mod held_tests;
 mod run;
-mod summaries;
 #[cfg(test)]
 mod summary_tests;
 #[cfg(test)]
 mod tests;
-mod worlds;
 
 use run::{Ran, RunFault, ended, run};
 

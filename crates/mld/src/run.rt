@@ -8,17 +8,14 @@ ghost use Rattle.mld_model.specs.World.{World as ModelWorld};
 ghost use Rattle.mld_model.specs.Runs.{Stage, Waiting, Running, Outcome, Verdict, IsBad, IsUnbuilt};
 ghost use Rattle.mld_model.specs.Sound.{IsSound};
 ghost use Rattle.mld_model.specs.StandsFor.{StandsFor};
-ghost use Rattle.mld.specs.Worlds.{IsStanding};
+ghost use Rattle.net_world.specs.Worlds.{IsStanding};
 ghost use Rattle.mld.specs.Stops.{fault_of};
 ghost use Rattle.mld.specs.Limits.{BreaksLimits};
 ghost use Rattle.mld.specs.Summaries.{TellsOf};
 ghost use Rattle.mld.specs.Ran.{status_of, tells, IsReplay, Finishes, StopsAtBad, StopsAtUnbuilt, StopsAtLarge, WritesFront, SummarizesWorld, EndsBy, Agrees, StageStands, IsStandingStage, ActsWell, steps_of, TakesLine, IfSomeLine, IsReadingFault, IsWritingFault, IsLineFault, HasReadCause, HasWriteCause};
 
-use crate::lines::{Line, Opening, read_line, read_opening};
-use crate::replies::push_ready;
-use crate::summaries::Summary;
-use crate::worlds::{Refusal, World};
 use mld_io::{LineFault, Lines, Piece, Sink, Source, WriteFault, write_all};
+use net_world::{LineRefusal, Summary, World, push_ready, read_command, read_setup};
 use std::alloc::{AllocError, Global};
 use std::thread::Threads;
 use thiserror::Error;
@@ -225,17 +222,6 @@ fn replay<S: Source, K: Sink>(
     }
 }
 
-/// Why a line was not done.
-#[derive(Clone, Copy, Debug, PartialEq, Eq)]
-enum Stop {
-    /// It is outside the grammar.
-    Bad,
-    /// It isn't built yet.
-    Unbuilt,
-    /// No memory was found.
-    NoMemory,
-}
-
 /// The next line, where line `number` is due.
 fn next_line<S: Source>(
     lines: &mut Lines,
@@ -307,79 +293,50 @@ fn act(
 }
 
 /// Why the run ends at line `number`.
-fn fault_of(stop: Stop, number: u64) -> RunFault
+fn fault_of(stop: LineRefusal, number: u64) -> RunFault
     ensures { result ≡ fault_of stop number }
 {
     match stop {
-        Stop::Bad => RunFault::BadLine(number),
-        Stop::Unbuilt => RunFault::Unbuilt(number),
-        Stop::NoMemory => RunFault::NoMemory,
+        LineRefusal::BadLine => RunFault::BadLine(number),
+        LineRefusal::Unbuilt => RunFault::Unbuilt(number),
+        LineRefusal::NoMemory => RunFault::NoMemory,
     }
 }
 
 /// Does a line while no domain line has come: the world that it founds, if it does, and the text of its reply.
-fn open_world(alloc: Global, line: &[u8]) -> Result<(Option<World>, Vec<u8>), Stop>
+fn open_world(alloc: Global, line: &[u8]) -> Result<(Option<World>, Vec<u8>), LineRefusal>
     ensures ok { IfOk result (λ done. ActsWell Waiting line.now done.1.items done.0) }
     ensures steps { IfOk result (λ done. steps_of done.0 ≡ 0) }
-    ensures bad { IsErrOf result Stop.Bad → IsBad Waiting line.now }
-    ensures unbuilt { IsErrOf result Stop.Unbuilt → IsUnbuilt Waiting line.now }
+    ensures bad { IsErrOf result LineRefusal.BadLine → IsBad Waiting line.now }
+    ensures unbuilt { IsErrOf result LineRefusal.Unbuilt → IsUnbuilt Waiting line.now }
 {
     let mut text = Vec::new(alloc);
-    match read_opening(alloc, line)? {
-        Opening::Nothing => Ok((None, text)),
-        Opening::Unbuilt => Err(Stop::Unbuilt),
-        Opening::Bad => Err(Stop::Bad),
-        Opening::Setup(domain, count) => {
-            let world = World::found(alloc, domain, count)?;
-            push_ready(alloc, &mut text, count)?;
+    match read_setup(alloc, line)? {
+        None => Ok((None, text)),
+        Some(setup) => {
+            let world = World::found(alloc, &setup)?;
+            push_ready(alloc, &mut text, setup.clones)?;
             Ok((Some(world), text))
         }
     }
 }
 
 /// Does a line of a world that runs, and gives the text of its reply.
-fn command(alloc: Global, world: &mut World, line: &[u8]) -> Result<Vec<u8>, Stop>
+fn command(alloc: Global, world: &mut World, line: &[u8]) -> Result<Vec<u8>, LineRefusal>
     requires few { world.old.steps < 4294967295 }
     requires standing { IsStanding world.old }
     ensures ok { IfOk result (λ text. (model : ModelWorld) → StandsFor world.old model → IsSound model → ActsWell (Running model) line.now text.items (Some world.new)) }
     ensures steps { OnOk result (world.new.steps ≤ world.old.steps + 1) }
-    ensures bad { IsErrOf result Stop.Bad → (model : ModelWorld) → IsBad (Running model) line.now }
-    ensures kept { IsErrOf result Stop.Bad → world.new ≡ world.old }
-    ensures unbuilt { IsErrOf result Stop.Unbuilt → (model : ModelWorld) → StandsFor world.old model → IsSound model → IsUnbuilt (Running model) line.now }
+    ensures bad { IsErrOf result LineRefusal.BadLine → (model : ModelWorld) → IsBad (Running model) line.now }
+    ensures kept { IsErrOf result LineRefusal.BadLine → world.new ≡ world.old }
+    ensures unbuilt { IsErrOf result LineRefusal.Unbuilt → (model : ModelWorld) → IsUnbuilt (Running model) line.now }
 {
     let mut text = Vec::new(alloc);
-    match read_line(alloc, line)? {
-        Line::Nothing => Ok(text),
-        Line::Unbuilt => Err(Stop::Unbuilt),
-        Line::Bad => Err(Stop::Bad),
-        Line::Command(command) => {
-            world.step(alloc, command, &mut text)?;
+    match read_command(alloc, line)? {
+        None => Ok(text),
+        Some(command) => {
+            world.step(alloc, &command, &mut text)?;
             Ok(text)
-        }
-    }
-}
-
-impl From<AllocError> for Stop {
-    ghost use Rattle.std.specs.Prelude.{◌≡◌};
-    ghost use Rattle.mld.specs.declared.run.Stop.TheVariants.{NoMemory};
-
-    ghost from_gives = { λ _ e. e ≡ NoMemory };
-
-    fn from(_error: AllocError) -> Stop {
-        Stop::NoMemory
-    }
-}
-
-impl From<Refusal> for Stop {
-    ghost use Rattle.std.specs.Prelude.{◌≡◌};
-    ghost use Rattle.mld.specs.Stops.{stop_of};
-
-    ghost from_gives = { λ r e. e ≡ stop_of r };
-
-    fn from(refusal: Refusal) -> Stop {
-        match refusal {
-            Refusal::Unbuilt => Stop::Unbuilt,
-            Refusal::NoMemory => Stop::NoMemory,
         }
     }
 }

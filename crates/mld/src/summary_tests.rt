@@ -1,9 +1,9 @@
 //! Schedules worked by hand, each with what the run tells of the world that it ends with.
 use crate::run::RunFault;
-use crate::summaries::{CloneSummary, State, Summary};
 use crate::tests::{ran_by, with_comment};
 use mld_io::{MemorySink, MemorySource};
 use mld_ops::Tagged;
+use net_world::{CloneSummary, State, Summary};
 use rdf_terms::{Triple, has_no_backslash, read_triple};
 use std::alloc::{AllocError, Global};
 use std::test::Fail;

@@ -23,7 +23,7 @@ pub fn ran_by<R: Threads>(
 }
 
 /// Replays a schedule: why the run ended early, and whether its status and what it wrote are these.
-fn ends<R: Threads>(
+pub fn ends<R: Threads>(
     rt: &R,
     alloc: Global,
     schedule: &[u8],
@@ -37,7 +37,7 @@ fn ends<R: Threads>(
 }
 
 /// Asserts that a schedule is read to its end, and that this is written.
-fn finishes<R: Threads + Abort>(
+pub fn finishes<R: Threads + Abort>(
     rt: &R,
     alloc: Global,
     schedule: &str,
@@ -300,34 +300,6 @@ fn lines_that_are_not_built_yet_end_the_run(rt: HostRuntime) -> Result<(), Fail>
         stops(&rt, rt.alloc(), &first, RunFault::Unbuilt(3), "")?;
         let later = third(rt.alloc(), true, line)?;
         stops(&rt, rt.alloc(), &later, RunFault::Unbuilt(3), "ready 2\n")?;
-    }
-    Ok(())
-}
-
-#[test]
-fn a_message_that_would_wait_ends_the_run(rt: HostRuntime) -> Result<(), Fail> {
-    let cases: [(&[u8], u64, &str); 3] = [
-        // What is deleted was not taken.
-        (
-            b"domain d clones 2\nadd 0 <http://d/a> <http://d/#p> \"x\" .\nremove 0 <http://d/a> <http://d/#p> \"x\" .\ndeliver 2 1\n",
-            4,
-            "ready 2\ndid r0.1 m1\ndid r0.2 m2\n",
-        ),
-        // The sender made another before.
-        (
-            b"domain d clones 2\nadd 0 <http://d/a> <http://d/#p> \"x\" .\nadd 0 <http://d/a> <http://d/#p> \"x\" .\ndeliver 2 1\n",
-            4,
-            "ready 2\ndid r0.1 m1\ndid r0.2 m2\n",
-        ),
-        // The sender knew what another clone made.
-        (
-            b"domain d clones 3\nadd 0 <http://d/a> <http://d/#p> \"x\" .\ndeliver 1 1\nadd 1 <http://d/b> <http://d/#p> \"x\" .\ndeliver 2 2\n",
-            5,
-            "ready 3\ndid r00.1 m1\ntook r00.1-1\ndid r1.1 m2\n",
-        ),
-    ];
-    for (schedule, line, text) in cases {
-        stops(&rt, rt.alloc(), schedule, RunFault::Unbuilt(line), text)?;
     }
     Ok(())
 }

@@ -3,7 +3,7 @@ use Rattle.mld_model.specs.Reply.{reply_text, Ready}
 use Rattle.mld.proofs.RunLemmas.{opened}
 use Rattle.mld.proofs.run.open_world.Goals as goal
 
-pub returns-in_ok-push_ready-in-Setup-clause-ok : goal.returns-in_ok-push_ready-in-Setup-clause-ok
-returns-in_ok-push_ready-in-Setup-clause-ok c =
-    opened c.args.line.now c.in_ok-read_opening.field-0 c.in-Setup.domain c.in-Setup.count c.in_ok-world-in-Setup.world c.push_ready.new.out.items c.in-Setup.is c.in_ok-read_opening.ensures
-    c.in_ok-world-in-Setup.ensures (c.in_ok-push_ready-in-Setup.ensures ∙ ap (λ (t : List ℕ). t ++ reply_text (Ready c.in-Setup.count)) c.new-text.ensures.items)
+pub returns-in_ok-push_ready-in-Some-clause-ok : goal.returns-in_ok-push_ready-in-Some-clause-ok
+returns-in_ok-push_ready-in-Some-clause-ok c =
+    opened c.args.line.now c.in_ok-read_setup.field-0 c.in-Some.setup c.in_ok-world-in-Some.world c.push_ready.new.out.items c.in-Some.is c.in_ok-read_setup.ensures.ok
+    c.in_ok-world-in-Some.ensures (c.in_ok-push_ready-in-Some.ensures ∙ ap (λ (t : List ℕ). t ++ reply_text (Ready c.in-Some.setup.clones)) c.new-text.ensures.items)

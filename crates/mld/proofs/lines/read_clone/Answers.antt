@@ -1,9 +1,0 @@
-use Rattle.std.proofs.Common.{◌≡◌, arith}
-use Rattle.mld.proofs.LinesNumbers.{small, one_number}
-use Rattle.mld.proofs.lines.read_clone.Goals as goal
-
-pub returns-then-number-ge32 : goal.returns-then-number-ge32
-returns-then-number-ge32 c = λ number below same.
-    let found = rw c.in-Some.is at c.in_ok-number.ensures in
-    let alike : c.in-Some.number ≡ number = one_number c.args.text.now c.in-Some.number number found.0 (small below) found.1 same in
-    omega arith

@@ -1,9 +1,0 @@
-use Rattle.std.proofs.Common.{◌≡◌, arith}
-use Rattle.mld.proofs.LinesNumbers.{one_number}
-use Rattle.mld.proofs.lines.read_count.Goals as goal
-
-pub returns-then-number-lt1 : goal.returns-then-number-lt1
-returns-then-number-lt1 c = λ number some most same.
-    let found = rw c.in-Some.is at c.in_ok-number.ensures in
-    let alike : c.in-Some.number ≡ number = one_number c.args.text.now c.in-Some.number number found.0 (omega arith) found.1 same in
-    omega (arith, c.then-number-lt1.either)

@@ -1,7 +1,0 @@
-use Rattle.mld.proofs.SummaryLemmas.{summarizes_more}
-use Rattle.mld.proofs.summaries.summarize.Goals as goal
-
-pub loop-clone-preserved : goal.loop-clone-preserved
-loop-clone-preserved c =
-    summarizes_more _ c.loop-clone.clone-index c.loop-clone.summaries.items c.push.new.self.items c.clone-item.result _ c.loop-clone-test.true c.clone-item.is
-    c.loop-clone.invariant c.in_ok-summary_of.ensures c.in_ok-push.ensures.items

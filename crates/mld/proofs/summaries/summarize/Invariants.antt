@@ -1,6 +1,0 @@
-use Rattle.std.proofs.Common.{take}
-use Rattle.mld.specs.Summaries.{SummarizesAll}
-use Rattle.mld.proofs.summaries.summarize.Given as goal
-
-abbrev pub invariant-loop-clone : goal.invariant-loop-clone
-invariant-loop-clone l = SummarizesAll (take l.clone-index l.clones) l.summaries.items

@@ -1,7 +1,0 @@
-use Rattle.std.proofs.Common.{◌≡◌, map}
-use Rattle.std.specs.List.{range_with_len}
-use Rattle.mld_model.specs.StandsFor.{founded_live}
-use Rattle.mld.proofs.worlds.founded_clones.Given as goal
-
-abbrev pub invariant-loop-number : goal.invariant-loop-number
-invariant-loop-number l = l.clones.items ≡ map (founded_live l.count) (range_with_len 0 l.number)

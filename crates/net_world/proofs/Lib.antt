@@ -1,0 +1,6 @@
+pub mod LinesText
+pub mod LinesNumbers
+pub mod LinesCommands
+pub mod RepliesShown
+pub mod WorldLemmas
+pub mod SummaryLemmas

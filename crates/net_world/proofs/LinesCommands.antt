@@ -1,0 +1,234 @@
+-- Domain lines and commands, a part at a time.
+use Rattle.std.proofs.Common.{◌≡◌, ◌≢◌, ◌↔◌, ℕ, zero, suc, ◌<◌, ◌≤◌, ◌^◌, List, [], ◌∷◌, ◌++◌, codes, Bool, true, false, ◌||◌, ◌==◌, IsTrue, Option, Some, None, MatchOption, IfOk, refl, sym, ◌∙◌, subst, ap, drop, arith}
+use Rattle.std.specs.Fmt.{decimal}
+use Rattle.std.specs.Str.{IsUtf8, IsAscii}
+use Rattle.std.proofs.lemmas.Str.{IsUtf8-from_ascii}
+use Rattle.std.proofs.lemmas.Bool.Decides.{nat_tests}
+use Rattle.std.specs.List.{list_all, list_any}
+use Rattle.std.specs.declared.result.Result.{Result}
+use Rattle.std.specs.declared.result.Result.TheVariants.{Ok, Err}
+use Rattle.std.proofs.lemmas.Bool.{false≢true, and_parts, ne_eqb, eqb-false}
+use Rattle.rdf_terms.specs.Domain.{is_domain, is_domain_byte}
+use Rattle.rdf_terms.specs.Grammar.{IsWithin, has_no_backslash}
+use Rattle.rdf_terms.specs.Building.{RefusesTriple}
+use Rattle.rdf_terms.specs.ReadingLaws.{one_spelled}
+use Rattle.rdf_terms.specs.declared.terms.Triple.{Triple}
+use Rattle.rdf_terms.specs.declared.faults.TripleFault.{TripleFault}
+use Rattle.rdf_terms.specs.declared.faults.TripleFault.TheVariants.{NotTriple, TooLong, NoMemory}
+use Rattle.mld_model.specs.declared.Command.{Command}
+use Rattle.mld_model.specs.declared.Command.TheVariants.{Add, Remove, Deliver, Show, Compare}
+use Rattle.mld_model.specs.Bytes.{Lacks, Lacks-from_test, one_split, apart}
+use Rattle.mld_model.specs.Schedule.{SpellsSetup, SpellsCommand, is_unbuilt}
+use Rattle.net_world.specs.Reading.{IsTripleOf, IsCloneAndTriple, IsAddOf, IsRemoveOf, IsDeliverOf, IsShowOf, IsCompareOf}
+use Rattle.net_world.proofs.LinesText.{has_space}
+use Rattle.net_world.proofs.LinesNumbers.{small, number_first}
+
+-- two tests of which neither holds
+none_of : (a b : Bool) → (a || b) ≡ false → (a ≡ false) × (b ≡ false)
+none_of true b h = absurd (false≢true (sym h))
+none_of false b h = (refl, h)
+
+not_true : (a : Bool) → (a ≡ true → ⊥) → a ≡ false
+not_true true h = absurd (h refl)
+not_true false h = refl
+
+-- ---- what follows the first word
+
+-- what is read of what follows it is what is read of the line
+pub read_behind : {E : Type 0} (P Q : Command → Type 0) (result : Result (Option Command) E) → ((command : Command) → P command ↔ Q command)
+    → IfOk result (λ found. MatchOption found ((command : Command) → ¬ P command) P) → IfOk result (λ found. MatchOption found ((command : Command) → ¬ Q command) Q)
+read_behind P Q (Ok None) same h = λ command q. h command ((same command).1 q)
+read_behind P Q (Ok (Some command)) same h = (same command).0 h
+read_behind P Q (Err e) same h = h
+
+add_there : (line rest : List ℕ) → line ≡ codes "add " ++ rest → (command : Command) → IsAddOf rest command → SpellsCommand line command
+add_there line rest e command h =
+    subst (λ (k : Command). SpellsCommand line k) (sym h.2) (h.3.text, e ∙ ap (λ (r : List ℕ). codes "add " ++ r) h.3.whole, h.3.clone, h.3.spelled.bytes, h.3.spelled.spelled, h.3.spelled.within)
+
+add_back : (line rest : List ℕ) → line ≡ codes "add " ++ rest → (command : Command) → SpellsCommand line command → IsAddOf rest command
+add_back line rest e (Add number triple) h =
+    (number, triple, refl, record { text = h.0; whole = ap (drop 4) (sym e ∙ h.1); clone = h.2; spelled = record { bytes = h.3; spelled = h.4; within = h.5 } })
+add_back line rest e (Remove number triple) h = absurd (apart e h.1 refl)
+add_back line rest e (Deliver message number) h = absurd (apart e h.0 refl)
+add_back line rest e (Show number) h = absurd (apart e h.0 refl)
+add_back line rest e (Compare number other) h = absurd (apart e h.0 refl)
+
+pub add_behind : (line rest : List ℕ) → line ≡ codes "add " ++ rest → (command : Command) → IsAddOf rest command ↔ SpellsCommand line command
+add_behind line rest e command = (add_there line rest e command, add_back line rest e command)
+
+remove_there : (line rest : List ℕ) → line ≡ codes "remove " ++ rest → (command : Command) → IsRemoveOf rest command → SpellsCommand line command
+remove_there line rest e command h =
+    subst (λ (k : Command). SpellsCommand line k) (sym h.2) (h.3.text, e ∙ ap (λ (r : List ℕ). codes "remove " ++ r) h.3.whole, h.3.clone, h.3.spelled.bytes, h.3.spelled.spelled, h.3.spelled.within)
+
+remove_back : (line rest : List ℕ) → line ≡ codes "remove " ++ rest → (command : Command) → SpellsCommand line command → IsRemoveOf rest command
+remove_back line rest e (Add number triple) h = absurd (apart e h.1 refl)
+remove_back line rest e (Remove number triple) h =
+    (number, triple, refl, record { text = h.0; whole = ap (drop 7) (sym e ∙ h.1); clone = h.2; spelled = record { bytes = h.3; spelled = h.4; within = h.5 } })
+remove_back line rest e (Deliver message number) h = absurd (apart e h.0 refl)
+remove_back line rest e (Show number) h = absurd (apart e h.0 refl)
+remove_back line rest e (Compare number other) h = absurd (apart e h.0 refl)
+
+pub remove_behind : (line rest : List ℕ) → line ≡ codes "remove " ++ rest → (command : Command) → IsRemoveOf rest command ↔ SpellsCommand line command
+remove_behind line rest e command = (remove_there line rest e command, remove_back line rest e command)
+
+deliver_there : (line rest : List ℕ) → line ≡ codes "deliver " ++ rest → (command : Command) → IsDeliverOf rest command → SpellsCommand line command
+deliver_there line rest e command h =
+    subst (λ (k : Command). SpellsCommand line k) (sym h.2) (e ∙ ap (λ (r : List ℕ). codes "deliver " ++ r) h.3, h.4, h.5)
+
+deliver_back : (line rest : List ℕ) → line ≡ codes "deliver " ++ rest → (command : Command) → SpellsCommand line command → IsDeliverOf rest command
+deliver_back line rest e (Add number triple) h = absurd (apart e h.1 refl)
+deliver_back line rest e (Remove number triple) h = absurd (apart e h.1 refl)
+deliver_back line rest e (Deliver message number) h = (message, number, refl, ap (drop 8) (sym e ∙ h.0), h.1, h.2)
+deliver_back line rest e (Show number) h = absurd (apart e h.0 refl)
+deliver_back line rest e (Compare number other) h = absurd (apart e h.0 refl)
+
+pub deliver_behind : (line rest : List ℕ) → line ≡ codes "deliver " ++ rest → (command : Command) → IsDeliverOf rest command ↔ SpellsCommand line command
+deliver_behind line rest e command = (deliver_there line rest e command, deliver_back line rest e command)
+
+show_there : (line rest : List ℕ) → line ≡ codes "show " ++ rest → (command : Command) → IsShowOf rest command → SpellsCommand line command
+show_there line rest e command h =
+    subst (λ (k : Command). SpellsCommand line k) (sym h.1) (e ∙ ap (λ (r : List ℕ). codes "show " ++ r) h.2, h.3)
+
+show_back : (line rest : List ℕ) → line ≡ codes "show " ++ rest → (command : Command) → SpellsCommand line command → IsShowOf rest command
+show_back line rest e (Add number triple) h = absurd (apart e h.1 refl)
+show_back line rest e (Remove number triple) h = absurd (apart e h.1 refl)
+show_back line rest e (Deliver message number) h = absurd (apart e h.0 refl)
+show_back line rest e (Show number) h = (number, refl, ap (drop 5) (sym e ∙ h.0), h.1)
+show_back line rest e (Compare number other) h = absurd (apart e h.0 refl)
+
+pub show_behind : (line rest : List ℕ) → line ≡ codes "show " ++ rest → (command : Command) → IsShowOf rest command ↔ SpellsCommand line command
+show_behind line rest e command = (show_there line rest e command, show_back line rest e command)
+
+compare_there : (line rest : List ℕ) → line ≡ codes "compare " ++ rest → (command : Command) → IsCompareOf rest command → SpellsCommand line command
+compare_there line rest e command h =
+    subst (λ (k : Command). SpellsCommand line k) (sym h.2) (e ∙ ap (λ (r : List ℕ). codes "compare " ++ r) h.3, h.4, h.5)
+
+compare_back : (line rest : List ℕ) → line ≡ codes "compare " ++ rest → (command : Command) → SpellsCommand line command → IsCompareOf rest command
+compare_back line rest e (Add number triple) h = absurd (apart e h.1 refl)
+compare_back line rest e (Remove number triple) h = absurd (apart e h.1 refl)
+compare_back line rest e (Deliver message number) h = absurd (apart e h.0 refl)
+compare_back line rest e (Show number) h = absurd (apart e h.0 refl)
+compare_back line rest e (Compare number other) h = (number, other, refl, ap (drop 8) (sym e ∙ h.0), h.1, h.2)
+
+pub compare_behind : (line rest : List ℕ) → line ≡ codes "compare " ++ rest → (command : Command) → IsCompareOf rest command ↔ SpellsCommand line command
+compare_behind line rest e command = (compare_there line rest e command, compare_back line rest e command)
+
+-- ---- the parts of a command
+
+pub no_triple_split : (rest : List ℕ) → Lacks 32 rest → (number : ℕ) (triple : Triple) → ¬ IsCloneAndTriple rest number triple
+no_triple_split rest lacks number triple h = has_space rest (decimal number) h.text lacks h.whole
+
+pub no_triple_number : (rest front behind : List ℕ) → rest ≡ front ++ 32 ∷ behind → Lacks 32 front → ((number : ℕ) → number < 32 → front ≢ decimal number)
+    → (number : ℕ) (triple : Triple) → ¬ IsCloneAndTriple rest number triple
+no_triple_number rest front behind e lacks none number triple h = none number h.clone (number_first rest front behind h.text number lacks e (small h.clone) h.whole).0
+
+pub no_triple_text : (rest front behind : List ℕ) → rest ≡ front ++ 32 ∷ behind → Lacks 32 front → ((triple : Triple) → ¬ IsTripleOf behind triple)
+    → (number : ℕ) (triple : Triple) → ¬ IsCloneAndTriple rest number triple
+no_triple_text rest front behind e lacks none number triple h =
+    none triple (subst (λ (t : List ℕ). IsTripleOf t triple) (sym (number_first rest front behind h.text number lacks e (small h.clone) h.whole).1) h.spelled)
+
+pub no_add : (rest : List ℕ) → ((number : ℕ) (triple : Triple) → ¬ IsCloneAndTriple rest number triple) → (command : Command) → ¬ IsAddOf rest command
+no_add rest none command h = none h.0 h.1 h.3
+
+pub no_remove : (rest : List ℕ) → ((number : ℕ) (triple : Triple) → ¬ IsCloneAndTriple rest number triple) → (command : Command) → ¬ IsRemoveOf rest command
+no_remove rest none command h = none h.0 h.1 h.3
+
+pub no_deliver_split : (rest : List ℕ) → Lacks 32 rest → (command : Command) → ¬ IsDeliverOf rest command
+no_deliver_split rest lacks command h = has_space rest (decimal h.0) (decimal h.1) lacks h.3
+
+pub no_deliver_message : (rest front behind : List ℕ) → rest ≡ front ++ 32 ∷ behind → Lacks 32 front → ((number : ℕ) → number < 2 ^ 64 → front ≢ decimal number)
+    → (command : Command) → ¬ IsDeliverOf rest command
+no_deliver_message rest front behind e lacks none command h = none h.0 h.4 (number_first rest front behind (decimal h.1) h.0 lacks e h.4 h.3).0
+
+pub no_deliver_number : (rest front behind : List ℕ) → rest ≡ front ++ 32 ∷ behind → Lacks 32 front → ((number : ℕ) → number < 32 → behind ≢ decimal number)
+    → (command : Command) → ¬ IsDeliverOf rest command
+no_deliver_number rest front behind e lacks none command h = none h.1 h.5 (number_first rest front behind (decimal h.1) h.0 lacks e h.4 h.3).1
+
+pub no_compare_split : (rest : List ℕ) → Lacks 32 rest → (command : Command) → ¬ IsCompareOf rest command
+no_compare_split rest lacks command h = has_space rest (decimal h.0) (decimal h.1) lacks h.3
+
+pub no_compare_number : (rest front behind : List ℕ) → rest ≡ front ++ 32 ∷ behind → Lacks 32 front → ((number : ℕ) → number < 32 → front ≢ decimal number)
+    → (command : Command) → ¬ IsCompareOf rest command
+no_compare_number rest front behind e lacks none command h = none h.0 h.4 (number_first rest front behind (decimal h.1) h.0 lacks e (small h.4) h.3).0
+
+pub no_compare_other : (rest front behind : List ℕ) → rest ≡ front ++ 32 ∷ behind → Lacks 32 front → ((number : ℕ) → number < 32 → behind ≢ decimal number)
+    → (command : Command) → ¬ IsCompareOf rest command
+no_compare_other rest front behind e lacks none command h = none h.1 h.5 (number_first rest front behind (decimal h.1) h.0 lacks e (small h.4) h.3).1
+
+-- ---- backslashes
+
+-- a text without a backslash, from the test
+lacks_from_any : (byte : ℕ) (text : List ℕ) → list_any (λ b. b == byte) text ≡ false → Lacks byte text
+lacks_from_any byte [] h = tt
+lacks_from_any byte (first ∷ rest) h = let parts = none_of (first == byte) (list_any (λ b. b == byte) rest) h in (eqb-false first byte parts.0, lacks_from_any byte rest parts.1)
+
+-- a line that is built, and begins with `add` or `remove` and a space, has none
+pub built_add : (line rest : List ℕ) → ¬ IsTrue (is_unbuilt line) → line ≡ codes "add " ++ rest → Lacks 92 rest
+unfolding is_unbuilt
+built_add line rest h e = lacks_from_any 92 rest (not_true (list_any (λ b. b == 92) rest) (λ k. h (subst (λ (l : List ℕ). is_unbuilt l ≡ true) (sym e) k)))
+
+pub built_remove : (line rest : List ℕ) → ¬ IsTrue (is_unbuilt line) → line ≡ codes "remove " ++ rest → Lacks 92 rest
+unfolding is_unbuilt
+built_remove line rest h e = lacks_from_any 92 rest (not_true (list_any (λ b. b == 92) rest) (λ k. h (subst (λ (l : List ℕ). is_unbuilt l ≡ true) (sym e) k)))
+
+-- as the test that the reader of triples asks for
+pub lacks_backslash : (text : List ℕ) → Lacks 92 text → IsTrue (has_no_backslash text)
+lacks_backslash [] h = refl
+lacks_backslash (byte ∷ text) h = rw (ne_eqb byte 92 h.0) (lacks_backslash text h.1)
+
+-- a fault of the triple, want of memory aside
+pub no_triple : (text : List ℕ) (fault : TripleFault) → RefusesTriple text fault → fault ≢ NoMemory → (triple : Triple) → ¬ IsTripleOf text triple
+no_triple text (NotTriple place) h other triple t = h triple t.spelled
+no_triple text TooLong h other triple t = h.2 (subst (λ (u : Triple). IsWithin u) (one_spelled text triple h.0 t.spelled h.1) t.within)
+no_triple text NoMemory h other triple t = other refl
+
+-- ---- domain lines
+
+-- the name of a domain is ASCII, and has no space
+domain_bytes : (domain : List ℕ) → IsTrue (is_domain domain) → IsTrue (list_all is_domain_byte domain)
+unfolding is_domain
+domain_bytes domain h = (and_parts _ (list_all is_domain_byte domain) h).1
+
+domain_lacks : (domain : List ℕ) → IsTrue (is_domain domain) → Lacks 32 domain
+domain_lacks domain h = Lacks-from_test is_domain_byte 32 refl domain (domain_bytes domain h)
+
+-- what follows `domain` and a space
+setup_rest : (line rest domain : List ℕ) (count : ℕ) → line ≡ codes "domain " ++ rest → SpellsSetup line domain count → rest ≡ domain ++ 32 ∷ (codes "clones " ++ decimal count)
+setup_rest line rest domain count e s = ap (drop 7) (sym e ∙ s.whole)
+
+pub setup_spaced : (line rest : List ℕ) → line ≡ codes "domain " ++ rest → Lacks 32 rest → (domain : List ℕ) (count : ℕ) → ¬ SpellsSetup line domain count
+setup_spaced line rest e h domain count s = has_space rest domain (codes "clones " ++ decimal count) h (setup_rest line rest domain count e s)
+
+-- a domain line up to the space behind its name
+pub record IsCut (line name behind : List ℕ) : Type 0 where
+  pub rest : List ℕ
+  pub first : line ≡ codes "domain " ++ rest
+  pub cut : rest ≡ name ++ 32 ∷ behind
+  pub spaceless : Lacks 32 name
+
+setup_cut : (line name behind domain : List ℕ) (count : ℕ) → IsCut line name behind → SpellsSetup line domain count → (name ≡ domain) × (behind ≡ codes "clones " ++ decimal count)
+setup_cut line name behind domain count k s =
+    one_split 32 name domain behind (codes "clones " ++ decimal count) k.spaceless (domain_lacks domain s.name) (sym k.cut ∙ setup_rest line k.rest domain count k.first s)
+
+pub setup_counted : (line name behind : List ℕ) → IsCut line name behind → ((rest : List ℕ) → behind ≢ codes "clones " ++ rest) → (domain : List ℕ) (count : ℕ) → ¬ SpellsSetup line domain count
+setup_counted line name behind k h domain count s = h (decimal count) (setup_cut line name behind domain count k s).1
+
+pub setup_domain : (line name behind : List ℕ) → IsCut line name behind → ¬ IsTrue (is_domain name) → (domain : List ℕ) (count : ℕ) → ¬ SpellsSetup line domain count
+setup_domain line name behind k h domain count s = h (subst (λ (d : List ℕ). is_domain d ≡ true) (sym (setup_cut line name behind domain count k s).0) s.name)
+
+pub setup_number : (line name behind number : List ℕ) → IsCut line name behind → behind ≡ codes "clones " ++ number → ((count : ℕ) → 1 ≤ count → count ≤ 32 → number ≢ decimal count)
+    → (domain : List ℕ) (count : ℕ) → ¬ SpellsSetup line domain count
+setup_number line name behind number k e h domain count s =
+    h count s.some s.most (ap (drop 7) (sym e ∙ (setup_cut line name behind domain count k s).1))
+
+-- the name of a domain is ASCII
+domain_byte_small : (byte : ℕ) → is_domain_byte byte ≡ true → byte < 128
+domain_byte_small byte h = grind (arith, nat_tests)
+
+ascii_from_test : (text : List ℕ) → IsTrue (list_all is_domain_byte text) → IsAscii text
+ascii_from_test [] h i = omega arith
+ascii_from_test (byte ∷ text) h zero = domain_byte_small byte (and_parts (is_domain_byte byte) (list_all is_domain_byte text) h).0
+ascii_from_test (byte ∷ text) h (suc i) = ascii_from_test text (and_parts (is_domain_byte byte) (list_all is_domain_byte text) h).1 i
+
+pub domain_text : (domain : List ℕ) → IsTrue (is_domain domain) → IsUtf8 domain
+domain_text domain h = IsUtf8-from_ascii domain (ascii_from_test domain (domain_bytes domain h))

@@ -1,0 +1,14 @@
+use Rattle.std.proofs.Common.{ℕ, List, subst, sym}
+use Rattle.mld_model.specs.Bytes.{Lacks}
+use Rattle.net_world.specs.Reading.{IsTripleOf}
+use Rattle.net_world.proofs.LinesCommands.{lacks_backslash, no_triple}
+use Rattle.net_world.proofs.lines.read_triple_bytes.Goals as goal
+
+pub read_triple-requires : goal.read_triple-requires
+read_triple-requires c = lacks_backslash c.in-Ok.text.now (subst (λ (l : List ℕ). Lacks 92 l) (sym c.in-Ok.ensures.cases.0) c.requires)
+
+pub returns-in-Err-TooLong : goal.returns-in-Err-TooLong
+returns-in-Err-TooLong c = λ triple spelled.
+    let long = c.in-Err-TooLong.field-0-is in
+    no_triple c.in-Ok.text.now c.in-Err-TooLong.field-0 c.in-Err-TooLong.ensures.refusals (λ e. cc) triple
+    (subst (λ (l : List ℕ). IsTripleOf l triple) (sym c.in-Ok.ensures.cases.0) spelled)

@@ -1,0 +1,49 @@
+use Rattle.std.proofs.Common.{ap, rules, sym}
+use Rattle.mld_model.specs.Reply.{reply_text}
+use Rattle.net_world.specs.Words.{reply_of}
+use Rattle.net_world.proofs.RepliesShown.{word_pushed}
+use Rattle.net_world.proofs.replies.push_word.Goals as goal
+
+pub returns-in-NoOperation : goal.returns-in-NoOperation
+unfolding reply_text
+returns-in-NoOperation c = search rules
+
+pub returns-in-Known : goal.returns-in-Known
+unfolding reply_text
+returns-in-Known c = search rules
+
+pub returns-in-NoMessage : goal.returns-in-NoMessage
+unfolding reply_text
+returns-in-NoMessage c = word_pushed c.extend_from_slice-in-NoMessage.result c.args.out.now.items _ _ _ c.extend_from_slice-in-NoMessage.ensures.items (sym (ap (λ w. reply_text (reply_of w)) c.in-NoMessage.is))
+
+pub returns-in-Absent : goal.returns-in-Absent
+unfolding reply_text
+returns-in-Absent c = search rules
+
+pub returns-in-Same : goal.returns-in-Same
+unfolding reply_text
+returns-in-Same c = search rules
+
+pub returns-in-Less : goal.returns-in-Less
+unfolding reply_text
+returns-in-Less c = search rules
+
+pub returns-in-More : goal.returns-in-More
+unfolding reply_text
+returns-in-More c = search rules
+
+pub returns-in-Apart : goal.returns-in-Apart
+unfolding reply_text
+returns-in-Apart c = search rules
+
+pub returns-in-Held : goal.returns-in-Held
+unfolding reply_text
+returns-in-Held c = search rules
+
+pub returns-in-HeldFull : goal.returns-in-HeldFull
+unfolding reply_text
+returns-in-HeldFull c = word_pushed c.extend_from_slice-in-HeldFull.result c.args.out.now.items _ _ _ c.extend_from_slice-in-HeldFull.ensures.items (sym (ap (λ w. reply_text (reply_of w)) c.in-HeldFull.is))
+
+pub returns-in-Ignored : goal.returns-in-Ignored
+unfolding reply_text
+returns-in-Ignored c = search rules

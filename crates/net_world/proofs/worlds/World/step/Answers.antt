@@ -1,0 +1,74 @@
+use Rattle.std.proofs.Common.{List, Option, sym, subst}
+use Rattle.std.proofs.lemmas.Result.{IfOk-weaker}
+use Rattle.mld_ops.specs.declared.messages.Message.{Message}
+use Rattle.mld_model.specs.declared.Command.TheVariants.{Add, Remove, Deliver, Show, Compare}
+use Rattle.mld_model.specs.Local.{LocalClone}
+use Rattle.mld_model.specs.StandsFor.{RunningWorld}
+use Rattle.net_world.specs.Worlds.{HasNextTick, IsNoneForeign, DeliversTo, ShowsAt, ComparesAt}
+use Rattle.net_world.specs.contracts.worlds.World.{the_view}
+use Rattle.net_world.proofs.WorldLemmas.{after_step, has_next_tick, none_foreign, stepped_of, added, removed, delivered, shown, compared}
+use Rattle.net_world.proofs.worlds.World.step.Goals as goal
+
+pub set_to-requires-clause-ticks : goal.set_to-requires-clause-ticks
+set_to-requires-clause-ticks c =
+    let P : RunningWorld → Type 0 = λ r. HasNextTick r.clones c.in-Add.number in
+    subst P (sym c.self.view_is) (has_next_tick c.args.self.now c.in-Add.number c.requires.standing c.requires.few)
+
+pub set_to-requires-in-Remove-clause-ticks : goal.set_to-requires-in-Remove-clause-ticks
+set_to-requires-in-Remove-clause-ticks c =
+    let P : RunningWorld → Type 0 = λ r. HasNextTick r.clones c.in-Remove.number in
+    subst P (sym c.self.view_is) (has_next_tick c.args.self.now c.in-Remove.number c.requires.standing c.requires.few)
+
+pub deliver_to-requires-clause-own : goal.deliver_to-requires-clause-own
+deliver_to-requires-clause-own c =
+    let P : RunningWorld → Type 0 = λ r. IsNoneForeign r.clones r.messages c.in-Deliver.message c.in-Deliver.number in
+    let Q : List Message → Type 0 = λ ms. IsNoneForeign c.self.inside.clones.items ms c.in-Deliver.message c.in-Deliver.number in
+    subst Q (sym c.as_slice-messages.ensures.value) (subst P (sym c.self.view_is) (none_foreign c.args.self.now c.in-Deliver.message c.in-Deliver.number c.requires.standing))
+
+pub returns-in-Add-clause-done : goal.returns-in-Add-clause-done
+returns-in-Add-clause-done c =
+    let view : RunningWorld = the_view c.self.inside in
+    IfOk-weaker c.set_to.result _ _ (λ _ h.
+    stepped_of c.args.self.now view c.args.command.now (Add c.in-Add.number c.in-Add.triple) (after_step view c.set_to.new.clones.items c.set_to.new.messages.items)
+    c.args.out.now.items c.set_to.new.out.items c.self.view_is c.in-Add.is
+    (added view c.in-Add.number c.in-Add.triple c.set_to.new.clones.items c.set_to.new.messages.items c.args.out.now.items c.set_to.new.out.items h))
+    c.set_to.ensures.ok
+
+pub returns-in-Remove-clause-done : goal.returns-in-Remove-clause-done
+returns-in-Remove-clause-done c =
+    let view : RunningWorld = the_view c.self.inside in
+    IfOk-weaker c.set_to-in-Remove.result _ _ (λ _ h.
+    stepped_of c.args.self.now view c.args.command.now (Remove c.in-Remove.number c.in-Remove.triple) (after_step view c.set_to-in-Remove.new.clones.items c.set_to-in-Remove.new.messages.items)
+    c.args.out.now.items c.set_to-in-Remove.new.out.items c.self.view_is c.in-Remove.is
+    (removed view c.in-Remove.number c.in-Remove.triple c.set_to-in-Remove.new.clones.items c.set_to-in-Remove.new.messages.items c.args.out.now.items c.set_to-in-Remove.new.out.items h))
+    c.set_to-in-Remove.ensures.ok
+
+pub returns-in-Deliver-clause-done : goal.returns-in-Deliver-clause-done
+returns-in-Deliver-clause-done c =
+    let view : RunningWorld = the_view c.self.inside in
+    IfOk-weaker c.deliver_to.result _ _ (λ _ h.
+    let P : List Message → Type 0 = λ ms. DeliversTo c.self.inside.clones.items ms c.in-Deliver.message c.in-Deliver.number c.deliver_to.new.clones.items c.args.out.now.items c.deliver_to.new.out.items in
+    stepped_of c.args.self.now view c.args.command.now (Deliver c.in-Deliver.message c.in-Deliver.number) (after_step view c.deliver_to.new.clones.items view.messages)
+    c.args.out.now.items c.deliver_to.new.out.items c.self.view_is c.in-Deliver.is
+    (delivered view c.in-Deliver.message c.in-Deliver.number c.deliver_to.new.clones.items c.args.out.now.items c.deliver_to.new.out.items (subst P c.as_slice-messages.ensures.value h)))
+    c.deliver_to.ensures.done
+
+pub returns-in-Show-clause-done : goal.returns-in-Show-clause-done
+returns-in-Show-clause-done c =
+    let view : RunningWorld = the_view c.self.inside in
+    IfOk-weaker c.show.result _ _ (λ _ h.
+    let P : List (Option LocalClone) → Type 0 = λ cs. ShowsAt cs c.in-Show.number c.args.out.now.items c.show.new.out.items in
+    stepped_of c.args.self.now view c.args.command.now (Show c.in-Show.number) (after_step view view.clones view.messages)
+    c.args.out.now.items c.show.new.out.items c.self.view_is c.in-Show.is
+    (shown view c.in-Show.number c.args.out.now.items c.show.new.out.items (subst P c.as_slice.ensures.value h)))
+    c.show.ensures
+
+pub returns-in-Compare-clause-done : goal.returns-in-Compare-clause-done
+returns-in-Compare-clause-done c =
+    let view : RunningWorld = the_view c.self.inside in
+    IfOk-weaker c.compare.result _ _ (λ _ h.
+    let P : List (Option LocalClone) → Type 0 = λ cs. ComparesAt cs c.in-Compare.number c.in-Compare.other c.args.out.now.items c.compare.new.out.items in
+    stepped_of c.args.self.now view c.args.command.now (Compare c.in-Compare.number c.in-Compare.other) (after_step view view.clones view.messages)
+    c.args.out.now.items c.compare.new.out.items c.self.view_is c.in-Compare.is
+    (compared view c.in-Compare.number c.in-Compare.other c.args.out.now.items c.compare.new.out.items (subst P c.as_slice-in-Compare.ensures.value h)))
+    c.compare.ensures

@@ -1,0 +1,61 @@
+-- What a line of a schedule was read as.
+use Rattle.std.specs.Prelude.{◌≡◌, ℕ, ◌<◌, ◌^◌, List, ◌∷◌, ◌++◌, IsTrue, Option, None, Some}
+use Rattle.std.specs.Str.{IsUtf8}
+use Rattle.std.specs.Fmt.{decimal}
+use Rattle.rdf_terms.specs.declared.terms.Triple.{Triple}
+use Rattle.rdf_terms.specs.Grammar.{SpellsTriple, IsWithin}
+use Rattle.mld_model.specs.declared.Command.TheVariants.{Add, Remove, Deliver, Show, Compare}
+use Rattle.mld_model.specs.declared.Command.{Command}
+use Rattle.mld_model.specs.Schedule.{IsNothing, is_unbuilt, SpellsSetup, SpellsCommand, IsCloneNumber}
+use Rattle.mld_model.specs.Runs.{IsBad, Waiting}
+use Rattle.net_world.specs.declared.lines.Setup.{Setup}
+
+-- a line that was read while no domain line has come: it says nothing, or it is the domain line
+abbrev pub SetupIs : List ℕ → Option Setup → Type 0
+SetupIs line None = IsNothing line
+SetupIs line (Some setup) = SpellsSetup line setup.domain setup.clones
+
+-- it is outside the grammar, and isn't one that will be built
+abbrev pub IsBadSetup : List ℕ → Type 0
+IsBadSetup line = IsBad Waiting line
+
+-- a line that was read once the clones are founded: it says nothing, or it is a command
+abbrev pub CommandIs : List ℕ → Option Command → Type 0
+CommandIs line None = IsNothing line
+CommandIs line (Some command) = SpellsCommand line command
+
+-- it is outside the grammar, and isn't one that will be built
+abbrev pub IsBadCommand : List ℕ → Type 0
+IsBadCommand line = ¬ IsNothing line × ¬ IsTrue (is_unbuilt line) × ((command : Command) → ¬ SpellsCommand line command)
+
+-- the text of a triple within the limits
+pub record IsTripleOf (text : List ℕ) (triple : Triple) : Type 0 where
+  pub bytes : IsUtf8 text
+  pub spelled : SpellsTriple text triple
+  pub within : IsWithin triple
+
+-- what follows the first word of a command and its space
+
+-- a clone's number, a space, and the text of a triple
+pub record IsCloneAndTriple (rest : List ℕ) (number : ℕ) (triple : Triple) : Type 0 where
+  pub text : List ℕ
+  pub whole : rest ≡ decimal number ++ 32 ∷ text
+  pub clone : IsCloneNumber number
+  pub spelled : IsTripleOf text triple
+
+abbrev pub IsAddOf : List ℕ → Command → Type 0
+IsAddOf rest command = (number : ℕ) × (triple : Triple) × (command ≡ Add number triple) × IsCloneAndTriple rest number triple
+
+abbrev pub IsRemoveOf : List ℕ → Command → Type 0
+IsRemoveOf rest command = (number : ℕ) × (triple : Triple) × (command ≡ Remove number triple) × IsCloneAndTriple rest number triple
+
+abbrev pub IsDeliverOf : List ℕ → Command → Type 0
+IsDeliverOf rest command = (message : ℕ) × (number : ℕ) × (command ≡ Deliver message number) × (rest ≡ decimal message ++ 32 ∷ decimal number)
+    × (message < 2 ^ 64) × IsCloneNumber number
+
+abbrev pub IsShowOf : List ℕ → Command → Type 0
+IsShowOf rest command = (number : ℕ) × (command ≡ Show number) × (rest ≡ decimal number) × IsCloneNumber number
+
+abbrev pub IsCompareOf : List ℕ → Command → Type 0
+IsCompareOf rest command = (number : ℕ) × (other : ℕ) × (command ≡ Compare number other) × (rest ≡ decimal number ++ 32 ∷ decimal other)
+    × IsCloneNumber number × IsCloneNumber other

@@ -1,0 +1,359 @@
+//! Reading the lines of a schedule.
+ghost use Rattle.std.specs.Prelude.{◌≡◌, ◌≢◌, ◌<◌, ◌≤◌, ◌^◌, ◌++◌, ◌∷◌, ◌↔◌, ◌||◌, ℕ, List, codes, IsTrue, IfOk, IsErrOf, MatchOption, EachIndex, slice_index, length};
+ghost use Rattle.std.specs.List.{list_any};
+ghost use Rattle.std.specs.Fmt.{decimal};
+ghost use Rattle.mld_model.specs.Bytes.{Lacks};
+ghost use Rattle.rdf_terms.specs.Domain.{is_domain};
+ghost use Rattle.rdf_terms.specs.declared.terms.Triple.{Triple};
+ghost use Rattle.mld_model.specs.Schedule.{IsNothing, is_unbuilt, unbuilt_words, is_word, first_word, SpellsSetup, SpellsCommand};
+ghost use Rattle.mld_model.specs.declared.Command.{Command};
+ghost use Rattle.net_world.specs.Reading.{SetupIs, CommandIs, IsBadSetup, IsBadCommand, IsTripleOf, IsCloneAndTriple, IsAddOf, IsRemoveOf, IsDeliverOf, IsShowOf, IsCompareOf};
+
+use mld_model::Command;
+use rdf_terms::{Text, Triple, TripleFault, is_domain, read_triple};
+use std::alloc::{AllocError, Global};
+use thiserror::Error;
+
+/// What a domain line says.
+#[derive(Debug, Drop)]
+pub struct Setup {
+    /// The name of the domain.
+    pub domain: Text,
+    /// How many clones are founded, 1 to 32.
+    pub clones: u8,
+}
+
+/// Why a line was not read.
+#[derive(Clone, Copy, Debug, PartialEq, Eq, Error)]
+pub enum LineRefusal {
+    /// It is outside the grammar.
+    #[error("bad line")]
+    BadLine,
+    /// It isn't built yet.
+    #[error("unbuilt")]
+    Unbuilt,
+    /// No memory was found.
+    #[error("no memory")]
+    NoMemory,
+}
+
+impl From<AllocError> for LineRefusal {
+    ghost use Rattle.std.specs.Prelude.{◌≡◌};
+    ghost use Rattle.net_world.specs.declared.lines.LineRefusal.TheVariants.{NoMemory};
+
+    ghost from_gives = { λ _ e. e ≡ NoMemory };
+
+    fn from(_error: AllocError) -> LineRefusal {
+        LineRefusal::NoMemory
+    }
+}
+
+/// Reads a line, without its LF, while no domain line has come: `domain D clones N`, or `None` for an empty line or a comment.
+pub fn read_setup(alloc: Global, line: &[u8]) -> Result<Option<Setup>, LineRefusal>
+    ensures ok { IfOk result (SetupIs line.now) }
+    ensures bad { IsErrOf result LineRefusal.BadLine → IsBadSetup line.now }
+    ensures unbuilt { IsErrOf result LineRefusal.Unbuilt → IsTrue (is_unbuilt line.now) }
+{
+    if is_nothing(line) {
+        return Ok(None);
+    }
+    if is_unbuilt(line) {
+        return Err(LineRefusal::Unbuilt);
+    }
+    match setup_of(alloc, line)? {
+        Some(setup) => Ok(Some(setup)),
+        None => Err(LineRefusal::BadLine),
+    }
+}
+
+/// Reads a line, without its LF, once the clones are founded: a command, or `None` for an empty line or a comment.
+pub fn read_command(alloc: Global, line: &[u8]) -> Result<Option<Command>, LineRefusal>
+    ensures ok { IfOk result (CommandIs line.now) }
+    ensures bad { IsErrOf result LineRefusal.BadLine → IsBadCommand line.now }
+    ensures unbuilt { IsErrOf result LineRefusal.Unbuilt → IsTrue (is_unbuilt line.now) }
+{
+    if is_nothing(line) {
+        return Ok(None);
+    }
+    if is_unbuilt(line) {
+        return Err(LineRefusal::Unbuilt);
+    }
+    match command_of(alloc, line)? {
+        Some(command) => Ok(Some(command)),
+        None => Err(LineRefusal::BadLine),
+    }
+}
+
+/// An empty line, or a comment that is UTF-8.
+fn is_nothing(line: &[u8]) -> bool
+    ensures { IsTrue result ↔ IsNothing line.now }
+{
+    if line.is_empty() {
+        return true;
+    }
+    line[0] == b'#' && str::from_utf8(line).is_ok()
+}
+
+/// The first words of lines that aren't built yet.
+const UNBUILT_WORDS: [&[u8]; 10] = [
+    b"join",
+    b"stop",
+    b"open",
+    b"ask",
+    b"compact",
+    b"truncate",
+    b"query",
+    b"update",
+    b"single",
+    b"crash",
+];
+
+/// A line that isn't built yet: one of those words comes first, or `add` or `remove` does and a backslash stands somewhere.
+fn is_unbuilt(line: &[u8]) -> bool
+    ensures { result ≡ is_unbuilt line.now }
+{
+    let word = first_word(line);
+    is_unbuilt_word(word) || (is_before_triple(word) && line.contains(&b'\\'))
+}
+
+/// One of the first words of lines that aren't built yet.
+fn is_unbuilt_word(word: &[u8]) -> bool
+    ensures { result ≡ list_any (λ unbuilt. is_word unbuilt word.now) unbuilt_words }
+{
+    UNBUILT_WORDS.iter().any(|unbuilt| *unbuilt == word)
+}
+
+/// `add` or `remove`, the first words of lines that end with a triple.
+fn is_before_triple(word: &[u8]) -> bool
+    ensures { result ≡ (is_word (codes "add") word.now || is_word (codes "remove") word.now) }
+{
+    word == b"add".as_slice() || word == b"remove".as_slice()
+}
+
+/// The bytes before the first space, or all of them.
+#[tactic(auto, using(crate::proofs::LinesText::word_alone, crate::proofs::LinesText::word_before_space))]
+fn first_word(line: &[u8]) -> &[u8]
+    ensures { result.now ≡ first_word line.now }
+{
+    match split_at_space(line) {
+        Some((word, _)) => word,
+        None => line,
+    }
+}
+
+/// Where the first space is.
+fn first_space(line: &[u8]) -> Option<usize>
+    ensures { MatchOption result (EachIndex line.now (λ k. slice_index line.now k ≢ 32)) (λ place. (place < length line.now) × (slice_index line.now place ≡ 32) × ((k : ℕ) → k < place → slice_index line.now k ≢ 32)) }
+{
+    line.iter().position(|byte| *byte == b' ')
+}
+
+/// The bytes before the first space, and those behind it.
+fn split_at_space(line: &[u8]) -> Option<(&[u8], &[u8])>
+    ensures { MatchOption result (Lacks 32 line.now) (λ parts. (line.now ≡ parts.0.now ++ 32 ∷ parts.1.now) × Lacks 32 parts.0.now) }
+{
+    let place = first_space(line)?;
+    Some((&line[..place], &line[place + 1..]))
+}
+
+/// What follows a front, where the line has it.
+fn behind<'a>(line: &'a [u8], front: &[u8]) -> Option<&'a [u8]>
+    ensures { MatchOption result ((rest : List ℕ) → line.now ≢ front.now ++ rest) (λ rest. line.now ≡ front.now ++ rest.now) }
+{
+    line.strip_prefix(front)
+}
+
+/// `domain D clones N`, where the line spells it.
+fn setup_of(alloc: Global, line: &[u8]) -> Result<Option<Setup>, AllocError>
+    ensures { IfOk result (λ found. MatchOption found ((domain : List ℕ) (count : ℕ) → ¬ SpellsSetup line.now domain count) (λ setup. SpellsSetup line.now setup.domain setup.clones)) }
+{
+    let Some(rest) = behind(line, b"domain ") else {
+        return Ok(None);
+    };
+    let Some((name, rest)) = split_at_space(rest) else {
+        return Ok(None);
+    };
+    let Some(number) = behind(rest, b"clones ") else {
+        return Ok(None);
+    };
+    let Some(domain) = read_domain(alloc, name)? else {
+        return Ok(None);
+    };
+    let Some(clones) = read_count(alloc, number)? else {
+        return Ok(None);
+    };
+    Ok(Some(Setup { domain, clones }))
+}
+
+/// The name of a domain.
+fn read_domain(alloc: Global, text: &[u8]) -> Result<Option<Text>, AllocError>
+    ensures { IfOk result (λ found. MatchOption found (¬ IsTrue (is_domain text.now)) (λ domain. IsTrue (is_domain text.now) × (domain ≡ text.now))) }
+{
+    let Ok(text) = str::from_utf8(text) else {
+        return Ok(None);
+    };
+    if !is_domain(text) {
+        return Ok(None);
+    }
+    Ok(Some(Text::new(alloc, text)?))
+}
+
+/// How many clones there are, 1 to 32.
+fn read_count(alloc: Global, text: &[u8]) -> Result<Option<u8>, AllocError>
+    ensures { IfOk result (λ found. MatchOption found ((number : ℕ) → 1 ≤ number → number ≤ 32 → text.now ≢ decimal number) (λ number. (1 ≤ number) × (number ≤ 32) × (text.now ≡ decimal number))) }
+{
+    let Some(number) = read_number(alloc, text)? else {
+        return Ok(None);
+    };
+    if number < 1 || number > 32 {
+        return Ok(None);
+    }
+    Ok(Some(number as u8))
+}
+
+/// A number below 2^64 as `decimal` writes it: no sign, no leading zero.
+fn read_number(alloc: Global, text: &[u8]) -> Result<Option<u64>, AllocError>
+    ensures { IfOk result (λ found. MatchOption found ((number : ℕ) → number < 2 ^ 64 → text.now ≢ decimal number) (λ number. (number < 2 ^ 64) × (text.now ≡ decimal number))) }
+{
+    let Ok(text) = str::from_utf8(text) else {
+        return Ok(None);
+    };
+    let Ok(number) = text.parse::<u64>() else {
+        return Ok(None);
+    };
+    let written = number.to_string(alloc)?;
+    if written.as_str() != text {
+        return Ok(None);
+    }
+    Ok(Some(number))
+}
+
+/// The number of a clone, 0 to 31.
+fn read_clone(alloc: Global, text: &[u8]) -> Result<Option<u8>, AllocError>
+    ensures { IfOk result (λ found. MatchOption found ((number : ℕ) → number < 32 → text.now ≢ decimal number) (λ number. (number < 32) × (text.now ≡ decimal number))) }
+{
+    let Some(number) = read_number(alloc, text)? else {
+        return Ok(None);
+    };
+    if number >= 32 {
+        return Ok(None);
+    }
+    Ok(Some(number as u8))
+}
+
+/// The command of a line, where the line spells one.
+fn command_of(alloc: Global, line: &[u8]) -> Result<Option<Command>, AllocError>
+    requires { ¬ IsTrue (is_unbuilt line.now) }
+    ensures { IfOk result (λ found. MatchOption found ((command : Command) → ¬ SpellsCommand line.now command) (λ command. SpellsCommand line.now command)) }
+{
+    if let Some(rest) = behind(line, b"add ") {
+        return read_add(alloc, rest);
+    }
+    if let Some(rest) = behind(line, b"remove ") {
+        return read_remove(alloc, rest);
+    }
+    if let Some(rest) = behind(line, b"deliver ") {
+        return read_deliver(alloc, rest);
+    }
+    if let Some(rest) = behind(line, b"show ") {
+        return read_show(alloc, rest);
+    }
+    if let Some(rest) = behind(line, b"compare ") {
+        return read_compare(alloc, rest);
+    }
+    Ok(None)
+}
+
+/// What follows `add` and a space: a clone's number, a space, and a triple.
+fn read_add(alloc: Global, rest: &[u8]) -> Result<Option<Command>, AllocError>
+    requires { Lacks 92 rest.now }
+    ensures { IfOk result (λ found. MatchOption found ((command : Command) → ¬ IsAddOf rest.now command) (λ command. IsAddOf rest.now command)) }
+{
+    let Some((number, triple)) = read_clone_and_triple(alloc, rest)? else {
+        return Ok(None);
+    };
+    Ok(Some(Command::Add(number, triple)))
+}
+
+/// What follows `remove` and a space: a clone's number, a space, and a triple.
+fn read_remove(alloc: Global, rest: &[u8]) -> Result<Option<Command>, AllocError>
+    requires { Lacks 92 rest.now }
+    ensures { IfOk result (λ found. MatchOption found ((command : Command) → ¬ IsRemoveOf rest.now command) (λ command. IsRemoveOf rest.now command)) }
+{
+    let Some((number, triple)) = read_clone_and_triple(alloc, rest)? else {
+        return Ok(None);
+    };
+    Ok(Some(Command::Remove(number, triple)))
+}
+
+/// A clone's number, a space, and a triple.
+fn read_clone_and_triple(alloc: Global, rest: &[u8]) -> Result<Option<(u8, Triple)>, AllocError>
+    requires { Lacks 92 rest.now }
+    ensures { IfOk result (λ found. MatchOption found ((number : ℕ) (triple : Triple) → ¬ IsCloneAndTriple rest.now number triple) (λ parts. IsCloneAndTriple rest.now parts.0 parts.1)) }
+{
+    let Some((number, text)) = split_at_space(rest) else {
+        return Ok(None);
+    };
+    let Some(number) = read_clone(alloc, number)? else {
+        return Ok(None);
+    };
+    let Some(triple) = read_triple_bytes(alloc, text)? else {
+        return Ok(None);
+    };
+    Ok(Some((number, triple)))
+}
+
+/// The triple of a text, where the text is UTF-8 and spells one within the limits.
+fn read_triple_bytes(alloc: Global, text: &[u8]) -> Result<Option<Triple>, AllocError>
+    requires { Lacks 92 text.now }
+    ensures { IfOk result (λ found. MatchOption found ((triple : Triple) → ¬ IsTripleOf text.now triple) (λ triple. IsTripleOf text.now triple)) }
+{
+    let Ok(text) = str::from_utf8(text) else {
+        return Ok(None);
+    };
+    match read_triple(alloc, text) {
+        Ok(triple) => Ok(Some(triple)),
+        Err(TripleFault::NotTriple { .. }) => Ok(None),
+        Err(TripleFault::TooLong) => Ok(None),
+        Err(TripleFault::NoMemory) => Err(AllocError),
+    }
+}
+
+/// What follows `deliver` and a space: a message's number, a space, and a clone's number.
+fn read_deliver(alloc: Global, rest: &[u8]) -> Result<Option<Command>, AllocError>
+    ensures { IfOk result (λ found. MatchOption found ((command : Command) → ¬ IsDeliverOf rest.now command) (λ command. IsDeliverOf rest.now command)) }
+{
+    let Some((message, number)) = split_at_space(rest) else {
+        return Ok(None);
+    };
+    let Some(message) = read_number(alloc, message)? else {
+        return Ok(None);
+    };
+    let Some(number) = read_clone(alloc, number)? else {
+        return Ok(None);
+    };
+    Ok(Some(Command::Deliver(message, number)))
+}
+
+/// What follows `show` and a space: a clone's number.
+fn read_show(alloc: Global, rest: &[u8]) -> Result<Option<Command>, AllocError>
+    ensures { IfOk result (λ found. MatchOption found ((command : Command) → ¬ IsShowOf rest.now command) (λ command. IsShowOf rest.now command)) }
+{
+    Ok(read_clone(alloc, rest)?.map(Command::Show))
+}
+
+/// What follows `compare` and a space: two clones' numbers with a space between.
+fn read_compare(alloc: Global, rest: &[u8]) -> Result<Option<Command>, AllocError>
+    ensures { IfOk result (λ found. MatchOption found ((command : Command) → ¬ IsCompareOf rest.now command) (λ command. IsCompareOf rest.now command)) }
+{
+    let Some((number, other)) = split_at_space(rest) else {
+        return Ok(None);
+    };
+    let Some(number) = read_clone(alloc, number)? else {
+        return Ok(None);
+    };
+    let Some(other) = read_clone(alloc, other)? else {
+        return Ok(None);
+    };
+    Ok(Some(Command::Compare(number, other)))
+}

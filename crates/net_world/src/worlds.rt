@@ -1,0 +1,378 @@
+//! The world: 32 clones, and every message ever sent.
+ghost use Rattle.std.specs.Prelude.{◌≡◌, ◌<◌, ◌≤◌, length, vec_len, map, replicate, option_copied, IfOk, OnOk, MatchOption};
+ghost use Rattle.std.specs.List.{range_with_len};
+ghost use Rattle.mld_model.specs.World.{founded_path};
+ghost use Rattle.mld_model.specs.StandsFor.{id_of, founded_local};
+ghost use Rattle.net_world.specs.Words.{reply_of, reply_of_covering};
+ghost use Rattle.net_world.specs.Worlds.{nth_message, HasNextTick, IsNotForeign, IsNoneForeign, IsMissing, Sends, SetsAt, SetsTo, AnswersAt, DeliversTo, ShowsAt, ComparesAt, Writes, reply_of_answer};
+
+use crate::lines::Setup;
+use crate::replies::{Word, push_did, push_pairs, push_took, push_word};
+use crate::summaries::{Summary, summarize};
+use clone_core::{Covering, Done, Got, MldClone, ReceiveFault, UpdateFault};
+use mld_model::Command;
+use mld_ops::{Entry, Message};
+use rdf_terms::{Text, Triple};
+use std::alloc::{AllocError, Global};
+use std::marker::Model;
+use tree_clock::{Dot, Leaf, Path};
+use uuid::Uuid;
+
+/// How many clones there are.
+const CLONE_COUNT: u8 = 32;
+
+/// A world that runs.
+#[derive(Drop)]
+pub struct World {
+    domain: Text,
+    clones: Vec<Option<MldClone>>,
+    messages: Vec<Message>,
+    steps: u32,
+}
+
+impl Model for World {
+    ghost use Rattle.std.specs.Prelude.{◌≡◌, vec_len};
+    ghost use Rattle.mld_model.specs.StandsFor.{RunningWorld};
+
+    ghost Value = { RunningWorld };
+
+    ghost view = { λ w. record { domain = w.domain; clones = w.clones.items; messages = w.messages.items; steps = w.steps } };
+
+    ghost invariant = { λ w. vec_len w.clones ≡ 32 };
+}
+
+/// What a clone answers to a message.
+#[derive(Drop)]
+enum Answer {
+    /// There is no such clone.
+    Absent,
+    /// The clone received it.
+    Got(Got),
+    /// The clone would hold it back, and holds too many others.
+    HeldFull,
+}
+
+impl World {
+    ghost use Rattle.std.specs.Prelude.{◌≡◌, ◌+◌, ◌<◌, ◌≤◌, IfOk, OnOk};
+    ghost use Rattle.mld_model.specs.StandsFor.{founded_running};
+    ghost use Rattle.net_world.specs.Worlds.{IsStanding, HasCloneNumbers, Stepped};
+    ghost use Rattle.net_world.specs.Summaries.{Tells};
+
+    /// The founded world: the clones from 0 on are live, each with a leaf of its own, and the others are absent.
+    pub fn found(alloc: Global, setup: &Setup) -> Result<World, AllocError>
+        requires some { 1 ≤ setup.now.clones }
+        requires most { setup.now.clones ≤ 32 }
+        ensures { IfOk result (λ world. world ≡ founded_running setup.now.domain setup.now.clones) }
+    {
+        let clones = founded_clones(alloc, &setup.domain, setup.clones)?;
+        Ok(World {
+            domain: setup.domain.copy_in(alloc)?,
+            clones,
+            messages: Vec::new(alloc),
+            steps: 0,
+        })
+    }
+
+    /// What there is to tell of the world: of each world of the model that it stands for.
+    pub fn summary(&self, alloc: Global) -> Result<Summary, AllocError>
+        ensures { IfOk result (Tells self.now) }
+    {
+        summarize(alloc, self.clones.as_slice())
+    }
+
+    /// Does a command, and adds the text of its reply to the output. After an error the world may have done a part of it,
+    /// and is not used again.
+    pub fn step(
+        &mut self,
+        alloc: Global,
+        command: &Command,
+        out: &mut Vec<u8>,
+    ) -> Result<(), AllocError>
+        requires few { self.old.steps < 4294967295 }
+        requires standing { IsStanding self.old }
+        requires numbers { HasCloneNumbers command.now }
+        ensures done { OnOk result (Stepped self.old command.now self.new out.old.items out.new.items) }
+        ensures steps { OnOk result (self.new.steps ≡ self.old.steps + 1) }
+    {
+        self.steps += 1;
+        match command {
+            Command::Add(number, triple) => {
+                let messages = &mut self.messages;
+                set_to(
+                    alloc,
+                    &mut self.clones,
+                    messages,
+                    *number,
+                    triple,
+                    true,
+                    out,
+                )
+            }
+            Command::Remove(number, triple) => {
+                let messages = &mut self.messages;
+                set_to(
+                    alloc,
+                    &mut self.clones,
+                    messages,
+                    *number,
+                    triple,
+                    false,
+                    out,
+                )
+            }
+            Command::Deliver(message, number) => {
+                let messages = self.messages.as_slice();
+                deliver_to(alloc, &mut self.clones, messages, *message, *number, out)
+            }
+            Command::Show(number) => show(alloc, self.clones.as_slice(), *number, out),
+            Command::Compare(number, other) => {
+                compare(self.clones.as_slice(), *number, *other, out)
+            }
+        }
+    }
+}
+
+/// The clones of the founded world.
+fn founded_clones(
+    alloc: Global,
+    domain: &Text,
+    count: u8,
+) -> Result<Vec<Option<MldClone>>, AllocError>
+    requires { count ≤ 32 }
+    ensures { IfOk result (λ clones. clones.items ≡ map (founded_local domain.now count) (range_with_len 0 32)) }
+{
+    let mut clones = Vec::new(alloc);
+    for number in 0..CLONE_COUNT {
+        clones.push(founded_clone(alloc, domain, count, number)?)?;
+    }
+    Ok(clones)
+}
+
+/// A clone of the founded world, where it has one of that number.
+fn founded_clone(
+    alloc: Global,
+    domain: &Text,
+    count: u8,
+    number: u8,
+) -> Result<Option<MldClone>, AllocError>
+    requires { count ≤ 32 }
+    ensures { IfOk result (λ clone. clone ≡ founded_local domain.now count number) }
+{
+    if number >= count {
+        return Ok(None);
+    }
+    let leaf = Leaf::at(founded_path(count, number));
+    let id = id_of(number);
+    let domain = domain.copy_in(alloc)?;
+    Ok(Some(MldClone::with_leaf(alloc, leaf, id, domain, Vec::new(alloc))))
+}
+
+/// The id of a clone: the UUID whose number is the clone's.
+fn id_of(number: u8) -> Uuid
+    ensures { result ≡ id_of number }
+{
+    Uuid::from_u128(u128::from(number))
+}
+
+/// The leaf of a clone of the founded world.
+fn founded_path(count: u8, number: u8) -> Path
+    requires some { number < count }
+    requires room { count ≤ 32 }
+    ensures { result ≡ founded_path count number }
+{
+    if number == 0 {
+        zeros(count - 1)
+    } else {
+        zeros(number - 1).child(true)
+    }
+}
+
+/// The path of so many zeros.
+fn zeros(count: u8) -> Path
+    requires { count < 64 }
+    ensures { result ≡ replicate count 48 }
+{
+    let mut path = Path::root();
+    for _step in 0..count {
+        path = path.child(false);
+    }
+    path
+}
+
+/// Clone `number` inserts a triple, or deletes the pairs of it, and the entry of that is sent.
+fn set_to(
+    alloc: Global,
+    clones: &mut Vec<Option<MldClone>>,
+    messages: &mut Vec<Message>,
+    number: u8,
+    triple: &Triple,
+    present: bool,
+    out: &mut Vec<u8>,
+) -> Result<(), AllocError>
+    requires number { number < vec_len clones.old }
+    requires ticks { HasNextTick clones.old.items number }
+    ensures count { vec_len clones.new ≡ vec_len clones.old }
+    ensures ok { OnOk result (SetsTo clones.old.items messages.old.items number triple.now present clones.new.items messages.new.items out.old.items out.new.items) }
+{
+    match set_at(alloc, clones, number, triple, present)? {
+        None => push_word(out, Word::Absent),
+        Some(Done::Nothing) => push_word(out, Word::NoOperation),
+        Some(Done::Made(entry)) => send_operation(alloc, messages, entry, out),
+    }
+}
+
+/// Clone `number`, where it is live, makes the operation that inserts a triple, or the one that deletes the pairs of it.
+fn set_at(
+    alloc: Global,
+    clones: &mut Vec<Option<MldClone>>,
+    number: u8,
+    triple: &Triple,
+    present: bool,
+) -> Result<Option<Done>, AllocError>
+    requires number { number < vec_len clones.old }
+    requires ticks { HasNextTick clones.old.items number }
+    ensures count { vec_len clones.new ≡ vec_len clones.old }
+    ensures ok { IfOk result (λ made. MatchOption made (IsMissing clones.old.items clones.new.items number) (SetsAt clones.old.items clones.new.items number triple.now present)) }
+{
+    match &mut clones[usize::from(number)] {
+        None => Ok(None),
+        Some(clone) => match clone.set(alloc, triple, present) {
+            Ok(done) => Ok(Some(done)),
+            Err(UpdateFault::NoMemory) => Err(AllocError),
+            Err(UpdateFault::TicksSpent) => unreachable!(),
+        },
+    }
+}
+
+/// Sends the entry of an operation that was made: it is the next message, and the reply names its dot and its number.
+fn send_operation(
+    alloc: Global,
+    messages: &mut Vec<Message>,
+    entry: Entry,
+    out: &mut Vec<u8>,
+) -> Result<(), AllocError>
+    ensures { OnOk result (Sends messages.old.items entry messages.new.items out.old.items out.new.items) }
+{
+    let range = entry.range();
+    let dot = Dot {
+        path: range.path,
+        tick: range.last,
+    };
+    push_did(alloc, out, &dot, messages.len() + 1)?;
+    messages.push(Message::Range(entry))?;
+    Ok(())
+}
+
+/// The message of a number; the first has number 1.
+fn message_at(messages: &[Message], number: u64) -> Option<&Message>
+    ensures { option_copied result ≡ nth_message messages.now number }
+{
+    let before = number.checked_sub(1)?;
+    messages.get(usize::try_from(before).ok()?)
+}
+
+/// Message `message` comes to clone `number`.
+fn deliver_to(
+    alloc: Global,
+    clones: &mut Vec<Option<MldClone>>,
+    messages: &[Message],
+    message: u64,
+    number: u8,
+    out: &mut Vec<u8>,
+) -> Result<(), AllocError>
+    requires number { number < vec_len clones.old }
+    requires own { IsNoneForeign clones.old.items messages.now message number }
+    ensures count { vec_len clones.new ≡ vec_len clones.old }
+    ensures done { OnOk result (DeliversTo clones.old.items messages.now message number clones.new.items out.old.items out.new.items) }
+{
+    let Some(message) = message_at(messages, message) else {
+        return push_word(out, Word::NoMessage);
+    };
+    let answer = receive_at(alloc, clones, number, message)?;
+    push_answer(alloc, out, &answer)
+}
+
+/// Clone `number`, where it is live, receives a message.
+fn receive_at(
+    alloc: Global,
+    clones: &mut Vec<Option<MldClone>>,
+    number: u8,
+    message: &Message,
+) -> Result<Answer, AllocError>
+    requires number { number < vec_len clones.old }
+    requires own { IsNotForeign clones.old.items number message.now }
+    ensures count { vec_len clones.new ≡ vec_len clones.old }
+    ensures ok { IfOk result (AnswersAt clones.old.items clones.new.items number message.now) }
+{
+    match &mut clones[usize::from(number)] {
+        None => Ok(Answer::Absent),
+        Some(clone) => match clone.receive(alloc, message) {
+            Ok(got) => Ok(Answer::Got(got)),
+            Err(ReceiveFault::HeldFull) => Ok(Answer::HeldFull),
+            Err(ReceiveFault::NoMemory) => Err(AllocError),
+            Err(ReceiveFault::ForeignTick { .. }) => unreachable!(),
+        },
+    }
+}
+
+/// The reply that an answer is.
+fn push_answer(alloc: Global, out: &mut Vec<u8>, answer: &Answer) -> Result<(), AllocError>
+    ensures { OnOk result (Writes (reply_of_answer answer.now) out.old.items out.new.items) }
+{
+    match answer {
+        Answer::Absent => push_word(out, Word::Absent),
+        Answer::Got(Got::Took(ranges)) => push_took(alloc, out, ranges.as_slice()),
+        Answer::Got(Got::Held) => push_word(out, Word::Held),
+        Answer::Got(Got::Known) => push_word(out, Word::Known),
+        Answer::Got(Got::Ignored) => push_word(out, Word::Ignored),
+        Answer::HeldFull => push_word(out, Word::HeldFull),
+    }
+}
+
+/// Lists the pairs of clone `number`.
+fn show(
+    alloc: Global,
+    clones: &[Option<MldClone>],
+    number: u8,
+    out: &mut Vec<u8>,
+) -> Result<(), AllocError>
+    requires { number < length clones.now }
+    ensures { OnOk result (ShowsAt clones.now number out.old.items out.new.items) }
+{
+    match &clones[usize::from(number)] {
+        None => push_word(out, Word::Absent),
+        Some(clone) => push_pairs(alloc, out, clone.pairs()),
+    }
+}
+
+/// Compares the dots that two clones know.
+fn compare(
+    clones: &[Option<MldClone>],
+    number: u8,
+    other: u8,
+    out: &mut Vec<u8>,
+) -> Result<(), AllocError>
+    requires first { number < length clones.now }
+    requires second { other < length clones.now }
+    ensures { OnOk result (ComparesAt clones.now number other out.old.items out.new.items) }
+{
+    let Some(first) = &clones[usize::from(number)] else {
+        return push_word(out, Word::Absent);
+    };
+    let Some(second) = &clones[usize::from(other)] else {
+        return push_word(out, Word::Absent);
+    };
+    push_word(out, word_of(first.compare(second)))
+}
+
+/// The word for how the dots of two clones compare.
+fn word_of(covering: Covering) -> Word
+    ensures { reply_of result ≡ reply_of_covering covering }
+{
+    match covering {
+        Covering::Same => Word::Same,
+        Covering::Less => Word::Less,
+        Covering::More => Word::More,
+        Covering::Apart => Word::Apart,
+    }
+}
