@@ -1,4 +1,4 @@
-use Rattle.std.proofs.Common.{refl, sym, ◌∙◌}
+use Rattle.std.proofs.Common.{sym, ◌∙◌}
 use Rattle.std.proofs.lemmas.Bool.{false≢true}
 use Rattle.mld_ops.specs.Ready.{IsKnownEntry, IsReadyEntry}
 use Rattle.causal_buffer.proofs.Places.{none_fails, none_more}
@@ -9,8 +9,7 @@ pub returns-then-is_known : goal.returns-then-is_known
 returns-then-is_known c =
     let es = c.args.entries.now in
     let i = c.loop-entry.entry-index in
-    let known = c.args.known.now.ticks in
-    (
+    let known = c.args.known.now.ticks in (
       λ t. absurd (false≢true t),
       λ none. elim c.then-is_known.branch [
         | then-is_known-via-then-is_known w ↦ absurd (none_fails (IsKnownEntry known) es i c.entry-item.result c.loop-entry-test.true c.entry-item.is (c.is_known.ensures.0 w.if-is_known.true) none.0)
@@ -22,8 +21,7 @@ pub loop-entry-preserved : goal.loop-entry-preserved
 loop-entry-preserved c =
     let es = c.args.entries.now in
     let i = c.loop-entry.entry-index in
-    let known = c.args.known.now.ticks in
-    (
+    let known = c.args.known.now.ticks in (
       none_more (IsKnownEntry known) es i c.entry-item.result c.loop-entry-test.true c.entry-item.is c.loop-entry.invariant.0 (λ k. false≢true (sym c.if-is_known.false ∙ c.is_known.ensures.1 k)),
       none_more (IsReadyEntry known) es i c.entry-item.result c.loop-entry-test.true c.entry-item.is c.loop-entry.invariant.1 (λ k. false≢true (sym c.if-is_ready.false ∙ c.is_ready.ensures.1 k)),
     )

@@ -11,8 +11,7 @@ use Rattle.causal_buffer.proofs.held.Held.take_ready.Goals as goal
 pub returns-in_err-place-clause-none : goal.returns-in_err-place-clause-none
 returns-in_err-place-clause-none c =
     let ready = IsReadyEntry c.args.known.now.ticks in
-    let none = none_within ready c.deref.result.now c.in_err-place.ensures in
-    (
+    let none = none_within ready c.deref.result.now c.in_err-place.ensures in (
       λ _. subst (λ (xs : List EntryValue). HasNone ready xs) (c.deref.ensures.value ∙ c.self.view_is) none,
       λ _. rw c.from_residual.ensures refl,
     )
