@@ -1,6 +1,5 @@
 use Rattle.std.proofs.Common.{◌≡◌, ◌≢◌, ℕ, ◌<◌, ◌≤◌, List, length, get_or, not, refl, sym, ◌∙◌, ap, subst, arith}
 use Rattle.std.proofs.lemmas.Bool.{false≢true}
-use Rattle.std.proofs.lemmas.List.{get_or_default}
 use Rattle.tree_clock.proofs.ClockLemmas.{ticks_of-at, ticks_of-within_at, positive_at}
 use Rattle.tree_clock.specs.Clock.{ticks_of}
 use Rattle.tree_clock.specs.DotLaws.{path_eq-Decides}
@@ -29,11 +28,13 @@ returns c =
     ticks_of-within_at es ys q (λ k d l s.
     let it = c.loop-here.invariant k d (subst (λ (xs : List (List ℕ × ℕ)). length xs ≤ c.loop-here.here-index → k < c.loop-here.here-index) (sym same) (λ m. omega arith) c.loop-here-test.false) in
     subst (λ p. (get_or es k d).1 ≤ ticks_of ys p) s
-    (subst (λ (xs : List (List ℕ × ℕ)). (get_or xs k d).0 ≢ c.args.path.now → (get_or xs k d).1 ≤ ticks_of ys (get_or xs k d).0) same it (λ t. n (sym s ∙ t)))) in
-    (λ _. λ dot n cover. record {
-      positive = cover.positive;
-      within =
-          let w : ticks_of c.args.self.now.ticks dot.path ≤ ticks_of ys dot.path = subst (λ v. ticks_of v.ticks dot.path ≤ ticks_of ys dot.path) c.self.view_is (within dot.path n) in
-          let m = cover.within in
-          omega arith;
-    }, λ _. refl)
+    (subst (λ (xs : List (List ℕ × ℕ)). (get_or xs k d).0 ≢ c.args.path.now → (get_or xs k d).1 ≤ ticks_of ys (get_or xs k d).0) same it (λ t. n (sym s ∙ t)))) in (
+      λ _. λ dot n cover. record {
+        positive = cover.positive;
+        within =
+            let w : ticks_of c.args.self.now.ticks dot.path ≤ ticks_of ys dot.path = subst (λ v. ticks_of v.ticks dot.path ≤ ticks_of ys dot.path) c.self.view_is (within dot.path n) in
+            let m = cover.within in
+            omega arith;
+      },
+      λ _. refl,
+    )
