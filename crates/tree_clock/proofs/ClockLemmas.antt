@@ -223,3 +223,14 @@ merge_step now rest e q c a =
     (λ s. subst (λ p. max (ticks_of (raised now e.0 e.1) p) (ticks_of rest p) ≡ max (ticks_of now p) (ticks_of (e ∷ rest) p)) s
     (let f = ticks_of-head e.0 e.1 rest in let g = ticks_of-raised now e.0 e.1 c.ascending in let none = ticks_of-below e rest a.0 in omega arith))
     (λ l. away (λ s. less_apart q e.0 l (sym s)))
+
+-- no entry of the path has more ticks than there are at it
+pub ticks_of-within_at : (es ys : List (List ℕ × ℕ)) (path : List ℕ) → ((k : ℕ) (d : List ℕ × ℕ) → k < length es → (get_or es k d).0 ≡ path → (get_or es k d).1 ≤ ticks_of ys path) → ticks_of es path ≤ ticks_of ys path
+ticks_of-within_at [] ys q h = omega arith
+ticks_of-within_at (x ∷ es) ys q h =
+    let rest : ticks_of es q ≤ ticks_of ys q = ticks_of-within_at es ys q (λ k d l. h (suc k) d (omega arith)) in
+    let tail : ¬ (x.0 ≡ q) → ticks_of (x ∷ es) q ≤ ticks_of ys q = λ n. let e = ticks_of-tail x es q n in omega arith in
+    by_order x.0 q
+    (λ l. tail (less_apart x.0 q l))
+    (λ s. let f = h 0 x (omega arith) s in subst (λ p. ticks_of (x ∷ es) p ≤ ticks_of ys q) s (let e = ticks_of-head x.0 x.1 es in omega arith))
+    (λ l. tail (λ s. less_apart q x.0 l (sym s)))

@@ -1,5 +1,5 @@
 //! Clocks: finite maps from paths to ticks.
-ghost use Rattle.std.specs.Prelude.{◌≡◌, ℕ, ◌+◌, ◌-◌, ◌<◌, ◌≤◌, ◌↔◌, ◌++◌, ◌∷◌, [], List, length, max, IsTrue, IfOk, IfErr, OnOk, OnErr, IsOk, MatchBool, vec_len, vec_capacity};
+ghost use Rattle.std.specs.Prelude.{◌≡◌, ◌≢◌, ℕ, ◌+◌, ◌-◌, ◌<◌, ◌≤◌, ◌↔◌, ◌++◌, ◌∷◌, [], List, length, max, IsTrue, IfOk, IfErr, OnOk, OnErr, IsOk, MatchBool, vec_len, vec_capacity};
 ghost use Rattle.tree_clock.specs.Clock.{ticks_of, Covers, IsClock, HasRoom, RaisesTo};
 ghost use Rattle.tree_clock.specs.Entries.{IsFound, IsGap, raised};
 ghost use Rattle.tree_clock.specs.declared.dots.Dot.{Dot};
@@ -66,6 +66,19 @@ impl Clock {
     {
         for (path, ticks) in &self.entries {
             if other.ticks(path) < *ticks {
+                return false;
+            }
+        }
+        true
+    }
+
+    /// Whether each dot of this clock at another path than this one is one of the other's.
+    pub fn leq_elsewhere(&self, other: &Clock, path: &Path) -> bool
+        ensures { IsTrue result ↔ ((dot : Dot) → dot.path ≢ path.now
+            → Covers self.now.ticks dot → Covers other.now.ticks dot) }
+    {
+        for (here, ticks) in &self.entries {
+            if here != path && other.ticks(here) < *ticks {
                 return false;
             }
         }

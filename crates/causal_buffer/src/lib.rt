@@ -1,0 +1,12 @@
+//! Entries that came before what they rest on, which wait until it is known.
+#![tactic(auto)]
+
+mod faults;
+mod held;
+mod ready;
+#[cfg(test)]
+mod tests;
+
+pub use faults::HeldFault;
+pub use held::{HELD_LIMIT, Held, Kept};
+pub use ready::{is_known, is_ready};
