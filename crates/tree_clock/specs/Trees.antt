@@ -10,8 +10,8 @@ by_letter letter left right none = if letter == 48 then left else (if letter == 
 abbrev pub node_at : Tree → List ℕ → Option ℕ
 node_at (Leaf ticks) [] = Some ticks
 node_at (Leaf ticks) (letter ∷ path) = None
-node_at (Fork' ticks p left right) [] = Some ticks
-node_at (Fork' ticks p left right) (letter ∷ path) = by_letter letter (node_at left path) (node_at right path) None
+node_at (Fork' ticks p left q right) [] = Some ticks
+node_at (Fork' ticks p left q right) (letter ∷ path) = by_letter letter (node_at left path) (node_at right path) None
 
 -- there is a node at the path
 abbrev pub HasNode : Tree → List ℕ → Type 0
@@ -28,12 +28,12 @@ IsEmpty tree = (path : List ℕ) → ticks_at tree path ≡ 0
 -- the node has two sons
 abbrev pub HasSons : Tree → Type 0
 HasSons (Leaf ticks) = ⊥
-HasSons (Fork' ticks p left right) = Unit {0}
+HasSons (Fork' ticks p left q right) = Unit {0}
 
 -- how many letters lead to the deepest node
 abbrev pub height : Tree → ℕ
 height (Leaf ticks) = 0
-height (Fork' ticks p left right) = suc (max (height left) (height right))
+height (Fork' ticks p left q right) = suc (max (height left) (height right))
 
 -- the entries, each below the path
 abbrev pub under : List ℕ → List (List ℕ × ℕ) → List (List ℕ × ℕ)
@@ -47,7 +47,7 @@ entry_of path ticks = if ticks == 0 then [] else (path, ticks) ∷ []
 -- the paths with their ticks, by path
 abbrev pub listed : Tree → List (List ℕ × ℕ)
 listed (Leaf ticks) = entry_of [] ticks
-listed (Fork' ticks p left right) = entry_of [] ticks ++ (under (48 ∷ []) (listed left) ++ under (49 ∷ []) (listed right))
+listed (Fork' ticks p left q right) = entry_of [] ticks ++ (under (48 ∷ []) (listed left) ++ under (49 ∷ []) (listed right))
 
 -- the paths, each below the letter
 abbrev pub after : ℕ → List (List ℕ) → List (List ℕ)
@@ -57,7 +57,7 @@ after letter (path ∷ paths) = (letter ∷ path) ∷ after letter paths
 -- the paths of the nodes
 abbrev pub nodes : Tree → List (List ℕ)
 nodes (Leaf ticks) = [] ∷ []
-nodes (Fork' ticks p left right) = [] ∷ (after 48 (nodes left) ++ after 49 (nodes right))
+nodes (Fork' ticks p left q right) = [] ∷ (after 48 (nodes left) ++ after 49 (nodes right))
 
 -- no path has more ticks in the first tree than in the second
 abbrev pub IsWithin : Tree → Tree → Type 0

@@ -6,23 +6,12 @@ use crate::paths::Path;
 use std::alloc::{AllocError, Global};
 
 /// A node with its ticks, and its two sons if it forked.
-#[cycle(tree)]
 #[derive(Drop)]
 pub enum Tree {
     /// A node with no son.
     Leaf(u32),
-    /// A node with two sons.
-    Fork(u32, Box<Sons>),
-}
-
-/// The two sons of a node.
-#[cycle(tree)]
-#[derive(Drop)]
-pub struct Sons {
-    /// The son at the letter `0`.
-    pub zero: Tree,
-    /// The son at the letter `1`.
-    pub one: Tree,
+    /// A node with its sons at the letters `0` and `1`.
+    Fork(u32, Box<Tree>, Box<Tree>),
 }
 
 impl Tree {
@@ -32,7 +21,7 @@ impl Tree {
     {
         match self {
             Tree::Leaf(ticks) => *ticks,
-            Tree::Fork(ticks, _) => *ticks,
+            Tree::Fork(ticks, _, _) => *ticks,
         }
     }
 
@@ -43,7 +32,7 @@ impl Tree {
     {
         match self {
             Tree::Leaf(_) => empty,
-            Tree::Fork(_, sons) => { if one { &sons.one } else { &sons.zero } }
+            Tree::Fork(_, left, right) => { if one { right } else { left } }
         }
     }
 
@@ -57,11 +46,11 @@ impl Tree {
         }
         match self {
             Tree::Leaf(_) => 0,
-            Tree::Fork(_, sons) => {
+            Tree::Fork(_, zero, one) => {
                 if path.letter(depth) {
-                    sons.one.ticks(path, depth + 1)
+                    one.ticks(path, depth + 1)
                 } else {
-                    sons.zero.ticks(path, depth + 1)
+                    zero.ticks(path, depth + 1)
                 }
             }
         }
@@ -87,11 +76,11 @@ impl Tree {
     {
         match self {
             Tree::Leaf(_) => true,
-            Tree::Fork(_, sons) => {
-                if !sons.zero.leq(other.son(false, empty), empty) {
+            Tree::Fork(_, zero, one) => {
+                if !zero.leq(other.son(false, empty), empty) {
                     return false;
                 }
-                sons.one.leq(other.son(true, empty), empty)
+                one.leq(other.son(true, empty), empty)
             }
         }
     }
@@ -116,19 +105,17 @@ impl Tree {
         }
         match self {
             Tree::Leaf(_) => true,
-            Tree::Fork(_, sons) => {
+            Tree::Fork(_, zero, one) => {
                 if path.letter(depth) {
-                    if !sons.zero.leq(other.son(false, empty), empty) {
+                    if !zero.leq(other.son(false, empty), empty) {
                         return false;
                     }
-                    sons.one
-                        .leq_elsewhere(other.son(true, empty), empty, path, depth + 1)
+                    one.leq_elsewhere(other.son(true, empty), empty, path, depth + 1)
                 } else {
-                    if !sons.one.leq(other.son(true, empty), empty) {
+                    if !one.leq(other.son(true, empty), empty) {
                         return false;
                     }
-                    sons.zero
-                        .leq_elsewhere(other.son(false, empty), empty, path, depth + 1)
+                    zero.leq_elsewhere(other.son(false, empty), empty, path, depth + 1)
                 }
             }
         }
@@ -143,14 +130,9 @@ impl Tree {
     {
         if let Tree::Leaf(ticks) = self {
             let ticks = *ticks;
-            let sons = Box::new(
-                alloc,
-                Sons {
-                    zero: Tree::Leaf(0),
-                    one: Tree::Leaf(0),
-                },
-            )?;
-            *self = Tree::Fork(ticks, sons);
+            let zero = Box::new(alloc, Tree::Leaf(0))?;
+            let one = Box::new(alloc, Tree::Leaf(0))?;
+            *self = Tree::Fork(ticks, zero, one);
         }
         Ok(())
     }
@@ -167,13 +149,13 @@ impl Tree {
             return Ok(());
         }
         self.fork(alloc)?;
-        let Tree::Fork(_, sons) = self else {
+        let Tree::Fork(_, zero, one) = self else {
             unreachable!()
         };
         if path.letter(depth) {
-            sons.one.reserve(path, depth + 1, alloc)
+            one.reserve(path, depth + 1, alloc)
         } else {
-            sons.zero.reserve(path, depth + 1, alloc)
+            zero.reserve(path, depth + 1, alloc)
         }
     }
 
@@ -184,7 +166,7 @@ impl Tree {
     {
         match self {
             Tree::Leaf(own) => *own = (*own).max(ticks),
-            Tree::Fork(own, _) => *own = (*own).max(ticks),
+            Tree::Fork(own, _, _) => *own = (*own).max(ticks),
         }
     }
 
@@ -199,13 +181,13 @@ impl Tree {
             self.raise_own(ticks);
             return;
         }
-        let Tree::Fork(_, sons) = self else {
+        let Tree::Fork(_, zero, one) = self else {
             unreachable!()
         };
         if path.letter(depth) {
-            sons.one.raise(path, depth + 1, ticks);
+            one.raise(path, depth + 1, ticks);
         } else {
-            sons.zero.raise(path, depth + 1, ticks);
+            zero.raise(path, depth + 1, ticks);
         }
     }
 
@@ -217,13 +199,13 @@ impl Tree {
     {
         match self {
             Tree::Leaf(_) => Ok(()),
-            Tree::Fork(_, here) => {
+            Tree::Fork(_, zero, one) => {
                 into.fork(alloc)?;
-                let Tree::Fork(_, there) = into else {
+                let Tree::Fork(_, zero_there, one_there) = into else {
                     unreachable!()
                 };
-                here.zero.reserve_in(&mut there.zero, alloc)?;
-                here.one.reserve_in(&mut there.one, alloc)
+                zero.reserve_in(zero_there, alloc)?;
+                one.reserve_in(one_there, alloc)
             }
         }
     }
@@ -237,12 +219,12 @@ impl Tree {
         into.raise_own(self.own());
         match self {
             Tree::Leaf(_) => {}
-            Tree::Fork(_, here) => {
-                let Tree::Fork(_, there) = into else {
+            Tree::Fork(_, zero, one) => {
+                let Tree::Fork(_, zero_there, one_there) = into else {
                     unreachable!()
                 };
-                here.zero.raise_in(&mut there.zero);
-                here.one.raise_in(&mut there.one);
+                zero.raise_in(zero_there);
+                one.raise_in(one_there);
             }
         }
     }
@@ -255,9 +237,9 @@ impl Tree {
         push_entry(list, path, self.own())?;
         match self {
             Tree::Leaf(_) => Ok(()),
-            Tree::Fork(_, sons) => {
-                sons.zero.append_to(path.child(false), list)?;
-                sons.one.append_to(path.child(true), list)
+            Tree::Fork(_, zero, one) => {
+                zero.append_to(path.child(false), list)?;
+                one.append_to(path.child(true), list)
             }
         }
     }
@@ -269,10 +251,10 @@ impl Tree {
     {
         match self {
             Tree::Leaf(ticks) => Ok(Tree::Leaf(*ticks)),
-            Tree::Fork(ticks, sons) => {
-                let zero = sons.zero.copy_in(alloc)?;
-                let one = sons.one.copy_in(alloc)?;
-                Ok(Tree::Fork(*ticks, Box::new(alloc, Sons { zero, one })?))
+            Tree::Fork(ticks, zero, one) => {
+                let zero = Box::new(alloc, zero.copy_in(alloc)?)?;
+                let one = Box::new(alloc, one.copy_in(alloc)?)?;
+                Ok(Tree::Fork(*ticks, zero, one))
             }
         }
     }
