@@ -125,6 +125,11 @@ under-append : (path : List ℕ) (xs ys : List (List ℕ × ℕ)) → under path
 under-append path [] ys = refl
 under-append path (x ∷ xs) ys = ap (λ es. (path ++ x.0, x.1) ∷ es) (under-append path xs ys)
 
+-- below the root is as before
+pub under-root : (es : List (List ℕ × ℕ)) → under [] es ≡ es
+under-root [] = refl
+under-root (e ∷ es) = ap (λ ds. e ∷ ds) (under-root es)
+
 under-under : (path rest : List ℕ) (es : List (List ℕ × ℕ)) → under path (under rest es) ≡ under (path ++ rest) es
 under-under path rest [] = refl
 under-under path rest (e ∷ es) = λ i. (sym (append_assoc path rest e.0) i, e.1) ∷ under-under path rest es i

@@ -143,7 +143,7 @@ impl Tree {
         ensures grows { Grows self.old self.new }
         ensures ok { OnOk result (HasNode self.new (drop depth path.now)) }
         ensures succeeds { HasNode self.old (drop depth path.now) → IsOk result }
-        ensures height { height self.new ≤ max (height self.old) (length path.now - depth) }
+        ensures height { height self.new ≤ max (height self.old) (64 - depth) }
     {
         if depth == path.len() {
             return Ok(());
