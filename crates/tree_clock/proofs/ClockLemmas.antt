@@ -102,19 +102,19 @@ dots_listed false xs ys h =
 pub dots_elsewhere : (r : Bool) (but : List ℕ) (a b : Tree) → MatchBool r (IsWithinBut but a b) (ExceedsBut but a b) → IsTrue r ↔ ((dot : Dot) → dot.path ≢ but → Covers (listed a) dot → Covers (listed b) dot)
 dots_elsewhere true but a b h = (
   λ _ dot n c.
-    let e = ticks_of-listed a dot.path in
-    let f = ticks_of-listed b dot.path in
-    let k = h dot.path n in
-    let w = c.within in record { positive = c.positive; within = omega arith },
+      let e = ticks_of-listed a dot.path in
+      let f = ticks_of-listed b dot.path in
+      let k = h dot.path n in
+      let w = c.within in record { positive = c.positive; within = omega arith },
   λ _. refl,
 )
 dots_elsewhere false but a b h = (
   λ f. absurd (false≢true f),
   λ all.
-    let e = ticks_of-listed a h.0 in
-    let f = ticks_of-listed b h.0 in
-    let more = h.2 in
-    let ticks = ticks_at a h.0 in
-    let c = all (record { path = h.0; tick = ticks }) h.1 (record { positive = omega arith; within = omega arith }) in
-    let w = c.within in absurd (omega arith),
+      let e = ticks_of-listed a h.0 in
+      let f = ticks_of-listed b h.0 in
+      let more = h.2 in
+      let ticks = ticks_at a h.0 in
+      let c = all (record { path = h.0; tick = ticks }) h.1 (record { positive = omega arith; within = omega arith }) in
+      let w = c.within in absurd (omega arith),
 )

@@ -3,10 +3,11 @@ use Rattle.tree_clock.specs.Trees.{ticks_at}
 use Rattle.tree_clock.proofs.trees.Tree.+leq_elsewhere.Goals as goal
 
 pub returns-then-own : goal.returns-then-own
-returns-then-own t c =
-    ([],
-    λ e.
+returns-then-own t c = (
+  [],
+  λ e.
       let long = ap length e in
       let rest = length-drop c.args.depth c.args.path.now in
       absurd (omega arith),
-    omega arith)
+  omega arith,
+)
