@@ -1,5 +1,5 @@
 -- Trees of ticks: what a change of a son, or of both, says of the whole tree, and the lists of a tree's ticks and nodes.
-use Rattle.std.proofs.Common.{◌≡◌, ◌≢◌, ℕ, zero, suc, ◌+◌, ◌<◌, ◌≤◌, List, [], ◌∷◌, ◌++◌, ◌⊎◌, ◌↔◌, Bool, true, false, cond, ◌==◌, eqb, if◌then◌else◌, Option, Some, None, unwrap_or, IsSome, length, drop, slice_index, nat_eq, append_assoc, refl, sym, ◌∙◌, ap, subst, inl, inr, ⊎_elim, arith}
+use Rattle.std.proofs.Common.{◌≡◌, ◌≢◌, ℕ, zero, suc, ◌+◌, ◌<◌, ◌≤◌, List, [], ◌∷◌, ◌++◌, ◌⊎◌, ◌↔◌, Bool, true, false, cond, ◌==◌, if◌then◌else◌, Option, Some, None, unwrap_or, IsSome, length, drop, slice_index, nat_eq, append_assoc, refl, sym, ◌∙◌, ap, subst, inl, inr, ⊎_elim, arith}
 use Rattle.std.specs.Cmp.{tied_itself}
 use Rattle.std.specs.Cmp.Lexicographic.{pointwise}
 use Rattle.std.specs.List.{AllByRecursion}
@@ -11,7 +11,7 @@ use Rattle.tree_clock.specs.ClockLaws.{ticks_of-tail, clock_from_ticks}
 use Rattle.tree_clock.specs.Lists.{Has, IsBelowAll, IsAscending}
 use Rattle.tree_clock.specs.Path.{path_cmp}
 use Rattle.tree_clock.specs.declared.trees.Tree.{Tree, Leaf, Fork'}
-use Rattle.tree_clock.specs.Trees.{by_letter, node_at, HasNode, ticks_at, HasSons, under, entry_of, listed, after, nodes, IsKept, Grows, HasNodesOf, raised_node, RaisesNode}
+use Rattle.tree_clock.specs.Trees.{by_letter, node_at, HasNode, ticks_at, under, entry_of, listed, after, nodes, IsKept, Grows, HasNodesOf, RaisesNode}
 
 -- ---- paths
 

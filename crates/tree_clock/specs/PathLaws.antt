@@ -1,5 +1,5 @@
 -- What follows of prefixes, and of paths that are apart.
-use Rattle.std.proofs.Common.{◌≡◌, ◌≢◌, ℕ, suc, ◌+◌, List, [], ◌∷◌, ◌++◌, ◌⊎◌, length, length-append, refl, sym, ◌∙◌, ap, inl, inr, ⊎_elim, append_assoc, arith}
+use Rattle.std.proofs.Common.{◌≡◌, ◌≢◌, ℕ, List, [], ◌∷◌, ◌++◌, ◌⊎◌, length, length-append, refl, sym, ◌∙◌, ap, inl, inr, ⊎_elim, append_assoc, arith}
 use Rattle.tree_clock.specs.Path.{IsPrefix, AreApart}
 
 -- two fronts of one path: one of them is a prefix of the other

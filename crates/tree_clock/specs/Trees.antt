@@ -1,5 +1,5 @@
 -- Trees of ticks, as the functions on them see them. A node is named by the letters that lead down to it.
-use Rattle.std.specs.Prelude.{◌≡◌, ℕ, suc, ◌<◌, ◌≤◌, Bool, List, [], ◌∷◌, ◌++◌, Option, Some, None, IsSome, unwrap_or, ◌==◌, if◌then◌else◌, max}
+use Rattle.std.specs.Prelude.{◌≡◌, ℕ, suc, ◌<◌, ◌≤◌, List, [], ◌∷◌, ◌++◌, Option, Some, None, IsSome, unwrap_or, ◌==◌, if◌then◌else◌, max}
 use Rattle.tree_clock.specs.declared.trees.Tree.{Tree, Leaf, Fork'}
 
 -- what a letter picks: one at `0`, another at `1`, and the last at any other

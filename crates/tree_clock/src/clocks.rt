@@ -122,6 +122,7 @@ impl Clock {
     /// A copy.
     pub fn copy_in(&self, alloc: Global) -> Result<Clock, AllocError>
         ensures ok { IfOk result (λ copy. copy.ticks ≡ self.now.ticks) }
+        ensures room { IfOk result (λ copy. copy.room ≡ self.now.room) }
         ensures clock { IsClock self.now.ticks }
     {
         Ok(Clock {

@@ -1,6 +1,6 @@
 //! Trees of ticks: each node has the ticks of one path, and a node that forked has two sons.
 ghost use Rattle.std.specs.Prelude.{◌≡◌, ℕ, ◌+◌, ◌-◌, ◌≤◌, ◌++◌, ◌∷◌, [], List, drop, length, max, IfOk, OnOk, IsOk, MatchBool, if◌then◌else◌};
-ghost use Rattle.tree_clock.specs.Trees.{ticks_at, HasNode, IsEmpty, HasSons, height, under, entry_of, listed, IsWithin, Exceeds, IsWithinBut, ExceedsBut, Grows, HasNodesOf, node_at, raised_node, RaisesNode};
+ghost use Rattle.tree_clock.specs.Trees.{ticks_at, HasNode, IsEmpty, HasSons, height, under, entry_of, listed, nodes, IsWithin, Exceeds, IsWithinBut, ExceedsBut, Grows, HasNodesOf, node_at, raised_node, RaisesNode};
 
 use crate::paths::Path;
 use std::alloc::{AllocError, Global};
@@ -62,10 +62,7 @@ impl Tree {
         requires { IsEmpty empty.now }
         ensures { MatchBool result (IsWithin self.now other.now) (Exceeds self.now other.now) }
     {
-        if self.own() > other.own() {
-            return false;
-        }
-        self.sons_leq(other, empty)
+        self.own() <= other.own() && self.sons_leq(other, empty)
     }
 
     // Whether no path below the node has more ticks here than there.
@@ -77,10 +74,7 @@ impl Tree {
         match self {
             Tree::Leaf(_) => true,
             Tree::Fork(_, zero, one) => {
-                if !zero.leq(other.son(false, empty), empty) {
-                    return false;
-                }
-                one.leq(other.son(true, empty), empty)
+                zero.leq(other.son(false, empty), empty) && one.leq(other.son(true, empty), empty)
             }
         }
     }
@@ -247,6 +241,7 @@ impl Tree {
     /// A copy.
     pub fn copy_in(&self, alloc: Global) -> Result<Tree, AllocError>
         ensures ticks { IfOk result (λ copy. listed copy ≡ listed self.now) }
+        ensures nodes { IfOk result (λ copy. nodes copy ≡ nodes self.now) }
         ensures height { IfOk result (λ copy. height copy ≡ height self.now) }
     {
         match self {

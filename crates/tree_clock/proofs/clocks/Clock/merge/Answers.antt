@@ -1,7 +1,7 @@
-use Rattle.std.proofs.Common.{◌≡◌, ℕ, List, max, OnErr, ◌∙◌, ap, subst}
+use Rattle.std.proofs.Common.{◌≡◌, ℕ, List, max, ◌∙◌, ap, subst}
 use Rattle.tree_clock.specs.Clock.{ticks_of, ClockValue, HasRoom}
 use Rattle.tree_clock.specs.Lists.{Has}
-use Rattle.tree_clock.specs.Trees.{HasNode, listed, nodes}
+use Rattle.tree_clock.specs.Trees.{listed, nodes}
 use Rattle.tree_clock.proofs.ClockLemmas.{Has-kept, Has-grown, HasNode-merged, listed-grown, ticks_of-merged, on_err_always}
 use Rattle.tree_clock.proofs.TreeLemmas.{HasNode-grown}
 use Rattle.tree_clock.proofs.clocks.Clock.merge.Goals as goal

@@ -1,4 +1,4 @@
-use Rattle.std.proofs.Common.{◌≡◌, ℕ, ◌++◌, ◌∷◌, [], List, sym, subst}
+use Rattle.std.proofs.Common.{sym, subst}
 use Rattle.tree_clock.specs.Path.{AreApart}
 use Rattle.tree_clock.specs.PathLaws.{apart_from_son}
 use Rattle.tree_clock.proofs.leaves.Leaf.fork.Goals as goal

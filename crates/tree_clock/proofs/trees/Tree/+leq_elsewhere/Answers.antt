@@ -1,5 +1,4 @@
-use Rattle.std.proofs.Common.{◌≡◌, ℕ, ◌<◌, [], List, length, drop, sym, ◌∙◌, ap, subst, arith, length-drop}
-use Rattle.tree_clock.specs.Trees.{ticks_at}
+use Rattle.std.proofs.Common.{[], length, ap, arith, length-drop}
 use Rattle.tree_clock.proofs.trees.Tree.+leq_elsewhere.Goals as goal
 
 pub returns-then-own : goal.returns-then-own

@@ -1,4 +1,4 @@
-use Rattle.std.proofs.Common.{◌≡◌, ℕ, ◌+◌, ◌<◌, ◌∷◌, [], List, slice_index, drop, length, sym, ◌∙◌, ap, subst, arith}
+use Rattle.std.proofs.Common.{◌≡◌, ◌+◌, slice_index, drop, subst, arith}
 use Rattle.tree_clock.specs.declared.trees.Tree.{Tree}
 use Rattle.tree_clock.specs.Trees.{RaisesNode}
 use Rattle.tree_clock.proofs.TreeLemmas.{drop_letter, RaisesNode-zero, RaisesNode-one}

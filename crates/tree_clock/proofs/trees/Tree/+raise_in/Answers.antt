@@ -1,7 +1,6 @@
-use Rattle.std.proofs.Common.{◌≡◌, ℕ, ◌∷◌, [], List, ap, arith}
+use Rattle.std.proofs.Common.{◌∷◌, [], ap, arith}
 use Rattle.std.proofs.lemmas.Bool.{false≢true}
-use Rattle.tree_clock.specs.declared.trees.Tree.{Tree}
-use Rattle.tree_clock.specs.Trees.{HasNode, HasNodesOf, height}
+use Rattle.tree_clock.specs.Trees.{height}
 use Rattle.tree_clock.proofs.TreeLemmas.{HasNode-root, HasNodesOf-raised}
 use Rattle.tree_clock.proofs.trees.Tree.+raise_in.Goals as goal
 

@@ -1,6 +1,5 @@
-use Rattle.std.proofs.Common.{◌≡◌, ℕ, ◌≤◌, [], List, length, drop, arith}
+use Rattle.std.proofs.Common.{◌≡◌, [], drop, arith}
 use Rattle.std.proofs.lemmas.List.{drop_all}
-use Rattle.tree_clock.specs.Trees.{HasNode}
 use Rattle.tree_clock.proofs.TreeLemmas.{HasNode-root}
 use Rattle.tree_clock.proofs.trees.Tree.+reserve.Goals as goal
 
