@@ -61,30 +61,6 @@ RaisesNode-one n {p} {q} {p'} {q'} left right right' path ticks h = record {
 
 -- ---- growth
 
--- a tree has its own nodes
-IsKept-same : (node : Option ℕ) → IsKept node node
-IsKept-same None = refl
-IsKept-same (Some ticks) = refl
-
-pub Grows-same : (tree : Tree) → Grows tree tree
-Grows-same tree path = IsKept-same (node_at tree path)
-
-IsKept-trans : (a b c : Option ℕ) → IsKept a b → IsKept b c → IsKept a c
-IsKept-trans None None c h k = k
-IsKept-trans None (Some ticks) c h k = ap (λ o. unwrap_or o 0) k ∙ h
-IsKept-trans (Some ticks) b c h k = let e = subst (λ o. IsKept o c) h k in e
-
-pub Grows-trans : (a b c : Tree) → Grows a b → Grows b c → Grows a c
-Grows-trans a b c h k path = IsKept-trans (node_at a path) (node_at b path) (node_at c path) (h path) (k path)
-
--- both sons grow
-pub Grows-sons : (n : ℕ) (p q p' q' : _) (left right left' right' : Tree) → Grows left left' → Grows right right' → Grows (Fork' n p left q right) (Fork' n p' left' q' right')
-Grows-sons n p q p' q' left right left' right' h k =
-    at_letters
-    (λ path. IsKept (node_at (Fork' n p left q right) path) (node_at (Fork' n p' left' q' right') path))
-    refl h k
-    (λ x rest a b. rw (ne_eqb x 48 a, ne_eqb x 49 b) refl)
-
 -- what grows keeps each path's ticks
 pub ticks_at-grown : (old new : Tree) (path : List ℕ) → Grows old new → ticks_at new path ≡ ticks_at old path
 ticks_at-grown old new path h = by (node_at old path) (node_at new path) (h path)

@@ -1,4 +1,5 @@
 -- Trees of ticks, as the functions on them see them. A node is named by the letters that lead down to it.
+-- A definition by cases reads `Fork'`, which has each `Box` in two parts: p and q are its pointer and allocator, and the son is beside them.
 use Rattle.std.specs.Prelude.{◌≡◌, ℕ, suc, ◌<◌, ◌≤◌, List, [], ◌∷◌, ◌++◌, Option, Some, None, IsSome, unwrap_or, ◌==◌, if◌then◌else◌, max}
 use Rattle.tree_clock.specs.declared.trees.Tree.{Tree, Leaf, Fork'}
 

@@ -1,5 +1,6 @@
 //! Leaves: the right to use a path's ticks, which a fork shares out.
-ghost use Rattle.std.specs.Prelude.{◌≡◌, ℕ, ◌↔◌, ◌++◌, ◌∷◌, [], List, length, IfOk, IfErr, is_ok, false};
+ghost use Rattle.std.specs.Prelude.{◌≡◌, ℕ, ◌↔◌, ◌++◌, ◌∷◌, [], List, length, IfOk, IfErr};
+ghost use Rattle.std.specs.Result.{IsErr};
 ghost use Rattle.tree_clock.specs.Path.{AreApart};
 
 use crate::paths::Path;
@@ -59,7 +60,7 @@ impl Leaf {
             → IfOk result (λ sons. AreApart sons.0 other × AreApart sons.1 other) }
 
         // A leaf of 64 letters, and no other, comes back.
-        ensures deep { (is_ok result ≡ false) ↔ (length self ≡ 64) }
+        ensures deep { IsErr result ↔ (length self ≡ 64) }
         ensures leaf { IfErr result (λ deep. deep.leaf ≡ self) }
     {
         if self.path.len() == 64 {
