@@ -1,3 +1,4 @@
 pub mod PathLemmas
 pub mod DotLemmas
+pub mod TreeLemmas
 pub mod ClockLemmas

@@ -7,9 +7,8 @@ use Rattle.std.specs.declared.cmp.Ordering.{Ordering}
 use Rattle.std.specs.declared.cmp.Ordering.TheVariants.{Less, Equal, Greater}
 use Rattle.std.proofs.lemmas.Bool.{cases_lt}
 use Rattle.tree_clock.specs.declared.dots.Dot.{Dot}
-use Rattle.tree_clock.specs.Clock.{ticks_of, Covers, IsClock, RaisesTo}
+use Rattle.tree_clock.specs.Clock.{ticks_of, Covers, entry_cmp, IsClock, RaisesTo}
 use Rattle.tree_clock.specs.DotLaws.{path_total, path_exact, path_eq-Decides}
-use Rattle.tree_clock.specs.Entries.{entry_cmp}
 use Rattle.tree_clock.specs.Lists.{IsBelowAll, IsAscending}
 use Rattle.tree_clock.specs.Path.{path_cmp}
 

@@ -1,8 +1,9 @@
 pub mod Lists
 pub mod Path
 pub mod Letters
+pub mod PathLaws
+pub mod Trees
 pub mod Dot
 pub mod DotLaws
 pub mod Clock
-pub mod Entries
 pub mod ClockLaws

@@ -1,29 +1,31 @@
 //! Clocks: finite maps from paths to ticks.
-ghost use Rattle.std.specs.Prelude.{◌≡◌, ◌≢◌, ℕ, ◌+◌, ◌-◌, ◌<◌, ◌≤◌, ◌↔◌, ◌++◌, ◌∷◌, [], List, length, max, IsTrue, IfOk, IfErr, OnOk, OnErr, IsOk, MatchBool, vec_len, vec_capacity};
+ghost use Rattle.std.specs.Prelude.{◌≡◌, ◌≢◌, ℕ, ◌<◌, ◌≤◌, ◌↔◌, [], List, max, IsTrue, IfOk, OnOk, OnErr, IsOk, MatchBool};
 ghost use Rattle.tree_clock.specs.Clock.{ticks_of, Covers, IsClock, HasRoom, RaisesTo};
-ghost use Rattle.tree_clock.specs.Entries.{IsFound, IsGap, raised};
 ghost use Rattle.tree_clock.specs.declared.dots.Dot.{Dot};
 
 use crate::dots::Dot;
 use crate::paths::Path;
+use crate::trees::Tree;
 use std::alloc::{AllocError, Global};
 use std::marker::Model;
 
 /// A clock. It stands for the dots of each of its paths from tick 1 to the path's ticks.
 #[derive(Drop)]
 pub struct Clock {
-    entries: Vec<(Path, u32)>,
+    root: Tree,
+    alloc: Global,
 }
 
 impl Model for Clock {
-    ghost use Rattle.std.specs.Prelude.{◌-◌, vec_len, vec_capacity};
-    ghost use Rattle.tree_clock.specs.Clock.{ClockValue, IsClock};
+    ghost use Rattle.std.specs.Prelude.{◌≤◌};
+    ghost use Rattle.tree_clock.specs.Clock.{ClockValue};
+    ghost use Rattle.tree_clock.specs.Trees.{listed, nodes, height};
 
     ghost Value = { ClockValue };
 
-    ghost view = { λ c. record { ticks = c.entries.items; room = vec_capacity c.entries - vec_len c.entries } };
+    ghost view = { λ clock. record { ticks = listed clock.root; room = nodes clock.root } };
 
-    ghost invariant = { λ c. IsClock c.entries.items };
+    ghost invariant = { λ clock. height clock.root ≤ 64 };
 }
 
 impl Clock {
@@ -32,19 +34,18 @@ impl Clock {
         ensures { result.ticks ≡ [] }
     {
         Clock {
-            entries: Vec::new(alloc),
+            root: Tree::Leaf(0),
+            alloc,
         }
     }
 
     /// The ticks of a path, 0 where the clock lacks it.
     pub fn ticks(&self, path: &Path) -> u32
         ensures value { result ≡ ticks_of self.now.ticks path.now }
+        ensures known { 1 ≤ ticks_of self.now.ticks path.now → HasRoom self.now path.now }
         ensures clock { IsClock self.now.ticks }
     {
-        match find(&self.entries, path) {
-            Ok(place) => self.entries[place].1,
-            Err(_) => 0,
-        }
+        self.root.ticks(path, 0)
     }
 
     /// Whether the dot is one of the clock's.
@@ -64,25 +65,17 @@ impl Clock {
             ((path : List ℕ) → ticks_of self.now.ticks path ≤ ticks_of other.now.ticks path)
             ((path : List ℕ) × (ticks_of other.now.ticks path < ticks_of self.now.ticks path)) }
     {
-        for (path, ticks) in &self.entries {
-            if other.ticks(path) < *ticks {
-                return false;
-            }
-        }
-        true
+        let empty = Tree::Leaf(0);
+        self.root.leq(&other.root, &empty)
     }
 
     /// Whether each dot of this clock at another path than this one is one of the other's.
     pub fn leq_elsewhere(&self, other: &Clock, path: &Path) -> bool
-        ensures { IsTrue result ↔ ((dot : Dot) → dot.path ≢ path.now
-            → Covers self.now.ticks dot → Covers other.now.ticks dot) }
+        ensures { IsTrue result
+            ↔ ((dot : Dot) → dot.path ≢ path.now → Covers self.now.ticks dot → Covers other.now.ticks dot) }
     {
-        for (here, ticks) in &self.entries {
-            if here != path && other.ticks(here) < *ticks {
-                return false;
-            }
-        }
-        true
+        let empty = Tree::Leaf(0);
+        self.root.leq_elsewhere(&other.root, &empty, path, 0)
     }
 
     /// Makes room for the ticks of a path, so that `raise` may be called.
@@ -90,23 +83,18 @@ impl Clock {
         ensures ticks { self.new.ticks ≡ self.old.ticks }
         ensures ok { OnOk result (HasRoom self.new path.now) }
         ensures succeeds { HasRoom self.old path.now → IsOk result }
-        ensures room { self.old.room ≤ self.new.room }
+        ensures keeps { (other : List ℕ) → HasRoom self.old other → HasRoom self.new other }
     {
-        if self.ticks(path) == 0 {
-            self.entries.reserve(1)?;
-        }
-        Ok(())
+        self.root.reserve(path, 0, self.alloc)
     }
 
     /// Raises the ticks of the dot's path to its tick, where they are fewer. It takes no memory.
     pub fn raise(&mut self, dot: &Dot)
         requires { HasRoom self.old dot.now.path }
         ensures raised { RaisesTo self.old.ticks self.new.ticks dot.now }
-        ensures room { self.old.room ≤ self.new.room + 1 }
+        ensures keeps { (other : List ℕ) → HasRoom self.old other → HasRoom self.new other }
     {
-        if dot.tick > 0 {
-            raise_entry(&mut self.entries, &dot.path, dot.tick);
-        }
+        self.root.raise(&dot.path, 0, dot.tick);
     }
 
     /// Takes in the dots of another clock.
@@ -114,11 +102,10 @@ impl Clock {
         ensures ok { OnOk result ((path : List ℕ) → ticks_of self.new.ticks path
             ≡ max (ticks_of self.old.ticks path) (ticks_of other.now.ticks path)) }
         ensures err { OnErr result (self.new.ticks ≡ self.old.ticks) }
+        ensures keeps { (path : List ℕ) → HasRoom self.old path → HasRoom self.new path }
     {
-        self.entries.reserve(other.entries.len())?;
-        for (path, ticks) in &other.entries {
-            raise_entry(&mut self.entries, path, *ticks);
-        }
+        other.root.reserve_in(&mut self.root, self.alloc)?;
+        other.root.raise_in(&mut self.root);
         Ok(())
     }
 
@@ -127,44 +114,21 @@ impl Clock {
         ensures ok { IfOk result (λ list. list.items ≡ self.now.ticks) }
         ensures clock { IsClock self.now.ticks }
     {
-        Vec::from_slice(alloc, self.entries.as_slice())
+        let mut list = Vec::new(alloc);
+        self.root.append_to(Path::root(), &mut list)?;
+        Ok(list)
     }
 
     /// A copy.
     pub fn copy_in(&self, alloc: Global) -> Result<Clock, AllocError>
         ensures ok { IfOk result (λ copy. copy.ticks ≡ self.now.ticks) }
+        ensures room { IfOk result (λ copy. copy.room ≡ self.now.room) }
         ensures clock { IsClock self.now.ticks }
     {
         Ok(Clock {
-            entries: self.to_list(alloc)?,
+            root: self.root.copy_in(alloc)?,
+            alloc,
         })
-    }
-}
-
-// Where the path's entry is, or where it would go.
-fn find(entries: &[(Path, u32)], path: &Path) -> Result<usize, usize>
-    requires { IsClock entries.now }
-    ensures found { IfOk result (IsFound entries.now path.now) }
-    ensures gap { IfErr result (IsGap entries.now path.now) }
-{
-    entries.binary_search_by_key(path, |entry| entry.0)
-}
-
-// Raises the path's ticks, where they are fewer. There is room.
-fn raise_entry(entries: &mut Vec<(Path, u32)>, path: &Path, ticks: u32)
-    requires clock { IsClock entries.old.items }
-    requires positive { 1 ≤ ticks }
-    requires room { ticks_of entries.old.items path.now ≡ 0 → vec_len entries.old < vec_capacity entries.old }
-    ensures items { entries.new.items ≡ raised entries.old.items path.now ticks }
-    ensures len { vec_len entries.new ≤ vec_len entries.old + 1 }
-    ensures capacity { vec_capacity entries.old ≤ vec_capacity entries.new }
-{
-    match find(entries, path) {
-        Ok(place) => {
-            let had = entries[place].1;
-            entries[place].1 = had.max(ticks);
-        }
-        Err(place) => entries.insert(place, (*path, ticks)).unwrap(),
     }
 }
 

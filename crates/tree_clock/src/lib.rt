@@ -1,12 +1,17 @@
-//! Paths, dots, ranges of dots and clocks, in the manner of interval tree clocks.
+//! Paths, leaves, dots, ranges of dots and clocks, in the manner of interval tree clocks.
 #![tactic(auto)]
 
 mod clocks;
 mod dots;
+mod leaves;
 mod paths;
+#[cfg(test)]
+mod plain_list;
 mod range_lists;
+mod trees;
 
 pub use clocks::Clock;
 pub use dots::{Dot, Range};
+pub use leaves::{Deep, Leaf};
 pub use paths::Path;
 pub use range_lists::{Ranges, knows};

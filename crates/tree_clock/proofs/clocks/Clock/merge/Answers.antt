@@ -1,37 +1,29 @@
-use Rattle.std.proofs.Common.{◌≡◌, ℕ, ◌+◌, ◌≤◌, ◌∷◌, List, drop, max, sym, ◌∙◌, ap, subst, arith}
-use Rattle.std.proofs.lemmas.List.{drop_more}
-use Rattle.tree_clock.proofs.ClockLemmas.{IsAscending-drop, IsClock-raised, positive_at, merge_step}
-use Rattle.tree_clock.specs.Clock.{ticks_of, IsClock}
-use Rattle.tree_clock.specs.Entries.{entry_cmp}
-use Rattle.tree_clock.specs.Lists.{IsAscending}
+use Rattle.std.proofs.Common.{◌≡◌, ℕ, List, max, ◌∙◌, ap, subst}
+use Rattle.tree_clock.specs.Clock.{ticks_of, ClockValue, HasRoom}
+use Rattle.tree_clock.specs.Lists.{Has}
+use Rattle.tree_clock.specs.Trees.{listed, nodes}
+use Rattle.tree_clock.proofs.ClockLemmas.{Has-kept, Has-grown, HasNode-merged, listed-grown, ticks_of-merged, on_err_always}
+use Rattle.tree_clock.proofs.TreeLemmas.{HasNode-grown}
 use Rattle.tree_clock.proofs.clocks.Clock.merge.Goals as goal
 
-pub loop-path-init : goal.loop-path-init
-loop-path-init c =
-    let old = c.reserve.ensures.items ∙ ap (λ v. v.ticks) c.self.view_is in
-    let taken = c.deref-path-items.ensures.value ∙ ap (λ v. v.ticks) c.other.view_is in
-    record {
-      clock = subst IsClock (sym c.reserve.ensures.items) c.self.invariant;
-      room = omega (arith, c.in_ok-reserve.ensures.ok, c.len.ensures, c.deref-path-items.ensures.len);
-      ticks = λ q i. max (ticks_of (old i) q) (ticks_of (taken i) q);
-    }
+pub returns-in_err-reserve_in-clause-err : goal.returns-in_err-reserve_in-clause-err
+returns-in_err-reserve_in-clause-err c =
+    on_err_always c.from_residual.result (listed-grown c.self.inside.root c.reserve_in.new.into c.reserve_in.ensures.grows ∙ ap (λ (v : ClockValue). v.ticks) c.self.view_is)
 
-pub loop-path-preserved : goal.loop-path-preserved
-loop-path-preserved c =
-    let now = c.loop-path.self-inside.entries.items in
-    let xs = c.deref-path-items.result.now in
-    let i = c.loop-path.path-index in
-    let item = c.loop-path-item.result in
-    let clock : IsClock xs = subst IsClock (sym c.deref-path-items.ensures.value) c.other.invariant in
-    let positive : 1 ≤ item.1 = subst (λ (e : List ℕ × ℕ). 1 ≤ e.1) (sym c.loop-path-item.is) (positive_at xs i item clock c.loop-path-test.true) in
-    let rest : drop i xs ≡ item ∷ drop (i + 1) xs = drop_more xs i item c.loop-path-test.true ∙ ap (λ e. e ∷ drop (i + 1) xs) (sym c.loop-path-item.is) in
-    let ascending : IsAscending entry_cmp (item ∷ drop (i + 1) xs) = subst (IsAscending entry_cmp) rest (IsAscending-drop i xs clock.ascending) in
-    record {
-      clock = subst IsClock (sym c.raise_entry.ensures.items) (IsClock-raised now item.0 item.1 positive c.loop-path.invariant.clock);
-      room = omega (arith, c.raise_entry.ensures.len, c.raise_entry.ensures.capacity, c.loop-path.invariant.room, c.loop-path-test.true);
-      ticks = λ q.
-          ap (λ es. max (ticks_of es q) (ticks_of (drop (i + 1) xs) q)) c.raise_entry.ensures.items
-          ∙ merge_step now (drop (i + 1) xs) item q c.loop-path.invariant.clock ascending
-          ∙ ap (λ es. max (ticks_of now q) (ticks_of es q)) (sym rest)
-          ∙ c.loop-path.invariant.ticks q;
-    }
+pub returns-in_err-reserve_in-clause-keeps : goal.returns-in_err-reserve_in-clause-keeps
+returns-in_err-reserve_in-clause-keeps c =
+    subst (λ (v : ClockValue). (path : List ℕ) → HasRoom v path → Has (nodes c.reserve_in.new.into) path) c.self.view_is
+    (Has-grown c.self.inside.root c.reserve_in.new.into c.reserve_in.ensures.grows)
+
+pub returns-clause-ok : goal.returns-clause-ok
+returns-clause-ok c =
+    let new = listed c.raise_in.new.into in
+    subst (λ (v : ClockValue). (path : List ℕ) → ticks_of new path ≡ max (ticks_of v.ticks path) (ticks_of c.args.other.now.ticks path)) c.self.view_is
+    (subst (λ (w : ClockValue). (path : List ℕ) → ticks_of new path ≡ max (ticks_of (listed c.self.inside.root) path) (ticks_of w.ticks path)) c.other.view_is
+    (ticks_of-merged c.self.inside.root c.reserve_in.new.into c.raise_in.new.into c.other.inside.root c.reserve_in.ensures.grows c.in_ok-reserve_in.ensures.ok c.raise_in.ensures.raises))
+
+pub returns-clause-keeps : goal.returns-clause-keeps
+returns-clause-keeps c =
+    subst (λ (v : ClockValue). (path : List ℕ) → HasRoom v path → Has (nodes c.raise_in.new.into) path) c.self.view_is
+    (Has-kept c.self.inside.root c.raise_in.new.into (λ path h.
+    HasNode-merged c.reserve_in.new.into c.raise_in.new.into c.other.inside.root c.raise_in.ensures.raises path (HasNode-grown c.self.inside.root c.reserve_in.new.into path c.reserve_in.ensures.grows h)))

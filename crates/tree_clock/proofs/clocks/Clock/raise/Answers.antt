@@ -1,16 +1,25 @@
-use Rattle.std.proofs.Common.{sym, subst, arith}
-use Rattle.tree_clock.proofs.ClockLemmas.{IsClock-raised, RaisesTo-raised}
-use Rattle.tree_clock.specs.Clock.{IsClock, RaisesTo}
+use Rattle.std.proofs.Common.{ℕ, List, sym, subst}
+use Rattle.tree_clock.specs.Clock.{ClockValue, HasRoom, RaisesTo}
+use Rattle.tree_clock.specs.Lists.{Has}
+use Rattle.tree_clock.specs.Trees.{HasNode, listed, nodes}
+use Rattle.tree_clock.proofs.ClockLemmas.{Has-kept, HasNode-raised, RaisesTo-listed}
+use Rattle.tree_clock.proofs.TreeLemmas.{HasNode-from_nodes}
 use Rattle.tree_clock.proofs.clocks.Clock.raise.Goals as goal
 
-pub invariant_of-self : goal.invariant_of-self
-invariant_of-self c =
-    subst IsClock (sym c.raise_entry.ensures.items)
-    (IsClock-raised c.self.inside.entries.items c.args.dot.now.path c.args.dot.now.tick (omega arith) c.self.invariant)
-
-pub returns-then-dot-gt0-clause-raised : goal.returns-then-dot-gt0-clause-raised
-returns-then-dot-gt0-clause-raised c =
+pub raise-requires-clause-node : goal.raise-requires-clause-node
+raise-requires-clause-node c =
     let dot = c.args.dot.now in
-    let es = c.self.inside.entries.items in
-    subst (λ v. RaisesTo v.ticks c.raise_entry.new.entries.items dot) c.self.view_is
-    (subst (λ xs. RaisesTo es xs dot) (sym c.raise_entry.ensures.items) (RaisesTo-raised es dot.path dot.tick c.self.invariant))
+    HasNode-from_nodes c.self.inside.root dot.path (subst (λ (v : ClockValue). HasRoom v dot.path) (sym c.self.view_is) c.requires)
+
+pub returns-clause-raised : goal.returns-clause-raised
+returns-clause-raised c =
+    let dot = c.args.dot.now in
+    let node : HasNode c.self.inside.root dot.path = HasNode-from_nodes c.self.inside.root dot.path (subst (λ (v : ClockValue). HasRoom v dot.path) (sym c.self.view_is) c.requires) in
+    subst (λ (v : ClockValue). RaisesTo v.ticks (listed c.raise.new.self) dot) c.self.view_is
+    (RaisesTo-listed c.self.inside.root c.raise.new.self dot node c.raise.ensures.raises)
+
+pub returns-clause-keeps : goal.returns-clause-keeps
+returns-clause-keeps c =
+    let dot = c.args.dot.now in
+    subst (λ (v : ClockValue). (other : List ℕ) → HasRoom v other → Has (nodes c.raise.new.self) other) c.self.view_is
+    (Has-kept c.self.inside.root c.raise.new.self (HasNode-raised c.self.inside.root c.raise.new.self dot.path dot.tick c.raise.ensures.raises))

@@ -1,0 +1,123 @@
+//! Leaves: the right to use a path's ticks, which a fork shares out.
+ghost use Rattle.std.specs.Prelude.{◌≡◌, ℕ, ◌↔◌, ◌++◌, ◌∷◌, [], List, length, IfOk, IfErr};
+ghost use Rattle.std.specs.Result.{IsErr};
+ghost use Rattle.tree_clock.specs.Path.{AreApart};
+
+use crate::paths::Path;
+use std::marker::Model;
+
+/// The right to use the ticks of a path. It can't be copied: a fork gives its sons in its place.
+#[derive(Debug, Drop)]
+pub struct Leaf {
+    path: Path,
+}
+
+impl Model for Leaf {
+    ghost use Rattle.std.specs.Prelude.{List, ℕ};
+
+    ghost Value = { List ℕ };
+
+    ghost view = { λ leaf. leaf.path };
+}
+
+/// A leaf that can't fork, since its path has 64 letters.
+#[derive(Debug, Drop)]
+pub struct Deep {
+    /// The leaf, as it was.
+    pub leaf: Leaf,
+}
+
+impl Leaf {
+    /// The leaf that all others are forked from.
+    pub fn genesis() -> Leaf
+        ensures { result ≡ [] }
+    {
+        Leaf { path: Path::root() }
+    }
+
+    /// The leaf at a path.
+    pub fn at(path: Path) -> Leaf
+        ensures { result ≡ path }
+    {
+        Leaf { path }
+    }
+
+    /// Its path.
+    pub fn path(&self) -> Path
+        ensures { result ≡ self.now }
+    {
+        self.path
+    }
+
+    /// The two sons of the leaf, at the letters `0` and `1`. It takes no memory.
+    pub fn fork(self) -> Result<(Leaf, Leaf), Deep>
+        ensures zero { IfOk result (λ sons. sons.0 ≡ self ++ 48 ∷ []) }
+        ensures one { IfOk result (λ sons. sons.1 ≡ self ++ 49 ∷ []) }
+
+        // The sons are apart, and what was apart from the leaf is apart from both.
+        ensures apart { IfOk result (λ sons. AreApart sons.0 sons.1) }
+        ensures keeps_apart { (other : List ℕ) → AreApart self other
+            → IfOk result (λ sons. AreApart sons.0 other × AreApart sons.1 other) }
+
+        // A leaf of 64 letters, and no other, comes back.
+        ensures deep { IsErr result ↔ (length self ≡ 64) }
+        ensures leaf { IfErr result (λ deep. deep.leaf ≡ self) }
+    {
+        if self.path.len() == 64 {
+            return Err(Deep { leaf: self });
+        }
+        let zero = Leaf {
+            path: self.path.child(false),
+        };
+        let one = Leaf {
+            path: self.path.child(true),
+        };
+        Ok((zero, one))
+    }
+}
+
+#[cfg(test)]
+mod tests {
+    use super::*;
+    use std::test::Fail;
+
+    #[test]
+    fn the_root_forks_into_two_sons(rt: HostRuntime) -> Result<(), Fail> {
+        let genesis = Leaf::genesis();
+        assert_eq!(rt; format!(in rt.alloc(); "{}", genesis.path())?.as_str(), "r");
+        let (zero, one) = genesis.fork()?;
+        assert_eq!(rt; format!(in rt.alloc(); "{}", zero.path())?.as_str(), "r0");
+        assert_eq!(rt; format!(in rt.alloc(); "{}", one.path())?.as_str(), "r1");
+        let (_, last) = zero.fork()?;
+        assert_eq!(rt; format!(in rt.alloc(); "{}", last.path())?.as_str(), "r01");
+        Ok(())
+    }
+
+    // The leaf at the zero of each fork, so many times.
+    fn forked(mut leaf: Leaf, times: u8) -> Leaf {
+        for _ in 0..times {
+            leaf = match leaf.fork() {
+                Ok((zero, _)) => zero,
+                Err(deep) => deep.leaf,
+            };
+        }
+        leaf
+    }
+
+    #[test]
+    fn a_leaf_of_64_letters_comes_back(rt: HostRuntime) -> Result<(), Fail> {
+        let almost = forked(Leaf::genesis(), 63);
+        assert_eq!(rt; almost.path().len(), 63);
+        let deep = forked(almost, 1);
+        assert_eq!(rt; deep.path().len(), 64);
+        let refused = deep.fork().err().ok_or("it forked")?;
+        let text = "r0000000000000000000000000000000000000000000000000000000000000000";
+        assert_eq!(rt;
+            format!(in rt.alloc(); "{}", refused.leaf.path())?.as_str(),
+            text
+        );
+        let at = Leaf::at(Path::root().child(true));
+        assert_eq!(rt; format!(in rt.alloc(); "{}", at.path())?.as_str(), "r1");
+        Ok(())
+    }
+}
