@@ -1,16 +1,13 @@
 -- Entries that wait until what they rest on is known, in order of arrival (causal delivery).
-use Rattle.std.specs.Prelude.{◌≡◌, ℕ, ◌<◌, List, [], ◌∷◌, ◌++◌, ◌⊎◌, length, map}
+use Rattle.std.specs.Prelude.{◌≡◌, ◌<◌, List, [], ◌∷◌, ◌++◌, length}
 use Rattle.mld_ops.specs.Entry.{EntryValue}
+use Rattle.mld_ops.specs.Held.{held_limit, ranges_of}
+use Rattle.tree_clock.specs.Lists.{Has}
 use Rattle.tree_clock.specs.declared.dots.Range.{Range}
-
--- the most entries that are held
-abbrev pub held_limit : ℕ
-held_limit = 4096
 
 -- some entry has this very range
 abbrev pub IsHeldRange : List EntryValue → Range → Type 0
-IsHeldRange [] range = ⊥
-IsHeldRange (entry ∷ entries) range = (entry.range ≡ range) ⊎ IsHeldRange entries range
+IsHeldRange held range = Has (ranges_of held) range
 
 -- no entry has this range, and as many are held as may be
 pub record IsFullFor (held : List EntryValue) (range : Range) : Type 0 where
@@ -22,7 +19,3 @@ pub record IsAddedTo (old new : List EntryValue) (entry : EntryValue) : Type 0 w
   pub unheld : ¬ IsHeldRange old entry.range
   pub room : length old < held_limit
   pub behind : new ≡ old ++ entry ∷ []
-
--- the ranges of entries, in their order
-abbrev pub ranges_of : List EntryValue → List Range
-ranges_of entries = map (λ (entry : EntryValue). entry.range) entries

@@ -1,7 +1,8 @@
 //! Entries that wait, in order of arrival.
 ghost use Rattle.std.specs.Prelude.{◌≡◌, ◌≢◌, ℕ, ◌<◌, ◌≤◌, ◌↔◌, ◌++◌, ◌∷◌, [], length, IsTrue, IsNone, IfOk, IfSome, IfNone, IsErrOf, OnOk, OnErr, Ok, MatchOption};
 ghost use Rattle.std.specs.List.{AllWithin, HoldsAt};
-ghost use Rattle.causal_buffer.specs.Held.{held_limit, IsHeldRange, IsFullFor, IsAddedTo, ranges_of};
+ghost use Rattle.causal_buffer.specs.Held.{IsHeldRange, IsFullFor, IsAddedTo};
+ghost use Rattle.mld_ops.specs.Held.{held_limit, ranges_of};
 ghost use Rattle.causal_buffer.specs.declared.faults.HeldFault.TheVariants as faults;
 ghost use Rattle.causal_buffer.specs.declared.held.Kept.TheVariants as kept;
 ghost use Rattle.mld_ops.specs.Entry.{EntryValue};
@@ -36,7 +37,7 @@ pub struct Held {
 impl Model for Held {
     ghost use Rattle.std.specs.Prelude.{◌≤◌, List, length};
     ghost use Rattle.mld_ops.specs.Entry.{EntryValue};
-    ghost use Rattle.causal_buffer.specs.Held.{held_limit};
+    ghost use Rattle.mld_ops.specs.Held.{held_limit};
 
     ghost Value = { List EntryValue };
 

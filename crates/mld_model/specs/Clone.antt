@@ -46,10 +46,6 @@ pub record IsHeldBack (history : List Operation) (known : List Range) (range : R
   pub unknown : ¬ IsKnown known range
   pub unready : ¬ IsReady history known range
 
--- how many ranges a clone holds back at most
-abbrev pub held_limit : ℕ
-held_limit = 4096
-
 -- of the ranges held back, in order of arrival, those that are known are dropped, then the first ready one is taken, and so on
 -- until none is ready: the ranges taken, what the clone keeps then, and what is still held back
 abbrev pub Releases : List Operation → Stored → List Range → List Range → Stored → List Range → Type 0

@@ -1,5 +1,5 @@
 -- One clone alone: what it has of its own, without the history, and its steps.
-use Rattle.std.specs.Prelude.{◌≡◌, ℕ, ◌+◌, ◌<◌, ◌≤◌, List, [], ◌∷◌, ◌++◌, ◌⊎◌, ◌↔◌, map, length}
+use Rattle.std.specs.Prelude.{◌≡◌, ℕ, ◌+◌, ◌<◌, ◌≤◌, List, [], ◌∷◌, ◌++◌, ◌⊎◌, ◌↔◌, length}
 use Rattle.rdf_terms.specs.declared.terms.Triple.{Triple}
 use Rattle.tree_clock.specs.declared.dots.Dot.{Dot}
 use Rattle.tree_clock.specs.declared.dots.Range.{Range}
@@ -13,7 +13,7 @@ use Rattle.mld_ops.specs.History.{dot_at}
 use Rattle.mld_ops.specs.Picking.{HasNone, DropsThose, TakesFirst}
 use Rattle.mld_ops.specs.Ready.{last_dot, IsKnownEntry, IsReadyEntry}
 use Rattle.mld_ops.specs.Cut.{IsCutOf}
-use Rattle.mld_model.specs.Clone.{held_limit}
+use Rattle.mld_ops.specs.Held.{held_limit, ranges_of}
 
 -- a clone alone: its id, domain, single-valued properties and path; the clock and the pairs of its base; the entries of its
 -- journal; and those that it holds back, in order of arrival. Its own clock and pairs follow from these (`IsLocal`)
@@ -92,10 +92,6 @@ pub record LocallyMakes (old : LocalClone) (deletes : List Tagged) (inserts : Li
   pub deletes_same : (pair : Tagged) → Has entry.deletes pair ↔ Has deletes pair
   pub inserts_ascend : IsAscending insert_cmp entry.inserts
   pub inserts_same : (triple : Triple) (tick : ℕ) → Has entry.inserts (triple, tick) ↔ ((tick ≡ (next_dot old).tick) × Has inserts triple)
-
--- the ranges of entries
-abbrev pub ranges_of : List EntryValue → List Range
-ranges_of entries = map (λ entry. entry.range) entries
 
 -- of the entries held back, in order of arrival, those that are known are dropped, then the first ready one is taken, and so on
 -- until none is ready: the entries taken, the clock then, and what is still held back

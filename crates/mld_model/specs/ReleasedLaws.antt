@@ -14,7 +14,8 @@ use Rattle.mld_ops.specs.Ready.{last_dot, IsKnownEntry, IsReadyEntry}
 use Rattle.mld_model.specs.Clone.{Stored, known_of, with_range, IsKnown, IsReady, Releases}
 use Rattle.mld_model.specs.Sound.{IsSoundClone, IsDoneRange}
 use Rattle.mld_model.specs.SoundLaws.{taker_stays_sound}
-use Rattle.mld_model.specs.Local.{LeadsTo, LocallyReleases, ranges_of}
+use Rattle.mld_model.specs.Local.{LeadsTo, LocallyReleases}
+use Rattle.mld_ops.specs.Held.{ranges_of}
 use Rattle.mld_model.specs.StandsFor.{EntryStandsFor}
 use Rattle.mld_model.specs.KnownLaws.{known_with}
 use Rattle.mld_model.specs.LocalLaws.{KnowsAs, known_alike, ready_alike, raised_knows, taker_knows}

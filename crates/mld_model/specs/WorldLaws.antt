@@ -23,12 +23,14 @@ use Rattle.mld_ops.specs.Meaning.{IsMeaning}
 use Rattle.mld_ops.specs.HistoryLaws.{causes_done}
 use Rattle.mld_ops.specs.Ready.{last_dot, IsKnownEntry}
 use Rattle.mld_model.specs.declared.Command.TheVariants.{Add, Remove, Deliver, Show, Compare}
-use Rattle.mld_model.specs.Clone.{Clone, Absent, Live, Stored, known_of, with_range, IsReady, IsHeldBack, IsWithin, held_limit}
+use Rattle.mld_model.specs.Clone.{Clone, Absent, Live, Stored, known_of, with_range, IsReady, IsHeldBack, IsWithin}
+use Rattle.mld_ops.specs.Held.{held_limit}
 use Rattle.mld_model.specs.World.{World, Message, RangeOf, message_at, clone_at, with_clone, founded, founded_clone}
 use Rattle.mld_model.specs.Step.{Step, Answers, Adds, ArePairsOf, Removes, IsNextTick, Makes, after_operation, Receives, Takes, Lists, Compares, ComparesWith, Weighs}
 use Rattle.mld_model.specs.Reply.{Reply, Did, NoOperation, Took, Held, HeldFull, AlreadyKnown, Shows, Same, Less, More, Apart, NoMessage, IsAbsent}
 use Rattle.mld_model.specs.Sound.{IsDoneRange, IsSoundClone, IsSound}
-use Rattle.mld_model.specs.Local.{LocalClone, next_dot, LocallyMakes, LocallyAccepts, MustBeHeld, IsFullFor, IsForeign, ranges_of}
+use Rattle.mld_model.specs.Local.{LocalClone, next_dot, LocallyMakes, LocallyAccepts, MustBeHeld, IsFullFor, IsForeign}
+use Rattle.mld_ops.specs.Held.{ranges_of}
 use Rattle.mld_model.specs.StandsFor.{RunningWorld, EntryStandsFor, LocalStandsFor, IsCloneOf, CloneStandsFor, MessageStandsFor, StandsFor, founded_local, founded_running}
 use Rattle.mld_model.specs.JournalLaws.{journal_done}
 use Rattle.mld_model.specs.SoundLaws.{made_is_next, made_sound, taken_sound, holding_sound, live_sound, taker_stays_sound}

@@ -16,3 +16,4 @@ pub mod PickingLaws
 pub mod Ready
 pub mod Cut
 pub mod Messages
+pub mod Held

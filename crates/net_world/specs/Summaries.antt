@@ -6,7 +6,8 @@ use Rattle.tree_clock.specs.Clock.{IsClock, Covers}
 use Rattle.mld_ops.specs.History.{Operation}
 use Rattle.mld_ops.specs.Meaning.{IsMeaning}
 use Rattle.mld_model.specs.Clone.{Clone, Absent, Asking, Empty, Down, Live, Stored, known_of}
-use Rattle.mld_model.specs.Local.{LocalClone, ranges_of}
+use Rattle.mld_model.specs.Local.{LocalClone}
+use Rattle.mld_ops.specs.Held.{ranges_of}
 use Rattle.mld_model.specs.World.{World}
 use Rattle.mld_model.specs.Sound.{IsSound}
 use Rattle.mld_model.specs.StandsFor.{RunningWorld, StandsFor}

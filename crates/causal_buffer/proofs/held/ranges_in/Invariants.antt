@@ -1,5 +1,5 @@
 use Rattle.std.proofs.Common.{◌≡◌, take}
-use Rattle.causal_buffer.specs.Held.{ranges_of}
+use Rattle.mld_ops.specs.Held.{ranges_of}
 use Rattle.causal_buffer.proofs.held.ranges_in.Given as goal
 
 abbrev pub invariant-loop-entry : goal.invariant-loop-entry

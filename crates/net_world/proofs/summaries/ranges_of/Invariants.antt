@@ -1,5 +1,5 @@
 use Rattle.std.proofs.Common.{◌≡◌, take}
-use Rattle.mld_model.specs.Local.{ranges_of}
+use Rattle.mld_ops.specs.Held.{ranges_of}
 use Rattle.net_world.proofs.summaries.ranges_of.Given as goal
 
 abbrev pub invariant-loop-entry : goal.invariant-loop-entry
