@@ -173,13 +173,9 @@ fn a_run_tells_of_its_world_at_some_statuses(rt: HostRuntime) -> Result<(), Fail
         (b"# c\nshow\n", 4, false),
         (b"# c\n", 4, false),
         (b"", 4, false),
-        (b"domain d clones 2\njoin\n", 20, false),
-        (b"join\n", 20, false),
-        (
-            b"domain d clones 2\nadd 0 <http://d/a> <http://d/#p> \"x\" .\nadd 0 <http://d/a> <http://d/#p> \"x\" .\ndeliver 2 1\n",
-            20,
-            false,
-        ),
+        (b"domain d clones 2\nask 0\n", 20, false),
+        (b"ask\n", 20, false),
+        (b"domain d clones 2\nadd 0 \\\n", 20, false),
     ];
     for (schedule, status, told) in cases {
         let ended = ends_telling(&rt, rt.alloc(), schedule)?;

@@ -28,7 +28,7 @@ fn lines_are_refused(rt: HostRuntime) {
         Some(LineRefusal::BadLine)
     );
     assert_eq!(rt;
-        read_setup(rt.alloc(), b"join").err(),
+        read_setup(rt.alloc(), b"ask").err(),
         Some(LineRefusal::Unbuilt)
     );
     assert_eq!(rt;
@@ -72,6 +72,6 @@ fn a_founded_world_tells_of_its_clones(rt: HostRuntime) -> Result<(), Fail> {
     );
     let mut text = Vec::new(rt.alloc());
     push_ready(rt.alloc(), &mut text, 2)?;
-    assert!(rt; text.as_slice() == b"ready 2\n");
+    assert!(rt; text.as_slice() == b"ready 2\n".as_slice());
     Ok(())
 }

@@ -1,0 +1,6 @@
+pub mod Cutting
+pub mod Deleting
+pub mod Stepping
+pub mod Planning
+pub mod OwnEntries
+pub mod Taking

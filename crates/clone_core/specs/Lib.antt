@@ -1,0 +1,10 @@
+pub mod Calls
+pub mod Faults
+pub mod Making
+pub mod Pairs
+pub mod Plans
+pub mod PlanLaws
+pub mod Steps
+pub mod Takes
+pub mod View
+pub mod LocalLaws

@@ -1,0 +1,17 @@
+-- The clone that the fields of a running one stand for.
+use Rattle.mld_model.specs.Local.{LocalClone}
+use Rattle.clone_core.specs.declared.clones.MldClone.TheInside.{Inside}
+
+abbrev pub clone_of : Inside → LocalClone
+clone_of c = record {
+  id = c.id;
+  domain = c.domain;
+  properties = c.properties.items;
+  path = c.leaf;
+  base = c.base.ticks;
+  base_pairs = c.base_pairs.items;
+  entries = c.journal.items;
+  held = c.held;
+  ticks = c.clock.ticks;
+  pairs = c.pairs.items;
+}

@@ -1,0 +1,366 @@
+//! The clone.
+ghost use Rattle.std.specs.Prelude.{◌≡◌, ◌≤◌, ◌+◌, IfOk, OnOk, OnErr, MatchOption, vec_len, vec_capacity};
+ghost use Rattle.clone_core.specs.Calls.{HasRange, LacksRange};
+ghost use Rattle.clone_core.specs.Plans.{left_of};
+
+use crate::answers::{Covering, Done, Got};
+use crate::faults::{ReceiveFault, UpdateFault};
+use crate::making::{deletion, insertion, pairs_of};
+use crate::plans::{Plan, plan_of};
+use crate::steps::{Step, take_steps};
+use causal_buffer::{Held, HeldFault, is_known, is_ready};
+use mld_ops::{Entry, Message, Tagged, copy_pairs};
+use rdf_terms::{Iri, Text, Triple};
+use std::alloc::{AllocError, Global};
+use std::collections::VecDeque;
+use std::marker::Model;
+use tree_clock::{Clock, Dot, Leaf, Path, Range};
+use uuid::Uuid;
+
+/// A clone: its id, domain, single-valued properties and leaf; the clock and the pairs of its base; its clock, its journal, the entries
+/// that it holds back, and its pairs, ascending.
+#[derive(Drop)]
+pub struct MldClone {
+    id: Uuid,
+    domain: Text,
+    properties: Vec<Iri>,
+    leaf: Leaf,
+    base: Clock,
+    base_pairs: Vec<Tagged>,
+    clock: Clock,
+    journal: Vec<Entry>,
+    held: Held,
+    pairs: Vec<Tagged>,
+}
+
+impl Model for MldClone {
+    ghost use Rattle.mld_model.specs.Local.{LocalClone, IsLocal};
+
+    ghost Value = { LocalClone };
+
+    ghost use Rattle.clone_core.specs.View.{clone_of};
+
+    ghost view = { clone_of };
+
+    ghost invariant = { λ c. IsLocal (clone_of c) };
+}
+
+impl MldClone {
+    ghost use Rattle.std.specs.Prelude.{◌≡◌, ◌+◌, ◌<◌, ◌^◌, ◌↔◌, ◌∷◌, [], false, IfOk, IfErr, OnOk, OnErr, IsErrOf, MatchOption};
+    ghost use Rattle.clone_core.specs.Calls.{Sets, Receives, ReceivesEntry, Refuses, RemovesPairs, ComparesAs, HasRange, LacksRange};
+    ghost use Rattle.clone_core.specs.Making.{IsNextEntry};
+    ghost use Rattle.clone_core.specs.Takes.{MakesEntry, IsFullAt, RefusesEntry};
+    ghost use Rattle.mld_model.specs.Local.{LocalClone, IsLocal, blank_clone, next_dot, LocallyMakes, LocallyAccepts, LocallyHolds, IsForeign};
+    ghost use Rattle.mld_ops.specs.Ready.{IsReadyEntry};
+    ghost use Rattle.mld_ops.specs.Tagged.{tagged_cmp};
+    ghost use Rattle.tree_clock.specs.Clock.{ticks_of};
+    ghost use Rattle.tree_clock.specs.Lists.{IsAscending};
+
+    /// The first clone of a domain, at the root path. It knows nothing.
+    pub fn genesis(alloc: Global, id: Uuid, domain: Text, properties: Vec<Iri>) -> MldClone
+        ensures { result ≡ blank_clone id domain properties.items [] }
+    {
+        MldClone::with_leaf(alloc, Leaf::genesis(), id, domain, properties)
+    }
+
+    /// A clone that has this leaf and knows nothing.
+    pub fn with_leaf(
+        alloc: Global,
+        leaf: Leaf,
+        id: Uuid,
+        domain: Text,
+        properties: Vec<Iri>,
+    ) -> MldClone
+        ensures { result ≡ blank_clone id domain properties.items leaf }
+    {
+        MldClone {
+            id,
+            domain,
+            properties,
+            leaf,
+            base: Clock::empty(alloc),
+            base_pairs: Vec::new(alloc),
+            clock: Clock::empty(alloc),
+            journal: Vec::new(alloc),
+            held: Held::empty(alloc),
+            pairs: Vec::new(alloc),
+        }
+    }
+
+    /// The clone's id.
+    pub fn id(&self) -> Uuid
+        ensures { result ≡ self.now.id }
+    {
+        self.id
+    }
+
+    /// The clone's domain.
+    pub fn domain(&self) -> &str
+        ensures { result.now ≡ self.now.domain }
+    {
+        self.domain.as_str()
+    }
+
+    /// The properties that have one value at most for each subject.
+    pub fn properties(&self) -> &[Iri]
+        ensures { result.now ≡ self.now.properties }
+    {
+        self.properties.as_slice()
+    }
+
+    /// The path of the clone's leaf.
+    pub fn path(&self) -> Path
+        ensures { result ≡ self.now.path }
+    {
+        self.leaf.path()
+    }
+
+    /// The dots of the clone's base.
+    pub fn base(&self) -> &Clock
+        ensures { result.now.ticks ≡ self.now.base }
+    {
+        &self.base
+    }
+
+    /// The pairs of the clone's base, ascending.
+    pub fn base_pairs(&self) -> &[Tagged]
+        ensures { result.now ≡ self.now.base_pairs }
+    {
+        self.base_pairs.as_slice()
+    }
+
+    /// The entries of the clone's journal, in the order in which it took them.
+    pub fn journal(&self) -> &[Entry]
+        ensures { result.now ≡ self.now.entries }
+    {
+        self.journal.as_slice()
+    }
+
+    /// The entries that the clone holds back, in order of arrival.
+    pub fn held(&self) -> &[Entry]
+        ensures { result.now ≡ self.now.held }
+    {
+        self.held.as_slice()
+    }
+
+    /// The dots that the clone knows.
+    pub fn known(&self) -> &Clock
+        ensures ticks { result.now.ticks ≡ self.now.ticks }
+        ensures local { IsLocal self.now }
+    {
+        &self.clock
+    }
+
+    /// The clone's pairs, ascending.
+    pub fn pairs(&self) -> &[Tagged]
+        ensures pairs { result.now ≡ self.now.pairs }
+        ensures ascending { IsAscending tagged_cmp self.now.pairs }
+    {
+        self.pairs.as_slice()
+    }
+
+    /// A copy of the clone's pairs, ascending.
+    pub fn tagged(&self, alloc: Global) -> Result<Vec<Tagged>, AllocError>
+        ensures { IfOk result (λ pairs. pairs.items ≡ self.now.pairs) }
+    {
+        copy_pairs(alloc, self.pairs())
+    }
+
+    /// The entry of the journal that has this very range.
+    pub fn entry_of(&self, range: &Range) -> Option<&Entry>
+        ensures { MatchOption result (LacksRange self.now.entries range.now) (λ entry. HasRange self.now.entries range.now entry.now) }
+    {
+        entry_in(self.journal(), range)
+    }
+
+    /// How the dots that this clone knows compare with those of another.
+    pub fn compare(&self, other: &MldClone) -> Covering
+        ensures { ComparesAs self.now.ticks other.now.ticks result }
+    {
+        match (self.clock.leq(&other.clock), other.clock.leq(&self.clock)) {
+            (true, true) => Covering::Same,
+            (true, false) => Covering::Less,
+            (false, true) => Covering::More,
+            (false, false) => Covering::Apart,
+        }
+    }
+
+    /// Makes the operation that inserts a triple, or the one that deletes all its pairs, where there are any. After a refusal the clone is
+    /// as it was.
+    pub fn set(
+        &mut self,
+        alloc: Global,
+        triple: &Triple,
+        present: bool,
+    ) -> Result<Done, UpdateFault>
+        ensures ok { IfOk result (λ done. Sets self.old triple.now present done self.new) }
+        ensures spent { IsErrOf result UpdateFault.TicksSpent
+            ↔ (ticks_of self.old.ticks self.old.path ≡ 4294967295) }
+        ensures unchanged { OnErr result (self.new ≡ self.old) }
+    {
+        let path = self.path();
+        let tick = self.known().ticks(&path);
+        if tick == u32::MAX {
+            return Err(UpdateFault::TicksSpent);
+        }
+        let dot = Dot {
+            path,
+            tick: tick + 1,
+        };
+        if present {
+            Ok(Done::Made(self.insert(alloc, &dot, triple)?))
+        } else {
+            Ok(self.remove(alloc, &dot, triple)?)
+        }
+    }
+
+    // Makes the operation at the next dot that inserts a triple.
+    fn insert(&mut self, alloc: Global, dot: &Dot, triple: &Triple) -> Result<Entry, AllocError>
+        requires { dot.now ≡ next_dot self.old }
+        ensures ok { IfOk result (λ entry. LocallyMakes self.old [] (triple.now ∷ []) self.new entry) }
+        ensures err { OnErr result (self.new ≡ self.old) }
+    {
+        let entry = insertion(alloc, self.known(), dot, triple)?;
+        let made = entry.copy_in(alloc)?;
+        self.make(alloc, dot, entry)?;
+        Ok(made)
+    }
+
+    // Makes the operation at the next dot that deletes the pairs of a triple, if there are any.
+    fn remove(&mut self, alloc: Global, dot: &Dot, triple: &Triple) -> Result<Done, AllocError>
+        requires { dot.now ≡ next_dot self.old }
+        ensures ok { IfOk result (λ done. Sets self.old triple.now false done self.new) }
+        ensures err { OnErr result (self.new ≡ self.old) }
+    {
+        let deletes = pairs_of(alloc, self.pairs(), triple)?;
+        if deletes.is_empty() {
+            return Ok(Done::Nothing);
+        }
+        let entry = deletion(alloc, self.known(), dot, deletes)?;
+        let made = entry.copy_in(alloc)?;
+        self.make(alloc, dot, entry)?;
+        Ok(Done::Made(made))
+    }
+
+    // Takes the entry of an operation of the clone's own.
+    fn make(&mut self, alloc: Global, dot: &Dot, entry: Entry) -> Result<(), AllocError>
+        requires dot { dot.now ≡ next_dot self.old }
+        requires next { IsNextEntry self.old.ticks dot.now entry }
+        ensures ok { OnOk result (MakesEntry self.old entry self.new) }
+        ensures err { OnErr result (self.new ≡ self.old) }
+    {
+        let step = Step::new(alloc, entry, dot.tick - 1)?;
+        let adds = step.adds();
+        let mut steps = VecDeque::new(alloc);
+        steps.push_back(step)?;
+        grow(&mut self.journal, &mut self.pairs, 1, adds)?;
+        self.clock.reserve(&dot.path)?;
+        self.clock.raise(dot);
+        take_steps(&mut self.journal, &mut self.pairs, steps);
+        Ok(())
+    }
+
+    /// Takes an entry that is ready, and then those held back that this releases; or holds it back. Messages of other kinds are ignored.
+    /// After a refusal the clone is as it was.
+    pub fn receive(&mut self, alloc: Global, message: &Message) -> Result<Got, ReceiveFault>
+        ensures ok { IfOk result (λ got. Receives self.old message.now got self.new) }
+        ensures err { IfErr result (Refuses self.old message.now) }
+        ensures unchanged { OnErr result (self.new ≡ self.old) }
+    {
+        match message {
+            Message::Range(entry) => self.receive_entry(alloc, entry),
+            Message::Want(_) | Message::Snapshot(_) | Message::JoinAsk(_) | Message::JoinGive(_) =>
+                Ok(Got::Ignored),
+        }
+    }
+
+    // Takes an entry, or holds it back.
+    fn receive_entry(&mut self, alloc: Global, entry: &Entry) -> Result<Got, ReceiveFault>
+        ensures ok { IfOk result (λ got. ¬ IsForeign self.old entry.now × ReceivesEntry self.old entry.now got self.new) }
+        ensures err { IfErr result (RefusesEntry self.old entry.now) }
+        ensures unchanged { OnErr result (self.new ≡ self.old) }
+    {
+        let path = self.path();
+        let own = self.known().ticks(&path);
+        let said = entry.time().ticks(&path);
+        if own < said {
+            return Err(ReceiveFault::ForeignTick { said, own });
+        }
+        if is_known(self.known(), entry) {
+            return Ok(Got::Known);
+        }
+        if is_ready(self.known(), entry) {
+            return Ok(self.accept(alloc, entry)?);
+        }
+        self.hold(alloc, entry)?;
+        Ok(Got::Held)
+    }
+
+    // Holds an entry back.
+    fn hold(&mut self, alloc: Global, entry: &Entry) -> Result<(), HeldFault>
+        ensures ok { OnOk result (LocallyHolds self.old entry.now self.new) }
+        ensures full { IfErr result (IsFullAt self.old entry.now) }
+        ensures err { OnErr result (self.new ≡ self.old) }
+    {
+        self.held.add(alloc, entry)?;
+        Ok(())
+    }
+
+    // Takes an entry that is ready, and then those held back that this releases.
+    fn accept(&mut self, alloc: Global, entry: &Entry) -> Result<Got, AllocError>
+        requires { IsReadyEntry self.old.ticks entry.now }
+        ensures ok { IfOk result (λ got. ReceivesEntry self.old entry.now got self.new) }
+        ensures err { OnErr result (self.new ≡ self.old) }
+    {
+        let Plan {
+            clock,
+            left,
+            steps,
+            adds,
+            ranges,
+        } = plan_of(alloc, &self.clock, &self.held, entry)?;
+        grow(&mut self.journal, &mut self.pairs, steps.len(), adds)?;
+        take_steps(&mut self.journal, &mut self.pairs, steps);
+        self.clock = clock;
+        replace_held(&mut self.held, left);
+        Ok(Got::Took(ranges))
+    }
+}
+
+// The first entry of a range.
+fn entry_in<'a>(entries: &'a [Entry], range: &Range) -> Option<&'a Entry>
+    ensures { MatchOption result (LacksRange entries.now range.now) (λ entry. HasRange entries.now range.now entry.now) }
+{
+    for entry in entries {
+        if entry.range() == *range {
+            return Some(entry);
+        }
+    }
+    None
+}
+
+// Makes room for entries and pairs.
+fn grow(
+    journal: &mut Vec<Entry>,
+    pairs: &mut Vec<Tagged>,
+    entries: usize,
+    adds: usize,
+) -> Result<(), AllocError>
+    ensures journal { journal.new.items ≡ journal.old.items }
+    ensures pairs { pairs.new.items ≡ pairs.old.items }
+    ensures entries { OnOk result (vec_len journal.new + entries ≤ vec_capacity journal.new) }
+    ensures adds { OnOk result (vec_len pairs.new + adds ≤ vec_capacity pairs.new) }
+{
+    journal.reserve(entries)?;
+    pairs.reserve(adds)?;
+    Ok(())
+}
+
+// Puts another list in place of what is held, if there is one.
+fn replace_held(held: &mut Held, left: Option<Held>)
+    ensures { held.new ≡ left_of left held.old }
+{
+    if let Some(left) = left {
+        *held = left;
+    }
+}

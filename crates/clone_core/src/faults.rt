@@ -1,0 +1,70 @@
+//! Why a clone refuses.
+use causal_buffer::HeldFault;
+use std::alloc::AllocError;
+use thiserror::Error;
+
+/// Why an update was refused.
+#[derive(Clone, Copy, Debug, PartialEq, Eq, Error)]
+pub enum UpdateFault {
+    /// The clone's path has no tick left.
+    #[error("no tick is left")]
+    TicksSpent,
+    /// Memory ran out.
+    #[error("out of memory")]
+    NoMemory,
+}
+
+/// Why a message was refused.
+#[derive(Clone, Copy, Debug, PartialEq, Eq, Error)]
+pub enum ReceiveFault {
+    /// The entry rests on more ticks of the clone's own path than the clone has used: another one has used its leaf.
+    #[error("another one has used the leaf: tick {said} of {own}")]
+    ForeignTick {
+        /// The ticks of the path that the entry rests on.
+        said: u32,
+        /// The ticks that the clone has used.
+        own: u32,
+    },
+    /// Too many others are held.
+    #[error("too many entries are held")]
+    HeldFull,
+    /// Memory ran out.
+    #[error("out of memory")]
+    NoMemory,
+}
+
+impl From<AllocError> for UpdateFault {
+    ghost use Rattle.std.specs.Prelude.{◌≡◌};
+    ghost use Rattle.clone_core.specs.declared.faults.UpdateFault.TheVariants.{NoMemory};
+
+    ghost from_gives = { λ _ fault. fault ≡ NoMemory };
+
+    fn from(_error: AllocError) -> UpdateFault {
+        UpdateFault::NoMemory
+    }
+}
+
+impl From<AllocError> for ReceiveFault {
+    ghost use Rattle.std.specs.Prelude.{◌≡◌};
+    ghost use Rattle.clone_core.specs.declared.faults.ReceiveFault.TheVariants.{NoMemory};
+
+    ghost from_gives = { λ _ fault. fault ≡ NoMemory };
+
+    fn from(_error: AllocError) -> ReceiveFault {
+        ReceiveFault::NoMemory
+    }
+}
+
+impl From<HeldFault> for ReceiveFault {
+    ghost use Rattle.clone_core.specs.Faults.{fault_of_held};
+    ghost use Rattle.std.specs.Prelude.{◌≡◌};
+
+    ghost from_gives = { λ held fault. fault ≡ fault_of_held held };
+
+    fn from(fault: HeldFault) -> ReceiveFault {
+        match fault {
+            HeldFault::Full => ReceiveFault::HeldFull,
+            HeldFault::NoMemory => ReceiveFault::NoMemory,
+        }
+    }
+}

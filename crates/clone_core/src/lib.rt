@@ -1,0 +1,16 @@
+//! One clone, in memory: its journal, its clock, its pairs and what it holds back.
+#![tactic(auto)]
+
+mod answers;
+mod clones;
+mod faults;
+mod making;
+mod pairs;
+mod plans;
+mod steps;
+#[cfg(test)]
+mod tests;
+
+pub use answers::{Covering, Done, Got};
+pub use clones::MldClone;
+pub use faults::{ReceiveFault, UpdateFault};
