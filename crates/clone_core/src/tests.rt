@@ -3,18 +3,22 @@ use crate::{Covering, Done, Got, MldClone, ReceiveFault};
 use mld_ops::{Entry, Give, Message, Snapshot, Tagged};
 use rdf_terms::{Iri, Term, Text, Triple};
 use std::alloc::{AllocError, Global};
-use std::process::Abort;
 use std::test::Fail;
 use tree_clock::{Clock, Dot, Leaf, Path, Range};
 use uuid::Uuid;
 
+const T: &str = "http://example.org/t";
+
+const U: &str = "http://example.org/u";
+
+const V: &str = "http://example.org/v";
+
 // A triple that differs from others by its object.
 fn triple(alloc: Global, object: &str) -> Result<Triple, Fail> {
-    Ok(Triple {
-        s: Iri::new(alloc, "http://example.org/s")?,
-        p: Iri::new(alloc, "http://example.org/p")?,
-        o: Term::Iri(Iri::new(alloc, object)?),
-    })
+    let s = Iri::new(alloc, "http://example.org/s")?;
+    let p = Iri::new(alloc, "http://example.org/p")?;
+    let o = Term::Iri(Iri::new(alloc, object)?);
+    Ok(Triple { s, p, o })
 }
 
 // The path r0 or r1.
@@ -31,166 +35,216 @@ fn range(one: bool, first: u32, last: u32) -> Range {
 }
 
 // The clone a at r0, or b at r1.
-fn clone_at(alloc: Global, one: bool) -> Result<MldClone, Fail> {
-    let id = Uuid::from_u128(u128::from(one));
+fn clone_at(alloc: Global, one: bool) -> Result<MldClone, AllocError> {
     let domain = Text::new(alloc, "example.org")?;
-    let leaf = Leaf::at(son(one));
-    Ok(MldClone::with_leaf(alloc, leaf, id, domain, Vec::new(alloc)))
+    let id = Uuid::from_u128(u128::from(one));
+    Ok(MldClone::with_leaf(alloc, Leaf::at(son(one)), id, domain, Vec::new(alloc)))
 }
 
-// The entry of the operation that an update made.
-fn made(clone: &mut MldClone, alloc: Global, object: &str, present: bool) -> Result<Entry, Fail> {
-    match clone.set(alloc, &triple(alloc, object)?, present)? {
-        Done::Made(entry) => Ok(entry),
-        Done::Nothing => Err("nothing was made".into()),
-    }
-}
-
-// The answer to an entry: its word, and the number of ranges that were taken.
-fn word(clone: &mut MldClone, alloc: Global, entry: &Entry) -> Result<(&'static str, usize), Fail> {
-    let message = Message::Range(entry.copy_in(alloc)?);
-    Ok(match clone.receive(alloc, &message)? {
-        Got::Took(ranges) => ("took", ranges.len()),
-        Got::Held => ("held", 0),
-        Got::Known => ("known", 0),
-        Got::Ignored => ("ignored", 0),
+// The entry of the operation that an update made, if it made one.
+fn update(
+    clone: &mut MldClone,
+    alloc: Global,
+    object: &str,
+    present: bool,
+) -> Result<Option<Entry>, Fail> {
+    let triple = triple(alloc, object)?;
+    Ok(match clone.set(alloc, &triple, present)? {
+        Done::Made(entry) => Some(entry),
+        Done::Nothing => None,
     })
 }
 
-// Three entries of a: it adds t, u and v.
-fn three(alloc: Global) -> Result<(Entry, Entry, Entry), Fail> {
-    let mut a = clone_at(alloc, false)?;
-    let first = made(&mut a, alloc, "http://example.org/t", true)?;
-    let second = made(&mut a, alloc, "http://example.org/u", true)?;
-    let third = made(&mut a, alloc, "http://example.org/v", true)?;
-    Ok((first, second, third))
+// The clone a or b, which has added triples of these objects.
+fn adding(alloc: Global, one: bool, objects: &[&str]) -> Result<MldClone, Fail> {
+    let mut clone = clone_at(alloc, one)?;
+    for object in objects {
+        update(&mut clone, alloc, object, true)?;
+    }
+    Ok(clone)
 }
 
-// The clone b that holds the third and the second of them.
-fn holding(alloc: Global, second: &Entry, third: &Entry) -> Result<MldClone, Fail> {
+// What a clone answers to a message.
+#[derive(Clone, Copy, Debug, PartialEq, Eq)]
+enum Word {
+    // So many ranges were taken.
+    Took(usize),
+    Held,
+    Known,
+    Ignored,
+    Fault(ReceiveFault),
+}
+
+fn answer(clone: &mut MldClone, alloc: Global, message: &Message) -> Word {
+    match clone.receive(alloc, message) {
+        Ok(Got::Took(ranges)) => Word::Took(ranges.len()),
+        Ok(Got::Held) => Word::Held,
+        Ok(Got::Known) => Word::Known,
+        Ok(Got::Ignored) => Word::Ignored,
+        Err(fault) => Word::Fault(fault),
+    }
+}
+
+// The messages of a, which adds t, u and v.
+fn sent(alloc: Global) -> Result<Vec<Message>, Fail> {
+    let a = adding(alloc, false, &[T, U, V])?;
+    let mut messages = Vec::new(alloc);
+    for entry in a.journal() {
+        messages.push(Message::Range(entry.copy_in(alloc)?))?;
+    }
+    Ok(messages)
+}
+
+// What b answers to them in this order.
+fn answers(alloc: Global, order: &[usize]) -> Result<Vec<Word>, Fail> {
+    let messages = sent(alloc)?;
     let mut b = clone_at(alloc, true)?;
-    word(&mut b, alloc, third)?;
-    word(&mut b, alloc, second)?;
+    let mut words = Vec::new(alloc);
+    for place in order {
+        if let Some(message) = messages.get(*place) {
+            words.push(answer(&mut b, alloc, message))?;
+        }
+    }
+    Ok(words)
+}
+
+// The clone b once they came in this order.
+fn after(alloc: Global, order: &[usize]) -> Result<MldClone, Fail> {
+    let messages = sent(alloc)?;
+    let mut b = clone_at(alloc, true)?;
+    for place in order {
+        if let Some(message) = messages.get(*place) {
+            answer(&mut b, alloc, message);
+        }
+    }
     Ok(b)
+}
+
+// Whether the pair is of the object, at the dot of r0.
+fn is_pair(pair: &Tagged, object: &str, tick: u32) -> bool {
+    matches!(&pair.triple.o, Term::Iri(iri) if iri.as_str() == object)
+        && pair.dot.path == son(false)
+        && pair.dot.tick == tick
 }
 
 #[test]
 fn entries_are_held_until_they_are_ready(rt: HostRuntime) -> Result<(), Fail> {
-    let alloc = rt.alloc();
-    let (first, second, third) = three(alloc)?;
-    let mut b = clone_at(alloc, true)?;
-    assert_eq!(rt; word(&mut b, alloc, &third)?, ("held", 0));
-    assert_eq!(rt; word(&mut b, alloc, &second)?, ("held", 0));
-    assert_eq!(rt; word(&mut b, alloc, &second)?, ("held", 0));
-    assert_eq!(rt; b.held().len(), 2);
-    assert_eq!(rt; b.known().ticks(&son(false)), 0);
-    assert_eq!(rt; word(&mut b, alloc, &first)?, ("took", 3));
-    assert_eq!(rt; word(&mut b, alloc, &first)?, ("known", 0));
+    let words = answers(rt.alloc(), &[2, 1, 1, 0, 0])?;
+    let wanted = [
+        Word::Held,
+        Word::Held,
+        Word::Held,
+        Word::Took(3),
+        Word::Known,
+    ];
+    assert_eq!(rt; words.as_slice(), wanted.as_slice());
     Ok(())
 }
 
 #[test]
-fn a_delivery_tells_what_it_released(rt: HostRuntime) -> Result<(), Fail> {
-    let alloc = rt.alloc();
-    let (first, second, third) = three(alloc)?;
-    let mut b = holding(alloc, &second, &third)?;
-    let Got::Took(ranges) = b.receive(alloc, &Message::Range(first))? else {
-        return Err("not taken".into());
-    };
-    let wanted = [range(false, 1, 1), range(false, 2, 2), range(false, 3, 3)];
-    assert_eq!(rt; ranges.as_slice(), wanted.as_slice());
+fn an_entry_is_held_once(rt: HostRuntime) -> Result<(), Fail> {
+    let b = after(rt.alloc(), &[2, 1, 1])?;
+    assert_eq!(rt; b.held().len(), 2);
+    assert_eq!(rt; b.known().ticks(&son(false)), 0);
+    assert!(rt; b.journal().is_empty());
+    Ok(())
+}
+
+#[test]
+fn what_is_released_is_taken(rt: HostRuntime) -> Result<(), Fail> {
+    let b = after(rt.alloc(), &[2, 1, 0])?;
     assert!(rt; b.held().is_empty());
     assert_eq!(rt; b.journal().len(), 3);
     assert_eq!(rt; b.known().ticks(&son(false)), 3);
     Ok(())
 }
 
-// Whether the pair is of the object, at a dot of r0 or r1.
-fn is_pair(pair: &Tagged, object: &str, one: bool, tick: u32) -> bool {
-    matches!(&pair.triple.o, Term::Iri(iri) if iri.as_str() == object)
-        && pair.dot
-            == (Dot {
-                path: son(one),
-                tick,
-            })
+#[test]
+fn what_is_released_adds_its_pairs(rt: HostRuntime) -> Result<(), Fail> {
+    let b = after(rt.alloc(), &[2, 1, 0])?;
+    let pairs = b.tagged(rt.alloc())?;
+    assert_eq!(rt; pairs.len(), 3);
+    assert!(rt; is_pair(&pairs[0], T, 1));
+    assert!(rt; is_pair(&pairs[1], U, 2));
+    assert!(rt; is_pair(&pairs[2], V, 3));
+    Ok(())
+}
+
+// Whether b, which holds the third and the second message, tells of these ranges at the first.
+fn tells(alloc: Global, wanted: &[Range]) -> Result<bool, Fail> {
+    let messages = sent(alloc)?;
+    let mut b = after(alloc, &[2, 1])?;
+    let Some(first) = messages.first() else {
+        return Ok(false);
+    };
+    Ok(matches!(b.receive(alloc, first)?, Got::Took(ranges) if ranges.as_slice() == wanted))
 }
 
 #[test]
-fn a_delivery_adds_the_pairs_of_what_it_released(rt: HostRuntime) -> Result<(), Fail> {
-    let alloc = rt.alloc();
-    let (first, second, third) = three(alloc)?;
-    let mut b = holding(alloc, &second, &third)?;
-    word(&mut b, alloc, &first)?;
-    let pairs = b.tagged(alloc)?;
-    assert_eq!(rt; pairs.len(), 3);
-    assert!(rt; is_pair(&pairs[0], "http://example.org/t", false, 1));
-    assert!(rt; is_pair(&pairs[1], "http://example.org/u", false, 2));
-    assert!(rt; is_pair(&pairs[2], "http://example.org/v", false, 3));
+fn a_delivery_tells_what_it_released(rt: HostRuntime) -> Result<(), Fail> {
+    let wanted = [range(false, 1, 1), range(false, 2, 2), range(false, 3, 3)];
+    assert!(rt; tells(rt.alloc(), &wanted)?);
     Ok(())
 }
 
 #[test]
 fn an_update_that_changes_nothing_makes_no_operation(rt: HostRuntime) -> Result<(), Fail> {
-    let alloc = rt.alloc();
-    let mut a = clone_at(alloc, false)?;
-    let absent = triple(alloc, "http://example.org/t")?;
-    assert!(rt; matches!(a.set(alloc, &absent, false)?, Done::Nothing));
-    assert!(rt; a.journal().is_empty());
+    let mut a = adding(rt.alloc(), false, &[U])?;
+    assert!(rt; update(&mut a, rt.alloc(), T, false)?.is_none());
+    assert_eq!(rt; a.journal().len(), 1);
     Ok(())
+}
+
+// The range of a removal of t, and how many pairs it deletes and leaves, where t was added twice and u once.
+fn removal(alloc: Global) -> Result<(Range, usize, usize), Fail> {
+    let mut a = adding(alloc, false, &[T, T, U])?;
+    let entry = update(&mut a, alloc, T, false)?.ok_or("nothing was made")?;
+    Ok((entry.range(), entry.deletes().len(), a.pairs().len()))
 }
 
 #[test]
 fn a_removal_deletes_each_pair_of_the_triple(rt: HostRuntime) -> Result<(), Fail> {
-    let alloc = rt.alloc();
-    let mut a = clone_at(alloc, false)?;
-    made(&mut a, alloc, "http://example.org/t", true)?;
-    made(&mut a, alloc, "http://example.org/t", true)?;
-    made(&mut a, alloc, "http://example.org/u", true)?;
-    assert_eq!(rt; a.pairs().len(), 3);
-    let entry = made(&mut a, alloc, "http://example.org/t", false)?;
-    assert_eq!(rt; entry.range(), range(false, 4, 4));
-    assert_eq!(rt; entry.deletes().len(), 2);
-    assert_eq!(rt; a.pairs().len(), 1);
+    assert_eq!(rt; removal(rt.alloc())?, (range(false, 4, 4), 2, 1));
     Ok(())
+}
+
+// How a and b compare that have added triples of these objects.
+fn compared(alloc: Global, by_a: &[&str], by_b: &[&str]) -> Result<Covering, Fail> {
+    let a = adding(alloc, false, by_a)?;
+    let b = adding(alloc, true, by_b)?;
+    Ok(a.compare(&b))
 }
 
 #[test]
 fn clones_are_compared_by_their_dots(rt: HostRuntime) -> Result<(), Fail> {
-    let alloc = rt.alloc();
-    let mut a = clone_at(alloc, false)?;
-    let mut b = clone_at(alloc, true)?;
-    assert_eq!(rt; a.compare(&b), Covering::Same);
-    let entry = made(&mut a, alloc, "http://example.org/t", true)?;
-    assert_eq!(rt; a.compare(&b), Covering::More);
-    assert_eq!(rt; b.compare(&a), Covering::Less);
-    made(&mut b, alloc, "http://example.org/t", true)?;
-    assert_eq!(rt; a.compare(&b), Covering::Apart);
-    word(&mut b, alloc, &entry)?;
-    assert_eq!(rt; a.compare(&b), Covering::Less);
+    assert_eq!(rt; compared(rt.alloc(), &[], &[])?, Covering::Same);
+    assert_eq!(rt; compared(rt.alloc(), &[], &[T])?, Covering::Less);
+    assert_eq!(rt; compared(rt.alloc(), &[T], &[])?, Covering::More);
+    assert_eq!(rt; compared(rt.alloc(), &[T], &[T])?, Covering::Apart);
     Ok(())
 }
 
 #[test]
 fn an_entry_is_found_by_its_range(rt: HostRuntime) -> Result<(), Fail> {
-    let alloc = rt.alloc();
-    let mut a = clone_at(alloc, false)?;
-    made(&mut a, alloc, "http://example.org/t", true)?;
-    made(&mut a, alloc, "http://example.org/u", true)?;
-    let found = a.entry_of(&range(false, 2, 2)).ok_or("lacks it")?;
-    assert_eq!(rt; found.range(), range(false, 2, 2));
-    assert_eq!(rt; found.inserts().len(), 1);
+    let a = adding(rt.alloc(), false, &[T, U])?;
+    let second = range(false, 2, 2);
+    assert!(rt; matches!(a.entry_of(&second), Some(entry) if entry.range() == second));
     assert!(rt; a.entry_of(&range(false, 1, 2)).is_none());
     assert!(rt; a.entry_of(&range(true, 1, 1)).is_none());
     Ok(())
 }
 
-#[test]
-fn a_clone_tells_its_parts(rt: HostRuntime) -> Result<(), Fail> {
-    let alloc = rt.alloc();
+// The first clone of a domain, with one single-valued property.
+fn genesis(alloc: Global) -> Result<MldClone, Fail> {
     let domain = Text::new(alloc, "example.org")?;
     let mut properties = Vec::new(alloc);
     properties.push(Iri::new(alloc, "http://example.org/name")?)?;
-    let clone = MldClone::genesis(alloc, Uuid::from_u128(7), domain, properties);
+    Ok(MldClone::genesis(alloc, Uuid::from_u128(7), domain, properties))
+}
+
+#[test]
+fn a_clone_tells_its_parts(rt: HostRuntime) -> Result<(), Fail> {
+    let clone = genesis(rt.alloc())?;
     assert!(rt; clone.id() == Uuid::from_u128(7));
     assert_eq!(rt; clone.domain(), "example.org");
     assert_eq!(rt; clone.properties().len(), 1);
@@ -200,11 +254,6 @@ fn a_clone_tells_its_parts(rt: HostRuntime) -> Result<(), Fail> {
     Ok(())
 }
 
-// Whether the message is ignored.
-fn is_ignored(clone: &mut MldClone, alloc: Global, message: &Message) -> Result<bool, Fail> {
-    Ok(matches!(clone.receive(alloc, message)?, Got::Ignored))
-}
-
 fn snapshot(alloc: Global) -> Snapshot {
     Snapshot {
         clock: Clock::empty(alloc),
@@ -212,19 +261,23 @@ fn snapshot(alloc: Global) -> Snapshot {
     }
 }
 
+// Whether a new clone ignores the message.
+fn is_ignored(alloc: Global, message: Message) -> Result<bool, AllocError> {
+    let mut a = clone_at(alloc, false)?;
+    Ok(answer(&mut a, alloc, &message) == Word::Ignored)
+}
+
 #[test]
 fn messages_of_other_kinds_are_ignored(rt: HostRuntime) -> Result<(), Fail> {
-    let alloc = rt.alloc();
-    let mut a = clone_at(alloc, false)?;
     let give = Give {
         id: Uuid::from_u128(7),
         path: son(true),
-        snapshot: snapshot(alloc),
+        snapshot: snapshot(rt.alloc()),
     };
-    assert!(rt; is_ignored(&mut a, alloc, &Message::JoinAsk(Uuid::from_u128(7)))?);
-    assert!(rt; is_ignored(&mut a, alloc, &Message::JoinGive(give))?);
-    assert!(rt; is_ignored(&mut a, alloc, &Message::Want(Clock::empty(alloc)))?);
-    assert!(rt; is_ignored(&mut a, alloc, &Message::Snapshot(snapshot(alloc)))?);
+    assert!(rt; is_ignored(rt.alloc(), Message::JoinGive(give))?);
+    assert!(rt; is_ignored(rt.alloc(), Message::JoinAsk(Uuid::from_u128(7)))?);
+    assert!(rt; is_ignored(rt.alloc(), Message::Want(Clock::empty(rt.alloc())))?);
+    assert!(rt; is_ignored(rt.alloc(), Message::Snapshot(snapshot(rt.alloc())))?);
     Ok(())
 }
 
@@ -238,83 +291,89 @@ fn clock(alloc: Global, zero: u32, one: u32) -> Result<Clock, AllocError> {
     Ok(clock)
 }
 
-// An entry with no deletes and no inserts.
-fn bare(alloc: Global, range: Range, zero: u32, one: u32) -> Result<Entry, Fail> {
-    let time = clock(alloc, zero, one)?;
-    let entry = Entry::new(range, time, Vec::new(alloc), Vec::new(alloc));
-    Ok(entry.ok_or("no entry")?)
+// A message of the one operation of r1 at a tick, which deletes and inserts nothing and knows so many ticks of r0.
+fn bare(alloc: Global, zero: u32, tick: u32) -> Result<Message, Fail> {
+    let time = clock(alloc, zero, tick)?;
+    let entry = Entry::new(
+        range(true, tick, tick),
+        time,
+        Vec::new(alloc),
+        Vec::new(alloc),
+    );
+    Ok(Message::Range(entry.ok_or("no entry")?))
+}
+
+// What a, which has made one operation, answers to b's first, which knows so many ticks of a.
+fn answer_to_first(alloc: Global, zero: u32) -> Result<Word, Fail> {
+    let mut a = adding(alloc, false, &[T])?;
+    let message = bare(alloc, zero, 1)?;
+    Ok(answer(&mut a, alloc, &message))
 }
 
 #[test]
 fn a_foreign_use_of_the_leaf_is_told(rt: HostRuntime) -> Result<(), Fail> {
-    let alloc = rt.alloc();
-    let mut a = clone_at(alloc, false)?;
-    made(&mut a, alloc, "http://example.org/t", true)?;
-    let fine = bare(alloc, range(true, 1, 1), 1, 1)?;
-    assert_eq!(rt; word(&mut a, alloc, &fine)?, ("took", 1));
-    let foreign = Message::Range(bare(alloc, range(true, 2, 2), 3, 2)?);
-    let fault = a.receive(alloc, &foreign).err();
-    assert!(rt; fault == Some(ReceiveFault::ForeignTick { said: 3, own: 1 }));
-    assert_eq!(rt; a.journal().len(), 2);
+    assert_eq!(rt; answer_to_first(rt.alloc(), 0)?, Word::Took(1));
+    assert_eq!(rt; answer_to_first(rt.alloc(), 1)?, Word::Took(1));
+    let foreign = ReceiveFault::ForeignTick { said: 3, own: 1 };
+    assert_eq!(rt; answer_to_first(rt.alloc(), 3)?, Word::Fault(foreign));
     Ok(())
 }
 
-// Holds back the entries of b's ticks from the second on, so many of them.
-fn fill(a: &mut MldClone, alloc: Global, count: u32) -> Result<(), Fail> {
-    for i in 0..count {
-        let entry = bare(alloc, range(true, i + 2, i + 2), 0, i + 2)?;
-        word(a, alloc, &entry)?;
+// The clone a, which holds b's operations from the second on, as many as may be.
+fn full(alloc: Global) -> Result<MldClone, Fail> {
+    let mut a = clone_at(alloc, false)?;
+    for i in 0..4_096 {
+        let message = bare(alloc, 0, i + 2)?;
+        answer(&mut a, alloc, &message);
     }
-    Ok(())
+    Ok(a)
+}
+
+// What it answers to b's operation at a tick.
+fn answer_of_full(alloc: Global, tick: u32) -> Result<Word, Fail> {
+    let mut a = full(alloc)?;
+    let message = bare(alloc, 0, tick)?;
+    Ok(answer(&mut a, alloc, &message))
 }
 
 #[test]
 fn no_more_than_4096_entries_are_held(rt: HostRuntime) -> Result<(), Fail> {
-    let alloc = rt.alloc();
-    let mut a = clone_at(alloc, false)?;
-    fill(&mut a, alloc, 4_096)?;
-    assert_eq!(rt; a.held().len(), 4_096);
-    let last = bare(alloc, range(true, 4_098, 4_098), 0, 4_098)?;
-    let fault = a.receive(alloc, &Message::Range(last)).err();
-    assert!(rt; fault == Some(ReceiveFault::HeldFull));
-    let first = bare(alloc, range(true, 1, 1), 0, 1)?;
-    assert_eq!(rt; word(&mut a, alloc, &first)?, ("took", 4_097));
-    assert!(rt; a.held().is_empty());
+    let word = answer_of_full(rt.alloc(), 4_098)?;
+    assert_eq!(rt; word, Word::Fault(ReceiveFault::HeldFull));
     Ok(())
 }
 
-// The entry r0.1-1 that inserts t, and r0.1-3 that inserts u at the second tick and no more.
-fn one_and_three(alloc: Global) -> Result<(Entry, Entry), Fail> {
-    let mut first = Vec::new(alloc);
-    first.push((triple(alloc, "http://example.org/t")?, 1))?;
-    let mut second = Vec::new(alloc);
-    second.push((triple(alloc, "http://example.org/u")?, 2))?;
-    let one = Entry::new(
-        range(false, 1, 1),
-        clock(alloc, 1, 0)?,
-        Vec::new(alloc),
-        first,
-    );
-    let three = Entry::new(
-        range(false, 1, 3),
-        clock(alloc, 3, 0)?,
-        Vec::new(alloc),
-        second,
-    );
-    Ok((one.ok_or("no entry")?, three.ok_or("no entry")?))
+#[test]
+fn all_of_4096_entries_are_released(rt: HostRuntime) -> Result<(), Fail> {
+    assert_eq!(rt; answer_of_full(rt.alloc(), 1)?, Word::Took(4_097));
+    Ok(())
+}
+
+// A message of a's ticks from the first to a last, which inserts the triple of an object at a tick and no more.
+fn inserting(alloc: Global, last: u32, object: &str, tick: u32) -> Result<Message, Fail> {
+    let mut inserts = Vec::new(alloc);
+    inserts.push((triple(alloc, object)?, tick))?;
+    let time = clock(alloc, last, 0)?;
+    let entry = Entry::new(range(false, 1, last), time, Vec::new(alloc), inserts);
+    Ok(Message::Range(entry.ok_or("no entry")?))
+}
+
+// The clone b that knows a's first operation, and then takes three.
+fn knowing_in_part(alloc: Global) -> Result<MldClone, Fail> {
+    let mut b = clone_at(alloc, true)?;
+    let one = inserting(alloc, 1, T, 1)?;
+    answer(&mut b, alloc, &one);
+    let three = inserting(alloc, 3, U, 2)?;
+    answer(&mut b, alloc, &three);
+    Ok(b)
 }
 
 #[test]
 fn an_entry_that_is_known_in_part_is_cut(rt: HostRuntime) -> Result<(), Fail> {
-    let alloc = rt.alloc();
-    let (one, three) = one_and_three(alloc)?;
-    let mut b = clone_at(alloc, true)?;
-    assert_eq!(rt; word(&mut b, alloc, &one)?, ("took", 1));
-    assert_eq!(rt; b.pairs().len(), 1);
-    assert_eq!(rt; word(&mut b, alloc, &three)?, ("took", 1));
+    let b = knowing_in_part(rt.alloc())?;
     assert_eq!(rt; b.known().ticks(&son(false)), 3);
     let pairs = b.pairs();
     assert_eq!(rt; pairs.len(), 1);
-    assert!(rt; is_pair(&pairs[0], "http://example.org/u", false, 2));
+    assert!(rt; is_pair(&pairs[0], U, 2));
     Ok(())
 }
