@@ -402,22 +402,22 @@ changed_sound world number stored next held left sound live path whole done =
     let was_open : (place id : ℕ) (leaf : List ℕ) (dots : List Range) → IsOpenGive (with_clone world number (Live next left)) place id leaf dots → IsOpenGive world place id leaf dots
     = λ place id leaf dots. open_before world number (Live next left) world.history world.messages place id leaf dots (λ kept holds. (next, refl)) (λ sent. sent) in
     record {
-  lawful = sound.lawful;
-  count = length-set world.clones number (Live next left) ∙ sound.count;
-  apart = leaves_apart_with world number next left sound (leaf_apart_same world number stored next held sound live path);
-  clones = λ one first one_keeps. elim (keeps_after world.clones number next left one first one_keeps) [
-    | inl a ↦ subst (IsSoundClone world.history) a.1 whole
-    | inr a ↦ sound.clones one first a.1
-  ];
-  held = held_after world.history world.clones number next left sound.held done;
-  gives_held = λ place id leaf dots other first opened. let old = was_open place id leaf dots opened in
-      gives_held_with world number next left place id leaf dots sound old
-      (subst (λ (p : List ℕ). AreApart leaf p) (sym path) (sound.gives_held place id leaf dots number stored old (live_keeps world number stored held live))) other first;
-  gives_apart = λ place id leaf dots second other others known differ opened too.
-      sound.gives_apart place id leaf dots second other others known differ (was_open place id leaf dots opened) (was_open second other others known too);
-  gives = λ place id leaf dots opened. sound.gives place id leaf dots (was_open place id leaf dots opened);
-  messages = sound.messages;
-}
+      lawful = sound.lawful;
+      count = length-set world.clones number (Live next left) ∙ sound.count;
+      apart = leaves_apart_with world number next left sound (leaf_apart_same world number stored next held sound live path);
+      clones = λ one first one_keeps. elim (keeps_after world.clones number next left one first one_keeps) [
+        | inl a ↦ subst (IsSoundClone world.history) a.1 whole
+        | inr a ↦ sound.clones one first a.1
+      ];
+      held = held_after world.history world.clones number next left sound.held done;
+      gives_held = λ place id leaf dots other first opened. let old = was_open place id leaf dots opened in
+          gives_held_with world number next left place id leaf dots sound old
+          (subst (λ (p : List ℕ). AreApart leaf p) (sym path) (sound.gives_held place id leaf dots number stored old (live_keeps world number stored held live))) other first;
+      gives_apart = λ place id leaf dots second other others known differ opened too.
+          sound.gives_apart place id leaf dots second other others known differ (was_open place id leaf dots opened) (was_open second other others known too);
+      gives = λ place id leaf dots opened. sound.gives place id leaf dots (was_open place id leaf dots opened);
+      messages = sound.messages;
+    }
 
 -- what a live clone keeps is sound
 pub live_sound : (world : World) (number : ℕ) (stored : Stored) (held : List Range) → IsSound world → clone_at world number ≡ Live stored held
