@@ -13,6 +13,7 @@ use Rattle.mld_model.specs.Schedule.{IsNothing, empty, comment, is_unbuilt, Spel
 use Rattle.mld_model.specs.Bytes.{Lacks, Lacks-append, Lacks-from_test, Lacks-decimal, list_any-Lacks, one_split, apart}
 use Rattle.mld_model.specs.TripleBytes.{Lacks-triple}
 use Rattle.rdf_terms.specs.ReadingLaws.{one_spelled}
+use Rattle.mld_model.specs.Step.{HasCloneNumbers}
 use Rattle.mld_model.specs.Laws.{OneKind, OneSetup, OneCommand}
 
 -- ---- what a line begins with
@@ -63,6 +64,15 @@ begins_apart (Compare number other) = refl
 -- the number of a clone is a small number
 small : {number : ℕ} → number < 32 → number < 2 ^ 64
 small h = omega arith
+
+-- the numbers of clones in a command that a line spells are those of clones that there are
+pub spells_numbers : (line : List ℕ) (command : Command) → SpellsCommand line command → HasCloneNumbers command
+spells_numbers line (Add number triple) h = h.2
+spells_numbers line (Remove number triple) h = h.2
+spells_numbers line (Deliver message number) h = h.2
+spells_numbers line (Show number) h = h.1
+spells_numbers line (Join number) h = h.1
+spells_numbers line (Compare number other) h = (h.1, h.2)
 
 -- numbers are written without spaces and backslashes
 no_space : (number : ℕ) → number < 2 ^ 64 → Lacks 32 (decimal number)

@@ -14,7 +14,7 @@ use Rattle.mld_model.specs.declared.Command.{Command}
 use Rattle.mld_model.specs.declared.Command.TheVariants.{Add, Remove, Deliver, Show, Compare, Join}
 use Rattle.mld_model.specs.Clone.{Clone, Absent, Asking, Empty, Down, Live, Stored, known_of, with_range, IsKnown, IsReady, IsHeldBack, IsWithin, Releases}
 use Rattle.mld_ops.specs.Held.{held_limit}
-use Rattle.mld_model.specs.World.{World, Message, RangeOf, JoinAsk, JoinGive, message_at, clone_at, with_clone}
+use Rattle.mld_model.specs.World.{World, Message, RangeOf, JoinAsk, JoinGive, message_at, clone_count, clone_at, with_clone}
 use Rattle.mld_model.specs.Reply.{Reply, Did, NoOperation, Took, Held, HeldFull, AlreadyKnown, Shows, Same, Less, More, Apart, Sent, Answer, Joined, Deep, NoMessage, Ignored, IsAbsent, IsAsking, IsDown, IsLive}
 
 -- a reply that changes nothing
@@ -179,6 +179,15 @@ Weighs world Asking other reply next = Answers world IsAsking reply next
 Weighs world Empty other reply next = Answers world IsDown reply next
 Weighs world (Down stored) other reply next = Answers world IsDown reply next
 Weighs world (Live stored held) other reply next = ComparesWith world stored other reply next
+
+-- the numbers of clones in a command are those of clones that there are
+abbrev pub HasCloneNumbers : Command → Type 0
+HasCloneNumbers (Add number triple) = number < clone_count
+HasCloneNumbers (Remove number triple) = number < clone_count
+HasCloneNumbers (Deliver message number) = number < clone_count
+HasCloneNumbers (Show number) = number < clone_count
+HasCloneNumbers (Join number) = number < clone_count
+HasCloneNumbers (Compare number other) = (number < clone_count) × (other < clone_count)
 
 -- the step: the world before, the command, the reply, the world after
 unfoldable pub Step : World → Command → Reply → World → Type 0
