@@ -28,9 +28,9 @@ use Rattle.mld_model.specs.Clone.{Clone, Absent, Live, Stored, known_of, with_ra
 use Rattle.mld_ops.specs.Held.{held_limit}
 use Rattle.mld_model.specs.World.{World, Message, RangeOf, message_at, clone_at, with_clone, founded, founded_clone}
 use Rattle.mld_model.specs.Step.{Step, Answers, Adds, ArePairsOf, Removes, IsNextTick, Makes, after_operation, Receives, Takes, Lists, Compares, ComparesWith, Weighs}
-use Rattle.mld_model.specs.Reply.{Reply, Did, NoOperation, Took, Held, HeldFull, AlreadyKnown, Shows, Same, Less, More, Apart, NoMessage, IsAbsent}
+use Rattle.mld_model.specs.Reply.{Reply, Did, NoOperation, Took, Held, HeldFull, AlreadyKnown, Shows, Same, Less, More, Apart, NoMessage, IsAbsent, IsAsking}
 use Rattle.mld_model.specs.Sound.{IsDoneRange, IsSoundClone, IsSound}
-use Rattle.mld_model.specs.Local.{LocalClone, next_dot, LocallyMakes, LocallyAccepts, MustBeHeld, IsFullFor, IsForeign}
+use Rattle.mld_model.specs.Local.{LocalAsker, LocalClone, next_dot, LocallyMakes, LocallyAccepts, MustBeHeld, IsFullFor, IsForeign}
 use Rattle.mld_ops.specs.Held.{ranges_of}
 use Rattle.mld_model.specs.StandsFor.{RunningClone, RunningWorld, EntryStandsFor, LocalStandsFor, IsCloneOf, CloneStandsFor, MessageStandsFor, StandsFor, founded_local, founded_running}
 use Rattle.mld_model.specs.JournalLaws.{journal_done}
@@ -38,7 +38,7 @@ use Rattle.mld_model.specs.SoundLaws.{made_is_next, made_sound, taken_sound, hol
 use Rattle.mld_model.specs.LocalLaws.{kept_by, next_tick_of, made_by, maker_stands, made_entry, known_alike, ready_alike, KnowsAs, raised_knows, taker_knows}
 use Rattle.mld_model.specs.ReleasedLaws.{stand_done, Released, release_stands}
 use Rattle.mld_model.specs.PairsLaws.{PairAt, pair_at, no_pair_at, pairs_count, pairs_append}
-use Rattle.mld_model.specs.StandsForLaws.{LiveAt, live_at, absent_at, place_of_running, clone_stands_as, still_clone_of, clones_stand_set, clones_still_stand, messages_still_stand}
+use Rattle.mld_model.specs.StandsForLaws.{LiveAt, live_at, absent_at, asking_at, place_of_running, clone_stands_as, still_clone_of, clones_stand_set, clones_still_stand, messages_still_stand}
 use Rattle.mld_model.specs.KnownLaws.{known_with}
 use Rattle.mld_model.specs.WorldStep.{Follows}
 
@@ -200,6 +200,14 @@ add_absent running world stands sound number triple is =
     let P : Clone → Type 0 = λ c. Adds world number triple c IsAbsent world in
     record { next = world; steps = subst P (sym (absent_at running world stands number is)) (refl, refl); sound = sound; stands = stepped_stands running world stands }
 
+-- one who asks adds nothing
+pub add_asking : (running : RunningWorld) (world : World) → StandsFor running world → IsSound world → (number : ℕ) (triple : Triple) (asker : LocalAsker)
+    → get_or running.clones number states.Absent ≡ states.Asking asker → Follows world (Add number triple) IsAsking (stepped running)
+unfolding Step
+add_asking running world stands sound number triple asker is =
+    let P : Clone → Type 0 = λ c. Adds world number triple c IsAsking world in
+    record { next = world; steps = subst P (sym (asking_at running world stands number asker is).asking) (refl, refl); sound = sound; stands = stepped_stands running world stands }
+
 -- ---- remove
 
 pub remove_follows : (running : RunningWorld) (world : World) → StandsFor running world → IsSound world → (number : ℕ) (triple : Triple) (live : LocalClone)
@@ -233,6 +241,13 @@ unfolding Step
 remove_absent running world stands sound number triple is =
     let P : Clone → Type 0 = λ c. Removes world number triple c IsAbsent world in
     record { next = world; steps = subst P (sym (absent_at running world stands number is)) (refl, refl); sound = sound; stands = stepped_stands running world stands }
+
+pub remove_asking : (running : RunningWorld) (world : World) → StandsFor running world → IsSound world → (number : ℕ) (triple : Triple) (asker : LocalAsker)
+    → get_or running.clones number states.Absent ≡ states.Asking asker → Follows world (Remove number triple) IsAsking (stepped running)
+unfolding Step
+remove_asking running world stands sound number triple asker is =
+    let P : Clone → Type 0 = λ c. Removes world number triple c IsAsking world in
+    record { next = world; steps = subst P (sym (asking_at running world stands number asker is).asking) (refl, refl); sound = sound; stands = stepped_stands running world stands }
 
 -- ---- deliver
 
@@ -289,26 +304,39 @@ deliver_nothing running world stands sound message number is =
     let P : Option Message → Type 0 = λ o. MatchOption o (Answers world NoMessage NoMessage world) (λ sent. Takes world number sent (clone_at world number) NoMessage world) in
     record { next = world; steps = subst P (sym (no_message running world stands message is)) (refl, refl); sound = sound; stands = stepped_stands running world stands }
 
+-- what a clone does with a message follows the model where the model's clone may do so
+pub taking_follows : (next : RunningWorld) (world after : World) (message number : ℕ) (what : Message) (clone : Clone) (reply : Reply)
+    → message_at world message ≡ Some what → clone_at world number ≡ clone → Takes world number what clone reply after → IsSound after → StandsFor next after
+    → Follows world (Deliver message number) reply next
+unfolding Step
+taking_follows next world after message number what clone reply sent is takes sound stands =
+    let P : Option Message → Type 0 = λ o. MatchOption o (Answers world NoMessage reply after) (λ m. Takes world number m (clone_at world number) reply after) in
+    let Q : Clone → Type 0 = λ c. Takes world number what c reply after in
+    record { next = after; steps = subst P (sym sent) (subst Q (sym is) takes); sound = sound; stands = stands }
+
 -- a message comes to an absent clone
 pub deliver_absent : (running : RunningWorld) (world : World) → StandsFor running world → IsSound world → (message number : ℕ) (what : SentMessage)
     → sent_message running message ≡ Some what → get_or running.clones number states.Absent ≡ states.Absent → Follows world (Deliver message number) IsAbsent (stepped running)
-unfolding Step
 deliver_absent running world stands sound message number what sent is =
     let s : SentAs world what message = sent_as running world stands message what sent in
-    let P : Option Message → Type 0 = λ o. MatchOption o (Answers world NoMessage IsAbsent world) (λ m. Takes world number m (clone_at world number) IsAbsent world) in
-    let Q : Clone → Type 0 = λ c. Takes world number s.other c IsAbsent world in
-    record { next = world; steps = subst P (sym s.at) (subst Q (sym (absent_at running world stands number is)) (refl, refl)); sound = sound; stands = stepped_stands running world stands }
+    taking_follows (stepped running) world world message number s.other Absent IsAbsent s.at (absent_at running world stands number is) (refl, refl) sound (stepped_stands running world stands)
+
+-- the clones of a running world where one of them has changed, and those of a world with the same history
+pub clones_set_stand : (running : RunningWorld) (world : World) → StandsFor running world → IsSound world → (number : ℕ) (new : RunningClone) (clone : Clone) (next : World)
+    → number < length running.clones → next.history ≡ world.history → next.domain ≡ world.domain → next.properties ≡ world.properties → CloneStandsFor world number new clone
+    → (other : ℕ) → CloneStandsFor next other (get_or (set running.clones number new) other states.Absent) (get_or (set world.clones number clone) other Absent)
+clones_set_stand running world stands sound number new clone next inside history domain properties now =
+    clones_stand_set next running.clones world.clones number new clone inside (omega (arith, inside, stands.count, sound.count))
+    (λ other. clone_stands_as world next other (get_or running.clones other states.Absent) (clone_at world other) history domain properties (stands.clones other))
+    (clone_stands_as world next number new clone history domain properties now)
 
 -- how a live clone's answer to an entry follows the model
 answer_follows : (running next : RunningWorld) (world after : World) (message number : ℕ) (entry : EntryValue) (live : LocalClone) (reply : Reply)
     → (s : SentRange world entry message) → (at : LiveAt world number live)
     → Receives world number (kept_by live at.base at.journal) at.held s.range reply after → IsSound after → StandsFor next after
     → Follows world (Deliver message number) reply next
-unfolding Step
 answer_follows running next world after message number entry live reply s at receives sound stands =
-    let P : Option Message → Type 0 = λ o. MatchOption o (Answers world NoMessage reply after) (λ m. Takes world number m (clone_at world number) reply after) in
-    let Q : Clone → Type 0 = λ c. Takes world number (RangeOf s.range) c reply after in
-    record { next = after; steps = subst P (sym s.at) (subst Q (sym at.live) receives); sound = sound; stands = stands }
+    taking_follows next world after message number (RangeOf s.range) (Live (kept_by live at.base at.journal) at.held) reply s.at at.live receives sound stands
 
 -- a message comes to a clone that knows it
 pub deliver_known : (running : RunningWorld) (world : World) → StandsFor running world → IsSound world → (message number : ℕ) (entry : EntryValue) (live : LocalClone)
@@ -321,8 +349,8 @@ deliver_known running world stands sound message number entry live sent is known
     (inl ((known_alike world.history live.ticks (known_of (kept_by live at.base at.journal)) at.stands.known s.range entry s.entry_stands.net).0 known, (refl, refl)))
     sound (stepped_stands running world stands)
 
--- a running world where one live clone has changed, and nothing else
-changed_stands : (running : RunningWorld) (world : World) → StandsFor running world → IsSound world → (number : ℕ) (live new : LocalClone) (stored : Stored) (held : List Range)
+-- a running world where one clone has changed, and nothing else
+pub changed_stands : (running : RunningWorld) (world : World) → StandsFor running world → IsSound world → (number : ℕ) (live new : LocalClone) (stored : Stored) (held : List Range)
     → get_or running.clones number states.Absent ≡ states.Live live → IsCloneOf world number new → LocalStandsFor world.history new stored held
     → StandsFor (stepped_with running number new) (with_clone world number (Live stored held))
 changed_stands running world stands sound number live new stored held is of now =
@@ -331,9 +359,7 @@ changed_stands running world stands sound number live new stored held is of now 
     record {
       domain = stands.domain;
       count = length-set running.clones number (states.Live new) ∙ stands.count;
-      clones = clones_stand_set next running.clones world.clones number (states.Live new) (Live stored held) inside (omega (arith, inside, stands.count, sound.count))
-          (λ other. clone_stands_as world next other (get_or running.clones other states.Absent) (clone_at world other) refl refl refl (stands.clones other))
-          (record { id = of.id; domain = of.domain; properties = of.properties }, now);
+      clones = clones_set_stand running world stands sound number (states.Live new) (Live stored held) next inside refl refl refl (of, now);
       messages = stands.messages;
       ticks = λ operation h. omega (arith, stands.ticks operation h);
     }
@@ -524,6 +550,14 @@ show_absent running world stands sound number is =
     let P : Clone → Type 0 = λ c. Lists world c IsAbsent world in
     record { next = world; steps = subst P (sym (absent_at running world stands number is)) (refl, refl); sound = sound; stands = stepped_stands running world stands }
 
+-- one who asks shows none
+pub show_asking : (running : RunningWorld) (world : World) → StandsFor running world → IsSound world → (number : ℕ) (asker : LocalAsker)
+    → get_or running.clones number states.Absent ≡ states.Asking asker → Follows world (Show number) IsAsking (stepped running)
+unfolding Step
+show_asking running world stands sound number asker is =
+    let P : Clone → Type 0 = λ c. Lists world c IsAsking world in
+    record { next = world; steps = subst P (sym (asking_at running world stands number asker is).asking) (refl, refl); sound = sound; stands = stepped_stands running world stands }
+
 -- ---- compare
 
 -- the first clock's dots are all among the second's
@@ -586,3 +620,22 @@ compare_absent_second running world stands sound number second live is was =
     let P : Clone → Type 0 = λ c. Weighs world c (clone_at world second) IsAbsent world in
     let Q : Clone → Type 0 = λ c. ComparesWith world (kept_by live a.base a.journal) c IsAbsent world in
     record { next = world; steps = subst P (sym a.live) (subst Q (sym (absent_at running world stands second was)) (refl, refl)); sound = sound; stands = stepped_stands running world stands }
+
+-- the first of two clones asks
+pub compare_asking_first : (running : RunningWorld) (world : World) → StandsFor running world → IsSound world → (number second : ℕ) (asker : LocalAsker)
+    → get_or running.clones number states.Absent ≡ states.Asking asker → Follows world (Compare number second) IsAsking (stepped running)
+unfolding Step
+compare_asking_first running world stands sound number second asker is =
+    let P : Clone → Type 0 = λ c. Weighs world c (clone_at world second) IsAsking world in
+    record { next = world; steps = subst P (sym (asking_at running world stands number asker is).asking) (refl, refl); sound = sound; stands = stepped_stands running world stands }
+
+-- the second of two clones asks
+pub compare_asking_second : (running : RunningWorld) (world : World) → StandsFor running world → IsSound world → (number second : ℕ) (live : LocalClone) (asker : LocalAsker)
+    → get_or running.clones number states.Absent ≡ states.Live live → get_or running.clones second states.Absent ≡ states.Asking asker
+    → Follows world (Compare number second) IsAsking (stepped running)
+unfolding Step
+compare_asking_second running world stands sound number second live asker is was =
+    let a : LiveAt world number live = live_at running world stands number live is in
+    let P : Clone → Type 0 = λ c. Weighs world c (clone_at world second) IsAsking world in
+    let Q : Clone → Type 0 = λ c. ComparesWith world (kept_by live a.base a.journal) c IsAsking world in
+    record { next = world; steps = subst P (sym a.live) (subst Q (sym (asking_at running world stands second asker was).asking) (refl, refl)); sound = sound; stands = stepped_stands running world stands }
