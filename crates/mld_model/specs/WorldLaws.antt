@@ -349,20 +349,17 @@ deliver_known running world stands sound message number entry live sent is known
     (inl ((known_alike world.history live.ticks (known_of (kept_by live at.base at.journal)) at.stands.known s.range entry s.entry_stands.net).0 known, (refl, refl)))
     sound (stepped_stands running world stands)
 
--- a running world where one clone has changed, and nothing else
-pub changed_stands : (running : RunningWorld) (world : World) → StandsFor running world → IsSound world → (number : ℕ) (live new : LocalClone) (stored : Stored) (held : List Range)
-    → get_or running.clones number states.Absent ≡ states.Live live → IsCloneOf world number new → LocalStandsFor world.history new stored held
+-- a running world where one clone is live as another, and nothing else has changed
+pub changed_stands : (running : RunningWorld) (world : World) → StandsFor running world → IsSound world → (number : ℕ) (new : LocalClone) (stored : Stored) (held : List Range)
+    → number < length running.clones → IsCloneOf world number new → LocalStandsFor world.history new stored held
     → StandsFor (stepped_with running number new) (with_clone world number (Live stored held))
-changed_stands running world stands sound number live new stored held is of now =
-    let inside : number < length running.clones = place_of_running running.clones number live is in
-    let next : World = with_clone world number (Live stored held) in
-    record {
-      domain = stands.domain;
-      count = length-set running.clones number (states.Live new) ∙ stands.count;
-      clones = clones_set_stand running world stands sound number (states.Live new) (Live stored held) next inside refl refl refl (of, now);
-      messages = stands.messages;
-      ticks = λ operation h. omega (arith, stands.ticks operation h);
-    }
+changed_stands running world stands sound number new stored held inside of now = record {
+  domain = stands.domain;
+  count = length-set running.clones number (states.Live new) ∙ stands.count;
+  clones = clones_set_stand running world stands sound number (states.Live new) (Live stored held) (with_clone world number (Live stored held)) inside refl refl refl (of, now);
+  messages = stands.messages;
+  ticks = λ operation h. omega (arith, stands.ticks operation h);
+}
 
 -- a message comes to a clone that is ready for it
 pub deliver_taken : (running : RunningWorld) (world : World) → StandsFor running world → IsSound world → (message number : ℕ) (entry : EntryValue) (live new : LocalClone) (ranges : List Range)
@@ -407,7 +404,7 @@ deliver_taken running world stands sound message number entry live new ranges se
       changes = refl;
     })))
     (taken_sound world number stored at.held s.range released.ranges after released.rest sound at.live done ready released.releases)
-    (changed_stands running world stands sound number live new after released.rest is
+    (changed_stands running world stands sound number new after released.rest (place_of_running running.clones number live is)
     (still_clone_of world world number live new accepts.same refl refl at.is)
     (record {
       path = accepts.same.path;
@@ -501,7 +498,7 @@ deliver_held running world stands sound message number entry live sent is must l
       )),
     )))
     (holding_sound world number stored at.held s.range sound at.live done)
-    (changed_stands running world stands sound number live new stored (at.held ++ s.range ∷ []) is
+    (changed_stands running world stands sound number new stored (at.held ++ s.range ∷ []) (place_of_running running.clones number live is)
     (record { id = at.is.id; domain = at.is.domain; properties = at.is.properties })
     (record {
       path = at.stands.path;
