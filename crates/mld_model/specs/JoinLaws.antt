@@ -2,7 +2,7 @@
 use Rattle.std.proofs.Common.{◌≡◌, ◌≢◌, ℕ, zero, suc, ◌+◌, ◌<◌, ◌≤◌, List, [], ◌∷◌, ◌++◌, ◌↔◌, inl, inr, refl, sym, ◌∙◌, ap, arith, subst, length, get_or, set, Option, Some, append-nil}
 use Rattle.std.specs.Prelude.{slice_get}
 use Rattle.std.proofs.lemmas.Bool.{cases_eq}
-use Rattle.std.proofs.lemmas.List.{length-set}
+use Rattle.std.proofs.lemmas.List.{length-set, set-get_or}
 use Rattle.tree_clock.specs.declared.dots.Dot.{Dot}
 use Rattle.tree_clock.specs.declared.dots.Range.{Range}
 use Rattle.tree_clock.specs.Lists.{Has}
@@ -84,13 +84,27 @@ join_absent running world stands sound number asker below none id domain propert
     join_follows running world stands sound number asker Absent below (absent_at running world stands number none) (λ stored keeps. absurd keeps) (asked_reply running world stands, refl)
     (record { id = id; domain = domain ∙ stands.domain; properties = properties })
 
--- a clone that asks already asks again, and stays the same asker
-pub join_asking : (running : RunningWorld) (world : World) → StandsFor running world → IsSound world → (number : ℕ) (asker : LocalAsker) → number < clone_count
-    → get_or running.clones number states.Absent ≡ states.Asking asker
+-- a clone that asks already asks again, as this asker
+pub join_asking : (running : RunningWorld) (world : World) → StandsFor running world → IsSound world → (number : ℕ) (old asker : LocalAsker) → number < clone_count
+    → get_or running.clones number states.Absent ≡ states.Asking old
+    → asker.id ≡ id_of number → asker.domain ≡ running.domain → asker.properties ≡ world.properties
     → Follows world (Join number) (Sent (length running.messages + 1)) (stepped_telling running number (states.Asking asker) (sent.JoinAsk (id_of number)))
-join_asking running world stands sound number asker below is =
+join_asking running world stands sound number old asker below is id domain properties =
+    join_follows running world stands sound number asker Asking below (asking_at running world stands number old is).asking (λ stored keeps. absurd keeps) (asked_reply running world stands, refl)
+    (record { id = id; domain = domain ∙ stands.domain; properties = properties })
+
+-- and it may stay the asker that it is: then no clone changes
+pub join_again : (running : RunningWorld) (world : World) → StandsFor running world → IsSound world → (number : ℕ) (asker : LocalAsker) → number < clone_count
+    → get_or running.clones number states.Absent ≡ states.Asking asker
+    → Follows world (Join number) (Sent (length running.messages + 1))
+        (record { domain = running.domain; clones = running.clones; messages = running.messages ++ sent.JoinAsk (id_of number) ∷ []; steps = running.steps + 1 })
+join_again running world stands sound number asker below is =
     let at : AskingAt world number asker = asking_at running world stands number asker is in
-    join_follows running world stands sound number asker Asking below at.asking (λ stored keeps. absurd keeps) (asked_reply running world stands, refl) at.is
+    let same : set running.clones number (states.Asking asker) ≡ running.clones =
+    ap (λ (state : RunningClone). set running.clones number state) (sym is) ∙ set-get_or running.clones number states.Absent in
+    subst (λ (clones : List RunningClone). Follows world (Join number) (Sent (length running.messages + 1))
+        (record { domain = running.domain; clones = clones; messages = running.messages ++ sent.JoinAsk (id_of number) ∷ []; steps = running.steps + 1 })) same
+    (join_follows running world stands sound number asker Asking below at.asking (λ stored keeps. absurd keeps) (asked_reply running world stands, refl) at.is)
 
 -- a live clone doesn't
 pub join_live : (running : RunningWorld) (world : World) → StandsFor running world → IsSound world → (number : ℕ) (live : LocalClone)
