@@ -1,7 +1,6 @@
 -- A running world where a clone asks for a leaf, or gives one, or takes one, stands for what the model's step makes.
-use Rattle.std.proofs.Common.{◌≡◌, ◌≢◌, ℕ, zero, suc, ◌+◌, ◌<◌, ◌≤◌, List, [], ◌∷◌, ◌++◌, ◌↔◌, inl, inr, refl, sym, ◌∙◌, ap, arith, subst, length, get_or, set, Option, Some, append-nil}
+use Rattle.std.proofs.Common.{◌≡◌, ◌≢◌, ℕ, zero, suc, ◌+◌, ◌<◌, ◌≤◌, List, [], ◌∷◌, ◌++◌, ◌↔◌, inl, inr, refl, sym, ◌∙◌, ap, arith, subst, length, get_or, set, Some, append-nil}
 use Rattle.std.specs.Prelude.{slice_get}
-use Rattle.std.proofs.lemmas.Bool.{cases_eq}
 use Rattle.std.proofs.lemmas.List.{length-set, set-get_or}
 use Rattle.tree_clock.specs.declared.dots.Dot.{Dot}
 use Rattle.tree_clock.specs.declared.dots.Range.{Range}
@@ -19,10 +18,10 @@ use Rattle.mld_ops.specs.Meaning.{IsMeaning}
 use Rattle.mld_model.specs.declared.Command.TheVariants.{Deliver, Join}
 use Rattle.mld_model.specs.declared.CloneState.TheVariants as states
 use Rattle.mld_model.specs.Clone.{Clone, Absent, Asking, Live, Stored, known_of}
-use Rattle.mld_model.specs.World.{World, Message, RangeOf, Want, SnapshotOf, JoinAsk, JoinGive, message_at, clone_at, clone_count, with_clone}
+use Rattle.mld_model.specs.World.{World, Message, RangeOf, JoinAsk, JoinGive, message_at, clone_at, clone_count, with_clone}
 use Rattle.mld_model.specs.Step.{Step, Joins, Takes, after_asking, after_fork, left_half, joined_with, path_limit}
-use Rattle.mld_model.specs.Reply.{Reply, Sent, Answer, Joined, Deep, Ignored, IsLive}
-use Rattle.mld_model.specs.Sound.{Keeps, IsSoundMessage, IsSound}
+use Rattle.mld_model.specs.Reply.{Sent, Answer, Joined, Deep, Ignored, IsLive}
+use Rattle.mld_model.specs.Sound.{Keeps, IsSound}
 use Rattle.mld_model.specs.Local.{LocalAsker, LocalClone, LocallyForks, LocallyJoins}
 use Rattle.mld_model.specs.StandsFor.{RunningClone, RunningWorld, EntryStandsFor, LocalStandsFor, IsCloneOf, IsAskerOf, CloneStandsFor, GiveStandsFor, MessageStandsFor, StandsFor, id_of}
 use Rattle.mld_model.specs.SoundLaws.{asked_sound, forked_sound, joined_sound}
@@ -97,13 +96,13 @@ join_asking running world stands sound number old asker below is id domain prope
 pub join_again : (running : RunningWorld) (world : World) → StandsFor running world → IsSound world → (number : ℕ) (asker : LocalAsker) → number < clone_count
     → get_or running.clones number states.Absent ≡ states.Asking asker
     → Follows world (Join number) (Sent (length running.messages + 1))
-        (record { domain = running.domain; clones = running.clones; messages = running.messages ++ sent.JoinAsk (id_of number) ∷ []; steps = running.steps + 1 })
+    (record { domain = running.domain; clones = running.clones; messages = running.messages ++ sent.JoinAsk (id_of number) ∷ []; steps = running.steps + 1 })
 join_again running world stands sound number asker below is =
     let at : AskingAt world number asker = asking_at running world stands number asker is in
     let same : set running.clones number (states.Asking asker) ≡ running.clones =
     ap (λ (state : RunningClone). set running.clones number state) (sym is) ∙ set-get_or running.clones number states.Absent in
     subst (λ (clones : List RunningClone). Follows world (Join number) (Sent (length running.messages + 1))
-        (record { domain = running.domain; clones = clones; messages = running.messages ++ sent.JoinAsk (id_of number) ∷ []; steps = running.steps + 1 })) same
+    (record { domain = running.domain; clones = clones; messages = running.messages ++ sent.JoinAsk (id_of number) ∷ []; steps = running.steps + 1 })) same
     (join_follows running world stands sound number asker Asking below at.asking (λ stored keeps. absurd keeps) (asked_reply running world stands, refl) at.is)
 
 -- a live clone doesn't
