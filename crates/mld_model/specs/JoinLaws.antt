@@ -277,7 +277,7 @@ deliver_joined running world stands sound message number give asker new told is 
     taking_follows (stepped_with running number new) world (with_clone world number (Live (joined_with s.path s.dots) [])) message number
     (JoinGive s.number s.path s.dots) Asking (Joined give.path) s.at at.asking
     (inl (same, ap (λ (path : List ℕ). Joined path) s.is.leaf, refl))
-    (joined_sound world number s.path s.dots place.0 sound at.asking (omega (arith, inside, stands.count, sound.count)) mine)
+    (joined_sound world number place.0 s.path s.dots sound at.asking mine)
     (changed_stands running world stands sound number new (joined_with s.path s.dots) [] inside
     (record { id = joins.id ∙ at.is.id; domain = joins.domain ∙ at.is.domain; properties = joins.properties ∙ at.is.properties })
     (joined_stands world asker give new s.number s.path s.dots joins s.is))
