@@ -6,7 +6,7 @@ use Rattle.tree_clock.specs.declared.dots.Dot.{Dot}
 use Rattle.tree_clock.specs.declared.dots.Range.{Range}
 use Rattle.tree_clock.specs.Lists.{Has}
 use Rattle.tree_clock.specs.Dot.{Knows}
-use Rattle.tree_clock.specs.Clock.{Covers, IsClock}
+use Rattle.tree_clock.specs.Clock.{Covers}
 use Rattle.mld_ops.specs.declared.tagged.Tagged.{Tagged}
 use Rattle.mld_ops.specs.declared.messages.Give.{Give}
 use Rattle.mld_ops.specs.declared.messages.Message.{Message as SentMessage}
@@ -42,6 +42,7 @@ telling_stands : (running : RunningWorld) (world : World) → StandsFor running 
     → StandsFor (stepped_telling running number state message) (record (with_clone world number clone) { messages = world.messages ++ other ∷ [] })
 telling_stands running world stands sound number state clone message other inside now told = record {
   domain = stands.domain;
+  properties = stands.properties;
   count = length-set running.clones number state ∙ stands.count;
   clones = clones_set_stand running world stands sound number state clone (record (with_clone world number clone) { messages = world.messages ++ other ∷ [] }) inside refl refl refl now;
   messages = pairs_more (MessageStandsFor world.history) running.messages world.messages message other stands.messages told;
@@ -166,12 +167,11 @@ deliver_deep running world stands sound message number id live told is differs d
     (inr (inl (others_ask world number s.number id live at.is s.is differs, deep, (refl, refl)))) sound (stepped_stands running world stands)
 
 -- the leaf that a clone gives stands for the one that the model's clone gives
-give_stands : (world : World) (asked : ℕ) (id : List ℕ) (live new : LocalClone) (give : Give) (stored : Stored) (held : List Range) → LocallyForks live id new give → IsClock live.ticks
+give_stands : (world : World) (asked : ℕ) (id : List ℕ) (live new : LocalClone) (give : Give) (stored : Stored) (held : List Range) → LocallyForks live id new give
     → id ≡ id_of asked → LocalStandsFor world.history live stored held → GiveStandsFor world.history give asked (stored.path ++ 49 ∷ []) (known_of stored)
-give_stands world asked id live new give stored held forks clock is stands = record {
+give_stands world asked id live new give stored held forks is stands = record {
   id = forks.asker ∙ is;
   leaf = forks.right ∙ ap (λ path. path ++ 49 ∷ []) stands.path;
-  clock = subst (λ (ticks : List (List ℕ × ℕ)). IsClock ticks) (sym forks.clock) clock;
   known = λ dot. subst (λ (ticks : List (List ℕ × ℕ)). Covers ticks dot ↔ Knows (known_of stored) dot) (sym forks.clock) (stands.known dot);
   pairs = subst (λ (pairs : List Tagged). IsMeaning world.history (known_of stored) pairs) (sym forks.pairs) stands.pairs;
 }
@@ -179,9 +179,9 @@ give_stands world asked id live new give stored held forks clock is stands = rec
 -- a live clone forks its leaf, and sends the right half of it
 pub deliver_ask : (running : RunningWorld) (world : World) → StandsFor running world → IsSound world → (message number : ℕ) (id : List ℕ) (live new : LocalClone) (give : Give)
     → sent_message running message ≡ Some (sent.JoinAsk id) → get_or running.clones number states.Absent ≡ states.Live live → id ≢ live.id
-    → LocallyForks live id new give → IsClock live.ticks
+    → LocallyForks live id new give
     → Follows world (Deliver message number) (Answer ((length running.messages + 1) ∷ [])) (stepped_telling running number (states.Live new) (sent.JoinGive give))
-deliver_ask running world stands sound message number id live new give told is differs forks clock =
+deliver_ask running world stands sound message number id live new give told is differs forks =
     let s : SentAsk world id message = sent_ask running world stands message id told in
     let at : LiveAt world number live = live_at running world stands number live is in
     let stored : Stored = kept_by live at.base at.journal in
@@ -205,7 +205,7 @@ deliver_ask running world stands sound message number id live new give told is d
     (telling_stands running world stands sound number (states.Live new) (Live (left_half stored) at.held) (sent.JoinGive give) (JoinGive s.number (stored.path ++ 49 ∷ []) (known_of stored))
     (place_of_running running.clones number live is)
     (subst (λ (c : LocalClone). CloneStandsFor world number (states.Live c) (Live (left_half stored) at.held)) (sym forks.left) now)
-    (give_stands world s.number id live new give stored at.held forks clock s.is at.stands))
+    (give_stands world s.number id live new give stored at.held forks s.is at.stands))
 
 -- ---- a leaf comes
 

@@ -7,7 +7,7 @@ use Rattle.tree_clock.specs.declared.dots.Dot.{Dot}
 use Rattle.tree_clock.specs.declared.dots.Range.{Range}
 use Rattle.tree_clock.specs.Lists.{Has}
 use Rattle.tree_clock.specs.Dot.{Knows}
-use Rattle.tree_clock.specs.Clock.{IsClock, Covers}
+use Rattle.tree_clock.specs.Clock.{Covers}
 use Rattle.mld_ops.specs.Entry.{EntryValue}
 use Rattle.mld_ops.specs.History.{Operation}
 use Rattle.mld_ops.specs.Meaning.{IsMeaning}
@@ -88,7 +88,6 @@ CloneStandsFor world number running clone = ⊥
 pub record GiveStandsFor (history : List Operation) (give : Give) (number : ℕ) (path : List ℕ) (dots : List Range) : Type 0 where
   pub id : give.id ≡ id_of number
   pub leaf : give.path ≡ path
-  pub clock : IsClock give.snapshot.clock.ticks
   pub known : (dot : Dot) → Covers give.snapshot.clock.ticks dot ↔ Knows dots dot
   pub pairs : IsMeaning history dots give.snapshot.tagged.items
 
@@ -102,6 +101,8 @@ MessageStandsFor history message other = ⊥
 -- a running world stands for a world of the model
 pub record StandsFor (running : RunningWorld) (world : World) : Type 0 where
   pub domain : running.domain ≡ world.domain
+  -- no properties are set yet
+  pub properties : world.properties ≡ []
   pub count : length running.clones ≡ clone_count
   pub clones : (number : ℕ) → CloneStandsFor world number (slice_index_or running.clones number states.Absent) (clone_at world number)
   pub messages : AllPairs (MessageStandsFor world.history) running.messages world.messages

@@ -181,7 +181,6 @@ message_still_stands history next (sent.JoinAsk id) (JoinAsk number) is_next sou
 message_still_stands history next (sent.JoinGive give) (JoinGive number path dots) is_next sound stands = record {
   id = stands.id;
   leaf = stands.leaf;
-  clock = stands.clock;
   known = stands.known;
   pairs = meaning_with_unknown history dots next give.snapshot.tagged.items stands.pairs (λ k. done_not_fresh history next next.dot is_next (sound.1.done next.dot k) refl);
 }

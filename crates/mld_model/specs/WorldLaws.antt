@@ -83,6 +83,7 @@ founded_at domain count number = elim (cases_lt number 32) [
 pub founded_stands : (domain : List ℕ) (count : ℕ) → StandsFor (founded_running domain count) (founded domain count)
 founded_stands domain count = record {
   domain = refl;
+  properties = refl;
   count = length-map-range_with_len (founded_local domain count) 0 32;
   clones = founded_at domain count;
   messages = tt;
@@ -107,6 +108,7 @@ stepped_sending running number clone entry =
 pub stepped_stands : (running : RunningWorld) (world : World) → StandsFor running world → StandsFor (stepped running) world
 stepped_stands running world stands = record {
   domain = stands.domain;
+  properties = stands.properties;
   count = stands.count;
   clones = stands.clones;
   messages = stands.messages;
@@ -161,6 +163,7 @@ makes_soundly running world stands sound number live is deletes inserts new entr
       sound = made_sound world number stored at.held (next_dot live).tick deletes inserts sound at.live tick covered inserted;
       stands = record {
         domain = stands.domain;
+        properties = stands.properties;
         count = length-set running.clones number (states.Live new) ∙ stands.count;
         clones = clones_stand_set next running.clones world.clones number (states.Live new) (Live (with_range stored (range_of (next_dot live))) at.held)
             inside (omega (arith, inside, stands.count, sound.count))
@@ -355,6 +358,7 @@ pub changed_stands : (running : RunningWorld) (world : World) → StandsFor runn
     → StandsFor (stepped_with running number new) (with_clone world number (Live stored held))
 changed_stands running world stands sound number new stored held inside of now = record {
   domain = stands.domain;
+  properties = stands.properties;
   count = length-set running.clones number (states.Live new) ∙ stands.count;
   clones = clones_set_stand running world stands sound number (states.Live new) (Live stored held) (with_clone world number (Live stored held)) inside refl refl refl (of, now);
   messages = stands.messages;
