@@ -13,11 +13,11 @@ use Rattle.mld_ops.specs.History.{Operation, dot_at}
 use Rattle.mld_ops.specs.Effect.{range_of}
 use Rattle.mld_ops.specs.HistoryLaws.{range_of_has}
 use Rattle.mld_model.specs.declared.Command.{Command}
-use Rattle.mld_model.specs.declared.Command.TheVariants.{Add, Remove, Deliver, Show, Compare}
+use Rattle.mld_model.specs.declared.Command.TheVariants.{Add, Remove, Deliver, Show, Compare, Join}
 use Rattle.mld_model.specs.Clone.{Clone, Absent, Asking, Empty, Down, Live, Stored, known_of, with_range}
-use Rattle.mld_model.specs.World.{World, Message, RangeOf, message_at, clone_at}
+use Rattle.mld_model.specs.World.{World, Message, RangeOf, JoinAsk, JoinGive, message_at, clone_at}
 use Rattle.mld_model.specs.Reply.{Reply, Did, NoMessage, reply_text}
-use Rattle.mld_model.specs.Step.{Answers, Makes, Adds, Removes, Receives, Takes, Step}
+use Rattle.mld_model.specs.Step.{Answers, Makes, Adds, Removes, Receives, Joins, left_half, Gives, joined_with, Adopts, Takes, Step}
 use Rattle.mld_model.specs.Runs.{Stage, Waiting, Running, Acts, Runs}
 use Rattle.mld_model.specs.Sound.{Keeps}
 use Rattle.mld_model.specs.SoundLaws.{place_of_clone}
@@ -198,15 +198,69 @@ receives_keep world number operation taker stored held range reply next remember
     (λ dot known. known)
     (λ other stands. subst (λ (w : World). Has w.history other) (sym p.3) stands)
 
+-- a world where a clone that was not live has become something else, and whose history is the same, remembers what it did
+woken_remembers : (world next : World) (number : ℕ) (operation : Operation) (waker : ℕ) (now : Clone)
+    → Remembers world number operation → ((stored : Stored) (held : List Range) → ¬ (clone_at world waker ≡ Live stored held))
+    → next.clones ≡ set world.clones waker now → next.history ≡ world.history → Remembers next number operation
+woken_remembers world next number operation waker now remembers asleep clones history = record {
+  stored = remembers.stored;
+  held = remembers.held;
+  live = ap (λ (cs : List Clone). get_or cs number Absent) clones
+      ∙ get_or-set_other world.clones waker number now Absent
+      (λ same. asleep remembers.stored remembers.held (sym (ap (λ (k : ℕ). clone_at world k) same) ∙ remembers.live)) ∙ remembers.live;
+  known = remembers.known;
+  stands = subst (λ (operations : List Operation). Has operations operation) (sym history) remembers.stands;
+}
+
+-- where a clone asks for a leaf
+joins_keep : (world : World) (number : ℕ) (operation : Operation) (asker : ℕ) (clone : Clone) (reply : Reply) (next : World)
+    → Remembers world number operation → clone_at world asker ≡ clone → Joins world asker clone reply next → Remembers next number operation
+joins_keep world number operation asker Absent reply next remembers is p =
+    woken_remembers world next number operation asker Asking remembers (λ stored held live. cc (is, live))
+    (ap (λ (w : World). w.clones) p.1) (ap (λ (w : World). w.history) p.1)
+joins_keep world number operation asker Asking reply next remembers is p =
+    woken_remembers world next number operation asker Asking remembers (λ stored held live. cc (is, live))
+    (ap (λ (w : World). w.clones) p.1) (ap (λ (w : World). w.history) p.1)
+joins_keep world number operation asker Empty reply next remembers is p = same_remembers world next number operation remembers p.1
+joins_keep world number operation asker (Down stored) reply next remembers is p = same_remembers world next number operation remembers p.1
+joins_keep world number operation asker (Live stored held) reply next remembers is p = same_remembers world next number operation remembers p.1
+
+-- where a live clone is asked for a leaf: one that forks knows what it knew
+gives_keep : (world : World) (number : ℕ) (operation : Operation) (giver : ℕ) (stored : Stored) (held : List Range) (id : ℕ) (reply : Reply) (next : World)
+    → Remembers world number operation → clone_at world giver ≡ Live stored held
+    → Gives world giver stored held id reply next → Remembers next number operation
+gives_keep world number operation giver stored held id reply next remembers is (inl p) = same_remembers world next number operation remembers p.1.1
+gives_keep world number operation giver stored held id reply next remembers is (inr (inl p)) = same_remembers world next number operation remembers p.2.1
+gives_keep world number operation giver stored held id reply next remembers is (inr (inr p)) =
+    grown_remembers world next number operation giver stored (left_half stored) held held remembers is
+    (ap (λ (w : World). w.clones) p.3)
+    (λ dot known. known)
+    (λ other stands. subst (λ (w : World). Has w.history other) (sym p.3) stands)
+
+-- where a leaf comes to a clone that asks
+adopts_keep : (world : World) (number : ℕ) (operation : Operation) (taker id : ℕ) (path : List ℕ) (dots : List Range) (reply : Reply) (next : World)
+    → Remembers world number operation → clone_at world taker ≡ Asking
+    → Adopts world taker id path dots reply next → Remembers next number operation
+adopts_keep world number operation taker id path dots reply next remembers is (inl p) =
+    woken_remembers world next number operation taker (Live (joined_with path dots) []) remembers (λ stored held live. cc (is, live))
+    (ap (λ (w : World). w.clones) p.2) (ap (λ (w : World). w.history) p.2)
+adopts_keep world number operation taker id path dots reply next remembers is (inr p) = same_remembers world next number operation remembers p.1.1
+
 -- where a message comes to a clone
 takes_keep : (world : World) (number : ℕ) (operation : Operation) (taker : ℕ) (message : Message) (clone : Clone) (reply : Reply) (next : World)
     → Remembers world number operation → clone_at world taker ≡ clone → Takes world taker message clone reply next → Remembers next number operation
 takes_keep world number operation taker message Absent reply next remembers is p = same_remembers world next number operation remembers p.1
-takes_keep world number operation taker (RangeOf range) Asking reply next remembers is p = same_remembers world next number operation remembers p.1
+takes_keep world number operation taker (JoinGive id path dots) Asking reply next remembers is p =
+    adopts_keep world number operation taker id path dots reply next remembers is p
+takes_keep world number operation taker message Asking reply next remembers is p = same_remembers world next number operation remembers p.1
 takes_keep world number operation taker message Empty reply next remembers is p = same_remembers world next number operation remembers p.1
 takes_keep world number operation taker message (Down stored) reply next remembers is p = same_remembers world next number operation remembers p.1
 takes_keep world number operation taker (RangeOf range) (Live stored held) reply next remembers is p =
     receives_keep world number operation taker stored held range reply next remembers is p
+takes_keep world number operation taker (JoinAsk id) (Live stored held) reply next remembers is p =
+    gives_keep world number operation taker stored held id reply next remembers is p
+takes_keep world number operation taker (JoinGive id path dots) (Live stored held) reply next remembers is p =
+    same_remembers world next number operation remembers p.1
 takes_keep world number operation taker message clone reply next remembers is p = absurd p
 
 -- at a `deliver`
@@ -229,6 +283,8 @@ step_remembers world number operation (Deliver message taker) reply next remembe
     delivers_keep world number operation taker (message_at world message) reply next remembers p
 step_remembers world number operation (Show shower) reply next remembers p =
     same_remembers world next number operation remembers (lists_same world (clone_at world shower) reply next p)
+step_remembers world number operation (Join asker) reply next remembers p =
+    joins_keep world number operation asker (clone_at world asker) reply next remembers refl p
 step_remembers world number operation (Compare one other) reply next remembers p =
     same_remembers world next number operation remembers (weighs_same world (clone_at world one) (clone_at world other) reply next p)
 

@@ -7,10 +7,10 @@ use Rattle.std.proofs.lemmas.List.FromFn.{get_or-map-range_with_len, length-map-
 use Rattle.tree_clock.specs.declared.dots.Range.{Range}
 use Rattle.tree_clock.specs.Lists.{Has}
 use Rattle.tree_clock.specs.Path.{IsPrefix, AreApart}
+use Rattle.tree_clock.specs.PathLaws.{apart_symmetric}
 use Rattle.mld_model.specs.Clone.{Clone, Absent, Live, Stored}
 use Rattle.mld_model.specs.World.{clone_at, founded, founded_path, founded_clone}
-use Rattle.mld_model.specs.Sound.{Keeps, IsSoundClone, IsSound}
-use Rattle.mld_model.specs.SoundLaws.{AreApart-swap}
+use Rattle.mld_model.specs.Sound.{Keeps, IsSoundClone, IsOpenGive, IsSound}
 
 tails : (x : ℕ) (xs ys : List ℕ) → x ∷ xs ≡ x ∷ ys → xs ≡ ys
 tails x xs ys e = cc
@@ -40,7 +40,7 @@ founded_apart : (count one other : ℕ) → one < count → other < count → on
 founded_apart count zero zero h k differ = absurd (differ refl)
 founded_apart count zero (suc other) h k differ =
     let P : List ℕ → Type 0 = λ p. AreApart (replicate other 48 ++ 49 ∷ []) p in
-    AreApart-swap _ _ (subst P (append-nil (replicate (count - 1) 48)) (turns_apart other (count - 1) [] (omega (arith, k))))
+    apart_symmetric _ _ (subst P (append-nil (replicate (count - 1) 48)) (turns_apart other (count - 1) [] (omega (arith, k))))
 founded_apart count (suc one) zero h k differ =
     let P : List ℕ → Type 0 = λ p. AreApart (replicate one 48 ++ 49 ∷ []) p in
     subst P (append-nil (replicate (count - 1) 48)) (turns_apart one (count - 1) [] (omega (arith, h)))
@@ -48,7 +48,7 @@ founded_apart count (suc one) (suc other) h k differ = elim (cases_order one oth
   | inl same ↦ absurd (differ (ap suc same))
   | inr unlike ↦ elim unlike [
     | inl before ↦ turns_apart one other (49 ∷ []) before
-    | inr after ↦ AreApart-swap _ _ (turns_apart other one (49 ∷ []) after)
+    | inr after ↦ apart_symmetric _ _ (turns_apart other one (49 ∷ []) after)
   ]
 ]
 
@@ -91,6 +91,10 @@ founded_holds domain count number = elim (cases_lt number 32) [
   | inr past ↦ subst HoldsNothing (sym (get_or_past (map (founded_clone count) (range_with_len 0 32)) number Absent (omega (arith, past, length-map-range_with_len (founded_clone count) 0 32)))) tt
 ]
 
+-- no message was sent in the founded world, so no leaf is given and open
+founded_gives_none : (domain : List ℕ) (count place id : ℕ) (path : List ℕ) (dots : List Range) → ¬ IsOpenGive (founded domain count) place id path dots
+founded_gives_none domain count place id path dots opened = cc (opened.sent)
+
 -- the founded world is sound
 pub founded_sound : (domain : List ℕ) (count : ℕ) → IsSound (founded domain count)
 founded_sound domain count = record {
@@ -114,5 +118,8 @@ founded_sound domain count = record {
       });
   held = λ number stored held live range h.
       absurd (subst (λ (ranges : List Range). Has ranges range) (holds_nothing (clone_at (founded domain count) number) stored held (founded_holds domain count number) live) h);
+  gives_held = λ place id path dots number stored opened. absurd (founded_gives_none domain count place id path dots opened);
+  gives_apart = λ place id path dots second other leaf known differ opened. absurd (founded_gives_none domain count place id path dots opened);
+  gives = λ place id path dots opened. absurd (founded_gives_none domain count place id path dots opened);
   messages = λ message sent. absurd sent;
 }

@@ -11,7 +11,7 @@ use Rattle.mld_model.specs.declared.Command.TheVariants.{Add, Remove}
 use Rattle.mld_model.specs.Clone.{Stored, IsWithin}
 use Rattle.mld_model.specs.World.{World, clone_at, founded}
 use Rattle.mld_model.specs.Reply.{Reply, Did}
-use Rattle.mld_model.specs.Step.{Step}
+use Rattle.mld_model.specs.Step.{HasCloneNumbers, Step}
 use Rattle.mld_model.specs.Sound.{Keeps, IsSound}
 use Rattle.mld_model.specs.Schedule.{IsNothing, is_unbuilt, SpellsSetup, SpellsCommand}
 use Rattle.mld_model.specs.Answers.{Remembers, IsAddOf, IsRemoveOf, IsAnswered, Survives}
@@ -70,9 +70,10 @@ OneVerdict = (lines : List (List ℕ)) (outcome other : Outcome) → Verdict lin
 abbrev pub FoundedIsSound : Type 0
 FoundedIsSound = (domain : List ℕ) (count : ℕ) → IsSound (founded domain count)
 
--- a step of a sound world leads to a sound world
+-- a step of a sound world, by a command whose clones there are, leads to a sound world
 abbrev pub StepIsSound : Type 0
-StepIsSound = (world : World) (command : Command) (reply : Reply) (next : World) → IsSound world → Step world command reply next → IsSound next
+StepIsSound = (world : World) (command : Command) (reply : Reply) (next : World) → HasCloneNumbers command → IsSound world
+    → Step world command reply next → IsSound next
 
 -- each world that a schedule reaches is sound
 abbrev pub RunsAreSound : Type 0

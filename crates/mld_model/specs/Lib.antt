@@ -13,6 +13,7 @@ pub mod ReleasedLaws
 pub mod StandsForLaws
 pub mod WorldStep
 pub mod WorldLaws
+pub mod JoinLaws
 pub mod KnownLaws
 pub mod ReleaseLaws
 pub mod HistoryLaws

@@ -5,6 +5,7 @@ use Rattle.tree_clock.specs.declared.dots.Dot.{Dot}
 use Rattle.tree_clock.specs.declared.dots.Range.{Range}
 use Rattle.tree_clock.specs.Lists.{Has, IsAscending}
 use Rattle.tree_clock.specs.Clock.{ticks_of, Covers, IsClock, RaisesTo}
+use Rattle.mld_ops.specs.declared.messages.Give.{Give}
 use Rattle.mld_ops.specs.declared.tagged.Tagged.{Tagged}
 use Rattle.mld_ops.specs.Tagged.{tagged_cmp, insert_cmp}
 use Rattle.mld_ops.specs.Entry.{EntryValue}
@@ -28,6 +29,12 @@ pub record LocalClone : Type 0 where
   pub held : List EntryValue
   pub ticks : List (List ℕ × ℕ)
   pub pairs : List Tagged
+
+-- one who asks for a leaf: its id, its domain and its single-valued properties
+pub record LocalAsker : Type 0 where
+  pub id : List ℕ
+  pub domain : List ℕ
+  pub properties : List (List ℕ)
 
 -- taking entries in order leads from a clock and pairs to others: each entry is ready, the clock is raised to its last dot, and
 -- the pairs are those that the entry leaves
@@ -133,3 +140,25 @@ pub record IsFullFor (clone : LocalClone) (entry : EntryValue) : Type 0 where
 -- the dots that an entry rests on cover the clone's own path beyond its own clock: another one has used its leaf
 abbrev pub IsForeign : LocalClone → EntryValue → Type 0
 IsForeign clone entry = ticks_of clone.ticks clone.path < ticks_of entry.time clone.path
+
+-- the clone forks its leaf for the one of the id: it keeps the left half, and gives the right one with a snapshot of what it has
+pub record LocallyForks (old : LocalClone) (id : List ℕ) (new : LocalClone) (give : Give) : Type 0 where
+  pub room : length old.path < 64
+  pub left : new ≡ record old { path = old.path ++ 48 ∷ [] }
+  pub asker : give.id ≡ id
+  pub right : give.path ≡ old.path ++ 49 ∷ []
+  pub clock : give.snapshot.clock.ticks ≡ old.ticks
+  pub pairs : give.snapshot.tagged.items ≡ old.pairs
+
+-- the clone of one who asked and took a leaf: its base is what the snapshot has, it has no journal, and it holds nothing back
+pub record LocallyJoins (asker : LocalAsker) (give : Give) (new : LocalClone) : Type 0 where
+  pub id : new.id ≡ asker.id
+  pub domain : new.domain ≡ asker.domain
+  pub properties : new.properties ≡ asker.properties
+  pub path : new.path ≡ give.path
+  pub base : new.base ≡ give.snapshot.clock.ticks
+  pub base_pairs : new.base_pairs ≡ give.snapshot.tagged.items
+  pub entries : new.entries ≡ []
+  pub held : new.held ≡ []
+  pub ticks : new.ticks ≡ give.snapshot.clock.ticks
+  pub pairs : new.pairs ≡ give.snapshot.tagged.items

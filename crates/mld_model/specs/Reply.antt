@@ -5,6 +5,7 @@ use Rattle.std.specs.Fmt.{decimal}
 use Rattle.rdf_terms.specs.Spelling.{triple_text}
 use Rattle.tree_clock.specs.declared.dots.Dot.{Dot}
 use Rattle.tree_clock.specs.declared.dots.Range.{Range}
+use Rattle.tree_clock.specs.Path.{path_text}
 use Rattle.tree_clock.specs.Dot.{dot_text, range_text}
 use Rattle.mld_ops.specs.declared.tagged.Tagged.{Tagged}
 
@@ -31,6 +32,14 @@ pub data Reply : Type 0 where
   Less : Reply
   More : Reply
   Apart : Reply
+  -- who asks for a leaf has asked in the message of the number
+  Sent : ℕ → Reply
+  -- what was asked for was sent in the messages of these numbers
+  Answer : List ℕ → Reply
+  -- the clone is live at the path
+  Joined : List ℕ → Reply
+  -- the leaf is too deep to be forked
+  Deep : Reply
   -- no message has the number
   NoMessage : Reply
   -- the clone takes no message
@@ -39,6 +48,7 @@ pub data Reply : Type 0 where
   IsAbsent : Reply
   IsAsking : Reply
   IsDown : Reply
+  IsLive : Reply
 
 -- the line of a pair
 abbrev pub pair_line : Tagged → List ℕ
@@ -47,6 +57,10 @@ pair_line pair = dot_text pair.dot ++ 32 ∷ (triple_text pair.triple ++ 10 ∷ 
 -- a range behind a space
 abbrev pub spaced_range : Range → List ℕ
 spaced_range range = 32 ∷ range_text range
+
+-- the number of a message behind a space
+abbrev pub spaced_message : ℕ → List ℕ
+spaced_message number = codes " m" ++ decimal number
 
 -- the text of a reply
 unfoldable pub reply_text : Reply → List ℕ
@@ -62,8 +76,13 @@ reply_text Same = codes "same\n"
 reply_text Less = codes "less\n"
 reply_text More = codes "more\n"
 reply_text Apart = codes "apart\n"
+reply_text (Sent number) = codes "sent m" ++ (decimal number ++ 10 ∷ [])
+reply_text (Answer numbers) = codes "answer" ++ (flat_map spaced_message numbers ++ 10 ∷ [])
+reply_text (Joined path) = codes "joined " ++ (path_text path ++ 10 ∷ [])
+reply_text Deep = codes "deep\n"
 reply_text NoMessage = codes "no message\n"
 reply_text Ignored = codes "ignored\n"
 reply_text IsAbsent = codes "absent\n"
 reply_text IsAsking = codes "asking\n"
 reply_text IsDown = codes "down\n"
+reply_text IsLive = codes "live\n"

@@ -7,7 +7,7 @@ use Rattle.std.specs.Fmt.{decimal}
 use Rattle.rdf_terms.specs.Domain.{is_domain}
 use Rattle.rdf_terms.specs.Grammar.{SpellsTriple, IsWithin}
 use Rattle.mld_model.specs.declared.Command.{Command}
-use Rattle.mld_model.specs.declared.Command.TheVariants.{Add, Remove, Deliver, Show, Compare}
+use Rattle.mld_model.specs.declared.Command.TheVariants.{Add, Remove, Deliver, Show, Compare, Join}
 
 -- an empty line, or a comment: `#` first, and UTF-8 throughout
 pub data IsNothing : List ℕ → Type 0 where
@@ -25,7 +25,7 @@ is_word = pointwise nat_eq
 -- the first words of lines that aren't built yet
 abbrev pub unbuilt_words : List (List ℕ)
 unbuilt_words =
-    codes "join" ∷ codes "stop" ∷ codes "open" ∷ codes "ask" ∷ codes "compact" ∷ codes "truncate"
+    codes "stop" ∷ codes "open" ∷ codes "ask" ∷ codes "compact" ∷ codes "truncate"
     ∷ codes "query" ∷ codes "update" ∷ codes "single" ∷ codes "crash" ∷ []
 
 -- a line that isn't built yet, whatever its rest is: one of those words first, or `add` or `remove` with a backslash somewhere
@@ -56,5 +56,6 @@ SpellsCommand line (Remove number triple) =
 SpellsCommand line (Deliver message number) =
     (line ≡ codes "deliver " ++ (decimal message ++ 32 ∷ decimal number)) × (message < 2 ^ 64) × IsCloneNumber number
 SpellsCommand line (Show number) = (line ≡ codes "show " ++ decimal number) × IsCloneNumber number
+SpellsCommand line (Join number) = (line ≡ codes "join " ++ decimal number) × IsCloneNumber number
 SpellsCommand line (Compare number other) =
     (line ≡ codes "compare " ++ (decimal number ++ 32 ∷ decimal other)) × IsCloneNumber number × IsCloneNumber other

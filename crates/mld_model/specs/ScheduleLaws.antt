@@ -8,11 +8,12 @@ use Rattle.std.proofs.lemmas.Fmt.{decimal_injective}
 use Rattle.rdf_terms.specs.Domain.{is_domain, is_domain_byte}
 use Rattle.rdf_terms.specs.Grammar.{SpellsTriple}
 use Rattle.mld_model.specs.declared.Command.{Command}
-use Rattle.mld_model.specs.declared.Command.TheVariants.{Add, Remove, Deliver, Show, Compare}
+use Rattle.mld_model.specs.declared.Command.TheVariants.{Add, Remove, Deliver, Show, Compare, Join}
 use Rattle.mld_model.specs.Schedule.{IsNothing, empty, comment, is_unbuilt, SpellsSetup, SpellsCommand}
 use Rattle.mld_model.specs.Bytes.{Lacks, Lacks-append, Lacks-from_test, Lacks-decimal, list_any-Lacks, one_split, apart}
 use Rattle.mld_model.specs.TripleBytes.{Lacks-triple}
 use Rattle.rdf_terms.specs.ReadingLaws.{one_spelled}
+use Rattle.mld_model.specs.Step.{HasCloneNumbers}
 use Rattle.mld_model.specs.Laws.{OneKind, OneSetup, OneCommand}
 
 -- ---- what a line begins with
@@ -35,6 +36,7 @@ begins (Add number triple) = 97
 begins (Remove number triple) = 114
 begins (Deliver message number) = 100
 begins (Show number) = 115
+begins (Join number) = 106
 begins (Compare number other) = 99
 
 -- a command begins with that byte
@@ -44,6 +46,7 @@ command_begins line (Add number triple) h = (_, h.1)
 command_begins line (Remove number triple) h = (_, h.1)
 command_begins line (Deliver message number) h = (_, h.0)
 command_begins line (Show number) h = (_, h.0)
+command_begins line (Join number) h = (_, h.0)
 command_begins line (Compare number other) h = (_, h.0)
 
 -- no command begins with `#`
@@ -53,6 +56,7 @@ begins_apart (Add number triple) = refl
 begins_apart (Remove number triple) = refl
 begins_apart (Deliver message number) = refl
 begins_apart (Show number) = refl
+begins_apart (Join number) = refl
 begins_apart (Compare number other) = refl
 
 -- ---- numbers
@@ -60,6 +64,15 @@ begins_apart (Compare number other) = refl
 -- the number of a clone is a small number
 small : {number : ℕ} → number < 32 → number < 2 ^ 64
 small h = omega arith
+
+-- the numbers of clones in a command that a line spells are those of clones that there are
+pub spells_numbers : (line : List ℕ) (command : Command) → SpellsCommand line command → HasCloneNumbers command
+spells_numbers line (Add number triple) h = h.2
+spells_numbers line (Remove number triple) h = h.2
+spells_numbers line (Deliver message number) h = h.2
+spells_numbers line (Show number) h = h.1
+spells_numbers line (Join number) h = h.1
+spells_numbers line (Compare number other) h = (h.1, h.2)
 
 -- numbers are written without spaces and backslashes
 no_space : (number : ℕ) → number < 2 ^ 64 → Lacks 32 (decimal number)
@@ -105,6 +118,7 @@ unbuilt_command line (Remove number triple) u h =
     false≢true (sym (list_any-Lacks 92 (decimal number ++ 32 ∷ h.0) lacks) ∙ subst (λ (l : List ℕ). is_unbuilt l ≡ true) h.1 u)
 unbuilt_command line (Deliver message number) u h = false≢true (subst (λ (l : List ℕ). is_unbuilt l ≡ true) h.0 u)
 unbuilt_command line (Show number) u h = false≢true (subst (λ (l : List ℕ). is_unbuilt l ≡ true) h.0 u)
+unbuilt_command line (Join number) u h = false≢true (subst (λ (l : List ℕ). is_unbuilt l ≡ true) h.0 u)
 unbuilt_command line (Compare number other) u h = false≢true (subst (λ (l : List ℕ). is_unbuilt l ≡ true) h.0 u)
 
 -- ---- domain lines and commands
@@ -115,6 +129,7 @@ setup_command line domain count (Add number triple) p q = apart p.whole q.1 refl
 setup_command line domain count (Remove number triple) p q = apart p.whole q.1 refl
 setup_command line domain count (Deliver message number) p q = apart (ap (drop 1) p.whole) (ap (drop 1) q.0) refl
 setup_command line domain count (Show number) p q = apart p.whole q.0 refl
+setup_command line domain count (Join number) p q = apart p.whole q.0 refl
 setup_command line domain count (Compare number other) p q = apart p.whole q.0 refl
 
 -- each line is of at most one kind
@@ -157,6 +172,8 @@ one_command line (Deliver message number) (Deliver other second) p q =
     cc (parts.0, same)
 one_command line (Show number) (Show other) p q =
     ap Show (decimal_injective number other (small p.1) (small q.1) (ap (drop 5) (sym p.0 ∙ q.0)))
+one_command line (Join number) (Join other) p q =
+    ap Join (decimal_injective number other (small p.1) (small q.1) (ap (drop 5) (sym p.0 ∙ q.0)))
 one_command line (Compare number with) (Compare other second) p q =
     let parts = one_number number other (decimal with) (decimal second) (small p.1) (small q.1) (ap (drop 8) (sym p.0 ∙ q.0)) in
     let same = decimal_injective with second (small p.2) (small q.2) parts.1 in

@@ -1,13 +1,13 @@
 -- What every world that a schedule reaches keeps.
-use Rattle.std.specs.Prelude.{◌≡◌, ◌≢◌, ℕ, ◌≤◌, List, [], ◌∷◌, ◌++◌, length}
+use Rattle.std.specs.Prelude.{◌≡◌, ◌≢◌, ℕ, ◌<◌, ◌≤◌, List, [], ◌∷◌, ◌++◌, length, slice_get, Some}
 use Rattle.tree_clock.specs.declared.dots.Dot.{Dot}
 use Rattle.tree_clock.specs.declared.dots.Range.{Range}
 use Rattle.tree_clock.specs.Lists.{Has}
-use Rattle.tree_clock.specs.Path.{IsProperPrefix, AreApart}
+use Rattle.tree_clock.specs.Path.{IsPrefix, IsProperPrefix, AreApart}
 use Rattle.tree_clock.specs.Dot.{IsIn, Knows}
 use Rattle.mld_ops.specs.History.{Operation, IsDone, IsClosed, IsLawful}
 use Rattle.mld_model.specs.Clone.{Clone, Absent, Asking, Empty, Down, Live, Stored, known_of, IsReady}
-use Rattle.mld_model.specs.World.{World, Message, RangeOf, Want, SnapshotOf, JoinAsk, JoinGive, clone_at}
+use Rattle.mld_model.specs.World.{World, Message, RangeOf, Want, SnapshotOf, JoinAsk, JoinGive, clone_at, clone_count}
 
 -- the clone of the number keeps this: it holds the path as its leaf
 abbrev pub Keeps : Clone → Stored → Type 0
@@ -50,8 +50,18 @@ abbrev pub IsSoundMessage : List Operation → Message → Type 0
 IsSoundMessage history (RangeOf range) = IsDoneRange history range
 IsSoundMessage history (Want dots) = (dot : Dot) → Knows dots dot → IsDone history dot
 IsSoundMessage history (SnapshotOf dots) = IsClosed history dots
-IsSoundMessage history (JoinAsk id) = Unit {0}
-IsSoundMessage history (JoinGive id path dots) = IsClosed history dots
+IsSoundMessage history (JoinAsk id) = id < clone_count
+IsSoundMessage history (JoinGive id path dots) = (id < clone_count) × IsClosed history dots
+
+-- the message of the place gives a leaf, and it is open: the clone that asked for it holds none
+pub record IsOpenGive (world : World) (place id : ℕ) (path : List ℕ) (dots : List Range) : Type 0 where
+  pub sent : slice_get world.messages place ≡ Some (JoinGive id path dots)
+  pub waits : (stored : Stored) → ¬ Keeps (clone_at world id) stored
+
+-- of a leaf that is given and open: no dot of the history is at its path or below it, and each at a proper prefix is one of its dots
+pub record IsSoundGive (history : List Operation) (path : List ℕ) (dots : List Range) : Type 0 where
+  pub above : (operation : Operation) → Has history operation → IsProperPrefix operation.dot.path path → Knows dots operation.dot
+  pub below : (operation : Operation) → Has history operation → ¬ IsPrefix path operation.dot.path
 
 -- a world is sound: its history is lawful, and its clones and messages fit that history
 pub record IsSound (world : World) : Type 0 where
@@ -67,5 +77,11 @@ pub record IsSound (world : World) : Type 0 where
   -- what each live clone holds back
   pub held : (number : ℕ) (stored : Stored) (held : List Range) → clone_at world number ≡ Live stored held
       → (range : Range) → Has held range → IsDoneRange world.history range
+  -- a leaf that is given and open is apart from each that is held, and from each other one that is given and open
+  pub gives_held : (place id : ℕ) (path : List ℕ) (dots : List Range) (number : ℕ) (stored : Stored) → IsOpenGive world place id path dots
+      → Keeps (clone_at world number) stored → AreApart path stored.path
+  pub gives_apart : (place id : ℕ) (path : List ℕ) (dots : List Range) (second other : ℕ) (leaf : List ℕ) (known : List Range) → place ≢ second
+      → IsOpenGive world place id path dots → IsOpenGive world second other leaf known → AreApart path leaf
+  pub gives : (place id : ℕ) (path : List ℕ) (dots : List Range) → IsOpenGive world place id path dots → IsSoundGive world.history path dots
   -- what was sent
   pub messages : (message : Message) → Has world.messages message → IsSoundMessage world.history message

@@ -11,11 +11,11 @@ use Rattle.mld_ops.specs.History.{Operation, dot_at}
 use Rattle.mld_ops.specs.Effect.{range_of}
 use Rattle.mld_ops.specs.Meaning.{IsMeaning}
 use Rattle.mld_model.specs.declared.Command.{Command}
-use Rattle.mld_model.specs.declared.Command.TheVariants.{Add, Remove, Deliver, Show, Compare}
+use Rattle.mld_model.specs.declared.Command.TheVariants.{Add, Remove, Deliver, Show, Compare, Join}
 use Rattle.mld_model.specs.Clone.{Clone, Absent, Asking, Empty, Down, Live, Stored, known_of, with_range, IsKnown, IsReady, IsHeldBack, IsWithin, Releases}
 use Rattle.mld_ops.specs.Held.{held_limit}
-use Rattle.mld_model.specs.World.{World, Message, RangeOf, message_at, clone_at, with_clone}
-use Rattle.mld_model.specs.Reply.{Reply, Did, NoOperation, Took, Held, HeldFull, AlreadyKnown, Shows, Same, Less, More, Apart, NoMessage, Ignored, IsAbsent, IsAsking, IsDown}
+use Rattle.mld_model.specs.World.{World, Message, RangeOf, JoinAsk, JoinGive, message_at, clone_count, clone_at, with_clone}
+use Rattle.mld_model.specs.Reply.{Reply, Did, NoOperation, Took, Held, HeldFull, AlreadyKnown, Shows, Same, Less, More, Apart, Sent, Answer, Joined, Deep, NoMessage, Ignored, IsAbsent, IsAsking, IsDown, IsLive}
 
 -- a reply that changes nothing
 abbrev pub Answers : World → Reply → Reply → World → Type 0
@@ -90,14 +90,62 @@ Receives world number stored held range reply next =
     ⊎ (Accepts world number stored held range reply next
     ⊎ (IsHeldBack world.history (known_of stored) range × HoldsBack world number stored held range reply next))
 
--- a message comes to a clone; other messages than ranges are never sent yet
+-- the world after the clone of the number asked for a leaf: it waits for one, and a message that asks is sent
+abbrev pub after_asking : World → ℕ → World
+after_asking world number = record (with_clone world number Asking) { messages = world.messages ++ JoinAsk number ∷ [] }
+
+-- a clone that isn't live asks for a leaf, and may ask again
+abbrev pub Joins : World → ℕ → Clone → Reply → World → Type 0
+Joins world number Absent reply next = (reply ≡ Sent (length world.messages + 1)) × (next ≡ after_asking world number)
+Joins world number Asking reply next = (reply ≡ Sent (length world.messages + 1)) × (next ≡ after_asking world number)
+Joins world number Empty reply next = Answers world IsDown reply next
+Joins world number (Down stored) reply next = Answers world IsDown reply next
+Joins world number (Live stored held) reply next = Answers world IsLive reply next
+
+-- how many letters a path has at most
+abbrev pub path_limit : ℕ
+path_limit = 64
+
+-- what a clone keeps that forked its leaf: the left half of it
+abbrev pub left_half : Stored → Stored
+left_half stored = record { path = stored.path ++ 48 ∷ []; base = stored.base; journal = stored.journal }
+
+-- the world after a live clone forked its leaf for the clone of the id: it keeps the left half, and sends the right one with
+-- the dots that it knows
+abbrev pub after_fork : World → ℕ → Stored → List Range → ℕ → World
+after_fork world number stored held id =
+    record (with_clone world number (Live (left_half stored) held)) {
+      messages = world.messages ++ JoinGive id (stored.path ++ 49 ∷ []) (known_of stored) ∷ [];
+    }
+
+-- a live clone is asked for a leaf by the clone of an id: it is that clone itself, or its leaf is too deep, or it forks
+abbrev pub Gives : World → ℕ → Stored → List Range → ℕ → Reply → World → Type 0
+Gives world number stored held id reply next =
+    ((id ≡ number) × Answers world Ignored reply next)
+    ⊎ (((id ≢ number) × (path_limit ≤ length stored.path) × Answers world Deep reply next)
+    ⊎ ((id ≢ number) × (length stored.path < path_limit) × (reply ≡ Answer ((length world.messages + 1) ∷ [])) × (next ≡ after_fork world number stored held id)))
+
+-- what a clone keeps that took a leaf with these dots: a base of them, and no journal
+abbrev pub joined_with : List ℕ → List Range → Stored
+joined_with path dots = record { path = path; base = dots; journal = [] }
+
+-- a leaf for the clone of an id comes to a clone that asks: it is that clone and lives from now on, or it isn't
+abbrev pub Adopts : World → ℕ → ℕ → List ℕ → List Range → Reply → World → Type 0
+Adopts world number id path dots reply next =
+    ((id ≡ number) × (reply ≡ Joined path) × (next ≡ with_clone world number (Live (joined_with path dots) [])))
+    ⊎ ((id ≢ number) × Answers world Ignored reply next)
+
+-- a message comes to a clone; wants and snapshots are never sent yet
 abbrev pub Takes : World → ℕ → Message → Clone → Reply → World → Type 0
 Takes world number message Absent reply next = Answers world IsAbsent reply next
-Takes world number (RangeOf range) Asking reply next = Answers world Ignored reply next
+Takes world number (JoinGive id path dots) Asking reply next = Adopts world number id path dots reply next
+Takes world number message Asking reply next = Answers world Ignored reply next
 Takes world number message Empty reply next = Answers world IsDown reply next
 Takes world number message (Down stored) reply next = Answers world IsDown reply next
 Takes world number (RangeOf range) (Live stored held) reply next = Receives world number stored held range reply next
-Takes world number message clone reply next = ⊥
+Takes world number (JoinAsk id) (Live stored held) reply next = Gives world number stored held id reply next
+Takes world number (JoinGive id path dots) (Live stored held) reply next = Answers world Ignored reply next
+Takes world number message (Live stored held) reply next = ⊥
 
 -- the pairs of a clone: the meaning of the dots that it knows
 abbrev pub Lists : World → Clone → Reply → World → Type 0
@@ -132,6 +180,15 @@ Weighs world Empty other reply next = Answers world IsDown reply next
 Weighs world (Down stored) other reply next = Answers world IsDown reply next
 Weighs world (Live stored held) other reply next = ComparesWith world stored other reply next
 
+-- the numbers of clones in a command are those of clones that there are
+abbrev pub HasCloneNumbers : Command → Type 0
+HasCloneNumbers (Add number triple) = number < clone_count
+HasCloneNumbers (Remove number triple) = number < clone_count
+HasCloneNumbers (Deliver message number) = number < clone_count
+HasCloneNumbers (Show number) = number < clone_count
+HasCloneNumbers (Join number) = number < clone_count
+HasCloneNumbers (Compare number other) = (number < clone_count) × (other < clone_count)
+
 -- the step: the world before, the command, the reply, the world after
 unfoldable pub Step : World → Command → Reply → World → Type 0
 Step world (Add number triple) reply next = Adds world number triple (clone_at world number) reply next
@@ -139,4 +196,5 @@ Step world (Remove number triple) reply next = Removes world number triple (clon
 Step world (Deliver message number) reply next =
     MatchOption (message_at world message) (Answers world NoMessage reply next) (λ sent. Takes world number sent (clone_at world number) reply next)
 Step world (Show number) reply next = Lists world (clone_at world number) reply next
+Step world (Join number) reply next = Joins world number (clone_at world number) reply next
 Step world (Compare number other) reply next = Weighs world (clone_at world number) (clone_at world other) reply next

@@ -11,11 +11,11 @@ use Rattle.mld_ops.specs.Tagged.{tagged_cmp}
 use Rattle.mld_ops.specs.TaggedLaws.{tagged_total, tagged_exact}
 use Rattle.mld_ops.specs.AscendingLaws.{same_ascending}
 use Rattle.mld_ops.specs.MeaningLaws.{one_meaning}
-use Rattle.mld_model.specs.declared.Command.TheVariants.{Add, Remove, Deliver, Show, Compare}
+use Rattle.mld_model.specs.declared.Command.TheVariants.{Add, Remove, Deliver, Show, Compare, Join}
 use Rattle.mld_model.specs.Clone.{Clone, Absent, Asking, Empty, Down, Live, Stored, known_of, with_range}
-use Rattle.mld_model.specs.World.{World, Message, RangeOf, message_at, clone_at, with_clone}
+use Rattle.mld_model.specs.World.{World, Message, RangeOf, JoinAsk, JoinGive, message_at, clone_at, with_clone}
 use Rattle.mld_model.specs.Reply.{Reply, Did, Took, Shows, NoMessage}
-use Rattle.mld_model.specs.Step.{Answers, IsNextTick, after_operation, Makes, Adds, ArePairsOf, Removes, Accepts, HoldsBack, Receives, Takes, Lists, Compares, ComparesWith, Weighs, Step}
+use Rattle.mld_model.specs.Step.{Answers, IsNextTick, after_operation, Makes, Adds, ArePairsOf, Removes, Accepts, HoldsBack, Receives, Joins, Gives, Adopts, Takes, Lists, Compares, ComparesWith, Weighs, Step}
 use Rattle.mld_model.specs.ReleaseLaws.{releases_once}
 use Rattle.mld_model.specs.Laws.{OneStep}
 
@@ -121,14 +121,47 @@ receives_once world number stored held range reply other next after (inr (inr p)
 receives_once world number stored held range reply other next after (inr (inr p)) (inr (inl q)) = absurd (p.0.unready q.ready)
 receives_once world number stored held range reply other next after (inr (inr p)) (inr (inr q)) = holds_once world number stored held range reply other next after p.1 q.1
 
+-- a clone that asks for a leaf has one outcome
+joins_once : (world : World) (number : ℕ) (clone : Clone) (reply other : Reply) (next after : World)
+    → Joins world number clone reply next → Joins world number clone other after → Same reply next other after
+joins_once world number Absent reply other next after p q = answers_once p q
+joins_once world number Asking reply other next after p q = answers_once p q
+joins_once world number Empty reply other next after p q = answers_once p q
+joins_once world number (Down stored) reply other next after p q = answers_once p q
+joins_once world number (Live stored held) reply other next after p q = answers_once p q
+
+-- a clone that is asked for a leaf has one outcome: it asked itself, or its leaf is too deep, or it forks
+gives_once : (world : World) (number : ℕ) (stored : Stored) (held : List Range) (id : ℕ) (reply other : Reply) (next after : World)
+    → Gives world number stored held id reply next → Gives world number stored held id other after → Same reply next other after
+gives_once world number stored held id reply other next after (inl p) (inl q) = answers_once p.1 q.1
+gives_once world number stored held id reply other next after (inl p) (inr (inl q)) = absurd (q.0 p.0)
+gives_once world number stored held id reply other next after (inl p) (inr (inr q)) = absurd (q.0 p.0)
+gives_once world number stored held id reply other next after (inr (inl p)) (inl q) = absurd (p.0 q.0)
+gives_once world number stored held id reply other next after (inr (inl p)) (inr (inl q)) = answers_once p.2 q.2
+gives_once world number stored held id reply other next after (inr (inl p)) (inr (inr q)) = absurd (omega (arith, p.1, q.1))
+gives_once world number stored held id reply other next after (inr (inr p)) (inl q) = absurd (p.0 q.0)
+gives_once world number stored held id reply other next after (inr (inr p)) (inr (inl q)) = absurd (omega (arith, q.1, p.1))
+gives_once world number stored held id reply other next after (inr (inr p)) (inr (inr q)) = (p.2 ∙ sym q.2, p.3 ∙ sym q.3)
+
+-- a leaf that comes to a clone that asks has one outcome: it is the clone that it was given to, or it isn't
+adopts_once : (world : World) (number id : ℕ) (path : List ℕ) (dots : List Range) (reply other : Reply) (next after : World)
+    → Adopts world number id path dots reply next → Adopts world number id path dots other after → Same reply next other after
+adopts_once world number id path dots reply other next after (inl p) (inl q) = (p.1 ∙ sym q.1, p.2 ∙ sym q.2)
+adopts_once world number id path dots reply other next after (inl p) (inr q) = absurd (q.0 p.0)
+adopts_once world number id path dots reply other next after (inr p) (inl q) = absurd (p.0 q.0)
+adopts_once world number id path dots reply other next after (inr p) (inr q) = answers_once p.1 q.1
+
 -- a message that comes to a clone has one outcome
 takes_once : (world : World) (number : ℕ) (message : Message) (clone : Clone) (reply other : Reply) (next after : World)
     → Takes world number message clone reply next → Takes world number message clone other after → Same reply next other after
 takes_once world number message Absent reply other next after p q = answers_once p q
-takes_once world number (RangeOf range) Asking reply other next after p q = answers_once p q
+takes_once world number (JoinGive id path dots) Asking reply other next after p q = adopts_once world number id path dots reply other next after p q
+takes_once world number message Asking reply other next after p q = answers_once p q
 takes_once world number message Empty reply other next after p q = answers_once p q
 takes_once world number message (Down stored) reply other next after p q = answers_once p q
 takes_once world number (RangeOf range) (Live stored held) reply other next after p q = receives_once world number stored held range reply other next after p q
+takes_once world number (JoinAsk id) (Live stored held) reply other next after p q = gives_once world number stored held id reply other next after p q
+takes_once world number (JoinGive id path dots) (Live stored held) reply other next after p q = answers_once p q
 takes_once world number message clone reply other next after p q = absurd p
 
 -- a `show` has one outcome: what a clone knows has one meaning
@@ -195,5 +228,6 @@ one_step world (Add number triple) reply other next after p q = adds_once world 
 one_step world (Remove number triple) reply other next after p q = removes_once world number triple (clone_at world number) reply other next after p q
 one_step world (Deliver message number) reply other next after p q = delivers_once world number (message_at world message) reply other next after p q
 one_step world (Show number) reply other next after p q = lists_once world (clone_at world number) reply other next after p q
+one_step world (Join number) reply other next after p q = joins_once world number (clone_at world number) reply other next after p q
 one_step world (Compare number second) reply other next after p q =
     weighs_once world (clone_at world number) (clone_at world second) reply other next after p q

@@ -1,18 +1,19 @@
 -- Each world that a schedule reaches is sound, and what a reader may take from that.
-use Rattle.std.specs.Prelude.{◌≡◌, ℕ, zero, suc, List, [], ◌∷◌, Option, Some, None, MatchOption, slice_get}
+use Rattle.std.specs.Prelude.{◌≡◌, ℕ, zero, suc, ◌<◌, List, [], ◌∷◌, Option, Some, None, MatchOption, slice_get}
 use Rattle.std.proofs.Common.{refl, sym, subst, inl, inr}
 use Rattle.rdf_terms.specs.declared.terms.Triple.{Triple}
 use Rattle.tree_clock.specs.declared.dots.Range.{Range}
 use Rattle.tree_clock.specs.Lists.{Has}
 use Rattle.mld_ops.specs.MeaningLaws.{one_meaning, same_known}
-use Rattle.mld_model.specs.declared.Command.TheVariants.{Add, Remove, Deliver, Show, Compare}
+use Rattle.mld_model.specs.declared.Command.TheVariants.{Add, Remove, Deliver, Show, Compare, Join}
 use Rattle.mld_model.specs.Clone.{Clone, Absent, Asking, Empty, Down, Live, Stored}
-use Rattle.mld_model.specs.World.{World, Message, RangeOf, message_at, clone_at}
+use Rattle.mld_model.specs.World.{World, Message, RangeOf, JoinAsk, JoinGive, message_at, clone_count, clone_at}
 use Rattle.mld_model.specs.Reply.{Reply, NoMessage}
-use Rattle.mld_model.specs.Step.{Answers, Makes, Adds, Removes, Receives, Takes, Lists, ComparesWith, Weighs, Step}
+use Rattle.mld_model.specs.Step.{Answers, Makes, Adds, Removes, Receives, Joins, Gives, Adopts, Takes, Lists, ComparesWith, Weighs, Step}
 use Rattle.mld_model.specs.Runs.{Stage, Waiting, Running, Acts, Runs}
-use Rattle.mld_model.specs.Sound.{IsSound}
-use Rattle.mld_model.specs.SoundLaws.{apart_differ, made_sound, taken_sound, holding_sound}
+use Rattle.mld_model.specs.Sound.{Keeps, IsSound}
+use Rattle.mld_model.specs.SoundLaws.{apart_differ, made_sound, taken_sound, holding_sound, asked_sound, forked_sound, stands_at, joined_sound}
+use Rattle.mld_model.specs.ScheduleLaws.{spells_numbers}
 use Rattle.mld_model.specs.FoundedLaws.{founded_sound}
 use Rattle.mld_model.specs.Laws.{StepIsSound, RunsAreSound, SamePairs, OneLeaf}
 
@@ -58,32 +59,61 @@ receives_sound world number stored held range reply next sound is sent (inr (inr
 receives_sound world number stored held range reply next sound is sent (inr (inr (back, inr (inr p)))) =
     subst IsSound (sym p.3) (holding_sound world number stored held range sound is (sound.messages (RangeOf range) sent))
 
+-- a clone that asks for a leaf leads to a sound world
+joins_sound : (world : World) (number : ℕ) (clone : Clone) (reply : Reply) (next : World)
+    → number < clone_count → IsSound world → clone_at world number ≡ clone → Joins world number clone reply next → IsSound next
+joins_sound world number Absent reply next small sound is p =
+    subst IsSound (sym p.1) (asked_sound world number sound small (λ stored. subst (λ (c : Clone). ¬ Keeps c stored) (sym is) (λ h. h)))
+joins_sound world number Asking reply next small sound is p =
+    subst IsSound (sym p.1) (asked_sound world number sound small (λ stored. subst (λ (c : Clone). ¬ Keeps c stored) (sym is) (λ h. h)))
+joins_sound world number Empty reply next small sound is p = same_sound world next sound p.1
+joins_sound world number (Down stored) reply next small sound is p = same_sound world next sound p.1
+joins_sound world number (Live stored held) reply next small sound is p = same_sound world next sound p.1
+
+-- and so does a live clone that is asked for one
+gives_sound : (world : World) (number : ℕ) (stored : Stored) (held : List Range) (id : ℕ) (reply : Reply) (next : World)
+    → IsSound world → clone_at world number ≡ Live stored held → Has world.messages (JoinAsk id)
+    → Gives world number stored held id reply next → IsSound next
+gives_sound world number stored held id reply next sound is sent (inl p) = same_sound world next sound p.1.1
+gives_sound world number stored held id reply next sound is sent (inr (inl p)) = same_sound world next sound p.2.1
+gives_sound world number stored held id reply next sound is sent (inr (inr p)) =
+    subst IsSound (sym p.3) (forked_sound world number stored held id sound is (sound.messages (JoinAsk id) sent))
+
+-- and a leaf that comes to a clone that asks
+adopts_sound : (world : World) (number place id : ℕ) (path : List ℕ) (dots : List Range) (reply : Reply) (next : World)
+    → IsSound world → clone_at world number ≡ Asking → slice_get world.messages place ≡ Some (JoinGive id path dots)
+    → Adopts world number id path dots reply next → IsSound next
+adopts_sound world number place id path dots reply next sound is sent (inl p) =
+    subst IsSound (sym p.2) (joined_sound world number place path dots sound is
+    (subst (λ (k : ℕ). slice_get world.messages place ≡ Some (JoinGive k path dots)) p.0 sent))
+adopts_sound world number place id path dots reply next sound is sent (inr p) = same_sound world next sound p.1.1
+
 -- and so does a message that comes to a clone
 takes_sound : (world : World) (number : ℕ) (message : Message) (clone : Clone) (reply : Reply) (next : World)
-    → IsSound world → clone_at world number ≡ clone → Has world.messages message
+    → IsSound world → clone_at world number ≡ clone → (sent : (place : ℕ) × (slice_get world.messages place ≡ Some message))
     → Takes world number message clone reply next → IsSound next
 takes_sound world number message Absent reply next sound is sent p = same_sound world next sound p.1
-takes_sound world number (RangeOf range) Asking reply next sound is sent p = same_sound world next sound p.1
+takes_sound world number (JoinGive id path dots) Asking reply next sound is sent p =
+    adopts_sound world number sent.0 id path dots reply next sound is sent.1 p
+takes_sound world number message Asking reply next sound is sent p = same_sound world next sound p.1
 takes_sound world number message Empty reply next sound is sent p = same_sound world next sound p.1
 takes_sound world number message (Down stored) reply next sound is sent p = same_sound world next sound p.1
 takes_sound world number (RangeOf range) (Live stored held) reply next sound is sent p =
-    receives_sound world number stored held range reply next sound is sent p
+    receives_sound world number stored held range reply next sound is (stands_at world.messages sent.0 (RangeOf range) sent.1) p
+takes_sound world number (JoinAsk id) (Live stored held) reply next sound is sent p =
+    gives_sound world number stored held id reply next sound is (stands_at world.messages sent.0 (JoinAsk id) sent.1) p
+takes_sound world number (JoinGive id path dots) (Live stored held) reply next sound is sent p = same_sound world next sound p.1
 takes_sound world number message clone reply next sound is sent p = absurd p
 
--- a message that stands at a place was sent
-stands_at : (messages : List Message) (place : ℕ) (message : Message) → slice_get messages place ≡ Some message → Has messages message
-stands_at [] place message is = cc
-stands_at (first ∷ messages) zero message is = inl (cc)
-stands_at (first ∷ messages) (suc place) message is = inr (stands_at messages place message is)
-
--- the message of a number was sent
-was_sent : (world : World) (number : ℕ) (message : Message) → message_at world number ≡ Some message → Has world.messages message
-was_sent world zero message is = cc
-was_sent world (suc before) message is = stands_at world.messages before message is
+-- the message of a number stands at a place of those that were sent
+was_sent : (world : World) (number : ℕ) (message : Message) → message_at world number ≡ Some message
+    → (place : ℕ) × (slice_get world.messages place ≡ Some message)
+was_sent world zero message is = absurd (cc)
+was_sent world (suc before) message is = (before, is)
 
 -- a `deliver` leads to a sound world
 delivers_sound : (world : World) (number : ℕ) (sent : Option Message) (reply : Reply) (next : World)
-    → IsSound world → ((message : Message) → sent ≡ Some message → Has world.messages message)
+    → IsSound world → ((message : Message) → sent ≡ Some message → (place : ℕ) × (slice_get world.messages place ≡ Some message))
     → MatchOption sent (Answers world NoMessage reply next) (λ message. Takes world number message (clone_at world number) reply next)
     → IsSound next
 delivers_sound world number None reply next sound has p = same_sound world next sound p.1
@@ -114,14 +144,15 @@ weighs_same world Empty other reply next p = p.1
 weighs_same world (Down stored) other reply next p = p.1
 weighs_same world (Live stored held) other reply next p = compares_same world stored other reply next p
 
--- a step of a sound world leads to a sound world
+-- a step of a sound world, by a command whose clones there are, leads to a sound world
 pub step_sound : StepIsSound
 unfolding Step
-step_sound world (Add number triple) reply next sound p = adds_sound world number triple (clone_at world number) reply next sound refl p
-step_sound world (Remove number triple) reply next sound p = removes_sound world number triple (clone_at world number) reply next sound refl p
-step_sound world (Deliver message number) reply next sound p = delivers_sound world number (message_at world message) reply next sound (was_sent world message) p
-step_sound world (Show number) reply next sound p = same_sound world next sound (lists_same world (clone_at world number) reply next p)
-step_sound world (Compare number other) reply next sound p =
+step_sound world (Add number triple) reply next small sound p = adds_sound world number triple (clone_at world number) reply next sound refl p
+step_sound world (Remove number triple) reply next small sound p = removes_sound world number triple (clone_at world number) reply next sound refl p
+step_sound world (Deliver message number) reply next small sound p = delivers_sound world number (message_at world message) reply next sound (was_sent world message) p
+step_sound world (Show number) reply next small sound p = same_sound world next sound (lists_same world (clone_at world number) reply next p)
+step_sound world (Join number) reply next small sound p = joins_sound world number (clone_at world number) reply next small sound refl p
+step_sound world (Compare number other) reply next small sound p =
     same_sound world next sound (weighs_same world (clone_at world number) (clone_at world other) reply next p)
 
 -- ---- runs
@@ -136,7 +167,7 @@ acts_sound : (stage : Stage) (line text : List ℕ) (next : Stage) → IsSoundSt
 acts_sound Waiting line text next sound (inl p) = subst IsSoundStage (sym p.2) tt
 acts_sound Waiting line text next sound (inr p) = subst IsSoundStage (sym p.changes) (founded_sound p.domain p.count)
 acts_sound (Running world) line text next sound (inl p) = subst IsSoundStage (sym p.2) sound
-acts_sound (Running world) line text next sound (inr p) = subst IsSoundStage (sym p.changes) (step_sound world p.command p.reply p.after sound p.steps)
+acts_sound (Running world) line text next sound (inr p) = subst IsSoundStage (sym p.changes) (step_sound world p.command p.reply p.after (spells_numbers line p.command p.spells) sound p.steps)
 
 -- and so do lines
 lines_sound : (stage : Stage) (lines : List (List ℕ)) (text : List ℕ) (next : Stage) → IsSoundStage stage → Runs stage lines text next → IsSoundStage next

@@ -23,21 +23,22 @@ use Rattle.mld_ops.specs.Meaning.{IsMeaning}
 use Rattle.mld_ops.specs.HistoryLaws.{causes_done}
 use Rattle.mld_ops.specs.Ready.{last_dot, IsKnownEntry}
 use Rattle.mld_model.specs.declared.Command.TheVariants.{Add, Remove, Deliver, Show, Compare}
+use Rattle.mld_model.specs.declared.CloneState.TheVariants as states
 use Rattle.mld_model.specs.Clone.{Clone, Absent, Live, Stored, known_of, with_range, IsReady, IsHeldBack, IsWithin}
 use Rattle.mld_ops.specs.Held.{held_limit}
 use Rattle.mld_model.specs.World.{World, Message, RangeOf, message_at, clone_at, with_clone, founded, founded_clone}
 use Rattle.mld_model.specs.Step.{Step, Answers, Adds, ArePairsOf, Removes, IsNextTick, Makes, after_operation, Receives, Takes, Lists, Compares, ComparesWith, Weighs}
-use Rattle.mld_model.specs.Reply.{Reply, Did, NoOperation, Took, Held, HeldFull, AlreadyKnown, Shows, Same, Less, More, Apart, NoMessage, IsAbsent}
+use Rattle.mld_model.specs.Reply.{Reply, Did, NoOperation, Took, Held, HeldFull, AlreadyKnown, Shows, Same, Less, More, Apart, NoMessage, IsAbsent, IsAsking}
 use Rattle.mld_model.specs.Sound.{IsDoneRange, IsSoundClone, IsSound}
-use Rattle.mld_model.specs.Local.{LocalClone, next_dot, LocallyMakes, LocallyAccepts, MustBeHeld, IsFullFor, IsForeign}
+use Rattle.mld_model.specs.Local.{LocalAsker, LocalClone, next_dot, LocallyMakes, LocallyAccepts, MustBeHeld, IsFullFor, IsForeign}
 use Rattle.mld_ops.specs.Held.{ranges_of}
-use Rattle.mld_model.specs.StandsFor.{RunningWorld, EntryStandsFor, LocalStandsFor, IsCloneOf, CloneStandsFor, MessageStandsFor, StandsFor, founded_local, founded_running}
+use Rattle.mld_model.specs.StandsFor.{RunningClone, RunningWorld, EntryStandsFor, LocalStandsFor, IsCloneOf, CloneStandsFor, MessageStandsFor, StandsFor, founded_local, founded_running}
 use Rattle.mld_model.specs.JournalLaws.{journal_done}
 use Rattle.mld_model.specs.SoundLaws.{made_is_next, made_sound, taken_sound, holding_sound, live_sound, taker_stays_sound}
 use Rattle.mld_model.specs.LocalLaws.{kept_by, next_tick_of, made_by, maker_stands, made_entry, known_alike, ready_alike, KnowsAs, raised_knows, taker_knows}
 use Rattle.mld_model.specs.ReleasedLaws.{stand_done, Released, release_stands}
 use Rattle.mld_model.specs.PairsLaws.{PairAt, pair_at, no_pair_at, pairs_count, pairs_append}
-use Rattle.mld_model.specs.StandsForLaws.{LiveAt, live_at, absent_at, place_of_running, clone_stands_as, still_clone_of, clones_stand_set, clones_still_stand, messages_still_stand}
+use Rattle.mld_model.specs.StandsForLaws.{LiveAt, live_at, absent_at, asking_at, place_of_running, clone_stands_as, still_clone_of, clones_stand_set, clones_still_stand, messages_still_stand}
 use Rattle.mld_model.specs.KnownLaws.{known_with}
 use Rattle.mld_model.specs.WorldStep.{Follows}
 
@@ -62,18 +63,18 @@ founded_clone_stands domain count number = elim (cases_Bool (ltb number count)) 
 ]
 
 founded_at : (domain : List ℕ) (count number : ℕ)
-    → CloneStandsFor (founded domain count) number (get_or (map (founded_local domain count) (range_with_len 0 32)) number None) (clone_at (founded domain count) number)
+    → CloneStandsFor (founded domain count) number (get_or (map (founded_local domain count) (range_with_len 0 32)) number states.Absent) (clone_at (founded domain count) number)
 founded_at domain count number = elim (cases_lt number 32) [
   | inl inside ↦
-      subst (λ (r : Option LocalClone). CloneStandsFor (founded domain count) number r (clone_at (founded domain count) number))
-      (sym (get_or-map-range_with_len (founded_local domain count) 0 32 number number None inside (omega arith)))
+      subst (λ (r : RunningClone). CloneStandsFor (founded domain count) number r (clone_at (founded domain count) number))
+      (sym (get_or-map-range_with_len (founded_local domain count) 0 32 number number states.Absent inside (omega arith)))
       (subst (λ (c : Clone). CloneStandsFor (founded domain count) number (founded_local domain count number) c)
       (sym (get_or-map-range_with_len (founded_clone count) 0 32 number number Absent inside (omega arith)))
       (founded_clone_stands domain count number))
   | inr past ↦
-      subst (λ (r : Option LocalClone). CloneStandsFor (founded domain count) number r (clone_at (founded domain count) number))
-      (sym (get_or_past (map (founded_local domain count) (range_with_len 0 32)) number None (omega (arith, past, length-map-range_with_len (founded_local domain count) 0 32))))
-      (subst (λ (c : Clone). CloneStandsFor (founded domain count) number None c)
+      subst (λ (r : RunningClone). CloneStandsFor (founded domain count) number r (clone_at (founded domain count) number))
+      (sym (get_or_past (map (founded_local domain count) (range_with_len 0 32)) number states.Absent (omega (arith, past, length-map-range_with_len (founded_local domain count) 0 32))))
+      (subst (λ (c : Clone). CloneStandsFor (founded domain count) number states.Absent c)
       (sym (get_or_past (map (founded_clone count) (range_with_len 0 32)) number Absent (omega (arith, past, length-map-range_with_len (founded_clone count) 0 32))))
       tt)
 ]
@@ -82,6 +83,7 @@ founded_at domain count number = elim (cases_lt number 32) [
 pub founded_stands : (domain : List ℕ) (count : ℕ) → StandsFor (founded_running domain count) (founded domain count)
 founded_stands domain count = record {
   domain = refl;
+  properties = refl;
   count = length-map-range_with_len (founded_local domain count) 0 32;
   clones = founded_at domain count;
   messages = tt;
@@ -95,17 +97,18 @@ stepped running = record { domain = running.domain; clones = running.clones; mes
 -- with another clone
 abbrev pub stepped_with : RunningWorld → ℕ → LocalClone → RunningWorld
 stepped_with running number clone =
-    record { domain = running.domain; clones = set running.clones number (Some clone); messages = running.messages; steps = running.steps + 1 }
+    record { domain = running.domain; clones = set running.clones number (states.Live clone); messages = running.messages; steps = running.steps + 1 }
 
 -- with another clone and the message of one more entry
 abbrev pub stepped_sending : RunningWorld → ℕ → LocalClone → EntryValue → RunningWorld
 stepped_sending running number clone entry =
-    record { domain = running.domain; clones = set running.clones number (Some clone); messages = running.messages ++ sent.Range entry ∷ []; steps = running.steps + 1 }
+    record { domain = running.domain; clones = set running.clones number (states.Live clone); messages = running.messages ++ sent.Range entry ∷ []; steps = running.steps + 1 }
 
 -- nothing but the count of steps changes
 pub stepped_stands : (running : RunningWorld) (world : World) → StandsFor running world → StandsFor (stepped running) world
 stepped_stands running world stands = record {
   domain = stands.domain;
+  properties = stands.properties;
   count = stands.count;
   clones = stands.clones;
   messages = stands.messages;
@@ -134,7 +137,7 @@ pub record MakesSoundly (world : World) (number : ℕ) (live : LocalClone) (dele
 
 -- a live clone that makes an operation does so in the model, and the running world stands for what that makes
 pub makes_soundly : (running : RunningWorld) (world : World) → StandsFor running world → IsSound world → (number : ℕ) (live : LocalClone)
-    → get_or running.clones number None ≡ Some live → (deletes : List Tagged) (inserts : List Triple) (new : LocalClone) (entry : EntryValue)
+    → get_or running.clones number states.Absent ≡ states.Live live → (deletes : List Tagged) (inserts : List Triple) (new : LocalClone) (entry : EntryValue)
     → ((pair : Tagged) → Has deletes pair → Has live.pairs pair) → LocallyMakes live deletes inserts new entry
     → MakesSoundly world number live deletes inserts (Did (next_dot live) (length running.messages + 1)) (stepped_sending running number new entry)
 makes_soundly running world stands sound number live is deletes inserts new entry present makes =
@@ -160,8 +163,9 @@ makes_soundly running world stands sound number live is deletes inserts new entr
       sound = made_sound world number stored at.held (next_dot live).tick deletes inserts sound at.live tick covered inserted;
       stands = record {
         domain = stands.domain;
-        count = length-set running.clones number (Some new) ∙ stands.count;
-        clones = clones_stand_set next running.clones world.clones number new (Live (with_range stored (range_of (next_dot live))) at.held)
+        properties = stands.properties;
+        count = length-set running.clones number (states.Live new) ∙ stands.count;
+        clones = clones_stand_set next running.clones world.clones number (states.Live new) (Live (with_range stored (range_of (next_dot live))) at.held)
             inside (omega (arith, inside, stands.count, sound.count))
             (clones_still_stand running world next operation stands sound is_next refl refl refl) (
               still_clone_of world next number live new makes.same refl refl at.is,
@@ -182,7 +186,7 @@ makes_soundly running world stands sound number live is deletes inserts new entr
 
 -- a live clone adds a triple
 pub add_follows : (running : RunningWorld) (world : World) → StandsFor running world → IsSound world → (number : ℕ) (triple : Triple) (live : LocalClone)
-    → get_or running.clones number None ≡ Some live → (new : LocalClone) (entry : EntryValue) → LocallyMakes live [] (triple ∷ []) new entry
+    → get_or running.clones number states.Absent ≡ states.Live live → (new : LocalClone) (entry : EntryValue) → LocallyMakes live [] (triple ∷ []) new entry
     → Follows world (Add number triple) (Did (next_dot live) (length running.messages + 1)) (stepped_sending running number new entry)
 unfolding Step
 add_follows running world stands sound number triple live is new entry makes =
@@ -193,16 +197,24 @@ add_follows running world stands sound number triple live is new entry makes =
 
 -- an absent clone adds nothing
 pub add_absent : (running : RunningWorld) (world : World) → StandsFor running world → IsSound world → (number : ℕ) (triple : Triple)
-    → get_or running.clones number None ≡ None → Follows world (Add number triple) IsAbsent (stepped running)
+    → get_or running.clones number states.Absent ≡ states.Absent → Follows world (Add number triple) IsAbsent (stepped running)
 unfolding Step
 add_absent running world stands sound number triple is =
     let P : Clone → Type 0 = λ c. Adds world number triple c IsAbsent world in
     record { next = world; steps = subst P (sym (absent_at running world stands number is)) (refl, refl); sound = sound; stands = stepped_stands running world stands }
 
+-- one who asks adds nothing
+pub add_asking : (running : RunningWorld) (world : World) → StandsFor running world → IsSound world → (number : ℕ) (triple : Triple) (asker : LocalAsker)
+    → get_or running.clones number states.Absent ≡ states.Asking asker → Follows world (Add number triple) IsAsking (stepped running)
+unfolding Step
+add_asking running world stands sound number triple asker is =
+    let P : Clone → Type 0 = λ c. Adds world number triple c IsAsking world in
+    record { next = world; steps = subst P (sym (asking_at running world stands number asker is).asking) (refl, refl); sound = sound; stands = stepped_stands running world stands }
+
 -- ---- remove
 
 pub remove_follows : (running : RunningWorld) (world : World) → StandsFor running world → IsSound world → (number : ℕ) (triple : Triple) (live : LocalClone)
-    → get_or running.clones number None ≡ Some live → (deletes : List Tagged) (new : LocalClone) (entry : EntryValue) → ArePairsOf triple live.pairs deletes → deletes ≢ []
+    → get_or running.clones number states.Absent ≡ states.Live live → (deletes : List Tagged) (new : LocalClone) (entry : EntryValue) → ArePairsOf triple live.pairs deletes → deletes ≢ []
     → LocallyMakes live deletes [] new entry
     → Follows world (Remove number triple) (Did (next_dot live) (length running.messages + 1)) (stepped_sending running number new entry)
 unfolding Step
@@ -219,7 +231,7 @@ remove_follows running world stands sound number triple live is deletes new entr
     }
 
 pub remove_nothing : (running : RunningWorld) (world : World) → StandsFor running world → IsSound world → (number : ℕ) (triple : Triple) (live : LocalClone)
-    → get_or running.clones number None ≡ Some live → ArePairsOf triple live.pairs [] → Follows world (Remove number triple) NoOperation (stepped running)
+    → get_or running.clones number states.Absent ≡ states.Live live → ArePairsOf triple live.pairs [] → Follows world (Remove number triple) NoOperation (stepped running)
 unfolding Step
 remove_nothing running world stands sound number triple live is none =
     let at : LiveAt world number live = live_at running world stands number live is in
@@ -227,11 +239,18 @@ remove_nothing running world stands sound number triple live is none =
     record { next = world; steps = subst P (sym at.live) (live.pairs, [], at.stands.pairs, none, inl (refl, (refl, refl))); sound = sound; stands = stepped_stands running world stands }
 
 pub remove_absent : (running : RunningWorld) (world : World) → StandsFor running world → IsSound world → (number : ℕ) (triple : Triple)
-    → get_or running.clones number None ≡ None → Follows world (Remove number triple) IsAbsent (stepped running)
+    → get_or running.clones number states.Absent ≡ states.Absent → Follows world (Remove number triple) IsAbsent (stepped running)
 unfolding Step
 remove_absent running world stands sound number triple is =
     let P : Clone → Type 0 = λ c. Removes world number triple c IsAbsent world in
     record { next = world; steps = subst P (sym (absent_at running world stands number is)) (refl, refl); sound = sound; stands = stepped_stands running world stands }
+
+pub remove_asking : (running : RunningWorld) (world : World) → StandsFor running world → IsSound world → (number : ℕ) (triple : Triple) (asker : LocalAsker)
+    → get_or running.clones number states.Absent ≡ states.Asking asker → Follows world (Remove number triple) IsAsking (stepped running)
+unfolding Step
+remove_asking running world stands sound number triple asker is =
+    let P : Clone → Type 0 = λ c. Removes world number triple c IsAsking world in
+    record { next = world; steps = subst P (sym (asking_at running world stands number asker is).asking) (refl, refl); sound = sound; stands = stepped_stands running world stands }
 
 -- ---- deliver
 
@@ -288,30 +307,43 @@ deliver_nothing running world stands sound message number is =
     let P : Option Message → Type 0 = λ o. MatchOption o (Answers world NoMessage NoMessage world) (λ sent. Takes world number sent (clone_at world number) NoMessage world) in
     record { next = world; steps = subst P (sym (no_message running world stands message is)) (refl, refl); sound = sound; stands = stepped_stands running world stands }
 
+-- what a clone does with a message follows the model where the model's clone may do so
+pub taking_follows : (next : RunningWorld) (world after : World) (message number : ℕ) (what : Message) (clone : Clone) (reply : Reply)
+    → message_at world message ≡ Some what → clone_at world number ≡ clone → Takes world number what clone reply after → IsSound after → StandsFor next after
+    → Follows world (Deliver message number) reply next
+unfolding Step
+taking_follows next world after message number what clone reply sent is takes sound stands =
+    let P : Option Message → Type 0 = λ o. MatchOption o (Answers world NoMessage reply after) (λ m. Takes world number m (clone_at world number) reply after) in
+    let Q : Clone → Type 0 = λ c. Takes world number what c reply after in
+    record { next = after; steps = subst P (sym sent) (subst Q (sym is) takes); sound = sound; stands = stands }
+
 -- a message comes to an absent clone
 pub deliver_absent : (running : RunningWorld) (world : World) → StandsFor running world → IsSound world → (message number : ℕ) (what : SentMessage)
-    → sent_message running message ≡ Some what → get_or running.clones number None ≡ None → Follows world (Deliver message number) IsAbsent (stepped running)
-unfolding Step
+    → sent_message running message ≡ Some what → get_or running.clones number states.Absent ≡ states.Absent → Follows world (Deliver message number) IsAbsent (stepped running)
 deliver_absent running world stands sound message number what sent is =
     let s : SentAs world what message = sent_as running world stands message what sent in
-    let P : Option Message → Type 0 = λ o. MatchOption o (Answers world NoMessage IsAbsent world) (λ m. Takes world number m (clone_at world number) IsAbsent world) in
-    let Q : Clone → Type 0 = λ c. Takes world number s.other c IsAbsent world in
-    record { next = world; steps = subst P (sym s.at) (subst Q (sym (absent_at running world stands number is)) (refl, refl)); sound = sound; stands = stepped_stands running world stands }
+    taking_follows (stepped running) world world message number s.other Absent IsAbsent s.at (absent_at running world stands number is) (refl, refl) sound (stepped_stands running world stands)
+
+-- the clones of a running world where one of them has changed, and those of a world with the same history
+pub clones_set_stand : (running : RunningWorld) (world : World) → StandsFor running world → IsSound world → (number : ℕ) (new : RunningClone) (clone : Clone) (next : World)
+    → number < length running.clones → next.history ≡ world.history → next.domain ≡ world.domain → next.properties ≡ world.properties → CloneStandsFor world number new clone
+    → (other : ℕ) → CloneStandsFor next other (get_or (set running.clones number new) other states.Absent) (get_or (set world.clones number clone) other Absent)
+clones_set_stand running world stands sound number new clone next inside history domain properties now =
+    clones_stand_set next running.clones world.clones number new clone inside (omega (arith, inside, stands.count, sound.count))
+    (λ other. clone_stands_as world next other (get_or running.clones other states.Absent) (clone_at world other) history domain properties (stands.clones other))
+    (clone_stands_as world next number new clone history domain properties now)
 
 -- how a live clone's answer to an entry follows the model
 answer_follows : (running next : RunningWorld) (world after : World) (message number : ℕ) (entry : EntryValue) (live : LocalClone) (reply : Reply)
     → (s : SentRange world entry message) → (at : LiveAt world number live)
     → Receives world number (kept_by live at.base at.journal) at.held s.range reply after → IsSound after → StandsFor next after
     → Follows world (Deliver message number) reply next
-unfolding Step
 answer_follows running next world after message number entry live reply s at receives sound stands =
-    let P : Option Message → Type 0 = λ o. MatchOption o (Answers world NoMessage reply after) (λ m. Takes world number m (clone_at world number) reply after) in
-    let Q : Clone → Type 0 = λ c. Takes world number (RangeOf s.range) c reply after in
-    record { next = after; steps = subst P (sym s.at) (subst Q (sym at.live) receives); sound = sound; stands = stands }
+    taking_follows next world after message number (RangeOf s.range) (Live (kept_by live at.base at.journal) at.held) reply s.at at.live receives sound stands
 
 -- a message comes to a clone that knows it
 pub deliver_known : (running : RunningWorld) (world : World) → StandsFor running world → IsSound world → (message number : ℕ) (entry : EntryValue) (live : LocalClone)
-    → sent_message running message ≡ Some (sent.Range entry) → get_or running.clones number None ≡ Some live → IsKnownEntry live.ticks entry
+    → sent_message running message ≡ Some (sent.Range entry) → get_or running.clones number states.Absent ≡ states.Live live → IsKnownEntry live.ticks entry
     → Follows world (Deliver message number) AlreadyKnown (stepped running)
 deliver_known running world stands sound message number entry live sent is known =
     let s : SentRange world entry message = sent_range running world stands message entry sent in
@@ -320,26 +352,22 @@ deliver_known running world stands sound message number entry live sent is known
     (inl ((known_alike world.history live.ticks (known_of (kept_by live at.base at.journal)) at.stands.known s.range entry s.entry_stands.net).0 known, (refl, refl)))
     sound (stepped_stands running world stands)
 
--- a running world where one live clone has changed, and nothing else
-changed_stands : (running : RunningWorld) (world : World) → StandsFor running world → IsSound world → (number : ℕ) (live new : LocalClone) (stored : Stored) (held : List Range)
-    → get_or running.clones number None ≡ Some live → IsCloneOf world number new → LocalStandsFor world.history new stored held
+-- a running world where one clone is live as another, and nothing else has changed
+pub changed_stands : (running : RunningWorld) (world : World) → StandsFor running world → IsSound world → (number : ℕ) (new : LocalClone) (stored : Stored) (held : List Range)
+    → number < length running.clones → IsCloneOf world number new → LocalStandsFor world.history new stored held
     → StandsFor (stepped_with running number new) (with_clone world number (Live stored held))
-changed_stands running world stands sound number live new stored held is of now =
-    let inside : number < length running.clones = place_of_running running.clones number live is in
-    let next : World = with_clone world number (Live stored held) in
-    record {
-      domain = stands.domain;
-      count = length-set running.clones number (Some new) ∙ stands.count;
-      clones = clones_stand_set next running.clones world.clones number new (Live stored held) inside (omega (arith, inside, stands.count, sound.count))
-          (λ other. clone_stands_as world next other (get_or running.clones other None) (clone_at world other) refl refl refl (stands.clones other))
-          (record { id = of.id; domain = of.domain; properties = of.properties }, now);
-      messages = stands.messages;
-      ticks = λ operation h. omega (arith, stands.ticks operation h);
-    }
+changed_stands running world stands sound number new stored held inside of now = record {
+  domain = stands.domain;
+  properties = stands.properties;
+  count = length-set running.clones number (states.Live new) ∙ stands.count;
+  clones = clones_set_stand running world stands sound number (states.Live new) (Live stored held) (with_clone world number (Live stored held)) inside refl refl refl (of, now);
+  messages = stands.messages;
+  ticks = λ operation h. omega (arith, stands.ticks operation h);
+}
 
 -- a message comes to a clone that is ready for it
 pub deliver_taken : (running : RunningWorld) (world : World) → StandsFor running world → IsSound world → (message number : ℕ) (entry : EntryValue) (live new : LocalClone) (ranges : List Range)
-    → sent_message running message ≡ Some (sent.Range entry) → get_or running.clones number None ≡ Some live → LocallyAccepts live entry new ranges
+    → sent_message running message ≡ Some (sent.Range entry) → get_or running.clones number states.Absent ≡ states.Live live → LocallyAccepts live entry new ranges
     → Follows world (Deliver message number) (Took ranges) (stepped_with running number new)
 deliver_taken running world stands sound message number entry live new ranges sent is accepts =
     let s : SentRange world entry message = sent_range running world stands message entry sent in
@@ -380,7 +408,7 @@ deliver_taken running world stands sound message number entry live new ranges se
       changes = refl;
     })))
     (taken_sound world number stored at.held s.range released.ranges after released.rest sound at.live done ready released.releases)
-    (changed_stands running world stands sound number live new after released.rest is
+    (changed_stands running world stands sound number new after released.rest (place_of_running running.clones number live is)
     (still_clone_of world world number live new accepts.same refl refl at.is)
     (record {
       path = accepts.same.path;
@@ -419,7 +447,7 @@ held_alike history entries ranges entry range all same = (
 
 -- a message comes to a clone that holds one of its range already
 pub deliver_held_already : (running : RunningWorld) (world : World) → StandsFor running world → IsSound world → (message number : ℕ) (entry : EntryValue) (live : LocalClone)
-    → sent_message running message ≡ Some (sent.Range entry) → get_or running.clones number None ≡ Some live → MustBeHeld live entry → Has (ranges_of live.held) entry.range
+    → sent_message running message ≡ Some (sent.Range entry) → get_or running.clones number states.Absent ≡ states.Live live → MustBeHeld live entry → Has (ranges_of live.held) entry.range
     → Follows world (Deliver message number) Held (stepped running)
 deliver_held_already running world stands sound message number entry live sent is must has =
     let s : SentRange world entry message = sent_range running world stands message entry sent in
@@ -434,7 +462,7 @@ deliver_held_already running world stands sound message number entry live sent i
 
 -- a message comes to a clone that holds too many others back
 pub deliver_full : (running : RunningWorld) (world : World) → StandsFor running world → IsSound world → (message number : ℕ) (entry : EntryValue) (live : LocalClone)
-    → sent_message running message ≡ Some (sent.Range entry) → get_or running.clones number None ≡ Some live → MustBeHeld live entry → IsFullFor live entry
+    → sent_message running message ≡ Some (sent.Range entry) → get_or running.clones number states.Absent ≡ states.Live live → MustBeHeld live entry → IsFullFor live entry
     → Follows world (Deliver message number) HeldFull (stepped running)
 deliver_full running world stands sound message number entry live sent is must full =
     let s : SentRange world entry message = sent_range running world stands message entry sent in
@@ -453,7 +481,7 @@ deliver_full running world stands sound message number entry live sent is must f
 
 -- a message comes to a clone that holds it back from now on
 pub deliver_held : (running : RunningWorld) (world : World) → StandsFor running world → IsSound world → (message number : ℕ) (entry : EntryValue) (live : LocalClone)
-    → sent_message running message ≡ Some (sent.Range entry) → get_or running.clones number None ≡ Some live → MustBeHeld live entry
+    → sent_message running message ≡ Some (sent.Range entry) → get_or running.clones number states.Absent ≡ states.Live live → MustBeHeld live entry
     → ¬ Has (ranges_of live.held) entry.range → length live.held < held_limit
     → Follows world (Deliver message number) Held (stepped_with running number (record live { held = live.held ++ entry ∷ [] }))
 deliver_held running world stands sound message number entry live sent is must lacks few =
@@ -474,7 +502,7 @@ deliver_held running world stands sound message number entry live sent is must l
       )),
     )))
     (holding_sound world number stored at.held s.range sound at.live done)
-    (changed_stands running world stands sound number live new stored (at.held ++ s.range ∷ []) is
+    (changed_stands running world stands sound number new stored (at.held ++ s.range ∷ []) (place_of_running running.clones number live is)
     (record { id = at.is.id; domain = at.is.domain; properties = at.is.properties })
     (record {
       path = at.stands.path;
@@ -488,7 +516,7 @@ deliver_held running world stands sound message number entry live sent is must l
 
 -- an entry that was sent says no more of a clone's own path than the clone knows
 pub never_foreign : (running : RunningWorld) (world : World) → StandsFor running world → IsSound world → (message number : ℕ) (entry : EntryValue) (live : LocalClone)
-    → sent_message running message ≡ Some (sent.Range entry) → get_or running.clones number None ≡ Some live → ¬ IsForeign live entry
+    → sent_message running message ≡ Some (sent.Range entry) → get_or running.clones number states.Absent ≡ states.Live live → ¬ IsForeign live entry
 never_foreign running world stands sound message number entry live sent is foreign =
     let s : SentRange world entry message = sent_range running world stands message entry sent in
     let at : LiveAt world number live = live_at running world stands number live is in
@@ -508,7 +536,7 @@ never_foreign running world stands sound message number entry live sent is forei
 
 -- a live clone shows its pairs
 pub show_follows : (running : RunningWorld) (world : World) → StandsFor running world → IsSound world → (number : ℕ) (live : LocalClone)
-    → get_or running.clones number None ≡ Some live → Follows world (Show number) (Shows live.pairs) (stepped running)
+    → get_or running.clones number states.Absent ≡ states.Live live → Follows world (Show number) (Shows live.pairs) (stepped running)
 unfolding Step
 show_follows running world stands sound number live is =
     let at : LiveAt world number live = live_at running world stands number live is in
@@ -517,11 +545,19 @@ show_follows running world stands sound number live is =
 
 -- an absent clone shows none
 pub show_absent : (running : RunningWorld) (world : World) → StandsFor running world → IsSound world → (number : ℕ)
-    → get_or running.clones number None ≡ None → Follows world (Show number) IsAbsent (stepped running)
+    → get_or running.clones number states.Absent ≡ states.Absent → Follows world (Show number) IsAbsent (stepped running)
 unfolding Step
 show_absent running world stands sound number is =
     let P : Clone → Type 0 = λ c. Lists world c IsAbsent world in
     record { next = world; steps = subst P (sym (absent_at running world stands number is)) (refl, refl); sound = sound; stands = stepped_stands running world stands }
+
+-- one who asks shows none
+pub show_asking : (running : RunningWorld) (world : World) → StandsFor running world → IsSound world → (number : ℕ) (asker : LocalAsker)
+    → get_or running.clones number states.Absent ≡ states.Asking asker → Follows world (Show number) IsAsking (stepped running)
+unfolding Step
+show_asking running world stands sound number asker is =
+    let P : Clone → Type 0 = λ c. Lists world c IsAsking world in
+    record { next = world; steps = subst P (sym (asking_at running world stands number asker is).asking) (refl, refl); sound = sound; stands = stepped_stands running world stands }
 
 -- ---- compare
 
@@ -546,7 +582,7 @@ within_alike history live other stored kept held back a b = (
 
 -- two live clones compare
 pub compare_follows : (running : RunningWorld) (world : World) → StandsFor running world → IsSound world → (number second : ℕ) (live other : LocalClone) (reply : Reply)
-    → get_or running.clones number None ≡ Some live → get_or running.clones second None ≡ Some other → LocallyCompares live other reply
+    → get_or running.clones number states.Absent ≡ states.Live live → get_or running.clones second states.Absent ≡ states.Live other → LocallyCompares live other reply
     → Follows world (Compare number second) reply (stepped running)
 unfolding Step
 compare_follows running world stands sound number second live other reply is was compares =
@@ -570,7 +606,7 @@ compare_follows running world stands sound number second live other reply is was
 
 -- the first of two clones is absent
 pub compare_absent_first : (running : RunningWorld) (world : World) → StandsFor running world → IsSound world → (number second : ℕ)
-    → get_or running.clones number None ≡ None → Follows world (Compare number second) IsAbsent (stepped running)
+    → get_or running.clones number states.Absent ≡ states.Absent → Follows world (Compare number second) IsAbsent (stepped running)
 unfolding Step
 compare_absent_first running world stands sound number second is =
     let P : Clone → Type 0 = λ c. Weighs world c (clone_at world second) IsAbsent world in
@@ -578,10 +614,29 @@ compare_absent_first running world stands sound number second is =
 
 -- the second of two clones is absent
 pub compare_absent_second : (running : RunningWorld) (world : World) → StandsFor running world → IsSound world → (number second : ℕ) (live : LocalClone)
-    → get_or running.clones number None ≡ Some live → get_or running.clones second None ≡ None → Follows world (Compare number second) IsAbsent (stepped running)
+    → get_or running.clones number states.Absent ≡ states.Live live → get_or running.clones second states.Absent ≡ states.Absent → Follows world (Compare number second) IsAbsent (stepped running)
 unfolding Step
 compare_absent_second running world stands sound number second live is was =
     let a : LiveAt world number live = live_at running world stands number live is in
     let P : Clone → Type 0 = λ c. Weighs world c (clone_at world second) IsAbsent world in
     let Q : Clone → Type 0 = λ c. ComparesWith world (kept_by live a.base a.journal) c IsAbsent world in
     record { next = world; steps = subst P (sym a.live) (subst Q (sym (absent_at running world stands second was)) (refl, refl)); sound = sound; stands = stepped_stands running world stands }
+
+-- the first of two clones asks
+pub compare_asking_first : (running : RunningWorld) (world : World) → StandsFor running world → IsSound world → (number second : ℕ) (asker : LocalAsker)
+    → get_or running.clones number states.Absent ≡ states.Asking asker → Follows world (Compare number second) IsAsking (stepped running)
+unfolding Step
+compare_asking_first running world stands sound number second asker is =
+    let P : Clone → Type 0 = λ c. Weighs world c (clone_at world second) IsAsking world in
+    record { next = world; steps = subst P (sym (asking_at running world stands number asker is).asking) (refl, refl); sound = sound; stands = stepped_stands running world stands }
+
+-- the second of two clones asks
+pub compare_asking_second : (running : RunningWorld) (world : World) → StandsFor running world → IsSound world → (number second : ℕ) (live : LocalClone) (asker : LocalAsker)
+    → get_or running.clones number states.Absent ≡ states.Live live → get_or running.clones second states.Absent ≡ states.Asking asker
+    → Follows world (Compare number second) IsAsking (stepped running)
+unfolding Step
+compare_asking_second running world stands sound number second live asker is was =
+    let a : LiveAt world number live = live_at running world stands number live is in
+    let P : Clone → Type 0 = λ c. Weighs world c (clone_at world second) IsAsking world in
+    let Q : Clone → Type 0 = λ c. ComparesWith world (kept_by live a.base a.journal) c IsAsking world in
+    record { next = world; steps = subst P (sym a.live) (subst Q (sym (asking_at running world stands second asker was).asking) (refl, refl)); sound = sound; stands = stepped_stands running world stands }

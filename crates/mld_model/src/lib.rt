@@ -22,4 +22,17 @@ pub enum Command {
     Show(u8),
     /// `compare C C`: the dots that two clones know, side by side.
     Compare(u8, u8),
+    /// `join C`: clone C asks for a leaf.
+    Join(u8),
+}
+
+/// The state of a clone of a world that runs.
+#[derive(Drop)]
+pub enum CloneState<A, L> {
+    /// It was never founded and never asked to join.
+    Absent,
+    /// It asked for a leaf and waits for one.
+    Asking(A),
+    /// It runs.
+    Live(L),
 }

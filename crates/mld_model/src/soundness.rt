@@ -2,8 +2,8 @@
 //! contracts are the laws of such worlds.
 ghost use Rattle.mld_model.specs.Laws.{FoundedIsSound, StepIsSound, RunsAreSound, SamePairs, OneLeaf, AddRemembers, RemoveRemembers, StepRemembers, AnswersSurvive};
 
-/// The founded world is sound, a step of a sound world leads to a sound world, and so each world that a schedule reaches
-/// is sound. Clones that know the same dots have the same pairs. No two clones of a sound world hold one leaf.
+/// The founded world is sound, a step of a sound world by a command whose clones there are leads to a sound world, and so
+/// each world that a schedule reaches is sound. Clones that know the same dots have the same pairs. No two clones of a sound world hold one leaf.
 pub fn sound_worlds()
     ensures founded { FoundedIsSound }
     ensures step { StepIsSound }
