@@ -4,3 +4,4 @@ pub mod Stepping
 pub mod Planning
 pub mod OwnEntries
 pub mod Taking
+pub mod Joining

@@ -1,5 +1,6 @@
 pub mod Calls
 pub mod Faults
+pub mod Joining
 pub mod Making
 pub mod Pairs
 pub mod Plans

@@ -27,4 +27,5 @@ abbrev pub RefusesEntry : LocalClone → EntryValue → ReceiveFault → Type 0
 RefusesEntry old entry (fault.ForeignTick said own) =
     IsForeign old entry × (said ≡ ticks_of entry.time old.path) × (own ≡ ticks_of old.ticks old.path)
 RefusesEntry old entry fault.HeldFull = ¬ IsForeign old entry × MustBeHeld old entry × IsFullFor old entry
+RefusesEntry old entry fault.Deep = ⊥
 RefusesEntry old entry fault.NoMemory = Unit {0}

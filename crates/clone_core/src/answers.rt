@@ -1,5 +1,5 @@
 //! What a clone answers.
-use mld_ops::Entry;
+use mld_ops::{Entry, Messages};
 use tree_clock::Ranges;
 
 /// What became of an update.
@@ -20,7 +20,9 @@ pub enum Got {
     Held,
     /// The entry was known.
     Known,
-    /// A clone takes no message of this kind.
+    /// The leaf was forked for who asked, and these messages are for them.
+    Answer(Messages),
+    /// A clone takes no message of this kind, or asked itself.
     Ignored,
 }
 

@@ -9,7 +9,7 @@ use crate::making::{deletion, insertion, pairs_of};
 use crate::plans::{Plan, plan_of};
 use crate::steps::{Step, take_steps};
 use causal_buffer::{Held, HeldFault, is_known, is_ready};
-use mld_ops::{Entry, Message, Tagged, copy_pairs};
+use mld_ops::{Entry, Give, Message, Messages, Snapshot, Tagged, copy_pairs};
 use rdf_terms::{Iri, Text, Triple};
 use std::alloc::{AllocError, Global};
 use std::collections::VecDeque;
@@ -46,8 +46,10 @@ impl Model for MldClone {
 }
 
 impl MldClone {
-    ghost use Rattle.std.specs.Prelude.{◌≡◌, ◌+◌, ◌<◌, ◌^◌, ◌↔◌, ◌∷◌, [], false, IfOk, IfErr, OnOk, OnErr, IsErrOf, MatchOption};
-    ghost use Rattle.clone_core.specs.Calls.{Sets, Receives, ReceivesEntry, Refuses, RemovesPairs, ComparesAs, HasRange, LacksRange};
+    ghost use Rattle.std.specs.Prelude.{◌≡◌, ◌+◌, ◌<◌, ◌^◌, ◌↔◌, ◌∷◌, [], false, length, IfOk, IfErr, OnOk, OnErr, IsErrOf, MatchOption};
+    ghost use Rattle.clone_core.specs.Joining.{IsSound, IsSnapshotOf, joined_clone, Gives, AreGood, AnswersGood, RefusesAsk};
+    ghost use Rattle.mld_ops.specs.Messages.{IsSnapshotCopy};
+    ghost use Rattle.clone_core.specs.Calls.{Sets, Receives, ReceivesEntry, ReceivesAsk, Refuses, RemovesPairs, ComparesAs, HasRange, LacksRange};
     ghost use Rattle.clone_core.specs.Making.{IsNextEntry};
     ghost use Rattle.clone_core.specs.Takes.{MakesEntry, IsFullAt, RefusesEntry};
     ghost use Rattle.mld_model.specs.Local.{LocalClone, IsLocal, blank_clone, next_dot, LocallyMakes, LocallyAccepts, LocallyHolds, IsForeign};
@@ -84,6 +86,34 @@ impl MldClone {
             journal: Vec::new(alloc),
             held: Held::empty(alloc),
             pairs: Vec::new(alloc),
+        }
+    }
+
+    // A clone that has this leaf and begins with what a snapshot has, of which it takes two copies.
+    pub(crate) fn with_snapshot(
+        alloc: Global,
+        leaf: Leaf,
+        id: Uuid,
+        domain: Text,
+        properties: Vec<Iri>,
+        base: Snapshot,
+        copy: Snapshot,
+    ) -> MldClone
+        requires copies { IsSnapshotCopy copy base }
+        requires sound { IsSound base }
+        ensures { result ≡ joined_clone id domain properties.items leaf base }
+    {
+        MldClone {
+            id,
+            domain,
+            properties,
+            leaf,
+            base: base.clock,
+            base_pairs: base.tagged,
+            clock: copy.clock,
+            journal: Vec::new(alloc),
+            held: Held::empty(alloc),
+            pairs: copy.tagged,
         }
     }
 
@@ -260,18 +290,64 @@ impl MldClone {
         Ok(())
     }
 
-    /// Takes an entry that is ready, and then those held back that this releases; or holds it back. Messages of other kinds are ignored.
-    /// After a refusal the clone is as it was.
+    /// Takes an entry that is ready, and then those held back that this releases; or holds it back. Forks the leaf for who asks for one.
+    /// Messages of other kinds are ignored. After a refusal the clone is as it was.
     pub fn receive(&mut self, alloc: Global, message: &Message) -> Result<Got, ReceiveFault>
         ensures ok { IfOk result (λ got. Receives self.old message.now got self.new) }
+        ensures good { IfOk result AnswersGood }
         ensures err { IfErr result (Refuses self.old message.now) }
         ensures unchanged { OnErr result (self.new ≡ self.old) }
     {
         match message {
             Message::Range(entry) => self.receive_entry(alloc, entry),
-            Message::Want(_) | Message::Snapshot(_) | Message::JoinAsk(_) | Message::JoinGive(_) =>
-                Ok(Got::Ignored),
+            Message::JoinAsk(id) => self.receive_ask(alloc, id),
+            Message::Want(_) | Message::Snapshot(_) | Message::JoinGive(_) => Ok(Got::Ignored),
         }
+    }
+
+    // Forks the leaf for who asks by an id, unless that is the clone's own.
+    fn receive_ask(&mut self, alloc: Global, id: &Uuid) -> Result<Got, ReceiveFault>
+        ensures ok { IfOk result (λ got. ReceivesAsk self.old id.now got self.new) }
+        ensures good { IfOk result AnswersGood }
+        ensures err { IfErr result (RefusesAsk self.old id.now) }
+        ensures unchanged { OnErr result (self.new ≡ self.old) }
+    {
+        if *id == self.id {
+            return Ok(Got::Ignored);
+        }
+        if self.path().len() == 64 {
+            return Err(ReceiveFault::Deep);
+        }
+        Ok(Got::Answer(self.give(alloc, id)?))
+    }
+
+    // Forks the leaf, which is not too deep, for who asks by an id: it keeps the left half, and the right one is given with all that the
+    // clone has.
+    fn give(&mut self, alloc: Global, id: &Uuid) -> Result<Messages, AllocError>
+        requires { length self.old.path < 64 }
+        ensures ok { IfOk result (λ messages. Gives self.old id.now messages self.new) }
+        ensures good { IfOk result (λ messages. AreGood messages) }
+        ensures err { OnErr result (self.new ≡ self.old) }
+    {
+        let snapshot = self.snapshot(alloc)?;
+        let mut messages = Vec::with_capacity(alloc, 1)?;
+        let right = self.leaf.give().unwrap();
+        messages.push_reserved(Message::JoinGive(Give {
+            id: *id,
+            path: right.path(),
+            snapshot,
+        }));
+        Ok(Messages::from_vec(messages))
+    }
+
+    // A copy of what the clone knows and has.
+    fn snapshot(&self, alloc: Global) -> Result<Snapshot, AllocError>
+        ensures { IfOk result (IsSnapshotOf self.now) }
+    {
+        Ok(Snapshot {
+            clock: self.clock.copy_in(alloc)?,
+            tagged: copy_pairs(alloc, &self.pairs)?,
+        })
     }
 
     // Takes an entry, or holds it back.

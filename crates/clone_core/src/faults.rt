@@ -28,6 +28,9 @@ pub enum ReceiveFault {
     /// Too many others are held.
     #[error("too many entries are held")]
     HeldFull,
+    /// The leaf that was asked for can't be forked, since its path has 64 letters.
+    #[error("the leaf is too deep to be forked")]
+    Deep,
     /// Memory ran out.
     #[error("out of memory")]
     NoMemory,

@@ -2,8 +2,11 @@
 #![tactic(auto)]
 
 mod answers;
+mod askers;
 mod clones;
 mod faults;
+#[cfg(test)]
+mod joining_tests;
 mod making;
 mod pairs;
 mod plans;
@@ -12,5 +15,6 @@ mod steps;
 mod tests;
 
 pub use answers::{Covering, Done, Got};
+pub use askers::{Adopted, Asker};
 pub use clones::MldClone;
 pub use faults::{ReceiveFault, UpdateFault};

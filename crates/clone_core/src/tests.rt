@@ -71,6 +71,8 @@ enum Word {
     Took(usize),
     Held,
     Known,
+    // So many messages answer it.
+    Answer(usize),
     Ignored,
     Fault(ReceiveFault),
 }
@@ -80,6 +82,7 @@ fn answer(clone: &mut MldClone, alloc: Global, message: &Message) -> Word {
         Ok(Got::Took(ranges)) => Word::Took(ranges.len()),
         Ok(Got::Held) => Word::Held,
         Ok(Got::Known) => Word::Known,
+        Ok(Got::Answer(messages)) => Word::Answer(messages.len()),
         Ok(Got::Ignored) => Word::Ignored,
         Err(fault) => Word::Fault(fault),
     }
@@ -275,7 +278,6 @@ fn messages_of_other_kinds_are_ignored(rt: HostRuntime) -> Result<(), Fail> {
         snapshot: snapshot(rt.alloc()),
     };
     assert!(rt; is_ignored(rt.alloc(), Message::JoinGive(give))?);
-    assert!(rt; is_ignored(rt.alloc(), Message::JoinAsk(Uuid::from_u128(7)))?);
     assert!(rt; is_ignored(rt.alloc(), Message::Want(Clock::empty(rt.alloc())))?);
     assert!(rt; is_ignored(rt.alloc(), Message::Snapshot(snapshot(rt.alloc())))?);
     Ok(())

@@ -10,6 +10,8 @@ use std::thread::Threads;
 
 #[cfg(test)]
 mod held_tests;
+#[cfg(test)]
+mod join_tests;
 mod run;
 #[cfg(test)]
 mod summary_tests;

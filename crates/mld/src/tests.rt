@@ -279,8 +279,7 @@ fn the_first_bad_line_ends_the_run(rt: HostRuntime) -> Result<(), Fail> {
 
 #[test]
 fn lines_that_are_not_built_yet_end_the_run(rt: HostRuntime) -> Result<(), Fail> {
-    let lines: [&[u8]; 14] = [
-        b"join",
+    let lines: [&[u8]; 13] = [
         b"stop",
         b"open",
         b"ask",

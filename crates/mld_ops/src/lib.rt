@@ -14,7 +14,7 @@ mod tests;
 
 pub use entries::Entry;
 pub use laws::{meaning_of_taken, net_of_one, one_meaning};
-pub use messages::{Give, Message, Snapshot};
+pub use messages::{Give, Message, Messages, Snapshot};
 pub use operations::{Operation, meaning};
 pub use pairs::{copy_pairs, has_pair, insert_pair, remove_pair, remove_pairs};
 pub use tagged::Tagged;

@@ -1,4 +1,4 @@
-use crate::{Entry, Give, Message, Snapshot, Tagged};
+use crate::{Entry, Give, Message, Messages, Snapshot, Tagged};
 use rdf_terms::{Iri, Term, Triple};
 use std::alloc::Global;
 use std::test::Fail;
@@ -12,13 +12,12 @@ fn left() -> Path {
 
 // A clock with two ticks of the left leaf.
 fn clock(alloc: Global) -> Result<Clock, Fail> {
-    let dot = Dot {
+    let mut clock = Clock::empty(alloc);
+    clock.reserve(&left())?;
+    clock.raise(&Dot {
         path: left(),
         tick: 2,
-    };
-    let mut clock = Clock::empty(alloc);
-    clock.reserve(&dot.path)?;
-    clock.raise(&dot);
+    });
     Ok(clock)
 }
 
@@ -109,5 +108,25 @@ fn a_copied_gift_has_its_id_leaf_and_snapshot(rt: HostRuntime) -> Result<(), Fai
     assert!(rt; give.id == id());
     assert!(rt; give.path == left());
     assert!(rt; is_snapshot(&give.snapshot));
+    Ok(())
+}
+
+// Whether this is an ask by a number.
+fn is_ask(message: &Message, number: u128) -> bool {
+    matches!(message, Message::JoinAsk(id) if *id == Uuid::from_u128(number))
+}
+
+#[test]
+fn messages_come_in_the_order_in_which_they_were_added(rt: HostRuntime) -> Result<(), Fail> {
+    let mut messages = Messages::new(rt.alloc());
+    assert!(rt; messages.is_empty());
+    messages.push(Message::JoinAsk(Uuid::from_u128(1)))?;
+    messages.push(Message::JoinAsk(Uuid::from_u128(2)))?;
+    assert_eq!(rt; messages.len(), 2);
+    assert!(rt; is_ask(&messages.as_slice()[0], 1));
+    let mut items = messages.into_vec();
+    let last = items.pop().ok_or("there is none")?;
+    assert!(rt; is_ask(&last, 2));
+    assert_eq!(rt; Messages::from_vec(items).len(), 1);
     Ok(())
 }

@@ -1,11 +1,13 @@
 //! Messages between the leaves of the tree.
-ghost use Rattle.std.specs.Prelude.{IfOk};
+ghost use Rattle.std.specs.Prelude.{◌≡◌, ◌↔◌, ◌++◌, ◌∷◌, [], length, IsTrue, IfOk, OnOk, OnErr};
 ghost use Rattle.mld_ops.specs.Messages.{IsCopyOf, IsGiveCopy, IsSnapshotCopy};
+ghost use Rattle.tree_clock.specs.Clock.{IsClock};
 
 use crate::entries::Entry;
 use crate::pairs::copy_pairs;
 use crate::tagged::Tagged;
 use std::alloc::{AllocError, Global};
+use std::marker::Model;
 use tree_clock::{Clock, Path};
 use uuid::Uuid;
 
@@ -21,7 +23,8 @@ pub struct Snapshot {
 impl Snapshot {
     /// A copy.
     pub fn copy_in(&self, alloc: Global) -> Result<Snapshot, AllocError>
-        ensures { IfOk result (λ copy. IsSnapshotCopy copy self.now) }
+        ensures copy { IfOk result (λ copy. IsSnapshotCopy copy self.now) }
+        ensures clock { IfOk result (λ copy. IsClock copy.clock.ticks) }
     {
         Ok(Snapshot {
             clock: self.clock.copy_in(alloc)?,
@@ -81,5 +84,76 @@ impl Message {
             Message::JoinAsk(id) => Ok(Message::JoinAsk(*id)),
             Message::JoinGive(give) => Ok(Message::JoinGive(give.copy_in(alloc)?)),
         }
+    }
+}
+
+/// A list of messages. Contracts see it as the list.
+#[derive(Drop)]
+pub struct Messages {
+    items: Vec<Message>,
+}
+
+impl Model for Messages {
+    ghost use Rattle.std.specs.Prelude.{List};
+    ghost use Rattle.mld_ops.specs.declared.messages.Message.{Message};
+
+    ghost Value = { List Message };
+
+    ghost view = { λ messages. messages.items.items };
+}
+
+impl Messages {
+    /// The list with no message.
+    pub fn new(alloc: Global) -> Messages
+        ensures { result ≡ [] }
+    {
+        Messages {
+            items: Vec::new(alloc),
+        }
+    }
+
+    /// The list of these messages.
+    pub fn from_vec(items: Vec<Message>) -> Messages
+        ensures { result ≡ items.items }
+    {
+        Messages { items }
+    }
+
+    /// The number of messages.
+    pub fn len(&self) -> usize
+        ensures { result ≡ length self.now }
+    {
+        self.items.len()
+    }
+
+    /// Whether there is no message.
+    pub fn is_empty(&self) -> bool
+        ensures { IsTrue result ↔ (self.now ≡ []) }
+    {
+        self.items.is_empty()
+    }
+
+    /// The messages as a slice.
+    pub fn as_slice(&self) -> &[Message]
+        ensures { result.now ≡ self.now }
+    {
+        self.items.as_slice()
+    }
+
+    /// Adds a message at the end.
+    pub fn push(&mut self, message: Message) -> Result<(), AllocError>
+        ensures ok { OnOk result (self.new ≡ self.old ++ message ∷ []) }
+        ensures err { OnErr result (self.new ≡ self.old) }
+    {
+        self.items.push(message)?;
+        Ok(())
+    }
+
+    /// The messages, to be moved on.
+    pub fn into_vec(self) -> Vec<Message>
+        ensures { result.items ≡ self }
+    {
+        let Messages { items } = self;
+        items
     }
 }

@@ -16,10 +16,10 @@ use Rattle.rdf_terms.specs.declared.terms.Triple.{Triple}
 use Rattle.rdf_terms.specs.declared.faults.TripleFault.{TripleFault}
 use Rattle.rdf_terms.specs.declared.faults.TripleFault.TheVariants.{NotTriple, TooLong, NoMemory}
 use Rattle.mld_model.specs.declared.Command.{Command}
-use Rattle.mld_model.specs.declared.Command.TheVariants.{Add, Remove, Deliver, Show, Compare}
+use Rattle.mld_model.specs.declared.Command.TheVariants.{Add, Remove, Deliver, Show, Compare, Join}
 use Rattle.mld_model.specs.Bytes.{Lacks, Lacks-from_test, one_split, apart}
 use Rattle.mld_model.specs.Schedule.{SpellsSetup, SpellsCommand, is_unbuilt}
-use Rattle.net_world.specs.Reading.{IsTripleOf, IsCloneAndTriple, IsAddOf, IsRemoveOf, IsDeliverOf, IsShowOf, IsCompareOf}
+use Rattle.net_world.specs.Reading.{IsTripleOf, IsCloneAndTriple, IsAddOf, IsRemoveOf, IsDeliverOf, IsShowOf, IsCompareOf, IsJoinOf}
 use Rattle.net_world.proofs.LinesText.{has_space}
 use Rattle.net_world.proofs.LinesNumbers.{small, number_first}
 
@@ -52,6 +52,7 @@ add_back line rest e (Remove number triple) h = absurd (apart e h.1 refl)
 add_back line rest e (Deliver message number) h = absurd (apart e h.0 refl)
 add_back line rest e (Show number) h = absurd (apart e h.0 refl)
 add_back line rest e (Compare number other) h = absurd (apart e h.0 refl)
+add_back line rest e (Join number) h = absurd (apart e h.0 refl)
 
 pub add_behind : (line rest : List ℕ) → line ≡ codes "add " ++ rest → (command : Command) → IsAddOf rest command ↔ SpellsCommand line command
 add_behind line rest e command = (add_there line rest e command, add_back line rest e command)
@@ -67,6 +68,7 @@ remove_back line rest e (Remove number triple) h =
 remove_back line rest e (Deliver message number) h = absurd (apart e h.0 refl)
 remove_back line rest e (Show number) h = absurd (apart e h.0 refl)
 remove_back line rest e (Compare number other) h = absurd (apart e h.0 refl)
+remove_back line rest e (Join number) h = absurd (apart e h.0 refl)
 
 pub remove_behind : (line rest : List ℕ) → line ≡ codes "remove " ++ rest → (command : Command) → IsRemoveOf rest command ↔ SpellsCommand line command
 remove_behind line rest e command = (remove_there line rest e command, remove_back line rest e command)
@@ -81,6 +83,7 @@ deliver_back line rest e (Remove number triple) h = absurd (apart e h.1 refl)
 deliver_back line rest e (Deliver message number) h = (message, number, refl, ap (drop 8) (sym e ∙ h.0), h.1, h.2)
 deliver_back line rest e (Show number) h = absurd (apart e h.0 refl)
 deliver_back line rest e (Compare number other) h = absurd (apart e h.0 refl)
+deliver_back line rest e (Join number) h = absurd (apart e h.0 refl)
 
 pub deliver_behind : (line rest : List ℕ) → line ≡ codes "deliver " ++ rest → (command : Command) → IsDeliverOf rest command ↔ SpellsCommand line command
 deliver_behind line rest e command = (deliver_there line rest e command, deliver_back line rest e command)
@@ -95,6 +98,7 @@ show_back line rest e (Remove number triple) h = absurd (apart e h.1 refl)
 show_back line rest e (Deliver message number) h = absurd (apart e h.0 refl)
 show_back line rest e (Show number) h = (number, refl, ap (drop 5) (sym e ∙ h.0), h.1)
 show_back line rest e (Compare number other) h = absurd (apart e h.0 refl)
+show_back line rest e (Join number) h = absurd (apart e h.0 refl)
 
 pub show_behind : (line rest : List ℕ) → line ≡ codes "show " ++ rest → (command : Command) → IsShowOf rest command ↔ SpellsCommand line command
 show_behind line rest e command = (show_there line rest e command, show_back line rest e command)
@@ -109,9 +113,25 @@ compare_back line rest e (Remove number triple) h = absurd (apart e h.1 refl)
 compare_back line rest e (Deliver message number) h = absurd (apart e h.0 refl)
 compare_back line rest e (Show number) h = absurd (apart e h.0 refl)
 compare_back line rest e (Compare number other) h = (number, other, refl, ap (drop 8) (sym e ∙ h.0), h.1, h.2)
+compare_back line rest e (Join number) h = absurd (apart e h.0 refl)
 
 pub compare_behind : (line rest : List ℕ) → line ≡ codes "compare " ++ rest → (command : Command) → IsCompareOf rest command ↔ SpellsCommand line command
 compare_behind line rest e command = (compare_there line rest e command, compare_back line rest e command)
+
+join_there : (line rest : List ℕ) → line ≡ codes "join " ++ rest → (command : Command) → IsJoinOf rest command → SpellsCommand line command
+join_there line rest e command h =
+    subst (λ (k : Command). SpellsCommand line k) (sym h.1) (e ∙ ap (λ (r : List ℕ). codes "join " ++ r) h.2, h.3)
+
+join_back : (line rest : List ℕ) → line ≡ codes "join " ++ rest → (command : Command) → SpellsCommand line command → IsJoinOf rest command
+join_back line rest e (Add number triple) h = absurd (apart e h.1 refl)
+join_back line rest e (Remove number triple) h = absurd (apart e h.1 refl)
+join_back line rest e (Deliver message number) h = absurd (apart e h.0 refl)
+join_back line rest e (Show number) h = absurd (apart e h.0 refl)
+join_back line rest e (Compare number other) h = absurd (apart e h.0 refl)
+join_back line rest e (Join number) h = (number, refl, ap (drop 5) (sym e ∙ h.0), h.1)
+
+pub join_behind : (line rest : List ℕ) → line ≡ codes "join " ++ rest → (command : Command) → IsJoinOf rest command ↔ SpellsCommand line command
+join_behind line rest e command = (join_there line rest e command, join_back line rest e command)
 
 -- ---- the parts of a command
 

@@ -1,11 +1,11 @@
 -- The text of a clone's pairs, and words behind an output.
-use Rattle.std.proofs.Common.{◌≡◌, ◌∙◌, ℕ, ◌≤◌, List, [], ◌∷◌, ◌++◌, codes, length, take, ap, if◌then◌else◌, Result, Ok, Err, OnOk, is_ok}
+use Rattle.std.proofs.Common.{◌≡◌, ◌∙◌, sym, arith, zero, suc, ◌+◌, append-nil, ℕ, ◌≤◌, List, [], ◌∷◌, ◌++◌, codes, length, take, ap, if◌then◌else◌, Result, Ok, Err, OnOk, is_ok}
 use Rattle.std.specs.Fmt.{decimal}
-use Rattle.std.specs.List.{flat_map}
+use Rattle.std.specs.List.{flat_map, range_with_len}
 use Rattle.std.proofs.lemmas.List.{append_assoc, take_all}
 use Rattle.tree_clock.specs.declared.dots.Range.{Range}
 use Rattle.mld_ops.specs.declared.tagged.Tagged.{Tagged}
-use Rattle.mld_model.specs.Reply.{reply_text, pair_line, spaced_range, Shows, Took}
+use Rattle.mld_model.specs.Reply.{reply_text, pair_line, spaced_range, spaced_message, Shows, Took, Answer}
 
 -- a head and a line for each pair, in two steps
 pub pairs_shown : (old mid out head : List ℕ) (pairs : List Tagged) (i : ℕ) → length pairs ≤ i
@@ -30,6 +30,30 @@ ranges_shown old mid out new head ranges i l m h o n =
     ∙ ap (λ rs. (old ++ codes "took") ++ flat_map spaced_range rs) (take_all i ranges l))
     ∙ append_assoc (old ++ codes "took") text (10 ∷ [])
     ∙ append_assoc old (codes "took") (text ++ 10 ∷ [])
+
+-- the numbers of messages, one more of them
+pub numbers_more : (first n : ℕ) → flat_map spaced_message (range_with_len first (n + 1)) ≡ flat_map spaced_message (range_with_len first n) ++ spaced_message (first + n)
+numbers_more first zero =
+    let same : first + 0 ≡ first = omega arith in
+    append-nil (spaced_message first) ∙ ap spaced_message (sym same)
+numbers_more first (suc n) =
+    let counted : suc n + 1 ≡ suc (n + 1) = omega arith in
+    let placed : first + 1 + n ≡ first + suc n = omega arith in
+    rw counted (ap (λ (text : List ℕ). spaced_message first ++ text) (numbers_more (first + 1) n)
+    ∙ sym (append_assoc (spaced_message first) (flat_map spaced_message (range_with_len (first + 1) n)) (spaced_message (first + 1 + n)))
+    ∙ ap (λ (k : ℕ). (spaced_message first ++ flat_map spaced_message (range_with_len (first + 1) n)) ++ spaced_message k) placed)
+
+-- a word, each number behind a space, and the end of the line, in three steps
+pub numbers_shown : (old mid out new head : List ℕ) (first count i : ℕ) → i ≡ count
+    → mid ≡ old ++ head → head ≡ codes "answer" → out ≡ mid ++ flat_map spaced_message (range_with_len first i) → new ≡ out ++ 10 ∷ []
+    → new ≡ old ++ reply_text (Answer (range_with_len first count))
+unfolding reply_text
+numbers_shown old mid out new head first count i l m h o n =
+    let text : List ℕ = flat_map spaced_message (range_with_len first count) in
+    n ∙ ap (λ w. w ++ 10 ∷ []) (o ∙ ap (λ w. w ++ flat_map spaced_message (range_with_len first i)) (m ∙ ap (λ w. old ++ w) h)
+    ∙ ap (λ (k : ℕ). (old ++ codes "answer") ++ flat_map spaced_message (range_with_len first k)) l)
+    ∙ append_assoc (old ++ codes "answer") text (10 ∷ [])
+    ∙ append_assoc old (codes "answer") (text ++ 10 ∷ [])
 
 -- bytes that are a word's, put behind an output
 pub word_pushed : {X E : Type 0} (r : Result X E) (old new text word : List ℕ) → new ≡ (if is_ok r then old ++ text else old) → text ≡ word → OnOk r (new ≡ old ++ word)

@@ -4,7 +4,7 @@ use Rattle.std.specs.Str.{IsUtf8}
 use Rattle.std.specs.Fmt.{decimal}
 use Rattle.rdf_terms.specs.declared.terms.Triple.{Triple}
 use Rattle.rdf_terms.specs.Grammar.{SpellsTriple, IsWithin}
-use Rattle.mld_model.specs.declared.Command.TheVariants.{Add, Remove, Deliver, Show, Compare}
+use Rattle.mld_model.specs.declared.Command.TheVariants.{Add, Remove, Deliver, Show, Compare, Join}
 use Rattle.mld_model.specs.declared.Command.{Command}
 use Rattle.mld_model.specs.Schedule.{IsNothing, is_unbuilt, SpellsSetup, SpellsCommand, IsCloneNumber}
 use Rattle.mld_model.specs.Runs.{IsBad, Waiting}
@@ -59,3 +59,6 @@ IsShowOf rest command = (number : ℕ) × (command ≡ Show number) × (rest ≡
 abbrev pub IsCompareOf : List ℕ → Command → Type 0
 IsCompareOf rest command = (number : ℕ) × (other : ℕ) × (command ≡ Compare number other) × (rest ≡ decimal number ++ 32 ∷ decimal other)
     × IsCloneNumber number × IsCloneNumber other
+
+abbrev pub IsJoinOf : List ℕ → Command → Type 0
+IsJoinOf rest command = (number : ℕ) × (command ≡ Join number) × (rest ≡ decimal number) × IsCloneNumber number

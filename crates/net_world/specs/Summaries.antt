@@ -10,7 +10,8 @@ use Rattle.mld_model.specs.Local.{LocalClone}
 use Rattle.mld_ops.specs.Held.{ranges_of}
 use Rattle.mld_model.specs.World.{World}
 use Rattle.mld_model.specs.Sound.{IsSound}
-use Rattle.mld_model.specs.StandsFor.{RunningWorld, StandsFor}
+use Rattle.mld_model.specs.StandsFor.{RunningClone, RunningWorld, StandsFor}
+use Rattle.mld_model.specs.declared.CloneState.TheVariants as running
 use Rattle.net_world.specs.declared.summaries.Summary.{Summary}
 use Rattle.net_world.specs.declared.summaries.State.{State}
 use Rattle.net_world.specs.declared.summaries.State.TheVariants as states
@@ -62,17 +63,18 @@ pub record IsSummaryOf (live : LocalClone) (summary : CloneSummary) : Type 0 whe
   pub journal : summary.journal.items ≡ ranges_of live.entries
   pub tagged : summary.tagged.items ≡ live.pairs
 
--- what is told of a clone that may be absent
-abbrev pub Summarizes : Option LocalClone → CloneSummary → Type 0
-Summarizes None summary = IsBlank summary states.Absent
-Summarizes (Some live) summary = IsSummaryOf live summary
+-- what is told of a clone as it runs, by its state
+abbrev pub Summarizes : RunningClone → CloneSummary → Type 0
+Summarizes running.Absent summary = IsBlank summary states.Absent
+Summarizes (running.Asking asker) summary = IsBlank summary states.Asking
+Summarizes (running.Live live) summary = IsSummaryOf live summary
 
 -- what is told of clones as they run, one by one
-abbrev pub SummarizesAll : List (Option LocalClone) → List CloneSummary → Type 0
+abbrev pub SummarizesAll : List RunningClone → List CloneSummary → Type 0
 SummarizesAll [] [] = Unit {0}
 SummarizesAll (clone ∷ clones) (summary ∷ summaries) = Summarizes clone summary × SummarizesAll clones summaries
 SummarizesAll clones summaries = ⊥
 
 -- what is told of a world as it runs is told of each sound world of the model that it stands for
 abbrev pub Tells : RunningWorld → Summary → Type 0
-Tells running summary = (world : World) → StandsFor running world → IsSound world → TellsOfClones world.history world.clones summary.clones.items
+Tells now summary = (world : World) → StandsFor now world → IsSound world → TellsOfClones world.history world.clones summary.clones.items

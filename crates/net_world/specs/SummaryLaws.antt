@@ -1,24 +1,25 @@
 -- What is told of a world as it runs is told of each world of the model that it stands for.
-use Rattle.std.proofs.Common.{◌≡◌, ℕ, suc, List, [], ◌∷◌, ◌↔◌, sym, subst, ◌∙◌, length, get_or, Option, Some, None, arith}
+use Rattle.std.proofs.Common.{◌≡◌, ℕ, suc, List, [], ◌∷◌, ◌↔◌, sym, subst, ◌∙◌, length, get_or, Some, arith}
 use Rattle.tree_clock.specs.declared.dots.Dot.{Dot}
 use Rattle.tree_clock.specs.Dot.{Knows}
 use Rattle.tree_clock.specs.Clock.{IsClock, Covers}
 use Rattle.mld_ops.specs.Meaning.{IsMeaning}
 use Rattle.mld_ops.specs.declared.tagged.Tagged.{Tagged}
-use Rattle.mld_model.specs.Clone.{Clone, Absent, Live, known_of}
+use Rattle.mld_model.specs.declared.CloneState.TheVariants as states
+use Rattle.mld_model.specs.Clone.{Clone, Absent, Asking, Live, known_of}
 use Rattle.mld_model.specs.World.{World}
-use Rattle.mld_model.specs.Local.{LocalClone}
-use Rattle.mld_model.specs.StandsFor.{RunningWorld, LocalStandsFor, CloneStandsFor}
+use Rattle.mld_model.specs.StandsFor.{RunningClone, RunningWorld, LocalStandsFor, CloneStandsFor}
 use Rattle.mld_model.specs.WorldLaws.{same_ranges}
 use Rattle.net_world.specs.declared.summaries.CloneSummary.{CloneSummary}
 use Rattle.net_world.specs.declared.summaries.Summary.{Summary}
 use Rattle.net_world.specs.Summaries.{TellsOfClone, TellsOfClones, Summarizes, SummarizesAll, Tells}
 
 -- what is told of a clone that runs is told of the clone that it stands for
-clone_told : (world : World) (number : ℕ) (running : Option LocalClone) (clone : Clone) (summary : CloneSummary)
+clone_told : (world : World) (number : ℕ) (running : RunningClone) (clone : Clone) (summary : CloneSummary)
     → CloneStandsFor world number running clone → Summarizes running summary → TellsOfClone world.history clone summary
-clone_told world number None Absent summary stands told = told
-clone_told world number (Some live) (Live stored held) summary stands told =
+clone_told world number states.Absent Absent summary stands told = told
+clone_told world number (states.Asking asker) Asking summary stands told = told
+clone_told world number (states.Live live) (Live stored held) summary stands told =
     let at : LocalStandsFor world.history live stored held = stands.1 in
     let P : List (List ℕ × ℕ) → Type 0 = λ ticks. (dot : Dot) → Covers ticks dot ↔ Knows (known_of stored) dot in
     let B : List (List ℕ × ℕ) → Type 0 = λ ticks. (dot : Dot) → Covers ticks dot ↔ Knows stored.base dot in
@@ -37,8 +38,8 @@ clone_told world number (Some live) (Live stored held) summary stands told =
 clone_told world number running clone summary stands told = absurd stands
 
 -- at each place a clone stands for one of the model, whichever number it has there
-clones_told : (world : World) (running : List (Option LocalClone)) (clones : List Clone) (summaries : List CloneSummary)
-    → ((place : ℕ) → (number : ℕ) × CloneStandsFor world number (get_or running place None) (get_or clones place Absent)) → length running ≡ length clones
+clones_told : (world : World) (running : List RunningClone) (clones : List Clone) (summaries : List CloneSummary)
+    → ((place : ℕ) → (number : ℕ) × CloneStandsFor world number (get_or running place states.Absent) (get_or clones place Absent)) → length running ≡ length clones
     → SummarizesAll running summaries → TellsOfClones world.history clones summaries
 clones_told world [] [] [] stands count told = tt
 clones_told world [] [] (summary ∷ summaries) stands count told = absurd told

@@ -1,28 +1,36 @@
 -- What a running world's step has to do with the model, beside the text of its reply.
-use Rattle.std.specs.Prelude.{◌≡◌, ℕ, zero, suc, ◌+◌, ◌<◌, ◌^◌, ◌⊎◌, slice_get, length, List, [], ◌∷◌, ◌++◌, Bool, Option, None, Some, slice_index_or, slice_set}
+use Rattle.std.specs.Prelude.{◌≡◌, ◌≢◌, ℕ, zero, suc, ◌+◌, ◌<◌, ◌^◌, ◌⊎◌, slice_get, length, List, [], ◌∷◌, ◌++◌, Bool, Option, None, Some, slice_index_or, slice_set}
+use Rattle.std.specs.List.{range_with_len}
 use Rattle.rdf_terms.specs.declared.terms.Triple.{Triple}
 use Rattle.tree_clock.specs.Clock.{ticks_of}
 use Rattle.mld_ops.specs.Entry.{EntryValue}
 use Rattle.mld_ops.specs.Ready.{last_dot}
+use Rattle.mld_ops.specs.declared.messages.Give.{Give}
 use Rattle.mld_ops.specs.declared.messages.Message.{Message}
 use Rattle.mld_ops.specs.declared.messages.Message.TheVariants as kinds
+use Rattle.mld_model.specs.declared.CloneState.TheVariants as states
 use Rattle.mld_model.specs.declared.Command.{Command}
-use Rattle.mld_model.specs.declared.Command.TheVariants.{Add, Remove, Deliver, Show, Compare}
 use Rattle.mld_model.specs.World.{World}
-use Rattle.mld_model.specs.Reply.{Reply, reply_text, Did, NoOperation, Took, Held, HeldFull, AlreadyKnown, Shows, NoMessage, Ignored, IsAbsent}
+use Rattle.mld_model.specs.Reply.{Reply, reply_text, Did, NoOperation, Took, Held, HeldFull, AlreadyKnown, Shows, Sent, Answer as Answers, Joined, Deep, NoMessage, Ignored, IsAbsent, IsLive}
 use Rattle.mld_model.specs.Sound.{IsSound}
-use Rattle.mld_model.specs.Local.{LocalClone, IsForeign}
-use Rattle.mld_model.specs.StandsFor.{RunningWorld, StandsFor}
+use Rattle.mld_model.specs.Local.{LocalAsker, LocalClone, IsForeign}
+use Rattle.mld_model.specs.StandsFor.{RunningClone, RunningWorld, StandsFor, id_of}
 use Rattle.mld_model.specs.WorldStep.{Follows}
 use Rattle.clone_core.specs.Calls.{Sets, Receives, Refuses, ComparesAs}
+use Rattle.clone_core.specs.Joining.{IsGiveFor, GivesNone, IsGoodMessage}
+use Rattle.mld_model.specs.Local.{LocallyJoins}
 use Rattle.clone_core.specs.declared.answers.Covering.{Covering}
 use Rattle.clone_core.specs.declared.answers.Done.{Done}
 use Rattle.clone_core.specs.declared.answers.Done.TheVariants as done
 use Rattle.clone_core.specs.declared.answers.Got.TheVariants as got
 use Rattle.clone_core.specs.declared.faults.ReceiveFault.TheVariants as fault
+use Rattle.net_world.specs.declared.replies.Word.{Word}
+use Rattle.net_world.specs.declared.replies.Word.TheVariants as words
 use Rattle.net_world.specs.declared.worlds.Answer.{Answer}
 use Rattle.net_world.specs.declared.worlds.Answer.TheVariants as answers
-use Rattle.net_world.specs.Words.{reply_of_covering}
+use Rattle.net_world.specs.declared.worlds.Change.{Change}
+use Rattle.net_world.specs.declared.worlds.Change.TheVariants as change
+use Rattle.net_world.specs.Words.{reply_of, reply_of_covering}
 
 -- there is a sound world of the model that the running world stands for
 pub record IsStanding (running : RunningWorld) : Type 0 where
@@ -36,70 +44,134 @@ pub record Stepped (old : RunningWorld) (command : Command) (new : RunningWorld)
   pub text : after ≡ before ++ reply_text reply
   pub follows : (world : World) → StandsFor old world → IsSound world → Follows world command reply new
 
--- the numbers of clones in a command are 0 to 31
-abbrev pub HasCloneNumbers : Command → Type 0
-HasCloneNumbers (Add number triple) = number < 32
-HasCloneNumbers (Remove number triple) = number < 32
-HasCloneNumbers (Deliver message number) = number < 32
-HasCloneNumbers (Show number) = number < 32
-HasCloneNumbers (Compare number other) = (number < 32) × (other < 32)
+-- the clone of the number
+abbrev pub state_at : List RunningClone → ℕ → RunningClone
+state_at clones number = slice_index_or clones number states.Absent
 
 -- the clone of the number, where it is live, has a tick left
-abbrev pub HasNextTick : List (Option LocalClone) → ℕ → Type 0
-HasNextTick clones number = (live : LocalClone) → slice_index_or clones number None ≡ Some live → ticks_of live.ticks live.path + 1 < 2 ^ 32
+abbrev pub HasNextTick : List RunningClone → ℕ → Type 0
+HasNextTick clones number = (live : LocalClone) → state_at clones number ≡ states.Live live → ticks_of live.ticks live.path + 1 < 2 ^ 32
 
--- the message, where it is an entry, says no more of the path of the clone of the number than that clone knows
-abbrev pub IsNotForeign : List (Option LocalClone) → ℕ → Message → Type 0
-IsNotForeign clones number sent =
-    (live : LocalClone) (entry : EntryValue) → slice_index_or clones number None ≡ Some live → sent ≡ kinds.Range entry → ¬ IsForeign live entry
+-- the message, where it is an entry, says no more of the path of the clone of the number than that clone knows; and where it
+-- gives a leaf, its snapshot is a good one
+pub record IsFitFor (clones : List RunningClone) (number : ℕ) (sent : Message) : Type 0 where
+  pub own : (live : LocalClone) (entry : EntryValue) → state_at clones number ≡ states.Live live → sent ≡ kinds.Range entry → ¬ IsForeign live entry
+  pub good : IsGoodMessage sent
 
 -- the message of a number; the first has number 1
 abbrev pub nth_message : List Message → ℕ → Option Message
 nth_message messages zero = None
 nth_message messages (suc before) = slice_get messages before
 
--- the message of the number, where there is one, isn't foreign to the clone
-abbrev pub IsNoneForeign : List (Option LocalClone) → List Message → ℕ → ℕ → Type 0
-IsNoneForeign clones messages message number = (sent : Message) → nth_message messages message ≡ Some sent → IsNotForeign clones number sent
+-- the message of the number, where there is one, is fit for the clone
+abbrev pub AreFitFor : List RunningClone → List Message → ℕ → ℕ → Type 0
+AreFitFor clones messages message number = (sent : Message) → nth_message messages message ≡ Some sent → IsFitFor clones number sent
+
+-- the word for a clone that isn't live
+abbrev pub IsMissingWord : RunningClone → Word → Type 0
+IsMissingWord states.Absent words.Absent = Unit {0}
+IsMissingWord (states.Asking asker) words.Asking = Unit {0}
+IsMissingWord state word = ⊥
 
 -- the clone of the number was live, and is another now
-pub record Changes (old new : List (Option LocalClone)) (number : ℕ) (before after : LocalClone) : Type 0 where
-  pub was : slice_index_or old number None ≡ Some before
-  pub now : new ≡ slice_set old number (Some after)
+pub record Changes (old new : List RunningClone) (number : ℕ) (before after : LocalClone) : Type 0 where
+  pub was : state_at old number ≡ states.Live before
+  pub now : new ≡ slice_set old number (states.Live after)
 
--- the clone of the number was absent, and nothing changed
-pub record IsMissing (old new : List (Option LocalClone)) (number : ℕ) : Type 0 where
-  pub was : slice_index_or old number None ≡ None
+-- the clone of the number isn't live, this is the word for that, and nothing changed
+pub record IsMissing (old new : List RunningClone) (number : ℕ) (word : Word) : Type 0 where
+  pub is : IsMissingWord (state_at old number) word
   pub same : new ≡ old
 
 -- the clone of the number set a triple present or not
-pub record SetsAt (old new : List (Option LocalClone)) (number : ℕ) (triple : Triple) (present : Bool) (made : Done) : Type 0 where
+pub record SetsLive (old new : List RunningClone) (number : ℕ) (triple : Triple) (present : Bool) (made : Done) : Type 0 where
   pub before : LocalClone
   pub after : LocalClone
   pub changes : Changes old new number before after
   pub sets : Sets before triple present made after
 
--- the clone of the number received a message
-pub record ReceivesAt (old new : List (Option LocalClone)) (number : ℕ) (P : LocalClone → LocalClone → Type 0) : Type 0 where
+-- the clone of the number isn't live, or it set a triple present or not
+abbrev pub SetsAt : List RunningClone → List RunningClone → ℕ → Triple → Bool → Change → Type 0
+SetsAt old new number triple present (change.Missing word) = IsMissing old new number word
+SetsAt old new number triple present (change.Done made) = SetsLive old new number triple present made
+
+-- what a live clone answers to a message
+abbrev pub AnswersLive : LocalClone → Message → LocalClone → Answer → Type 0
+AnswersLive old sent new (answers.Got got) = Receives old sent got new
+AnswersLive old sent new answers.HeldFull = Refuses old sent fault.HeldFull × (new ≡ old)
+AnswersLive old sent new answers.Deep = Refuses old sent fault.Deep × (new ≡ old)
+AnswersLive old sent new answer = ⊥
+
+-- the clone asks for a leaf
+abbrev pub IsAsking : RunningClone → Type 0
+IsAsking state = (asker : LocalAsker) × (state ≡ states.Asking asker)
+
+-- one who asks took the leaf that the message gives it, and lives at the path
+pub record Adopted (old new : RunningClone) (sent : Message) (path : List ℕ) : Type 0 where
+  pub asker : LocalAsker
+  pub was : old ≡ states.Asking asker
+  pub give : Give
+  pub is : IsGiveFor asker sent give
+  pub live : LocalClone
+  pub joins : LocallyJoins asker give live
+  pub now : new ≡ states.Live live
+  pub at : path ≡ live.path
+
+-- one who asks got no leaf by the message
+pub record PassesOver (old new : RunningClone) (sent : Message) : Type 0 where
+  pub asker : LocalAsker
+  pub was : old ≡ states.Asking asker
+  pub none : GivesNone asker sent
+  pub same : new ≡ old
+
+-- what one who asks answers to a message
+abbrev pub AdoptsAt : RunningClone → RunningClone → Message → Answer → Type 0
+AdoptsAt old new sent (answers.Joined path) = Adopted old new sent path
+AdoptsAt old new sent answers.Ignored = PassesOver old new sent
+AdoptsAt old new sent answer = ⊥
+
+-- the clone of the number was absent, and nothing changed
+pub record StaysAbsent (old new : List RunningClone) (number : ℕ) : Type 0 where
+  pub was : state_at old number ≡ states.Absent
+  pub same : new ≡ old
+
+-- the clone of the number was live and answered the message
+pub record AnswersAsLive (old new : List RunningClone) (number : ℕ) (sent : Message) (answer : Answer) : Type 0 where
   pub before : LocalClone
   pub after : LocalClone
   pub changes : Changes old new number before after
-  pub receives : P before after
+  pub answers : AnswersLive before sent after answer
 
--- the clone of the number answered the message: it is absent, or it received it, or it holds too many others back
-abbrev pub AnswersAt : List (Option LocalClone) → List (Option LocalClone) → ℕ → Message → Answer → Type 0
-AnswersAt old new number sent answers.Absent = IsMissing old new number
-AnswersAt old new number sent (answers.Got got) = ReceivesAt old new number (λ before after. Receives before sent got after)
-AnswersAt old new number sent answers.HeldFull = ReceivesAt old new number (λ before after. Refuses before sent fault.HeldFull × (after ≡ before))
+-- the clone of the number asked for a leaf and answered the message
+pub record AnswersAsAsker (old new : List RunningClone) (number : ℕ) (sent : Message) (answer : Answer) : Type 0 where
+  pub after : RunningClone
+  pub adopts : AdoptsAt (state_at old number) after sent answer
+  pub now : new ≡ slice_set old number after
 
--- the reply that an answer is
+-- the clone of the number answered the message: it is absent, or it asks for a leaf, or it is live
+abbrev pub AnswersAt : List RunningClone → List RunningClone → ℕ → Message → Answer → Type 0
+AnswersAt old new number sent answers.Absent = StaysAbsent old new number
+AnswersAt old new number sent answers.Ignored = AnswersAsAsker old new number sent answers.Ignored
+AnswersAt old new number sent (answers.Joined path) = AnswersAsAsker old new number sent (answers.Joined path)
+AnswersAt old new number sent answer = AnswersAsLive old new number sent answer
+
+-- an answer that sends nothing
+abbrev pub IsQuiet : Answer → Type 0
+IsQuiet (answers.Got (got.Answer messages)) = ⊥
+IsQuiet answer = Unit {0}
+
+-- the reply that an answer is, where it sends nothing
 abbrev pub reply_of_answer : Answer → Reply
 reply_of_answer answers.Absent = IsAbsent
+reply_of_answer answers.Ignored = Ignored
+reply_of_answer (answers.Joined path) = Joined path
 reply_of_answer (answers.Got (got.Took ranges)) = Took ranges
 reply_of_answer (answers.Got got.Held) = Held
 reply_of_answer (answers.Got got.Known) = AlreadyKnown
+reply_of_answer (answers.Got (got.Answer messages)) = Answers []
 reply_of_answer (answers.Got got.Ignored) = Ignored
 reply_of_answer answers.HeldFull = HeldFull
+reply_of_answer answers.Deep = Deep
 
 -- the reply's text was added
 abbrev pub Writes : Reply → List ℕ → List ℕ → Type 0
@@ -110,30 +182,56 @@ abbrev pub Sends : List Message → EntryValue → List Message → List ℕ →
 Sends messages entry sent before after =
     (sent ≡ messages ++ kinds.Range entry ∷ []) × Writes (Did (last_dot entry.range) (length messages + 1)) before after
 
--- the clone is absent, or there was nothing to do, or it made the operation and the entry of it was sent
-abbrev pub SetsTo : List (Option LocalClone) → List Message → ℕ → Triple → Bool → List (Option LocalClone) → List Message → List ℕ → List ℕ → Type 0
+-- the answers are the next messages, and the reply names their numbers
+abbrev pub AreSent : List Message → List Message → List Message → List ℕ → List ℕ → Type 0
+AreSent messages more sent before after =
+    (sent ≡ messages ++ more) × Writes (Answers (range_with_len (length messages + 1) (length more))) before after
+
+-- the clone isn't live, or there was nothing to do, or it made the operation and the entry of it was sent
+abbrev pub SetsTo : List RunningClone → List Message → ℕ → Triple → Bool → List RunningClone → List Message → List ℕ → List ℕ → Type 0
 SetsTo clones messages number triple present new sent before after =
-    (IsMissing clones new number × (sent ≡ messages) × Writes IsAbsent before after)
-    ⊎ ((SetsAt clones new number triple present done.Nothing × (sent ≡ messages) × Writes NoOperation before after)
-    ⊎ ((entry : EntryValue) × SetsAt clones new number triple present (done.Made entry) × Sends messages entry sent before after))
+    ((word : Word) × IsMissing clones new number word × (sent ≡ messages) × Writes (reply_of word) before after)
+    ⊎ ((SetsLive clones new number triple present done.Nothing × (sent ≡ messages) × Writes NoOperation before after)
+    ⊎ ((entry : EntryValue) × SetsLive clones new number triple present (done.Made entry) × Sends messages entry sent before after))
+
+-- the clone asks for a leaf, and the message that asks is the next
+pub record Asks (domain : List ℕ) (clones : List RunningClone) (messages : List Message) (number : ℕ) (new : List RunningClone) (sent : List Message) (before after : List ℕ) : Type 0 where
+  pub asker : LocalAsker
+  pub asks : ((state_at clones number ≡ states.Asking asker) × (new ≡ clones))
+      ⊎ ((state_at clones number ≡ states.Absent) × (asker.id ≡ id_of number) × (asker.domain ≡ domain) × (asker.properties ≡ [])
+      × (new ≡ slice_set clones number (states.Asking asker)))
+  pub sends : sent ≡ messages ++ kinds.JoinAsk asker.id ∷ []
+  pub writes : Writes (Sent (length messages + 1)) before after
+
+-- the clone is live, or it asks for a leaf
+abbrev pub JoinsTo : List ℕ → List RunningClone → List Message → ℕ → List RunningClone → List Message → List ℕ → List ℕ → Type 0
+JoinsTo domain clones messages number new sent before after =
+    ((live : LocalClone) × (state_at clones number ≡ states.Live live) × (new ≡ clones) × (sent ≡ messages) × Writes IsLive before after)
+    ⊎ Asks domain clones messages number new sent before after
+
+-- the message's answer was written, and what it sends is sent
+abbrev pub Tells : List RunningClone → List Message → ℕ → List RunningClone → List Message → List ℕ → List ℕ → Message → Answer → Type 0
+Tells clones messages number new sent before after what answer =
+    AnswersAt clones new number what answer
+    × (((more : List Message) × (answer ≡ answers.Got (got.Answer more)) × AreSent messages more sent before after)
+    ⊎ (IsQuiet answer × (sent ≡ messages) × Writes (reply_of_answer answer) before after))
 
 -- no message has the number, or the clone's answer to it was written
-abbrev pub DeliversTo : List (Option LocalClone) → List Message → ℕ → ℕ → List (Option LocalClone) → List ℕ → List ℕ → Type 0
-DeliversTo clones messages message number new before after =
-    ((nth_message messages message ≡ None) × (new ≡ clones) × Writes NoMessage before after)
-    ⊎ ((sent : Message) × (answer : Answer) × (nth_message messages message ≡ Some sent) × AnswersAt clones new number sent answer
-    × Writes (reply_of_answer answer) before after)
+abbrev pub DeliversTo : List RunningClone → List Message → ℕ → ℕ → List RunningClone → List Message → List ℕ → List ℕ → Type 0
+DeliversTo clones messages message number new sent before after =
+    ((nth_message messages message ≡ None) × (new ≡ clones) × (sent ≡ messages) × Writes NoMessage before after)
+    ⊎ ((what : Message) × (answer : Answer) × (nth_message messages message ≡ Some what) × Tells clones messages number new sent before after what answer)
 
--- the clone is absent, or its pairs were written
-abbrev pub ShowsAt : List (Option LocalClone) → ℕ → List ℕ → List ℕ → Type 0
+-- the clone isn't live, or its pairs were written
+abbrev pub ShowsAt : List RunningClone → ℕ → List ℕ → List ℕ → Type 0
 ShowsAt clones number before after =
-    ((slice_index_or clones number None ≡ None) × Writes IsAbsent before after)
-    ⊎ ((live : LocalClone) × (slice_index_or clones number None ≡ Some live) × Writes (Shows live.pairs) before after)
+    ((word : Word) × IsMissingWord (state_at clones number) word × Writes (reply_of word) before after)
+    ⊎ ((live : LocalClone) × (state_at clones number ≡ states.Live live) × Writes (Shows live.pairs) before after)
 
--- one of the clones is absent, or how both compare was written
-abbrev pub ComparesAt : List (Option LocalClone) → ℕ → ℕ → List ℕ → List ℕ → Type 0
+-- one of the clones isn't live, or how both compare was written
+abbrev pub ComparesAt : List RunningClone → ℕ → ℕ → List ℕ → List ℕ → Type 0
 ComparesAt clones number second before after =
-    ((slice_index_or clones number None ≡ None) × Writes IsAbsent before after)
-    ⊎ (((live : LocalClone) × (slice_index_or clones number None ≡ Some live) × (slice_index_or clones second None ≡ None) × Writes IsAbsent before after)
-    ⊎ ((live : LocalClone) × (other : LocalClone) × (covering : Covering) × (slice_index_or clones number None ≡ Some live) × (slice_index_or clones second None ≡ Some other)
+    ((word : Word) × IsMissingWord (state_at clones number) word × Writes (reply_of word) before after)
+    ⊎ (((live : LocalClone) × (word : Word) × (state_at clones number ≡ states.Live live) × IsMissingWord (state_at clones second) word × Writes (reply_of word) before after)
+    ⊎ ((live : LocalClone) × (other : LocalClone) × (covering : Covering) × (state_at clones number ≡ states.Live live) × (state_at clones second ≡ states.Live other)
     × ComparesAs live.ticks other.ticks covering × Writes (reply_of_covering covering) before after))

@@ -7,7 +7,7 @@ ghost use Rattle.rdf_terms.specs.Domain.{is_domain};
 ghost use Rattle.rdf_terms.specs.declared.terms.Triple.{Triple};
 ghost use Rattle.mld_model.specs.Schedule.{IsNothing, is_unbuilt, unbuilt_words, is_word, first_word, SpellsSetup, SpellsCommand};
 ghost use Rattle.mld_model.specs.declared.Command.{Command};
-ghost use Rattle.net_world.specs.Reading.{SetupIs, CommandIs, IsBadSetup, IsBadCommand, IsTripleOf, IsCloneAndTriple, IsAddOf, IsRemoveOf, IsDeliverOf, IsShowOf, IsCompareOf};
+ghost use Rattle.net_world.specs.Reading.{SetupIs, CommandIs, IsBadSetup, IsBadCommand, IsTripleOf, IsCloneAndTriple, IsAddOf, IsRemoveOf, IsDeliverOf, IsShowOf, IsCompareOf, IsJoinOf};
 
 use mld_model::Command;
 use rdf_terms::{Text, Triple, TripleFault, is_domain, read_triple};
@@ -95,8 +95,7 @@ fn is_nothing(line: &[u8]) -> bool
 }
 
 /// The first words of lines that aren't built yet.
-const UNBUILT_WORDS: [&[u8]; 10] = [
-    b"join",
+const UNBUILT_WORDS: [&[u8]; 9] = [
     b"stop",
     b"open",
     b"ask",
@@ -261,6 +260,9 @@ fn command_of(alloc: Global, line: &[u8]) -> Result<Option<Command>, AllocError>
     if let Some(rest) = behind(line, b"compare ") {
         return read_compare(alloc, rest);
     }
+    if let Some(rest) = behind(line, b"join ") {
+        return read_join(alloc, rest);
+    }
     Ok(None)
 }
 
@@ -340,6 +342,13 @@ fn read_show(alloc: Global, rest: &[u8]) -> Result<Option<Command>, AllocError>
     ensures { IfOk result (λ found. MatchOption found ((command : Command) → ¬ IsShowOf rest.now command) (λ command. IsShowOf rest.now command)) }
 {
     Ok(read_clone(alloc, rest)?.map(Command::Show))
+}
+
+/// What follows `join` and a space: a clone's number.
+fn read_join(alloc: Global, rest: &[u8]) -> Result<Option<Command>, AllocError>
+    ensures { IfOk result (λ found. MatchOption found ((command : Command) → ¬ IsJoinOf rest.now command) (λ command. IsJoinOf rest.now command)) }
+{
+    Ok(read_clone(alloc, rest)?.map(Command::Join))
 }
 
 /// What follows `compare` and a space: two clones' numbers with a space between.

@@ -1,12 +1,13 @@
 //! The text of replies: lines that end with LF, added at the end of an output.
-ghost use Rattle.std.specs.Prelude.{◌≡◌, ◌<◌, ◌^◌, ◌++◌, ◌∷◌, [], OnOk};
-ghost use Rattle.mld_model.specs.Reply.{reply_text, pair_line, spaced_range, Ready, Did, Took, Shows};
+ghost use Rattle.std.specs.Prelude.{◌≡◌, ◌<◌, ◌^◌, ◌+◌, ◌++◌, ◌∷◌, [], OnOk};
+ghost use Rattle.std.specs.List.{range_with_len};
+ghost use Rattle.mld_model.specs.Reply.{reply_text, pair_line, spaced_range, spaced_message, Ready, Did, Took, Sent, Answer, Joined, Shows};
 ghost use Rattle.net_world.specs.Words.{reply_of};
 
 use mld_ops::Tagged;
 use rdf_terms::write_triple;
 use std::alloc::{AllocError, Global};
-use tree_clock::{Dot, Range};
+use tree_clock::{Dot, Path, Range};
 
 /// The replies that are the same words each time.
 #[derive(Clone, Copy, Debug, PartialEq, Eq)]
@@ -23,8 +24,14 @@ pub enum Word {
     NoMessage,
     /// `ignored`: the clone takes no message of this kind.
     Ignored,
+    /// `deep`: the leaf is too deep to be forked.
+    Deep,
     /// `absent`: the clone is absent.
     Absent,
+    /// `asking`: the clone asks for a leaf.
+    Asking,
+    /// `live`: the clone is live.
+    Live,
     /// `same`: two clones know the same dots.
     Same,
     /// `less`: the first clone's dots are a proper part of the second's.
@@ -46,7 +53,10 @@ pub fn push_word(out: &mut Vec<u8>, word: Word) -> Result<(), AllocError>
         Word::Known => out.extend_from_slice(b"known\n"),
         Word::NoMessage => out.extend_from_slice(b"no message\n"),
         Word::Ignored => out.extend_from_slice(b"ignored\n"),
+        Word::Deep => out.extend_from_slice(b"deep\n"),
         Word::Absent => out.extend_from_slice(b"absent\n"),
+        Word::Asking => out.extend_from_slice(b"asking\n"),
+        Word::Live => out.extend_from_slice(b"live\n"),
         Word::Same => out.extend_from_slice(b"same\n"),
         Word::Less => out.extend_from_slice(b"less\n"),
         Word::More => out.extend_from_slice(b"more\n"),
@@ -73,6 +83,48 @@ pub fn push_did(
 {
     let line = format!(in alloc; "did {dot} m{message}\n")?;
     out.extend_from_slice(line.as_bytes())
+}
+
+/// `sent mM`.
+pub fn push_sent(alloc: Global, out: &mut Vec<u8>, message: usize) -> Result<(), AllocError>
+    ensures { OnOk result (out.new.items ≡ out.old.items ++ reply_text (Sent message)) }
+{
+    let line = format!(in alloc; "sent m{message}\n")?;
+    out.extend_from_slice(line.as_bytes())
+}
+
+/// `joined P`.
+pub fn push_joined(alloc: Global, out: &mut Vec<u8>, path: &Path) -> Result<(), AllocError>
+    ensures { OnOk result (out.new.items ≡ out.old.items ++ reply_text (Joined path.now)) }
+{
+    let line = format!(in alloc; "joined {path}\n")?;
+    out.extend_from_slice(line.as_bytes())
+}
+
+/// `answer`, then each number, from the first on.
+pub fn push_answered(
+    alloc: Global,
+    out: &mut Vec<u8>,
+    first: usize,
+    count: usize,
+) -> Result<(), AllocError>
+    requires { first + count < 2 ^ 64 }
+    ensures { OnOk result (out.new.items ≡ out.old.items ++ reply_text (Answer (range_with_len first count))) }
+{
+    out.extend_from_slice(b"answer")?;
+    for index in 0..count {
+        push_message(alloc, out, first + index)?;
+    }
+    out.push(b'\n')?;
+    Ok(())
+}
+
+/// The number of a message, behind a space.
+fn push_message(alloc: Global, out: &mut Vec<u8>, number: usize) -> Result<(), AllocError>
+    ensures { OnOk result (out.new.items ≡ out.old.items ++ spaced_message number) }
+{
+    let number = format!(in alloc; " m{number}")?;
+    out.extend_from_slice(number.as_bytes())
 }
 
 /// `took`, then each range.

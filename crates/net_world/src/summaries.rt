@@ -4,7 +4,8 @@ ghost use Rattle.mld_ops.specs.Held.{ranges_of};
 ghost use Rattle.net_world.specs.Summaries.{IsBlank, IsSummaryOf, Summarizes, SummarizesAll};
 ghost use Rattle.net_world.specs.declared.summaries.State.{State};
 
-use clone_core::MldClone;
+use clone_core::{Asker, MldClone};
+use mld_model::CloneState;
 use mld_ops::{Entry, Tagged};
 use std::alloc::{AllocError, Global};
 use tree_clock::{Path, Range};
@@ -47,7 +48,10 @@ pub struct Summary {
 }
 
 /// What there is to tell of the clones of a world.
-pub fn summarize(alloc: Global, clones: &[Option<MldClone>]) -> Result<Summary, AllocError>
+pub fn summarize(
+    alloc: Global,
+    clones: &[CloneState<Asker, MldClone>],
+) -> Result<Summary, AllocError>
     ensures { IfOk result (λ summary. SummarizesAll clones.now summary.clones.items) }
 {
     let mut summaries = Vec::with_capacity(alloc, clones.len())?;
@@ -57,13 +61,17 @@ pub fn summarize(alloc: Global, clones: &[Option<MldClone>]) -> Result<Summary, 
     Ok(Summary { clones: summaries })
 }
 
-/// What there is to tell of a clone, where it may be absent.
-fn summary_of(alloc: Global, clone: &Option<MldClone>) -> Result<CloneSummary, AllocError>
+/// What there is to tell of a clone.
+fn summary_of(
+    alloc: Global,
+    clone: &CloneState<Asker, MldClone>,
+) -> Result<CloneSummary, AllocError>
     ensures { IfOk result (Summarizes clone.now) }
 {
     match clone {
-        None => Ok(blank(alloc, State::Absent)),
-        Some(live) => summary_of_live(alloc, live),
+        CloneState::Absent => Ok(blank(alloc, State::Absent)),
+        CloneState::Asking(_) => Ok(blank(alloc, State::Asking)),
+        CloneState::Live(live) => summary_of_live(alloc, live),
     }
 }
 

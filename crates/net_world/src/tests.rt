@@ -1,20 +1,14 @@
 //! Lines and a founded world, worked by hand.
 use crate::{Command, LineRefusal, Setup, State, World, push_ready, read_command, read_setup};
-use std::alloc::Global;
+use rdf_terms::Text;
 use std::test::Fail;
 use tree_clock::Path;
 
-/// The domain line of two clones.
-fn two(alloc: Global) -> Result<Setup, Fail> {
-    match read_setup(alloc, b"domain d.x clones 2")? {
-        Some(setup) => Ok(setup),
-        None => Err(Fail::from("no domain line")),
-    }
-}
-
 #[test]
 fn a_domain_line_is_read(rt: HostRuntime) -> Result<(), Fail> {
-    let setup = two(rt.alloc())?;
+    let Some(setup) = read_setup(rt.alloc(), b"domain d.x clones 2")? else {
+        return Err(Fail::from("no domain line"));
+    };
     assert_eq!(rt; setup.domain.as_str(), "d.x");
     assert_eq!(rt; setup.clones, 2);
     assert!(rt; read_setup(rt.alloc(), b"# x")?.is_none());
@@ -51,7 +45,11 @@ fn a_command_is_read(rt: HostRuntime) -> Result<(), Fail> {
 
 #[test]
 fn a_founded_world_tells_of_its_clones(rt: HostRuntime) -> Result<(), Fail> {
-    let world = World::found(rt.alloc(), &two(rt.alloc())?)?;
+    let setup = Setup {
+        domain: Text::new(rt.alloc(), "d.x")?,
+        clones: 2,
+    };
+    let world = World::found(rt.alloc(), &setup)?;
     let summary = world.summary(rt.alloc())?;
     let paths = [
         summary.clones.first().and_then(|clone| clone.path),

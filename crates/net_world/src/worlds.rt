@@ -1,20 +1,27 @@
 //! The world: 32 clones, and every message ever sent.
-ghost use Rattle.std.specs.Prelude.{◌≡◌, ◌<◌, ◌≤◌, length, vec_len, map, replicate, option_copied, IfOk, OnOk, MatchOption};
+ghost use Rattle.std.specs.Prelude.{◌≡◌, ◌<◌, ◌≤◌, length, vec_len, map, replicate, option_copied, IfOk, OnOk};
 ghost use Rattle.std.specs.List.{range_with_len};
 ghost use Rattle.mld_model.specs.World.{founded_path};
 ghost use Rattle.mld_model.specs.StandsFor.{id_of, founded_local};
+ghost use Rattle.mld_ops.specs.Entry.{EntryValue};
+ghost use Rattle.mld_ops.specs.declared.messages.Message.TheVariants as kinds;
+ghost use Rattle.mld_model.specs.Local.{IsForeign};
+ghost use Rattle.clone_core.specs.Joining.{IsGoodMessage};
 ghost use Rattle.net_world.specs.Words.{reply_of, reply_of_covering};
-ghost use Rattle.net_world.specs.Worlds.{nth_message, HasNextTick, IsNotForeign, IsNoneForeign, IsMissing, Sends, SetsAt, SetsTo, AnswersAt, DeliversTo, ShowsAt, ComparesAt, Writes, reply_of_answer};
+ghost use Rattle.net_world.specs.Worlds.{nth_message, HasNextTick, IsFitFor, AreFitFor, Sends, SetsAt, SetsTo, IsAsking, AdoptsAt, AnswersAt, AnswersLive, AreSent, DeliversTo, JoinsTo, ShowsAt, ComparesAt, Writes, IsQuiet, reply_of_answer};
 
 use crate::lines::Setup;
-use crate::replies::{Word, push_did, push_pairs, push_took, push_word};
+use crate::replies::{
+    Word, push_answered, push_did, push_joined, push_pairs, push_sent, push_took, push_word,
+};
 use crate::summaries::{Summary, summarize};
-use clone_core::{Covering, Done, Got, MldClone, ReceiveFault, UpdateFault};
-use mld_model::Command;
-use mld_ops::{Entry, Message};
+use clone_core::{Adopted, Asker, Covering, Done, Got, MldClone, ReceiveFault, UpdateFault};
+use mld_model::{CloneState, Command};
+use mld_ops::{Entry, Message, Messages};
 use rdf_terms::{Text, Triple};
 use std::alloc::{AllocError, Global};
 use std::marker::Model;
+use std::mem;
 use tree_clock::{Dot, Leaf, Path};
 use uuid::Uuid;
 
@@ -25,7 +32,7 @@ const CLONE_COUNT: u8 = 32;
 #[derive(Drop)]
 pub struct World {
     domain: Text,
-    clones: Vec<Option<MldClone>>,
+    clones: Vec<CloneState<Asker, MldClone>>,
     messages: Vec<Message>,
     steps: u32,
 }
@@ -41,21 +48,37 @@ impl Model for World {
     ghost invariant = { λ w. vec_len w.clones ≡ 32 };
 }
 
+/// What became of a triple that was to be there, or to be gone, at a clone.
+#[derive(Drop)]
+enum Change {
+    /// The clone isn't live, and this is the word for that.
+    Missing(Word),
+    /// It did it, or there was nothing to do.
+    Done(Done),
+}
+
 /// What a clone answers to a message.
 #[derive(Drop)]
 enum Answer {
     /// There is no such clone.
     Absent,
+    /// The clone asks for a leaf, and the message gives it none.
+    Ignored,
+    /// The clone asked for a leaf, and lives from now on at this path.
+    Joined(Path),
     /// The clone received it.
     Got(Got),
     /// The clone would hold it back, and holds too many others.
     HeldFull,
+    /// The clone is asked for a leaf, and its own is too deep.
+    Deep,
 }
 
 impl World {
     ghost use Rattle.std.specs.Prelude.{◌≡◌, ◌+◌, ◌<◌, ◌≤◌, IfOk, OnOk};
     ghost use Rattle.mld_model.specs.StandsFor.{founded_running};
-    ghost use Rattle.net_world.specs.Worlds.{IsStanding, HasCloneNumbers, Stepped};
+    ghost use Rattle.mld_model.specs.Step.{HasCloneNumbers};
+    ghost use Rattle.net_world.specs.Worlds.{IsStanding, Stepped};
     ghost use Rattle.net_world.specs.Summaries.{Tells};
 
     /// The founded world: the clones from 0 on are live, each with a leaf of its own, and the others are absent.
@@ -121,8 +144,19 @@ impl World {
                 )
             }
             Command::Deliver(message, number) => {
-                let messages = self.messages.as_slice();
+                let messages = &mut self.messages;
                 deliver_to(alloc, &mut self.clones, messages, *message, *number, out)
+            }
+            Command::Join(number) => {
+                let messages = &mut self.messages;
+                join_to(
+                    alloc,
+                    &mut self.clones,
+                    messages,
+                    &self.domain,
+                    *number,
+                    out,
+                )
             }
             Command::Show(number) => show(alloc, self.clones.as_slice(), *number, out),
             Command::Compare(number, other) => {
@@ -137,7 +171,7 @@ fn founded_clones(
     alloc: Global,
     domain: &Text,
     count: u8,
-) -> Result<Vec<Option<MldClone>>, AllocError>
+) -> Result<Vec<CloneState<Asker, MldClone>>, AllocError>
     requires { count ≤ 32 }
     ensures { IfOk result (λ clones. clones.items ≡ map (founded_local domain.now count) (range_with_len 0 32)) }
 {
@@ -154,17 +188,17 @@ fn founded_clone(
     domain: &Text,
     count: u8,
     number: u8,
-) -> Result<Option<MldClone>, AllocError>
+) -> Result<CloneState<Asker, MldClone>, AllocError>
     requires { count ≤ 32 }
     ensures { IfOk result (λ clone. clone ≡ founded_local domain.now count number) }
 {
     if number >= count {
-        return Ok(None);
+        return Ok(CloneState::Absent);
     }
     let leaf = Leaf::at(founded_path(count, number));
     let id = id_of(number);
     let domain = domain.copy_in(alloc)?;
-    Ok(Some(MldClone::with_leaf(alloc, leaf, id, domain, Vec::new(alloc))))
+    Ok(CloneState::Live(MldClone::with_leaf(alloc, leaf, id, domain, Vec::new(alloc))))
 }
 
 /// The id of a clone: the UUID whose number is the clone's.
@@ -202,7 +236,7 @@ fn zeros(count: u8) -> Path
 /// Clone `number` inserts a triple, or deletes the pairs of it, and the entry of that is sent.
 fn set_to(
     alloc: Global,
-    clones: &mut Vec<Option<MldClone>>,
+    clones: &mut Vec<CloneState<Asker, MldClone>>,
     messages: &mut Vec<Message>,
     number: u8,
     triple: &Triple,
@@ -215,29 +249,30 @@ fn set_to(
     ensures ok { OnOk result (SetsTo clones.old.items messages.old.items number triple.now present clones.new.items messages.new.items out.old.items out.new.items) }
 {
     match set_at(alloc, clones, number, triple, present)? {
-        None => push_word(out, Word::Absent),
-        Some(Done::Nothing) => push_word(out, Word::NoOperation),
-        Some(Done::Made(entry)) => send_operation(alloc, messages, entry, out),
+        Change::Missing(word) => push_word(out, word),
+        Change::Done(Done::Nothing) => push_word(out, Word::NoOperation),
+        Change::Done(Done::Made(entry)) => send_operation(alloc, messages, entry, out),
     }
 }
 
 /// Clone `number`, where it is live, makes the operation that inserts a triple, or the one that deletes the pairs of it.
 fn set_at(
     alloc: Global,
-    clones: &mut Vec<Option<MldClone>>,
+    clones: &mut Vec<CloneState<Asker, MldClone>>,
     number: u8,
     triple: &Triple,
     present: bool,
-) -> Result<Option<Done>, AllocError>
+) -> Result<Change, AllocError>
     requires number { number < vec_len clones.old }
     requires ticks { HasNextTick clones.old.items number }
     ensures count { vec_len clones.new ≡ vec_len clones.old }
-    ensures ok { IfOk result (λ made. MatchOption made (IsMissing clones.old.items clones.new.items number) (SetsAt clones.old.items clones.new.items number triple.now present)) }
+    ensures ok { IfOk result (SetsAt clones.old.items clones.new.items number triple.now present) }
 {
     match &mut clones[usize::from(number)] {
-        None => Ok(None),
-        Some(clone) => match clone.set(alloc, triple, present) {
-            Ok(done) => Ok(Some(done)),
+        CloneState::Absent => Ok(Change::Missing(Word::Absent)),
+        CloneState::Asking(_) => Ok(Change::Missing(Word::Asking)),
+        CloneState::Live(clone) => match clone.set(alloc, triple, present) {
+            Ok(done) => Ok(Change::Done(done)),
             Err(UpdateFault::NoMemory) => Err(AllocError),
             Err(UpdateFault::TicksSpent) => unreachable!(),
         },
@@ -271,68 +306,156 @@ fn message_at(messages: &[Message], number: u64) -> Option<&Message>
     messages.get(usize::try_from(before).ok()?)
 }
 
+/// Clone `number`, which has no leaf yet, asks for one; it may ask again.
+fn join_to(
+    alloc: Global,
+    clones: &mut Vec<CloneState<Asker, MldClone>>,
+    messages: &mut Vec<Message>,
+    domain: &Text,
+    number: u8,
+    out: &mut Vec<u8>,
+) -> Result<(), AllocError>
+    requires { number < vec_len clones.old }
+    ensures count { vec_len clones.new ≡ vec_len clones.old }
+    ensures done { OnOk result (JoinsTo domain.now clones.old.items messages.old.items number clones.new.items messages.new.items out.old.items out.new.items) }
+{
+    let question = match &clones[usize::from(number)] {
+        CloneState::Live(_) => return push_word(out, Word::Live),
+        CloneState::Asking(asker) => asker.ask(),
+        CloneState::Absent => {
+            let asker = Asker::new(id_of(number), domain.copy_in(alloc)?, Vec::new(alloc));
+            let question = asker.ask();
+            clones[usize::from(number)] = CloneState::Asking(asker);
+            question
+        }
+    };
+    push_sent(alloc, out, messages.len() + 1)?;
+    messages.push(question)?;
+    Ok(())
+}
+
 /// Message `message` comes to clone `number`.
 fn deliver_to(
     alloc: Global,
-    clones: &mut Vec<Option<MldClone>>,
-    messages: &[Message],
+    clones: &mut Vec<CloneState<Asker, MldClone>>,
+    messages: &mut Vec<Message>,
     message: u64,
     number: u8,
     out: &mut Vec<u8>,
 ) -> Result<(), AllocError>
     requires number { number < vec_len clones.old }
-    requires own { IsNoneForeign clones.old.items messages.now message number }
+    requires fit { AreFitFor clones.old.items messages.old.items message number }
     ensures count { vec_len clones.new ≡ vec_len clones.old }
-    ensures done { OnOk result (DeliversTo clones.old.items messages.now message number clones.new.items out.old.items out.new.items) }
+    ensures done { OnOk result (DeliversTo clones.old.items messages.old.items message number clones.new.items messages.new.items out.old.items out.new.items) }
 {
     let Some(message) = message_at(messages, message) else {
         return push_word(out, Word::NoMessage);
     };
-    let answer = receive_at(alloc, clones, number, message)?;
-    push_answer(alloc, out, &answer)
+    match receive_at(alloc, clones, number, message)? {
+        Answer::Got(Got::Answer(answers)) => send_answers(alloc, messages, answers, out),
+        answer => push_answer(alloc, out, &answer),
+    }
 }
 
-/// Clone `number`, where it is live, receives a message.
+/// Clone `number` receives a message.
 fn receive_at(
     alloc: Global,
-    clones: &mut Vec<Option<MldClone>>,
+    clones: &mut Vec<CloneState<Asker, MldClone>>,
     number: u8,
     message: &Message,
 ) -> Result<Answer, AllocError>
     requires number { number < vec_len clones.old }
-    requires own { IsNotForeign clones.old.items number message.now }
+    requires fit { IsFitFor clones.old.items number message.now }
     ensures count { vec_len clones.new ≡ vec_len clones.old }
     ensures ok { IfOk result (AnswersAt clones.old.items clones.new.items number message.now) }
 {
     match &mut clones[usize::from(number)] {
-        None => Ok(Answer::Absent),
-        Some(clone) => match clone.receive(alloc, message) {
-            Ok(got) => Ok(Answer::Got(got)),
-            Err(ReceiveFault::HeldFull) => Ok(Answer::HeldFull),
-            Err(ReceiveFault::NoMemory) => Err(AllocError),
-            Err(ReceiveFault::ForeignTick { .. }) => unreachable!(),
-        },
+        CloneState::Absent => Ok(Answer::Absent),
+        CloneState::Live(clone) => receive_live(alloc, clone, message),
+        asking => adopt_at(alloc, asking, message),
     }
 }
 
-/// The reply that an answer is.
+/// A live clone receives a message.
+fn receive_live(
+    alloc: Global,
+    clone: &mut MldClone,
+    message: &Message,
+) -> Result<Answer, AllocError>
+    requires { (entry : EntryValue) → message.now ≡ kinds.Range entry → ¬ IsForeign clone.old entry }
+    ensures { IfOk result (AnswersLive clone.old message.now clone.new) }
+{
+    match clone.receive(alloc, message) {
+        Ok(got) => Ok(Answer::Got(got)),
+        Err(ReceiveFault::HeldFull) => Ok(Answer::HeldFull),
+        Err(ReceiveFault::Deep) => Ok(Answer::Deep),
+        Err(ReceiveFault::NoMemory) => Err(AllocError),
+        Err(ReceiveFault::ForeignTick { .. }) => unreachable!(),
+    }
+}
+
+/// One who asks for a leaf receives a message.
+fn adopt_at(
+    alloc: Global,
+    state: &mut CloneState<Asker, MldClone>,
+    message: &Message,
+) -> Result<Answer, AllocError>
+    requires asking { IsAsking state.old }
+    requires good { IsGoodMessage message.now }
+    ensures { IfOk result (AdoptsAt state.old state.new message.now) }
+{
+    let CloneState::Asking(asker) = mem::replace(state, CloneState::Absent) else {
+        unreachable!()
+    };
+    match asker.receive(alloc, message) {
+        Adopted::Joined(clone) => {
+            let path = clone.path();
+            *state = CloneState::Live(clone);
+            Ok(Answer::Joined(path))
+        }
+        Adopted::Ignored(asker) => {
+            *state = CloneState::Asking(asker);
+            Ok(Answer::Ignored)
+        }
+        Adopted::Refused(_) => Err(AllocError),
+    }
+}
+
+/// The reply that an answer is, which sends nothing.
 fn push_answer(alloc: Global, out: &mut Vec<u8>, answer: &Answer) -> Result<(), AllocError>
+    requires { IsQuiet answer.now }
     ensures { OnOk result (Writes (reply_of_answer answer.now) out.old.items out.new.items) }
 {
     match answer {
         Answer::Absent => push_word(out, Word::Absent),
+        Answer::Joined(path) => push_joined(alloc, out, path),
         Answer::Got(Got::Took(ranges)) => push_took(alloc, out, ranges.as_slice()),
         Answer::Got(Got::Held) => push_word(out, Word::Held),
         Answer::Got(Got::Known) => push_word(out, Word::Known),
-        Answer::Got(Got::Ignored) => push_word(out, Word::Ignored),
+        Answer::Got(Got::Ignored) | Answer::Ignored => push_word(out, Word::Ignored),
+        Answer::Got(Got::Answer(_)) => unreachable!(),
         Answer::HeldFull => push_word(out, Word::HeldFull),
+        Answer::Deep => push_word(out, Word::Deep),
     }
+}
+
+/// Sends the messages that answer another, and the reply names their numbers.
+fn send_answers(
+    alloc: Global,
+    messages: &mut Vec<Message>,
+    answers: Messages,
+    out: &mut Vec<u8>,
+) -> Result<(), AllocError>
+    ensures { OnOk result (AreSent messages.old.items answers messages.new.items out.old.items out.new.items) }
+{
+    push_answered(alloc, out, messages.len() + 1, answers.len())?;
+    messages.append(&mut answers.into_vec())
 }
 
 /// Lists the pairs of clone `number`.
 fn show(
     alloc: Global,
-    clones: &[Option<MldClone>],
+    clones: &[CloneState<Asker, MldClone>],
     number: u8,
     out: &mut Vec<u8>,
 ) -> Result<(), AllocError>
@@ -340,14 +463,15 @@ fn show(
     ensures { OnOk result (ShowsAt clones.now number out.old.items out.new.items) }
 {
     match &clones[usize::from(number)] {
-        None => push_word(out, Word::Absent),
-        Some(clone) => push_pairs(alloc, out, clone.pairs()),
+        CloneState::Absent => push_word(out, Word::Absent),
+        CloneState::Asking(_) => push_word(out, Word::Asking),
+        CloneState::Live(clone) => push_pairs(alloc, out, clone.pairs()),
     }
 }
 
 /// Compares the dots that two clones know.
 fn compare(
-    clones: &[Option<MldClone>],
+    clones: &[CloneState<Asker, MldClone>],
     number: u8,
     other: u8,
     out: &mut Vec<u8>,
@@ -356,13 +480,16 @@ fn compare(
     requires second { other < length clones.now }
     ensures { OnOk result (ComparesAt clones.now number other out.old.items out.new.items) }
 {
-    let Some(first) = &clones[usize::from(number)] else {
-        return push_word(out, Word::Absent);
+    let first = match &clones[usize::from(number)] {
+        CloneState::Absent => return push_word(out, Word::Absent),
+        CloneState::Asking(_) => return push_word(out, Word::Asking),
+        CloneState::Live(clone) => clone,
     };
-    let Some(second) = &clones[usize::from(other)] else {
-        return push_word(out, Word::Absent);
-    };
-    push_word(out, word_of(first.compare(second)))
+    match &clones[usize::from(other)] {
+        CloneState::Absent => push_word(out, Word::Absent),
+        CloneState::Asking(_) => push_word(out, Word::Asking),
+        CloneState::Live(second) => push_word(out, word_of(first.compare(second))),
+    }
 }
 
 /// The word for how the dots of two clones compare.

@@ -1,5 +1,5 @@
 //! Leaves: the right to use a path's ticks, which a fork shares out.
-ghost use Rattle.std.specs.Prelude.{◌≡◌, ℕ, ◌↔◌, ◌++◌, ◌∷◌, [], List, length, IfOk, IfErr};
+ghost use Rattle.std.specs.Prelude.{◌≡◌, ℕ, ◌↔◌, ◌++◌, ◌∷◌, [], List, length, IfOk, IfErr, IfSome, IfNone, OnSome, IsNone};
 ghost use Rattle.std.specs.Result.{IsErr};
 ghost use Rattle.tree_clock.specs.Path.{AreApart};
 
@@ -74,6 +74,28 @@ impl Leaf {
         };
         Ok((zero, one))
     }
+
+    /// Forks the leaf in place: it becomes its son at the letter `0`, and the one at `1` is given. It takes no memory.
+    pub fn give(&mut self) -> Option<Leaf>
+        ensures left { OnSome result (self.new ≡ self.old ++ 48 ∷ []) }
+        ensures right { IfSome result (λ right. right ≡ self.old ++ 49 ∷ []) }
+
+        // The halves are apart, and what was apart from the leaf is apart from both.
+        ensures apart { IfSome result (λ right. AreApart self.new right) }
+        ensures keeps_apart { (other : List ℕ) → AreApart self.old other
+            → IfSome result (λ right. AreApart self.new other × AreApart right other) }
+
+        // A leaf of 64 letters, and no other, gives none and stays as it was.
+        ensures deep { IsNone result ↔ (length self.old ≡ 64) }
+        ensures unchanged { IfNone result (self.new ≡ self.old) }
+    {
+        let path = self.path;
+        if path.len() == 64 {
+            return None;
+        }
+        self.path = path.child(false);
+        Some(Leaf::at(path.child(true)))
+    }
 }
 
 #[cfg(test)]
@@ -90,6 +112,18 @@ mod tests {
         assert_eq!(rt; format!(in rt.alloc(); "{}", one.path())?.as_str(), "r1");
         let (_, last) = zero.fork()?;
         assert_eq!(rt; format!(in rt.alloc(); "{}", last.path())?.as_str(), "r01");
+        Ok(())
+    }
+
+    #[test]
+    fn a_leaf_that_gives_keeps_its_left_half(rt: HostRuntime) -> Result<(), Fail> {
+        let mut leaf = Leaf::genesis();
+        let right = leaf.give().ok_or("it gave none")?;
+        assert_eq!(rt; format!(in rt.alloc(); "{}", leaf.path())?.as_str(), "r0");
+        assert_eq!(rt; format!(in rt.alloc(); "{}", right.path())?.as_str(), "r1");
+        let mut deep = forked(Leaf::genesis(), 64);
+        assert!(rt; deep.give().is_none());
+        assert_eq!(rt; deep.path().len(), 64);
         Ok(())
     }
 

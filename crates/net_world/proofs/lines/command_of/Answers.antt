@@ -1,6 +1,6 @@
 use Rattle.mld_model.specs.Schedule.{SpellsCommand}
-use Rattle.net_world.specs.Reading.{IsAddOf, IsRemoveOf, IsDeliverOf, IsShowOf, IsCompareOf}
-use Rattle.net_world.proofs.LinesCommands.{built_add, built_remove, read_behind, add_behind, remove_behind, deliver_behind, show_behind, compare_behind}
+use Rattle.net_world.specs.Reading.{IsAddOf, IsRemoveOf, IsDeliverOf, IsShowOf, IsCompareOf, IsJoinOf}
+use Rattle.net_world.proofs.LinesCommands.{built_add, built_remove, read_behind, add_behind, remove_behind, deliver_behind, show_behind, compare_behind, join_behind}
 use Rattle.net_world.proofs.lines.command_of.Goals as goal
 
 pub read_add-requires : goal.read_add-requires
@@ -33,3 +33,8 @@ pub returns-in-Some-behind-4 : goal.returns-in-Some-behind-4
 returns-in-Some-behind-4 c =
     read_behind (λ command. IsCompareOf c.in-Some-behind-4.rest.now command) (λ command. SpellsCommand c.args.line.now command) c.read_compare.result
     (compare_behind c.args.line.now c.in-Some-behind-4.rest.now c.in-Some-behind-4.ensures) c.read_compare.ensures
+
+pub returns-in-Some-behind-5 : goal.returns-in-Some-behind-5
+returns-in-Some-behind-5 c =
+    read_behind (λ command. IsJoinOf c.in-Some-behind-5.rest.now command) (λ command. SpellsCommand c.args.line.now command) c.read_join.result
+    (join_behind c.args.line.now c.in-Some-behind-5.rest.now c.in-Some-behind-5.ensures) c.read_join.ensures

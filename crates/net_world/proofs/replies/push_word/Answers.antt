@@ -47,3 +47,15 @@ returns-in-HeldFull c = word_pushed c.extend_from_slice-in-HeldFull.result c.arg
 pub returns-in-Ignored : goal.returns-in-Ignored
 unfolding reply_text
 returns-in-Ignored c = search rules
+
+pub returns-in-Deep : goal.returns-in-Deep
+unfolding reply_text
+returns-in-Deep c = search rules
+
+pub returns-in-Asking : goal.returns-in-Asking
+unfolding reply_text
+returns-in-Asking c = search rules
+
+pub returns-in-Live : goal.returns-in-Live
+unfolding reply_text
+returns-in-Live c = search rules

@@ -1,12 +1,10 @@
-use Rattle.std.proofs.Common.{List, Option, sym, subst}
+use Rattle.std.proofs.Common.{List, sym, subst}
 use Rattle.std.proofs.lemmas.Result.{IfOk-weaker}
-use Rattle.mld_ops.specs.declared.messages.Message.{Message}
-use Rattle.mld_model.specs.declared.Command.TheVariants.{Add, Remove, Deliver, Show, Compare}
-use Rattle.mld_model.specs.Local.{LocalClone}
-use Rattle.mld_model.specs.StandsFor.{RunningWorld}
-use Rattle.net_world.specs.Worlds.{HasNextTick, IsNoneForeign, DeliversTo, ShowsAt, ComparesAt}
+use Rattle.mld_model.specs.declared.Command.TheVariants.{Add, Remove, Deliver, Show, Compare, Join}
+use Rattle.mld_model.specs.StandsFor.{RunningClone, RunningWorld}
+use Rattle.net_world.specs.Worlds.{HasNextTick, AreFitFor, ShowsAt, ComparesAt}
 use Rattle.net_world.specs.contracts.worlds.World.{the_view}
-use Rattle.net_world.proofs.WorldLemmas.{after_step, has_next_tick, none_foreign, stepped_of, added, removed, delivered, shown, compared}
+use Rattle.net_world.proofs.WorldLemmas.{after_step, has_next_tick, are_fit, stepped_of, added, removed, delivered, joined, below_of, shown, compared}
 use Rattle.net_world.proofs.worlds.World.step.Goals as goal
 
 pub set_to-requires-clause-ticks : goal.set_to-requires-clause-ticks
@@ -19,11 +17,10 @@ set_to-requires-in-Remove-clause-ticks c =
     let P : RunningWorld → Type 0 = λ r. HasNextTick r.clones c.in-Remove.number in
     subst P (sym c.self.view_is) (has_next_tick c.args.self.now c.in-Remove.number c.requires.standing c.requires.few)
 
-pub deliver_to-requires-clause-own : goal.deliver_to-requires-clause-own
-deliver_to-requires-clause-own c =
-    let P : RunningWorld → Type 0 = λ r. IsNoneForeign r.clones r.messages c.in-Deliver.message c.in-Deliver.number in
-    let Q : List Message → Type 0 = λ ms. IsNoneForeign c.self.inside.clones.items ms c.in-Deliver.message c.in-Deliver.number in
-    subst Q (sym c.as_slice-messages.ensures.value) (subst P (sym c.self.view_is) (none_foreign c.args.self.now c.in-Deliver.message c.in-Deliver.number c.requires.standing))
+pub deliver_to-requires-clause-fit : goal.deliver_to-requires-clause-fit
+deliver_to-requires-clause-fit c =
+    let P : RunningWorld → Type 0 = λ r. AreFitFor r.clones r.messages c.in-Deliver.message c.in-Deliver.number in
+    subst P (sym c.self.view_is) (are_fit c.args.self.now c.in-Deliver.message c.in-Deliver.number c.requires.standing)
 
 pub returns-in-Add-clause-done : goal.returns-in-Add-clause-done
 returns-in-Add-clause-done c =
@@ -47,17 +44,25 @@ pub returns-in-Deliver-clause-done : goal.returns-in-Deliver-clause-done
 returns-in-Deliver-clause-done c =
     let view : RunningWorld = the_view c.self.inside in
     IfOk-weaker c.deliver_to.result _ _ (λ _ h.
-    let P : List Message → Type 0 = λ ms. DeliversTo c.self.inside.clones.items ms c.in-Deliver.message c.in-Deliver.number c.deliver_to.new.clones.items c.args.out.now.items c.deliver_to.new.out.items in
-    stepped_of c.args.self.now view c.args.command.now (Deliver c.in-Deliver.message c.in-Deliver.number) (after_step view c.deliver_to.new.clones.items view.messages)
+    stepped_of c.args.self.now view c.args.command.now (Deliver c.in-Deliver.message c.in-Deliver.number) (after_step view c.deliver_to.new.clones.items c.deliver_to.new.messages.items)
     c.args.out.now.items c.deliver_to.new.out.items c.self.view_is c.in-Deliver.is
-    (delivered view c.in-Deliver.message c.in-Deliver.number c.deliver_to.new.clones.items c.args.out.now.items c.deliver_to.new.out.items (subst P c.as_slice-messages.ensures.value h)))
+    (delivered view c.in-Deliver.message c.in-Deliver.number c.deliver_to.new.clones.items c.deliver_to.new.messages.items c.args.out.now.items c.deliver_to.new.out.items h))
     c.deliver_to.ensures.done
+
+pub returns-in-Join-clause-done : goal.returns-in-Join-clause-done
+returns-in-Join-clause-done c =
+    let view : RunningWorld = the_view c.self.inside in
+    IfOk-weaker c.join_to.result _ _ (λ _ h.
+    stepped_of c.args.self.now view c.args.command.now (Join c.in-Join.number) (after_step view c.join_to.new.clones.items c.join_to.new.messages.items)
+    c.args.out.now.items c.join_to.new.out.items c.self.view_is c.in-Join.is
+    (joined view c.in-Join.number c.join_to.new.clones.items c.join_to.new.messages.items c.args.out.now.items c.join_to.new.out.items (below_of c.args.command.now c.in-Join.number c.requires.numbers c.in-Join.is) h))
+    c.join_to.ensures.done
 
 pub returns-in-Show-clause-done : goal.returns-in-Show-clause-done
 returns-in-Show-clause-done c =
     let view : RunningWorld = the_view c.self.inside in
     IfOk-weaker c.show.result _ _ (λ _ h.
-    let P : List (Option LocalClone) → Type 0 = λ cs. ShowsAt cs c.in-Show.number c.args.out.now.items c.show.new.out.items in
+    let P : List RunningClone → Type 0 = λ cs. ShowsAt cs c.in-Show.number c.args.out.now.items c.show.new.out.items in
     stepped_of c.args.self.now view c.args.command.now (Show c.in-Show.number) (after_step view view.clones view.messages)
     c.args.out.now.items c.show.new.out.items c.self.view_is c.in-Show.is
     (shown view c.in-Show.number c.args.out.now.items c.show.new.out.items (subst P c.as_slice.ensures.value h)))
@@ -67,7 +72,7 @@ pub returns-in-Compare-clause-done : goal.returns-in-Compare-clause-done
 returns-in-Compare-clause-done c =
     let view : RunningWorld = the_view c.self.inside in
     IfOk-weaker c.compare.result _ _ (λ _ h.
-    let P : List (Option LocalClone) → Type 0 = λ cs. ComparesAt cs c.in-Compare.number c.in-Compare.other c.args.out.now.items c.compare.new.out.items in
+    let P : List RunningClone → Type 0 = λ cs. ComparesAt cs c.in-Compare.number c.in-Compare.other c.args.out.now.items c.compare.new.out.items in
     stepped_of c.args.self.now view c.args.command.now (Compare c.in-Compare.number c.in-Compare.other) (after_step view view.clones view.messages)
     c.args.out.now.items c.compare.new.out.items c.self.view_is c.in-Compare.is
     (compared view c.in-Compare.number c.in-Compare.other c.args.out.now.items c.compare.new.out.items (subst P c.as_slice-in-Compare.ensures.value h)))

@@ -1,0 +1,126 @@
+//! Who asks for a leaf, to become a clone.
+ghost use Rattle.std.specs.Prelude.{IfOk};
+ghost use Rattle.clone_core.specs.Joining.{AreCopies};
+
+use crate::clones::MldClone;
+use mld_ops::{Give, Message, Snapshot};
+use rdf_terms::{Iri, Text};
+use std::alloc::{AllocError, Global};
+use std::marker::Model;
+use tree_clock::Leaf;
+use uuid::Uuid;
+
+/// Who asks for a leaf: its id, domain and single-valued properties. It can't be copied: it becomes one clone at most.
+#[derive(Drop)]
+pub struct Asker {
+    id: Uuid,
+    domain: Text,
+    properties: Vec<Iri>,
+}
+
+impl Model for Asker {
+    ghost use Rattle.mld_model.specs.Local.{LocalAsker};
+
+    ghost Value = { LocalAsker };
+
+    ghost view = { λ asker. record { id = asker.id; domain = asker.domain; properties = asker.properties.items } };
+}
+
+/// What became of a message that came to who asks.
+#[derive(Drop)]
+pub enum Adopted {
+    /// The message gave a leaf: the clone lives at it.
+    Joined(MldClone),
+    /// The message gives this one no leaf.
+    Ignored(Asker),
+    /// The message gave a leaf, but memory ran out.
+    Refused(Asker),
+}
+
+impl Asker {
+    ghost use Rattle.std.specs.Prelude.{◌≡◌, MatchOption};
+    ghost use Rattle.mld_model.specs.Local.{LocalAsker};
+    ghost use Rattle.mld_ops.specs.declared.messages.Message.TheVariants as message;
+    ghost use Rattle.clone_core.specs.Joining.{IsGoodMessage, IsGiveFor, GivesNone, Adopts};
+
+    /// One who asks.
+    pub fn new(id: Uuid, domain: Text, properties: Vec<Iri>) -> Asker
+        ensures { result ≡ record { id = id; domain = domain; properties = properties.items } }
+    {
+        Asker {
+            id,
+            domain,
+            properties,
+        }
+    }
+
+    /// Its id.
+    pub fn id(&self) -> Uuid
+        ensures { result ≡ self.now.id }
+    {
+        self.id
+    }
+
+    /// Its domain.
+    pub fn domain(&self) -> &str
+        ensures { result.now ≡ self.now.domain }
+    {
+        self.domain.as_str()
+    }
+
+    /// The properties that have one value at most for each subject.
+    pub fn properties(&self) -> &[Iri]
+        ensures { result.now ≡ self.now.properties }
+    {
+        self.properties.as_slice()
+    }
+
+    /// The question for a leaf.
+    pub fn ask(&self) -> Message
+        ensures { result ≡ message.JoinAsk self.now.id }
+    {
+        Message::JoinAsk(self.id)
+    }
+
+    /// Becomes a clone by a message that gives it a leaf: its base is what the giver had. Other messages are ignored.
+    pub fn receive(self, alloc: Global, message: &Message) -> Adopted
+        requires { IsGoodMessage message.now }
+        ensures { Adopts self message.now result }
+    {
+        let Some(give) = self.given(message) else {
+            return Adopted::Ignored(self);
+        };
+        match two_copies(alloc, &give.snapshot) {
+            Ok((base, copy)) => {
+                let Asker {
+                    id,
+                    domain,
+                    properties,
+                } = self;
+                let leaf = Leaf::at(give.path);
+                Adopted::Joined(MldClone::with_snapshot(
+                    alloc, leaf, id, domain, properties, base, copy,
+                ))
+            }
+            Err(AllocError) => Adopted::Refused(self),
+        }
+    }
+
+    // The leaf that the message gives to this one, with its snapshot.
+    fn given<'a>(&self, message: &'a Message) -> Option<&'a Give>
+        ensures { MatchOption result (GivesNone self.now message.now) (λ give. IsGiveFor self.now message.now give.now) }
+    {
+        match message {
+            Message::JoinGive(give) if give.id == self.id => Some(give),
+            _ => None,
+        }
+    }
+}
+
+// Two copies of a snapshot.
+fn two_copies(alloc: Global, snapshot: &Snapshot) -> Result<(Snapshot, Snapshot), AllocError>
+    ensures { IfOk result (λ copies. AreCopies snapshot.now copies) }
+{
+    let base = snapshot.copy_in(alloc)?;
+    Ok((base, snapshot.copy_in(alloc)?))
+}

@@ -1,0 +1,268 @@
+//! Joining, worked by hand.
+ghost use Rattle.std.specs.Prelude.{IfOk};
+ghost use Rattle.clone_core.specs.Joining.{IsGoodMessage};
+
+use crate::{Adopted, Asker, Covering, Done, Got, MldClone, ReceiveFault};
+use mld_ops::{Give, Message, Tagged};
+use rdf_terms::{Iri, Term, Text, Triple};
+use std::alloc::Global;
+use std::test::Fail;
+use tree_clock::{Dot, Path};
+use uuid::Uuid;
+
+// A triple that differs from others by its object.
+fn triple(alloc: Global, object: &str) -> Result<Triple, Fail> {
+    Ok(Triple {
+        s: Iri::new(alloc, "http://example.org/s")?,
+        p: Iri::new(alloc, "http://example.org/p")?,
+        o: Term::Iri(Iri::new(alloc, object)?),
+    })
+}
+
+// Adds the triple of an object, or removes it.
+fn set(clone: &mut MldClone, alloc: Global, object: &str, present: bool) -> Result<Done, Fail> {
+    let triple = triple(alloc, object)?;
+    Ok(clone.set(alloc, &triple, present)?)
+}
+
+// The first clone, with the id 1.
+fn first(alloc: Global) -> Result<MldClone, Fail> {
+    let domain = Text::new(alloc, "example.org")?;
+    let id = Uuid::from_u128(1);
+    Ok(MldClone::genesis(alloc, id, domain, Vec::new(alloc)))
+}
+
+// The clone 1 at the root: it added t and u, and removed t.
+fn giver(alloc: Global) -> Result<MldClone, Fail> {
+    let mut clone = first(alloc)?;
+    set(&mut clone, alloc, "http://example.org/t", true)?;
+    set(&mut clone, alloc, "http://example.org/u", true)?;
+    set(&mut clone, alloc, "http://example.org/t", false)?;
+    Ok(clone)
+}
+
+// One who asks.
+fn asker(alloc: Global, number: u128) -> Result<Asker, Fail> {
+    let domain = Text::new(alloc, "example.org")?;
+    let id = Uuid::from_u128(number);
+    Ok(Asker::new(id, domain, Vec::new(alloc)))
+}
+
+// The question of one who asks.
+fn ask(number: u128) -> Message {
+    Message::JoinAsk(Uuid::from_u128(number))
+}
+
+// The message that a clone answers to an ask by the id 2.
+fn given(clone: &mut MldClone, alloc: Global) -> Result<Message, Fail>
+    ensures { IfOk result IsGoodMessage }
+{
+    let Got::Answer(messages) = clone.receive(alloc, &ask(2))? else {
+        return Err("no answer".into());
+    };
+    let mut messages = messages.into_vec();
+    let Some(given) = messages.pop() else {
+        return Err("no message".into());
+    };
+    Ok(given)
+}
+
+// The clone that one who asks becomes.
+fn joined(asker: Asker, alloc: Global, message: &Message) -> Result<MldClone, Fail>
+    requires { IsGoodMessage message.now }
+{
+    match asker.receive(alloc, message) {
+        Adopted::Joined(clone) => Ok(clone),
+        Adopted::Ignored(_) => Err("ignored".into()),
+        Adopted::Refused(_) => Err("refused".into()),
+    }
+}
+
+// The clone 2 that joins from the clone 1.
+fn joined_from(one: &mut MldClone, alloc: Global) -> Result<MldClone, Fail> {
+    let given = given(one, alloc)?;
+    joined(asker(alloc, 2)?, alloc, &given)
+}
+
+// Whether the only pair is that of u, by the second operation of the root.
+fn has_only_u(pairs: &[Tagged]) -> bool {
+    let dot = Dot {
+        path: Path::root(),
+        tick: 2,
+    };
+    pairs.len() == 1
+        && pairs[0].dot == dot
+        && matches!(&pairs[0].triple.o, Term::Iri(iri) if iri.as_str() == "http://example.org/u")
+}
+
+// Whether this is the leaf r1 for the id 2, with the state of the clone 1.
+fn is_right_half(give: &Give) -> bool {
+    give.id == Uuid::from_u128(2)
+        && give.path == Path::root().child(true)
+        && give.snapshot.clock.ticks(&Path::root()) == 3
+        && has_only_u(&give.snapshot.tagged)
+}
+
+// Whether it is the one message of an answer.
+fn is_answer(got: &Got) -> bool {
+    match got {
+        Got::Answer(messages) => match messages.as_slice() {
+            [Message::JoinGive(give)] => is_right_half(give),
+            _ => false,
+        },
+        _ => false,
+    }
+}
+
+#[test]
+fn a_clone_that_is_asked_gives_its_right_half(rt: HostRuntime) -> Result<(), Fail> {
+    let mut one = giver(rt.alloc())?;
+    assert!(rt; is_answer(&one.receive(rt.alloc(), &ask(2))?));
+    assert!(rt; one.path() == Path::root().child(false));
+    assert!(rt; one.journal().len() == 3 && has_only_u(one.pairs()));
+    Ok(())
+}
+
+// Whether the clone 2 begins at r1 with what the clone 1 has.
+fn begins(two: &MldClone) -> bool {
+    two.id() == Uuid::from_u128(2)
+        && two.path() == Path::root().child(true)
+        && two.base().ticks(&Path::root()) == 3
+        && has_only_u(two.base_pairs())
+        && has_only_u(two.pairs())
+        && two.journal().is_empty()
+        && two.held().is_empty()
+}
+
+#[test]
+fn who_asked_begins_with_what_the_giver_has(rt: HostRuntime) -> Result<(), Fail> {
+    let mut one = giver(rt.alloc())?;
+    let two = joined_from(&mut one, rt.alloc())?;
+    assert!(rt; begins(&two));
+    assert_eq!(rt; one.compare(&two), Covering::Same);
+    Ok(())
+}
+
+// Whether a clone takes the entry of an update.
+fn takes(clone: &mut MldClone, alloc: Global, done: Done) -> bool {
+    match done {
+        Done::Made(entry) => {
+            matches!(
+                clone.receive(alloc, &Message::Range(entry)),
+                Ok(Got::Took(_))
+            )
+        }
+        Done::Nothing => false,
+    }
+}
+
+#[test]
+fn a_clone_that_joined_works_on(rt: HostRuntime) -> Result<(), Fail> {
+    let mut one = giver(rt.alloc())?;
+    let mut two = joined_from(&mut one, rt.alloc())?;
+    let done = set(&mut two, rt.alloc(), "http://example.org/u", false)?;
+    assert!(rt; takes(&mut one, rt.alloc(), done));
+    assert!(rt; one.pairs().is_empty());
+    Ok(())
+}
+
+// Whether a live clone ignores the message.
+fn ignores(clone: &mut MldClone, alloc: Global, message: &Message) -> bool {
+    matches!(clone.receive(alloc, message), Ok(Got::Ignored))
+}
+
+#[test]
+fn live_clones_take_no_leaf(rt: HostRuntime) -> Result<(), Fail> {
+    let mut one = first(rt.alloc())?;
+    let given = given(&mut one, rt.alloc())?;
+    assert!(rt; ignores(&mut one, rt.alloc(), &given));
+    let mut two = joined(asker(rt.alloc(), 2)?, rt.alloc(), &given)?;
+    assert!(rt; ignores(&mut two, rt.alloc(), &given));
+    Ok(())
+}
+
+#[test]
+fn an_ask_of_its_own_is_ignored(rt: HostRuntime) -> Result<(), Fail> {
+    let mut one = first(rt.alloc())?;
+    assert!(rt; ignores(&mut one, rt.alloc(), &ask(1)));
+    assert!(rt; one.path().is_empty());
+    Ok(())
+}
+
+// Whether one who asks ignores the message and is as before.
+fn asks_on(asker: Asker, alloc: Global, message: &Message) -> bool
+    requires { IsGoodMessage message.now }
+{
+    let id = asker.id();
+    match asker.receive(alloc, message) {
+        Adopted::Ignored(same) => same.id() == id,
+        Adopted::Joined(_) | Adopted::Refused(_) => false,
+    }
+}
+
+#[test]
+fn a_leaf_for_another_one_is_ignored(rt: HostRuntime) -> Result<(), Fail> {
+    let mut one = first(rt.alloc())?;
+    let given = given(&mut one, rt.alloc())?;
+    assert!(rt; asks_on(asker(rt.alloc(), 3)?, rt.alloc(), &given));
+    Ok(())
+}
+
+// Whether one who asks ignores its own question.
+fn asks_itself(asker: Asker, alloc: Global) -> bool {
+    let message = asker.ask();
+    matches!(&message, Message::JoinAsk(id) if *id == asker.id()) && asks_on(asker, alloc, &message)
+}
+
+#[test]
+fn who_asks_tells_its_parts(rt: HostRuntime) -> Result<(), Fail> {
+    let asker = asker(rt.alloc(), 2)?;
+    assert!(rt; asker.id() == Uuid::from_u128(2) && asker.properties().is_empty());
+    assert_eq!(rt; asker.domain(), "example.org");
+    assert!(rt; asks_itself(asker, rt.alloc()));
+    Ok(())
+}
+
+// Asks a clone so many times.
+fn fork(clone: &mut MldClone, alloc: Global, times: u8) {
+    for _ in 0..times {
+        let _answer = clone.receive(alloc, &ask(2));
+    }
+}
+
+// Whether the clone's leaf is too deep.
+fn is_deep(clone: &mut MldClone, alloc: Global) -> bool {
+    matches!(clone.receive(alloc, &ask(2)), Err(ReceiveFault::Deep))
+}
+
+#[test]
+fn a_leaf_of_64_letters_is_too_deep(rt: HostRuntime) -> Result<(), Fail> {
+    let mut one = first(rt.alloc())?;
+    fork(&mut one, rt.alloc(), 63);
+    assert_eq!(rt; one.path().len(), 63);
+    assert!(rt; !is_deep(&mut one, rt.alloc()));
+    assert!(rt; is_deep(&mut one, rt.alloc()));
+    assert_eq!(rt; one.path().len(), 64);
+    Ok(())
+}
+
+// Whether the operation is the first of a path of 64 zeros.
+fn is_deep_operation(done: &Done) -> bool {
+    match done {
+        Done::Made(entry) => {
+            let path = entry.range().path;
+            entry.range().last == 1 && path.len() == 64 && !path.letter(0) && !path.letter(63)
+        }
+        Done::Nothing => false,
+    }
+}
+
+#[test]
+fn a_deep_clone_works_on(rt: HostRuntime) -> Result<(), Fail> {
+    let mut one = first(rt.alloc())?;
+    fork(&mut one, rt.alloc(), 65);
+    let done = set(&mut one, rt.alloc(), "http://example.org/t", true)?;
+    assert!(rt; is_deep_operation(&done));
+    assert_eq!(rt; one.pairs().len(), 1);
+    Ok(())
+}

@@ -1,0 +1,19 @@
+use Rattle.std.proofs.Common.{◌≡◌, refl, rules, subst}
+use Rattle.mld_model.specs.declared.CloneState.TheVariants as states
+use Rattle.clone_core.specs.declared.askers.Adopted.TheVariants as adopted
+use Rattle.clone_core.specs.Joining.{Adopts}
+use Rattle.net_world.proofs.worlds.adopt_at.Goals as goal
+
+pub returns-in-Joined : goal.returns-in-Joined
+returns-in-Joined c =
+    let joins = c.in-Joined.ensures in
+    record {
+      asker = c.in-Asking.asker;
+      was = search rules;
+      give = joins.0;
+      is = joins.1;
+      live = c.in-Joined.clone;
+      joins = joins.2;
+      now = refl;
+      at = c.path-path.ensures;
+    }
