@@ -4,3 +4,4 @@ pub mod LinesCommands
 pub mod RepliesShown
 pub mod WorldLemmas
 pub mod SummaryLemmas
+pub mod FoundingLemmas

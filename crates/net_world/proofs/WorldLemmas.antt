@@ -1,10 +1,7 @@
 -- What the parts of a world's step do is the model's step.
-use Rattle.std.proofs.Common.{◌≡◌, ◌≢◌, ℕ, zero, suc, ◌+◌, ◌<◌, List, [], ◌∷◌, ◌++◌, ◌⊎◌, Bool, true, false, inl, inr, refl, sym, ◌∙◌, ap, arith, subst, length, get_or, set, Option, Some, None}
-use Rattle.std.specs.List.{range_with_len}
+use Rattle.std.proofs.Common.{◌≡◌, ℕ, zero, suc, ◌+◌, ◌<◌, List, [], ◌∷◌, ◌++◌, ◌⊎◌, true, false, inl, inr, refl, sym, ◌∙◌, ap, arith, subst, length, get_or, set, Some}
 use Rattle.std.proofs.lemmas.List.{set-get_or, get_or_default}
 use Rattle.rdf_terms.specs.declared.terms.Triple.{Triple}
-use Rattle.tree_clock.specs.declared.dots.Range.{Range}
-use Rattle.tree_clock.specs.Dot.{Knows}
 use Rattle.mld_ops.specs.Entry.{EntryValue}
 use Rattle.mld_ops.specs.Ready.{last_dot}
 use Rattle.mld_ops.specs.declared.messages.Give.{Give}
@@ -15,9 +12,9 @@ use Rattle.mld_model.specs.declared.Command.{Command}
 use Rattle.mld_model.specs.declared.Command.TheVariants.{Add, Remove, Deliver, Show, Compare, Join}
 use Rattle.mld_model.specs.Step.{HasCloneNumbers}
 use Rattle.mld_model.specs.World.{World, Message as ModelMessage, JoinGive}
-use Rattle.mld_model.specs.Reply.{Reply, Did, NoOperation, Took, Held, HeldFull, AlreadyKnown, Shows, Sent, Answer as Answers, Joined, Deep, NoMessage, Ignored, IsAbsent, IsAsking, IsLive}
+use Rattle.mld_model.specs.Reply.{Reply, Did, NoOperation, Took, Held, Shows, Sent, Answer as Answers, Joined, NoMessage, IsAbsent, IsAsking, IsLive}
 use Rattle.mld_model.specs.Sound.{IsSound}
-use Rattle.mld_model.specs.Local.{LocalAsker, LocalClone, next_dot, LocallyForks}
+use Rattle.mld_model.specs.Local.{LocalAsker, LocalClone, next_dot}
 use Rattle.mld_model.specs.StandsFor.{RunningClone, RunningWorld, MessageStandsFor, StandsFor, id_of}
 use Rattle.mld_model.specs.StandsForLaws.{live_at, asking_at}
 use Rattle.mld_model.specs.WorldStep.{Follows}
@@ -33,7 +30,7 @@ use Rattle.net_world.specs.declared.replies.Word.TheVariants as words
 use Rattle.net_world.specs.declared.worlds.Answer.{Answer}
 use Rattle.net_world.specs.declared.worlds.Answer.TheVariants as answers
 use Rattle.net_world.specs.Words.{reply_of, reply_of_covering}
-use Rattle.net_world.specs.Worlds.{IsStanding, Stepped, state_at, HasNextTick, IsFitFor, AreFitFor, nth_message, IsMissingWord, Changes, SetsTo, AnswersLive, AdoptsAt, AnswersAt, AnswersAsLive, AnswersAsAsker, IsQuiet, AreSent, Tells, DeliversTo, Asks, JoinsTo, ShowsAt, ComparesAt, Writes, reply_of_answer}
+use Rattle.net_world.specs.Worlds.{IsStanding, Stepped, state_at, HasNextTick, AreFitFor, nth_message, IsMissingWord, Changes, SetsTo, AnswersAt, AnswersAsLive, AnswersAsAsker, IsQuiet, AreSent, DeliversTo, JoinsTo, ShowsAt, ComparesAt, Writes, reply_of_answer}
 
 -- the same step, said of equal replies and worlds
 follows_as : (world : World) (command : Command) (reply other : Reply) (running next : RunningWorld) → reply ≡ other → running ≡ next

@@ -1,4 +1,5 @@
 pub mod Words
+pub mod Founding
 pub mod Reading
 pub mod Worlds
 pub mod Summaries

@@ -1,5 +1,5 @@
 -- What a running world's step has to do with the model, beside the text of its reply.
-use Rattle.std.specs.Prelude.{◌≡◌, ◌≢◌, ℕ, zero, suc, ◌+◌, ◌<◌, ◌^◌, ◌⊎◌, slice_get, length, List, [], ◌∷◌, ◌++◌, Bool, Option, None, Some, slice_index_or, slice_set}
+use Rattle.std.specs.Prelude.{◌≡◌, ℕ, zero, suc, ◌+◌, ◌<◌, ◌^◌, ◌⊎◌, slice_get, length, List, [], ◌∷◌, ◌++◌, Bool, Option, None, Some, slice_index_or, slice_set}
 use Rattle.std.specs.List.{range_with_len}
 use Rattle.rdf_terms.specs.declared.terms.Triple.{Triple}
 use Rattle.tree_clock.specs.Clock.{ticks_of}

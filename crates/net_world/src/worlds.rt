@@ -1,12 +1,12 @@
 //! The world: 32 clones, and every message ever sent.
-ghost use Rattle.std.specs.Prelude.{◌≡◌, ◌<◌, ◌≤◌, length, vec_len, map, replicate, option_copied, IfOk, OnOk};
+ghost use Rattle.std.specs.Prelude.{◌≡◌, ◌+◌, ◌<◌, ◌≤◌, [], length, vec_len, map, option_copied, IfOk, OnOk};
 ghost use Rattle.std.specs.List.{range_with_len};
-ghost use Rattle.mld_model.specs.World.{founded_path};
 ghost use Rattle.mld_model.specs.StandsFor.{id_of, founded_local};
 ghost use Rattle.mld_ops.specs.Entry.{EntryValue};
 ghost use Rattle.mld_ops.specs.declared.messages.Message.TheVariants as kinds;
-ghost use Rattle.mld_model.specs.Local.{IsForeign};
+ghost use Rattle.mld_model.specs.Local.{IsForeign, blank_clone};
 ghost use Rattle.clone_core.specs.Joining.{IsGoodMessage};
+ghost use Rattle.net_world.specs.Founding.{leaf_before};
 ghost use Rattle.net_world.specs.Words.{reply_of, reply_of_covering};
 ghost use Rattle.net_world.specs.Worlds.{nth_message, HasNextTick, IsFitFor, AreFitFor, Sends, SetsAt, SetsTo, IsAsking, AdoptsAt, AnswersAt, AnswersLive, AreSent, DeliversTo, JoinsTo, ShowsAt, ComparesAt, Writes, IsQuiet, reply_of_answer};
 
@@ -166,39 +166,56 @@ impl World {
     }
 }
 
-/// The clones of the founded world.
+/// The clones of the founded world: clone 0 has the first leaf, forks it once for each other clone, and keeps the left half.
 fn founded_clones(
     alloc: Global,
     domain: &Text,
     count: u8,
 ) -> Result<Vec<CloneState<Asker, MldClone>>, AllocError>
-    requires { count ≤ 32 }
+    requires some { 1 ≤ count }
+    requires most { count ≤ 32 }
     ensures { IfOk result (λ clones. clones.items ≡ map (founded_local domain.now count) (range_with_len 0 32)) }
 {
-    let mut clones = Vec::new(alloc);
-    for number in 0..CLONE_COUNT {
-        clones.push(founded_clone(alloc, domain, count, number)?)?;
+    let mut leaf = Leaf::genesis();
+    let mut others = Vec::new(alloc);
+    for number in 1..CLONE_COUNT {
+        others.push(forked_clone(alloc, domain, &mut leaf, count, number)?)?;
     }
+    let mut clones = Vec::new(alloc);
+    clones.push(CloneState::Live(live_clone(alloc, domain, leaf, 0)?))?;
+    clones.append(&mut others)?;
     Ok(clones)
 }
 
-/// A clone of the founded world, where it has one of that number.
-fn founded_clone(
+/// A clone of the founded world that isn't the first, where it has one of that number: it gets the right half of the leaf.
+fn forked_clone(
     alloc: Global,
     domain: &Text,
+    leaf: &mut Leaf,
     count: u8,
     number: u8,
 ) -> Result<CloneState<Asker, MldClone>, AllocError>
-    requires { count ≤ 32 }
-    ensures { IfOk result (λ clone. clone ≡ founded_local domain.now count number) }
+    requires first { 1 ≤ number }
+    requires room { count ≤ 32 }
+    requires leaf { leaf.old ≡ leaf_before count number }
+    ensures leaf { OnOk result (leaf.new ≡ leaf_before count (number + 1)) }
+    ensures clone { IfOk result (λ clone. clone ≡ founded_local domain.now count number) }
 {
     if number >= count {
         return Ok(CloneState::Absent);
     }
-    let leaf = Leaf::at(founded_path(count, number));
-    let id = id_of(number);
+    let Some(right) = leaf.give() else {
+        unreachable!()
+    };
+    Ok(CloneState::Live(live_clone(alloc, domain, right, number)?))
+}
+
+/// The clone of a number that has this leaf and knows nothing.
+fn live_clone(alloc: Global, domain: &Text, leaf: Leaf, number: u8) -> Result<MldClone, AllocError>
+    ensures { IfOk result (λ clone. clone ≡ blank_clone (id_of number) domain.now [] leaf) }
+{
     let domain = domain.copy_in(alloc)?;
-    Ok(CloneState::Live(MldClone::with_leaf(alloc, leaf, id, domain, Vec::new(alloc))))
+    Ok(MldClone::with_leaf(alloc, leaf, id_of(number), domain, Vec::new(alloc)))
 }
 
 /// The id of a clone: the UUID whose number is the clone's.
@@ -206,31 +223,6 @@ fn id_of(number: u8) -> Uuid
     ensures { result ≡ id_of number }
 {
     Uuid::from_u128(u128::from(number))
-}
-
-/// The leaf of a clone of the founded world.
-fn founded_path(count: u8, number: u8) -> Path
-    requires some { number < count }
-    requires room { count ≤ 32 }
-    ensures { result ≡ founded_path count number }
-{
-    if number == 0 {
-        zeros(count - 1)
-    } else {
-        zeros(number - 1).child(true)
-    }
-}
-
-/// The path of so many zeros.
-fn zeros(count: u8) -> Path
-    requires { count < 64 }
-    ensures { result ≡ replicate count 48 }
-{
-    let mut path = Path::root();
-    for _step in 0..count {
-        path = path.child(false);
-    }
-    path
 }
 
 /// Clone `number` inserts a triple, or deletes the pairs of it, and the entry of that is sent.

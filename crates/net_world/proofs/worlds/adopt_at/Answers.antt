@@ -1,7 +1,4 @@
-use Rattle.std.proofs.Common.{◌≡◌, refl, rules, subst}
-use Rattle.mld_model.specs.declared.CloneState.TheVariants as states
-use Rattle.clone_core.specs.declared.askers.Adopted.TheVariants as adopted
-use Rattle.clone_core.specs.Joining.{Adopts}
+use Rattle.std.proofs.Common.{refl, rules}
 use Rattle.net_world.proofs.worlds.adopt_at.Goals as goal
 
 pub returns-in-Joined : goal.returns-in-Joined

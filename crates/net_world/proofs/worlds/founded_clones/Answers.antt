@@ -1,12 +1,15 @@
-use Rattle.std.proofs.Common.{◌++◌, ◌∷◌, [], map, List, Option, ap, sym, ◌∙◌, arith}
-use Rattle.std.proofs.lemmas.List.FromFn.{map-range_with_len_more}
-use Rattle.std.specs.List.{range_with_len}
-use Rattle.mld_model.specs.StandsFor.{RunningClone, founded_local}
+use Rattle.std.proofs.Common.{arith, rules}
+use Rattle.net_world.proofs.FoundingLemmas.{others_more, all_founded}
 use Rattle.net_world.proofs.worlds.founded_clones.Goals as goal
 
 pub loop-number-preserved : goal.loop-number-preserved
-loop-number-preserved c =
-    (c.in_ok-push.ensures.items
-    ∙ ap (λ (xs : List RunningClone). xs ++ c.in_ok-founded_clone.field-0 ∷ []) c.loop-number.invariant
-    ∙ ap (λ (x : RunningClone). map (founded_local c.args.domain.now c.args.count) (range_with_len 0 c.loop-number.number) ++ x ∷ []) c.in_ok-founded_clone.ensures)
-    ∙ sym (map-range_with_len_more (founded_local c.args.domain.now c.args.count) 0 c.loop-number.number c.loop-number.number (omega arith))
+loop-number-preserved c = (
+  c.in_ok-forked_clone.ensures.leaf,
+  others_more c.args.domain.now c.args.count c.loop-number.number c.loop-number.others.items c.push.new.self.items c.in_ok-forked_clone.field-0 (omega arith)
+      c.loop-number.invariant.1 c.in_ok-forked_clone.ensures.clone c.in_ok-push.ensures.items,
+)
+
+pub returns : goal.returns
+returns c =
+    all_founded c.args.domain.now c.args.count c.loop-number.number c.loop-number.leaf c.in_ok-live_clone.field-0 c.loop-number.others.items c.append.new.self.items
+    c.requires.some c.requires.most (omega (arith, c.loop-number-test.false)) c.loop-number.invariant.0 c.loop-number.invariant.1 c.in_ok-live_clone.ensures (search rules)
