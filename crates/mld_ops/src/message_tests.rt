@@ -12,12 +12,13 @@ fn left() -> Path {
 
 // A clock with two ticks of the left leaf.
 fn clock(alloc: Global) -> Result<Clock, Fail> {
-    let mut clock = Clock::empty(alloc);
-    clock.reserve(&left())?;
-    clock.raise(&Dot {
+    let dot = Dot {
         path: left(),
         tick: 2,
-    });
+    };
+    let mut clock = Clock::empty(alloc);
+    clock.reserve(&dot.path)?;
+    clock.raise(&dot);
     Ok(clock)
 }
 
