@@ -180,7 +180,10 @@ fn tells(alloc: Global, wanted: &[Range]) -> Result<bool, Fail> {
     let Some(first) = messages.first() else {
         return Ok(false);
     };
-    Ok(matches!(b.receive(alloc, first)?, Got::Took(ranges) if ranges.as_slice() == wanted))
+    let Got::Took(ranges) = b.receive(alloc, first)? else {
+        return Ok(false);
+    };
+    Ok(ranges.as_slice() == wanted)
 }
 
 #[test]

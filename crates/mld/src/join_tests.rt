@@ -40,7 +40,7 @@ fn two_askers_join_from_two_clones(rt: HostRuntime) -> Result<(), Fail> {
 }
 
 /// One question comes to the only clone so many times, which then adds a triple.
-fn asked(alloc: Global, times: usize) -> Result<Vec<u8>, AllocError> {
+fn asked(alloc: Global, times: u8) -> Result<Vec<u8>, AllocError> {
     let mut schedule = Vec::from_slice(alloc, b"domain d clones 1\njoin 1\n")?;
     for _ in 0..times {
         schedule.extend_from_slice(b"deliver 1 0\n")?;
@@ -50,9 +50,10 @@ fn asked(alloc: Global, times: usize) -> Result<Vec<u8>, AllocError> {
 }
 
 /// What is written for that, where the last time is one too many.
-fn asked_text(alloc: Global, times: usize) -> Result<Vec<u8>, AllocError> {
+fn asked_text(alloc: Global, times: u8) -> Result<Vec<u8>, AllocError> {
     let mut text = Vec::from_slice(alloc, b"ready 1\nsent m1\n")?;
-    for number in 2..times + 1 {
+    let last = u16::from(times) + 1;
+    for number in 2..last {
         let line = format!(in alloc; "answer m{number}\n")?;
         text.extend_from_slice(line.as_bytes())?;
     }
@@ -60,7 +61,7 @@ fn asked_text(alloc: Global, times: usize) -> Result<Vec<u8>, AllocError> {
     for _ in 1..times {
         text.push(b'0')?;
     }
-    let end = format!(in alloc; ".1 m{}\n", times + 1)?;
+    let end = format!(in alloc; ".1 m{last}\n")?;
     text.extend_from_slice(end.as_bytes())?;
     Ok(text)
 }
