@@ -32,34 +32,6 @@ pub fn inserted_within(
     Ok(pairs)
 }
 
-/// Takes a pair out, if it is there.
-pub fn drop_pair(pairs: &mut Vec<Tagged>, pair: &Tagged)
-    requires { IsAscending tagged_cmp pairs.old.items }
-    ensures ascending { IsAscending tagged_cmp pairs.new.items }
-    ensures members { (other : Tagged) → Has pairs.new.items other
-        ↔ (Has pairs.old.items other × ¬ (other ≡ pair.now)) }
-    ensures len { vec_len pairs.new ≤ vec_len pairs.old }
-    ensures capacity { vec_capacity pairs.new ≡ vec_capacity pairs.old }
-{
-    if let Ok(place) = pairs.binary_search(pair) {
-        pairs.remove(place);
-    }
-}
-
-/// Takes pairs out, those of them that are there.
-pub fn drop_pairs(pairs: &mut Vec<Tagged>, deletes: &[Tagged])
-    requires { IsAscending tagged_cmp pairs.old.items }
-    ensures ascending { IsAscending tagged_cmp pairs.new.items }
-    ensures members { (pair : Tagged) → Has pairs.new.items pair
-        ↔ (Has pairs.old.items pair × ¬ Has deletes.now pair) }
-    ensures len { vec_len pairs.new ≤ vec_len pairs.old }
-    ensures capacity { vec_capacity pairs.new ≡ vec_capacity pairs.old }
-{
-    for delete in deletes {
-        drop_pair(pairs, delete);
-    }
-}
-
 /// Takes out the pairs of a range up to the last known tick, but for those that stay.
 pub fn drop_outdated(pairs: &mut Vec<Tagged>, range: &Range, known: u32, stay: &[Tagged])
     requires ascending { IsAscending tagged_cmp pairs.old.items }

@@ -5,8 +5,8 @@ ghost use Rattle.mld_ops.specs.Cut.{IsCutOf};
 ghost use Rattle.mld_ops.specs.Tagged.{tagged_cmp};
 ghost use Rattle.tree_clock.specs.Lists.{IsAscending};
 
-use crate::pairs::{drop_outdated, drop_pairs, inserted_within, put_pairs};
-use mld_ops::{Entry, Tagged};
+use crate::pairs::{drop_outdated, inserted_within, put_pairs};
+use mld_ops::{Entry, Tagged, remove_pairs};
 use std::alloc::{AllocError, Global};
 use std::collections::VecDeque;
 use std::marker::Model;
@@ -79,7 +79,7 @@ impl Step {
             stay,
             added,
         } = self;
-        drop_pairs(pairs, entry.deletes());
+        remove_pairs(pairs, entry.deletes());
         drop_outdated(pairs, &entry.range(), known, &stay);
         put_pairs(pairs, added);
         entry

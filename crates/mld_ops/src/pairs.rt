@@ -1,5 +1,5 @@
 //! Ascending lists of pairs.
-ghost use Rattle.std.specs.Prelude.{◌≡◌, ◌↔◌, ◌⊎◌, IsTrue, IfOk, OnOk, OnErr};
+ghost use Rattle.std.specs.Prelude.{◌≡◌, ◌≤◌, ◌↔◌, ◌⊎◌, IsTrue, IfOk, OnOk, OnErr, vec_len, vec_capacity};
 ghost use Rattle.mld_ops.specs.Tagged.{tagged_cmp};
 ghost use Rattle.mld_ops.specs.declared.tagged.Tagged.{Tagged};
 ghost use Rattle.tree_clock.specs.Lists.{Has, IsAscending};
@@ -29,24 +29,28 @@ pub fn insert_pair(pairs: &mut Vec<Tagged>, pair: Tagged) -> Result<(), AllocErr
     Ok(())
 }
 
-/// Takes a pair out of an ascending list, if it is there.
+/// Takes a pair out of an ascending list, if it is there. It takes no memory.
 pub fn remove_pair(pairs: &mut Vec<Tagged>, pair: &Tagged)
     requires { IsAscending tagged_cmp pairs.old.items }
     ensures ascending { IsAscending tagged_cmp pairs.new.items }
     ensures members { (other : Tagged) → Has pairs.new.items other
         ↔ (Has pairs.old.items other × ¬ (other ≡ pair.now)) }
+    ensures len { vec_len pairs.new ≤ vec_len pairs.old }
+    ensures capacity { vec_capacity pairs.new ≡ vec_capacity pairs.old }
 {
     if let Ok(place) = pairs.binary_search(pair) {
         pairs.remove(place);
     }
 }
 
-/// Takes pairs out of an ascending list, those of them that are there.
+/// Takes pairs out of an ascending list, those of them that are there. It takes no memory.
 pub fn remove_pairs(pairs: &mut Vec<Tagged>, deletes: &[Tagged])
     requires { IsAscending tagged_cmp pairs.old.items }
     ensures ascending { IsAscending tagged_cmp pairs.new.items }
     ensures members { (pair : Tagged) → Has pairs.new.items pair
         ↔ (Has pairs.old.items pair × ¬ Has deletes.now pair) }
+    ensures len { vec_len pairs.new ≤ vec_len pairs.old }
+    ensures capacity { vec_capacity pairs.new ≡ vec_capacity pairs.old }
 {
     for delete in deletes {
         remove_pair(pairs, delete);

@@ -1,7 +1,9 @@
 -- Runs at the front of a text, and texts cut at a mark.
 use Rattle.std.proofs.Common.{◌≡◌, ◌≢◌, ℕ, suc, ◌+◌, ◌<◌, ◌≤◌, List, [], ◌∷◌, ◌++◌, length, get_or, drop, Bool, true, false, Option, Some, None, MatchOption, refl, ap, ◌∙◌, arith}
 use Rattle.std.specs.Borrow.{Bor}
+use Rattle.std.specs.Str.{IsUtf8, IsCharBoundary}
 use Rattle.std.proofs.lemmas.List.{drop_more, drop_all}
+use Rattle.std.proofs.lemmas.Str.{IsCharBoundary-after_ascii}
 use Rattle.std.proofs.lemmas.Bool.{eq-eqb, ne_eqb}
 use Rattle.std.proofs.lemmas.Bool.Decides.{nat_tests}
 use Rattle.rdf_terms.specs.Grammar.{is_blank}
@@ -16,6 +18,11 @@ run_stop test text i h e = rw (drop_more text i 0 h, e) refl
 
 pub run_end : (test : ℕ → Bool) (text : List ℕ) (i : ℕ) → length text ≤ i → run_len test (drop i text) ≡ 0
 run_end test text i h = rw (drop_all i text h) refl
+
+-- a byte more is passed: the run goes on behind it, and the text may be cut there, for the byte is ASCII
+pub pass_one : (test : ℕ → Bool) → ((byte : ℕ) → test byte ≡ true → byte < 128) → (text : List ℕ) (i : ℕ) → IsUtf8 text → i < length text → test (get_or text i 0) ≡ true
+    → run_len test text ≡ i + run_len test (drop i text) → (run_len test text ≡ (i + 1) + run_len test (drop (i + 1) text)) × IsCharBoundary text (i + 1)
+pass_one test small text i utf8 lt passes count = (omega (arith, run_more test text i lt passes, count), IsCharBoundary-after_ascii text i utf8 lt (small (get_or text i 0) passes))
 
 pub blank_small : (byte : ℕ) → is_blank byte ≡ true → byte < 128
 blank_small byte h = grind (arith, nat_tests)

@@ -1,7 +1,7 @@
-use Rattle.std.proofs.Common.{◌≡◌, ◌<◌, true, length, get_or, sym, subst, ◌∙◌, arith}
-use Rattle.std.proofs.lemmas.Str.{IsCharBoundary-start, IsCharBoundary-after_ascii}
+use Rattle.std.proofs.Common.{◌≡◌, true, get_or, sym, subst, ◌∙◌, arith}
+use Rattle.std.proofs.lemmas.Str.{IsCharBoundary-start}
 use Rattle.rdf_terms.specs.Grammar.{is_blank}
-use Rattle.rdf_terms.proofs.Cutting.{run_more, blank_small}
+use Rattle.rdf_terms.proofs.Cutting.{pass_one, blank_small}
 use Rattle.rdf_terms.proofs.read.blank_len.Goals as goal
 
 pub loop-i-init : goal.loop-i-init
@@ -12,11 +12,9 @@ loop-i-init c = record {
 
 pub loop-i-preserved : goal.loop-i-preserved
 loop-i-preserved c =
-    let text = c.args.text.now in
-    let i = c.loop-i.i in
-    let lt : i < length text = omega arith in
-    let passes : is_blank (get_or text i 0) ≡ true = subst (λ l. is_blank (get_or l i 0) ≡ true) c.as_bytes-bytes.ensures.value (sym c.is_blank.ensures ∙ c.if-not-is_blank.false) in
+    let passes = subst (λ l. is_blank (get_or l c.loop-i.i 0) ≡ true) c.as_bytes-bytes.ensures.value (sym c.is_blank.ensures ∙ c.if-not-is_blank.false) in
+    let more = pass_one is_blank blank_small c.args.text.now c.loop-i.i c.utf8.text (omega arith) passes c.loop-i.invariant.count in
     record {
-      count = omega (arith, run_more is_blank text i lt passes);
-      boundary = IsCharBoundary-after_ascii text i c.utf8.text lt (blank_small (get_or text i 0) passes);
+      count = more.0;
+      boundary = more.1;
     }
