@@ -7,6 +7,7 @@ use mld_ops::{Give, Message, Snapshot};
 use rdf_terms::{Iri, Text};
 use std::alloc::{AllocError, Global};
 use std::marker::Model;
+use std::thread::Threads;
 use tree_clock::Leaf;
 use uuid::Uuid;
 
@@ -83,7 +84,7 @@ impl Asker {
     }
 
     /// Becomes a clone by a message that gives it a leaf: its base is what the giver had. Other messages are ignored.
-    pub fn receive(self, alloc: Global, message: &Message) -> Adopted
+    pub fn receive<R: Threads>(self, _rt: &R, alloc: Global, message: &Message) -> Adopted
         requires { IsGoodMessage message.now }
         ensures { Adopts self message.now result }
     {

@@ -14,6 +14,7 @@ use rdf_terms::{Iri, Text, Triple};
 use std::alloc::{AllocError, Global};
 use std::collections::VecDeque;
 use std::marker::Model;
+use std::thread::Threads;
 use tree_clock::{Clock, Dot, Leaf, Path, Range};
 use uuid::Uuid;
 
@@ -292,7 +293,12 @@ impl MldClone {
 
     /// Takes an entry that is ready, and then those held back that this releases; or holds it back. Forks the leaf for who asks for one.
     /// Messages of other kinds are ignored. After a refusal the clone is as it was.
-    pub fn receive(&mut self, alloc: Global, message: &Message) -> Result<Got, ReceiveFault>
+    pub fn receive<R: Threads>(
+        &mut self,
+        _rt: &R,
+        alloc: Global,
+        message: &Message,
+    ) -> Result<Got, ReceiveFault>
         ensures ok { IfOk result (λ got. Receives self.old message.now got self.new) }
         ensures good { IfOk result AnswersGood }
         ensures err { IfErr result (Refuses self.old message.now) }

@@ -2,12 +2,13 @@
 ghost use Rattle.std.specs.Prelude.{IfOk};
 ghost use Rattle.clone_core.specs.Joining.{IsGoodMessage};
 
-use crate::{Adopted, Asker, Covering, Done, Got, MldClone, ReceiveFault};
-use mld_ops::{Give, Message, Tagged};
+use crate::{Adopted, Asker, Covering, Done, Got, MldClone, ReceiveFault, UpdateFault};
+use mld_ops::{Give, Message, Snapshot, Tagged};
 use rdf_terms::{Iri, Term, Text, Triple};
 use std::alloc::Global;
 use std::test::Fail;
-use tree_clock::{Dot, Path};
+use std::thread::Threads;
+use tree_clock::{Clock, Dot, Path};
 use uuid::Uuid;
 
 // A triple that differs from others by its object.
@@ -54,10 +55,10 @@ fn ask(number: u128) -> Message {
 }
 
 // The message that a clone answers to an ask by the id 2.
-fn given(clone: &mut MldClone, alloc: Global) -> Result<Message, Fail>
+fn given<R: Threads>(clone: &mut MldClone, rt: &R, alloc: Global) -> Result<Message, Fail>
     ensures { IfOk result IsGoodMessage }
 {
-    let Got::Answer(messages) = clone.receive(alloc, &ask(2))? else {
+    let Got::Answer(messages) = clone.receive(rt, alloc, &ask(2))? else {
         return Err("no answer".into());
     };
     let mut messages = messages.into_vec();
@@ -68,10 +69,15 @@ fn given(clone: &mut MldClone, alloc: Global) -> Result<Message, Fail>
 }
 
 // The clone that one who asks becomes.
-fn joined(asker: Asker, alloc: Global, message: &Message) -> Result<MldClone, Fail>
+fn joined<R: Threads>(
+    asker: Asker,
+    rt: &R,
+    alloc: Global,
+    message: &Message,
+) -> Result<MldClone, Fail>
     requires { IsGoodMessage message.now }
 {
-    match asker.receive(alloc, message) {
+    match asker.receive(rt, alloc, message) {
         Adopted::Joined(clone) => Ok(clone),
         Adopted::Ignored(_) => Err("ignored".into()),
         Adopted::Refused(_) => Err("refused".into()),
@@ -79,9 +85,9 @@ fn joined(asker: Asker, alloc: Global, message: &Message) -> Result<MldClone, Fa
 }
 
 // The clone 2 that joins from the clone 1.
-fn joined_from(one: &mut MldClone, alloc: Global) -> Result<MldClone, Fail> {
-    let given = given(one, alloc)?;
-    joined(asker(alloc, 2)?, alloc, &given)
+fn joined_from<R: Threads>(one: &mut MldClone, rt: &R, alloc: Global) -> Result<MldClone, Fail> {
+    let given = given(one, rt, alloc)?;
+    joined(asker(alloc, 2)?, rt, alloc, &given)
 }
 
 // Whether the only pair is that of u, by the second operation of the root.
@@ -117,7 +123,7 @@ fn is_answer(got: &Got) -> bool {
 #[test]
 fn a_clone_that_is_asked_gives_its_right_half(rt: HostRuntime) -> Result<(), Fail> {
     let mut one = giver(rt.alloc())?;
-    assert!(rt; is_answer(&one.receive(rt.alloc(), &ask(2))?));
+    assert!(rt; is_answer(&one.receive(&rt, rt.alloc(), &ask(2))?));
     assert!(rt; one.path() == Path::root().child(false));
     assert!(rt; one.journal().len() == 3 && has_only_u(one.pairs()));
     Ok(())
@@ -137,18 +143,18 @@ fn begins(two: &MldClone) -> bool {
 #[test]
 fn who_asked_begins_with_what_the_giver_has(rt: HostRuntime) -> Result<(), Fail> {
     let mut one = giver(rt.alloc())?;
-    let two = joined_from(&mut one, rt.alloc())?;
+    let two = joined_from(&mut one, &rt, rt.alloc())?;
     assert!(rt; begins(&two));
     assert_eq!(rt; one.compare(&two), Covering::Same);
     Ok(())
 }
 
 // Whether a clone takes the entry of an update.
-fn takes(clone: &mut MldClone, alloc: Global, done: Done) -> bool {
+fn takes<R: Threads>(clone: &mut MldClone, rt: &R, alloc: Global, done: Done) -> bool {
     match done {
         Done::Made(entry) => {
             matches!(
-                clone.receive(alloc, &Message::Range(entry)),
+                clone.receive(rt, alloc, &Message::Range(entry)),
                 Ok(Got::Took(_))
             )
         }
@@ -159,42 +165,42 @@ fn takes(clone: &mut MldClone, alloc: Global, done: Done) -> bool {
 #[test]
 fn a_clone_that_joined_works_on(rt: HostRuntime) -> Result<(), Fail> {
     let mut one = giver(rt.alloc())?;
-    let mut two = joined_from(&mut one, rt.alloc())?;
+    let mut two = joined_from(&mut one, &rt, rt.alloc())?;
     let done = set(&mut two, rt.alloc(), "http://example.org/u", false)?;
-    assert!(rt; takes(&mut one, rt.alloc(), done));
+    assert!(rt; takes(&mut one, &rt, rt.alloc(), done));
     assert!(rt; one.pairs().is_empty());
     Ok(())
 }
 
 // Whether a live clone ignores the message.
-fn ignores(clone: &mut MldClone, alloc: Global, message: &Message) -> bool {
-    matches!(clone.receive(alloc, message), Ok(Got::Ignored))
+fn ignores<R: Threads>(clone: &mut MldClone, rt: &R, alloc: Global, message: &Message) -> bool {
+    matches!(clone.receive(rt, alloc, message), Ok(Got::Ignored))
 }
 
 #[test]
 fn live_clones_take_no_leaf(rt: HostRuntime) -> Result<(), Fail> {
     let mut one = first(rt.alloc())?;
-    let given = given(&mut one, rt.alloc())?;
-    assert!(rt; ignores(&mut one, rt.alloc(), &given));
-    let mut two = joined(asker(rt.alloc(), 2)?, rt.alloc(), &given)?;
-    assert!(rt; ignores(&mut two, rt.alloc(), &given));
+    let given = given(&mut one, &rt, rt.alloc())?;
+    assert!(rt; ignores(&mut one, &rt, rt.alloc(), &given));
+    let mut two = joined(asker(rt.alloc(), 2)?, &rt, rt.alloc(), &given)?;
+    assert!(rt; ignores(&mut two, &rt, rt.alloc(), &given));
     Ok(())
 }
 
 #[test]
 fn an_ask_of_its_own_is_ignored(rt: HostRuntime) -> Result<(), Fail> {
     let mut one = first(rt.alloc())?;
-    assert!(rt; ignores(&mut one, rt.alloc(), &ask(1)));
+    assert!(rt; ignores(&mut one, &rt, rt.alloc(), &ask(1)));
     assert!(rt; one.path().is_empty());
     Ok(())
 }
 
 // Whether one who asks ignores the message and is as before.
-fn asks_on(asker: Asker, alloc: Global, message: &Message) -> bool
+fn asks_on<R: Threads>(asker: Asker, rt: &R, alloc: Global, message: &Message) -> bool
     requires { IsGoodMessage message.now }
 {
     let id = asker.id();
-    match asker.receive(alloc, message) {
+    match asker.receive(rt, alloc, message) {
         Adopted::Ignored(same) => same.id() == id,
         Adopted::Joined(_) | Adopted::Refused(_) => false,
     }
@@ -203,15 +209,16 @@ fn asks_on(asker: Asker, alloc: Global, message: &Message) -> bool
 #[test]
 fn a_leaf_for_another_one_is_ignored(rt: HostRuntime) -> Result<(), Fail> {
     let mut one = first(rt.alloc())?;
-    let given = given(&mut one, rt.alloc())?;
-    assert!(rt; asks_on(asker(rt.alloc(), 3)?, rt.alloc(), &given));
+    let given = given(&mut one, &rt, rt.alloc())?;
+    assert!(rt; asks_on(asker(rt.alloc(), 3)?, &rt, rt.alloc(), &given));
     Ok(())
 }
 
 // Whether one who asks ignores its own question.
-fn asks_itself(asker: Asker, alloc: Global) -> bool {
+fn asks_itself<R: Threads>(asker: Asker, rt: &R, alloc: Global) -> bool {
     let message = asker.ask();
-    matches!(&message, Message::JoinAsk(id) if *id == asker.id()) && asks_on(asker, alloc, &message)
+    matches!(&message, Message::JoinAsk(id) if *id == asker.id())
+        && asks_on(asker, rt, alloc, &message)
 }
 
 #[test]
@@ -219,29 +226,29 @@ fn who_asks_tells_its_parts(rt: HostRuntime) -> Result<(), Fail> {
     let asker = asker(rt.alloc(), 2)?;
     assert!(rt; asker.id() == Uuid::from_u128(2) && asker.properties().is_empty());
     assert_eq!(rt; asker.domain(), "example.org");
-    assert!(rt; asks_itself(asker, rt.alloc()));
+    assert!(rt; asks_itself(asker, &rt, rt.alloc()));
     Ok(())
 }
 
 // Asks a clone so many times.
-fn fork(clone: &mut MldClone, alloc: Global, times: u8) {
+fn fork<R: Threads>(clone: &mut MldClone, rt: &R, alloc: Global, times: u8) {
     for _ in 0..times {
-        let _answer = clone.receive(alloc, &ask(2));
+        let _answer = clone.receive(rt, alloc, &ask(2));
     }
 }
 
 // Whether the clone's leaf is too deep.
-fn is_deep(clone: &mut MldClone, alloc: Global) -> bool {
-    matches!(clone.receive(alloc, &ask(2)), Err(ReceiveFault::Deep))
+fn is_deep<R: Threads>(clone: &mut MldClone, rt: &R, alloc: Global) -> bool {
+    matches!(clone.receive(rt, alloc, &ask(2)), Err(ReceiveFault::Deep))
 }
 
 #[test]
 fn a_leaf_of_64_letters_is_too_deep(rt: HostRuntime) -> Result<(), Fail> {
     let mut one = first(rt.alloc())?;
-    fork(&mut one, rt.alloc(), 63);
+    fork(&mut one, &rt, rt.alloc(), 63);
     assert_eq!(rt; one.path().len(), 63);
-    assert!(rt; !is_deep(&mut one, rt.alloc()));
-    assert!(rt; is_deep(&mut one, rt.alloc()));
+    assert!(rt; !is_deep(&mut one, &rt, rt.alloc()));
+    assert!(rt; is_deep(&mut one, &rt, rt.alloc()));
     assert_eq!(rt; one.path().len(), 64);
     Ok(())
 }
@@ -260,9 +267,47 @@ fn is_deep_operation(done: &Done) -> bool {
 #[test]
 fn a_deep_clone_works_on(rt: HostRuntime) -> Result<(), Fail> {
     let mut one = first(rt.alloc())?;
-    fork(&mut one, rt.alloc(), 65);
+    fork(&mut one, &rt, rt.alloc(), 65);
     let done = set(&mut one, rt.alloc(), "http://example.org/t", true)?;
     assert!(rt; is_deep_operation(&done));
     assert_eq!(rt; one.pairs().len(), 1);
+    Ok(())
+}
+
+// A message that gives the root to the id 2, where so many ticks of it are known and no pair is there.
+fn given_at(alloc: Global, tick: u32) -> Result<Message, Fail>
+    ensures { IfOk result IsGoodMessage }
+{
+    let path = Path::root();
+    let mut clock = Clock::empty(alloc);
+    clock.reserve(&path)?;
+    clock.raise(&Dot { path, tick });
+    Ok(Message::JoinGive(Give {
+        id: Uuid::from_u128(2),
+        path,
+        snapshot: Snapshot {
+            clock,
+            tagged: Vec::new(alloc),
+        },
+    }))
+}
+
+// Whether a clone refuses an insert since its ticks are spent.
+fn is_spent(clone: &mut MldClone, alloc: Global) -> Result<bool, Fail> {
+    let triple = triple(alloc, "http://example.org/t")?;
+    match clone.set(alloc, &triple, true) {
+        Err(UpdateFault::TicksSpent) => Ok(true),
+        _ => Ok(false),
+    }
+}
+
+#[test]
+fn the_last_tick_is_used_and_none_behind_it(rt: HostRuntime) -> Result<(), Fail> {
+    let message = given_at(rt.alloc(), 4_294_967_294)?;
+    let mut two = joined(asker(rt.alloc(), 2)?, &rt, rt.alloc(), &message)?;
+    assert!(rt; !is_spent(&mut two, rt.alloc())?);
+    assert_eq!(rt; two.known().ticks(&Path::root()), 4_294_967_295);
+    assert!(rt; is_spent(&mut two, rt.alloc())?);
+    assert_eq!(rt; two.journal().len(), 1);
     Ok(())
 }

@@ -4,6 +4,7 @@ use mld_ops::{Entry, Give, Message, Snapshot, Tagged};
 use rdf_terms::{Iri, Term, Text, Triple};
 use std::alloc::{AllocError, Global};
 use std::test::Fail;
+use std::thread::Threads;
 use tree_clock::{Clock, Dot, Leaf, Path, Range};
 use uuid::Uuid;
 
@@ -77,8 +78,8 @@ enum Word {
     Fault(ReceiveFault),
 }
 
-fn answer(clone: &mut MldClone, alloc: Global, message: &Message) -> Word {
-    match clone.receive(alloc, message) {
+fn answer<R: Threads>(clone: &mut MldClone, rt: &R, alloc: Global, message: &Message) -> Word {
+    match clone.receive(rt, alloc, message) {
         Ok(Got::Took(ranges)) => Word::Took(ranges.len()),
         Ok(Got::Held) => Word::Held,
         Ok(Got::Known) => Word::Known,
@@ -99,25 +100,25 @@ fn sent(alloc: Global) -> Result<Vec<Message>, Fail> {
 }
 
 // What b answers to them in this order.
-fn answers(alloc: Global, order: &[usize]) -> Result<Vec<Word>, Fail> {
+fn answers<R: Threads>(rt: &R, alloc: Global, order: &[usize]) -> Result<Vec<Word>, Fail> {
     let messages = sent(alloc)?;
     let mut b = clone_at(alloc, true)?;
     let mut words = Vec::new(alloc);
     for place in order {
         if let Some(message) = messages.get(*place) {
-            words.push(answer(&mut b, alloc, message))?;
+            words.push(answer(&mut b, rt, alloc, message))?;
         }
     }
     Ok(words)
 }
 
 // The clone b once they came in this order.
-fn after(alloc: Global, order: &[usize]) -> Result<MldClone, Fail> {
+fn after<R: Threads>(rt: &R, alloc: Global, order: &[usize]) -> Result<MldClone, Fail> {
     let messages = sent(alloc)?;
     let mut b = clone_at(alloc, true)?;
     for place in order {
         if let Some(message) = messages.get(*place) {
-            answer(&mut b, alloc, message);
+            answer(&mut b, rt, alloc, message);
         }
     }
     Ok(b)
@@ -132,7 +133,7 @@ fn is_pair(pair: &Tagged, object: &str, tick: u32) -> bool {
 
 #[test]
 fn entries_are_held_until_they_are_ready(rt: HostRuntime) -> Result<(), Fail> {
-    let words = answers(rt.alloc(), &[2, 1, 1, 0, 0])?;
+    let words = answers(&rt, rt.alloc(), &[2, 1, 1, 0, 0])?;
     let wanted = [
         Word::Held,
         Word::Held,
@@ -146,7 +147,7 @@ fn entries_are_held_until_they_are_ready(rt: HostRuntime) -> Result<(), Fail> {
 
 #[test]
 fn an_entry_is_held_once(rt: HostRuntime) -> Result<(), Fail> {
-    let b = after(rt.alloc(), &[2, 1, 1])?;
+    let b = after(&rt, rt.alloc(), &[2, 1, 1])?;
     assert_eq!(rt; b.held().len(), 2);
     assert_eq!(rt; b.known().ticks(&son(false)), 0);
     assert!(rt; b.journal().is_empty());
@@ -155,7 +156,7 @@ fn an_entry_is_held_once(rt: HostRuntime) -> Result<(), Fail> {
 
 #[test]
 fn what_is_released_is_taken(rt: HostRuntime) -> Result<(), Fail> {
-    let b = after(rt.alloc(), &[2, 1, 0])?;
+    let b = after(&rt, rt.alloc(), &[2, 1, 0])?;
     assert!(rt; b.held().is_empty());
     assert_eq!(rt; b.journal().len(), 3);
     assert_eq!(rt; b.known().ticks(&son(false)), 3);
@@ -164,7 +165,7 @@ fn what_is_released_is_taken(rt: HostRuntime) -> Result<(), Fail> {
 
 #[test]
 fn what_is_released_adds_its_pairs(rt: HostRuntime) -> Result<(), Fail> {
-    let b = after(rt.alloc(), &[2, 1, 0])?;
+    let b = after(&rt, rt.alloc(), &[2, 1, 0])?;
     let pairs = b.tagged(rt.alloc())?;
     assert_eq!(rt; pairs.len(), 3);
     assert!(rt; is_pair(&pairs[0], T, 1));
@@ -174,13 +175,13 @@ fn what_is_released_adds_its_pairs(rt: HostRuntime) -> Result<(), Fail> {
 }
 
 // Whether b, which holds the third and the second message, tells of these ranges at the first.
-fn tells(alloc: Global, wanted: &[Range]) -> Result<bool, Fail> {
+fn tells<R: Threads>(rt: &R, alloc: Global, wanted: &[Range]) -> Result<bool, Fail> {
     let messages = sent(alloc)?;
-    let mut b = after(alloc, &[2, 1])?;
+    let mut b = after(rt, alloc, &[2, 1])?;
     let Some(first) = messages.first() else {
         return Ok(false);
     };
-    let Got::Took(ranges) = b.receive(alloc, first)? else {
+    let Got::Took(ranges) = b.receive(rt, alloc, first)? else {
         return Ok(false);
     };
     Ok(ranges.as_slice() == wanted)
@@ -189,7 +190,7 @@ fn tells(alloc: Global, wanted: &[Range]) -> Result<bool, Fail> {
 #[test]
 fn a_delivery_tells_what_it_released(rt: HostRuntime) -> Result<(), Fail> {
     let wanted = [range(false, 1, 1), range(false, 2, 2), range(false, 3, 3)];
-    assert!(rt; tells(rt.alloc(), &wanted)?);
+    assert!(rt; tells(&rt, rt.alloc(), &wanted)?);
     Ok(())
 }
 
@@ -268,9 +269,9 @@ fn snapshot(alloc: Global) -> Snapshot {
 }
 
 // Whether a new clone ignores the message.
-fn is_ignored(alloc: Global, message: Message) -> Result<bool, AllocError> {
+fn is_ignored<R: Threads>(rt: &R, alloc: Global, message: Message) -> Result<bool, AllocError> {
     let mut a = clone_at(alloc, false)?;
-    Ok(answer(&mut a, alloc, &message) == Word::Ignored)
+    Ok(answer(&mut a, rt, alloc, &message) == Word::Ignored)
 }
 
 #[test]
@@ -280,9 +281,9 @@ fn messages_of_other_kinds_are_ignored(rt: HostRuntime) -> Result<(), Fail> {
         path: son(true),
         snapshot: snapshot(rt.alloc()),
     };
-    assert!(rt; is_ignored(rt.alloc(), Message::JoinGive(give))?);
-    assert!(rt; is_ignored(rt.alloc(), Message::Want(Clock::empty(rt.alloc())))?);
-    assert!(rt; is_ignored(rt.alloc(), Message::Snapshot(snapshot(rt.alloc())))?);
+    assert!(rt; is_ignored(&rt, rt.alloc(), Message::JoinGive(give))?);
+    assert!(rt; is_ignored(&rt, rt.alloc(), Message::Want(Clock::empty(rt.alloc())))?);
+    assert!(rt; is_ignored(&rt, rt.alloc(), Message::Snapshot(snapshot(rt.alloc())))?);
     Ok(())
 }
 
@@ -309,48 +310,48 @@ fn bare(alloc: Global, zero: u32, tick: u32) -> Result<Message, Fail> {
 }
 
 // What a, which has made one operation, answers to b's first, which knows so many ticks of a.
-fn answer_to_first(alloc: Global, zero: u32) -> Result<Word, Fail> {
+fn answer_to_first<R: Threads>(rt: &R, alloc: Global, zero: u32) -> Result<Word, Fail> {
     let mut a = adding(alloc, false, &[T])?;
     let message = bare(alloc, zero, 1)?;
-    Ok(answer(&mut a, alloc, &message))
+    Ok(answer(&mut a, rt, alloc, &message))
 }
 
 #[test]
 fn a_foreign_use_of_the_leaf_is_told(rt: HostRuntime) -> Result<(), Fail> {
-    assert_eq!(rt; answer_to_first(rt.alloc(), 0)?, Word::Took(1));
-    assert_eq!(rt; answer_to_first(rt.alloc(), 1)?, Word::Took(1));
+    assert_eq!(rt; answer_to_first(&rt, rt.alloc(), 0)?, Word::Took(1));
+    assert_eq!(rt; answer_to_first(&rt, rt.alloc(), 1)?, Word::Took(1));
     let foreign = ReceiveFault::ForeignTick { said: 3, own: 1 };
-    assert_eq!(rt; answer_to_first(rt.alloc(), 3)?, Word::Fault(foreign));
+    assert_eq!(rt; answer_to_first(&rt, rt.alloc(), 3)?, Word::Fault(foreign));
     Ok(())
 }
 
 // The clone a, which holds b's operations from the second on, as many as may be.
-fn full(alloc: Global) -> Result<MldClone, Fail> {
+fn full<R: Threads>(rt: &R, alloc: Global) -> Result<MldClone, Fail> {
     let mut a = clone_at(alloc, false)?;
     for i in 0..4_096 {
         let message = bare(alloc, 0, i + 2)?;
-        answer(&mut a, alloc, &message);
+        answer(&mut a, rt, alloc, &message);
     }
     Ok(a)
 }
 
 // What it answers to b's operation at a tick.
-fn answer_of_full(alloc: Global, tick: u32) -> Result<Word, Fail> {
-    let mut a = full(alloc)?;
+fn answer_of_full<R: Threads>(rt: &R, alloc: Global, tick: u32) -> Result<Word, Fail> {
+    let mut a = full(rt, alloc)?;
     let message = bare(alloc, 0, tick)?;
-    Ok(answer(&mut a, alloc, &message))
+    Ok(answer(&mut a, rt, alloc, &message))
 }
 
 #[test]
 fn no_more_than_4096_entries_are_held(rt: HostRuntime) -> Result<(), Fail> {
-    let word = answer_of_full(rt.alloc(), 4_098)?;
+    let word = answer_of_full(&rt, rt.alloc(), 4_098)?;
     assert_eq!(rt; word, Word::Fault(ReceiveFault::HeldFull));
     Ok(())
 }
 
 #[test]
 fn all_of_4096_entries_are_released(rt: HostRuntime) -> Result<(), Fail> {
-    assert_eq!(rt; answer_of_full(rt.alloc(), 1)?, Word::Took(4_097));
+    assert_eq!(rt; answer_of_full(&rt, rt.alloc(), 1)?, Word::Took(4_097));
     Ok(())
 }
 
@@ -364,18 +365,18 @@ fn inserting(alloc: Global, last: u32, object: &str, tick: u32) -> Result<Messag
 }
 
 // The clone b that knows a's first operation, and then takes three.
-fn knowing_in_part(alloc: Global) -> Result<MldClone, Fail> {
+fn knowing_in_part<R: Threads>(rt: &R, alloc: Global) -> Result<MldClone, Fail> {
     let mut b = clone_at(alloc, true)?;
     let one = inserting(alloc, 1, T, 1)?;
-    answer(&mut b, alloc, &one);
+    answer(&mut b, rt, alloc, &one);
     let three = inserting(alloc, 3, U, 2)?;
-    answer(&mut b, alloc, &three);
+    answer(&mut b, rt, alloc, &three);
     Ok(b)
 }
 
 #[test]
 fn an_entry_that_is_known_in_part_is_cut(rt: HostRuntime) -> Result<(), Fail> {
-    let b = knowing_in_part(rt.alloc())?;
+    let b = knowing_in_part(&rt, rt.alloc())?;
     assert_eq!(rt; b.known().ticks(&son(false)), 3);
     let pairs = b.pairs();
     assert_eq!(rt; pairs.len(), 1);

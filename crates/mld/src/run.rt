@@ -70,7 +70,7 @@ pub struct Ran {
 /// failed. 3: the sink failed. 4: a line is outside the grammar, or the input ended before a `domain` line. 5: no memory.
 /// 7: a line is too large. 20: a line isn't built yet. Each line is answered before the next is read.
 pub fn run<R: Threads, S: Source, K: Sink>(
-    _rt: &R,
+    rt: &R,
     alloc: Global,
     words: &Vec<String>,
     source: &mut S,
@@ -109,7 +109,7 @@ pub fn run<R: Threads, S: Source, K: Sink>(
         return ended(Some(RunFault::Usage), None);
     }
     let mut world = None;
-    let fault = replay(alloc, source, sink, &mut world).err();
+    let fault = replay(rt, alloc, source, sink, &mut world).err();
     ended_with(alloc, fault, &world)
 }
 
@@ -189,7 +189,8 @@ fn is_replay(words: &Vec<String>) -> bool
 
 /// Replays the schedule of the source, and leaves the world that it leads to. Where a line isn't built or memory runs out,
 /// what is left is not to be used.
-fn replay<S: Source, K: Sink>(
+fn replay<R: Threads, S: Source, K: Sink>(
+    rt: &R,
     alloc: Global,
     source: &mut S,
     sink: &mut K,
@@ -213,7 +214,7 @@ fn replay<S: Source, K: Sink>(
     let mut done = 0;
     while let Some(line) = next_line(&mut lines, source, done + 1)? {
         done += 1;
-        let reply = act(alloc, world, line.as_slice(), done)?;
+        let reply = act(rt, alloc, world, line.as_slice(), done)?;
         write_reply(sink, reply.as_slice())?;
     }
     match world {
@@ -262,7 +263,8 @@ fn write_reply<K: Sink>(sink: &mut K, reply: &[u8]) -> Result<(), RunFault>
 }
 
 /// Does a line, and gives the text of its reply.
-fn act(
+fn act<R: Threads>(
+    rt: &R,
     alloc: Global,
     world: &mut Option<World>,
     line: &[u8],
@@ -285,7 +287,7 @@ fn act(
             }
             Err(stop) => Err(fault_of(stop, number)),
         },
-        Some(running) => match command(alloc, running, line) {
+        Some(running) => match command(rt, alloc, running, line) {
             Ok(text) => Ok(text),
             Err(stop) => Err(fault_of(stop, number)),
         },
@@ -322,7 +324,12 @@ fn open_world(alloc: Global, line: &[u8]) -> Result<(Option<World>, Vec<u8>), Li
 }
 
 /// Does a line of a world that runs, and gives the text of its reply.
-fn command(alloc: Global, world: &mut World, line: &[u8]) -> Result<Vec<u8>, LineRefusal>
+fn command<R: Threads>(
+    rt: &R,
+    alloc: Global,
+    world: &mut World,
+    line: &[u8],
+) -> Result<Vec<u8>, LineRefusal>
     requires few { world.old.steps < 4294967295 }
     requires standing { IsStanding world.old }
     ensures ok { IfOk result (λ text. (model : ModelWorld) → StandsFor world.old model → IsSound model → ActsWell (Running model) line.now text.items (Some world.new)) }
@@ -335,7 +342,7 @@ fn command(alloc: Global, world: &mut World, line: &[u8]) -> Result<Vec<u8>, Lin
     match read_command(alloc, line)? {
         None => Ok(text),
         Some(command) => {
-            world.step(alloc, &command, &mut text)?;
+            world.step(rt, alloc, &command, &mut text)?;
             Ok(text)
         }
     }

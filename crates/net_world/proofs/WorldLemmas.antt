@@ -11,14 +11,15 @@ use Rattle.mld_model.specs.declared.CloneState.TheVariants as states
 use Rattle.mld_model.specs.declared.Command.{Command}
 use Rattle.mld_model.specs.declared.Command.TheVariants.{Add, Remove, Deliver, Show, Compare, Join}
 use Rattle.mld_model.specs.Step.{HasCloneNumbers}
-use Rattle.mld_model.specs.World.{World, Message as ModelMessage, JoinGive}
+use Rattle.mld_model.specs.World.{World, Message as ModelMessage, JoinGive, founded}
 use Rattle.mld_model.specs.Reply.{Reply, Did, NoOperation, Took, Held, Shows, Sent, Answer as Answers, Joined, NoMessage, IsAbsent, IsAsking, IsLive}
 use Rattle.mld_model.specs.Sound.{IsSound}
 use Rattle.mld_model.specs.Local.{LocalAsker, LocalClone, next_dot}
-use Rattle.mld_model.specs.StandsFor.{RunningClone, RunningWorld, MessageStandsFor, StandsFor, id_of}
+use Rattle.mld_model.specs.FoundedLaws.{founded_sound}
+use Rattle.mld_model.specs.StandsFor.{RunningClone, RunningWorld, MessageStandsFor, StandsFor, id_of, founded_running}
 use Rattle.mld_model.specs.StandsForLaws.{live_at, asking_at}
 use Rattle.mld_model.specs.WorldStep.{Follows}
-use Rattle.mld_model.specs.WorldLaws.{stepped, stepped_with, stepped_sending, sent_message, SentAs, sent_as, LocallyCompares, next_tick_within, never_foreign, add_follows, add_absent, add_asking, remove_follows, remove_nothing, remove_absent, remove_asking, deliver_nothing, deliver_absent, deliver_known, deliver_taken, deliver_held, deliver_held_already, deliver_full, show_follows, show_absent, show_asking, compare_follows, compare_absent_first, compare_asking_first, compare_absent_second, compare_asking_second}
+use Rattle.mld_model.specs.WorldLaws.{founded_stands, stepped, stepped_with, stepped_sending, sent_message, SentAs, sent_as, LocallyCompares, next_tick_within, never_foreign, add_follows, add_absent, add_asking, remove_follows, remove_nothing, remove_absent, remove_asking, deliver_nothing, deliver_absent, deliver_known, deliver_taken, deliver_held, deliver_held_already, deliver_full, show_follows, show_absent, show_asking, compare_follows, compare_absent_first, compare_asking_first, compare_absent_second, compare_asking_second}
 use Rattle.mld_model.specs.JoinLaws.{stepped_telling, join_absent, join_again, join_live, deliver_ask_own, deliver_deep, deliver_ask, deliver_give_live, deliver_joined, deliver_asking}
 use Rattle.clone_core.specs.Calls.{ComparesAs}
 use Rattle.clone_core.specs.Joining.{IsGoodMessage}
@@ -51,6 +52,17 @@ stepped_of old view command actual new before after same is stepped =
 -- the world with these clones and messages after one more step
 abbrev pub after_step : RunningWorld → List RunningClone → List Message → RunningWorld
 after_step running clones messages = record { domain = running.domain; clones = clones; messages = messages; steps = running.steps + 1 }
+
+-- the founded world stands for the model's, which is sound
+pub founded_standing : (domain : List ℕ) (count : ℕ) (running : RunningWorld) → running ≡ founded_running domain count → IsStanding running
+founded_standing domain count running is =
+    subst (λ r. IsStanding r) (sym is) (record { world = founded domain count; stands = founded_stands domain count; sound = founded_sound domain count })
+
+-- after a step it stands for a sound world again
+pub standing_after : (old : RunningWorld) (command : Command) (new : RunningWorld) (before after : List ℕ) → IsStanding old → Stepped old command new before after → IsStanding new
+standing_after old command new before after standing stepped =
+    let follows : Follows standing.world command stepped.reply new = stepped.follows standing.world standing.stands standing.sound in
+    record { world = follows.next; stands = follows.stands; sound = follows.sound }
 
 -- a clone of a world that stands for a sound one has a tick left
 pub has_next_tick : (running : RunningWorld) (number : ℕ) → IsStanding running → running.steps < 4294967295 → HasNextTick running.clones number

@@ -22,6 +22,7 @@ use rdf_terms::{Text, Triple};
 use std::alloc::{AllocError, Global};
 use std::marker::Model;
 use std::mem;
+use std::thread::Threads;
 use tree_clock::{Dot, Leaf, Path};
 use uuid::Uuid;
 
@@ -85,7 +86,8 @@ impl World {
     pub fn found(alloc: Global, setup: &Setup) -> Result<World, AllocError>
         requires some { 1 ≤ setup.now.clones }
         requires most { setup.now.clones ≤ 32 }
-        ensures { IfOk result (λ world. world ≡ founded_running setup.now.domain setup.now.clones) }
+        ensures founded { IfOk result (λ world. world ≡ founded_running setup.now.domain setup.now.clones) }
+        ensures standing { IfOk result IsStanding }
     {
         let clones = founded_clones(alloc, &setup.domain, setup.clones)?;
         Ok(World {
@@ -105,8 +107,9 @@ impl World {
 
     /// Does a command, and adds the text of its reply to the output. After an error the world may have done a part of it,
     /// and is not used again.
-    pub fn step(
+    pub fn step<R: Threads>(
         &mut self,
+        rt: &R,
         alloc: Global,
         command: &Command,
         out: &mut Vec<u8>,
@@ -115,6 +118,7 @@ impl World {
         requires standing { IsStanding self.old }
         requires numbers { HasCloneNumbers command.now }
         ensures done { OnOk result (Stepped self.old command.now self.new out.old.items out.new.items) }
+        ensures standing { OnOk result (IsStanding self.new) }
         ensures steps { OnOk result (self.new.steps ≡ self.old.steps + 1) }
     {
         self.steps += 1;
@@ -145,7 +149,8 @@ impl World {
             }
             Command::Deliver(message, number) => {
                 let messages = &mut self.messages;
-                deliver_to(alloc, &mut self.clones, messages, *message, *number, out)
+                let clones = &mut self.clones;
+                deliver_to(rt, alloc, clones, messages, *message, *number, out)
             }
             Command::Join(number) => {
                 let messages = &mut self.messages;
@@ -327,7 +332,8 @@ fn join_to(
 }
 
 /// Message `message` comes to clone `number`.
-fn deliver_to(
+fn deliver_to<R: Threads>(
+    rt: &R,
     alloc: Global,
     clones: &mut Vec<CloneState<Asker, MldClone>>,
     messages: &mut Vec<Message>,
@@ -343,14 +349,15 @@ fn deliver_to(
     let Some(message) = message_at(messages, message) else {
         return push_word(out, Word::NoMessage);
     };
-    match receive_at(alloc, clones, number, message)? {
+    match receive_at(rt, alloc, clones, number, message)? {
         Answer::Got(Got::Answer(answers)) => send_answers(alloc, messages, answers, out),
         answer => push_answer(alloc, out, &answer),
     }
 }
 
 /// Clone `number` receives a message.
-fn receive_at(
+fn receive_at<R: Threads>(
+    rt: &R,
     alloc: Global,
     clones: &mut Vec<CloneState<Asker, MldClone>>,
     number: u8,
@@ -363,13 +370,14 @@ fn receive_at(
 {
     match &mut clones[usize::from(number)] {
         CloneState::Absent => Ok(Answer::Absent),
-        CloneState::Live(clone) => receive_live(alloc, clone, message),
-        asking => adopt_at(alloc, asking, message),
+        CloneState::Live(clone) => receive_live(rt, alloc, clone, message),
+        asking => adopt_at(rt, alloc, asking, message),
     }
 }
 
 /// A live clone receives a message.
-fn receive_live(
+fn receive_live<R: Threads>(
+    rt: &R,
     alloc: Global,
     clone: &mut MldClone,
     message: &Message,
@@ -377,7 +385,7 @@ fn receive_live(
     requires { (entry : EntryValue) → message.now ≡ kinds.Range entry → ¬ IsForeign clone.old entry }
     ensures { IfOk result (AnswersLive clone.old message.now clone.new) }
 {
-    match clone.receive(alloc, message) {
+    match clone.receive(rt, alloc, message) {
         Ok(got) => Ok(Answer::Got(got)),
         Err(ReceiveFault::HeldFull) => Ok(Answer::HeldFull),
         Err(ReceiveFault::Deep) => Ok(Answer::Deep),
@@ -387,7 +395,8 @@ fn receive_live(
 }
 
 /// One who asks for a leaf receives a message.
-fn adopt_at(
+fn adopt_at<R: Threads>(
+    rt: &R,
     alloc: Global,
     state: &mut CloneState<Asker, MldClone>,
     message: &Message,
@@ -399,7 +408,7 @@ fn adopt_at(
     let CloneState::Asking(asker) = mem::replace(state, CloneState::Absent) else {
         unreachable!()
     };
-    match asker.receive(alloc, message) {
+    match asker.receive(rt, alloc, message) {
         Adopted::Joined(clone) => {
             let path = clone.path();
             *state = CloneState::Live(clone);

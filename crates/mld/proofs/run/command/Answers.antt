@@ -4,11 +4,11 @@ use Rattle.mld.proofs.RunLemmas.{commanded, said_nothing}
 use Rattle.mld.proofs.run.command.Goals as goal
 
 pub returns-in-None-clause-ok : goal.returns-in-None-clause-ok
-returns-in-None-clause-ok c = λ model stands sound.
+returns-in-None-clause-ok g c = λ model stands sound.
     rw c.new-text.ensures.items (said_nothing c.args.line.now c.in_ok-read_command.field-0 c.args.world.now c.in-None.is c.in_ok-read_command.ensures.ok model stands sound)
 
 pub returns-in_ok-step-in-Some-clause-ok : goal.returns-in_ok-step-in-Some-clause-ok
-returns-in_ok-step-in-Some-clause-ok c = λ model stands sound.
+returns-in_ok-step-in-Some-clause-ok g c = λ model stands sound.
     let P : List ℕ → Type 0 = λ t. Stepped c.args.world.now c.in-Some.command c.step.new.self t c.step.new.out.items in
     commanded c.args.line.now c.in_ok-read_command.field-0 c.in-Some.command c.args.world.now c.step.new.self c.step.new.out.items c.in-Some.is c.in_ok-read_command.ensures.ok
     (subst P c.new-text.ensures.items c.in_ok-step-in-Some.ensures.done) model stands sound

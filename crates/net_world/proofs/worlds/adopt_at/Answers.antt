@@ -2,7 +2,7 @@ use Rattle.std.proofs.Common.{refl, rules}
 use Rattle.net_world.proofs.worlds.adopt_at.Goals as goal
 
 pub returns-in-Joined : goal.returns-in-Joined
-returns-in-Joined c =
+returns-in-Joined g c =
     let joins = c.in-Joined.ensures in
     record {
       asker = c.in-Asking.asker;

@@ -5,7 +5,7 @@ use Rattle.clone_core.proofs.Joining.{joins_as}
 use Rattle.clone_core.proofs.askers.Asker.receive.Goals as goal
 
 pub returns-in-Ok : goal.returns-in-Ok
-returns-in-Ok c =
+returns-in-Ok g c =
     let give = c.in-Some.give.now in
     let base = c.in-Ok.base in
     let new = c.with_snapshot.result in
