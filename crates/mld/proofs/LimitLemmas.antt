@@ -3,7 +3,7 @@ use Rattle.std.proofs.Common.{◌≡◌, ℕ, zero, suc, ◌+◌, ◌<◌, ◌�
 use Rattle.std.proofs.lemmas.Bool.{cases_lt}
 use Rattle.mld_io.specs.declared.faults.LineFault.{LineFault}
 use Rattle.mld_io.specs.declared.faults.LineFault.TheVariants as line_faults
-use Rattle.mld_io.specs.Lines.{LinesValue, NextLine, IsTooLarge, lines_of, after_line, line_size}
+use Rattle.mld_io.specs.Lines.{LinesValue, NextLine, IsTooLarge, IsCutShort, lines_of, after_line, line_size}
 use Rattle.mld_io.specs.LinesLaws.{first_of_lines_lem}
 use Rattle.mld.specs.Limits.{left_after, size_of_lines, BreaksLimits, IsTooLargeLine}
 use Rattle.mld.specs.Ran.{TakesLine}
@@ -92,6 +92,11 @@ breaks_limits lines bytes fault taken left in_line in_all is next =
       some = large.some;
       too_large = λ fits. large.too_large (record { in_line = omega (arith, in_line, fits.0); in_all = omega (arith, in_all, fits.1) });
     }
+
+-- and of one in which reading failed
+pub cut_short : (lines : LinesValue) (bytes : List ℕ) (fault : LineFault) (taken : ℕ) (left : Option (List ℕ)) → fault ≡ line_faults.ReadFault → NextLine lines bytes (Err fault) taken left
+    → IsCutShort bytes left
+cut_short lines bytes fault taken left is next = let P : LineFault → Type 0 = λ f. NextLine lines bytes (Err f) taken left in subst P is next
 
 -- the line behind those done is too large
 pub large_next : (bytes : List ℕ) (left : Option (List ℕ)) (size done : ℕ) (lines : List (List ℕ)) → (at : IsLeft bytes left size done lines) → BreaksLimits size at.rest → IsTooLargeLine bytes done

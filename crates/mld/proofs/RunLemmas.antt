@@ -6,13 +6,13 @@ use Rattle.std.proofs.Math.Seq.{take-append-add}
 use Rattle.std.specs.Cmp.Lexicographic.{pointwise}
 use Rattle.tree_clock.specs.DotLaws.{path_eq-Decides}
 use Rattle.std.specs.Io.KnownBytes.{Appends}
-use Rattle.mld_io.specs.Lines.{lines_of, after_line}
+use Rattle.mld_io.specs.Lines.{lines_of, after_line, IsCutShort}
 use Rattle.mld_io.specs.LinesLaws.{first_of_lines_lem}
 use Rattle.mld_model.specs.World.{World}
 use Rattle.mld_model.specs.Runs.{Stage, Waiting, Running, Acts, Runs, IsBad, IsUnbuilt, Before, Outcome, Finished, BadLine, UnbuiltLine, Verdict}
 use Rattle.mld_model.specs.Sound.{IsSound}
 use Rattle.mld_model.specs.StandsFor.{RunningWorld, StandsFor}
-use Rattle.mld.specs.Ran.{Finishes, StopsAtBad, StopsAtUnbuilt, StopsAtLarge, WritesFront, StageStands, IsStandingStage, ActsWell, TakesLine, IfSomeLine, HasReadCause, HasWriteCause, Agrees, steps_of}
+use Rattle.mld.specs.Ran.{Finishes, StopsAtBad, StopsAtUnbuilt, StopsAtLarge, BreaksOff, WritesFront, StageStands, IsStandingStage, ActsWell, TakesLine, IfSomeLine, HasReadCause, HasWriteCause, Agrees, steps_of}
 use Rattle.mld_model.specs.declared.Command.{Command}
 use Rattle.mld_model.specs.World.{founded}
 use Rattle.mld_model.specs.Reply.{Ready, reply_text}
@@ -21,6 +21,10 @@ use Rattle.mld_model.specs.FoundedLaws.{founded_sound}
 use Rattle.mld_model.specs.WorldLaws.{founded_stands}
 use Rattle.mld_model.specs.WorldStep.{Follows}
 use Rattle.mld_model.specs.RunsLaws.{one_verdict}
+use Rattle.mld_model.specs.AnswersLaws.{answers_survive}
+use Rattle.mld_model.specs.Clone.{known_of}
+use Rattle.mld_model.specs.StepSoundLaws.{same_pairs, one_leaf}
+use Rattle.mld.specs.Headline.{KeepsPromises}
 use Rattle.mld.specs.declared.run.RunFault.{RunFault}
 use Rattle.mld.specs.declared.run.RunFault.TheVariants as faults
 use Rattle.net_world.specs.declared.lines.Setup.{Setup}
@@ -159,13 +163,22 @@ front_of_reply given left rest before now after size grown world next done line 
 pub standing_from : (given left before now : Option (List ℕ)) (size : ℕ) (world : Option RunningWorld) (done : ℕ) → IsUnderWay given left before now size world done → IsStandingStage world
 standing_from given left before now size world done way = record { stage = way.stage; stands = way.stands }
 
+-- the world that the lines lead to keeps what is promised
+promises : (lines : List (List ℕ)) (text : List ℕ) (world : World) → Runs Waiting lines text (Running world) → IsSound world → KeepsPromises lines world
+promises lines text world runs sound = record {
+  sound = sound;
+  agree = λ number other stored kept held waiting one two within back pairs others. same_pairs world.history (known_of stored) (known_of kept) pairs others within back;
+  answers = λ number dot answered. answers_survive lines text world number dot runs answered;
+  leaves = one_leaf world sound;
+}
+
 end_of : (bytes : List ℕ) (rest before now : Option (List ℕ)) (running : RunningWorld) (lines : List (List ℕ)) (text : List ℕ) (stage : Stage) → StageStands (Some running) stage
     → Runs Waiting lines text stage → lines_of bytes ≡ lines → rest ≡ Some [] → ((before : ℕ) → ¬ IsTooLargeLine bytes before) → Appends before now text → Finishes (StageStands (Some running)) bytes rest before now
 unfolding Verdict
 end_of bytes rest before now running lines text Waiting stands runs whole all fits written = absurd stands
 end_of bytes rest before now running lines text (Running world) stands runs whole all fits written =
     let P : List (List ℕ) → Type 0 = λ ls. Runs Waiting ls text (Running world) in
-    record { text = text; world = world; verdict = subst P (sym whole) runs; sound = stands.1; all = all; fits = fits; written = written; holds = stands }
+    record { text = text; world = world; verdict = subst P (sym whole) runs; keeps = promises (lines_of bytes) text world (subst P (sym whole) runs) stands.1; all = all; fits = fits; written = written; holds = stands }
 
 -- the source is at its end, and a world runs
 pub finishes : (given left rest before now : Option (List ℕ)) (size grown : ℕ) (running : RunningWorld) (done : ℕ) → IsUnderWay given left before now size (Some running) done
@@ -247,6 +260,22 @@ stops_large given left before now size world done number way counts breaks bytes
           subst P same (large_next bytes left size done way.lines at (breaks at.rest at.is));
       written = way.written;
       holds = way.stands;
+    }
+
+-- reading failed in the line behind those done
+pub breaks_off : (given left rest before now : Option (List ℕ)) (size : ℕ) (world : Option RunningWorld) (done : ℕ) → IsUnderWay given left before now size world done
+    → ((bytes : List ℕ) → left ≡ Some bytes → IsCutShort bytes rest) → (bytes : List ℕ) → given ≡ Some bytes → BreaksOff bytes rest before now
+breaks_off given left rest before now size world done way cut bytes is =
+    let at : IsLeft bytes left size done way.lines = way.left_of bytes is in
+    let P : List ℕ → Type 0 = λ b. IsCutShort b rest in
+    record {
+      lines = done;
+      text = way.text;
+      stage = way.stage;
+      done = record { front = way.lines; rest = lines_of at.rest; whole = at.whole; counted = ap (λ n. n + 1) way.counted; runs = way.runs };
+      fits = at.fits;
+      cut = subst P at.behind (cut at.rest at.is);
+      written = way.written;
     }
 
 -- a line of a world that runs

@@ -8,7 +8,7 @@ use Rattle.mld_model.specs.Runs.{Stage, Waiting, Running, Outcome, Verdict}
 use Rattle.mld_model.specs.StandsFor.{RunningWorld}
 use Rattle.net_world.specs.declared.summaries.Summary.{Summary}
 use Rattle.mld.specs.Summaries.{TellsOf}
-use Rattle.mld.specs.Ran.{StageStands, Finishes, StopsAtBad, StopsAtUnbuilt, StopsAtLarge, Agrees, SummarizesWorld, IfTold, EndsBy, tells}
+use Rattle.mld.specs.Ran.{StageStands, Finishes, StopsAtBad, StopsAtUnbuilt, StopsAtLarge, BreaksOff, Agrees, SummarizesWorld, IfTold, EndsBy, tells}
 use Rattle.mld.specs.declared.run.Ran.{Ran}
 use Rattle.mld.proofs.RunLemmas.{agrees_finished, agrees_fault, err_same}
 use Rattle.mld.specs.declared.run.RunFault.{RunFault}
@@ -57,7 +57,7 @@ finishes_as P Q bytes left before now holds ends = record {
   text = ends.text;
   world = ends.world;
   verdict = ends.verdict;
-  sound = ends.sound;
+  keeps = ends.keeps;
   all = ends.all;
   fits = ends.fits;
   written = ends.written;
@@ -125,6 +125,13 @@ pub large_by : (result : Result (Unit {0}) RunFault) (fault : Option RunFault) (
 large_by result fault world ran given before now by ends large line is bytes told =
     large_as (StageStands world) (TellsOf ran.world) bytes line before now (told_from fault world ran ends (Some (faults.TooLarge line)) is refl)
     (large line (err_by result fault (faults.TooLarge line) by (ended_by fault world ran ends (Some (faults.TooLarge line)) (λ none. cc (none)) is)) bytes told)
+
+pub breaks_off_by : (result : Result (Unit {0}) RunFault) (fault : Option RunFault) (world : Option RunningWorld) (ran : Ran) (given left before now : Option (List ℕ))
+    → fault ≡ result_err result → EndsBy fault world ran
+    → (result ≡ Err faults.ReadFault → (bytes : List ℕ) → given ≡ Some bytes → BreaksOff bytes left before now)
+    → ran.fault ≡ Some faults.ReadFault → (bytes : List ℕ) → given ≡ Some bytes → BreaksOff bytes left before now
+breaks_off_by result fault world ran given left before now by ends breaks is =
+    breaks (err_by result fault faults.ReadFault by (ended_by fault world ran ends (Some faults.ReadFault) (λ none. cc (none)) is))
 
 -- the fault of the replay agrees with the verdict
 agrees_replay : (result : Result (Unit {0}) RunFault) (P : Stage → Type 0) (bytes : List ℕ) (left before now : Option (List ℕ)) → OnOk result (Finishes P bytes left before now)

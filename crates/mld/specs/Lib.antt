@@ -1,4 +1,5 @@
 pub mod Summaries
+pub mod Headline
 pub mod Limits
 pub mod Ran
 pub mod UnderWay

@@ -2,8 +2,9 @@
 use Rattle.std.specs.Prelude.{◌≡◌, ◌≢◌, ◌⊎◌, ℕ, ◌+◌, ◌<◌, List, [], ◌∷◌, ◌++◌, take, Bool, true, false, IsTrue, Option, None, Some, Result, IsErrOf, codes}
 use Rattle.std.specs.Io.KnownBytes.{Appends}
 use Rattle.mld_io.specs.Faults.{Rose}
-use Rattle.mld_io.specs.Lines.{lines_of, first_line, after_line, line_size}
-use Rattle.mld.specs.Limits.{BreaksLimits, IsTooLargeLine}
+use Rattle.mld_io.specs.Lines.{lines_of, first_line, after_line, line_size, IsCutShort}
+use Rattle.mld.specs.Headline.{KeepsPromises}
+use Rattle.mld.specs.Limits.{left_after, BreaksLimits, IsTooLargeLine}
 use Rattle.mld_model.specs.World.{World}
 use Rattle.mld_model.specs.Runs.{Stage, Waiting, Running, Acts, Runs, Before, Outcome, Finished, BadLine, UnbuiltLine, Verdict}
 use Rattle.mld_model.specs.Sound.{IsSound}
@@ -69,13 +70,13 @@ pub record HasWriteCause {T : Type 0} (before now : ℕ) (result : Result T RunF
   pub failed : IsErrOf result faults.WriteFault → Rose before now
   pub quiet : ¬ IsErrOf result faults.WriteFault → now ≡ before
 
--- the source is at its end, none of its lines is too large, and the text of a run over them, to a sound world, was written; and
--- this holds of that world
+-- the source is at its end, none of its lines is too large, and the text of a run over them was written; the world that they
+-- lead to keeps what is promised, and this holds of it
 pub record Finishes (P : Stage → Type 0) (bytes : List ℕ) (left before after : Option (List ℕ)) : Type 0 where
   pub text : List ℕ
   pub world : World
   pub verdict : Verdict (lines_of bytes) (Finished text world)
-  pub sound : IsSound world
+  pub keeps : KeepsPromises (lines_of bytes) world
   pub all : left ≡ Some []
   pub fits : (lines : ℕ) → ¬ IsTooLargeLine bytes lines
   pub written : Appends before after text
@@ -109,6 +110,16 @@ pub record StopsAtLarge (P : Stage → Type 0) (bytes : List ℕ) (number : ℕ)
   pub large : (lines : ℕ) → number ≡ lines + 1 → IsTooLargeLine bytes lines
   pub written : Appends before after text
   pub holds : P stage
+
+-- so many lines were done, none of them too large, and their text was written; of the bytes behind them a part of one line was read
+pub record BreaksOff (bytes : List ℕ) (left before after : Option (List ℕ)) : Type 0 where
+  pub lines : ℕ
+  pub text : List ℕ
+  pub stage : Stage
+  pub done : Before (lines_of bytes) (lines + 1) text stage
+  pub fits : (line : ℕ) → line < lines → ¬ IsTooLargeLine bytes line
+  pub cut : IsCutShort (left_after lines bytes) left
+  pub written : Appends before after text
 
 -- what was written is a front of the text of a run over the first lines of these bytes
 pub record WritesFront (bytes : List ℕ) (before after : Option (List ℕ)) : Type 0 where

@@ -3,7 +3,7 @@ ghost use Rattle.std.specs.Prelude.{◌≡◌, ◌≢◌, ◌↔◌, ◌≤◌, 
 ghost use Rattle.std.specs.Io.KnownBytes.{Appends};
 ghost use Rattle.std.specs.String.{string_bytes};
 ghost use Rattle.mld_io.specs.Faults.{Rose};
-ghost use Rattle.mld_io.specs.Lines.{lines_of};
+ghost use Rattle.mld_io.specs.Lines.{lines_of, IsCutShort};
 ghost use Rattle.mld_model.specs.World.{World as ModelWorld};
 ghost use Rattle.mld_model.specs.Runs.{Stage, Waiting, Running, Outcome, Verdict, IsBad, IsUnbuilt};
 ghost use Rattle.mld_model.specs.Sound.{IsSound};
@@ -12,7 +12,7 @@ ghost use Rattle.net_world.specs.Worlds.{IsStanding};
 ghost use Rattle.mld.specs.Stops.{fault_of};
 ghost use Rattle.mld.specs.Limits.{BreaksLimits};
 ghost use Rattle.mld.specs.Summaries.{TellsOf};
-ghost use Rattle.mld.specs.Ran.{status_of, tells, IsReplay, Finishes, StopsAtBad, StopsAtUnbuilt, StopsAtLarge, WritesFront, SummarizesWorld, EndsBy, Agrees, StageStands, IsStandingStage, ActsWell, steps_of, TakesLine, IfSomeLine, IsReadingFault, IsWritingFault, IsLineFault, HasReadCause, HasWriteCause};
+ghost use Rattle.mld.specs.Ran.{status_of, tells, IsReplay, Finishes, StopsAtBad, StopsAtUnbuilt, StopsAtLarge, BreaksOff, WritesFront, SummarizesWorld, EndsBy, Agrees, StageStands, IsStandingStage, ActsWell, steps_of, TakesLine, IfSomeLine, IsReadingFault, IsWritingFault, IsLineFault, HasReadCause, HasWriteCause};
 
 use mld_io::{LineFault, Lines, Piece, Sink, Source, WriteFault, write_all};
 use net_world::{LineRefusal, Summary, World, push_ready, read_command, read_setup};
@@ -81,7 +81,8 @@ pub fn run<R: Threads, S: Source, K: Sink>(
     ensures untouched { result.fault ≡ Some RunFault.Usage → (source.new ≡ source.old) × (sink.new ≡ sink.old) }
 
     // At status 0 the source is read to its end, none of its lines is too large, and what was written is the text of a run of
-    // the model over them. The world that they lead to is the one that is told of.
+    // the model over them. The world that they lead to is the one that is told of, with the meaning of what each clone knows.
+    // Clones of it that know the same have the same pairs, each answer of a dot holds in it, and no two hold one leaf.
     ensures finished { result.fault ≡ None → (bytes : List ℕ) → S.left source.old ≡ Some bytes
         → Finishes (TellsOf result.world) bytes (S.left source.new) (K.held sink.old) (K.held sink.new) }
     // At 4, 20 and 7 the line of that number is the first that is bad, unbuilt or too large; at 4 and 20 none up to it is too
@@ -92,6 +93,9 @@ pub fn run<R: Threads, S: Source, K: Sink>(
         → StopsAtUnbuilt bytes line (K.held sink.old) (K.held sink.new) }
     ensures large { (line : ℕ) → result.fault ≡ Some (RunFault.TooLarge line) → (bytes : List ℕ) → S.left source.old ≡ Some bytes
         → StopsAtLarge (TellsOf result.world) bytes line (K.held sink.old) (K.held sink.new) }
+    // At 2 the source failed within a line, or at its end: the text is that of the lines before it.
+    ensures broken_off { result.fault ≡ Some RunFault.ReadFault → (bytes : List ℕ) → S.left source.old ≡ Some bytes
+        → BreaksOff bytes (S.left source.new) (K.held sink.old) (K.held sink.new) }
     // Whatever the status is, what was written is a front of the text of a run over the first lines.
     ensures front { (bytes : List ℕ) → S.left source.old ≡ Some bytes → WritesFront bytes (K.held sink.old) (K.held sink.new) }
     // At the other statuses nothing is told of the world.
@@ -206,6 +210,8 @@ fn replay<R: Threads, S: Source, K: Sink>(
         → StopsAtUnbuilt bytes line (K.held sink.old) (K.held sink.new) }
     ensures large { (line : ℕ) → IsErrOf result (RunFault.TooLarge line) → (bytes : List ℕ) → S.left source.old ≡ Some bytes
         → StopsAtLarge (StageStands world.new) bytes line (K.held sink.old) (K.held sink.new) }
+    ensures broken_off { IsErrOf result RunFault.ReadFault → (bytes : List ℕ) → S.left source.old ≡ Some bytes
+        → BreaksOff bytes (S.left source.new) (K.held sink.old) (K.held sink.new) }
     ensures front { (bytes : List ℕ) → S.left source.old ≡ Some bytes → WritesFront bytes (K.held sink.old) (K.held sink.new) }
     ensures read { HasReadCause (S.faults source.old) (S.faults source.new) result }
     ensures write { HasWriteCause (K.faults sink.old) (K.faults sink.new) result }
@@ -234,6 +240,7 @@ fn next_line<S: Source>(
     requires all { lines.old.all ≡ 16777216 }
     ensures line { (bytes : List ℕ) → S.left source.old ≡ Some bytes → IfOk result (TakesLine lines.old.taken bytes (S.left source.new) lines.new.taken) }
     ensures large { (at : ℕ) → IsErrOf result (RunFault.TooLarge at) → (at ≡ number) × ((bytes : List ℕ) → S.left source.old ≡ Some bytes → BreaksLimits lines.old.taken bytes) }
+    ensures broken_off { IsErrOf result RunFault.ReadFault → (bytes : List ℕ) → S.left source.old ≡ Some bytes → IsCutShort bytes (S.left source.new) }
     ensures good { OnOk result (IsTrue lines.new.good) }
     ensures limits { (lines.new.line ≡ lines.old.line) × (lines.new.all ≡ lines.old.all) }
     ensures progress { IfOk result (IfSomeLine (λ _. (lines.old.taken < lines.new.taken) × (lines.new.taken ≤ lines.old.all))) }

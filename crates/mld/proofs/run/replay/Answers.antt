@@ -1,6 +1,6 @@
 use Rattle.std.proofs.Common.{◌∙◌, ◌+◌, refl, sym, ap, arith}
 use Rattle.std.proofs.lemmas.Result.{err_from_is_err_and}
-use Rattle.mld.proofs.RunLemmas.{under_way_first, under_way_more, front_first, front_of_way, front_of_reply, takes_some, stops_bad_at, stops_unbuilt_at, stops_large, finishes_at, ends_waiting_at, same_bad, read_well, wrote_well, same_fault, err_same, of_line}
+use Rattle.mld.proofs.RunLemmas.{under_way_first, under_way_more, front_first, front_of_way, front_of_reply, takes_some, stops_bad_at, stops_unbuilt_at, stops_large, breaks_off, finishes_at, ends_waiting_at, same_bad, read_well, wrote_well, same_fault, err_same, of_line}
 use Rattle.mld.proofs.run.replay.Goals as goal
 
 pub returns-in_err-reply-clause-bad : goal.returns-in_err-reply-clause-bad
@@ -54,6 +54,12 @@ returns-in_err-line-clause-large g c = λ line is bytes told.
     let b = c.in_err-line.ensures.large line (err_same _ _ (same_fault _ _ _ _ p.1 p.2 is)) in
     stops_large (g.S.Source.left c.args.source.now) (g.S.Source.left c.loop-line.source) (g.K.Sink.held c.args.sink.now) (g.K.Sink.held c.loop-line.sink)
     c.loop-line.lines.taken c.loop-line.world c.loop-line.done line c.loop-line.invariant.way b.0 b.1 bytes told
+
+pub returns-in_err-line-clause-broken_off : goal.returns-in_err-line-clause-broken_off
+returns-in_err-line-clause-broken_off g c = λ is bytes told.
+    let p = err_from_is_err_and c.from_residual-in_err-line.result c.from_residual-in_err-line.ensures.1 in
+    breaks_off (g.S.Source.left c.args.source.now) (g.S.Source.left c.loop-line.source) (g.S.Source.left c.next_line.new.source) (g.K.Sink.held c.args.sink.now) (g.K.Sink.held c.loop-line.sink)
+    c.loop-line.lines.taken c.loop-line.world c.loop-line.done c.loop-line.invariant.way (c.in_err-line.ensures.broken_off (err_same _ _ (same_fault _ _ _ _ p.1 p.2 is))) bytes told
 
 pub loop-line-init : goal.loop-line-init
 loop-line-init g c = record {

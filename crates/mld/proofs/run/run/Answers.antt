@@ -1,5 +1,5 @@
 use Rattle.mld.proofs.RunLemmas.{front_first}
-use Rattle.mld.proofs.SummaryLemmas.{finishes_by, bad_by, large_by, agrees_by, not_fault}
+use Rattle.mld.proofs.SummaryLemmas.{finishes_by, bad_by, large_by, breaks_off_by, agrees_by, not_fault}
 use Rattle.std.proofs.Common.{refl}
 use Rattle.mld.specs.declared.run.RunFault.TheVariants as faults
 use Rattle.mld.proofs.run.run.Goals as goal
@@ -18,6 +18,11 @@ pub returns-clause-large : goal.returns-clause-large
 returns-clause-large g c =
     large_by c.replay.result c.err-fault.result c.replay.new.world c.ended_with.result (g.S.Source.left c.args.source.now)
     (g.K.Sink.held c.args.sink.now) (g.K.Sink.held c.replay.new.sink) c.err-fault.ensures.value c.ended_with.ensures.ends c.replay.ensures.large
+
+pub returns-clause-broken_off : goal.returns-clause-broken_off
+returns-clause-broken_off g c =
+    breaks_off_by c.replay.result c.err-fault.result c.replay.new.world c.ended_with.result (g.S.Source.left c.args.source.now) (g.S.Source.left c.replay.new.source)
+    (g.K.Sink.held c.args.sink.now) (g.K.Sink.held c.replay.new.sink) c.err-fault.ensures.value c.ended_with.ensures.ends c.replay.ensures.broken_off
 
 pub returns-clause-exact : goal.returns-clause-exact
 returns-clause-exact g c = λ bytes told outcome verdict words.
