@@ -124,44 +124,20 @@ impl World {
         self.steps += 1;
         match command {
             Command::Add(number, triple) => {
-                let messages = &mut self.messages;
-                set_to(
-                    alloc,
-                    &mut self.clones,
-                    messages,
-                    *number,
-                    triple,
-                    true,
-                    out,
-                )
+                let (clones, messages) = (&mut self.clones, &mut self.messages);
+                set_to(alloc, clones, messages, *number, triple, true, out)
             }
             Command::Remove(number, triple) => {
-                let messages = &mut self.messages;
-                set_to(
-                    alloc,
-                    &mut self.clones,
-                    messages,
-                    *number,
-                    triple,
-                    false,
-                    out,
-                )
+                let (clones, messages) = (&mut self.clones, &mut self.messages);
+                set_to(alloc, clones, messages, *number, triple, false, out)
             }
             Command::Deliver(message, number) => {
-                let messages = &mut self.messages;
-                let clones = &mut self.clones;
+                let (clones, messages) = (&mut self.clones, &mut self.messages);
                 deliver_to(rt, alloc, clones, messages, *message, *number, out)
             }
             Command::Join(number) => {
-                let messages = &mut self.messages;
-                join_to(
-                    alloc,
-                    &mut self.clones,
-                    messages,
-                    &self.domain,
-                    *number,
-                    out,
-                )
+                let (clones, messages) = (&mut self.clones, &mut self.messages);
+                join_to(alloc, clones, messages, &self.domain, *number, out)
             }
             Command::Show(number) => show(alloc, self.clones.as_slice(), *number, out),
             Command::Compare(number, other) => {
