@@ -1,18 +1,19 @@
 -- What a clone answers to an update, to a message, and to a comparison with another clone.
-use Rattle.std.specs.Prelude.{◌≡◌, ◌≢◌, ℕ, [], ◌∷◌, List, Bool, true, false, length}
+use Rattle.std.specs.Prelude.{◌≡◌, ◌≢◌, ℕ, [], ◌∷◌, List, Bool, true, false}
 use Rattle.rdf_terms.specs.declared.terms.Triple.{Triple}
 use Rattle.tree_clock.specs.declared.dots.Dot.{Dot}
 use Rattle.tree_clock.specs.declared.dots.Range.{Range}
 use Rattle.tree_clock.specs.Lists.{Has}
-use Rattle.tree_clock.specs.Clock.{ticks_of, Covers}
-use Rattle.mld_ops.specs.declared.messages.Give.{Give}
+use Rattle.tree_clock.specs.Clock.{Covers}
 use Rattle.mld_ops.specs.declared.messages.Message.{Message}
 use Rattle.mld_ops.specs.declared.messages.Message.TheVariants as message
 use Rattle.mld_ops.specs.declared.tagged.Tagged.{Tagged}
 use Rattle.mld_ops.specs.Entry.{EntryValue}
 use Rattle.mld_ops.specs.Ready.{IsKnownEntry}
 use Rattle.mld_model.specs.Step.{ArePairsOf}
-use Rattle.mld_model.specs.Local.{LocalClone, LocallyMakes, LocallyAccepts, MustBeHeld, LocallyHolds, IsFullFor, IsForeign, LocallyForks}
+use Rattle.mld_model.specs.Local.{LocalClone, LocallyMakes, LocallyAccepts, MustBeHeld, LocallyHolds, IsForeign}
+use Rattle.clone_core.specs.Joining.{Gives, RefusesAsk}
+use Rattle.clone_core.specs.Takes.{RefusesEntry}
 use Rattle.clone_core.specs.declared.answers.Covering.{Covering}
 use Rattle.clone_core.specs.declared.answers.Covering.TheVariants as covering
 use Rattle.clone_core.specs.declared.answers.Done.{Done}
@@ -49,8 +50,7 @@ ReceivesEntry old entry got.Ignored new = ⊥
 -- what became of an ask by an id: it was the clone's own and is ignored; or the leaf was forked, and one message gives its right half
 abbrev pub ReceivesAsk : LocalClone → List ℕ → Got → LocalClone → Type 0
 ReceivesAsk old id got.Ignored new = (id ≡ old.id) × (new ≡ old)
-ReceivesAsk old id (got.Answer messages) new =
-    (id ≢ old.id) × (give : Give) × (messages ≡ message.JoinGive give ∷ []) × LocallyForks old id new give
+ReceivesAsk old id (got.Answer messages) new = (id ≢ old.id) × Gives old id messages new
 ReceivesAsk old id other new = ⊥
 
 -- what became of a message: an entry that isn't foreign was received, an ask for a leaf was, and messages of the other kinds are ignored
@@ -59,13 +59,10 @@ Receives old (message.Range entry) answer new = ¬ IsForeign old entry × Receiv
 Receives old (message.JoinAsk id) answer new = ReceivesAsk old id answer new
 Receives old other answer new = (answer ≡ got.Ignored) × (new ≡ old)
 
--- why a message was refused: its entry is foreign, and the fault names its ticks of the clone's path and the clone's own; or it would
--- be held where too many are; or the leaf that another one asks for has 64 letters; or memory ran out
+-- why a message was refused: its entry was, or the ask for a leaf; or memory ran out
 abbrev pub Refuses : LocalClone → Message → ReceiveFault → Type 0
-Refuses old (message.Range entry) (fault.ForeignTick said own) =
-    IsForeign old entry × (said ≡ ticks_of entry.time old.path) × (own ≡ ticks_of old.ticks old.path)
-Refuses old (message.Range entry) fault.HeldFull = ¬ IsForeign old entry × MustBeHeld old entry × IsFullFor old entry
-Refuses old (message.JoinAsk id) fault.Deep = (id ≢ old.id) × (length old.path ≡ 64)
+Refuses old (message.Range entry) refused = RefusesEntry old entry refused
+Refuses old (message.JoinAsk id) refused = RefusesAsk old id refused
 Refuses old other fault.NoMemory = Unit {0}
 Refuses old other refused = ⊥
 

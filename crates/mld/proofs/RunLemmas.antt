@@ -21,10 +21,7 @@ use Rattle.mld_model.specs.FoundedLaws.{founded_sound}
 use Rattle.mld_model.specs.WorldLaws.{founded_stands}
 use Rattle.mld_model.specs.WorldStep.{Follows}
 use Rattle.mld_model.specs.RunsLaws.{one_verdict}
-use Rattle.mld_model.specs.AnswersLaws.{answers_survive}
-use Rattle.mld_model.specs.Clone.{known_of}
-use Rattle.mld_model.specs.StepSoundLaws.{same_pairs, one_leaf}
-use Rattle.mld.specs.Headline.{KeepsPromises}
+use Rattle.mld_model.specs.PromisesLaws.{promises_kept}
 use Rattle.mld.specs.declared.run.RunFault.{RunFault}
 use Rattle.mld.specs.declared.run.RunFault.TheVariants as faults
 use Rattle.net_world.specs.declared.lines.Setup.{Setup}
@@ -163,22 +160,13 @@ front_of_reply given left rest before now after size grown world next done line 
 pub standing_from : (given left before now : Option (List ℕ)) (size : ℕ) (world : Option RunningWorld) (done : ℕ) → IsUnderWay given left before now size world done → IsStandingStage world
 standing_from given left before now size world done way = record { stage = way.stage; stands = way.stands }
 
--- the world that the lines lead to keeps what is promised
-promises : (lines : List (List ℕ)) (text : List ℕ) (world : World) → Runs Waiting lines text (Running world) → IsSound world → KeepsPromises lines world
-promises lines text world runs sound = record {
-  sound = sound;
-  agree = λ number other stored kept held waiting one two within back pairs others. same_pairs world.history (known_of stored) (known_of kept) pairs others within back;
-  answers = λ number dot answered. answers_survive lines text world number dot runs answered;
-  leaves = one_leaf world sound;
-}
-
 end_of : (bytes : List ℕ) (rest before now : Option (List ℕ)) (running : RunningWorld) (lines : List (List ℕ)) (text : List ℕ) (stage : Stage) → StageStands (Some running) stage
     → Runs Waiting lines text stage → lines_of bytes ≡ lines → rest ≡ Some [] → ((before : ℕ) → ¬ IsTooLargeLine bytes before) → Appends before now text → Finishes (StageStands (Some running)) bytes rest before now
 unfolding Verdict
 end_of bytes rest before now running lines text Waiting stands runs whole all fits written = absurd stands
 end_of bytes rest before now running lines text (Running world) stands runs whole all fits written =
     let P : List (List ℕ) → Type 0 = λ ls. Runs Waiting ls text (Running world) in
-    record { text = text; world = world; verdict = subst P (sym whole) runs; keeps = promises (lines_of bytes) text world (subst P (sym whole) runs) stands.1; all = all; fits = fits; written = written; holds = stands }
+    record { text = text; world = world; verdict = subst P (sym whole) runs; keeps = promises_kept (lines_of bytes) text world (subst P (sym whole) runs); all = all; fits = fits; written = written; holds = stands }
 
 -- the source is at its end, and a world runs
 pub finishes : (given left rest before now : Option (List ℕ)) (size grown : ℕ) (running : RunningWorld) (done : ℕ) → IsUnderWay given left before now size (Some running) done

@@ -1,5 +1,4 @@
 pub mod Summaries
-pub mod Headline
 pub mod Limits
 pub mod Ran
 pub mod UnderWay

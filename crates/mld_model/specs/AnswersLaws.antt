@@ -355,7 +355,7 @@ lines_behind lines text world number dot runs answered =
 
 -- the operation of each answer is remembered in the world that a run leads to
 pub answers_survive : AnswersSurvive
-answers_survive lines text world number dot runs answered =
+answers_survive lines text world runs number dot answered =
     let survives = answered_remembers answered.before answered.command number answered.triple dot answered.message answered.after answered.changes answered.steps in
     let behind = lines_behind lines text world number dot runs answered in
     record {

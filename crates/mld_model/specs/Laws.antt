@@ -1,5 +1,5 @@
 -- The laws of schedules and of the worlds that they reach, as the contracts of the crate state them.
-use Rattle.std.specs.Prelude.{◌≡◌, ◌≢◌, ℕ, List, IsTrue}
+use Rattle.std.specs.Prelude.{◌≡◌, ℕ, List, IsTrue}
 use Rattle.rdf_terms.specs.declared.terms.Triple.{Triple}
 use Rattle.tree_clock.specs.declared.dots.Dot.{Dot}
 use Rattle.tree_clock.specs.declared.dots.Range.{Range}
@@ -8,13 +8,14 @@ use Rattle.mld_ops.specs.History.{Operation}
 use Rattle.mld_ops.specs.Meaning.{IsMeaning}
 use Rattle.mld_model.specs.declared.Command.{Command}
 use Rattle.mld_model.specs.declared.Command.TheVariants.{Add, Remove}
-use Rattle.mld_model.specs.Clone.{Stored, IsWithin}
-use Rattle.mld_model.specs.World.{World, clone_at, founded}
+use Rattle.mld_model.specs.Clone.{IsWithin}
+use Rattle.mld_model.specs.World.{World, founded}
 use Rattle.mld_model.specs.Reply.{Reply, Did}
 use Rattle.mld_model.specs.Step.{HasCloneNumbers, Step}
-use Rattle.mld_model.specs.Sound.{Keeps, IsSound}
+use Rattle.mld_model.specs.Sound.{IsSound}
 use Rattle.mld_model.specs.Schedule.{IsNothing, is_unbuilt, SpellsSetup, SpellsCommand}
-use Rattle.mld_model.specs.Answers.{Remembers, IsAddOf, IsRemoveOf, IsAnswered, Survives}
+use Rattle.mld_model.specs.Answers.{Remembers, IsAddOf, IsRemoveOf}
+use Rattle.mld_model.specs.Promises.{AnswersHold, LeavesDiffer, KeepsPromises}
 use Rattle.mld_model.specs.Runs.{Stage, Waiting, Running, Acts, Runs, IsBad, IsUnbuilt, Outcome, Verdict}
 
 -- a line is at most one of these: it says nothing, it isn't built yet, it is a domain line, it is a command
@@ -105,11 +106,12 @@ StepRemembers = (world : World) (number : ℕ) (operation : Operation) (command 
 
 -- in the world that a schedule reaches, each clone remembers the operation of each `add` and `remove` that was answered with a dot
 abbrev pub AnswersSurvive : Type 0
-AnswersSurvive = (lines : List (List ℕ)) (text : List ℕ) (world : World) (number : ℕ) (dot : Dot)
-    → Runs Waiting lines text (Running world) → (answered : IsAnswered lines number dot)
-    → Survives answered.before answered.command dot world number
+AnswersSurvive = (lines : List (List ℕ)) (text : List ℕ) (world : World) → Runs Waiting lines text (Running world) → AnswersHold lines world
 
 -- no two clones of a sound world hold one leaf
 abbrev pub OneLeaf : Type 0
-OneLeaf = (world : World) → IsSound world → (number other : ℕ) (stored kept : Stored) → number ≢ other
-    → Keeps (clone_at world number) stored → Keeps (clone_at world other) kept → stored.path ≢ kept.path
+OneLeaf = (world : World) → IsSound world → LeavesDiffer world
+
+-- the world that a schedule reaches keeps what is promised
+abbrev pub RunsKeepPromises : Type 0
+RunsKeepPromises = (lines : List (List ℕ)) (text : List ℕ) (world : World) → Runs Waiting lines text (Running world) → KeepsPromises lines world

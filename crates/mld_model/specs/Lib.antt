@@ -23,9 +23,11 @@ pub mod FoundedLaws
 pub mod Bytes
 pub mod TripleBytes
 pub mod Answers
+pub mod Promises
 pub mod Laws
 pub mod ScheduleLaws
 pub mod StepLaws
 pub mod RunsLaws
 pub mod StepSoundLaws
 pub mod AnswersLaws
+pub mod PromisesLaws

@@ -6,7 +6,7 @@ mod soundness;
 mod verdicts;
 
 use rdf_terms::Triple;
-pub use soundness::{answers_survive, sound_worlds};
+pub use soundness::{answers_survive, promises_kept, sound_worlds};
 pub use verdicts::{one_reading, one_step, one_verdict};
 
 /// A command of a schedule. The numbers of clones are 0 to 31, those of messages begin with 1.

@@ -1,6 +1,6 @@
 //! Every world that a schedule reaches is sound, and keeps what its clones answered. The functions have no code, and their
 //! contracts are the laws of such worlds.
-ghost use Rattle.mld_model.specs.Laws.{FoundedIsSound, StepIsSound, RunsAreSound, SamePairs, OneLeaf, AddRemembers, RemoveRemembers, StepRemembers, AnswersSurvive};
+ghost use Rattle.mld_model.specs.Laws.{FoundedIsSound, StepIsSound, RunsAreSound, SamePairs, OneLeaf, AddRemembers, RemoveRemembers, StepRemembers, AnswersSurvive, RunsKeepPromises};
 
 /// The founded world is sound, a step of a sound world by a command whose clones there are leads to a sound world, and so
 /// each world that a schedule reaches is sound. Clones that know the same dots have the same pairs. No two clones of a sound world hold one leaf.
@@ -25,4 +25,11 @@ pub fn answers_survive()
     ensures remove { RemoveRemembers }
     ensures kept { StepRemembers }
     ensures answered { AnswersSurvive }
+{}
+
+/// What is promised of the world that a schedule reaches: it is sound; its clones that know the same dots have the same pairs;
+/// the operation of each `add` and `remove` of its lines that was answered with a dot stands unchanged, and its clone knows
+/// it; no two clones hold one leaf.
+pub fn promises_kept()
+    ensures { RunsKeepPromises }
 {}

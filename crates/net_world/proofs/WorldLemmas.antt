@@ -279,12 +279,12 @@ module _ (running : RunningWorld) (message number : ℕ) (new : List RunningClon
       calm (answers.Got got.Ignored) tt told (unchanged running.clones new number at.before at.after at.changes at.answers.1)
       (λ world stands sound. deliver_ask_own running world stands sound message number id at.before is at.changes.was at.answers.0)
   ask_answered id (answers.Got (got.Answer more)) is at told =
-      let gives = at.answers in
-      let one : AreSent running.messages (kinds.JoinGive gives.1 ∷ []) sent before after =
-      subst (λ (messages : List Message). AreSent running.messages messages sent before after) gives.2 (loudly more told) in
-      telling running (Deliver message number) new sent before after (Answers ((length running.messages + 1) ∷ [])) number (states.Live at.after) (kinds.JoinGive gives.1)
+      let gives = at.answers.1 in
+      let one : AreSent running.messages (kinds.JoinGive gives.0 ∷ []) sent before after =
+      subst (λ (messages : List Message). AreSent running.messages messages sent before after) gives.1 (loudly more told) in
+      telling running (Deliver message number) new sent before after (Answers ((length running.messages + 1) ∷ [])) number (states.Live at.after) (kinds.JoinGive gives.0)
       at.changes.now one.0 one.1
-      (λ world stands sound. deliver_ask running world stands sound message number id at.before at.after gives.1 is at.changes.was gives.0 gives.3)
+      (λ world stands sound. deliver_ask running world stands sound message number id at.before at.after gives.0 is at.changes.was at.answers.0 gives.2)
   ask_answered id answers.Deep is at told =
       calm answers.Deep tt told (unchanged running.clones new number at.before at.after at.changes at.answers.1)
       (λ world stands sound. deliver_deep running world stands sound message number id at.before is at.changes.was at.answers.0.0 (omega (arith, at.answers.0.1)))
