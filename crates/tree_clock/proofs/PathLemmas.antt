@@ -11,10 +11,10 @@ use Rattle.std.proofs.lemmas.List.Elements.{All-push, All-nil}
 use Rattle.std.proofs.lemmas.Nat.{shr_below, and_mask}
 use Rattle.std.proofs.Math.Nat.{div-div-eq-div-mul, pow-succ'}
 use Rattle.tree_clock.specs.Letters.{IsLetter, number_of, length-letters, number_of-letters}
-use Rattle.tree_clock.specs.Path.{letters}
+use Rattle.tree_clock.specs.Path.{letters, zero_letter, one_letter}
 
 -- the code of a bit is a letter
-IsLetter-bit : (bit : ℕ) → bit < 2 → IsLetter (48 + bit)
+IsLetter-bit : (bit : ℕ) → bit < 2 → IsLetter (zero_letter + bit)
 IsLetter-bit zero h = inl refl
 IsLetter-bit (suc zero) h = inr refl
 IsLetter-bit (suc (suc bit)) h = absurd (omega arith)
@@ -23,7 +23,7 @@ IsLetter-bit (suc (suc bit)) h = absurd (omega arith)
 pub All-letters : (n bits : ℕ) → All IsLetter (letters n bits)
 All-letters zero bits = All-nil IsLetter
 All-letters (suc n) bits =
-    All-push IsLetter (letters n (bits / 2)) (48 + bits % 2) (All-letters n (bits / 2)) (IsLetter-bit (bits % 2) (omega arith))
+    All-push IsLetter (letters n (bits / 2)) (zero_letter + bits % 2) (All-letters n (bits / 2)) (IsLetter-bit (bits % 2) (omega arith))
 
 -- the letters of the higher bits come first
 pub letters-append : (n k bits : ℕ) → letters (n + k) bits ≡ letters n (bits / 2 ^ k) ++ letters k bits
@@ -35,8 +35,8 @@ letters-append n (suc k) bits =
     let e : n + suc k ≡ suc (n + k) = omega arith in
     let f : bits / 2 / 2 ^ k ≡ bits / 2 ^ suc k = div-div-eq-div-mul bits 2 (2 ^ k) ∙ ap (λ m. bits / m) (sym (pow-succ' 2 k)) in
     ap (λ m. letters m bits) e
-    ∙ ap (λ xs. xs ++ (48 + bits % 2) ∷ []) (letters-append n k (bits / 2) ∙ ap (λ b. letters n b ++ letters k (bits / 2)) f)
-    ∙ append_assoc (letters n (bits / 2 ^ suc k)) (letters k (bits / 2)) ((48 + bits % 2) ∷ [])
+    ∙ ap (λ xs. xs ++ (zero_letter + bits % 2) ∷ []) (letters-append n k (bits / 2) ∙ ap (λ b. letters n b ++ letters k (bits / 2)) f)
+    ∙ append_assoc (letters n (bits / 2 ^ suc k)) (letters k (bits / 2)) ((zero_letter + bits % 2) ∷ [])
 
 -- the first letters are those of the higher bits
 pub letters-take : (n len bits : ℕ) → n ≤ len → letters n (bits / 2 ^ (len - n)) ≡ take n (letters len bits)
@@ -52,7 +52,7 @@ front_below n len bits h b =
     shr_below bits n (len - n) (subst (λ m. bits < 2 ^ m) e b)
 
 -- the last letter of a front
-pub letter_at : (xs : List ℕ) (i len bits : ℕ) → i < len → letters len bits ≡ xs → get_or xs i 0 ≡ if nat_eq (bit_and (bits / 2 ^ (len - 1 - i)) 1) 1 then 49 else 48
+pub letter_at : (xs : List ℕ) (i len bits : ℕ) → i < len → letters len bits ≡ xs → get_or xs i 0 ≡ if nat_eq (bit_and (bits / 2 ^ (len - 1 - i)) 1) 1 then one_letter else zero_letter
 letter_at xs i len bits h e =
     let s : i + 1 ≡ suc i = omega arith in
     let t : len - suc i ≡ len - 1 - i = omega arith in
@@ -60,7 +60,7 @@ letter_at xs i len bits h e =
     let long : length xs ≡ len = ap length (sym e) ∙ length-letters len bits in
     let f : letters (suc i) b ≡ take (i + 1) xs = ap (λ m. letters (suc i) (bits / 2 ^ m)) (sym t) ∙ letters-take (suc i) len bits (omega arith) ∙ ap (λ m. take m (letters len bits)) (sym s) ∙ ap (take (i + 1)) e in
     let odd : bit_and b 1 ≡ b % 2 = and_mask b 1 in
-    let g = (same_from_push (letters i (b / 2)) (take i xs) (48 + b % 2) (get_or xs i 0) (f ∙ take_more xs i 0 (omega arith))).1 in
+    let g = (same_from_push (letters i (b / 2)) (take i xs) (zero_letter + b % 2) (get_or xs i 0) (f ∙ take_more xs i 0 (omega arith))).1 in
     grind (arith, nat_tests)
 
 -- an equal second part changes nothing
@@ -85,7 +85,7 @@ slice_cmp-push (a ∷ xs) (b ∷ ys) x y e =
     ∙ then-assoc (nat_cmp a b) (slice_cmp nat_cmp xs ys) (nat_cmp x y)
 
 -- numbers are in the order of their halves, and else of their last bits
-nat_cmp-halves : (a b : ℕ) → ordering_then (nat_cmp (a / 2) (b / 2)) (nat_cmp (48 + a % 2) (48 + b % 2)) ≡ nat_cmp a b
+nat_cmp-halves : (a b : ℕ) → ordering_then (nat_cmp (a / 2) (b / 2)) (nat_cmp (zero_letter + a % 2) (zero_letter + b % 2)) ≡ nat_cmp a b
 nat_cmp-halves a b = grind (arith, nat_tests)
 
 -- one more on both sides
@@ -98,8 +98,8 @@ letters-cmp zero a b h k = let e : a ≡ 0 = omega arith in let f : b ≡ 0 = om
 letters-cmp (suc n) a b h k =
     let h' : a / 2 < 2 ^ n = omega arith in
     let k' : b / 2 < 2 ^ n = omega arith in
-    slice_cmp-push (letters n (a / 2)) (letters n (b / 2)) (48 + a % 2) (48 + b % 2) (length-letters n (a / 2) ∙ sym (length-letters n (b / 2)))
-    ∙ ap (λ o. ordering_then o (nat_cmp (48 + a % 2) (48 + b % 2))) (letters-cmp n (a / 2) (b / 2) h' k')
+    slice_cmp-push (letters n (a / 2)) (letters n (b / 2)) (zero_letter + a % 2) (zero_letter + b % 2) (length-letters n (a / 2) ∙ sym (length-letters n (b / 2)))
+    ∙ ap (λ o. ordering_then o (nat_cmp (zero_letter + a % 2) (zero_letter + b % 2))) (letters-cmp n (a / 2) (b / 2) h' k')
     ∙ nat_cmp-halves a b
 
 -- lists are in the order of their fronts of one length, and else of their lengths

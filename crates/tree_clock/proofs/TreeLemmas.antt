@@ -9,7 +9,7 @@ use Rattle.std.proofs.lemmas.List.{drop_more, append-nil}
 use Rattle.tree_clock.specs.Clock.{ticks_of, entry_cmp, IsClock}
 use Rattle.tree_clock.specs.ClockLaws.{ticks_of-tail, clock_from_ticks}
 use Rattle.tree_clock.specs.Lists.{Has, IsBelowAll, IsAscending}
-use Rattle.tree_clock.specs.Path.{path_cmp}
+use Rattle.tree_clock.specs.Path.{path_cmp, zero_letter, one_letter}
 use Rattle.tree_clock.specs.declared.trees.Tree.{Tree, Leaf, Fork'}
 use Rattle.tree_clock.specs.Trees.{by_letter, node_at, HasNode, ticks_at, under, entry_of, listed, after, nodes, IsKept, Grows, HasNodesOf, RaisesNode}
 
@@ -20,7 +20,7 @@ pub drop_letter : (path : List ℕ) (i letter : ℕ) → i < length path → sli
 drop_letter path i letter h e = drop_more path i 0 h ∙ ap (λ x. x ∷ drop (i + 1) path) e
 
 -- what holds of the root, of paths below both letters, and where another letter leads, holds of each path
-pub at_letters : (P : List ℕ → Type 0) → P [] → ((path : List ℕ) → P (48 ∷ path)) → ((path : List ℕ) → P (49 ∷ path)) → ((letter : ℕ) (path : List ℕ) → letter ≢ 48 → letter ≢ 49 → P (letter ∷ path)) → (path : List ℕ) → P path
+pub at_letters : (P : List ℕ → Type 0) → P [] → ((path : List ℕ) → P (zero_letter ∷ path)) → ((path : List ℕ) → P (one_letter ∷ path)) → ((letter : ℕ) (path : List ℕ) → letter ≢ zero_letter → letter ≢ one_letter → P (letter ∷ path)) → (path : List ℕ) → P path
 at_letters P root low high other [] = root
 at_letters P root low high other (letter ∷ path) =
     ⊎_elim
@@ -28,34 +28,34 @@ at_letters P root low high other (letter ∷ path) =
     (λ n. ⊎_elim
     (λ e. subst (λ x. P (x ∷ path)) (sym e) (high path))
     (λ m. other letter path n m)
-    (cases_eq letter 49))
-    (cases_eq letter 48)
+    (cases_eq letter one_letter))
+    (cases_eq letter zero_letter)
 
 -- another letter picks nothing
-pub by_letter-none : {A : Type 0} (letter : ℕ) (left right none : A) → letter ≢ 48 → letter ≢ 49 → by_letter letter left right none ≡ none
-by_letter-none letter left right none n m = rw (ne_eqb letter 48 n, ne_eqb letter 49 m) refl
+pub by_letter-none : {A : Type 0} (letter : ℕ) (left right none : A) → letter ≢ zero_letter → letter ≢ one_letter → by_letter letter left right none ≡ none
+by_letter-none letter left right none n m = rw (ne_eqb letter zero_letter n, ne_eqb letter one_letter m) refl
 
 -- ---- a raise of a node of one son
 
-pub RaisesNode-zero : (n : ℕ) {p q p' q' : _} (left right left' : Tree) (path : List ℕ) (ticks : ℕ) → RaisesNode left left' path ticks → RaisesNode (Fork' n p left q right) (Fork' n p' left' q' right) (48 ∷ path) ticks
+pub RaisesNode-zero : (n : ℕ) {p q p' q' : _} (left right left' : Tree) (path : List ℕ) (ticks : ℕ) → RaisesNode left left' path ticks → RaisesNode (Fork' n p left q right) (Fork' n p' left' q' right) (zero_letter ∷ path) ticks
 RaisesNode-zero n {p} {q} {p'} {q'} left right left' path ticks h = record {
   at = h.at;
   others = at_letters
-      (λ other. ¬ (other ≡ 48 ∷ path) → node_at (Fork' n p' left' q' right) other ≡ node_at (Fork' n p left q right) other)
+      (λ other. ¬ (other ≡ zero_letter ∷ path) → node_at (Fork' n p' left' q' right) other ≡ node_at (Fork' n p left q right) other)
       (λ m. refl)
-      (λ rest m. h.others rest (λ e. m (ap (λ xs. 48 ∷ xs) e)))
+      (λ rest m. h.others rest (λ e. m (ap (λ xs. zero_letter ∷ xs) e)))
       (λ rest m. refl)
       (λ x rest a b m. by_letter-none x (node_at left' rest) (node_at right rest) None a b ∙ sym (by_letter-none x (node_at left rest) (node_at right rest) None a b));
 }
 
-pub RaisesNode-one : (n : ℕ) {p q p' q' : _} (left right right' : Tree) (path : List ℕ) (ticks : ℕ) → RaisesNode right right' path ticks → RaisesNode (Fork' n p left q right) (Fork' n p' left q' right') (49 ∷ path) ticks
+pub RaisesNode-one : (n : ℕ) {p q p' q' : _} (left right right' : Tree) (path : List ℕ) (ticks : ℕ) → RaisesNode right right' path ticks → RaisesNode (Fork' n p left q right) (Fork' n p' left q' right') (one_letter ∷ path) ticks
 RaisesNode-one n {p} {q} {p'} {q'} left right right' path ticks h = record {
   at = h.at;
   others = at_letters
-      (λ other. ¬ (other ≡ 49 ∷ path) → node_at (Fork' n p' left q' right') other ≡ node_at (Fork' n p left q right) other)
+      (λ other. ¬ (other ≡ one_letter ∷ path) → node_at (Fork' n p' left q' right') other ≡ node_at (Fork' n p left q right) other)
       (λ m. refl)
       (λ rest m. refl)
-      (λ rest m. h.others rest (λ e. m (ap (λ xs. 49 ∷ xs) e)))
+      (λ rest m. h.others rest (λ e. m (ap (λ xs. one_letter ∷ xs) e)))
       (λ x rest a b m. by_letter-none x (node_at left rest) (node_at right' rest) None a b ∙ sym (by_letter-none x (node_at left rest) (node_at right rest) None a b));
 }
 
@@ -118,11 +118,11 @@ under-entry path ticks = by (ticks == 0)
     by false = λ i. (append-nil path i, ticks) ∷ []
 
 -- the entries below a path: that of the path itself, and those below its sons
-pub under-sons : (path : List ℕ) (n : ℕ) (left right : List (List ℕ × ℕ)) → under path (entry_of [] n ++ (under (48 ∷ []) left ++ under (49 ∷ []) right)) ≡ entry_of path n ++ (under (path ++ 48 ∷ []) left ++ under (path ++ 49 ∷ []) right)
+pub under-sons : (path : List ℕ) (n : ℕ) (left right : List (List ℕ × ℕ)) → under path (entry_of [] n ++ (under (zero_letter ∷ []) left ++ under (one_letter ∷ []) right)) ≡ entry_of path n ++ (under (path ++ zero_letter ∷ []) left ++ under (path ++ one_letter ∷ []) right)
 under-sons path n left right =
-    under-append path (entry_of [] n) (under (48 ∷ []) left ++ under (49 ∷ []) right)
-    ∙ (λ i. under-entry path n i ++ under-append path (under (48 ∷ []) left) (under (49 ∷ []) right) i)
-    ∙ (λ i. entry_of path n ++ (under-under path (48 ∷ []) left i ++ under-under path (49 ∷ []) right i))
+    under-append path (entry_of [] n) (under (zero_letter ∷ []) left ++ under (one_letter ∷ []) right)
+    ∙ (λ i. under-entry path n i ++ under-append path (under (zero_letter ∷ []) left) (under (one_letter ∷ []) right) i)
+    ∙ (λ i. entry_of path n ++ (under-under path (zero_letter ∷ []) left i ++ under-under path (one_letter ∷ []) right i))
 
 -- ---- the list of a tree's ticks
 
@@ -182,29 +182,29 @@ pub ticks_of-listed : (tree : Tree) (path : List ℕ) → ticks_of (listed tree)
 ticks_of-listed (Leaf ticks) [] = sym (ap (λ es. ticks_of es []) (append-nil (entry_of [] ticks))) ∙ ticks_of-entry ticks [] refl
 ticks_of-listed (Leaf ticks) (letter ∷ path) = ticks_of-none (entry_of [] ticks) (letter ∷ path) (entry-not_other ticks letter path)
 ticks_of-listed (Fork' ticks p left q right) [] =
-    let l = under (48 ∷ []) (listed left) in
-    let r = under (49 ∷ []) (listed right) in
-    ticks_of-entry ticks (l ++ r) (ticks_of-no_front l r [] (under-not_root 48 (listed left)) ∙ ticks_of-none r [] (under-not_root 49 (listed right)))
+    let l = under (zero_letter ∷ []) (listed left) in
+    let r = under (one_letter ∷ []) (listed right) in
+    ticks_of-entry ticks (l ++ r) (ticks_of-no_front l r [] (under-not_root zero_letter (listed left)) ∙ ticks_of-none r [] (under-not_root one_letter (listed right)))
 ticks_of-listed (Fork' ticks p left q right) (letter ∷ path) =
-    let l = under (48 ∷ []) (listed left) in
-    let r = under (49 ∷ []) (listed right) in
+    let l = under (zero_letter ∷ []) (listed left) in
+    let r = under (one_letter ∷ []) (listed right) in
     ticks_of-no_front (entry_of [] ticks) (l ++ r) (letter ∷ path) (entry-not_other ticks letter path)
     ∙ ⊎_elim
-    (λ (e : letter ≡ 48).
+    (λ (e : letter ≡ zero_letter).
     subst (λ x. ticks_of (l ++ r) (x ∷ path) ≡ ticks_at (Fork' ticks p left q right) (x ∷ path)) (sym e)
-    (ticks_of-no_back l r (48 ∷ path) (ticks_of-none r (48 ∷ path) (under-not_letter 49 48 path (λ s. absurd (omega (arith, s))) (listed right)))
-    ∙ ticks_of-under_letter 48 path (listed left) ∙ ticks_of-listed left path))
-    (λ (n : letter ≢ 48).
-    ticks_of-no_front l r (letter ∷ path) (under-not_letter 48 letter path (λ s. n (sym s)) (listed left))
+    (ticks_of-no_back l r (zero_letter ∷ path) (ticks_of-none r (zero_letter ∷ path) (under-not_letter one_letter zero_letter path (λ s. absurd (omega (arith, s))) (listed right)))
+    ∙ ticks_of-under_letter zero_letter path (listed left) ∙ ticks_of-listed left path))
+    (λ (n : letter ≢ zero_letter).
+    ticks_of-no_front l r (letter ∷ path) (under-not_letter zero_letter letter path (λ s. n (sym s)) (listed left))
     ∙ ⊎_elim
-    (λ (e : letter ≡ 49).
+    (λ (e : letter ≡ one_letter).
     subst (λ x. ticks_of r (x ∷ path) ≡ ticks_at (Fork' ticks p left q right) (x ∷ path)) (sym e)
-    (ticks_of-under_letter 49 path (listed right) ∙ ticks_of-listed right path))
-    (λ (m : letter ≢ 49).
-    ticks_of-none r (letter ∷ path) (under-not_letter 49 letter path (λ s. m (sym s)) (listed right))
+    (ticks_of-under_letter one_letter path (listed right) ∙ ticks_of-listed right path))
+    (λ (m : letter ≢ one_letter).
+    ticks_of-none r (letter ∷ path) (under-not_letter one_letter letter path (λ s. m (sym s)) (listed right))
     ∙ sym (ap (λ o. unwrap_or o 0) (by_letter-none letter (node_at left path) (node_at right path) None n m)))
-    (cases_eq letter 49))
-    (cases_eq letter 48)
+    (cases_eq letter one_letter))
+    (cases_eq letter zero_letter)
 
 -- ---- the list is a clock
 
@@ -229,11 +229,11 @@ IsAscending-append [] ys h k b = k
 IsAscending-append (x ∷ xs) ys h k b = (IsBelowAll-append x xs ys h.0 b.0, IsAscending-append xs ys h.1 k b.1)
 
 -- a path at `0` is below each path at `1`
-zero_below : (a : List ℕ) (n : ℕ) (es : List (List ℕ × ℕ)) → IsBelowAll entry_cmp (48 ∷ a, n) (under (49 ∷ []) es)
+zero_below : (a : List ℕ) (n : ℕ) (es : List (List ℕ × ℕ)) → IsBelowAll entry_cmp (zero_letter ∷ a, n) (under (one_letter ∷ []) es)
 zero_below a n [] = tt
 zero_below a n (e ∷ es) = (refl, zero_below a n es)
 
-zeros_below : (ds es : List (List ℕ × ℕ)) → AllByRecursion (λ x. IsBelowAll entry_cmp x (under (49 ∷ []) es)) (under (48 ∷ []) ds)
+zeros_below : (ds es : List (List ℕ × ℕ)) → AllByRecursion (λ x. IsBelowAll entry_cmp x (under (one_letter ∷ []) es)) (under (zero_letter ∷ []) ds)
 zeros_below [] es = tt
 zeros_below (d ∷ ds) es = (zero_below d.0 d.1 es, zeros_below ds es)
 
@@ -251,11 +251,11 @@ entry_below n es h = entry_cases (λ ds. AllByRecursion (λ x. IsBelowAll entry_
 IsAscending-listed : (tree : Tree) → IsAscending entry_cmp (listed tree)
 IsAscending-listed (Leaf ticks) = IsAscending-entry ticks
 IsAscending-listed (Fork' ticks p left q right) =
-    let l = under (48 ∷ []) (listed left) in
-    let r = under (49 ∷ []) (listed right) in
-    let sons : IsAscending entry_cmp (l ++ r) = IsAscending-append l r (IsAscending-under 48 (listed left) (IsAscending-listed left)) (IsAscending-under 49 (listed right) (IsAscending-listed right)) (zeros_below (listed left) (listed right)) in
+    let l = under (zero_letter ∷ []) (listed left) in
+    let r = under (one_letter ∷ []) (listed right) in
+    let sons : IsAscending entry_cmp (l ++ r) = IsAscending-append l r (IsAscending-under zero_letter (listed left) (IsAscending-listed left)) (IsAscending-under one_letter (listed right) (IsAscending-listed right)) (zeros_below (listed left) (listed right)) in
     IsAscending-append (entry_of [] ticks) (l ++ r) (IsAscending-entry ticks) sons
-    (entry_below ticks (l ++ r) (IsBelowAll-append ([], ticks) l r (root_below ticks 48 (listed left)) (root_below ticks 49 (listed right))))
+    (entry_below ticks (l ++ r) (IsBelowAll-append ([], ticks) l r (root_below ticks zero_letter (listed left)) (root_below ticks one_letter (listed right))))
 
 abbrev HasTick : List ℕ × ℕ → Type 0
 HasTick entry = 1 ≤ entry.1
@@ -274,8 +274,8 @@ positive-entry n = entry_cases (λ es. AllByRecursion HasTick es) n tt (λ h. (h
 positive-listed : (tree : Tree) → AllByRecursion HasTick (listed tree)
 positive-listed (Leaf ticks) = positive-entry ticks
 positive-listed (Fork' ticks p left q right) =
-    positive-append (entry_of [] ticks) (under (48 ∷ []) (listed left) ++ under (49 ∷ []) (listed right)) (positive-entry ticks)
-    (positive-append (under (48 ∷ []) (listed left)) (under (49 ∷ []) (listed right)) (positive-under (48 ∷ []) (listed left) (positive-listed left)) (positive-under (49 ∷ []) (listed right) (positive-listed right)))
+    positive-append (entry_of [] ticks) (under (zero_letter ∷ []) (listed left) ++ under (one_letter ∷ []) (listed right)) (positive-entry ticks)
+    (positive-append (under (zero_letter ∷ []) (listed left)) (under (one_letter ∷ []) (listed right)) (positive-under (zero_letter ∷ []) (listed left) (positive-listed left)) (positive-under (one_letter ∷ []) (listed right) (positive-listed right)))
 
 pub IsClock-listed : (tree : Tree) → IsClock (listed tree)
 IsClock-listed tree = record { ascending = IsAscending-listed tree; positive = positive-listed tree }
@@ -314,8 +314,8 @@ Has-nodes (Fork' ticks p left q right) path h =
     at_letters
     (λ path. HasNode (Fork' ticks p left q right) path → Has (nodes (Fork' ticks p left q right)) path)
     (λ h. inl refl)
-    (λ rest h. inr ((Has-append (after 48 (nodes left)) (after 49 (nodes right)) (48 ∷ rest)).1 (inl (Has-after 48 (nodes left) rest (Has-nodes left rest h)))))
-    (λ rest h. inr ((Has-append (after 48 (nodes left)) (after 49 (nodes right)) (49 ∷ rest)).1 (inr (Has-after 49 (nodes right) rest (Has-nodes right rest h)))))
+    (λ rest h. inr ((Has-append (after zero_letter (nodes left)) (after one_letter (nodes right)) (zero_letter ∷ rest)).1 (inl (Has-after zero_letter (nodes left) rest (Has-nodes left rest h)))))
+    (λ rest h. inr ((Has-append (after zero_letter (nodes left)) (after one_letter (nodes right)) (one_letter ∷ rest)).1 (inr (Has-after one_letter (nodes right) rest (Has-nodes right rest h)))))
     (λ letter rest a b h. absurd (false≢true (subst (λ (o : Option ℕ). IsSome o) (by_letter-none letter (node_at left rest) (node_at right rest) None a b) h)))
     path h
 
@@ -327,11 +327,11 @@ HasNode-from_nodes (Leaf ticks) (letter ∷ path) (inr h) = absurd h
 HasNode-from_nodes (Fork' ticks p left q right) (letter ∷ path) (inl e) = cc
 HasNode-from_nodes (Fork' ticks p left q right) (letter ∷ path) (inr h) =
     ⊎_elim
-    (λ k. let from = Has-from_after 48 (nodes left) letter path k in
+    (λ k. let from = Has-from_after zero_letter (nodes left) letter path k in
     subst (λ x. HasNode (Fork' ticks p left q right) (x ∷ path)) from.0 (HasNode-from_nodes left path from.1))
-    (λ k. let from = Has-from_after 49 (nodes right) letter path k in
+    (λ k. let from = Has-from_after one_letter (nodes right) letter path k in
     subst (λ x. HasNode (Fork' ticks p left q right) (x ∷ path)) from.0 (HasNode-from_nodes right path from.1))
-    ((Has-append (after 48 (nodes left)) (after 49 (nodes right)) (letter ∷ path)).0 h)
+    ((Has-append (after zero_letter (nodes left)) (after one_letter (nodes right)) (letter ∷ path)).0 h)
 
 -- a path with ticks has a node
 pub HasNode-from_ticks : (tree : Tree) (path : List ℕ) → 1 ≤ ticks_at tree path → HasNode tree path

@@ -1,5 +1,5 @@
 -- Dots and ranges of dots: a path with a tick, and a path with the ticks from a first to a last.
-use Rattle.std.specs.Prelude.{◌≡◌, ℕ, ◌≤◌, List, [], ◌∷◌, ◌++◌, ◌⊎◌}
+use Rattle.std.specs.Prelude.{◌≡◌, ℕ, ◌≤◌, List, [], ◌∷◌, ◌++◌, ◌⊎◌, codes}
 use Rattle.std.specs.Fmt.{decimal}
 use Rattle.std.specs.Ordering.{nat_cmp, ordering_then}
 use Rattle.std.specs.declared.cmp.Ordering.{Ordering}
@@ -9,11 +9,11 @@ use Rattle.tree_clock.specs.Path.{path_text, path_cmp}
 
 -- the text of a dot, as `r01.3`
 abbrev pub dot_text : Dot → List ℕ
-dot_text dot = path_text dot.path ++ 46 ∷ decimal dot.tick
+dot_text dot = path_text dot.path ++ (codes "." ++ decimal dot.tick)
 
 -- the text of a range, as `r01.1-3`
 abbrev pub range_text : Range → List ℕ
-range_text range = path_text range.path ++ 46 ∷ decimal range.first ++ 45 ∷ decimal range.last
+range_text range = path_text range.path ++ (codes "." ++ decimal range.first) ++ (codes "-" ++ decimal range.last)
 
 -- dots are ordered by path, then by tick
 abbrev pub dot_cmp : Dot → Dot → Ordering

@@ -1,18 +1,26 @@
 -- Paths: the leaves of a binary tree that forks (interval tree clocks, Almeida, Baquero and Fonte 2008).
--- A path is the list of its letters, 48 for `0` and 49 for `1`.
-use Rattle.std.specs.Prelude.{◌≡◌, ◌≢◌, ℕ, zero, suc, ◌+◌, ◌/◌, ◌%◌, List, [], ◌∷◌, ◌++◌}
+-- A path is the list of its letters, each the byte of `0` or of `1`.
+use Rattle.std.specs.Prelude.{◌≡◌, ◌≢◌, ℕ, zero, suc, ◌+◌, ◌/◌, ◌%◌, List, [], ◌∷◌, ◌++◌, codes}
 use Rattle.std.specs.Cmp.Lexicographic.{slice_cmp}
 use Rattle.std.specs.Ordering.{nat_cmp}
 use Rattle.std.specs.declared.cmp.Ordering.{Ordering}
 
+-- the letter `0`
+abbrev pub zero_letter : ℕ
+zero_letter = 48
+
+-- the letter `1`
+abbrev pub one_letter : ℕ
+one_letter = 49
+
 -- the letters that the lowest bits of a number spell, the highest of them first
 abbrev pub letters : ℕ → ℕ → List ℕ
 letters zero bits = []
-letters (suc n) bits = letters n (bits / 2) ++ (48 + bits % 2) ∷ []
+letters (suc n) bits = letters n (bits / 2) ++ (zero_letter + bits % 2) ∷ []
 
 -- the text of a path: `r` and its letters
 abbrev pub path_text : List ℕ → List ℕ
-path_text path = 114 ∷ path
+path_text path = codes "r" ++ path
 
 -- paths are ordered by their text
 abbrev pub path_cmp : List ℕ → List ℕ → Ordering

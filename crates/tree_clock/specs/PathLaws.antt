@@ -1,6 +1,6 @@
 -- What follows of prefixes, and of paths that are apart.
 use Rattle.std.proofs.Common.{◌≡◌, ◌≢◌, ℕ, List, [], ◌∷◌, ◌++◌, ◌⊎◌, length, length-append, refl, sym, ◌∙◌, ap, inl, inr, ⊎_elim, append_assoc, arith}
-use Rattle.tree_clock.specs.Path.{IsPrefix, AreApart}
+use Rattle.tree_clock.specs.Path.{IsPrefix, AreApart, zero_letter, one_letter}
 
 -- two fronts of one path: one of them is a prefix of the other
 pub one_of_fronts : (p q a b : List ℕ) → p ++ a ≡ q ++ b → IsPrefix p q ⊎ IsPrefix q p
@@ -31,10 +31,10 @@ apart_by_letter [] x y n a b e = let h : x ≡ y = cc in n h
 apart_by_letter (z ∷ p) x y n a b e = let h : p ++ x ∷ a ≡ p ++ y ∷ b = cc in apart_by_letter p x y n a b h
 
 -- the two sons of a fork are apart
-pub sons_apart : (p : List ℕ) → AreApart (p ++ 48 ∷ []) (p ++ 49 ∷ [])
+pub sons_apart : (p : List ℕ) → AreApart (p ++ zero_letter ∷ []) (p ++ one_letter ∷ [])
 sons_apart p = record {
-  not_below = λ k. apart_by_letter p 49 48 (λ e. let f : 49 ≡ 48 = e in absurd (omega arith)) [] k.0 (k.1 ∙ append_assoc p (48 ∷ []) k.0);
-  not_above = λ k. apart_by_letter p 48 49 (λ e. let f : 48 ≡ 49 = e in absurd (omega arith)) [] k.0 (k.1 ∙ append_assoc p (49 ∷ []) k.0);
+  not_below = λ k. apart_by_letter p one_letter zero_letter (λ e. let f : one_letter ≡ zero_letter = e in absurd (omega arith)) [] k.0 (k.1 ∙ append_assoc p (zero_letter ∷ []) k.0);
+  not_above = λ k. apart_by_letter p zero_letter one_letter (λ e. let f : zero_letter ≡ one_letter = e in absurd (omega arith)) [] k.0 (k.1 ∙ append_assoc p (one_letter ∷ []) k.0);
 }
 
 -- what is apart from a leaf is apart from a son of it

@@ -1,11 +1,12 @@
 -- Trees of ticks, as the functions on them see them. A node is named by the letters that lead down to it.
 -- A definition by cases reads `Fork'`, which has each `Box` in two parts: p and q are its pointer and allocator, and the son is beside them.
 use Rattle.std.specs.Prelude.{◌≡◌, ℕ, suc, ◌<◌, ◌≤◌, List, [], ◌∷◌, ◌++◌, Option, Some, None, IsSome, unwrap_or, ◌==◌, if◌then◌else◌, max}
+use Rattle.tree_clock.specs.Path.{zero_letter, one_letter}
 use Rattle.tree_clock.specs.declared.trees.Tree.{Tree, Leaf, Fork'}
 
 -- what a letter picks: one at `0`, another at `1`, and the last at any other
 abbrev pub by_letter : {A : Type 0} → ℕ → A → A → A → A
-by_letter letter left right none = if letter == 48 then left else (if letter == 49 then right else none)
+by_letter letter left right none = if letter == zero_letter then left else (if letter == one_letter then right else none)
 
 -- the ticks of the node at a path, if there is such a node
 abbrev pub node_at : Tree → List ℕ → Option ℕ
@@ -48,7 +49,7 @@ entry_of path ticks = if ticks == 0 then [] else (path, ticks) ∷ []
 -- the paths with their ticks, by path
 abbrev pub listed : Tree → List (List ℕ × ℕ)
 listed (Leaf ticks) = entry_of [] ticks
-listed (Fork' ticks p left q right) = entry_of [] ticks ++ (under (48 ∷ []) (listed left) ++ under (49 ∷ []) (listed right))
+listed (Fork' ticks p left q right) = entry_of [] ticks ++ (under (zero_letter ∷ []) (listed left) ++ under (one_letter ∷ []) (listed right))
 
 -- the paths, each below the letter
 abbrev pub after : ℕ → List (List ℕ) → List (List ℕ)
@@ -58,7 +59,7 @@ after letter (path ∷ paths) = (letter ∷ path) ∷ after letter paths
 -- the paths of the nodes
 abbrev pub nodes : Tree → List (List ℕ)
 nodes (Leaf ticks) = [] ∷ []
-nodes (Fork' ticks p left q right) = [] ∷ (after 48 (nodes left) ++ after 49 (nodes right))
+nodes (Fork' ticks p left q right) = [] ∷ (after zero_letter (nodes left) ++ after one_letter (nodes right))
 
 -- no path has more ticks in the first tree than in the second
 abbrev pub IsWithin : Tree → Tree → Type 0

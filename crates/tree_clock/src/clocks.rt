@@ -19,13 +19,14 @@ pub struct Clock {
 impl Model for Clock {
     ghost use Rattle.std.specs.Prelude.{◌≤◌};
     ghost use Rattle.tree_clock.specs.Clock.{ClockValue};
+    ghost use Rattle.tree_clock.specs.Limits.{path_limit};
     ghost use Rattle.tree_clock.specs.Trees.{listed, nodes, height};
 
     ghost Value = { ClockValue };
 
     ghost view = { λ clock. record { ticks = listed clock.root; room = nodes clock.root } };
 
-    ghost invariant = { λ clock. height clock.root ≤ 64 };
+    ghost invariant = { λ clock. height clock.root ≤ path_limit };
 }
 
 impl Clock {

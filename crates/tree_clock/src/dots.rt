@@ -3,7 +3,7 @@ use crate::paths::Path;
 use std::cmp::Ordering;
 use std::fmt;
 
-/// A dot: one tick of a path, from 1 to 4,294,967,295. Its text is the path's, a dot and the tick, as `r01.3`.
+/// A dot: one tick of a path, from 1 to `TICK_LIMIT`. Its text is the path's, a dot and the tick, as `r01.3`.
 #[derive(Clone, Copy, Debug, PartialEq, Eq)]
 pub struct Dot {
     /// The path.

@@ -4,6 +4,7 @@
 mod clocks;
 mod dots;
 mod leaves;
+mod limits;
 mod paths;
 #[cfg(test)]
 mod plain_list;
@@ -13,5 +14,6 @@ mod trees;
 pub use clocks::Clock;
 pub use dots::{Dot, Range};
 pub use leaves::{Deep, Leaf};
+pub use limits::{PATH_LIMIT, TICK_LIMIT};
 pub use paths::Path;
 pub use range_lists::{Ranges, knows};

@@ -6,13 +6,16 @@ ghost use Rattle.std.specs.Cmp.Lexicographic.{pointwise, slice_cmp, nat_list_eq_
 ghost use Rattle.std.specs.Cmp.Rules.{comparing};
 ghost use Rattle.std.specs.Ordering.{nat_cmp, as_partial_cmp};
 ghost use Rattle.tree_clock.specs.Letters.{IsLetter};
-ghost use Rattle.tree_clock.specs.Path.{letters, path_text};
+ghost use Rattle.tree_clock.specs.Limits.{path_limit};
+ghost use Rattle.tree_clock.specs.Path.{letters, path_text, zero_letter, one_letter};
 
+#[cfg(test)]
+use crate::limits::PATH_LIMIT;
 use std::cmp::Ordering;
 use std::fmt;
 use std::marker::Model;
 
-/// A path: at most 64 letters, each `0` or `1`. Contracts see the list of its letters, 48 and 49.
+/// A path: at most `PATH_LIMIT` letters, each `0` or `1`. Contracts see the list of its letters, `zero_letter` and `one_letter`.
 #[derive(Clone, Copy, Debug)]
 pub struct Path {
     bits: u64,
@@ -26,10 +29,11 @@ impl Model for Path {
 
     ghost use Rattle.tree_clock.specs.Path.{letters};
     ghost use Rattle.tree_clock.specs.Letters.{number_of, inside-letters};
+    ghost use Rattle.tree_clock.specs.Limits.{path_limit};
 
     ghost view = { λ p. letters p.len p.bits };
 
-    ghost invariant = { λ p. (p.len ≤ 64) × (p.bits < 2 ^ p.len) };
+    ghost invariant = { λ p. (p.len ≤ path_limit) × (p.bits < 2 ^ p.len) };
 
     ghost inverse = { λ path. record { bits = number_of path; len = length path } };
 
@@ -47,7 +51,7 @@ impl Path {
     /// The number of letters.
     pub fn len(&self) -> u8
         ensures value { result ≡ length self.now }
-        ensures at_most_64 { result ≤ 64 }
+        ensures at_most { result ≤ path_limit }
         ensures letters { All IsLetter self.now }
     {
         self.len
@@ -63,15 +67,15 @@ impl Path {
     /// Whether the letter at a place, counted from 0 at the front, is `1`.
     pub fn letter(&self, i: u8) -> bool
         requires { i < length self.now }
-        ensures { slice_index self.now i ≡ (if result then 49 else 48) }
+        ensures { slice_index self.now i ≡ (if result then one_letter else zero_letter) }
     {
         self.bits >> (self.len - 1 - i) & 1 == 1
     }
 
     /// The path with one more letter, `1` or `0`.
     pub fn child(&self, one: bool) -> Path
-        requires { length self.now < 64 }
-        ensures { result ≡ self.now ++ (if one then 49 else 48) ∷ [] }
+        requires { length self.now < path_limit }
+        ensures { result ≡ self.now ++ (if one then one_letter else zero_letter) ∷ [] }
     {
         Path {
             bits: self.bits * 2 + u64::from(one),
@@ -158,7 +162,7 @@ mod tests {
     fn path(letters: &[u8]) -> Path {
         let mut path = Path::root();
         for letter in letters {
-            if path.len() < 64 {
+            if path.len() < PATH_LIMIT {
                 path = path.child(*letter == b'1');
             }
         }

@@ -1,6 +1,7 @@
 //! A clock as a plain list, by which the trees are judged.
 use crate::clocks::Clock;
 use crate::dots::Dot;
+use crate::limits::PATH_LIMIT;
 use crate::paths::Path;
 use std::alloc::{AllocError, Global};
 use std::test::Fail;
@@ -130,12 +131,12 @@ fn next(seed: u64) -> u64 {
         .wrapping_add(1442695040888963407)
 }
 
-// The path of the lowest bits, so many of them, but at most 64.
+// The path of the lowest bits, so many of them, but at most as many as a path may have.
 fn path_of_bits(bits: u64, len: u64) -> Path {
     let mut path = Path::root();
     let mut left = bits;
     for _ in 0..len {
-        if path.len() < 64 {
+        if path.len() < PATH_LIMIT {
             path = path.child(left % 2 == 1);
         }
         left /= 2;

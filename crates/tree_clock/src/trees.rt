@@ -1,5 +1,7 @@
 //! Trees of ticks: each node has the ticks of one path, and a node that forked has two sons.
 ghost use Rattle.std.specs.Prelude.{◌≡◌, ℕ, ◌+◌, ◌-◌, ◌≤◌, ◌++◌, ◌∷◌, [], List, drop, length, max, IfOk, OnOk, IsOk, MatchBool, if◌then◌else◌};
+ghost use Rattle.tree_clock.specs.Limits.{path_limit};
+ghost use Rattle.tree_clock.specs.Path.{zero_letter, one_letter};
 ghost use Rattle.tree_clock.specs.Trees.{ticks_at, HasNode, IsEmpty, HasSons, height, under, entry_of, listed, nodes, IsWithin, Exceeds, IsWithinBut, ExceedsBut, Grows, HasNodesOf, node_at, raised_node, RaisesNode};
 
 use crate::paths::Path;
@@ -28,7 +30,7 @@ impl Tree {
     // The son at a letter, or the empty tree where there is none.
     fn son<'a>(&'a self, one: bool, empty: &'a Tree) -> &'a Tree
         requires { IsEmpty empty.now }
-        ensures { (path : List ℕ) → ticks_at result.now path ≡ ticks_at self.now ((if one then 49 else 48) ∷ path) }
+        ensures { (path : List ℕ) → ticks_at result.now path ≡ ticks_at self.now ((if one then one_letter else zero_letter) ∷ path) }
     {
         match self {
             Tree::Leaf(_) => empty,
@@ -137,7 +139,7 @@ impl Tree {
         ensures grows { Grows self.old self.new }
         ensures ok { OnOk result (HasNode self.new (drop depth path.now)) }
         ensures succeeds { HasNode self.old (drop depth path.now) → IsOk result }
-        ensures height { height self.new ≤ max (height self.old) (64 - depth) }
+        ensures height { height self.new ≤ max (height self.old) (path_limit - depth) }
     {
         if depth == path.len() {
             return Ok(());
@@ -225,7 +227,7 @@ impl Tree {
 
     /// Adds the paths below the given one with their ticks at the end of a list, by path.
     pub fn append_to(&self, path: Path, list: &mut Vec<(Path, u32)>) -> Result<(), AllocError>
-        requires { length path + height self.now ≤ 64 }
+        requires { length path + height self.now ≤ path_limit }
         ensures { OnOk result (list.new.items ≡ list.old.items ++ under path (listed self.now)) }
     {
         push_entry(list, path, self.own())?;

@@ -1,5 +1,5 @@
 use Rattle.std.proofs.Common.{sym, subst}
-use Rattle.tree_clock.specs.Path.{AreApart}
+use Rattle.tree_clock.specs.Path.{AreApart, zero_letter, one_letter}
 use Rattle.tree_clock.specs.PathLaws.{apart_from_son}
 use Rattle.tree_clock.proofs.leaves.Leaf.fork.Goals as goal
 
@@ -7,6 +7,6 @@ pub returns-clause-keeps_apart : goal.returns-clause-keeps_apart
 returns-clause-keeps_apart c = λ other h.
     let path = c.self.inside.path in
     let parent = subst (λ p. AreApart p other) (sym c.self.view_is) h in (
-      subst (λ son. AreApart son other) (sym c.child.ensures) (apart_from_son path 48 other parent),
-      subst (λ son. AreApart son other) (sym c.child-2.ensures) (apart_from_son path 49 other parent),
+      subst (λ son. AreApart son other) (sym c.child.ensures) (apart_from_son path zero_letter other parent),
+      subst (λ son. AreApart son other) (sym c.child-2.ensures) (apart_from_son path one_letter other parent),
     )

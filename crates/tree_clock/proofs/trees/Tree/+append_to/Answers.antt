@@ -1,5 +1,6 @@
 use Rattle.std.proofs.Common.{◌≡◌, ◌∷◌, ◌++◌, [], append_assoc, sym, ◌∙◌, ap}
 use Rattle.std.proofs.lemmas.Result.{on_ok_weaker}
+use Rattle.tree_clock.specs.Path.{zero_letter, one_letter}
 use Rattle.tree_clock.specs.declared.trees.Tree.{Tree}
 use Rattle.tree_clock.specs.Trees.{ticks_at, under, entry_of, listed}
 use Rattle.tree_clock.proofs.TreeLemmas.{under-sons}
@@ -11,15 +12,15 @@ returns-in_ok-append_to-in-Fork t c =
     let old = c.args.list.now.items in
     let own : c.own.result ≡ c.in-Fork.field-0 = c.own.ensures ∙ ap (λ (tree : Tree). ticks_at tree []) c.in-Fork.is in
     let first : c.push_entry.new.list.items ≡ old ++ entry_of path c.in-Fork.field-0 = c.in_ok-push_entry.ensures ∙ ap (λ n. old ++ entry_of path n) own in
-    let left : under c.child.result (listed c.deref.result.now) ≡ under (path ++ 48 ∷ []) (listed c.in-Fork.zero.value) = λ i. under (c.child.ensures i) (listed (c.deref.ensures i)) in
-    let right : under c.child-in-Fork.result (listed c.deref-in-Fork.result.now) ≡ under (path ++ 49 ∷ []) (listed c.in-Fork.one.value) = λ i. under (c.child-in-Fork.ensures i) (listed (c.deref-in-Fork.ensures i)) in
-    let second : c.append_to.new.list.items ≡ (old ++ entry_of path c.in-Fork.field-0) ++ under (path ++ 48 ∷ []) (listed c.in-Fork.zero.value) = c.in_ok-append_to-in-Fork.ensures ∙ (λ i. first i ++ left i) in
+    let left : under c.child.result (listed c.deref.result.now) ≡ under (path ++ zero_letter ∷ []) (listed c.in-Fork.zero.value) = λ i. under (c.child.ensures i) (listed (c.deref.ensures i)) in
+    let right : under c.child-in-Fork.result (listed c.deref-in-Fork.result.now) ≡ under (path ++ one_letter ∷ []) (listed c.in-Fork.one.value) = λ i. under (c.child-in-Fork.ensures i) (listed (c.deref-in-Fork.ensures i)) in
+    let second : c.append_to.new.list.items ≡ (old ++ entry_of path c.in-Fork.field-0) ++ under (path ++ zero_letter ∷ []) (listed c.in-Fork.zero.value) = c.in_ok-append_to-in-Fork.ensures ∙ (λ i. first i ++ left i) in
     let before = c.append_to.new.list.items in
     let after = c.append_to-in-Fork.new.list.items in
     rw c.in-Fork.is (on_ok_weaker c.append_to-in-Fork.result (λ (last : after ≡ before ++ under c.child-in-Fork.result (listed c.deref-in-Fork.result.now)).
     last
     ∙ (λ i. second i ++ right i)
-    ∙ append_assoc (old ++ entry_of path c.in-Fork.field-0) (under (path ++ 48 ∷ []) (listed c.in-Fork.zero.value)) (under (path ++ 49 ∷ []) (listed c.in-Fork.one.value))
-    ∙ append_assoc old (entry_of path c.in-Fork.field-0) (under (path ++ 48 ∷ []) (listed c.in-Fork.zero.value) ++ under (path ++ 49 ∷ []) (listed c.in-Fork.one.value))
+    ∙ append_assoc (old ++ entry_of path c.in-Fork.field-0) (under (path ++ zero_letter ∷ []) (listed c.in-Fork.zero.value)) (under (path ++ one_letter ∷ []) (listed c.in-Fork.one.value))
+    ∙ append_assoc old (entry_of path c.in-Fork.field-0) (under (path ++ zero_letter ∷ []) (listed c.in-Fork.zero.value) ++ under (path ++ one_letter ∷ []) (listed c.in-Fork.one.value))
     ∙ sym (ap (λ es. old ++ es) (under-sons path c.in-Fork.field-0 (listed c.in-Fork.zero.value) (listed c.in-Fork.one.value))))
     c.append_to-in-Fork.ensures)
