@@ -3,6 +3,7 @@
 
 mod entries;
 mod laws;
+mod limits;
 #[cfg(test)]
 mod message_tests;
 mod messages;
@@ -14,6 +15,7 @@ mod tests;
 
 pub use entries::Entry;
 pub use laws::{meaning_of_taken, net_of_one, one_meaning};
+pub use limits::HELD_LIMIT;
 pub use messages::{Give, Message, Messages, Snapshot};
 pub use operations::{Operation, meaning};
 pub use pairs::{copy_pairs, has_pair, insert_pair, remove_pair, remove_pairs};
