@@ -9,7 +9,7 @@ use thiserror::Error;
 #[derive(Clone, Copy, Debug, PartialEq, Eq, Error)]
 pub enum HeldFault {
     /// As many entries are held as may be.
-    #[error("4,096 entries are held")]
+    #[error("too many entries are held")]
     Full,
     /// Memory ran out.
     #[error("out of memory")]

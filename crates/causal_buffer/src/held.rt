@@ -11,13 +11,10 @@ ghost use Rattle.mld_ops.specs.Ready.{IsKnownEntry, IsReadyEntry};
 
 use crate::faults::HeldFault;
 use crate::ready::{is_known, is_ready};
-use mld_ops::Entry;
+use mld_ops::{Entry, HELD_LIMIT};
 use std::alloc::{AllocError, Global};
 use std::marker::Model;
 use tree_clock::{Clock, Range, Ranges};
-
-/// The most entries that are held.
-pub const HELD_LIMIT: usize = 4_096;
 
 /// What became of an entry that was to be held.
 #[derive(Clone, Copy, Debug, PartialEq, Eq)]

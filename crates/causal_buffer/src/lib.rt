@@ -8,5 +8,5 @@ mod ready;
 mod tests;
 
 pub use faults::HeldFault;
-pub use held::{HELD_LIMIT, Held, Kept};
+pub use held::{Held, Kept};
 pub use ready::{is_known, is_ready};

@@ -1,5 +1,5 @@
-use crate::{HELD_LIMIT, Held, HeldFault, Kept, is_known, is_ready};
-use mld_ops::Entry;
+use crate::{Held, HeldFault, Kept, is_known, is_ready};
+use mld_ops::{Entry, HELD_LIMIT};
 use std::alloc::{AllocError, Global};
 use std::test::Fail;
 use tree_clock::{Clock, Dot, Path, Range};
