@@ -6,10 +6,10 @@ use Rattle.std.proofs.lemmas.List.{get_or_past}
 use Rattle.std.proofs.lemmas.List.FromFn.{get_or-map-range_with_len, length-map-range_with_len}
 use Rattle.tree_clock.specs.declared.dots.Range.{Range}
 use Rattle.tree_clock.specs.Lists.{Has}
-use Rattle.tree_clock.specs.Path.{IsPrefix, AreApart}
+use Rattle.tree_clock.specs.Path.{IsPrefix, AreApart, zero_letter, one_letter}
 use Rattle.tree_clock.specs.PathLaws.{apart_symmetric}
 use Rattle.mld_model.specs.Clone.{Clone, Absent, Live, Stored}
-use Rattle.mld_model.specs.World.{clone_at, founded, founded_path, founded_clone}
+use Rattle.mld_model.specs.World.{clone_at, founded, founded_path, founded_clone, clone_count}
 use Rattle.mld_model.specs.Sound.{Keeps, IsSoundClone, IsOpenGive, IsSound}
 
 tails : (x : ℕ) (xs ys : List ℕ) → x ∷ xs ≡ x ∷ ys → xs ≡ ys
@@ -18,37 +18,37 @@ tails x xs ys e = cc
 heads : (x y : ℕ) (xs ys : List ℕ) → x ∷ xs ≡ y ∷ ys → x ≡ y
 heads x y xs ys e = cc
 
-heads_differ : (xs ys : List ℕ) → ¬ (48 ∷ xs ≡ 49 ∷ ys)
-heads_differ xs ys e = let h : 48 ≡ 49 = heads 48 49 xs ys e in omega (arith, h)
+heads_differ : (xs ys : List ℕ) → ¬ (zero_letter ∷ xs ≡ one_letter ∷ ys)
+heads_differ xs ys e = let h : zero_letter ≡ one_letter = heads zero_letter one_letter xs ys e in omega (arith, h)
 
 -- a path that turns right before another does is no prefix of it
-turns_not_below : (turn : ℕ) (width : ℕ) (more : List ℕ) → turn < width → ¬ IsPrefix (replicate turn 48 ++ 49 ∷ []) (replicate width 48 ++ more)
+turns_not_below : (turn : ℕ) (width : ℕ) (more : List ℕ) → turn < width → ¬ IsPrefix (replicate turn zero_letter ++ one_letter ∷ []) (replicate width zero_letter ++ more)
 turns_not_below turn zero more h p = omega (arith, h)
-turns_not_below zero (suc width) more h p = heads_differ (replicate width 48 ++ more) p.0 p.1
-turns_not_below (suc turn) (suc width) more h p = turns_not_below turn width more (omega (arith, h)) (p.0, tails 48 (replicate width 48 ++ more) ((replicate turn 48 ++ 49 ∷ []) ++ p.0) p.1)
+turns_not_below zero (suc width) more h p = heads_differ (replicate width zero_letter ++ more) p.0 p.1
+turns_not_below (suc turn) (suc width) more h p = turns_not_below turn width more (omega (arith, h)) (p.0, tails zero_letter (replicate width zero_letter ++ more) ((replicate turn zero_letter ++ one_letter ∷ []) ++ p.0) p.1)
 
-turns_not_above : (turn : ℕ) (width : ℕ) (more : List ℕ) → turn < width → ¬ IsPrefix (replicate width 48 ++ more) (replicate turn 48 ++ 49 ∷ [])
+turns_not_above : (turn : ℕ) (width : ℕ) (more : List ℕ) → turn < width → ¬ IsPrefix (replicate width zero_letter ++ more) (replicate turn zero_letter ++ one_letter ∷ [])
 turns_not_above turn zero more h p = omega (arith, h)
-turns_not_above zero (suc width) more h p = heads_differ ((replicate width 48 ++ more) ++ p.0) [] (sym p.1)
-turns_not_above (suc turn) (suc width) more h p = turns_not_above turn width more (omega (arith, h)) (p.0, tails 48 (replicate turn 48 ++ 49 ∷ []) ((replicate width 48 ++ more) ++ p.0) p.1)
+turns_not_above zero (suc width) more h p = heads_differ ((replicate width zero_letter ++ more) ++ p.0) [] (sym p.1)
+turns_not_above (suc turn) (suc width) more h p = turns_not_above turn width more (omega (arith, h)) (p.0, tails zero_letter (replicate turn zero_letter ++ one_letter ∷ []) ((replicate width zero_letter ++ more) ++ p.0) p.1)
 
-turns_apart : (turn : ℕ) (width : ℕ) (more : List ℕ) → turn < width → AreApart (replicate turn 48 ++ 49 ∷ []) (replicate width 48 ++ more)
+turns_apart : (turn : ℕ) (width : ℕ) (more : List ℕ) → turn < width → AreApart (replicate turn zero_letter ++ one_letter ∷ []) (replicate width zero_letter ++ more)
 turns_apart turn width more h = record { not_below = turns_not_below turn width more h; not_above = turns_not_above turn width more h }
 
 -- the leaves of the founded world are apart
 founded_apart : (count one other : ℕ) → one < count → other < count → one ≢ other → AreApart (founded_path count one) (founded_path count other)
 founded_apart count zero zero h k differ = absurd (differ refl)
 founded_apart count zero (suc other) h k differ =
-    let P : List ℕ → Type 0 = λ p. AreApart (replicate other 48 ++ 49 ∷ []) p in
-    apart_symmetric _ _ (subst P (append-nil (replicate (count - 1) 48)) (turns_apart other (count - 1) [] (omega (arith, k))))
+    let P : List ℕ → Type 0 = λ p. AreApart (replicate other zero_letter ++ one_letter ∷ []) p in
+    apart_symmetric _ _ (subst P (append-nil (replicate (count - 1) zero_letter)) (turns_apart other (count - 1) [] (omega (arith, k))))
 founded_apart count (suc one) zero h k differ =
-    let P : List ℕ → Type 0 = λ p. AreApart (replicate one 48 ++ 49 ∷ []) p in
-    subst P (append-nil (replicate (count - 1) 48)) (turns_apart one (count - 1) [] (omega (arith, h)))
+    let P : List ℕ → Type 0 = λ p. AreApart (replicate one zero_letter ++ one_letter ∷ []) p in
+    subst P (append-nil (replicate (count - 1) zero_letter)) (turns_apart one (count - 1) [] (omega (arith, h)))
 founded_apart count (suc one) (suc other) h k differ = elim (cases_order one other) [
   | inl same ↦ absurd (differ (ap suc same))
   | inr unlike ↦ elim unlike [
-    | inl before ↦ turns_apart one other (49 ∷ []) before
-    | inr after ↦ apart_symmetric _ _ (turns_apart other one (49 ∷ []) after)
+    | inl before ↦ turns_apart one other (one_letter ∷ []) before
+    | inr after ↦ apart_symmetric _ _ (turns_apart other one (one_letter ∷ []) after)
   ]
 ]
 
@@ -66,11 +66,11 @@ founded_keeps count number stored keeps = elim (cases_Bool (ltb number count)) [
 
 founded_at : (domain : List ℕ) (count number : ℕ) (stored : Stored) → Keeps (clone_at (founded domain count) number) stored
     → (number < count) × (record { path = founded_path count number; base = []; journal = [] } ≡ stored)
-founded_at domain count number stored keeps = elim (cases_lt number 32) [
+founded_at domain count number stored keeps = elim (cases_lt number clone_count) [
   | inl inside ↦ let P : Clone → Type 0 = λ c. Keeps c stored in
-      founded_keeps count number stored (subst P (get_or-map-range_with_len (founded_clone count) 0 32 number number Absent inside (omega arith)) keeps)
+      founded_keeps count number stored (subst P (get_or-map-range_with_len (founded_clone count) 0 clone_count number number Absent inside (omega arith)) keeps)
   | inr past ↦ let P : Clone → Type 0 = λ c. Keeps c stored in
-      absurd (subst P (get_or_past (map (founded_clone count) (range_with_len 0 32)) number Absent (omega (arith, past, length-map-range_with_len (founded_clone count) 0 32))) keeps)
+      absurd (subst P (get_or_past (map (founded_clone count) (range_with_len 0 clone_count)) number Absent (omega (arith, past, length-map-range_with_len (founded_clone count) 0 clone_count))) keeps)
 ]
 
 -- a clone that is live holds nothing back
@@ -83,12 +83,12 @@ holds_nothing clone stored held nothing is = subst HoldsNothing is nothing
 
 -- and so it is with each clone of the founded world
 founded_holds : (domain : List ℕ) (count number : ℕ) → HoldsNothing (clone_at (founded domain count) number)
-founded_holds domain count number = elim (cases_lt number 32) [
-  | inl inside ↦ subst HoldsNothing (sym (get_or-map-range_with_len (founded_clone count) 0 32 number number Absent inside (omega arith))) (elim (cases_Bool (ltb number count)) [
+founded_holds domain count number = elim (cases_lt number clone_count) [
+  | inl inside ↦ subst HoldsNothing (sym (get_or-map-range_with_len (founded_clone count) 0 clone_count number number Absent inside (omega arith))) (elim (cases_Bool (ltb number count)) [
     | inl below ↦ rw below refl
     | inr above ↦ rw above tt
   ])
-  | inr past ↦ subst HoldsNothing (sym (get_or_past (map (founded_clone count) (range_with_len 0 32)) number Absent (omega (arith, past, length-map-range_with_len (founded_clone count) 0 32)))) tt
+  | inr past ↦ subst HoldsNothing (sym (get_or_past (map (founded_clone count) (range_with_len 0 clone_count)) number Absent (omega (arith, past, length-map-range_with_len (founded_clone count) 0 clone_count)))) tt
 ]
 
 -- no message was sent in the founded world, so no leaf is given and open
@@ -99,7 +99,7 @@ founded_gives_none domain count place id path dots opened = cc (opened.sent)
 pub founded_sound : (domain : List ℕ) (count : ℕ) → IsSound (founded domain count)
 founded_sound domain count = record {
   lawful = tt;
-  count = length-map-range_with_len (founded_clone count) 0 32;
+  count = length-map-range_with_len (founded_clone count) 0 clone_count;
   apart = λ one other first second differ one_keeps other_keeps.
       let a = founded_at domain count one first one_keeps in
       let b = founded_at domain count other second other_keeps in

@@ -2,6 +2,8 @@
 use Rattle.std.proofs.Common.{◌≡◌, ◌≢◌, ℕ, zero, suc, ◌+◌, ◌<◌, ◌≤◌, List, [], ◌∷◌, ◌++◌, ◌↔◌, inl, inr, refl, sym, ◌∙◌, ap, arith, subst, length, get_or, set, Some, append-nil}
 use Rattle.std.specs.Prelude.{slice_get}
 use Rattle.std.proofs.lemmas.List.{length-set, set-get_or}
+use Rattle.tree_clock.specs.Limits.{path_limit}
+use Rattle.tree_clock.specs.Path.{zero_letter, one_letter}
 use Rattle.tree_clock.specs.declared.dots.Dot.{Dot}
 use Rattle.tree_clock.specs.declared.dots.Range.{Range}
 use Rattle.tree_clock.specs.Lists.{Has}
@@ -19,7 +21,7 @@ use Rattle.mld_model.specs.declared.Command.TheVariants.{Deliver, Join}
 use Rattle.mld_model.specs.declared.CloneState.TheVariants as states
 use Rattle.mld_model.specs.Clone.{Clone, Absent, Asking, Live, Stored, known_of}
 use Rattle.mld_model.specs.World.{World, Message, RangeOf, JoinAsk, JoinGive, message_at, clone_at, clone_count, with_clone}
-use Rattle.mld_model.specs.Step.{Step, Joins, Takes, after_asking, after_fork, left_half, joined_with, path_limit}
+use Rattle.mld_model.specs.Step.{Step, Joins, Takes, after_asking, after_fork, left_half, joined_with}
 use Rattle.mld_model.specs.Reply.{Sent, Answer, Joined, Deep, Ignored, IsLive}
 use Rattle.mld_model.specs.Sound.{Keeps, IsSound}
 use Rattle.mld_model.specs.Local.{LocalAsker, LocalClone, LocallyForks, LocallyJoins}
@@ -168,10 +170,10 @@ deliver_deep running world stands sound message number id live told is differs d
 
 -- the leaf that a clone gives stands for the one that the model's clone gives
 give_stands : (world : World) (asked : ℕ) (id : List ℕ) (live new : LocalClone) (give : Give) (stored : Stored) (held : List Range) → LocallyForks live id new give
-    → id ≡ id_of asked → LocalStandsFor world.history live stored held → GiveStandsFor world.history give asked (stored.path ++ 49 ∷ []) (known_of stored)
+    → id ≡ id_of asked → LocalStandsFor world.history live stored held → GiveStandsFor world.history give asked (stored.path ++ one_letter ∷ []) (known_of stored)
 give_stands world asked id live new give stored held forks is stands = record {
   id = forks.asker ∙ is;
-  leaf = forks.right ∙ ap (λ path. path ++ 49 ∷ []) stands.path;
+  leaf = forks.right ∙ ap (λ path. path ++ one_letter ∷ []) stands.path;
   known = λ dot. subst (λ (ticks : List (List ℕ × ℕ)). Covers ticks dot ↔ Knows (known_of stored) dot) (sym forks.clock) (stands.known dot);
   pairs = subst (λ (pairs : List Tagged). IsMeaning world.history (known_of stored) pairs) (sym forks.pairs) stands.pairs;
 }
@@ -185,7 +187,7 @@ deliver_ask running world stands sound message number id live new give told is d
     let s : SentAsk world id message = sent_ask running world stands message id told in
     let at : LiveAt world number live = live_at running world stands number live is in
     let stored : Stored = kept_by live at.base at.journal in
-    let left : LocalClone = record live { path = live.path ++ 48 ∷ [] } in
+    let left : LocalClone = record live { path = live.path ++ zero_letter ∷ [] } in
     let now : CloneStandsFor world number (states.Live left) (Live (left_half stored) at.held) = (
       record { id = at.is.id; domain = at.is.domain; properties = at.is.properties },
       record {
@@ -202,7 +204,7 @@ deliver_ask running world stands sound message number id live new give told is d
     (JoinAsk s.number) (Live stored at.held) (Answer ((length running.messages + 1) ∷ [])) s.at at.live
     (inr (inr (others_ask world number s.number id live at.is s.is differs, forks.room, ap (λ n. Answer ((n + 1) ∷ [])) (sent_count running world stands), refl)))
     (forked_sound world number stored at.held s.number sound at.live (sound.messages (JoinAsk s.number) s.stands))
-    (telling_stands running world stands sound number (states.Live new) (Live (left_half stored) at.held) (sent.JoinGive give) (JoinGive s.number (stored.path ++ 49 ∷ []) (known_of stored))
+    (telling_stands running world stands sound number (states.Live new) (Live (left_half stored) at.held) (sent.JoinGive give) (JoinGive s.number (stored.path ++ one_letter ∷ []) (known_of stored))
     (place_of_running running.clones number live is)
     (subst (λ (c : LocalClone). CloneStandsFor world number (states.Live c) (Live (left_half stored) at.held)) (sym forks.left) now)
     (give_stands world s.number id live new give stored at.held forks s.is at.stands))

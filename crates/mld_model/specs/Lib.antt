@@ -1,3 +1,4 @@
+pub mod Characters
 pub mod Clone
 pub mod World
 pub mod Reply

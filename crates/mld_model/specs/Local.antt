@@ -1,6 +1,8 @@
 -- One clone alone: what it has of its own, without the history, and its steps.
 use Rattle.std.specs.Prelude.{◌≡◌, ℕ, ◌+◌, ◌<◌, ◌≤◌, List, [], ◌∷◌, ◌++◌, ◌⊎◌, ◌↔◌, length}
 use Rattle.rdf_terms.specs.declared.terms.Triple.{Triple}
+use Rattle.tree_clock.specs.Limits.{path_limit}
+use Rattle.tree_clock.specs.Path.{zero_letter, one_letter}
 use Rattle.tree_clock.specs.declared.dots.Dot.{Dot}
 use Rattle.tree_clock.specs.declared.dots.Range.{Range}
 use Rattle.tree_clock.specs.Lists.{Has, IsAscending}
@@ -143,10 +145,10 @@ IsForeign clone entry = ticks_of clone.ticks clone.path < ticks_of entry.time cl
 
 -- the clone forks its leaf for the one of the id: it keeps the left half, and gives the right one with a snapshot of what it has
 pub record LocallyForks (old : LocalClone) (id : List ℕ) (new : LocalClone) (give : Give) : Type 0 where
-  pub room : length old.path < 64
-  pub left : new ≡ record old { path = old.path ++ 48 ∷ [] }
+  pub room : length old.path < path_limit
+  pub left : new ≡ record old { path = old.path ++ zero_letter ∷ [] }
   pub asker : give.id ≡ id
-  pub right : give.path ≡ old.path ++ 49 ∷ []
+  pub right : give.path ≡ old.path ++ one_letter ∷ []
   pub clock : give.snapshot.clock.ticks ≡ old.ticks
   pub pairs : give.snapshot.tagged.items ≡ old.pairs
 

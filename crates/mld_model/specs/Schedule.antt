@@ -6,17 +6,19 @@ use Rattle.std.specs.Str.{IsUtf8}
 use Rattle.std.specs.Fmt.{decimal}
 use Rattle.rdf_terms.specs.Domain.{is_domain}
 use Rattle.rdf_terms.specs.Grammar.{SpellsTriple, IsWithin}
+use Rattle.mld_model.specs.Characters.{space, hash_mark}
+use Rattle.mld_model.specs.World.{clone_count}
 use Rattle.mld_model.specs.declared.Command.{Command}
 use Rattle.mld_model.specs.declared.Command.TheVariants.{Add, Remove, Deliver, Show, Compare, Join}
 
 -- an empty line, or a comment: `#` first, and UTF-8 throughout
 pub data IsNothing : List ℕ → Type 0 where
   empty : IsNothing []
-  comment : (rest : List ℕ) → IsUtf8 (35 ∷ rest) → IsNothing (35 ∷ rest)
+  comment : (rest : List ℕ) → IsUtf8 (hash_mark ∷ rest) → IsNothing (hash_mark ∷ rest)
 
 -- the bytes before the first space
 abbrev pub first_word : List ℕ → List ℕ
-first_word line = take_while (λ byte. not (byte == 32)) line
+first_word line = take_while (λ byte. not (byte == space)) line
 
 -- two texts are the same
 abbrev pub is_word : List ℕ → List ℕ → Bool
@@ -39,23 +41,23 @@ pub record SpellsSetup (line domain : List ℕ) (count : ℕ) : Type 0 where
   pub whole : line ≡ codes "domain " ++ (domain ++ (codes " clones " ++ decimal count))
   pub name : IsTrue (is_domain domain)
   pub some : 1 ≤ count
-  pub most : count ≤ 32
+  pub most : count ≤ clone_count
 
--- the number of a clone is 0 to 31
+-- the number of a clone, the first of which is 0
 abbrev pub IsCloneNumber : ℕ → Type 0
-IsCloneNumber number = number < 32
+IsCloneNumber number = number < clone_count
 
 -- the line spells the command; a triple is the rest of its line
 abbrev pub SpellsCommand : List ℕ → Command → Type 0
 SpellsCommand line (Add number triple) =
-    (text : List ℕ) × (line ≡ codes "add " ++ (decimal number ++ 32 ∷ text)) × IsCloneNumber number
+    (text : List ℕ) × (line ≡ codes "add " ++ (decimal number ++ space ∷ text)) × IsCloneNumber number
     × IsUtf8 text × SpellsTriple text triple × IsWithin triple
 SpellsCommand line (Remove number triple) =
-    (text : List ℕ) × (line ≡ codes "remove " ++ (decimal number ++ 32 ∷ text)) × IsCloneNumber number
+    (text : List ℕ) × (line ≡ codes "remove " ++ (decimal number ++ space ∷ text)) × IsCloneNumber number
     × IsUtf8 text × SpellsTriple text triple × IsWithin triple
 SpellsCommand line (Deliver message number) =
-    (line ≡ codes "deliver " ++ (decimal message ++ 32 ∷ decimal number)) × (message < 2 ^ 64) × IsCloneNumber number
+    (line ≡ codes "deliver " ++ (decimal message ++ space ∷ decimal number)) × (message < 2 ^ 64) × IsCloneNumber number
 SpellsCommand line (Show number) = (line ≡ codes "show " ++ decimal number) × IsCloneNumber number
 SpellsCommand line (Join number) = (line ≡ codes "join " ++ decimal number) × IsCloneNumber number
 SpellsCommand line (Compare number other) =
-    (line ≡ codes "compare " ++ (decimal number ++ 32 ∷ decimal other)) × IsCloneNumber number × IsCloneNumber other
+    (line ≡ codes "compare " ++ (decimal number ++ space ∷ decimal other)) × IsCloneNumber number × IsCloneNumber other

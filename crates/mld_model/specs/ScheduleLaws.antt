@@ -7,6 +7,8 @@ use Rattle.std.proofs.lemmas.Bool.{false≢true, and_parts}
 use Rattle.std.proofs.lemmas.Fmt.{decimal_injective}
 use Rattle.rdf_terms.specs.Domain.{is_domain, is_domain_byte}
 use Rattle.rdf_terms.specs.Grammar.{SpellsTriple}
+use Rattle.mld_model.specs.Characters.{space, hash_mark}
+use Rattle.mld_model.specs.World.{clone_count}
 use Rattle.mld_model.specs.declared.Command.{Command}
 use Rattle.mld_model.specs.declared.Command.TheVariants.{Add, Remove, Deliver, Show, Compare, Join}
 use Rattle.mld_model.specs.Schedule.{IsNothing, empty, comment, is_unbuilt, SpellsSetup, SpellsCommand}
@@ -19,18 +21,18 @@ use Rattle.mld_model.specs.Laws.{OneKind, OneSetup, OneCommand}
 -- ---- what a line begins with
 
 -- a line that says nothing is empty, or begins with `#`
-nothing_begins : {line : List ℕ} → IsNothing line → (line ≡ []) ⊎ ((rest : List ℕ) × (line ≡ 35 ∷ rest))
+nothing_begins : {line : List ℕ} → IsNothing line → (line ≡ []) ⊎ ((rest : List ℕ) × (line ≡ hash_mark ∷ rest))
 nothing_begins empty = inl refl
 nothing_begins (comment rest text) = inr (rest, refl)
 
 -- so it isn't a line that begins with another byte
-nothing_apart : {line rest : List ℕ} {byte : ℕ} → IsNothing line → line ≡ byte ∷ rest → nat_eq 35 byte ≡ false → ⊥
+nothing_apart : {line rest : List ℕ} {byte : ℕ} → IsNothing line → line ≡ byte ∷ rest → nat_eq hash_mark byte ≡ false → ⊥
 nothing_apart h e other = elim (nothing_begins h) [
   | inl none ↦ cc
   | inr some ↦ apart some.1 e other
 ]
 
--- the first byte of a command
+-- the first byte of a command: `a`, `r`, `d`, `s`, `j` or `c`
 begins : Command → ℕ
 begins (Add number triple) = 97
 begins (Remove number triple) = 114
@@ -50,7 +52,7 @@ command_begins line (Join number) h = (_, h.0)
 command_begins line (Compare number other) h = (_, h.0)
 
 -- no command begins with `#`
-begins_apart : (command : Command) → nat_eq 35 (begins command) ≡ false
+begins_apart : (command : Command) → nat_eq hash_mark (begins command) ≡ false
 unfolding begins
 begins_apart (Add number triple) = refl
 begins_apart (Remove number triple) = refl
@@ -62,7 +64,7 @@ begins_apart (Compare number other) = refl
 -- ---- numbers
 
 -- the number of a clone is a small number
-small : {number : ℕ} → number < 32 → number < 2 ^ 64
+small : {number : ℕ} → number < clone_count → number < 2 ^ 64
 small h = omega arith
 
 -- the numbers of clones in a command that a line spells are those of clones that there are
@@ -75,22 +77,22 @@ spells_numbers line (Join number) h = h.1
 spells_numbers line (Compare number other) h = (h.1, h.2)
 
 -- numbers are written without spaces and backslashes
-no_space : (number : ℕ) → number < 2 ^ 64 → Lacks 32 (decimal number)
-no_space = Lacks-decimal 32 (λ digit h e. omega arith)
+no_space : (number : ℕ) → number < 2 ^ 64 → Lacks space (decimal number)
+no_space = Lacks-decimal space (λ digit h e. omega arith)
 
 no_backslash : (number : ℕ) → number < 2 ^ 64 → Lacks 92 (decimal number)
 no_backslash = Lacks-decimal 92 (λ digit h e. omega arith)
 
 -- a number and what stands behind the space after it
-one_number : (m n : ℕ) (x y : List ℕ) → m < 2 ^ 64 → n < 2 ^ 64 → decimal m ++ 32 ∷ x ≡ decimal n ++ 32 ∷ y → (m ≡ n) × (x ≡ y)
+one_number : (m n : ℕ) (x y : List ℕ) → m < 2 ^ 64 → n < 2 ^ 64 → decimal m ++ space ∷ x ≡ decimal n ++ space ∷ y → (m ≡ n) × (x ≡ y)
 one_number m n x y p q e =
-    let parts = one_split 32 (decimal m) (decimal n) x y (no_space m p) (no_space n q) e in
+    let parts = one_split space (decimal m) (decimal n) x y (no_space m p) (no_space n q) e in
     (decimal_injective m n p q parts.0, parts.1)
 
 -- ---- lines that aren't built yet
 
 -- a comment is none of them
-unbuilt_comment : (rest : List ℕ) → is_unbuilt (35 ∷ rest) ≡ false
+unbuilt_comment : (rest : List ℕ) → is_unbuilt (hash_mark ∷ rest) ≡ false
 unfolding is_unbuilt
 unbuilt_comment rest = rw one-add refl
 
@@ -144,15 +146,15 @@ one_kind line = record {
 }
 
 -- no name of a domain has a space
-domain_lacks : (domain : List ℕ) → IsTrue (is_domain domain) → Lacks 32 domain
+domain_lacks : (domain : List ℕ) → IsTrue (is_domain domain) → Lacks space domain
 unfolding is_domain
-domain_lacks domain h = Lacks-from_test is_domain_byte 32 refl domain (and_parts (nat_le 1 (length domain) && nat_le (length domain) 200) (list_all is_domain_byte domain) h).1
+domain_lacks domain h = Lacks-from_test is_domain_byte space refl domain (and_parts (nat_le 1 (length domain) && nat_le (length domain) 200) (list_all is_domain_byte domain) h).1
 
 -- a domain line spells one domain and one number of clones
 pub one_setup : OneSetup
 one_setup line domain other count number p q =
-    let tails : domain ++ 32 ∷ (codes "clones " ++ decimal count) ≡ other ++ 32 ∷ (codes "clones " ++ decimal number) = ap (drop 7) (sym p.whole ∙ q.whole) in
-    let parts = one_split 32 domain other _ _ (domain_lacks domain p.name) (domain_lacks other q.name) tails in
+    let tails : domain ++ space ∷ (codes "clones " ++ decimal count) ≡ other ++ space ∷ (codes "clones " ++ decimal number) = ap (drop 7) (sym p.whole ∙ q.whole) in
+    let parts = one_split space domain other _ _ (domain_lacks domain p.name) (domain_lacks other q.name) tails in
     (parts.0, decimal_injective count number (omega (arith, p.most)) (omega (arith, q.most)) (ap (drop 7) parts.1))
 
 -- a line spells one command

@@ -67,8 +67,8 @@ pub record IsSoundGive (history : List Operation) (path : List ℕ) (dots : List
 pub record IsSound (world : World) : Type 0 where
   -- the history is lawful
   pub lawful : IsLawful world.history
-  -- there are 32 clones
-  pub count : length world.clones ≡ 32
+  -- there are as many clones as there may be
+  pub count : length world.clones ≡ clone_count
   -- no two clones hold one leaf, nor one below another's
   pub apart : (number other : ℕ) (stored kept : Stored) → number ≢ other
       → Keeps (clone_at world number) stored → Keeps (clone_at world other) kept → AreApart stored.path kept.path

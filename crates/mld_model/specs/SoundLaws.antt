@@ -6,7 +6,7 @@ use Rattle.std.proofs.lemmas.List.{get_or-set_same, get_or-set_other, get_or_pas
 use Rattle.tree_clock.specs.declared.dots.Dot.{Dot}
 use Rattle.tree_clock.specs.declared.dots.Range.{Range}
 use Rattle.tree_clock.specs.Lists.{Has}
-use Rattle.tree_clock.specs.Path.{IsPrefix, IsProperPrefix, AreApart}
+use Rattle.tree_clock.specs.Path.{IsPrefix, IsProperPrefix, AreApart, zero_letter, one_letter}
 use Rattle.tree_clock.specs.PathLaws.{apart_symmetric, apart_below, apart_from_son, sons_apart}
 use Rattle.tree_clock.specs.Dot.{IsIn, Knows}
 use Rattle.tree_clock.specs.DotLaws.{IsIn_or_not}
@@ -537,16 +537,16 @@ left_half_sound history stored sound = record {
   closed = sound.closed;
   journal = sound.journal;
   own = λ operation stands same.
-      absurd (sound.below operation stands (below_son stored.path operation.dot.path 48 ([], same ∙ sym (append-nil (stored.path ++ 48 ∷ [])))));
-  above = knows_above history stored 48 sound;
-  below = λ operation stands goes_on. sound.below operation stands (below_son stored.path operation.dot.path 48 (goes_on.0, goes_on.2));
+      absurd (sound.below operation stands (below_son stored.path operation.dot.path zero_letter ([], same ∙ sym (append-nil (stored.path ++ zero_letter ∷ [])))));
+  above = knows_above history stored zero_letter sound;
+  below = λ operation stands goes_on. sound.below operation stands (below_son stored.path operation.dot.path zero_letter (goes_on.0, goes_on.2));
 }
 
 -- the right half of a sound clone's leaf can be given with the dots that the clone knows
-right_half_sound : (history : List Operation) (stored : Stored) → IsSoundClone history stored → IsSoundGive history (stored.path ++ 49 ∷ []) (known_of stored)
+right_half_sound : (history : List Operation) (stored : Stored) → IsSoundClone history stored → IsSoundGive history (stored.path ++ one_letter ∷ []) (known_of stored)
 right_half_sound history stored sound = record {
-  above = knows_above history stored 49 sound;
-  below = λ operation stands goes_on. sound.below operation stands (below_son stored.path operation.dot.path 49 goes_on);
+  above = knows_above history stored one_letter sound;
+  below = λ operation stands goes_on. sound.below operation stands (below_son stored.path operation.dot.path one_letter goes_on);
 }
 
 -- what one message that gives a leaf has in common with another that is the same
@@ -557,18 +557,18 @@ same_give id other path leaf dots known same = (cc, cc, cc)
 -- which leaves are open behind a fork: those that were, and the right half
 record IsRightHalf (world : World) (stored : Stored) (place : ℕ) (path : List ℕ) (dots : List Range) : Type 0 where
   last : place ≡ length world.messages
-  right : stored.path ++ 49 ∷ [] ≡ path
+  right : stored.path ++ one_letter ∷ [] ≡ path
   known : known_of stored ≡ dots
 
 open_after_fork : (world : World) (number : ℕ) (stored : Stored) (held : List Range) (asker place id : ℕ) (path : List ℕ) (dots : List Range)
     → IsOpenGive (after_fork world number stored held asker) place id path dots
     → IsOpenGive world place id path dots ⊎ IsRightHalf world stored place path dots
 open_after_fork world number stored held asker place id path dots opened =
-    elim (sent_at world.messages (JoinGive asker (stored.path ++ 49 ∷ []) (known_of stored)) place (JoinGive id path dots) opened.sent) [
+    elim (sent_at world.messages (JoinGive asker (stored.path ++ one_letter ∷ []) (known_of stored)) place (JoinGive id path dots) opened.sent) [
       | inl old ↦ inl (open_before world number (Live (left_half stored) held) world.history
-          (world.messages ++ JoinGive asker (stored.path ++ 49 ∷ []) (known_of stored) ∷ []) place id path dots
+          (world.messages ++ JoinGive asker (stored.path ++ one_letter ∷ []) (known_of stored) ∷ []) place id path dots
           (λ kept holds. (left_half stored, refl)) (λ sent. old) opened)
-      | inr new ↦ let same = same_give asker id (stored.path ++ 49 ∷ []) path (known_of stored) dots new.1 in
+      | inr new ↦ let same = same_give asker id (stored.path ++ one_letter ∷ []) path (known_of stored) dots new.1 in
           inr (record { last = new.0; right = same.1; known = same.2 })
     ]
 
@@ -585,7 +585,7 @@ forked_sound world number stored held asker sound live small =
       lawful = sound.lawful;
       count = length-set world.clones number (Live (left_half stored) held) ∙ sound.count;
       apart = leaves_apart_with world number (left_half stored) held sound
-          (λ other kept differs keeps. apart_from_son stored.path 48 kept.path (free other kept differs keeps));
+          (λ other kept differs keeps. apart_from_son stored.path zero_letter kept.path (free other kept differs keeps));
       clones = λ one first keeps. elim (keeps_after world.clones number (left_half stored) held one first keeps) [
         | inl a ↦ subst (IsSoundClone world.history) a.1 (left_half_sound world.history stored giver)
         | inr a ↦ sound.clones one first a.1
@@ -593,29 +593,29 @@ forked_sound world number stored held asker sound live small =
       held = held_after world.history world.clones number (left_half stored) held sound.held (sound.held number stored held live);
       gives_held = λ place id path dots one first opened keeps. elim (opens place id path dots opened) [
         | inl old ↦ gives_held_with world number (left_half stored) held place id path dots sound old
-            (apart_below path stored.path (48 ∷ []) (outside place id path dots old)) one first keeps
+            (apart_below path stored.path (zero_letter ∷ []) (outside place id path dots old)) one first keeps
         | inr new ↦ subst (λ (p : List ℕ). AreApart p first.path) new.right (elim (keeps_after world.clones number (left_half stored) held one first keeps) [
-          | inl a ↦ subst (λ (s : Stored). AreApart (stored.path ++ 49 ∷ []) s.path) a.1 (apart_symmetric (stored.path ++ 48 ∷ []) (stored.path ++ 49 ∷ []) (sons_apart stored.path))
-          | inr a ↦ apart_from_son stored.path 49 first.path (free one first a.0 a.1)
+          | inl a ↦ subst (λ (s : Stored). AreApart (stored.path ++ one_letter ∷ []) s.path) a.1 (apart_symmetric (stored.path ++ zero_letter ∷ []) (stored.path ++ one_letter ∷ []) (sons_apart stored.path))
+          | inr a ↦ apart_from_son stored.path one_letter first.path (free one first a.0 a.1)
         ])
       ];
       gives_apart = λ place id path dots second other leaf known differ opened too. elim (opens place id path dots opened) [
         | inl old ↦ elim (opens second other leaf known too) [
           | inl older ↦ sound.gives_apart place id path dots second other leaf known differ old older
-          | inr new ↦ subst (λ (p : List ℕ). AreApart path p) new.right (apart_below path stored.path (49 ∷ []) (outside place id path dots old))
+          | inr new ↦ subst (λ (p : List ℕ). AreApart path p) new.right (apart_below path stored.path (one_letter ∷ []) (outside place id path dots old))
         ]
         | inr new ↦ elim (opens second other leaf known too) [
           | inl old ↦ subst (λ (p : List ℕ). AreApart p leaf) new.right
-              (apart_from_son stored.path 49 leaf (apart_symmetric leaf stored.path (outside second other leaf known old)))
+              (apart_from_son stored.path one_letter leaf (apart_symmetric leaf stored.path (outside second other leaf known old)))
           | inr newer ↦ absurd (differ (new.last ∙ sym newer.last))
         ]
       ];
       gives = λ place id path dots opened. elim (opens place id path dots opened) [
         | inl old ↦ sound.gives place id path dots old
         | inr new ↦ subst (λ (p : List ℕ). IsSoundGive world.history p dots) new.right
-            (subst (λ (known : List Range). IsSoundGive world.history (stored.path ++ 49 ∷ []) known) new.known (right_half_sound world.history stored giver))
+            (subst (λ (known : List Range). IsSoundGive world.history (stored.path ++ one_letter ∷ []) known) new.known (right_half_sound world.history stored giver))
       ];
-      messages = λ message sent. elim (has_append world.messages (JoinGive asker (stored.path ++ 49 ∷ []) (known_of stored) ∷ []) message sent) [
+      messages = λ message sent. elim (has_append world.messages (JoinGive asker (stored.path ++ one_letter ∷ []) (known_of stored) ∷ []) message sent) [
         | inl old ↦ sound.messages message old
         | inr new ↦ elim new [ inl is ↦ subst (IsSoundMessage world.history) is (small, giver.closed) | inr none ↦ absurd none ]
       ];

@@ -2,6 +2,8 @@
 -- is listed.
 use Rattle.std.specs.Prelude.{◌≡◌, ◌≢◌, ℕ, ◌+◌, ◌<◌, ◌≤◌, List, [], ◌∷◌, ◌++◌, ◌⊎◌, ◌↔◌, length, MatchOption}
 use Rattle.rdf_terms.specs.declared.terms.Triple.{Triple}
+use Rattle.tree_clock.specs.Limits.{path_limit}
+use Rattle.tree_clock.specs.Path.{zero_letter, one_letter}
 use Rattle.tree_clock.specs.declared.dots.Range.{Range}
 use Rattle.tree_clock.specs.Lists.{Has, IsAscending}
 use Rattle.tree_clock.specs.Dot.{Knows}
@@ -102,20 +104,16 @@ Joins world number Empty reply next = Answers world IsDown reply next
 Joins world number (Down stored) reply next = Answers world IsDown reply next
 Joins world number (Live stored held) reply next = Answers world IsLive reply next
 
--- how many letters a path has at most
-abbrev pub path_limit : ℕ
-path_limit = 64
-
 -- what a clone keeps that forked its leaf: the left half of it
 abbrev pub left_half : Stored → Stored
-left_half stored = record { path = stored.path ++ 48 ∷ []; base = stored.base; journal = stored.journal }
+left_half stored = record { path = stored.path ++ zero_letter ∷ []; base = stored.base; journal = stored.journal }
 
 -- the world after a live clone forked its leaf for the clone of the id: it keeps the left half, and sends the right one with
 -- the dots that it knows
 abbrev pub after_fork : World → ℕ → Stored → List Range → ℕ → World
 after_fork world number stored held id =
     record (with_clone world number (Live (left_half stored) held)) {
-      messages = world.messages ++ JoinGive id (stored.path ++ 49 ∷ []) (known_of stored) ∷ [];
+      messages = world.messages ++ JoinGive id (stored.path ++ one_letter ∷ []) (known_of stored) ∷ [];
     }
 
 -- a live clone is asked for a leaf by the clone of an id: it is that clone itself, or its leaf is too deep, or it forks

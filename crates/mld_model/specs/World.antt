@@ -1,9 +1,11 @@
--- The model of a world: one history, 32 clones, and every message ever sent.
+-- The model of a world: one history, its clones, and every message ever sent.
 use Rattle.std.specs.Prelude.{ℕ, zero, suc, ◌-◌, List, [], ◌∷◌, ◌++◌, Option, None, slice_get, slice_index_or, slice_set, replicate, map, nat_lt, if◌then◌else◌}
 use Rattle.std.specs.List.{range_with_len}
+use Rattle.tree_clock.specs.Path.{zero_letter, one_letter}
 use Rattle.tree_clock.specs.declared.dots.Range.{Range}
 use Rattle.mld_ops.specs.History.{Operation}
 use Rattle.mld_model.specs.Clone.{Clone, Absent, Live}
+use Rattle.mld_model.specs.declared.limits.TheConstants.{CLONE_COUNT}
 
 -- a message: a range of operations, a want of whoever knows these dots, a snapshot of these dots, one who asks to join,
 -- and a leaf that is given to whoever asked, with a snapshot of these dots
@@ -27,9 +29,9 @@ abbrev pub message_at : World → ℕ → Option Message
 message_at world zero = None
 message_at world (suc before) = slice_get world.messages before
 
--- how many clones there are
+-- how many clones there are, absent ones with them: the constant of `src/limits.rt`
 abbrev pub clone_count : ℕ
-clone_count = 32
+clone_count = CLONE_COUNT
 
 -- the clone of a number
 abbrev pub clone_at : World → ℕ → Clone
@@ -42,8 +44,8 @@ with_clone world number clone = record world { clones = slice_set world.clones n
 -- the path of a clone of the founded world: clone 0 forked its leaf once for each other clone and kept the left half,
 -- and clone i was given the right half at the fork i
 abbrev pub founded_path : ℕ → ℕ → List ℕ
-founded_path count zero = replicate (count - 1) 48
-founded_path count (suc before) = replicate before 48 ++ 49 ∷ []
+founded_path count zero = replicate (count - 1) zero_letter
+founded_path count (suc before) = replicate before zero_letter ++ one_letter ∷ []
 
 -- a clone of the founded world: live, with nothing known, or absent
 abbrev pub founded_clone : ℕ → ℕ → Clone

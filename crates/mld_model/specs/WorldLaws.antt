@@ -26,7 +26,7 @@ use Rattle.mld_model.specs.declared.Command.TheVariants.{Add, Remove, Deliver, S
 use Rattle.mld_model.specs.declared.CloneState.TheVariants as states
 use Rattle.mld_model.specs.Clone.{Clone, Absent, Live, Stored, known_of, with_range, IsReady, IsHeldBack, IsWithin}
 use Rattle.mld_ops.specs.Held.{held_limit}
-use Rattle.mld_model.specs.World.{World, Message, RangeOf, message_at, clone_at, with_clone, founded, founded_clone}
+use Rattle.mld_model.specs.World.{World, Message, RangeOf, message_at, clone_at, with_clone, founded, founded_clone, clone_count}
 use Rattle.mld_model.specs.Step.{Step, Answers, Adds, ArePairsOf, Removes, IsNextTick, Makes, after_operation, Receives, Takes, Lists, Compares, ComparesWith, Weighs}
 use Rattle.mld_model.specs.Reply.{Reply, Did, NoOperation, Took, Held, HeldFull, AlreadyKnown, Shows, Same, Less, More, Apart, NoMessage, IsAbsent, IsAsking}
 use Rattle.mld_model.specs.Sound.{IsDoneRange, IsSoundClone, IsSound}
@@ -63,19 +63,19 @@ founded_clone_stands domain count number = elim (cases_Bool (ltb number count)) 
 ]
 
 founded_at : (domain : List ℕ) (count number : ℕ)
-    → CloneStandsFor (founded domain count) number (get_or (map (founded_local domain count) (range_with_len 0 32)) number states.Absent) (clone_at (founded domain count) number)
-founded_at domain count number = elim (cases_lt number 32) [
+    → CloneStandsFor (founded domain count) number (get_or (map (founded_local domain count) (range_with_len 0 clone_count)) number states.Absent) (clone_at (founded domain count) number)
+founded_at domain count number = elim (cases_lt number clone_count) [
   | inl inside ↦
       subst (λ (r : RunningClone). CloneStandsFor (founded domain count) number r (clone_at (founded domain count) number))
-      (sym (get_or-map-range_with_len (founded_local domain count) 0 32 number number states.Absent inside (omega arith)))
+      (sym (get_or-map-range_with_len (founded_local domain count) 0 clone_count number number states.Absent inside (omega arith)))
       (subst (λ (c : Clone). CloneStandsFor (founded domain count) number (founded_local domain count number) c)
-      (sym (get_or-map-range_with_len (founded_clone count) 0 32 number number Absent inside (omega arith)))
+      (sym (get_or-map-range_with_len (founded_clone count) 0 clone_count number number Absent inside (omega arith)))
       (founded_clone_stands domain count number))
   | inr past ↦
       subst (λ (r : RunningClone). CloneStandsFor (founded domain count) number r (clone_at (founded domain count) number))
-      (sym (get_or_past (map (founded_local domain count) (range_with_len 0 32)) number states.Absent (omega (arith, past, length-map-range_with_len (founded_local domain count) 0 32))))
+      (sym (get_or_past (map (founded_local domain count) (range_with_len 0 clone_count)) number states.Absent (omega (arith, past, length-map-range_with_len (founded_local domain count) 0 clone_count))))
       (subst (λ (c : Clone). CloneStandsFor (founded domain count) number states.Absent c)
-      (sym (get_or_past (map (founded_clone count) (range_with_len 0 32)) number Absent (omega (arith, past, length-map-range_with_len (founded_clone count) 0 32))))
+      (sym (get_or_past (map (founded_clone count) (range_with_len 0 clone_count)) number Absent (omega (arith, past, length-map-range_with_len (founded_clone count) 0 clone_count))))
       tt)
 ]
 
@@ -84,7 +84,7 @@ pub founded_stands : (domain : List ℕ) (count : ℕ) → StandsFor (founded_ru
 founded_stands domain count = record {
   domain = refl;
   properties = refl;
-  count = length-map-range_with_len (founded_local domain count) 0 32;
+  count = length-map-range_with_len (founded_local domain count) 0 clone_count;
   clones = founded_at domain count;
   messages = tt;
   ticks = λ operation h. absurd h;

@@ -2,14 +2,16 @@
 //! laws over them. Its functions have no code: each carries a law as its contract.
 #![tactic(auto)]
 
+mod limits;
 mod soundness;
 mod verdicts;
 
+pub use limits::CLONE_COUNT;
 use rdf_terms::Triple;
 pub use soundness::{answers_survive, promises_kept, sound_worlds};
 pub use verdicts::{one_reading, one_step, one_verdict};
 
-/// A command of a schedule. The numbers of clones are 0 to 31, those of messages begin with 1.
+/// A command of a schedule. The numbers of clones are below `CLONE_COUNT`, those of messages begin with 1.
 #[derive(Debug, Drop)]
 pub enum Command {
     /// `add C TRIPLE`: clone C inserts the triple.
