@@ -7,6 +7,8 @@ use Rattle.mld_ops.specs.declared.messages.Snapshot.{Snapshot}
 use Rattle.mld_ops.specs.Messages.{IsSnapshotCopy}
 use Rattle.mld_ops.specs.Tagged.{tagged_cmp}
 use Rattle.mld_ops.specs.declared.tagged.Tagged.{Tagged}
+use Rattle.tree_clock.specs.Limits.{path_limit}
+use Rattle.tree_clock.specs.Path.{zero_letter, one_letter}
 use Rattle.tree_clock.specs.Clock.{Covers}
 use Rattle.tree_clock.specs.Lists.{Has, IsAscending}
 use Rattle.mld_model.specs.Local.{LocalClone, LocalAsker, LocallyJoins, IsLocal}
@@ -35,8 +37,8 @@ only x y (inl e) = e
 only x y (inr none) = absurd none
 
 -- the clone that keeps the left half of its path forked for who asks, where it gives the right half with a snapshot
-pub forks_as : (old : LocalClone) (id left right : List ℕ) (snapshot : Snapshot) (messages : List Message) → length old.path < 64
-    → IsSnapshotOf old snapshot → left ≡ old.path ++ 48 ∷ [] → right ≡ old.path ++ 49 ∷ []
+pub forks_as : (old : LocalClone) (id left right : List ℕ) (snapshot : Snapshot) (messages : List Message) → length old.path < path_limit
+    → IsSnapshotOf old snapshot → left ≡ old.path ++ zero_letter ∷ [] → right ≡ old.path ++ one_letter ∷ []
     → messages ≡ message.JoinGive (record { id = id; path = right; snapshot = snapshot }) ∷ [] → Gives old id messages (record old { path = left })
 forks_as old id left right snapshot messages room have l r e = (
   record { id = id; path = right; snapshot = snapshot },

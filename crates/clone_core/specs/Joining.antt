@@ -1,5 +1,6 @@
 -- Joining: what a clone gives to who asks, and what becomes of who asked.
 use Rattle.std.specs.Prelude.{◌≡◌, ◌≢◌, ℕ, List, [], ◌∷◌, length}
+use Rattle.tree_clock.specs.Limits.{path_limit}
 use Rattle.tree_clock.specs.Lists.{Has, IsAscending}
 use Rattle.tree_clock.specs.Clock.{Covers, IsClock}
 use Rattle.mld_ops.specs.declared.messages.Give.{Give}
@@ -47,7 +48,7 @@ Gives old id messages new = (give : Give) × (messages ≡ message.JoinGive give
 abbrev pub RefusesAsk : LocalClone → List ℕ → ReceiveFault → Type 0
 RefusesAsk old id (fault.ForeignTick said own) = ⊥
 RefusesAsk old id fault.HeldFull = ⊥
-RefusesAsk old id fault.Deep = (id ≢ old.id) × (length old.path ≡ 64)
+RefusesAsk old id fault.Deep = (id ≢ old.id) × (length old.path ≡ path_limit)
 RefusesAsk old id fault.NoMemory = Unit {0}
 
 -- ---- asking

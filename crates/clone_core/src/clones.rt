@@ -15,7 +15,7 @@ use std::alloc::{AllocError, Global};
 use std::collections::VecDeque;
 use std::marker::Model;
 use std::thread::Threads;
-use tree_clock::{Clock, Dot, Leaf, Path, Range};
+use tree_clock::{Clock, Dot, Leaf, PATH_LIMIT, Path, Range, TICK_LIMIT};
 use uuid::Uuid;
 
 /// A clone: its id, domain, single-valued properties and leaf; the clock and the pairs of its base; its clock, its journal, the entries
@@ -57,6 +57,7 @@ impl MldClone {
     ghost use Rattle.mld_ops.specs.Ready.{IsReadyEntry};
     ghost use Rattle.mld_ops.specs.Tagged.{tagged_cmp};
     ghost use Rattle.tree_clock.specs.Clock.{ticks_of};
+    ghost use Rattle.tree_clock.specs.Limits.{path_limit, tick_limit};
     ghost use Rattle.tree_clock.specs.Lists.{IsAscending};
 
     /// The first clone of a domain, at the root path. It knows nothing.
@@ -226,12 +227,12 @@ impl MldClone {
     ) -> Result<Done, UpdateFault>
         ensures ok { IfOk result (λ done. Sets self.old triple.now present done self.new) }
         ensures spent { IsErrOf result UpdateFault.TicksSpent
-            ↔ (ticks_of self.old.ticks self.old.path ≡ 4294967295) }
+            ↔ (ticks_of self.old.ticks self.old.path ≡ tick_limit) }
         ensures unchanged { OnErr result (self.new ≡ self.old) }
     {
         let path = self.path();
         let tick = self.known().ticks(&path);
-        if tick == u32::MAX {
+        if tick == TICK_LIMIT {
             return Err(UpdateFault::TicksSpent);
         }
         let dot = Dot {
@@ -321,7 +322,7 @@ impl MldClone {
         if *id == self.id {
             return Ok(Got::Ignored);
         }
-        if self.path().len() == 64 {
+        if self.path().len() == PATH_LIMIT {
             return Err(ReceiveFault::Deep);
         }
         Ok(Got::Answer(self.give(alloc, id)?))
@@ -330,7 +331,7 @@ impl MldClone {
     // Forks the leaf, which is not too deep, for who asks by an id: it keeps the left half, and the right one is given with all that the
     // clone has.
     fn give(&mut self, alloc: Global, id: &Uuid) -> Result<Messages, AllocError>
-        requires { length self.old.path < 64 }
+        requires { length self.old.path < path_limit }
         ensures ok { IfOk result (λ messages. Gives self.old id.now messages self.new) }
         ensures good { IfOk result (λ messages. AreGood messages) }
         ensures err { OnErr result (self.new ≡ self.old) }

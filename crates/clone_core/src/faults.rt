@@ -28,7 +28,7 @@ pub enum ReceiveFault {
     /// Too many others are held.
     #[error("too many entries are held")]
     HeldFull,
-    /// The leaf that was asked for can't be forked, since its path has 64 letters.
+    /// The leaf that was asked for can't be forked, since its path has as many letters as it may.
     #[error("the leaf is too deep to be forked")]
     Deep,
     /// Memory ran out.

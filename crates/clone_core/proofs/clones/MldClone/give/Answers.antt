@@ -6,6 +6,7 @@ use Rattle.clone_core.specs.Joining.{IsSnapshotOf, Gives}
 use Rattle.clone_core.specs.View.{clone_of}
 use Rattle.clone_core.proofs.Joining.{forks_as, gives_good}
 use Rattle.clone_core.proofs.clones.MldClone.give.Goals as goal
+use Rattle.tree_clock.specs.Limits.{path_limit}
 
 module _ (c : goal.After-from_vec) where
   abbrev old : LocalClone
@@ -18,7 +19,7 @@ module _ (c : goal.After-from_vec) where
   gives =
       let id = c.args.id.now in
       let snapshot = c.in_ok-snapshot.snapshot in
-      let room = subst (λ (clone : LocalClone). length clone.path < 64) (sym c.self.view_is) c.requires in
+      let room = subst (λ (clone : LocalClone). length clone.path < path_limit) (sym c.self.view_is) c.requires in
       let have = subst (λ (clone : LocalClone). IsSnapshotOf clone snapshot) (sym c.self.view_is) c.in_ok-snapshot.ensures in
       let left = rw c.unwrap-right.ensures at c.give.ensures.left in
       let right = rw c.unwrap-right.ensures at c.give.ensures.right in
