@@ -15,6 +15,8 @@ use Rattle.rdf_terms.specs.ReadingLaws.{one_spelled}
 use Rattle.rdf_terms.specs.declared.terms.Triple.{Triple}
 use Rattle.rdf_terms.specs.declared.faults.TripleFault.{TripleFault}
 use Rattle.rdf_terms.specs.declared.faults.TripleFault.TheVariants.{NotTriple, TooLong, NoMemory}
+use Rattle.mld_model.specs.Characters.{space}
+use Rattle.mld_model.specs.World.{clone_count}
 use Rattle.mld_model.specs.declared.Command.{Command}
 use Rattle.mld_model.specs.declared.Command.TheVariants.{Add, Remove, Deliver, Show, Compare, Join}
 use Rattle.mld_model.specs.Bytes.{Lacks, Lacks-from_test, one_split, apart}
@@ -138,7 +140,7 @@ join_behind line rest e command = (join_there line rest e command, join_back lin
 pub no_triple_split : (rest : List ℕ) → Lacks 32 rest → (number : ℕ) (triple : Triple) → ¬ IsCloneAndTriple rest number triple
 no_triple_split rest lacks number triple h = has_space rest (decimal number) h.text lacks h.whole
 
-pub no_triple_number : (rest front behind : List ℕ) → rest ≡ front ++ 32 ∷ behind → Lacks 32 front → ((number : ℕ) → number < 32 → front ≢ decimal number)
+pub no_triple_number : (rest front behind : List ℕ) → rest ≡ front ++ 32 ∷ behind → Lacks 32 front → ((number : ℕ) → number < clone_count → front ≢ decimal number)
     → (number : ℕ) (triple : Triple) → ¬ IsCloneAndTriple rest number triple
 no_triple_number rest front behind e lacks none number triple h = none number h.clone (number_first rest front behind h.text number lacks e (small h.clone) h.whole).0
 
@@ -153,25 +155,25 @@ no_add rest none command h = none h.0 h.1 h.3
 pub no_remove : (rest : List ℕ) → ((number : ℕ) (triple : Triple) → ¬ IsCloneAndTriple rest number triple) → (command : Command) → ¬ IsRemoveOf rest command
 no_remove rest none command h = none h.0 h.1 h.3
 
-pub no_deliver_split : (rest : List ℕ) → Lacks 32 rest → (command : Command) → ¬ IsDeliverOf rest command
+pub no_deliver_split : (rest : List ℕ) → Lacks space rest → (command : Command) → ¬ IsDeliverOf rest command
 no_deliver_split rest lacks command h = has_space rest (decimal h.0) (decimal h.1) lacks h.3
 
-pub no_deliver_message : (rest front behind : List ℕ) → rest ≡ front ++ 32 ∷ behind → Lacks 32 front → ((number : ℕ) → number < 2 ^ 64 → front ≢ decimal number)
+pub no_deliver_message : (rest front behind : List ℕ) → rest ≡ front ++ space ∷ behind → Lacks space front → ((number : ℕ) → number < 2 ^ 64 → front ≢ decimal number)
     → (command : Command) → ¬ IsDeliverOf rest command
 no_deliver_message rest front behind e lacks none command h = none h.0 h.4 (number_first rest front behind (decimal h.1) h.0 lacks e h.4 h.3).0
 
-pub no_deliver_number : (rest front behind : List ℕ) → rest ≡ front ++ 32 ∷ behind → Lacks 32 front → ((number : ℕ) → number < 32 → behind ≢ decimal number)
+pub no_deliver_number : (rest front behind : List ℕ) → rest ≡ front ++ space ∷ behind → Lacks space front → ((number : ℕ) → number < clone_count → behind ≢ decimal number)
     → (command : Command) → ¬ IsDeliverOf rest command
 no_deliver_number rest front behind e lacks none command h = none h.1 h.5 (number_first rest front behind (decimal h.1) h.0 lacks e h.4 h.3).1
 
-pub no_compare_split : (rest : List ℕ) → Lacks 32 rest → (command : Command) → ¬ IsCompareOf rest command
+pub no_compare_split : (rest : List ℕ) → Lacks space rest → (command : Command) → ¬ IsCompareOf rest command
 no_compare_split rest lacks command h = has_space rest (decimal h.0) (decimal h.1) lacks h.3
 
-pub no_compare_number : (rest front behind : List ℕ) → rest ≡ front ++ 32 ∷ behind → Lacks 32 front → ((number : ℕ) → number < 32 → front ≢ decimal number)
+pub no_compare_number : (rest front behind : List ℕ) → rest ≡ front ++ space ∷ behind → Lacks space front → ((number : ℕ) → number < clone_count → front ≢ decimal number)
     → (command : Command) → ¬ IsCompareOf rest command
 no_compare_number rest front behind e lacks none command h = none h.0 h.4 (number_first rest front behind (decimal h.1) h.0 lacks e (small h.4) h.3).0
 
-pub no_compare_other : (rest front behind : List ℕ) → rest ≡ front ++ 32 ∷ behind → Lacks 32 front → ((number : ℕ) → number < 32 → behind ≢ decimal number)
+pub no_compare_other : (rest front behind : List ℕ) → rest ≡ front ++ space ∷ behind → Lacks space front → ((number : ℕ) → number < clone_count → behind ≢ decimal number)
     → (command : Command) → ¬ IsCompareOf rest command
 no_compare_other rest front behind e lacks none command h = none h.1 h.5 (number_first rest front behind (decimal h.1) h.0 lacks e (small h.4) h.3).1
 
@@ -209,26 +211,26 @@ domain_bytes : (domain : List ℕ) → IsTrue (is_domain domain) → IsTrue (lis
 unfolding is_domain
 domain_bytes domain h = (and_parts _ (list_all is_domain_byte domain) h).1
 
-domain_lacks : (domain : List ℕ) → IsTrue (is_domain domain) → Lacks 32 domain
-domain_lacks domain h = Lacks-from_test is_domain_byte 32 refl domain (domain_bytes domain h)
+domain_lacks : (domain : List ℕ) → IsTrue (is_domain domain) → Lacks space domain
+domain_lacks domain h = Lacks-from_test is_domain_byte space refl domain (domain_bytes domain h)
 
 -- what follows `domain` and a space
-setup_rest : (line rest domain : List ℕ) (count : ℕ) → line ≡ codes "domain " ++ rest → SpellsSetup line domain count → rest ≡ domain ++ 32 ∷ (codes "clones " ++ decimal count)
+setup_rest : (line rest domain : List ℕ) (count : ℕ) → line ≡ codes "domain " ++ rest → SpellsSetup line domain count → rest ≡ domain ++ space ∷ (codes "clones " ++ decimal count)
 setup_rest line rest domain count e s = ap (drop 7) (sym e ∙ s.whole)
 
-pub setup_spaced : (line rest : List ℕ) → line ≡ codes "domain " ++ rest → Lacks 32 rest → (domain : List ℕ) (count : ℕ) → ¬ SpellsSetup line domain count
+pub setup_spaced : (line rest : List ℕ) → line ≡ codes "domain " ++ rest → Lacks space rest → (domain : List ℕ) (count : ℕ) → ¬ SpellsSetup line domain count
 setup_spaced line rest e h domain count s = has_space rest domain (codes "clones " ++ decimal count) h (setup_rest line rest domain count e s)
 
 -- a domain line up to the space behind its name
 pub record IsCut (line name behind : List ℕ) : Type 0 where
   pub rest : List ℕ
   pub first : line ≡ codes "domain " ++ rest
-  pub cut : rest ≡ name ++ 32 ∷ behind
-  pub spaceless : Lacks 32 name
+  pub cut : rest ≡ name ++ space ∷ behind
+  pub spaceless : Lacks space name
 
 setup_cut : (line name behind domain : List ℕ) (count : ℕ) → IsCut line name behind → SpellsSetup line domain count → (name ≡ domain) × (behind ≡ codes "clones " ++ decimal count)
 setup_cut line name behind domain count k s =
-    one_split 32 name domain behind (codes "clones " ++ decimal count) k.spaceless (domain_lacks domain s.name) (sym k.cut ∙ setup_rest line k.rest domain count k.first s)
+    one_split space name domain behind (codes "clones " ++ decimal count) k.spaceless (domain_lacks domain s.name) (sym k.cut ∙ setup_rest line k.rest domain count k.first s)
 
 pub setup_counted : (line name behind : List ℕ) → IsCut line name behind → ((rest : List ℕ) → behind ≢ codes "clones " ++ rest) → (domain : List ℕ) (count : ℕ) → ¬ SpellsSetup line domain count
 setup_counted line name behind k h domain count s = h (decimal count) (setup_cut line name behind domain count k s).1
@@ -236,7 +238,7 @@ setup_counted line name behind k h domain count s = h (decimal count) (setup_cut
 pub setup_domain : (line name behind : List ℕ) → IsCut line name behind → ¬ IsTrue (is_domain name) → (domain : List ℕ) (count : ℕ) → ¬ SpellsSetup line domain count
 setup_domain line name behind k h domain count s = h (subst (λ (d : List ℕ). is_domain d ≡ true) (sym (setup_cut line name behind domain count k s).0) s.name)
 
-pub setup_number : (line name behind number : List ℕ) → IsCut line name behind → behind ≡ codes "clones " ++ number → ((count : ℕ) → 1 ≤ count → count ≤ 32 → number ≢ decimal count)
+pub setup_number : (line name behind number : List ℕ) → IsCut line name behind → behind ≡ codes "clones " ++ number → ((count : ℕ) → 1 ≤ count → count ≤ clone_count → number ≢ decimal count)
     → (domain : List ℕ) (count : ℕ) → ¬ SpellsSetup line domain count
 setup_number line name behind number k e h domain count s =
     h count s.some s.most (ap (drop 7) (sym e ∙ (setup_cut line name behind domain count k s).1))

@@ -10,10 +10,12 @@ use Rattle.std.specs.Cmp.Lexicographic.{pointwise}
 use Rattle.std.proofs.lemmas.Bool.{false≢true}
 use Rattle.std.proofs.lemmas.Slice.Eq.{bytes_eq-Decides}
 use Rattle.std.proofs.lemmas.Str.{IsUtf8-from_ascii}
+use Rattle.mld_model.specs.Characters.{space}
+use Rattle.mld_model.specs.World.{clone_count}
 use Rattle.mld_model.specs.Bytes.{Lacks, Lacks-decimal, one_split}
 
 -- the number of a clone is a small number
-pub small : {number : ℕ} → number < 32 → number < 2 ^ 64
+pub small : {number : ℕ} → number < clone_count → number < 2 ^ 64
 small h = omega arith
 
 -- numbers are written in ASCII
@@ -42,9 +44,9 @@ pub one_number : (text : List ℕ) (read number : ℕ) → read < 2 ^ 64 → num
 one_number text read number r n e f = decimal_injective read number r n (sym e ∙ f)
 
 -- numbers are written without spaces
-no_space : (number : ℕ) → number < 2 ^ 64 → Lacks 32 (decimal number)
-no_space = Lacks-decimal 32 (λ digit h e. omega arith)
+no_space : (number : ℕ) → number < 2 ^ 64 → Lacks space (decimal number)
+no_space = Lacks-decimal space (λ digit h e. omega arith)
 
 -- a number that is written, and what stands behind the space after it
-pub number_first : (text front rest behind : List ℕ) (number : ℕ) → Lacks 32 front → text ≡ front ++ 32 ∷ rest → number < 2 ^ 64 → text ≡ decimal number ++ 32 ∷ behind → (front ≡ decimal number) × (rest ≡ behind)
-number_first text front rest behind number h e small same = one_split 32 front (decimal number) rest behind h (no_space number small) (sym e ∙ same)
+pub number_first : (text front rest behind : List ℕ) (number : ℕ) → Lacks space front → text ≡ front ++ space ∷ rest → number < 2 ^ 64 → text ≡ decimal number ++ space ∷ behind → (front ≡ decimal number) × (rest ≡ behind)
+number_first text front rest behind number h e small same = one_split space front (decimal number) rest behind h (no_space number small) (sym e ∙ same)

@@ -8,51 +8,52 @@ use Rattle.std.specs.Result.{MatchResult, is_ok}
 use Rattle.std.specs.declared.result.Result.{Result}
 use Rattle.std.specs.declared.result.Result.TheVariants.{Ok, Err}
 use Rattle.std.proofs.lemmas.List.Sums.{take_while-cons}
+use Rattle.mld_model.specs.Characters.{space, hash_mark}
 use Rattle.mld_model.specs.Bytes.{Lacks, Lacks_parts}
 use Rattle.mld_model.specs.Schedule.{IsNothing, empty, comment, first_word, is_word, unbuilt_words, is_unbuilt}
 
 -- ---- spaces
 
 -- a text has a space only where one stands somewhere
-pub lacks_space : (line : List ℕ) → ((k : ℕ) → k < length line → get_or line k 0 ≢ 32) → Lacks 32 line
+pub lacks_space : (line : List ℕ) → ((k : ℕ) → k < length line → get_or line k 0 ≢ space) → Lacks space line
 lacks_space [] h = tt
 lacks_space (byte ∷ line) h = (h 0 (omega arith), lacks_space line (λ k below. h (suc k) (omega arith)))
 
 -- what stands before the first space has none
-pub front_lacks_space : (line : List ℕ) (place : ℕ) → ((k : ℕ) → k < place → get_or line k 0 ≢ 32) → place ≤ length line → Lacks 32 (take place line)
+pub front_lacks_space : (line : List ℕ) (place : ℕ) → ((k : ℕ) → k < place → get_or line k 0 ≢ space) → place ≤ length line → Lacks space (take place line)
 front_lacks_space line zero h below = tt
 front_lacks_space [] (suc place) h below = tt
 front_lacks_space (byte ∷ line) (suc place) h below = (h 0 (omega arith), front_lacks_space line place (λ k less. h (suc k) (omega arith)) (omega arith))
 
 -- a line is what stands before a space, the space, and what stands behind it
-split_there : (line : List ℕ) (place : ℕ) → place < length line → get_or line place 0 ≡ 32 → line ≡ take place line ++ 32 ∷ drop (suc place) line
+split_there : (line : List ℕ) (place : ℕ) → place < length line → get_or line place 0 ≡ space → line ≡ take place line ++ space ∷ drop (suc place) line
 split_there [] place below e = absurd (omega arith)
 split_there (byte ∷ line) zero below e = cc
 split_there (byte ∷ line) (suc place) below e = ap (λ (rest : List ℕ). byte ∷ rest) (split_there line place (omega arith) e)
 
 -- the same with the rest as the code cuts it
-pub split_cut : (line : List ℕ) (place : ℕ) → place < length line → get_or line place 0 ≡ 32 → line ≡ take place line ++ 32 ∷ take (length line - (place + 1)) (drop (place + 1) line)
+pub split_cut : (line : List ℕ) (place : ℕ) → place < length line → get_or line place 0 ≡ space → line ≡ take place line ++ space ∷ take (length line - (place + 1)) (drop (place + 1) line)
 split_cut line place below e =
     let whole : take (length line - (place + 1)) (drop (place + 1) line) ≡ drop (place + 1) line = take_all (length line - (place + 1)) (drop (place + 1) line) (omega (arith, length-drop (place + 1) line)) in
     let one : place + 1 ≡ suc place = omega arith in
     let next : drop (place + 1) line ≡ drop (suc place) line = ap (λ (n : ℕ). drop n line) one in
-    split_there line place below e ∙ ap (λ (rest : List ℕ). take place line ++ 32 ∷ rest) (sym (whole ∙ next))
+    split_there line place below e ∙ ap (λ (rest : List ℕ). take place line ++ space ∷ rest) (sym (whole ∙ next))
 
 -- a text that lacks spaces has none
-pub has_space : (line front rest : List ℕ) → Lacks 32 line → line ≡ front ++ 32 ∷ rest → ⊥
-has_space line front rest h e = (Lacks_parts 32 front (32 ∷ rest) (subst (λ (l : List ℕ). Lacks 32 l) e h)).1.0 refl
+pub has_space : (line front rest : List ℕ) → Lacks space line → line ≡ front ++ space ∷ rest → ⊥
+has_space line front rest h e = (Lacks_parts space front (space ∷ rest) (subst (λ (l : List ℕ). Lacks space l) e h)).1.0 refl
 
 -- ---- first words
 
-pub word_alone : (line : List ℕ) → Lacks 32 line → line ≡ first_word line
+pub word_alone : (line : List ℕ) → Lacks space line → line ≡ first_word line
 word_alone [] h = refl
-word_alone (byte ∷ line) h = rw (take_while-cons, ne_eqb byte 32 h.0) (ap (λ rest. byte ∷ rest) (word_alone line h.1))
+word_alone (byte ∷ line) h = rw (take_while-cons, ne_eqb byte space h.0) (ap (λ rest. byte ∷ rest) (word_alone line h.1))
 
-word_before : (word rest : List ℕ) → Lacks 32 word → word ≡ first_word (word ++ 32 ∷ rest)
+word_before : (word rest : List ℕ) → Lacks space word → word ≡ first_word (word ++ space ∷ rest)
 word_before [] rest h = rw take_while-cons refl
-word_before (byte ∷ word) rest h = rw (take_while-cons, ne_eqb byte 32 h.0) (ap (λ rest. byte ∷ rest) (word_before word rest h.1))
+word_before (byte ∷ word) rest h = rw (take_while-cons, ne_eqb byte space h.0) (ap (λ rest. byte ∷ rest) (word_before word rest h.1))
 
-pub word_before_space : (line word rest : List ℕ) → line ≡ word ++ 32 ∷ rest → Lacks 32 word → word ≡ first_word line
+pub word_before_space : (line word rest : List ℕ) → line ≡ word ++ space ∷ rest → Lacks space word → word ≡ first_word line
 word_before_space line word rest e h = subst (λ (l : List ℕ). word ≡ first_word l) (sym e) (word_before word rest h)
 
 -- ---- lines that say nothing
@@ -60,11 +61,11 @@ word_before_space line word rest e h = subst (λ (l : List ℕ). word ≡ first_
 pub nothing_empty : (line : List ℕ) → length line ≡ 0 → IsNothing line
 nothing_empty line e = subst (λ (l : List ℕ). IsNothing l) (sym (nil_from_length line e)) empty
 
-nothing_comment : (line : List ℕ) → 0 < length line → get_or line 0 0 ≡ 35 → IsUtf8 line → IsNothing line
+nothing_comment : (line : List ℕ) → 0 < length line → get_or line 0 0 ≡ hash_mark → IsUtf8 line → IsNothing line
 nothing_comment [] below e text = absurd (omega arith)
 nothing_comment (byte ∷ line) below e text = subst (λ (l : List ℕ). IsNothing l) (sym (ap (λ (b : ℕ). b ∷ line) e)) (comment line (subst (λ (b : ℕ). IsUtf8 (b ∷ line)) e text))
 
-nothing_text : (line : List ℕ) → IsNothing line → 0 < length line → (get_or line 0 0 ≡ 35) × IsUtf8 line
+nothing_text : (line : List ℕ) → IsNothing line → 0 < length line → (get_or line 0 0 ≡ hash_mark) × IsUtf8 line
 nothing_text _ empty below = absurd (omega arith)
 nothing_text _ (comment rest text) below = (refl, text)
 
@@ -74,7 +75,7 @@ pub text_tested : {T E : Type 0} (A : T → Type 0) (B : E → Type 0) (result :
 text_tested A B (Ok t) text h = (λ e. h.1, λ k. refl)
 text_tested A B (Err e) text h = (λ k. absurd (false≢true k), λ k. absurd (h.0 k))
 
-pub nothing_tested : (line : List ℕ) (test : Bool) → 0 < length line → get_or line 0 0 ≡ 35 → IsTrue test ↔ IsUtf8 line → IsTrue test ↔ IsNothing line
+pub nothing_tested : (line : List ℕ) (test : Bool) → 0 < length line → get_or line 0 0 ≡ hash_mark → IsTrue test ↔ IsUtf8 line → IsTrue test ↔ IsNothing line
 nothing_tested line test below e h = (λ k. nothing_comment line below e (h.0 k), λ n. h.1 (nothing_text line n below).1)
 
 -- ---- lines that aren't built yet

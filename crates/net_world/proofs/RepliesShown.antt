@@ -5,31 +5,32 @@ use Rattle.std.specs.List.{flat_map, range_with_len}
 use Rattle.std.proofs.lemmas.List.{append_assoc, take_all}
 use Rattle.tree_clock.specs.declared.dots.Range.{Range}
 use Rattle.mld_ops.specs.declared.tagged.Tagged.{Tagged}
+use Rattle.mld_model.specs.Characters.{line_end}
 use Rattle.mld_model.specs.Reply.{reply_text, pair_line, spaced_range, spaced_message, Shows, Took, Answer}
 
 -- a head and a line for each pair, in two steps
 pub pairs_shown : (old mid out head : List ℕ) (pairs : List Tagged) (i : ℕ) → length pairs ≤ i
-    → mid ≡ old ++ head → head ≡ codes "has " ++ (decimal (length pairs) ++ 10 ∷ []) → out ≡ mid ++ flat_map pair_line (take i pairs)
+    → mid ≡ old ++ head → head ≡ codes "has " ++ (decimal (length pairs) ++ line_end ∷ []) → out ≡ mid ++ flat_map pair_line (take i pairs)
     → out ≡ old ++ reply_text (Shows pairs)
 unfolding reply_text
 pairs_shown old mid out head pairs i l m h o =
-    let first : List ℕ = codes "has " ++ (decimal (length pairs) ++ 10 ∷ []) in
+    let first : List ℕ = codes "has " ++ (decimal (length pairs) ++ line_end ∷ []) in
     let lines : List ℕ = flat_map pair_line pairs in
     o ∙ ap (λ w. w ++ flat_map pair_line (take i pairs)) (m ∙ ap (λ w. old ++ w) h) ∙ ap (λ ps. (old ++ first) ++ flat_map pair_line ps) (take_all i pairs l)
     ∙ append_assoc old first lines
-    ∙ ap (λ w. old ++ w) (append_assoc (codes "has ") (decimal (length pairs) ++ 10 ∷ []) lines ∙ ap (λ w. codes "has " ++ w) (append_assoc (decimal (length pairs)) (10 ∷ []) lines))
+    ∙ ap (λ w. old ++ w) (append_assoc (codes "has ") (decimal (length pairs) ++ line_end ∷ []) lines ∙ ap (λ w. codes "has " ++ w) (append_assoc (decimal (length pairs)) (line_end ∷ []) lines))
 
 -- a word, each range behind a space, and the end of the line, in three steps
 pub ranges_shown : (old mid out new head : List ℕ) (ranges : List Range) (i : ℕ) → length ranges ≤ i
-    → mid ≡ old ++ head → head ≡ codes "took" → out ≡ mid ++ flat_map spaced_range (take i ranges) → new ≡ out ++ 10 ∷ []
+    → mid ≡ old ++ head → head ≡ codes "took" → out ≡ mid ++ flat_map spaced_range (take i ranges) → new ≡ out ++ line_end ∷ []
     → new ≡ old ++ reply_text (Took ranges)
 unfolding reply_text
 ranges_shown old mid out new head ranges i l m h o n =
     let text : List ℕ = flat_map spaced_range ranges in
-    n ∙ ap (λ w. w ++ 10 ∷ []) (o ∙ ap (λ w. w ++ flat_map spaced_range (take i ranges)) (m ∙ ap (λ w. old ++ w) h)
+    n ∙ ap (λ w. w ++ line_end ∷ []) (o ∙ ap (λ w. w ++ flat_map spaced_range (take i ranges)) (m ∙ ap (λ w. old ++ w) h)
     ∙ ap (λ rs. (old ++ codes "took") ++ flat_map spaced_range rs) (take_all i ranges l))
-    ∙ append_assoc (old ++ codes "took") text (10 ∷ [])
-    ∙ append_assoc old (codes "took") (text ++ 10 ∷ [])
+    ∙ append_assoc (old ++ codes "took") text (line_end ∷ [])
+    ∙ append_assoc old (codes "took") (text ++ line_end ∷ [])
 
 -- the numbers of messages, one more of them
 pub numbers_more : (first n : ℕ) → flat_map spaced_message (range_with_len first (n + 1)) ≡ flat_map spaced_message (range_with_len first n) ++ spaced_message (first + n)
@@ -45,15 +46,15 @@ numbers_more first (suc n) =
 
 -- a word, each number behind a space, and the end of the line, in three steps
 pub numbers_shown : (old mid out new head : List ℕ) (first count i : ℕ) → i ≡ count
-    → mid ≡ old ++ head → head ≡ codes "answer" → out ≡ mid ++ flat_map spaced_message (range_with_len first i) → new ≡ out ++ 10 ∷ []
+    → mid ≡ old ++ head → head ≡ codes "answer" → out ≡ mid ++ flat_map spaced_message (range_with_len first i) → new ≡ out ++ line_end ∷ []
     → new ≡ old ++ reply_text (Answer (range_with_len first count))
 unfolding reply_text
 numbers_shown old mid out new head first count i l m h o n =
     let text : List ℕ = flat_map spaced_message (range_with_len first count) in
-    n ∙ ap (λ w. w ++ 10 ∷ []) (o ∙ ap (λ w. w ++ flat_map spaced_message (range_with_len first i)) (m ∙ ap (λ w. old ++ w) h)
+    n ∙ ap (λ w. w ++ line_end ∷ []) (o ∙ ap (λ w. w ++ flat_map spaced_message (range_with_len first i)) (m ∙ ap (λ w. old ++ w) h)
     ∙ ap (λ (k : ℕ). (old ++ codes "answer") ++ flat_map spaced_message (range_with_len first k)) l)
-    ∙ append_assoc (old ++ codes "answer") text (10 ∷ [])
-    ∙ append_assoc old (codes "answer") (text ++ 10 ∷ [])
+    ∙ append_assoc (old ++ codes "answer") text (line_end ∷ [])
+    ∙ append_assoc old (codes "answer") (text ++ line_end ∷ [])
 
 -- bytes that are a word's, put behind an output
 pub word_pushed : {X E : Type 0} (r : Result X E) (old new text word : List ℕ) → new ≡ (if is_ok r then old ++ text else old) → text ≡ word → OnOk r (new ≡ old ++ word)

@@ -11,7 +11,7 @@ use Rattle.mld_model.specs.declared.CloneState.TheVariants as states
 use Rattle.mld_model.specs.declared.Command.{Command}
 use Rattle.mld_model.specs.declared.Command.TheVariants.{Add, Remove, Deliver, Show, Compare, Join}
 use Rattle.mld_model.specs.Step.{HasCloneNumbers}
-use Rattle.mld_model.specs.World.{World, Message as ModelMessage, JoinGive, founded}
+use Rattle.mld_model.specs.World.{World, Message as ModelMessage, JoinGive, founded, clone_count}
 use Rattle.mld_model.specs.Reply.{Reply, Did, NoOperation, Took, Held, Shows, Sent, Answer as Answers, Joined, NoMessage, IsAbsent, IsAsking, IsLive}
 use Rattle.mld_model.specs.Sound.{IsSound}
 use Rattle.mld_model.specs.Local.{LocalAsker, LocalClone, next_dot}
@@ -32,6 +32,7 @@ use Rattle.net_world.specs.declared.worlds.Answer.{Answer}
 use Rattle.net_world.specs.declared.worlds.Answer.TheVariants as answers
 use Rattle.net_world.specs.Words.{reply_of, reply_of_covering}
 use Rattle.net_world.specs.Worlds.{IsStanding, Stepped, state_at, HasNextTick, AreFitFor, nth_message, IsMissingWord, Changes, SetsTo, AnswersAt, AnswersAsLive, AnswersAsAsker, IsQuiet, AreSent, DeliversTo, JoinsTo, ShowsAt, ComparesAt, Writes, reply_of_answer}
+use Rattle.tree_clock.specs.Limits.{tick_limit}
 
 -- the same step, said of equal replies and worlds
 follows_as : (world : World) (command : Command) (reply other : Reply) (running next : RunningWorld) → reply ≡ other → running ≡ next
@@ -65,7 +66,7 @@ standing_after old command new before after standing stepped =
     record { world = follows.next; stands = follows.stands; sound = follows.sound }
 
 -- a clone of a world that stands for a sound one has a tick left
-pub has_next_tick : (running : RunningWorld) (number : ℕ) → IsStanding running → running.steps < 4294967295 → HasNextTick running.clones number
+pub has_next_tick : (running : RunningWorld) (number : ℕ) → IsStanding running → running.steps < tick_limit → HasNextTick running.clones number
 has_next_tick running number standing few live is =
     omega (arith, next_tick_within running standing.world standing.stands standing.sound number live (live_at running standing.world standing.stands number live is), few)
 
@@ -367,10 +368,10 @@ module _ (running : RunningWorld) (message number : ℕ) (new : List RunningClon
 -- ---- join
 
 -- the number of a clone that joins is small
-pub below_of : (command : Command) (number : ℕ) → HasCloneNumbers command → command ≡ Join number → number < 32
+pub below_of : (command : Command) (number : ℕ) → HasCloneNumbers command → command ≡ Join number → number < clone_count
 below_of command number has is = subst HasCloneNumbers is has
 
-pub joined : (running : RunningWorld) (number : ℕ) (new : List RunningClone) (sent : List Message) (before after : List ℕ) → number < 32
+pub joined : (running : RunningWorld) (number : ℕ) (new : List RunningClone) (sent : List Message) (before after : List ℕ) → number < clone_count
     → JoinsTo running.domain running.clones running.messages number new sent before after → Stepped running (Join number) (after_step running new sent) before after
 joined running number new sent before after below (inl (live, is, same, none, writes)) =
     quiet running (Join number) new sent before after IsLive same none writes (λ world stands sound. join_live running world stands sound number live is)

@@ -4,6 +4,7 @@ use Rattle.std.specs.Str.{IsUtf8}
 use Rattle.std.specs.Fmt.{decimal}
 use Rattle.rdf_terms.specs.declared.terms.Triple.{Triple}
 use Rattle.rdf_terms.specs.Grammar.{SpellsTriple, IsWithin}
+use Rattle.mld_model.specs.Characters.{space}
 use Rattle.mld_model.specs.declared.Command.TheVariants.{Add, Remove, Deliver, Show, Compare, Join}
 use Rattle.mld_model.specs.declared.Command.{Command}
 use Rattle.mld_model.specs.Schedule.{IsNothing, is_unbuilt, SpellsSetup, SpellsCommand, IsCloneNumber}
@@ -50,14 +51,14 @@ abbrev pub IsRemoveOf : List ℕ → Command → Type 0
 IsRemoveOf rest command = (number : ℕ) × (triple : Triple) × (command ≡ Remove number triple) × IsCloneAndTriple rest number triple
 
 abbrev pub IsDeliverOf : List ℕ → Command → Type 0
-IsDeliverOf rest command = (message : ℕ) × (number : ℕ) × (command ≡ Deliver message number) × (rest ≡ decimal message ++ 32 ∷ decimal number)
+IsDeliverOf rest command = (message : ℕ) × (number : ℕ) × (command ≡ Deliver message number) × (rest ≡ decimal message ++ space ∷ decimal number)
     × (message < 2 ^ 64) × IsCloneNumber number
 
 abbrev pub IsShowOf : List ℕ → Command → Type 0
 IsShowOf rest command = (number : ℕ) × (command ≡ Show number) × (rest ≡ decimal number) × IsCloneNumber number
 
 abbrev pub IsCompareOf : List ℕ → Command → Type 0
-IsCompareOf rest command = (number : ℕ) × (other : ℕ) × (command ≡ Compare number other) × (rest ≡ decimal number ++ 32 ∷ decimal other)
+IsCompareOf rest command = (number : ℕ) × (other : ℕ) × (command ≡ Compare number other) × (rest ≡ decimal number ++ space ∷ decimal other)
     × IsCloneNumber number × IsCloneNumber other
 
 abbrev pub IsJoinOf : List ℕ → Command → Type 0

@@ -1,7 +1,8 @@
 -- What a running world's step has to do with the model, beside the text of its reply.
-use Rattle.std.specs.Prelude.{◌≡◌, ℕ, zero, suc, ◌+◌, ◌<◌, ◌^◌, ◌⊎◌, slice_get, length, List, [], ◌∷◌, ◌++◌, Bool, Option, None, Some, slice_index_or, slice_set}
+use Rattle.std.specs.Prelude.{◌≡◌, ℕ, zero, suc, ◌+◌, ◌<◌, ◌⊎◌, slice_get, length, List, [], ◌∷◌, ◌++◌, Bool, Option, None, Some, slice_index_or, slice_set}
 use Rattle.std.specs.List.{range_with_len}
 use Rattle.rdf_terms.specs.declared.terms.Triple.{Triple}
+use Rattle.tree_clock.specs.Limits.{tick_limit}
 use Rattle.tree_clock.specs.Clock.{ticks_of}
 use Rattle.mld_ops.specs.Entry.{EntryValue}
 use Rattle.mld_ops.specs.Ready.{last_dot}
@@ -50,7 +51,7 @@ state_at clones number = slice_index_or clones number states.Absent
 
 -- the clone of the number, where it is live, has a tick left
 abbrev pub HasNextTick : List RunningClone → ℕ → Type 0
-HasNextTick clones number = (live : LocalClone) → state_at clones number ≡ states.Live live → ticks_of live.ticks live.path + 1 < 2 ^ 32
+HasNextTick clones number = (live : LocalClone) → state_at clones number ≡ states.Live live → ticks_of live.ticks live.path < tick_limit
 
 -- the message, where it is an entry, says no more of the path of the clone of the number than that clone knows; and where it
 -- gives a leaf, its snapshot is a good one

@@ -3,13 +3,15 @@ ghost use Rattle.std.specs.Prelude.{◌≡◌, ◌≢◌, ◌<◌, ◌≤◌, �
 ghost use Rattle.std.specs.List.{list_any};
 ghost use Rattle.std.specs.Fmt.{decimal};
 ghost use Rattle.mld_model.specs.Bytes.{Lacks};
+ghost use Rattle.mld_model.specs.Characters.{space};
 ghost use Rattle.rdf_terms.specs.Domain.{is_domain};
 ghost use Rattle.rdf_terms.specs.declared.terms.Triple.{Triple};
 ghost use Rattle.mld_model.specs.Schedule.{IsNothing, is_unbuilt, unbuilt_words, is_word, first_word, SpellsSetup, SpellsCommand};
+ghost use Rattle.mld_model.specs.World.{clone_count};
 ghost use Rattle.mld_model.specs.declared.Command.{Command};
 ghost use Rattle.net_world.specs.Reading.{SetupIs, CommandIs, IsBadSetup, IsBadCommand, IsTripleOf, IsCloneAndTriple, IsAddOf, IsRemoveOf, IsDeliverOf, IsShowOf, IsCompareOf, IsJoinOf};
 
-use mld_model::Command;
+use mld_model::{CLONE_COUNT, Command};
 use rdf_terms::{Text, Triple, TripleFault, is_domain, read_triple};
 use std::alloc::{AllocError, Global};
 use thiserror::Error;
@@ -19,7 +21,7 @@ use thiserror::Error;
 pub struct Setup {
     /// The name of the domain.
     pub domain: Text,
-    /// How many clones are founded, 1 to 32.
+    /// How many clones are founded, 1 to `CLONE_COUNT`.
     pub clones: u8,
 }
 
@@ -142,14 +144,14 @@ fn first_word(line: &[u8]) -> &[u8]
 
 /// Where the first space is.
 fn first_space(line: &[u8]) -> Option<usize>
-    ensures { MatchOption result (EachIndex line.now (λ k. slice_index line.now k ≢ 32)) (λ place. (place < length line.now) × (slice_index line.now place ≡ 32) × ((k : ℕ) → k < place → slice_index line.now k ≢ 32)) }
+    ensures { MatchOption result (EachIndex line.now (λ k. slice_index line.now k ≢ space)) (λ place. (place < length line.now) × (slice_index line.now place ≡ space) × ((k : ℕ) → k < place → slice_index line.now k ≢ space)) }
 {
     line.iter().position(|byte| *byte == b' ')
 }
 
 /// The bytes before the first space, and those behind it.
 fn split_at_space(line: &[u8]) -> Option<(&[u8], &[u8])>
-    ensures { MatchOption result (Lacks 32 line.now) (λ parts. (line.now ≡ parts.0.now ++ 32 ∷ parts.1.now) × Lacks 32 parts.0.now) }
+    ensures { MatchOption result (Lacks space line.now) (λ parts. (line.now ≡ parts.0.now ++ space ∷ parts.1.now) × Lacks space parts.0.now) }
 {
     let place = first_space(line)?;
     Some((&line[..place], &line[place + 1..]))
@@ -197,14 +199,15 @@ fn read_domain(alloc: Global, text: &[u8]) -> Result<Option<Text>, AllocError>
     Ok(Some(Text::new(alloc, text)?))
 }
 
-/// How many clones there are, 1 to 32.
+/// How many clones there are, 1 to `CLONE_COUNT`.
 fn read_count(alloc: Global, text: &[u8]) -> Result<Option<u8>, AllocError>
-    ensures { IfOk result (λ found. MatchOption found ((number : ℕ) → 1 ≤ number → number ≤ 32 → text.now ≢ decimal number) (λ number. (1 ≤ number) × (number ≤ 32) × (text.now ≡ decimal number))) }
+    ensures { IfOk result (λ found. MatchOption found ((number : ℕ) → 1 ≤ number → number ≤ clone_count → text.now ≢ decimal number) (λ number. (1 ≤ number) × (number ≤ clone_count) × (text.now ≡ decimal number))) }
 {
     let Some(number) = read_number(alloc, text)? else {
         return Ok(None);
     };
-    if number < 1 || number > 32 {
+    let most = u64::from(CLONE_COUNT);
+    if number < 1 || number > most {
         return Ok(None);
     }
     Ok(Some(number as u8))
@@ -227,14 +230,14 @@ fn read_number(alloc: Global, text: &[u8]) -> Result<Option<u64>, AllocError>
     Ok(Some(number))
 }
 
-/// The number of a clone, 0 to 31.
+/// The number of a clone, below `CLONE_COUNT`.
 fn read_clone(alloc: Global, text: &[u8]) -> Result<Option<u8>, AllocError>
-    ensures { IfOk result (λ found. MatchOption found ((number : ℕ) → number < 32 → text.now ≢ decimal number) (λ number. (number < 32) × (text.now ≡ decimal number))) }
+    ensures { IfOk result (λ found. MatchOption found ((number : ℕ) → number < clone_count → text.now ≢ decimal number) (λ number. (number < clone_count) × (text.now ≡ decimal number))) }
 {
     let Some(number) = read_number(alloc, text)? else {
         return Ok(None);
     };
-    if number >= 32 {
+    if number >= u64::from(CLONE_COUNT) {
         return Ok(None);
     }
     Ok(Some(number as u8))

@@ -40,7 +40,7 @@ pub struct CloneSummary {
     pub tagged: Vec<Tagged>,
 }
 
-/// What a run tells of its world: the 32 clones, by number.
+/// What a run tells of its world: its clones, absent ones with them, by number.
 #[derive(Drop)]
 pub struct Summary {
     /// The clones.

@@ -1,10 +1,12 @@
-//! The world: 32 clones, and every message ever sent.
+//! The world: its clones, and every message ever sent.
 ghost use Rattle.std.specs.Prelude.{◌≡◌, ◌+◌, ◌<◌, ◌≤◌, [], length, vec_len, map, option_copied, IfOk, OnOk};
 ghost use Rattle.std.specs.List.{range_with_len};
 ghost use Rattle.mld_model.specs.StandsFor.{id_of, founded_local};
 ghost use Rattle.mld_ops.specs.Entry.{EntryValue};
 ghost use Rattle.mld_ops.specs.declared.messages.Message.TheVariants as kinds;
 ghost use Rattle.mld_model.specs.Local.{IsForeign, blank_clone};
+ghost use Rattle.mld_model.specs.World.{clone_count};
+ghost use Rattle.tree_clock.specs.Limits.{tick_limit};
 ghost use Rattle.clone_core.specs.Joining.{IsGoodMessage};
 ghost use Rattle.net_world.specs.Founding.{leaf_before};
 ghost use Rattle.net_world.specs.Words.{reply_of, reply_of_covering};
@@ -16,7 +18,7 @@ use crate::replies::{
 };
 use crate::summaries::{Summary, summarize};
 use clone_core::{Adopted, Asker, Covering, Done, Got, MldClone, ReceiveFault, UpdateFault};
-use mld_model::{CloneState, Command};
+use mld_model::{CLONE_COUNT, CloneState, Command};
 use mld_ops::{Entry, Message, Messages};
 use rdf_terms::{Text, Triple};
 use std::alloc::{AllocError, Global};
@@ -25,9 +27,6 @@ use std::mem;
 use std::thread::Threads;
 use tree_clock::{Dot, Leaf, Path};
 use uuid::Uuid;
-
-/// How many clones there are.
-const CLONE_COUNT: u8 = 32;
 
 /// A world that runs.
 #[derive(Drop)]
@@ -41,12 +40,13 @@ pub struct World {
 impl Model for World {
     ghost use Rattle.std.specs.Prelude.{◌≡◌, vec_len};
     ghost use Rattle.mld_model.specs.StandsFor.{RunningWorld};
+    ghost use Rattle.mld_model.specs.World.{clone_count};
 
     ghost Value = { RunningWorld };
 
     ghost view = { λ w. record { domain = w.domain; clones = w.clones.items; messages = w.messages.items; steps = w.steps } };
 
-    ghost invariant = { λ w. vec_len w.clones ≡ 32 };
+    ghost invariant = { λ w. vec_len w.clones ≡ clone_count };
 }
 
 /// What became of a triple that was to be there, or to be gone, at a clone.
@@ -85,7 +85,7 @@ impl World {
     /// The founded world: the clones from 0 on are live, each with a leaf of its own, and the others are absent.
     pub fn found(alloc: Global, setup: &Setup) -> Result<World, AllocError>
         requires some { 1 ≤ setup.now.clones }
-        requires most { setup.now.clones ≤ 32 }
+        requires most { setup.now.clones ≤ clone_count }
         ensures founded { IfOk result (λ world. world ≡ founded_running setup.now.domain setup.now.clones) }
         ensures standing { IfOk result IsStanding }
     {
@@ -114,7 +114,7 @@ impl World {
         command: &Command,
         out: &mut Vec<u8>,
     ) -> Result<(), AllocError>
-        requires few { self.old.steps < 4294967295 }
+        requires few { self.old.steps < tick_limit }
         requires standing { IsStanding self.old }
         requires numbers { HasCloneNumbers command.now }
         ensures done { OnOk result (Stepped self.old command.now self.new out.old.items out.new.items) }
@@ -154,8 +154,8 @@ fn founded_clones(
     count: u8,
 ) -> Result<Vec<CloneState<Asker, MldClone>>, AllocError>
     requires some { 1 ≤ count }
-    requires most { count ≤ 32 }
-    ensures { IfOk result (λ clones. clones.items ≡ map (founded_local domain.now count) (range_with_len 0 32)) }
+    requires most { count ≤ clone_count }
+    ensures { IfOk result (λ clones. clones.items ≡ map (founded_local domain.now count) (range_with_len 0 clone_count)) }
 {
     let mut leaf = Leaf::genesis();
     let mut others = Vec::new(alloc);
@@ -177,7 +177,7 @@ fn forked_clone(
     number: u8,
 ) -> Result<CloneState<Asker, MldClone>, AllocError>
     requires first { 1 ≤ number }
-    requires room { count ≤ 32 }
+    requires room { count ≤ clone_count }
     requires leaf { leaf.old ≡ leaf_before count number }
     ensures leaf { OnOk result (leaf.new ≡ leaf_before count (number + 1)) }
     ensures clone { IfOk result (λ clone. clone ≡ founded_local domain.now count number) }
