@@ -5,7 +5,7 @@ use Rattle.mld_io.specs.declared.faults.LineFault.{LineFault}
 use Rattle.mld_io.specs.declared.faults.LineFault.TheVariants as line_faults
 use Rattle.mld_io.specs.Lines.{LinesValue, NextLine, IsTooLarge, IsCutShort, lines_of, after_line, line_size}
 use Rattle.mld_io.specs.LinesLaws.{first_of_lines_lem}
-use Rattle.mld.specs.Limits.{left_after, size_of_lines, BreaksLimits, IsTooLargeLine}
+use Rattle.mld.specs.Limits.{left_after, size_of_lines, BreaksLimits, IsTooLargeLine, line_limit, input_limit}
 use Rattle.mld.specs.Ran.{TakesLine}
 use Rattle.mld.specs.UnderWay.{IsLeft}
 
@@ -76,14 +76,14 @@ taken_left given left size grown done lines line rest left_of takes bytes is =
     }
 
 -- what a call for the next line says of a line
-pub takes_line : (lines : LinesValue) (bytes : List ℕ) (line : Option (List ℕ)) (taken : ℕ) (left : Option (List ℕ)) → lines.line ≡ 1048576 → lines.all ≡ 16777216
+pub takes_line : (lines : LinesValue) (bytes : List ℕ) (line : Option (List ℕ)) (taken : ℕ) (left : Option (List ℕ)) → lines.line ≡ line_limit → lines.all ≡ input_limit
     → NextLine lines bytes (Ok line) taken left → TakesLine lines.taken bytes left taken line
 takes_line lines bytes None taken left in_line in_all next = (next.empty, next.none_left)
 takes_line lines bytes (Some piece) taken left in_line in_all next =
     (next.some, next.piece_is, next.left_is, next.taken_is, λ large. large.too_large (omega (arith, in_line, next.fits.in_line), omega (arith, in_all, next.fits.in_all)))
 
 -- and of one that is too large
-pub breaks_limits : (lines : LinesValue) (bytes : List ℕ) (fault : LineFault) (taken : ℕ) (left : Option (List ℕ)) → lines.line ≡ 1048576 → lines.all ≡ 16777216
+pub breaks_limits : (lines : LinesValue) (bytes : List ℕ) (fault : LineFault) (taken : ℕ) (left : Option (List ℕ)) → lines.line ≡ line_limit → lines.all ≡ input_limit
     → fault ≡ line_faults.TooLarge → NextLine lines bytes (Err fault) taken left → BreaksLimits lines.taken bytes
 breaks_limits lines bytes fault taken left in_line in_all is next =
     let P : LineFault → Type 0 = λ f. NextLine lines bytes (Err f) taken left in

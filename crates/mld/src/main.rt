@@ -12,6 +12,7 @@ use std::thread::Threads;
 mod held_tests;
 #[cfg(test)]
 mod join_tests;
+mod limits;
 mod run;
 #[cfg(test)]
 mod summary_tests;

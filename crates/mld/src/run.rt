@@ -9,22 +9,18 @@ ghost use Rattle.mld_model.specs.Runs.{Stage, Waiting, Running, Outcome, Verdict
 ghost use Rattle.mld_model.specs.Sound.{IsSound};
 ghost use Rattle.mld_model.specs.StandsFor.{StandsFor};
 ghost use Rattle.net_world.specs.Worlds.{IsStanding};
+ghost use Rattle.tree_clock.specs.Limits.{tick_limit};
 ghost use Rattle.mld.specs.Stops.{fault_of};
-ghost use Rattle.mld.specs.Limits.{BreaksLimits};
+ghost use Rattle.mld.specs.Limits.{BreaksLimits, line_limit, input_limit};
 ghost use Rattle.mld.specs.Summaries.{TellsOf};
 ghost use Rattle.mld.specs.Ran.{status_of, tells, IsReplay, Finishes, StopsAtBad, StopsAtUnbuilt, StopsAtLarge, BreaksOff, WritesFront, SummarizesWorld, EndsBy, Agrees, StageStands, IsStandingStage, ActsWell, steps_of, TakesLine, IfSomeLine, IsReadingFault, IsWritingFault, IsLineFault, HasReadCause, HasWriteCause};
 
+use crate::limits::{INPUT_LIMIT, LINE_LIMIT};
 use mld_io::{LineFault, Lines, Piece, Sink, Source, WriteFault, write_all};
 use net_world::{LineRefusal, Summary, World, push_ready, read_command, read_setup};
 use std::alloc::{AllocError, Global};
 use std::thread::Threads;
 use thiserror::Error;
-
-/// How many bytes a line has at most, without its LF.
-const LINE_LIMIT: usize = 1_048_576;
-
-/// How many bytes the input has at most.
-const INPUT_LIMIT: u64 = 16_777_216;
 
 /// Why a run ended before its input did.
 #[derive(Clone, Copy, Debug, PartialEq, Eq, Error)]
@@ -236,8 +232,8 @@ fn next_line<S: Source>(
     number: u64,
 ) -> Result<Option<Piece>, RunFault>
     requires good { IsTrue lines.old.good }
-    requires line { lines.old.line ≡ 1048576 }
-    requires all { lines.old.all ≡ 16777216 }
+    requires line { lines.old.line ≡ line_limit }
+    requires all { lines.old.all ≡ input_limit }
     ensures line { (bytes : List ℕ) → S.left source.old ≡ Some bytes → IfOk result (TakesLine lines.old.taken bytes (S.left source.new) lines.new.taken) }
     ensures large { (at : ℕ) → IsErrOf result (RunFault.TooLarge at) → (at ≡ number) × ((bytes : List ℕ) → S.left source.old ≡ Some bytes → BreaksLimits lines.old.taken bytes) }
     ensures broken_off { IsErrOf result RunFault.ReadFault → (bytes : List ℕ) → S.left source.old ≡ Some bytes → IsCutShort bytes (S.left source.new) }
@@ -277,7 +273,7 @@ fn act<R: Threads>(
     line: &[u8],
     number: u64,
 ) -> Result<Vec<u8>, RunFault>
-    requires few { steps_of world.old < 4294967295 }
+    requires few { steps_of world.old < tick_limit }
     requires standing { IsStandingStage world.old }
     ensures ok { IfOk result (λ text. (stage : Stage) → StageStands world.old stage → ActsWell stage line.now text.items world.new) }
     ensures steps { OnOk result (steps_of world.new ≤ steps_of world.old + 1) }
@@ -337,7 +333,7 @@ fn command<R: Threads>(
     world: &mut World,
     line: &[u8],
 ) -> Result<Vec<u8>, LineRefusal>
-    requires few { world.old.steps < 4294967295 }
+    requires few { world.old.steps < tick_limit }
     requires standing { IsStanding world.old }
     ensures ok { IfOk result (λ text. (model : ModelWorld) → StandsFor world.old model → IsSound model → ActsWell (Running model) line.now text.items (Some world.new)) }
     ensures steps { OnOk result (world.new.steps ≤ world.old.steps + 1) }

@@ -1,4 +1,5 @@
 use Rattle.std.proofs.Common.{◌≡◌, ◌-◌, ◌≤◌, IsTrue}
+use Rattle.mld.specs.Limits.{line_limit, input_limit}
 use Rattle.mld.specs.UnderWay.{IsUnderWay}
 use Rattle.mld.proofs.run.replay.Given as goal
 
@@ -6,8 +7,8 @@ abbrev pub invariant-loop-line : goal.invariant-loop-line
 invariant-loop-line g l = record {
   way : IsUnderWay (g.S.Source.left l.fn.source) (g.S.Source.left l.source) (g.K.Sink.held l.fn.sink) (g.K.Sink.held l.sink) l.lines.taken l.world l.done;
   good : IsTrue l.lines.good;
-  line : l.lines.line ≡ 1048576;
-  all : l.lines.all ≡ 16777216;
+  line : l.lines.line ≡ line_limit;
+  all : l.lines.all ≡ input_limit;
   few : l.done ≤ l.lines.taken;
   within : l.lines.taken ≤ l.lines.all;
   reads : g.S.Source.faults l.source ≡ g.S.Source.faults l.fn.source;
