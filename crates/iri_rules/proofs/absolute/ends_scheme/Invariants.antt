@@ -1,6 +1,6 @@
 use Rattle.std.proofs.Common.{◌≡◌, drop}
-use Rattle.rdf_terms.specs.Iri.{ends_scheme}
-use Rattle.rdf_terms.proofs.grammar.ends_scheme.Given as goal
+use Rattle.iri_rules.specs.Iri.{ends_scheme}
+use Rattle.iri_rules.proofs.absolute.ends_scheme.Given as goal
 
 -- what is left decides
 abbrev pub invariant-loop-byte : goal.invariant-loop-byte

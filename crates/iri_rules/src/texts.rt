@@ -1,7 +1,5 @@
 //! Text that contracts see as the list of its bytes.
-ghost use Rattle.std.specs.Prelude.{◌≡◌, ◌==◌, IfOk, IsTrue, length};
-ghost use Rattle.std.specs.Str.{str_to_ascii_lowercase};
-ghost use Rattle.rdf_terms.specs.Literal.{is_language_tag};
+ghost use Rattle.std.specs.Prelude.{◌≡◌, ◌==◌, IfOk, length};
 
 use std::alloc::{AllocError, Global};
 use std::marker::Model;
@@ -22,19 +20,6 @@ impl Model for Text {
 }
 
 impl Text {
-    /// A language tag in lower case.
-    #[tactic(auto, using(crate::proofs::Tags::tag_small))]
-    pub(crate) fn from_tag(alloc: Global, tag: &str) -> Result<Text, AllocError>
-        requires { IsTrue (is_language_tag tag.now) }
-        ensures { IfOk result (λ t. t ≡ str_to_ascii_lowercase tag.now) }
-    {
-        let mut inner = String::new(alloc);
-        for byte in tag.as_bytes() {
-            inner.push(char::from(byte.to_ascii_lowercase()))?;
-        }
-        Ok(Text { inner })
-    }
-
     /// A copy of the text.
     pub fn new(alloc: Global, text: &str) -> Result<Text, AllocError>
         ensures { IfOk result (λ t. t ≡ text.now) }
@@ -70,6 +55,18 @@ impl Text {
         ensures { result.now ≡ self.now }
     {
         self.inner.as_str()
+    }
+}
+
+impl From<String> for Text {
+    ghost use Rattle.std.specs.Prelude.{◌≡◌};
+    ghost use Rattle.std.specs.String.{string_bytes};
+
+    ghost from_gives = { λ string text. text ≡ string_bytes string };
+
+    /// The text of a string, which is moved.
+    fn from(inner: String) -> Text {
+        Text { inner }
     }
 }
 

@@ -1,0 +1,2 @@
+pub mod Iri
+pub mod Domain
