@@ -4,7 +4,7 @@ use std::alloc::Global;
 use std::test::Fail;
 
 /// A text of so many times `a`.
-fn letters(alloc: Global, count: usize) -> Result<String, Fail> {
+pub(crate) fn letters(alloc: Global, count: usize) -> Result<String, Fail> {
     let mut text = String::new(alloc);
     for _ in 0..count {
         text.push('a')?;
