@@ -1,5 +1,5 @@
 -- IRIs as bytes of UTF-8 (RDF 1.1 Concepts section 3.2; RFC 3986 section 3.1; N-Triples 1.1, IRIREF).
-use Rattle.std.specs.Prelude.{ℕ, List, [], ◌∷◌, ◌++◌, Bool, true, false, ◌&&◌, ◌||◌, not, nat_le, ◌==◌, length, if◌then◌else◌}
+use Rattle.std.specs.Prelude.{ℕ, List, [], ◌∷◌, Bool, true, false, ◌&&◌, ◌||◌, not, nat_le, ◌==◌, length, if◌then◌else◌}
 use Rattle.std.specs.List.{list_all}
 use Rattle.iri_rules.specs.declared.absolute.TheConstants.{IRI_LIMIT}
 
@@ -40,7 +40,3 @@ iri_limit = IRI_LIMIT
 -- an absolute IRI within the limit
 abbrev pub is_absolute : List ℕ → Bool
 is_absolute text = nat_le (length text) iri_limit && is_iri text
-
--- an IRI as it is written
-abbrev pub iri_text : List ℕ → List ℕ
-iri_text iri = 60 ∷ (iri ++ 62 ∷ [])

@@ -8,10 +8,9 @@ use Rattle.std.specs.Ordering.{nat_cmp, ordering_reverse}
 use Rattle.std.specs.declared.cmp.Ordering.TheVariants.{Less, Equal, Greater}
 use Rattle.rdf_terms.specs.declared.terms.Kind.{Kind}
 use Rattle.rdf_terms.specs.declared.terms.Kind.TheVariants.{Datatype, Language}
-use Rattle.rdf_terms.specs.Iri.{iri_text}
 use Rattle.rdf_terms.specs.Literal.{LiteralValue, Typed, Tagged, xsd_string, is_same}
 use Rattle.rdf_terms.specs.LiteralView.{literal_of}
-use Rattle.rdf_terms.specs.Spelling.{datatype_text, escaped, literal_text}
+use Rattle.rdf_terms.specs.Spelling.{iri_text, datatype_text, escaped, literal_text}
 use Rattle.rdf_terms.specs.Compare.{common, rank, rank_at, suffix_text}
 
 pub rank_at_read : (xs : List ℕ) (i : ℕ) → i < length xs → rank_at xs i ≡ rank (get_or xs i 0)

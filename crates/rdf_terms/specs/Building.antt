@@ -1,13 +1,14 @@
 -- What a triple must be for its value to be made, and when a text is refused.
-use Rattle.std.specs.Prelude.{ℕ, List, Bool, ◌&&◌, not, nat_le, ◌≤◌, IsTrue, length}
+use Rattle.std.specs.Prelude.{ℕ, List, Bool, ◌&&◌, nat_le, IsTrue, length}
+use Rattle.iri_rules.specs.Iri.{is_absolute, iri_limit}
 use Rattle.rdf_terms.specs.declared.faults.TripleFault.{TripleFault}
 use Rattle.rdf_terms.specs.declared.faults.TripleFault.TheVariants.{NotTriple, TooLong, NoMemory}
 use Rattle.rdf_terms.specs.declared.terms.Term.{Term}
 use Rattle.rdf_terms.specs.declared.terms.Term.TheVariants as terms
 use Rattle.rdf_terms.specs.declared.terms.Triple.{Triple}
 use Rattle.rdf_terms.specs.Grammar.{SpellsTriple, IsWithin}
-use Rattle.rdf_terms.specs.Iri.{is_absolute, iri_limit}
-use Rattle.rdf_terms.specs.Literal.{Typed, Tagged, rdf_lang_string, is_same, is_language_tag, lexical_limit}
+use Rattle.rdf_terms.specs.Literal.{Typed, Tagged, IsLiteral, lexical_limit}
+use Rattle.rdf_terms.specs.Places.{IsPlace}
 
 -- no IRI of the term and no lexical form is too long
 abbrev pub is_term_within : Term → Bool
@@ -22,9 +23,7 @@ is_within triple = nat_le (length triple.s) iri_limit && nat_le (length triple.p
 -- a term whose value may be made
 abbrev pub IsSound : Term → Type 0
 IsSound (terms.Iri iri) = IsTrue (is_absolute iri)
-IsSound (terms.Literal (Typed lexical datatype)) =
-    (length lexical ≤ lexical_limit) × IsTrue (is_absolute datatype) × IsTrue (not (is_same datatype rdf_lang_string))
-IsSound (terms.Literal (Tagged lexical tag)) = (length lexical ≤ lexical_limit) × IsTrue (is_language_tag tag)
+IsSound (terms.Literal literal) = IsLiteral literal
 
 -- a triple whose value may be made
 pub record IsSoundTriple (triple : Triple) : Type 0 where
@@ -32,8 +31,13 @@ pub record IsSoundTriple (triple : Triple) : Type 0 where
   pub predicate : IsTrue (is_absolute triple.p)
   pub object : IsSound triple.o
 
+-- the text spells no triple, and up to this place it begins one
+pub record IsNoTriple (text : List ℕ) (place : ℕ) : Type 0 where
+  pub unspelled : (triple : Triple) → ¬ SpellsTriple text triple
+  pub exact : IsPlace text place
+
 -- when a text is refused as a triple, want of memory aside
 abbrev pub RefusesTriple : List ℕ → TripleFault → Type 0
-RefusesTriple text (NotTriple place) = (triple : Triple) → ¬ SpellsTriple text triple
+RefusesTriple text (NotTriple place) = IsNoTriple text place
 RefusesTriple text TooLong = (triple : Triple) × SpellsTriple text triple × (¬ IsWithin triple)
 RefusesTriple text NoMemory = Unit {0}

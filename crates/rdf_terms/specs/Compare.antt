@@ -2,6 +2,7 @@
 use Rattle.std.specs.Prelude.{ℕ, suc, zero, List, [], ◌∷◌, ◌*◌, ◌==◌, if◌then◌else◌}
 use Rattle.rdf_terms.specs.declared.terms.Kind.{Kind}
 use Rattle.rdf_terms.specs.declared.terms.Kind.TheVariants.{Datatype, Language}
+use Rattle.rdf_terms.specs.Marks.{line_feed, carriage_return, quote, at_sign, backslash}
 use Rattle.rdf_terms.specs.Spelling.{datatype_text}
 
 -- how many bytes two texts have in common from their starts
@@ -13,10 +14,10 @@ common (x ∷ xs) (y ∷ ys) = if x == y then suc (common xs ys) else 0
 -- where a byte of a lexical form stands among all bytes, as it is written: by its first written byte, then by its second
 abbrev pub rank : ℕ → ℕ
 rank byte =
-    if byte == 34 then 23586
-    else (if byte == 92 then 23644
-    else (if byte == 10 then 23662
-    else (if byte == 13 then 23666 else byte * 256)))
+    if byte == quote then 23586
+    else (if byte == backslash then 23644
+    else (if byte == line_feed then 23662
+    else (if byte == carriage_return then 23666 else byte * 256)))
 
 -- the rank of the byte at a place, or of the quote that ends the lexical form
 abbrev pub rank_at : List ℕ → ℕ → ℕ
@@ -27,4 +28,4 @@ rank_at (byte ∷ bytes) (suc place) = rank_at bytes place
 -- what is written behind the quotes of a literal
 abbrev pub suffix_text : Kind → List ℕ
 suffix_text (Datatype iri) = datatype_text iri
-suffix_text (Language tag) = 64 ∷ tag
+suffix_text (Language tag) = at_sign ∷ tag

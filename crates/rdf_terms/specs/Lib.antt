@@ -1,5 +1,4 @@
-pub mod Iri
-pub mod Domain
+pub mod Marks
 pub mod Literal
 pub mod LiteralView
 pub mod Spelling
@@ -8,10 +7,11 @@ pub mod OrderLaws
 pub mod Compare
 pub mod Faults
 pub mod Kept
+pub mod Escapes
 pub mod Grammar
+pub mod Places
 pub mod Reading
-pub mod Fronts
-pub mod ReadingLaws
+pub mod Reads
 pub mod Parts
 pub mod Building
-pub mod Plain
+pub mod Written

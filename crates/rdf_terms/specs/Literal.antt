@@ -3,7 +3,9 @@
 use Rattle.std.specs.Prelude.{◌≡◌, ℕ, List, [], ◌∷◌, Bool, true, false, ◌&&◌, ◌||◌, not, nat_le, nat_eq, ◌==◌, IsTrue, length, if◌then◌else◌, codes}
 use Rattle.std.specs.Cmp.Lexicographic.{pointwise}
 use Rattle.std.specs.Str.{str_to_ascii_lowercase}
-use Rattle.rdf_terms.specs.Iri.{is_letter, is_digit, is_absolute}
+use Rattle.rdf_terms.specs.declared.limits.TheConstants.{LEXICAL_LIMIT}
+use Rattle.rdf_terms.specs.Marks.{dash}
+use Rattle.iri_rules.specs.Iri.{is_letter, is_digit, is_absolute}
 
 -- a literal: a lexical form with its datatype, or a lexical form with its language tag
 pub data LiteralValue : Type 0 where
@@ -26,13 +28,13 @@ is_same = pointwise nat_eq
 abbrev pub is_subtags : Bool → List ℕ → Bool
 is_subtags full [] = full
 is_subtags full (byte ∷ bytes) =
-    if byte == 45 then (full && is_subtags false bytes) else ((is_letter byte || is_digit byte) && is_subtags true bytes)
+    if byte == dash then (full && is_subtags false bytes) else ((is_letter byte || is_digit byte) && is_subtags true bytes)
 
 -- letters first, then subtags: the first part of a language tag has letters alone
 abbrev pub is_primary : Bool → List ℕ → Bool
 is_primary full [] = full
 is_primary full (byte ∷ bytes) =
-    if byte == 45 then (full && is_subtags false bytes) else (is_letter byte && is_primary true bytes)
+    if byte == dash then (full && is_subtags false bytes) else (is_letter byte && is_primary true bytes)
 
 -- a language tag: letters, then any number of times `-` with letters or digits (N-Triples 1.1, LANGTAG)
 unfoldable pub is_language_tag : List ℕ → Bool
@@ -40,7 +42,7 @@ is_language_tag text = is_primary false text
 
 -- how many bytes a lexical form has at most
 abbrev pub lexical_limit : ℕ
-lexical_limit = 1048576
+lexical_limit = LEXICAL_LIMIT
 
 -- what every literal keeps
 abbrev pub IsLiteral : LiteralValue → Type 0

@@ -4,8 +4,7 @@ use Rattle.std.specs.Ordering.{nat_cmp, ordering_then}
 use Rattle.std.specs.declared.cmp.Ordering.{Ordering}
 use Rattle.rdf_terms.specs.declared.terms.Term.{Term}
 use Rattle.rdf_terms.specs.declared.terms.Triple.{Triple}
-use Rattle.rdf_terms.specs.Iri.{iri_text}
-use Rattle.rdf_terms.specs.Spelling.{term_text}
+use Rattle.rdf_terms.specs.Spelling.{iri_text, term_text}
 
 -- the order of terms
 unfoldable pub term_cmp : Term → Term → Ordering

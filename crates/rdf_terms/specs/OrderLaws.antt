@@ -14,9 +14,8 @@ use Rattle.std.proofs.lemmas.List.{same_from_push}
 use Rattle.std.proofs.lemmas.Slice.Eq.{bytes_eq-Decides}
 use Rattle.rdf_terms.specs.declared.terms.Term.TheVariants as terms
 use Rattle.rdf_terms.specs.declared.terms.Triple.{Triple}
-use Rattle.rdf_terms.specs.Iri.{iri_text}
 use Rattle.rdf_terms.specs.Literal.{LiteralValue, Typed, Tagged, xsd_string, is_same}
-use Rattle.rdf_terms.specs.Spelling.{escaped_byte, escaped, datatype_text, literal_text, term_text}
+use Rattle.rdf_terms.specs.Spelling.{iri_text, escaped_byte, escaped, datatype_text, literal_text, term_text}
 use Rattle.rdf_terms.specs.Order.{term_cmp, triple_cmp}
 use Rattle.rdf_terms.specs.Compare.{common, rank, rank_at}
 

@@ -1,5 +1,4 @@
--- The parts of a triple's text as the triple that they stand for.
-use Rattle.std.specs.Str.{str_to_ascii_lowercase}
+-- The parts of a triple that were read, of any lengths, as the triple that they are.
 use Rattle.rdf_terms.specs.declared.terms.Term.{Term}
 use Rattle.rdf_terms.specs.declared.terms.Term.TheVariants as terms
 use Rattle.rdf_terms.specs.declared.terms.Triple.{Triple}
@@ -10,10 +9,10 @@ use Rattle.rdf_terms.specs.Literal.{Typed, Tagged}
 
 -- the object of its parts
 abbrev pub object_value : ObjectParts → Term
-object_value (parts.Iri iri) = terms.Iri iri.now
-object_value (parts.Typed lexical datatype) = terms.Literal (Typed lexical.now datatype.now)
-object_value (parts.Tagged lexical tag) = terms.Literal (Tagged lexical.now (str_to_ascii_lowercase tag.now))
+object_value (parts.Iri iri) = terms.Iri iri
+object_value (parts.Typed lexical datatype) = terms.Literal (Typed lexical datatype)
+object_value (parts.Tagged lexical tag) = terms.Literal (Tagged lexical tag)
 
 -- the triple of its parts
 abbrev pub triple_value : TripleParts → Triple
-triple_value p = record { s = p.s.now; p = p.p.now; o = object_value p.o }
+triple_value p = record { s = p.s; p = p.p; o = object_value p.o }

@@ -1,120 +1,197 @@
--- The reading of a triple's text, from its front: each function gives what it read and the rest, or nothing.
-use Rattle.std.specs.Prelude.{ℕ, suc, List, [], ◌∷◌, Bool, false, ◌&&◌, ◌||◌, ◌==◌, Option, Some, None, if◌then◌else◌, take, drop}
+-- How a triple's text is read, byte by byte: what was read so far, what a byte makes of it, and where reading ends.
+use Rattle.std.specs.Prelude.{ℕ, zero, suc, ◌+◌, ◌-◌, ◌*◌, ◌^◌, ◌≡◌, ◌≤◌, List, [], ◌∷◌, ◌++◌, Bool, true, false, ◌&&◌, ◌||◌, ◌==◌, nat_lt, Option, Some, None, if◌then◌else◌, length, drop, encode_utf8}
+use Rattle.std.specs.Char.{digit_value}
 use Rattle.std.specs.Str.{str_to_ascii_lowercase}
+use lib.Utf8.{scalar}
+use Rattle.iri_rules.specs.Iri.{is_letter, is_digit, is_scheme_byte, is_excluded}
+use Rattle.rdf_terms.specs.declared.faults.TripleFault.{TripleFault}
+use Rattle.rdf_terms.specs.declared.faults.TripleFault.TheVariants.{NotTriple, TooLong, NoMemory}
+use Rattle.rdf_terms.specs.declared.spots.Spot.{Spot}
+use Rattle.rdf_terms.specs.declared.spots.Spot.TheVariants.{SchemeStart, Scheme, IriRest, Lexical}
 use Rattle.rdf_terms.specs.declared.terms.Term.{Term}
 use Rattle.rdf_terms.specs.declared.terms.Term.TheVariants as terms
 use Rattle.rdf_terms.specs.declared.terms.Triple.{Triple}
-use Rattle.rdf_terms.specs.Grammar.{is_blank, is_blanks, is_plain}
-use Rattle.rdf_terms.specs.Iri.{is_iri, is_letter, is_digit}
-use Rattle.rdf_terms.specs.Literal.{LiteralValue, Typed, Tagged, xsd_string, rdf_lang_string, is_same, is_language_tag}
+use Rattle.rdf_terms.specs.Escapes.{is_hexadecimal, is_escape_letter, letter_value, is_plain_byte}
+use Rattle.rdf_terms.specs.Grammar.{is_blank}
+use Rattle.rdf_terms.specs.Literal.{Typed, Tagged, xsd_string, rdf_lang_string, is_same}
+use Rattle.rdf_terms.specs.Marks.{quote, dash, dot, colon, less, greater, at_sign, backslash, hat, capital_u, small_u}
 
--- how many bytes at the front pass a test
-abbrev pub run_len : (ℕ → Bool) → List ℕ → ℕ
-run_len test [] = 0
-run_len test (byte ∷ bytes) = if test byte then suc (run_len test bytes) else 0
+-- ---- within a term
 
--- what is behind the blanks at the front
-unfoldable pub skip_blanks : List ℕ → List ℕ
-skip_blanks text = drop (run_len is_blank text) text
+-- where the next character stands, behind a character of this code
+abbrev pub after : Spot → ℕ → Option Spot
+after SchemeStart code = if is_letter code then Some Scheme else None
+after Scheme code = if code == colon then Some IriRest else (if is_scheme_byte code then Some Scheme else None)
+after IriRest code = if is_excluded code then None else Some IriRest
+after Lexical code = Some Lexical
 
--- one byte more in front of what was read
-abbrev pub onto : ℕ → Option (List ℕ × List ℕ) → Option (List ℕ × List ℕ)
-onto byte None = None
-onto byte (Some parts) = Some (byte ∷ parts.0, parts.1)
+-- the same behind a byte that stands for itself
+abbrev pub after_plain : Spot → ℕ → Option Spot
+after_plain SchemeStart byte = after SchemeStart byte
+after_plain Scheme byte = after Scheme byte
+after_plain IriRest byte = after IriRest byte
+after_plain Lexical byte = if is_plain_byte byte then Some Lexical else None
 
--- what is before a mark and what is behind it
-abbrev pub cut : ℕ → List ℕ → Option (List ℕ × List ℕ)
-cut mark [] = None
-cut mark (byte ∷ bytes) = if byte == mark then Some ([], bytes) else onto byte (cut mark bytes)
+-- the byte is the mark that closes the term
+abbrev pub closes : Spot → ℕ → Bool
+closes SchemeStart byte = false
+closes Scheme byte = false
+closes IriRest byte = byte == greater
+closes Lexical byte = byte == quote
 
--- an IRI that was cut out, if it is one
-abbrev pub checked_iri : Option (List ℕ × List ℕ) → Option (List ℕ × List ℕ)
-checked_iri None = None
-checked_iri (Some parts) = if is_iri parts.0 then Some parts else None
+-- of the codes from low to high, sixteen or more in a row, some character may stand here
+abbrev pub may_hold : Spot → ℕ → ℕ → Bool
+may_hold SchemeStart low high = nat_lt low 128 && nat_lt 64 high
+may_hold Scheme low high = nat_lt low 128 && nat_lt 32 high
+may_hold IriRest low high = scalar low && nat_lt 32 high
+may_hold Lexical low high = scalar low
 
--- an IRI in its angle brackets
-unfoldable pub iri_of : List ℕ → Option (List ℕ × List ℕ)
-iri_of [] = None
-iri_of (byte ∷ bytes) = if byte == 60 then checked_iri (cut 62 bytes) else None
+-- some character whose code begins with this one, with so many digits to come, may stand here
+abbrev pub may_begin : Spot → ℕ → ℕ → Bool
+may_begin spot digits code = may_hold spot (code * 16 ^ digits) (code * 16 ^ digits + (16 ^ digits - 1))
 
--- what a language tag is made of
-abbrev pub is_tag_byte : ℕ → Bool
-is_tag_byte byte = is_letter byte || is_digit byte || byte == 45
+-- which part of a triple a term is
+pub data Slot : Type 0 where
+  Subject : Slot
+  Predicate : List ℕ → Slot
+  Object : List ℕ → List ℕ → Slot
+  LexicalForm : List ℕ → List ℕ → Slot
+  Datatype : List ℕ → List ℕ → List ℕ → Slot
 
--- a literal with this lexical form and the language tag of a length that comes
-abbrev pub tagged_at : List ℕ → ℕ → List ℕ → Option (LiteralValue × List ℕ)
-tagged_at lexical count text =
-    if is_language_tag (take count text) then Some (Tagged lexical (str_to_ascii_lowercase (take count text)), drop count text) else None
+-- what of an escape was read: nothing, a backslash, or digits of this code with so many to come
+pub data Part : Type 0 where
+  Between : Part
+  Behind : Part
+  Digits : ℕ → ℕ → Part
 
--- a literal with this lexical form and the language tag that comes
-unfoldable pub tagged_of : List ℕ → List ℕ → Option (LiteralValue × List ℕ)
-tagged_of lexical text = tagged_at lexical (run_len is_tag_byte text) text
+-- ---- the states of reading
 
--- a literal with this lexical form and a datatype that was read, if it may have that
-abbrev pub checked_type : List ℕ → Option (List ℕ × List ℕ) → Option (LiteralValue × List ℕ)
-checked_type lexical None = None
-checked_type lexical (Some parts) = if is_same parts.0 rdf_lang_string then None else Some (Typed lexical parts.0, parts.1)
+-- what was read so far
+pub data State : Type 0 where
+  -- before a term
+  Before : Slot → State
+  -- within a term: where the next character stands, what of an escape was read, and the value so far
+  Within : Slot → Spot → Part → List ℕ → State
+  -- behind the quotes of a literal with this lexical form
+  Quoted : List ℕ → List ℕ → List ℕ → State
+  -- behind the first `^`
+  Hat : List ℕ → List ℕ → List ℕ → State
+  -- within a language tag: whether a `-` came, whether a letter or digit stands before, and the tag so far
+  Tag : List ℕ → List ℕ → List ℕ → Bool → Bool → List ℕ → State
+  -- behind an object
+  Closed : List ℕ → List ℕ → Term → State
+  -- behind the dot
+  Ended : List ℕ → List ℕ → Term → State
 
--- a literal with this lexical form and the datatype that comes behind a second `^`
-unfoldable pub typed_of : List ℕ → List ℕ → Option (LiteralValue × List ℕ)
-typed_of lexical [] = None
-typed_of lexical (byte ∷ bytes) = if byte == 94 then checked_type lexical (iri_of bytes) else None
+-- behind the mark that closes a term of this value
+abbrev pub closed : Slot → List ℕ → Option State
+closed Subject value = Some (Before (Predicate value))
+closed (Predicate s) value = Some (Before (Object s value))
+closed (Object s p) value = Some (Closed s p (terms.Iri value))
+closed (LexicalForm s p) value = Some (Quoted s p value)
+closed (Datatype s p lexical) value =
+    if is_same value rdf_lang_string then None else Some (Closed s p (terms.Literal (Typed lexical value)))
 
--- a literal with this lexical form, and with what comes behind its quotes
-unfoldable pub suffix_of : List ℕ → List ℕ → Option (LiteralValue × List ℕ)
-suffix_of lexical [] = Some (Typed lexical xsd_string, [])
-suffix_of lexical (byte ∷ bytes) =
-    if byte == 64 then tagged_of lexical bytes
-    else (if byte == 94 then typed_of lexical bytes else Some (Typed lexical xsd_string, byte ∷ bytes))
+-- within a term, at this spot if there is one
+abbrev pub within : Slot → List ℕ → Option Spot → Option State
+within slot value None = None
+within slot value (Some spot) = Some (Within slot spot Between value)
 
--- a lexical form that was cut out, if it may stand as it is, with what comes behind it
-abbrev pub checked_lexical : Option (List ℕ × List ℕ) → Option (LiteralValue × List ℕ)
-checked_lexical None = None
-checked_lexical (Some parts) = if is_plain parts.0 then suffix_of parts.0 parts.1 else None
+-- behind a digit of an escape, with so many to come
+abbrev pub with_digit : Slot → Spot → List ℕ → ℕ → ℕ → Option State
+with_digit slot spot value zero code = if scalar code then within slot (value ++ encode_utf8 code) (after spot code) else None
+with_digit slot spot value (suc digits) code =
+    if may_begin spot (suc digits) code then Some (Within slot spot (Digits (suc digits) code) value) else None
 
--- a literal behind its first quote
-unfoldable pub literal_from : List ℕ → Option (LiteralValue × List ℕ)
-literal_from text = checked_lexical (cut 34 text)
+-- behind a letter that stands behind a backslash
+abbrev pub with_letter : Slot → Spot → List ℕ → ℕ → Option State
+with_letter slot SchemeStart value letter = None
+with_letter slot Scheme value letter = None
+with_letter slot IriRest value letter = None
+with_letter slot Lexical value letter =
+    if is_escape_letter letter then Some (Within slot Lexical Between (value ++ letter_value letter ∷ [])) else None
 
--- a literal as a term
-abbrev pub as_literal : Option (LiteralValue × List ℕ) → Option (Term × List ℕ)
-as_literal None = None
-as_literal (Some parts) = Some (terms.Literal parts.0, parts.1)
+-- a byte more within a term
+abbrev pub step_within : Slot → Spot → Part → List ℕ → ℕ → Option State
+step_within slot spot Between value byte =
+    if byte == backslash then Some (Within slot spot Behind value)
+    else (if closes spot byte then closed slot value else within slot (value ++ byte ∷ []) (after_plain spot byte))
+step_within slot spot Behind value byte =
+    if byte == small_u then Some (Within slot spot (Digits 4 0) value)
+    else (if byte == capital_u then Some (Within slot spot (Digits 8 0) value) else with_letter slot spot value byte)
+step_within slot spot (Digits zero code) value byte = None
+step_within slot spot (Digits (suc digits) code) value byte =
+    if is_hexadecimal byte then with_digit slot spot value digits (16 * code + digit_value byte) else None
 
--- an IRI as a term
-abbrev pub as_iri : Option (List ℕ × List ℕ) → Option (Term × List ℕ)
-as_iri None = None
-as_iri (Some parts) = Some (terms.Iri parts.0, parts.1)
+-- a byte more before a term
+abbrev pub step_before : Slot → ℕ → Option State
+step_before (LexicalForm s p) byte = None
+step_before (Datatype s p lexical) byte = if byte == less then Some (Within (Datatype s p lexical) SchemeStart Between []) else None
+step_before (Object s p) byte =
+    if is_blank byte then Some (Before (Object s p))
+    else (if byte == less then Some (Within (Object s p) SchemeStart Between [])
+    else (if byte == quote then Some (Within (LexicalForm s p) Lexical Between []) else None))
+step_before slot byte =
+    if is_blank byte then Some (Before slot)
+    else (if byte == less then Some (Within slot SchemeStart Between []) else None)
 
--- an object
-unfoldable pub object_of : List ℕ → Option (Term × List ℕ)
-object_of [] = None
-object_of (byte ∷ bytes) = if byte == 34 then as_literal (literal_from bytes) else as_iri (iri_of (byte ∷ bytes))
+-- a byte more behind an object
+abbrev pub step_closed : List ℕ → List ℕ → Term → ℕ → Option State
+step_closed s p o byte =
+    if is_blank byte then Some (Closed s p o) else (if byte == dot then Some (Ended s p o) else None)
 
--- a dot first, and then blanks to the end
-abbrev pub is_dot : List ℕ → Bool
-is_dot [] = false
-is_dot (byte ∷ bytes) = byte == 46 && is_blanks bytes
+-- a byte more within a language tag
+abbrev pub step_tag : List ℕ → List ℕ → List ℕ → Bool → Bool → List ℕ → ℕ → Option State
+step_tag s p lexical dashed full tag byte =
+    if byte == dash then (if full then Some (Tag s p lexical true false (tag ++ byte ∷ [])) else None)
+    else (if is_letter byte || (dashed && is_digit byte) then Some (Tag s p lexical dashed true (tag ++ byte ∷ []))
+    else (if full then step_closed s p (terms.Literal (Tagged lexical (str_to_ascii_lowercase tag))) byte else None))
 
--- blanks, a dot, and blanks to the end
-unfoldable pub is_end : List ℕ → Bool
-is_end text = is_dot (skip_blanks text)
+-- what a byte more makes of what was read, if it may stand there
+unfoldable pub step : State → ℕ → Option State
+step (Before slot) byte = step_before slot byte
+step (Within slot spot part value) byte = step_within slot spot part value byte
+step (Quoted s p lexical) byte =
+    if byte == at_sign then Some (Tag s p lexical false false [])
+    else (if byte == hat then Some (Hat s p lexical)
+    else step_closed s p (terms.Literal (Typed lexical xsd_string)) byte)
+step (Hat s p lexical) byte = if byte == hat then Some (Before (Datatype s p lexical)) else None
+step (Tag s p lexical dashed full tag) byte = step_tag s p lexical dashed full tag byte
+step (Closed s p o) byte = step_closed s p o byte
+step (Ended s p o) byte = if is_blank byte then Some (Ended s p o) else None
 
--- a triple of its terms, if its end comes
-abbrev pub with_end : List ℕ → List ℕ → Option (Term × List ℕ) → Option Triple
-with_end subject predicate None = None
-with_end subject predicate (Some object) = if is_end object.1 then Some (record { s = subject; p = predicate; o = object.0 }) else None
+-- ---- whole texts
 
--- a triple of its subject and predicate, with the rest of the text
-abbrev pub with_predicate : List ℕ → Option (List ℕ × List ℕ) → Option Triple
-with_predicate subject None = None
-with_predicate subject (Some predicate) = with_end subject predicate.0 (object_of (skip_blanks predicate.1))
+-- how reading ends: with a triple, or with so many bytes left
+pub data Verdict : Type 0 where
+  Spelled : Triple → Verdict
+  Stopped : ℕ → Verdict
 
--- a triple of its subject, with the rest of the text
-abbrev pub with_subject : Option (List ℕ × List ℕ) → Option Triple
-with_subject None = None
-with_subject (Some subject) = with_predicate subject.0 (iri_of (skip_blanks subject.1))
+-- what was read, where the text ends
+unfoldable pub verdict : State → Verdict
+verdict (Ended s p o) = Spelled (record { s = s; p = p; o = o })
+verdict other = Stopped 0
 
--- the triple that a text spells, of any lengths
-unfoldable pub triple_of : List ℕ → Option Triple
-triple_of text = with_subject (iri_of (skip_blanks text))
+-- what the rest of a text makes of a state that a byte gave, if it gave one
+abbrev pub resume : (State → Verdict) → ℕ → Option State → Verdict
+resume read left None = Stopped left
+resume read left (Some state) = read state
+
+-- how reading ends that goes on from this state
+unfoldable pub run : List ℕ → State → Verdict
+run [] state = verdict state
+run (byte ∷ bytes) state = resume (run bytes) (suc (length bytes)) (step state byte)
+
+-- how reading goes on behind a byte that gave this state, if it gave one
+abbrev pub run_from : Option State → List ℕ → Verdict
+run_from found rest = resume (run rest) (suc (length rest)) found
+
+-- reading from one place of a text in one state is reading from another place in another
+abbrev pub Leads : List ℕ → ℕ → State → ℕ → State → Type 0
+Leads text at state next other = run (drop at text) state ≡ run (drop next text) other
+
+-- reading from a place of a text stops where the fault says
+abbrev pub StopsAt : List ℕ → ℕ → State → TripleFault → Type 0
+StopsAt text at state (NotTriple place) = (place ≤ length text) × (run (drop at text) state ≡ Stopped (length text - place))
+StopsAt text at state TooLong = ⊥
+StopsAt text at state NoMemory = Unit {0}

@@ -3,16 +3,20 @@ use Rattle.std.specs.Prelude.{ℕ, List, [], ◌∷◌, ◌++◌, ◌==◌, if�
 use Rattle.rdf_terms.specs.declared.terms.Term.{Term}
 use Rattle.rdf_terms.specs.declared.terms.Term.TheVariants as terms
 use Rattle.rdf_terms.specs.declared.terms.Triple.{Triple}
-use Rattle.rdf_terms.specs.Iri.{iri_text}
 use Rattle.rdf_terms.specs.Literal.{LiteralValue, Typed, Tagged, xsd_string, is_same}
+use Rattle.rdf_terms.specs.Marks.{line_feed, carriage_return, space, quote, dot, less, greater, at_sign, backslash, hat, small_n, small_r}
+
+-- an IRI as it is written
+abbrev pub iri_text : List ℕ → List ℕ
+iri_text iri = less ∷ (iri ++ greater ∷ [])
 
 -- a byte of a lexical form as it is written: `"`, `\`, LF and CR behind a backslash
 abbrev pub escaped_byte : ℕ → List ℕ
 escaped_byte byte =
-    if byte == 34 then 92 ∷ 34 ∷ []
-    else (if byte == 92 then 92 ∷ 92 ∷ []
-    else (if byte == 10 then 92 ∷ 110 ∷ []
-    else (if byte == 13 then 92 ∷ 114 ∷ [] else byte ∷ [])))
+    if byte == quote then backslash ∷ quote ∷ []
+    else (if byte == backslash then backslash ∷ backslash ∷ []
+    else (if byte == line_feed then backslash ∷ small_n ∷ []
+    else (if byte == carriage_return then backslash ∷ small_r ∷ [] else byte ∷ [])))
 
 -- a lexical form as it is written between its quotes
 abbrev pub escaped : List ℕ → List ℕ
@@ -21,12 +25,12 @@ escaped (byte ∷ bytes) = escaped_byte byte ++ escaped bytes
 
 -- what is written behind the quotes of a typed literal: nothing for xsd:string
 abbrev pub datatype_text : List ℕ → List ℕ
-datatype_text datatype = if is_same datatype xsd_string then [] else 94 ∷ 94 ∷ iri_text datatype
+datatype_text datatype = if is_same datatype xsd_string then [] else hat ∷ hat ∷ iri_text datatype
 
 -- a literal as it is written
 abbrev pub literal_text : LiteralValue → List ℕ
-literal_text (Typed lexical datatype) = 34 ∷ (escaped lexical ++ 34 ∷ datatype_text datatype)
-literal_text (Tagged lexical tag) = 34 ∷ (escaped lexical ++ 34 ∷ 64 ∷ tag)
+literal_text (Typed lexical datatype) = quote ∷ (escaped lexical ++ quote ∷ datatype_text datatype)
+literal_text (Tagged lexical tag) = quote ∷ (escaped lexical ++ quote ∷ at_sign ∷ tag)
 
 -- a term as it is written
 unfoldable pub term_text : Term → List ℕ
@@ -35,4 +39,4 @@ term_text (terms.Literal literal) = literal_text literal
 
 -- a triple as it is written: one space between its terms and before the dot
 unfoldable pub triple_text : Triple → List ℕ
-triple_text triple = iri_text triple.s ++ 32 ∷ (iri_text triple.p ++ 32 ∷ (term_text triple.o ++ 32 ∷ 46 ∷ []))
+triple_text triple = iri_text triple.s ++ space ∷ (iri_text triple.p ++ space ∷ (term_text triple.o ++ space ∷ dot ∷ []))

@@ -3,6 +3,7 @@ ghost use Rattle.std.specs.Prelude.{◌≡◌, ℕ, List, [], ◌∷◌, ◌++�
 ghost use Rattle.std.specs.Cmp.Lexicographic.{slice_cmp};
 ghost use Rattle.std.specs.Ordering.{nat_cmp, ordering_then};
 ghost use Rattle.rdf_terms.specs.Compare.{common, rank, rank_at};
+ghost use Rattle.rdf_terms.specs.Marks.{quote, greater};
 ghost use Rattle.rdf_terms.specs.Spelling.{escaped};
 
 use std::cmp::Ordering;
@@ -51,7 +52,7 @@ fn rank_at(text: &[u8], place: usize) -> u32
 #[tactic(auto, using(crate::specs::OrderLaws::escaped_cmp))]
 pub fn cmp_escaped(a: &[u8], b: &[u8]) -> Ordering
     ensures { (u v : List ℕ)
-        → slice_cmp nat_cmp (escaped a.now ++ 34 ∷ u) (escaped b.now ++ 34 ∷ v)
+        → slice_cmp nat_cmp (escaped a.now ++ quote ∷ u) (escaped b.now ++ quote ∷ v)
         ≡ ordering_then result (slice_cmp nat_cmp u v) }
 {
     let place = common_len(a, b);
@@ -61,7 +62,7 @@ pub fn cmp_escaped(a: &[u8], b: &[u8]) -> Ordering
 /// Compares two texts that both go on with `>` and end there.
 #[tactic(auto, using(crate::specs::OrderLaws::ended_cmp))]
 pub fn cmp_closed(a: &[u8], b: &[u8]) -> Ordering
-    ensures { result ≡ slice_cmp nat_cmp (a.now ++ 62 ∷ []) (b.now ++ 62 ∷ []) }
+    ensures { result ≡ slice_cmp nat_cmp (a.now ++ greater ∷ []) (b.now ++ greater ∷ []) }
 {
     let place = common_len(a, b);
     let first = byte_at(a, place).cmp(&byte_at(b, place));
@@ -70,7 +71,7 @@ pub fn cmp_closed(a: &[u8], b: &[u8]) -> Ordering
 
 /// The byte at a place, or `>` at the end.
 fn byte_at(text: &[u8], place: usize) -> u8
-    ensures { result ≡ slice_index_or text.now place 62 }
+    ensures { result ≡ slice_index_or text.now place greater }
 {
     if place < text.len() {
         text[place]

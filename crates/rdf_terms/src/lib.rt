@@ -1,22 +1,27 @@
 //! RDF terms and triples: their types, their written form, their order, and the reader of their text.
 #![tactic(auto)]
 
+mod bodies;
 mod compare;
+mod escapes;
 mod faults;
-mod grammar;
+mod laws;
+mod limits;
 mod order;
+mod places;
 mod read;
+mod spots;
+mod tags;
 mod terms;
-mod texts;
 mod triples;
 mod write;
 
 pub use faults::{TermFault, TripleFault};
-pub use grammar::{has_no_backslash, is_absolute, is_domain};
+pub use laws::{one_place, one_triple, written_again};
+pub use limits::LEXICAL_LIMIT;
 pub use order::{cmp_terms, cmp_triples, order_is_total};
 pub use terms::{Iri, Literal, Term, Triple};
-pub use texts::Text;
-pub use triples::{one_triple, read_triple, written_again};
+pub use triples::read_triple;
 pub use write::write_triple;
 
 #[cfg(test)]

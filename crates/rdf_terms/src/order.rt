@@ -7,9 +7,9 @@ ghost use Rattle.std.proofs.Common.{rules};
 ghost use Rattle.std.proofs.lemmas.Map.Lookups.{CmpEqualImpliesEq};
 ghost use Rattle.std.specs.Ordering.{nat_cmp, eq_by_cmp, as_partial_cmp};
 ghost use Rattle.rdf_terms.specs.Compare.{suffix_text};
-ghost use Rattle.rdf_terms.specs.Iri.{iri_text};
 ghost use Rattle.rdf_terms.specs.Literal.{is_same, xsd_string};
-ghost use Rattle.rdf_terms.specs.Spelling.{datatype_text, literal_text};
+ghost use Rattle.rdf_terms.specs.Spelling.{iri_text, datatype_text, literal_text};
+ghost use Rattle.rdf_terms.specs.Marks.{at_sign};
 ghost use Rattle.rdf_terms.specs.Order.{term_cmp, triple_cmp};
 ghost use Rattle.rdf_terms.specs.OrderLaws.{term_total, triple_total};
 
@@ -65,7 +65,7 @@ fn cmp_suffixes(a: &Kind, b: &Kind) -> Ordering
 /// Compares what is written for a datatype with what is written for any tag.
 #[tactic(auto, using(crate::proofs::Comparing::plain_tag, crate::proofs::Comparing::other_tag))]
 fn cmp_with_tag(datatype: &Iri) -> Ordering
-    ensures { (tag : List ℕ) → slice_cmp nat_cmp (datatype_text datatype.now) (64 ∷ tag) ≡ result }
+    ensures { (tag : List ℕ) → slice_cmp nat_cmp (datatype_text datatype.now) (at_sign ∷ tag) ≡ result }
 {
     if is_string_type(datatype) {
         Ordering::Less

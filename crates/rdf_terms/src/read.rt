@@ -1,204 +1,247 @@
-//! The reader of a triple's text (N-Triples 1.1, the rule `triple`), for texts without backslashes.
-ghost use Rattle.std.specs.Prelude.{◌≡◌, ◌≢◌, ◌<◌, ℕ, List, [], ◌∷◌, Some, None, MatchOption, MatchResult};
+//! The reader of a triple's text (N-Triples 1.1, the rule `triple`).
+ghost use Rattle.std.specs.Prelude.{◌≡◌, ◌≤◌, ℕ, List, [], MatchResult, length, false, true, ◌||◌, ◌&&◌};
 ghost use Rattle.std.specs.Str.{IsCharBoundary};
-ghost use Rattle.rdf_terms.specs.Grammar.{is_blank, is_blanks};
-ghost use Rattle.rdf_terms.specs.Reading.{run_len, skip_blanks, cut, iri_of, is_tag_byte, tagged_of, typed_of, suffix_of, literal_from, object_of, as_literal, is_end, triple_of};
+ghost use Rattle.iri_rules.specs.Iri.{is_letter, is_digit};
+ghost use Rattle.rdf_terms.specs.declared.spots.Spot.TheVariants.{Lexical};
+ghost use Rattle.rdf_terms.specs.Grammar.{is_blank};
 ghost use Rattle.rdf_terms.specs.Parts.{object_value, triple_value};
+ghost use Rattle.rdf_terms.specs.Reading.{Slot, Subject, Object, LexicalForm, Within, Between, Before, Quoted, Hat, Tag, Closed, Spelled, run, StopsAt};
+ghost use Rattle.rdf_terms.specs.Reads.{HasByte, PassesBlanks, PassesMark, MissesMark, TakesIri, NeedsIri, IsIri, IsTagEnd, EndsTag, IsObject, StopsObject, ReadsEnd};
+ghost use Rattle.rdf_terms.specs.declared.terms.Term.{Term};
 
-use crate::grammar::{is_blank, is_blanks, is_iri, is_language_tag, is_plain, is_tag_byte};
+use crate::bodies::read_body;
+use crate::faults::TripleFault;
+use crate::places::has_byte;
+use crate::spots::Spot;
+use crate::tags::lower_tag;
 use crate::terms::{XSD_STRING, is_lang_string};
+use iri_rules::Text;
+use iri_rules::characters::{is_digit, is_letter};
+use std::alloc::Global;
 
-/// An object as parts of a text: an IRI, a lexical form with its datatype, or one with its tag in any case.
-#[derive(Clone, Copy, Debug)]
-pub enum ObjectParts<'a> {
+/// An object that was read, of any lengths: an IRI, a lexical form with its datatype, or one with its tag in lower case.
+#[derive(Debug, Drop)]
+pub enum ObjectParts {
     /// An IRI.
-    Iri(&'a str),
+    Iri(Text),
     /// A lexical form and a datatype.
-    Typed(&'a str, &'a str),
+    Typed(Text, Text),
     /// A lexical form and a language tag.
-    Tagged(&'a str, &'a str),
+    Tagged(Text, Text),
 }
 
-/// A triple as parts of a text.
-#[derive(Clone, Copy, Debug)]
-pub struct TripleParts<'a> {
+/// A triple that was read, of any lengths.
+#[derive(Debug, Drop)]
+pub struct TripleParts {
     /// The subject.
-    pub s: &'a str,
+    pub s: Text,
     /// The predicate.
-    pub p: &'a str,
+    pub p: Text,
     /// The object.
-    pub o: ObjectParts<'a>,
+    pub o: ObjectParts,
 }
 
-/// How many blanks a text begins with.
-fn blank_len(text: &str) -> usize
-    ensures count { result ≡ run_len is_blank text.now }
-    ensures boundary { IsCharBoundary text.now result }
+/// The place behind the blanks at a place.
+fn skip_blanks(text: &str, at: usize) -> usize
+    requires { at ≤ length text.now }
+    ensures { PassesBlanks text.now at result }
 {
     let bytes = text.as_bytes();
-    for (i, byte) in bytes.iter().enumerate() {
-        if !is_blank(*byte) {
+    for i in at..bytes.len() {
+        if !is_blank(bytes[i]) {
             return i;
         }
     }
     bytes.len()
 }
 
-/// How many letters, digits and dashes a text begins with.
-fn tag_len(text: &str) -> usize
-    ensures count { result ≡ run_len is_tag_byte text.now }
-    ensures boundary { IsCharBoundary text.now result }
+/// Whether a byte is a space or a tab.
+fn is_blank(byte: u8) -> bool
+    ensures { result ≡ is_blank byte }
+{
+    byte == b' ' || byte == b'\t'
+}
+
+/// The place behind a mark that has to stand at a place.
+fn pass_mark(text: &str, at: usize, mark: u8) -> Result<usize, TripleFault>
+    ensures { MatchResult result (PassesMark text.now at mark) (MissesMark text.now at mark) }
+{
+    if has_byte(text, at, mark) {
+        Ok(at + 1)
+    } else {
+        Err(TripleFault::NotTriple { place: at })
+    }
+}
+
+/// Reads an IRI in its angle brackets.
+fn read_iri(alloc: Global, text: &str, at: usize) -> Result<(Text, usize), TripleFault>
+    requires { at ≤ length text.now }
+    ensures { MatchResult result
+        (λ read. IsIri text.now at read.0 read.1)
+        (λ fault. (slot : Slot) → TakesIri slot → NeedsIri slot text.now at → StopsAt text.now at (Before slot) fault) }
+{
+    let begun = pass_mark(text, at, b'<')?;
+    read_body(alloc, text, begun, Spot::SchemeStart)
+}
+
+/// The place behind the language tag at a place.
+fn pass_tag(text: &str, at: usize) -> Result<usize, TripleFault>
+    requires { at ≤ length text.now }
+    ensures { MatchResult result (IsTagEnd text.now at) (EndsTag text.now at) }
 {
     let bytes = text.as_bytes();
-    for (i, byte) in bytes.iter().enumerate() {
-        if !is_tag_byte(*byte) {
-            return i;
+    let mut dashed = false;
+    let mut full = false;
+    for i in at..bytes.len() {
+        let byte = bytes[i];
+        if byte == b'-' {
+            if !full {
+                return Err(TripleFault::NotTriple { place: i });
+            }
+            dashed = true;
+            full = false;
+        } else if is_tag_character(byte, dashed) {
+            full = true;
+        } else {
+            return end_of_tag(full, i);
         }
     }
-    bytes.len()
+    end_of_tag(full, bytes.len())
 }
 
-/// What is behind the blanks at the front.
-#[tactic(auto, unfolding(crate::specs::Reading::skip_blanks))]
-fn skip_blanks(text: &str) -> &str
-    ensures { result.now ≡ skip_blanks text.now }
+/// Whether a byte is a letter, or a digit behind a `-`.
+fn is_tag_character(byte: u8, dashed: bool) -> bool
+    ensures { result ≡ (is_letter byte || (dashed && is_digit byte)) }
 {
-    let count = blank_len(text);
-    &text[count..]
+    is_letter(char::from(byte)) || (dashed && is_digit(char::from(byte)))
 }
 
-/// What is behind a mark at the front.
-fn after_mark(text: &str, mark: char) -> Option<&str>
-    requires { mark < 128 }
-    ensures { MatchOption result ((rest : List ℕ) → text.now ≢ mark ∷ rest) (λ rest. text.now ≡ mark ∷ rest.now) }
+/// The end of a language tag, where a letter or a digit stands before it.
+fn end_of_tag(full: bool, place: usize) -> Result<usize, TripleFault>
+    ensures { MatchResult result (λ end. (full ≡ true) × (end ≡ place)) (λ fault. (full ≡ false) × (fault ≡ TripleFault.NotTriple place)) }
 {
-    text.strip_prefix(mark)
-}
-
-/// What is before the first such mark, and what is behind it.
-fn cut_at(text: &str, mark: char) -> Option<(&str, &str)>
-    requires { mark < 128 }
-    ensures { MatchOption result (cut mark text.now ≡ None) (λ parts. cut mark text.now ≡ Some (parts.0.now, parts.1.now)) }
-{
-    text.split_once(mark)
-}
-
-/// Reads an IRI in its angle brackets. A refusal is the number of bytes that are left where reading stopped.
-#[tactic(auto, unfolding(crate::specs::Reading::iri_of))]
-fn read_iri(text: &str) -> Result<(&str, &str), usize>
-    ensures { MatchResult result (λ parts. iri_of text.now ≡ Some (parts.0.now, parts.1.now)) (λ _. iri_of text.now ≡ None) }
-{
-    let Some(rest) = after_mark(text, '<') else {
-        return Err(text.len());
-    };
-    let Some((iri, rest)) = cut_at(rest, '>') else {
-        return Err(0);
-    };
-    if !is_iri(iri) {
-        return Err(rest.len());
+    if full {
+        Ok(place)
+    } else {
+        Err(TripleFault::NotTriple { place })
     }
-    Ok((iri, rest))
 }
 
 /// Reads a language tag, with no `@`.
-#[tactic(auto, unfolding(crate::specs::Reading::tagged_of))]
-fn read_tag<'a>(lexical: &'a str, text: &'a str) -> Result<(ObjectParts<'a>, &'a str), usize>
+fn read_tag(
+    alloc: Global,
+    text: &str,
+    at: usize,
+    lexical: Text,
+) -> Result<(ObjectParts, usize), TripleFault>
+    requires begin { at ≤ length text.now }
+    requires boundary { IsCharBoundary text.now at }
     ensures { MatchResult result
-        (λ parts. as_literal (tagged_of lexical.now text.now) ≡ Some (object_value parts.0, parts.1.now))
-        (λ _. tagged_of lexical.now text.now ≡ None) }
+        (λ read. IsObject text.now at (λ s p. Tag s p lexical false false []) (object_value read.0) read.1)
+        (StopsObject text.now at (λ s p. Tag s p lexical false false [])) }
 {
-    let count = tag_len(text);
-    let (tag, rest) = text.split_at(count);
-    if !is_language_tag(tag) {
-        return Err(rest.len());
-    }
-    Ok((ObjectParts::Tagged(lexical, tag), rest))
+    let next = pass_tag(text, at)?;
+    let tag = lower_tag(alloc, &text[at..next])?;
+    Ok((ObjectParts::Tagged(lexical, tag), next))
 }
 
 /// Reads a datatype behind the first `^`.
-#[tactic(auto, unfolding(crate::specs::Reading::typed_of))]
-fn read_type<'a>(lexical: &'a str, text: &'a str) -> Result<(ObjectParts<'a>, &'a str), usize>
+fn read_datatype(
+    alloc: Global,
+    text: &str,
+    at: usize,
+    lexical: Text,
+) -> Result<(ObjectParts, usize), TripleFault>
+    requires { at ≤ length text.now }
     ensures { MatchResult result
-        (λ parts. as_literal (typed_of lexical.now text.now) ≡ Some (object_value parts.0, parts.1.now))
-        (λ _. typed_of lexical.now text.now ≡ None) }
+        (λ read. IsObject text.now at (λ s p. Hat s p lexical) (object_value read.0) read.1)
+        (StopsObject text.now at (λ s p. Hat s p lexical)) }
 {
-    let Some(rest) = after_mark(text, '^') else {
-        return Err(text.len());
-    };
-    let (datatype, rest) = read_iri(rest)?;
-    if is_lang_string(datatype) {
-        return Err(rest.len());
+    let begun = pass_mark(text, at, b'^')?;
+    let (datatype, next) = read_iri(alloc, text, begun)?;
+    if is_lang_string(datatype.as_str()) {
+        return Err(TripleFault::NotTriple { place: next - 1 });
     }
-    Ok((ObjectParts::Typed(lexical, datatype), rest))
+    Ok((ObjectParts::Typed(lexical, datatype), next))
 }
 
 /// Reads what is behind the quotes of a literal: a tag, a datatype, or nothing, which is xsd:string.
-#[tactic(auto, unfolding(crate::specs::Reading::suffix_of))]
-fn read_suffix<'a>(lexical: &'a str, text: &'a str) -> Result<(ObjectParts<'a>, &'a str), usize>
+fn read_suffix(
+    alloc: Global,
+    text: &str,
+    at: usize,
+    lexical: Text,
+) -> Result<(ObjectParts, usize), TripleFault>
+    requires { at ≤ length text.now }
     ensures { MatchResult result
-        (λ parts. as_literal (suffix_of lexical.now text.now) ≡ Some (object_value parts.0, parts.1.now))
-        (λ _. suffix_of lexical.now text.now ≡ None) }
+        (λ read. IsObject text.now at (λ s p. Quoted s p lexical) (object_value read.0) read.1)
+        (StopsObject text.now at (λ s p. Quoted s p lexical)) }
 {
-    if let Some(rest) = after_mark(text, '@') {
-        return read_tag(lexical, rest);
+    if has_byte(text, at, b'@') {
+        return read_tag(alloc, text, at + 1, lexical);
     }
-    if let Some(rest) = after_mark(text, '^') {
-        return read_type(lexical, rest);
+    if has_byte(text, at, b'^') {
+        return read_datatype(alloc, text, at + 1, lexical);
     }
-    Ok((ObjectParts::Typed(lexical, XSD_STRING), text))
+    let datatype = Text::new(alloc, XSD_STRING)?;
+    Ok((ObjectParts::Typed(lexical, datatype), at))
 }
 
 /// Reads a literal behind its first quote.
-#[tactic(auto, unfolding(crate::specs::Reading::literal_from))]
-fn read_literal(text: &str) -> Result<(ObjectParts<'_>, &str), usize>
+fn read_literal(alloc: Global, text: &str, at: usize) -> Result<(ObjectParts, usize), TripleFault>
+    requires begin { at ≤ length text.now }
+    requires boundary { IsCharBoundary text.now at }
     ensures { MatchResult result
-        (λ parts. as_literal (literal_from text.now) ≡ Some (object_value parts.0, parts.1.now))
-        (λ _. literal_from text.now ≡ None) }
+        (λ read. IsObject text.now at (λ s p. Within (LexicalForm s p) Lexical Between []) (object_value read.0) read.1)
+        (StopsObject text.now at (λ s p. Within (LexicalForm s p) Lexical Between [])) }
 {
-    let Some((lexical, rest)) = cut_at(text, '"') else {
-        return Err(0);
-    };
-    if !is_plain(lexical) {
-        return Err(rest.len());
-    }
-    read_suffix(lexical, rest)
+    let (lexical, next) = read_body(alloc, text, at, Spot::Lexical)?;
+    read_suffix(alloc, text, next, lexical)
 }
 
-/// Reads an object.
-#[tactic(auto, using(crate::specs::Fronts::object_other), unfolding(crate::specs::Reading::object_of))]
-fn read_object(text: &str) -> Result<(ObjectParts<'_>, &str), usize>
+/// Reads an object, where no blank stands before it.
+fn read_object(alloc: Global, text: &str, at: usize) -> Result<(ObjectParts, usize), TripleFault>
+    requires begin { at ≤ length text.now }
+    requires unblank { (byte : ℕ) → HasByte text.now at byte → is_blank byte ≡ false }
     ensures { MatchResult result
-        (λ parts. object_of text.now ≡ Some (object_value parts.0, parts.1.now))
-        (λ _. object_of text.now ≡ None) }
+        (λ read. IsObject text.now at (λ s p. Before (Object s p)) (object_value read.0) read.1)
+        (StopsObject text.now at (λ s p. Before (Object s p))) }
 {
-    if let Some(rest) = after_mark(text, '"') {
-        return read_literal(rest);
+    if has_byte(text, at, b'"') {
+        return read_literal(alloc, text, at + 1);
     }
-    let (iri, rest) = read_iri(text)?;
-    Ok((ObjectParts::Iri(iri), rest))
+    let (iri, next) = read_iri(alloc, text, at)?;
+    Ok((ObjectParts::Iri(iri), next))
 }
 
-/// Whether blanks, a dot, and blanks to the end come.
-#[tactic(auto, unfolding(crate::specs::Reading::is_end))]
-fn is_end(text: &str) -> bool
-    ensures { result ≡ is_end text.now }
+/// Reads the end of a triple: a dot and then blanks to the end of the text.
+fn read_end(text: &str, at: usize) -> Result<(), TripleFault>
+    requires { at ≤ length text.now }
+    ensures { MatchResult result
+        (λ _. ReadsEnd text.now at)
+        (λ fault. (s p : List ℕ) (o : Term) → StopsAt text.now at (Closed s p o) fault) }
 {
-    match after_mark(skip_blanks(text), '.') {
-        None => false,
-        Some(rest) => is_blanks(rest),
+    let dot = skip_blanks(text, at);
+    let behind = pass_mark(text, dot, b'.')?;
+    let place = skip_blanks(text, behind);
+    if place < text.len() {
+        return Err(TripleFault::NotTriple { place });
     }
+    Ok(())
 }
 
 /// Reads a triple's text as its parts.
-#[tactic(auto, unfolding(crate::specs::Reading::triple_of))]
-pub fn read_parts(text: &str) -> Result<TripleParts<'_>, usize>
-    ensures { MatchResult result (λ parts. triple_of text.now ≡ Some (triple_value parts)) (λ _. triple_of text.now ≡ None) }
+pub fn read_parts(alloc: Global, text: &str) -> Result<TripleParts, TripleFault>
+    ensures { MatchResult result
+        (λ parts. run text.now (Before Subject) ≡ Spelled (triple_value parts))
+        (StopsAt text.now 0 (Before Subject)) }
 {
-    let (s, rest) = read_iri(skip_blanks(text))?;
-    let (p, rest) = read_iri(skip_blanks(rest))?;
-    let (o, rest) = read_object(skip_blanks(rest))?;
-    if !is_end(rest) {
-        return Err(rest.len());
-    }
+    let subject = skip_blanks(text, 0);
+    let (s, at) = read_iri(alloc, text, subject)?;
+    let predicate = skip_blanks(text, at);
+    let (p, at) = read_iri(alloc, text, predicate)?;
+    let object = skip_blanks(text, at);
+    let (o, at) = read_object(alloc, text, object)?;
+    read_end(text, at)?;
     Ok(TripleParts { s, p, o })
 }

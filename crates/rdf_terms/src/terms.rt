@@ -3,8 +3,9 @@ ghost use Rattle.std.specs.Prelude.{◌≡◌};
 ghost use Rattle.rdf_terms.specs.Literal.{is_same, rdf_lang_string};
 
 use crate::faults::TermFault;
-use crate::grammar::{LEXICAL_LIMIT, is_absolute, is_language_tag};
-use crate::texts::Text;
+use crate::limits::LEXICAL_LIMIT;
+use crate::tags::{is_language_tag, lower_tag};
+use iri_rules::{Text, is_absolute};
 use std::alloc::{AllocError, Global};
 use std::marker::Model;
 
@@ -16,7 +17,7 @@ pub struct Iri {
 
 impl Model for Iri {
     ghost use Rattle.std.specs.Prelude.{List, ℕ, IsTrue};
-    ghost use Rattle.rdf_terms.specs.Iri.{is_absolute};
+    ghost use Rattle.iri_rules.specs.Iri.{is_absolute};
 
     ghost Value = { List ℕ };
 
@@ -28,7 +29,7 @@ impl Model for Iri {
 impl Iri {
     ghost use Rattle.std.specs.Prelude.{◌≡◌, ◌↔◌, IsTrue, IfOk, IfErr, IsErrOf, not};
     ghost use Rattle.rdf_terms.specs.Faults.{MayRefuseIri};
-    ghost use Rattle.rdf_terms.specs.Iri.{is_absolute};
+    ghost use Rattle.iri_rules.specs.Iri.{is_absolute};
 
     /// The IRI of a text, refused with `BadIri` where the text is no absolute IRI of at most 2,048 bytes.
     pub fn new(alloc: Global, text: &str) -> Result<Iri, TermFault>
@@ -39,17 +40,15 @@ impl Iri {
         if !is_absolute(text) {
             return Err(TermFault::BadIri);
         }
-        Ok(Iri::from_absolute(alloc, text)?)
+        Ok(Iri::from_absolute(Text::new(alloc, text)?))
     }
 
     /// The IRI of a text that is known to be one.
-    pub(crate) fn from_absolute(alloc: Global, text: &str) -> Result<Iri, AllocError>
-        requires { IsTrue (is_absolute text.now) }
-        ensures { IfOk result (λ iri. iri ≡ text.now) }
+    pub(crate) fn from_absolute(text: Text) -> Iri
+        requires { IsTrue (is_absolute text) }
+        ensures { result ≡ text }
     {
-        Ok(Iri {
-            text: Text::new(alloc, text)?,
-        })
+        Iri { text }
     }
 
     /// A copy of the IRI.
@@ -150,7 +149,7 @@ impl Literal {
     ghost use Rattle.std.specs.Prelude.{◌≡◌, ◌↔◌, ◌<◌, ◌≤◌, IsTrue, IfOk, IfErr, IsErrOf, not, length};
     ghost use Rattle.std.specs.Str.{str_to_ascii_lowercase};
     ghost use Rattle.rdf_terms.specs.Faults.{MayRefuseTyped, MayRefuseTagged};
-    ghost use Rattle.rdf_terms.specs.Literal.{Typed, Tagged, is_same, rdf_lang_string, is_language_tag, lexical_limit};
+    ghost use Rattle.rdf_terms.specs.Literal.{Typed, Tagged, IsLiteral, is_same, rdf_lang_string, is_language_tag, lexical_limit};
 
     /// The literal of a lexical form and a datatype, refused with `BadType` where the datatype is rdf:langString,
     /// else with `TooLong` where the lexical form has more than 1,048,576 bytes.
@@ -167,11 +166,13 @@ impl Literal {
         if lexical.len() > LEXICAL_LIMIT {
             return Err(TermFault::TooLong);
         }
-        Ok(Literal::from_typed(alloc, lexical, datatype.copy_in(alloc)?)?)
+        let datatype = datatype.copy_in(alloc)?;
+        Ok(Literal::from_typed(Text::new(alloc, lexical)?, datatype))
     }
 
     /// The literal of a lexical form and a language tag, which it keeps in lower case, refused with `BadTag`
     /// where the text is no language tag, else with `TooLong` where the lexical form has more than 1,048,576 bytes.
+    #[tactic(auto, using(crate::proofs::TagLemmas::lower_lower, crate::proofs::TagLemmas::lower_tag))]
     pub fn tagged(alloc: Global, lexical: &str, tag: &str) -> Result<Literal, TermFault>
         ensures ok { IfOk result (λ literal. literal ≡ Tagged lexical.now (str_to_ascii_lowercase tag.now)) }
         ensures bad_tag { IsErrOf result TermFault.BadTag ↔ IsTrue (not (is_language_tag tag.now)) }
@@ -185,39 +186,26 @@ impl Literal {
         if lexical.len() > LEXICAL_LIMIT {
             return Err(TermFault::TooLong);
         }
-        Ok(Literal::from_tagged(alloc, lexical, tag)?)
+        let tag = lower_tag(alloc, tag)?;
+        Ok(Literal::from_tagged(Text::new(alloc, lexical)?, tag))
     }
 
     /// The literal of a lexical form that is not too long and a datatype that literals may have.
-    pub(crate) fn from_typed(
-        alloc: Global,
-        lexical: &str,
-        datatype: Iri,
-    ) -> Result<Literal, AllocError>
-        requires short { length lexical.now ≤ lexical_limit }
-        requires typed { IsTrue (not (is_same datatype rdf_lang_string)) }
-        ensures { IfOk result (λ literal. literal ≡ Typed lexical.now datatype) }
+    pub(crate) fn from_typed(lexical: Text, datatype: Iri) -> Literal
+        requires { IsLiteral (Typed lexical datatype) }
+        ensures { result ≡ Typed lexical datatype }
     {
-        let _text = datatype.as_str();
-        let lexical = Text::new(alloc, lexical)?;
         let kind = Kind::Datatype(datatype);
-        Ok(Literal { lexical, kind })
+        Literal { lexical, kind }
     }
 
-    /// The literal of a lexical form that is not too long and a language tag.
-    #[tactic(auto, using(crate::proofs::Tags::lower_lower, crate::proofs::Tags::lower_tag))]
-    pub(crate) fn from_tagged(
-        alloc: Global,
-        lexical: &str,
-        tag: &str,
-    ) -> Result<Literal, AllocError>
-        requires short { length lexical.now ≤ lexical_limit }
-        requires tag { IsTrue (is_language_tag tag.now) }
-        ensures { IfOk result (λ literal. literal ≡ Tagged lexical.now (str_to_ascii_lowercase tag.now)) }
+    /// The literal of a lexical form that is not too long and a language tag in lower case.
+    pub(crate) fn from_tagged(lexical: Text, tag: Text) -> Literal
+        requires { IsLiteral (Tagged lexical tag) }
+        ensures { result ≡ Tagged lexical tag }
     {
-        let lexical = Text::new(alloc, lexical)?;
-        let kind = Kind::Language(Text::from_tag(alloc, tag)?);
-        Ok(Literal { lexical, kind })
+        let kind = Kind::Language(tag);
+        Literal { lexical, kind }
     }
 
     /// A copy of the literal.

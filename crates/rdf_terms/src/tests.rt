@@ -4,27 +4,19 @@ use std::alloc::Global;
 use std::cmp::Ordering;
 use std::test::Fail;
 
-/// Reads a text that has no backslash.
-fn read(alloc: Global, text: &str) -> Result<Triple, TripleFault> {
-    if !has_no_backslash(text) {
-        return Err(TripleFault::NotTriple { place: 0 });
-    }
-    read_triple(alloc, text)
-}
-
-/// Whether a text is refused as no triple.
-fn is_refused(alloc: Global, text: &str) -> bool {
-    matches!(read(alloc, text), Err(TripleFault::NotTriple { .. }))
+/// Whether a text is refused as no triple, with this place.
+fn is_refused(alloc: Global, text: &str, wanted: usize) -> bool {
+    matches!(read_triple(alloc, text), Err(TripleFault::NotTriple { place }) if place == wanted)
 }
 
 /// Whether a text is refused for its lengths.
 fn is_too_long(alloc: Global, text: &str) -> bool {
-    matches!(read(alloc, text), Err(TripleFault::TooLong))
+    matches!(read_triple(alloc, text), Err(TripleFault::TooLong))
 }
 
 /// Whether just this is written for the triple of a text.
 fn is_rewritten(alloc: Global, text: &str, wanted: &str) -> Result<bool, Fail> {
-    let triple = read(alloc, text)?;
+    let triple = read_triple(alloc, text)?;
     let mut out = Vec::new(alloc);
     write_triple(&mut out, &triple)?;
     Ok(out.as_slice() == wanted.as_bytes())
@@ -61,22 +53,106 @@ fn strings_are_written_without_datatype(rt: HostRuntime) -> Result<(), Fail> {
 }
 
 #[test]
-fn what_is_no_triple_is_refused(rt: HostRuntime) {
+fn what_is_no_triple_is_refused_at_its_place(rt: HostRuntime) {
     let texts = [
-        "",
-        "<http://d/a> _:b \"x\" .",
-        "<http://d/a> <http://d/p> \"x\ny\" .",
-        "<http://d/a> <http://d/p> \"x\"^^<http://www.w3.org/1999/02/22-rdf-syntax-ns#langString> .",
-        "<a> <http://d/p> \"x\" .",
-        "<http://d/a> <http://d/p> \"x\"",
-        "<http://d/a> <http://d/p> \"x\" . <http://d/a>",
-        "<http://d/a> <http://d/p> \"x\"@1 .",
-        "<http://d/a> <http://d/p> \"x\"^<http://d/t> .",
-        "<http://d/a> <http://d/p b> \"x\" .",
+        ("", 0),
+        (" \t", 2),
+        ("<http://d/a> _:b \"x\" .", 13),
+        ("<http://d/a> <http://d/p> \"x\ny\" .", 28),
+        ("<a> <http://d/p> \"x\" .", 2),
+        ("<http://d/a> <http://d/p b> \"x\" .", 24),
+        ("<http://d/a> <http://d/p> \"x\"", 29),
+        ("<http://d/a> <http://d/p> \"x\"@1 .", 30),
+        ("<http://d/a> <http://d/p> \"x\"@en- .", 33),
+        ("<http://d/a> <http://d/p> \"x\"^<http://d/t> .", 30),
+        ("<http://d/a> <http://d/p> \"x\"^^ <http://d/t> .", 31),
+        ("<http://d/a> <http://d/p> \"x\" . <http://d/a>", 32),
+        ("<http://d/a> <http://d/p> \"x\" .x", 31),
+        (
+            "<http://d/a> <http://d/p> \"x\"^^<http://www.w3.org/1999/02/22-rdf-syntax-ns#langString> .",
+            85,
+        ),
     ];
-    for text in texts {
-        assert!(rt; is_refused(rt.alloc(), text), "{text}");
+    for (text, place) in texts {
+        assert!(rt; is_refused(rt.alloc(), text, place), "{text}");
     }
+}
+
+#[test]
+fn places_within_iris_are_exact(rt: HostRuntime) {
+    let texts = [
+        ("<", 1),
+        ("<>", 1),
+        ("<1a:", 1),
+        ("<a_b:>", 2),
+        ("<a:b c>", 4),
+        ("<\\", 2),
+        ("<\\x", 2),
+        ("<\\u00", 5),
+        ("<\\u003", 5),
+        ("<\\u004", 6),
+        ("<\\u0030", 5),
+        ("<a\\u002C", 7),
+        ("<a\\u002B", 8),
+        ("<a:\\u000", 7),
+        ("<a:\\u002", 8),
+        ("<a:\\u0020", 8),
+        ("<a:\\u003E", 8),
+        ("<a:\\uD7", 7),
+        ("<a:\\uD8", 6),
+        ("<a:\\U0011", 8),
+        ("<a:\\U0010FFFF", 13),
+        ("<a:\\U0000D8", 10),
+        ("<a\\u003A", 8),
+    ];
+    for (text, place) in texts {
+        assert!(rt; is_refused(rt.alloc(), text, place), "{text}");
+    }
+}
+
+#[test]
+fn places_within_literals_are_exact(rt: HostRuntime) {
+    let texts = [
+        ("<a:> <a:> \"", 11),
+        ("<a:> <a:> \"\\", 12),
+        ("<a:> <a:> \"\\x\" .", 12),
+        ("<a:> <a:> \"\\u00\" .", 15),
+        ("<a:> <a:> \"\\uD800\" .", 14),
+        ("<a:> <a:> \"\\uDFFF\" .", 14),
+        ("<a:> <a:> \"\\U0011", 16),
+        ("<a:> <a:> \"\\U00110000\" .", 16),
+        ("<a:> <a:> \"\\U1", 13),
+    ];
+    for (text, place) in texts {
+        assert!(rt; is_refused(rt.alloc(), text, place), "{text}");
+    }
+}
+
+#[test]
+fn escapes_are_read(rt: HostRuntime) -> Result<(), Fail> {
+    let letters = "<a:> <a:> \"\\t\\b\\n\\r\\f\\\"\\'\\\\\".";
+    assert!(rt;
+        is_rewritten(
+            rt.alloc(),
+            letters,
+            "<a:> <a:> \"\t\u{8}\\n\\r\u{C}\\\"'\\\\\" ."
+        )?
+    );
+    let codes = "<\\u0061\\u003A\\u00E9\\U0001F600> <a:> \"\\u0022\\U0010ffff\\u000A\"@EN .";
+    assert!(rt;
+        is_rewritten(
+            rt.alloc(),
+            codes,
+            "<a:\u{E9}\u{1F600}> <a:> \"\\\"\u{10FFFF}\\n\"@en ."
+        )?
+    );
+    Ok(())
+}
+
+#[test]
+fn lang_string_is_no_datatype_where_it_is_spelled_with_escapes(rt: HostRuntime) {
+    let text = "<a:> <a:> \"x\"^^<http://www.w3.org/1999/02/22-rdf-syntax-ns#lang\\u0053tring> .";
+    assert!(rt; is_refused(rt.alloc(), text, 74));
 }
 
 #[test]
@@ -102,8 +178,8 @@ fn lexical_forms_are_limited(rt: HostRuntime) -> Result<(), Fail> {
 #[test]
 fn numbers_that_are_written_apart_differ(rt: HostRuntime) -> Result<(), Fail> {
     let alloc = rt.alloc();
-    let padded = read(alloc, "<http://d/a> <http://d/p> \"042\" .")?;
-    let bare = read(alloc, "<http://d/a> <http://d/p> \"42\" .")?;
+    let padded = read_triple(alloc, "<http://d/a> <http://d/p> \"042\" .")?;
+    let bare = read_triple(alloc, "<http://d/a> <http://d/p> \"42\" .")?;
     let copy = padded.copy_in(alloc)?;
     assert!(rt; padded != bare);
     assert!(rt; padded < bare);
@@ -114,8 +190,8 @@ fn numbers_that_are_written_apart_differ(rt: HostRuntime) -> Result<(), Fail> {
 #[test]
 fn literals_come_before_iris(rt: HostRuntime) -> Result<(), Fail> {
     let alloc = rt.alloc();
-    let hash = read(alloc, "<http://d/a#> <http://d/p> <urn:x> .")?;
-    let bare = read(alloc, "<http://d/a> <http://d/p> \"x\" .")?;
+    let hash = read_triple(alloc, "<http://d/a#> <http://d/p> <urn:x> .")?;
+    let bare = read_triple(alloc, "<http://d/a> <http://d/p> \"x\" .")?;
     assert!(rt; cmp_triples(&hash, &bare) == Ordering::Less);
     assert!(rt; cmp_terms(&bare.o, &hash.o) == Ordering::Less);
     assert!(rt; bare.o < hash.o);
@@ -170,24 +246,5 @@ fn literals_are_tested(rt: HostRuntime) -> Result<(), Fail> {
         "http://www.w3.org/1999/02/22-rdf-syntax-ns#langString",
     )?;
     assert!(rt; matches!(Literal::new(alloc, "x", &tag_type), Err(TermFault::BadType)));
-    Ok(())
-}
-
-#[test]
-fn names_of_domains_are_tested(rt: HostRuntime) -> Result<(), Fail> {
-    let most = long(rt.alloc(), "", 200)?;
-    let more = long(rt.alloc(), "", 201)?;
-    assert!(rt; is_domain("data.example-1") && is_domain(most.as_str()));
-    assert!(rt; !is_domain("") && !is_domain("Data") && !is_domain(more.as_str()));
-    assert!(rt; is_absolute("urn:x") && !is_absolute("1x:y"));
-    Ok(())
-}
-
-#[test]
-fn texts_are_copied(rt: HostRuntime) -> Result<(), Fail> {
-    let text = Text::new(rt.alloc(), "x")?;
-    let copy = text.copy_in(rt.alloc())?;
-    assert!(rt; text == copy);
-    assert!(rt; text.len() == 1 && !text.is_empty() && text.as_str() == "x");
     Ok(())
 }

@@ -3,9 +3,9 @@
 
 ghost use Rattle.std.specs.Prelude.{◌≡◌, [], ◌∷◌, ◌++◌, OnOk, OnErr, MatchOption};
 ghost use Rattle.rdf_terms.specs.Compare.{suffix_text};
-ghost use Rattle.rdf_terms.specs.Iri.{iri_text};
 ghost use Rattle.rdf_terms.specs.Kept.{KeepsStart};
-ghost use Rattle.rdf_terms.specs.Spelling.{escaped, escaped_byte, datatype_text, literal_text, term_text, triple_text};
+ghost use Rattle.rdf_terms.specs.Marks.{space, backslash};
+ghost use Rattle.rdf_terms.specs.Spelling.{iri_text, escaped, escaped_byte, datatype_text, literal_text, term_text, triple_text};
 
 use crate::order::is_string_type;
 use crate::terms::{Iri, Kind, Literal, Term, Triple};
@@ -13,7 +13,7 @@ use std::alloc::AllocError;
 
 /// The byte that stands behind a backslash for a byte that is escaped.
 fn escape_code(byte: u8) -> Option<u8>
-    ensures { MatchOption result (escaped_byte byte ≡ byte ∷ []) (λ code. escaped_byte byte ≡ 92 ∷ code ∷ []) }
+    ensures { MatchOption result (escaped_byte byte ≡ byte ∷ []) (λ code. escaped_byte byte ≡ backslash ∷ code ∷ []) }
 {
     match byte {
         b'"' => Some(b'"'),
@@ -26,7 +26,7 @@ fn escape_code(byte: u8) -> Option<u8>
 
 /// Appends a piece that needs no escapes, and then an escape.
 fn append_escape(out: &mut Vec<u8>, piece: &[u8], code: u8) -> Result<(), AllocError>
-    ensures ok { OnOk result (out.new.items ≡ out.old.items ++ (piece.now ++ 92 ∷ code ∷ [])) }
+    ensures ok { OnOk result (out.new.items ≡ out.old.items ++ (piece.now ++ backslash ∷ code ∷ [])) }
     ensures err { OnErr result (KeepsStart out.old.items out.new.items) }
 {
     out.extend_from_slice(piece)?;
@@ -60,7 +60,7 @@ fn append_iri(out: &mut Vec<u8>, iri: &Iri) -> Result<(), AllocError>
 
 /// Appends an IRI and a space.
 fn append_spaced_iri(out: &mut Vec<u8>, iri: &Iri) -> Result<(), AllocError>
-    ensures ok { OnOk result (out.new.items ≡ out.old.items ++ (iri_text iri.now ++ 32 ∷ [])) }
+    ensures ok { OnOk result (out.new.items ≡ out.old.items ++ (iri_text iri.now ++ space ∷ [])) }
     ensures err { OnErr result (KeepsStart out.old.items out.new.items) }
 {
     append_iri(out, iri)?;

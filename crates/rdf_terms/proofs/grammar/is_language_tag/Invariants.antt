@@ -1,7 +1,0 @@
-use Rattle.std.proofs.Common.{◌≡◌, drop, false}
-use Rattle.rdf_terms.specs.Literal.{is_primary}
-use Rattle.rdf_terms.proofs.grammar.is_language_tag.Given as goal
-
--- what is left decides, given whether a letter stands before it
-abbrev pub invariant-loop-i : goal.invariant-loop-i
-invariant-loop-i l = is_primary false l.bytes ≡ is_primary l.full (drop l.i l.bytes)

@@ -1,0 +1,85 @@
+-- Escapes: what may stand for a character between the marks of a term (N-Triples 1.1, ECHAR and UCHAR).
+use Rattle.std.specs.Prelude.{◌≡◌, ℕ, ◌+◌, ◌*◌, List, [], ◌∷◌, Bool, ◌||◌, not, ◌==◌, nat_lt, IsTrue, length, if◌then◌else◌, encode_utf8}
+use Rattle.std.specs.List.{list_all, AllByRecursion, flat_map}
+use Rattle.std.specs.Char.{IsScalar, digit_value}
+use Rattle.rdf_terms.specs.Marks.{line_feed, carriage_return, quote, apostrophe, backslash, capital_u, small_b, small_f, small_n, small_r, small_t, small_u}
+
+-- a part of what stands between the marks of a term: a byte as it is, a backslash and a letter (ECHAR), or `\u` or `\U` and digits (UCHAR)
+pub data Piece : Type 0 where
+  Plain : ℕ → Piece
+  Letter : ℕ → Piece
+  Short : List ℕ → Piece
+  Long : List ℕ → Piece
+
+-- a hexadecimal digit
+abbrev pub is_hexadecimal : ℕ → Bool
+is_hexadecimal byte = nat_lt (digit_value byte) 16
+
+-- a code with further hexadecimal digits behind it
+abbrev pub code_with : ℕ → List ℕ → ℕ
+code_with code [] = code
+code_with code (digit ∷ digits) = code_with (16 * code + digit_value digit) digits
+
+-- the code that hexadecimal digits name
+abbrev pub code_of : List ℕ → ℕ
+code_of digits = code_with 0 digits
+
+-- one of `t b n r f " ' \`
+abbrev pub is_escape_letter : ℕ → Bool
+is_escape_letter letter =
+    letter == small_t || letter == small_b || letter == small_n || letter == small_r || letter == small_f
+    || letter == quote || letter == apostrophe || letter == backslash
+
+-- what a letter behind a backslash stands for: a tab, BS, LF, CR, FF, or itself
+abbrev pub letter_value : ℕ → ℕ
+letter_value letter =
+    if letter == small_t then 9
+    else (if letter == small_b then 8
+    else (if letter == small_n then 10
+    else (if letter == small_r then 13
+    else (if letter == small_f then 12 else letter))))
+
+-- a piece as it stands in a text
+abbrev pub piece_text : Piece → List ℕ
+piece_text (Plain byte) = byte ∷ []
+piece_text (Letter letter) = backslash ∷ letter ∷ []
+piece_text (Short digits) = backslash ∷ small_u ∷ digits
+piece_text (Long digits) = backslash ∷ capital_u ∷ digits
+
+-- what a piece stands for
+abbrev pub piece_value : Piece → List ℕ
+piece_value (Plain byte) = byte ∷ []
+piece_value (Letter letter) = letter_value letter ∷ []
+piece_value (Short digits) = encode_utf8 (code_of digits)
+piece_value (Long digits) = encode_utf8 (code_of digits)
+
+-- so many hexadecimal digits, which name a Unicode scalar value
+pub record NamesScalar (count : ℕ) (digits : List ℕ) : Type 0 where
+  pub many : length digits ≡ count
+  pub hexadecimal : IsTrue (list_all is_hexadecimal digits)
+  pub scalar : IsScalar (code_of digits)
+
+-- what may stand between the quotes of a literal as it is
+abbrev pub is_plain_byte : ℕ → Bool
+is_plain_byte byte = not (byte == quote || byte == backslash || byte == line_feed || byte == carriage_return)
+
+-- a piece of an IRI
+abbrev pub IsIriPiece : Piece → Type 0
+IsIriPiece (Plain byte) = Unit {0}
+IsIriPiece (Letter letter) = ⊥
+IsIriPiece (Short digits) = NamesScalar 4 digits
+IsIriPiece (Long digits) = NamesScalar 8 digits
+
+-- a piece of a lexical form
+abbrev pub IsLexicalPiece : Piece → Type 0
+IsLexicalPiece (Plain byte) = IsTrue (is_plain_byte byte)
+IsLexicalPiece (Letter letter) = IsTrue (is_escape_letter letter)
+IsLexicalPiece (Short digits) = NamesScalar 4 digits
+IsLexicalPiece (Long digits) = NamesScalar 8 digits
+
+-- the text is made of such pieces, and they stand for the value
+pub record SpellsPieces (IsPiece : Piece → Type 0) (text value : List ℕ) : Type 0 where
+  pub pieces : List Piece
+  pub each : AllByRecursion IsPiece pieces
+  pub spelled : text ≡ flat_map piece_text pieces
+  pub meant : value ≡ flat_map piece_value pieces

@@ -1,0 +1,165 @@
+//! The reader of escapes (N-Triples 1.1, ECHAR and UCHAR).
+ghost use Rattle.std.specs.Prelude.{◌≡◌, ◌≤◌, ◌<◌, ◌^◌, MatchOption, MatchResult, length, false, true};
+ghost use Rattle.std.specs.Bool.{OnTrue};
+ghost use Rattle.rdf_terms.specs.Escapes.{is_escape_letter, letter_value};
+ghost use Rattle.rdf_terms.specs.Reading.{Behind, Digits, may_begin};
+ghost use Rattle.rdf_terms.specs.Reads.{HasDigit, HasNoDigit, HasLetter, HasNoLetter, IsEscape, StopsBehind};
+
+use crate::faults::TripleFault;
+use crate::places::byte_at;
+use crate::spots::Spot;
+
+/// An escape that was read: its character, where the next one stands, and the place behind it.
+#[derive(Clone, Copy, Debug)]
+pub struct Escape {
+    /// The character.
+    pub character: char,
+    /// Where the next character stands.
+    pub spot: Spot,
+    /// The place behind the escape.
+    pub next: usize,
+}
+
+/// What a letter behind a backslash stands for, in a lexical form.
+fn letter_value(letter: u8) -> Option<char>
+    ensures { MatchOption result (is_escape_letter letter ≡ false) (λ character. (is_escape_letter letter ≡ true) × (character ≡ letter_value letter)) }
+{
+    match letter {
+        b't' => Some('\t'),
+        b'b' => Some('\u{8}'),
+        b'n' => Some('\n'),
+        b'r' => Some('\r'),
+        b'f' => Some('\u{C}'),
+        b'"' => Some('"'),
+        b'\'' => Some('\''),
+        b'\\' => Some('\\'),
+        _ => None,
+    }
+}
+
+/// How many codes begin with the same digits, where so many digits are to come.
+fn width(digits: u32) -> u64
+    requires { digits < 8 }
+    ensures width { result ≡ 16 ^ digits }
+    ensures some { 1 ≤ result }
+    ensures small { result ≤ 268435456 }
+{
+    match digits {
+        0 => 1,
+        1 => 16,
+        2 => 256,
+        3 => 4_096,
+        4 => 65_536,
+        5 => 1_048_576,
+        6 => 16_777_216,
+        _ => 268_435_456,
+    }
+}
+
+/// Whether some character whose code begins with this one, with so many digits to come, may stand here.
+fn may_begin(spot: Spot, digits: u32, code: u32) -> bool
+    requires digits { digits < 8 }
+    requires code { code < 17825792 }
+    ensures answer { result ≡ may_begin spot digits code }
+    // A code that passes is not above U+10FFFF.
+    ensures small { OnTrue result (code < 1114112) }
+{
+    let width = width(digits);
+    let low = u64::from(code) * width;
+    spot.may_hold(low, low + (width - 1))
+}
+
+/// The value of the hexadecimal digit at a place.
+fn digit_at(text: &str, place: usize) -> Option<u32>
+    requires { place ≤ length text.now }
+    ensures { MatchOption result (HasNoDigit text.now place) (HasDigit text.now place) }
+{
+    let byte = byte_at(text, place)?;
+    char::from(byte).to_digit(16)
+}
+
+/// Reads so many hexadecimal digits, which name a character that may stand here.
+fn read_digits(text: &str, at: usize, spot: Spot, count: u32) -> Result<Escape, TripleFault>
+    requires some { 1 ≤ count }
+    requires most { count ≤ 8 }
+    requires begin { at ≤ length text.now }
+    ensures { MatchResult result
+        (IsEscape text.now at spot (Digits count 0))
+        (StopsBehind text.now at spot (Digits count 0)) }
+{
+    let mut code = 0;
+    let mut digits = count;
+    let mut next = at;
+    while digits > 1 {
+        let Some(digit) = digit_at(text, next) else {
+            return Err(TripleFault::NotTriple { place: next });
+        };
+        code = code * 16 + digit;
+        digits -= 1;
+        if !may_begin(spot, digits, code) {
+            return Err(TripleFault::NotTriple { place: next });
+        }
+        next += 1;
+    }
+    read_last_digit(text, next, spot, code)
+}
+
+/// Reads the last hexadecimal digit of a character's code.
+fn read_last_digit(text: &str, at: usize, spot: Spot, code: u32) -> Result<Escape, TripleFault>
+    requires small { code < 1114112 }
+    requires begin { at ≤ length text.now }
+    ensures { MatchResult result
+        (IsEscape text.now at spot (Digits 1 code))
+        (StopsBehind text.now at spot (Digits 1 code)) }
+{
+    let fault = TripleFault::NotTriple { place: at };
+    let Some(digit) = digit_at(text, at) else {
+        return Err(fault);
+    };
+    let Some(character) = char::from_u32(code * 16 + digit) else {
+        return Err(fault);
+    };
+    let Some(spot) = spot.after(character) else {
+        return Err(fault);
+    };
+    let next = at + 1;
+    Ok(Escape {
+        character,
+        spot,
+        next,
+    })
+}
+
+/// What a letter behind a backslash stands for at a spot: only lexical forms have such letters.
+fn letter_here(letter: u8, spot: Spot) -> Option<char>
+    ensures { MatchOption result (HasNoLetter spot letter) (HasLetter spot letter) }
+{
+    match spot {
+        Spot::Lexical => letter_value(letter),
+        Spot::SchemeStart | Spot::Scheme | Spot::IriRest => None,
+    }
+}
+
+/// Reads an escape behind its backslash.
+pub fn read_escape(text: &str, at: usize, spot: Spot) -> Result<Escape, TripleFault>
+    requires { at ≤ length text.now }
+    ensures { MatchResult result (IsEscape text.now at spot Behind) (StopsBehind text.now at spot Behind) }
+{
+    let fault = TripleFault::NotTriple { place: at };
+    let Some(byte) = byte_at(text, at) else {
+        return Err(fault);
+    };
+    let next = at + 1;
+    match byte {
+        b'u' => read_digits(text, next, spot, 4),
+        b'U' => read_digits(text, next, spot, 8),
+        _ => match letter_here(byte, spot) {
+            Some(character) => Ok(Escape {
+                character,
+                spot,
+                next,
+            }),
+            None => Err(fault),
+        },
+    }
+}
