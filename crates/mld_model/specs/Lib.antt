@@ -22,7 +22,6 @@ pub mod JournalLaws
 pub mod SoundLaws
 pub mod FoundedLaws
 pub mod Bytes
-pub mod TripleBytes
 pub mod Answers
 pub mod Promises
 pub mod Laws

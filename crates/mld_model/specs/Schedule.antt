@@ -1,10 +1,10 @@
 -- The grammar of a schedule's lines, as bytes without their LF.
-use Rattle.std.specs.Prelude.{◌≡◌, ℕ, ◌^◌, ◌<◌, ◌≤◌, List, [], ◌∷◌, ◌++◌, Bool, ◌||◌, ◌&&◌, not, ◌==◌, nat_eq, IsTrue, codes, take_while}
+use Rattle.std.specs.Prelude.{◌≡◌, ℕ, ◌^◌, ◌<◌, ◌≤◌, List, [], ◌∷◌, ◌++◌, Bool, not, ◌==◌, nat_eq, IsTrue, codes, take_while}
 use Rattle.std.specs.Cmp.Lexicographic.{pointwise}
 use Rattle.std.specs.List.{list_any}
 use Rattle.std.specs.Str.{IsUtf8}
 use Rattle.std.specs.Fmt.{decimal}
-use Rattle.rdf_terms.specs.Domain.{is_domain}
+use Rattle.iri_rules.specs.Domain.{is_domain}
 use Rattle.rdf_terms.specs.Grammar.{SpellsTriple, IsWithin}
 use Rattle.mld_model.specs.Characters.{space, hash_mark}
 use Rattle.mld_model.specs.World.{clone_count}
@@ -30,11 +30,9 @@ unbuilt_words =
     codes "stop" ∷ codes "open" ∷ codes "ask" ∷ codes "compact" ∷ codes "truncate"
     ∷ codes "query" ∷ codes "update" ∷ codes "single" ∷ codes "crash" ∷ []
 
--- a line that isn't built yet, whatever its rest is: one of those words first, or `add` or `remove` with a backslash somewhere
+-- a line that isn't built yet, whatever its rest is: one of those words first
 unfoldable pub is_unbuilt : List ℕ → Bool
-is_unbuilt line =
-    list_any (λ word. is_word word (first_word line)) unbuilt_words
-    || ((is_word (codes "add") (first_word line) || is_word (codes "remove") (first_word line)) && list_any (λ byte. byte == 92) line)
+is_unbuilt line = list_any (λ word. is_word word (first_word line)) unbuilt_words
 
 -- `domain D clones N`
 pub record SpellsSetup (line domain : List ℕ) (count : ℕ) : Type 0 where

@@ -5,16 +5,15 @@ use Rattle.std.specs.Fmt.{decimal}
 use Rattle.std.proofs.Common.{refl, sym, ◌∙◌, subst, ap, arith, inl, inr, drop, one-add}
 use Rattle.std.proofs.lemmas.Bool.{false≢true, and_parts}
 use Rattle.std.proofs.lemmas.Fmt.{decimal_injective}
-use Rattle.rdf_terms.specs.Domain.{is_domain, is_domain_byte}
+use Rattle.iri_rules.specs.Domain.{is_domain, is_domain_byte, domain_limit}
 use Rattle.rdf_terms.specs.Grammar.{SpellsTriple}
 use Rattle.mld_model.specs.Characters.{space, hash_mark}
 use Rattle.mld_model.specs.World.{clone_count}
 use Rattle.mld_model.specs.declared.Command.{Command}
 use Rattle.mld_model.specs.declared.Command.TheVariants.{Add, Remove, Deliver, Show, Compare, Join}
 use Rattle.mld_model.specs.Schedule.{IsNothing, empty, comment, is_unbuilt, SpellsSetup, SpellsCommand}
-use Rattle.mld_model.specs.Bytes.{Lacks, Lacks-append, Lacks-from_test, Lacks-decimal, list_any-Lacks, one_split, apart}
-use Rattle.mld_model.specs.TripleBytes.{Lacks-triple}
-use Rattle.rdf_terms.specs.ReadingLaws.{one_spelled}
+use Rattle.mld_model.specs.Bytes.{Lacks, Lacks-from_test, Lacks-decimal, one_split, apart}
+use Rattle.rdf_terms.proofs.Complete.{one_spelled}
 use Rattle.mld_model.specs.Step.{HasCloneNumbers}
 use Rattle.mld_model.specs.Laws.{OneKind, OneSetup, OneCommand}
 
@@ -76,12 +75,9 @@ spells_numbers line (Show number) h = h.1
 spells_numbers line (Join number) h = h.1
 spells_numbers line (Compare number other) h = (h.1, h.2)
 
--- numbers are written without spaces and backslashes
+-- numbers are written without spaces
 no_space : (number : ℕ) → number < 2 ^ 64 → Lacks space (decimal number)
 no_space = Lacks-decimal space (λ digit h e. omega arith)
-
-no_backslash : (number : ℕ) → number < 2 ^ 64 → Lacks 92 (decimal number)
-no_backslash = Lacks-decimal 92 (λ digit h e. omega arith)
 
 -- a number and what stands behind the space after it
 one_number : (m n : ℕ) (x y : List ℕ) → m < 2 ^ 64 → n < 2 ^ 64 → decimal m ++ space ∷ x ≡ decimal n ++ space ∷ y → (m ≡ n) × (x ≡ y)
@@ -109,15 +105,11 @@ unbuilt_setup : (line domain : List ℕ) (count : ℕ) → IsTrue (is_unbuilt li
 unfolding is_unbuilt
 unbuilt_setup line domain count u h = false≢true (subst (λ (l : List ℕ). is_unbuilt l ≡ true) h.whole u)
 
--- nor a command: the text of a triple has no backslash
+-- nor a command
 unbuilt_command : (line : List ℕ) (command : Command) → IsTrue (is_unbuilt line) → ¬ SpellsCommand line command
 unfolding is_unbuilt
-unbuilt_command line (Add number triple) u h =
-    let lacks : Lacks 92 (decimal number ++ 32 ∷ h.0) = Lacks-append 92 (decimal number) (32 ∷ h.0) (no_backslash number (small h.2)) (λ e. omega arith, Lacks-triple h.0 triple h.4) in
-    false≢true (sym (list_any-Lacks 92 (decimal number ++ 32 ∷ h.0) lacks) ∙ subst (λ (l : List ℕ). is_unbuilt l ≡ true) h.1 u)
-unbuilt_command line (Remove number triple) u h =
-    let lacks : Lacks 92 (decimal number ++ 32 ∷ h.0) = Lacks-append 92 (decimal number) (32 ∷ h.0) (no_backslash number (small h.2)) (λ e. omega arith, Lacks-triple h.0 triple h.4) in
-    false≢true (sym (list_any-Lacks 92 (decimal number ++ 32 ∷ h.0) lacks) ∙ subst (λ (l : List ℕ). is_unbuilt l ≡ true) h.1 u)
+unbuilt_command line (Add number triple) u h = false≢true (subst (λ (l : List ℕ). is_unbuilt l ≡ true) h.1 u)
+unbuilt_command line (Remove number triple) u h = false≢true (subst (λ (l : List ℕ). is_unbuilt l ≡ true) h.1 u)
 unbuilt_command line (Deliver message number) u h = false≢true (subst (λ (l : List ℕ). is_unbuilt l ≡ true) h.0 u)
 unbuilt_command line (Show number) u h = false≢true (subst (λ (l : List ℕ). is_unbuilt l ≡ true) h.0 u)
 unbuilt_command line (Join number) u h = false≢true (subst (λ (l : List ℕ). is_unbuilt l ≡ true) h.0 u)
@@ -148,7 +140,7 @@ one_kind line = record {
 -- no name of a domain has a space
 domain_lacks : (domain : List ℕ) → IsTrue (is_domain domain) → Lacks space domain
 unfolding is_domain
-domain_lacks domain h = Lacks-from_test is_domain_byte space refl domain (and_parts (nat_le 1 (length domain) && nat_le (length domain) 200) (list_all is_domain_byte domain) h).1
+domain_lacks domain h = Lacks-from_test is_domain_byte space refl domain (and_parts (nat_le 1 (length domain) && nat_le (length domain) domain_limit) (list_all is_domain_byte domain) h).1
 
 -- a domain line spells one domain and one number of clones
 pub one_setup : OneSetup
