@@ -3,8 +3,9 @@ ghost use Rattle.std.specs.Prelude.{IfOk};
 ghost use Rattle.clone_core.specs.Joining.{AreCopies};
 
 use crate::clones::MldClone;
+use iri_rules::Text;
 use mld_ops::{Give, Message, Snapshot};
-use rdf_terms::{Iri, Text};
+use rdf_terms::Iri;
 use std::alloc::{AllocError, Global};
 use std::marker::Model;
 use std::thread::Threads;

@@ -3,8 +3,9 @@ ghost use Rattle.std.specs.Prelude.{IfOk};
 ghost use Rattle.clone_core.specs.Joining.{IsGoodMessage};
 
 use crate::{Adopted, Asker, Covering, Done, Got, MldClone, ReceiveFault, UpdateFault};
+use iri_rules::Text;
 use mld_ops::{Give, Message, Snapshot, Tagged};
-use rdf_terms::{Iri, Term, Text, Triple};
+use rdf_terms::{Iri, Term, Triple};
 use std::alloc::Global;
 use std::test::Fail;
 use std::thread::Threads;

@@ -1,7 +1,8 @@
 //! Clones worked by hand.
 use crate::{Covering, Done, Got, MldClone, ReceiveFault};
+use iri_rules::Text;
 use mld_ops::{Entry, Give, Message, Snapshot, Tagged};
-use rdf_terms::{Iri, Term, Text, Triple};
+use rdf_terms::{Iri, Term, Triple};
 use std::alloc::{AllocError, Global};
 use std::test::Fail;
 use std::thread::Threads;
