@@ -1,17 +1,17 @@
 -- Domain lines and commands, a part at a time.
-use Rattle.std.proofs.Common.{◌≡◌, ◌≢◌, ◌↔◌, ℕ, zero, suc, ◌<◌, ◌≤◌, ◌^◌, List, [], ◌∷◌, ◌++◌, codes, Bool, true, false, ◌||◌, ◌==◌, IsTrue, Option, Some, None, MatchOption, IfOk, refl, sym, ◌∙◌, subst, ap, drop, arith}
+use Rattle.std.proofs.Common.{◌≡◌, ◌≢◌, ◌↔◌, ℕ, zero, suc, ◌<◌, ◌≤◌, ◌^◌, List, [], ◌∷◌, ◌++◌, codes, true, IsTrue, Option, Some, None, MatchOption, IfOk, refl, sym, ◌∙◌, subst, ap, drop, arith}
 use Rattle.std.specs.Fmt.{decimal}
 use Rattle.std.specs.Str.{IsUtf8, IsAscii}
 use Rattle.std.proofs.lemmas.Str.{IsUtf8-from_ascii}
 use Rattle.std.proofs.lemmas.Bool.Decides.{nat_tests}
-use Rattle.std.specs.List.{list_all, list_any}
+use Rattle.std.specs.List.{list_all}
 use Rattle.std.specs.declared.result.Result.{Result}
 use Rattle.std.specs.declared.result.Result.TheVariants.{Ok, Err}
-use Rattle.std.proofs.lemmas.Bool.{false≢true, and_parts, ne_eqb, eqb-false}
-use Rattle.rdf_terms.specs.Domain.{is_domain, is_domain_byte}
-use Rattle.rdf_terms.specs.Grammar.{IsWithin, has_no_backslash}
+use Rattle.std.proofs.lemmas.Bool.{and_parts}
+use Rattle.iri_rules.specs.Domain.{is_domain, is_domain_byte}
+use Rattle.rdf_terms.specs.Grammar.{IsWithin}
 use Rattle.rdf_terms.specs.Building.{RefusesTriple}
-use Rattle.rdf_terms.specs.ReadingLaws.{one_spelled}
+use Rattle.rdf_terms.proofs.Complete.{one_spelled}
 use Rattle.rdf_terms.specs.declared.terms.Triple.{Triple}
 use Rattle.rdf_terms.specs.declared.faults.TripleFault.{TripleFault}
 use Rattle.rdf_terms.specs.declared.faults.TripleFault.TheVariants.{NotTriple, TooLong, NoMemory}
@@ -20,19 +20,10 @@ use Rattle.mld_model.specs.World.{clone_count}
 use Rattle.mld_model.specs.declared.Command.{Command}
 use Rattle.mld_model.specs.declared.Command.TheVariants.{Add, Remove, Deliver, Show, Compare, Join}
 use Rattle.mld_model.specs.Bytes.{Lacks, Lacks-from_test, one_split, apart}
-use Rattle.mld_model.specs.Schedule.{SpellsSetup, SpellsCommand, is_unbuilt}
+use Rattle.mld_model.specs.Schedule.{SpellsSetup, SpellsCommand}
 use Rattle.net_world.specs.Reading.{IsTripleOf, IsCloneAndTriple, IsAddOf, IsRemoveOf, IsDeliverOf, IsShowOf, IsCompareOf, IsJoinOf}
 use Rattle.net_world.proofs.LinesText.{has_space}
 use Rattle.net_world.proofs.LinesNumbers.{small, number_first}
-
--- two tests of which neither holds
-none_of : (a b : Bool) → (a || b) ≡ false → (a ≡ false) × (b ≡ false)
-none_of true b h = absurd (false≢true (sym h))
-none_of false b h = (refl, h)
-
-not_true : (a : Bool) → (a ≡ true → ⊥) → a ≡ false
-not_true true h = absurd (h refl)
-not_true false h = refl
 
 -- ---- what follows the first word
 
@@ -137,14 +128,14 @@ join_behind line rest e command = (join_there line rest e command, join_back lin
 
 -- ---- the parts of a command
 
-pub no_triple_split : (rest : List ℕ) → Lacks 32 rest → (number : ℕ) (triple : Triple) → ¬ IsCloneAndTriple rest number triple
+pub no_triple_split : (rest : List ℕ) → Lacks space rest → (number : ℕ) (triple : Triple) → ¬ IsCloneAndTriple rest number triple
 no_triple_split rest lacks number triple h = has_space rest (decimal number) h.text lacks h.whole
 
-pub no_triple_number : (rest front behind : List ℕ) → rest ≡ front ++ 32 ∷ behind → Lacks 32 front → ((number : ℕ) → number < clone_count → front ≢ decimal number)
+pub no_triple_number : (rest front behind : List ℕ) → rest ≡ front ++ space ∷ behind → Lacks space front → ((number : ℕ) → number < clone_count → front ≢ decimal number)
     → (number : ℕ) (triple : Triple) → ¬ IsCloneAndTriple rest number triple
 no_triple_number rest front behind e lacks none number triple h = none number h.clone (number_first rest front behind h.text number lacks e (small h.clone) h.whole).0
 
-pub no_triple_text : (rest front behind : List ℕ) → rest ≡ front ++ 32 ∷ behind → Lacks 32 front → ((triple : Triple) → ¬ IsTripleOf behind triple)
+pub no_triple_text : (rest front behind : List ℕ) → rest ≡ front ++ space ∷ behind → Lacks space front → ((triple : Triple) → ¬ IsTripleOf behind triple)
     → (number : ℕ) (triple : Triple) → ¬ IsCloneAndTriple rest number triple
 no_triple_text rest front behind e lacks none number triple h =
     none triple (subst (λ (t : List ℕ). IsTripleOf t triple) (sym (number_first rest front behind h.text number lacks e (small h.clone) h.whole).1) h.spelled)
@@ -177,30 +168,11 @@ pub no_compare_other : (rest front behind : List ℕ) → rest ≡ front ++ spac
     → (command : Command) → ¬ IsCompareOf rest command
 no_compare_other rest front behind e lacks none command h = none h.1 h.5 (number_first rest front behind (decimal h.1) h.0 lacks e (small h.4) h.3).1
 
--- ---- backslashes
-
--- a text without a backslash, from the test
-lacks_from_any : (byte : ℕ) (text : List ℕ) → list_any (λ b. b == byte) text ≡ false → Lacks byte text
-lacks_from_any byte [] h = tt
-lacks_from_any byte (first ∷ rest) h = let parts = none_of (first == byte) (list_any (λ b. b == byte) rest) h in (eqb-false first byte parts.0, lacks_from_any byte rest parts.1)
-
--- a line that is built, and begins with `add` or `remove` and a space, has none
-pub built_add : (line rest : List ℕ) → ¬ IsTrue (is_unbuilt line) → line ≡ codes "add " ++ rest → Lacks 92 rest
-unfolding is_unbuilt
-built_add line rest h e = lacks_from_any 92 rest (not_true (list_any (λ b. b == 92) rest) (λ k. h (subst (λ (l : List ℕ). is_unbuilt l ≡ true) (sym e) k)))
-
-pub built_remove : (line rest : List ℕ) → ¬ IsTrue (is_unbuilt line) → line ≡ codes "remove " ++ rest → Lacks 92 rest
-unfolding is_unbuilt
-built_remove line rest h e = lacks_from_any 92 rest (not_true (list_any (λ b. b == 92) rest) (λ k. h (subst (λ (l : List ℕ). is_unbuilt l ≡ true) (sym e) k)))
-
--- as the test that the reader of triples asks for
-pub lacks_backslash : (text : List ℕ) → Lacks 92 text → IsTrue (has_no_backslash text)
-lacks_backslash [] h = refl
-lacks_backslash (byte ∷ text) h = rw (ne_eqb byte 92 h.0) (lacks_backslash text h.1)
+-- ---- triples
 
 -- a fault of the triple, want of memory aside
 pub no_triple : (text : List ℕ) (fault : TripleFault) → RefusesTriple text fault → fault ≢ NoMemory → (triple : Triple) → ¬ IsTripleOf text triple
-no_triple text (NotTriple place) h other triple t = h triple t.spelled
+no_triple text (NotTriple place) h other triple t = h.unspelled triple t.spelled
 no_triple text TooLong h other triple t = h.2 (subst (λ (u : Triple). IsWithin u) (one_spelled text triple h.0 t.spelled h.1) t.within)
 no_triple text NoMemory h other triple t = other refl
 

@@ -1,6 +1,5 @@
 -- A line is split at its first space, and its first word says whether it isn't built yet.
-use Rattle.std.proofs.Common.{◌≡◌, ◌≢◌, ℕ, zero, suc, ◌+◌, ◌-◌, ◌<◌, ◌≤◌, List, [], ◌∷◌, ◌++◌, ◌↔◌, length, get_or, take, drop, Bool, true, false, ◌&&◌, ◌||◌, ◌==◌, codes, IsTrue, refl, sym, ap, subst, ◌∙◌, arith}
-use Rattle.std.specs.List.{list_any}
+use Rattle.std.proofs.Common.{◌≡◌, ◌≢◌, ℕ, zero, suc, ◌+◌, ◌-◌, ◌<◌, ◌≤◌, List, [], ◌∷◌, ◌++◌, ◌↔◌, length, get_or, take, drop, Bool, IsTrue, refl, sym, ap, subst, ◌∙◌, arith}
 use Rattle.std.specs.Str.{IsUtf8}
 use Rattle.std.proofs.lemmas.Bool.{ne_eqb, false≢true}
 use Rattle.std.proofs.lemmas.List.{take_all, length-drop, nil_from_length}
@@ -10,7 +9,7 @@ use Rattle.std.specs.declared.result.Result.TheVariants.{Ok, Err}
 use Rattle.std.proofs.lemmas.List.Sums.{take_while-cons}
 use Rattle.mld_model.specs.Characters.{space, hash_mark}
 use Rattle.mld_model.specs.Bytes.{Lacks, Lacks_parts}
-use Rattle.mld_model.specs.Schedule.{IsNothing, empty, comment, first_word, is_word, unbuilt_words, is_unbuilt}
+use Rattle.mld_model.specs.Schedule.{IsNothing, empty, comment, first_word}
 
 -- ---- spaces
 
@@ -77,25 +76,3 @@ text_tested A B (Err e) text h = (λ k. absurd (false≢true k), λ k. absurd (h
 
 pub nothing_tested : (line : List ℕ) (test : Bool) → 0 < length line → get_or line 0 0 ≡ hash_mark → IsTrue test ↔ IsUtf8 line → IsTrue test ↔ IsNothing line
 nothing_tested line test below e h = (λ k. nothing_comment line below e (h.0 k), λ n. h.1 (nothing_text line n below).1)
-
--- ---- lines that aren't built yet
-
--- by the first word
-unbuilt_by : (line word : List ℕ) → word ≡ first_word line
-    → is_unbuilt line ≡ (list_any (λ unbuilt. is_word unbuilt word) unbuilt_words || ((is_word (codes "add") word || is_word (codes "remove") word) && list_any (λ byte. byte == 92) line))
-unfolding is_unbuilt
-unbuilt_by line word e = rw e refl
-
-pub unbuilt_word : (line word : List ℕ) (listed : Bool) → word ≡ first_word line
-    → listed ≡ list_any (λ unbuilt. is_word unbuilt word) unbuilt_words → listed ≡ true → listed ≡ is_unbuilt line
-unbuilt_word line word listed e h k = k ∙ sym (unbuilt_by line word e ∙ rw (sym h ∙ k) refl)
-
-pub unbuilt_slash : (line word : List ℕ) (listed before slash : Bool) → word ≡ first_word line
-    → listed ≡ list_any (λ unbuilt. is_word unbuilt word) unbuilt_words → listed ≡ false
-    → before ≡ (is_word (codes "add") word || is_word (codes "remove") word) → before ≡ true → slash ≡ list_any (λ byte. byte == 92) line → slash ≡ is_unbuilt line
-unbuilt_slash line word listed before slash e h k a b s = s ∙ sym (unbuilt_by line word e ∙ rw (sym h ∙ k, sym a ∙ b) refl)
-
-pub unbuilt_other : (line word : List ℕ) (listed before : Bool) → word ≡ first_word line
-    → listed ≡ list_any (λ unbuilt. is_word unbuilt word) unbuilt_words → listed ≡ false
-    → before ≡ (is_word (codes "add") word || is_word (codes "remove") word) → before ≡ false → before ≡ is_unbuilt line
-unbuilt_other line word listed before e h k a b = b ∙ sym (unbuilt_by line word e ∙ rw (sym h ∙ k, sym a ∙ b) refl)

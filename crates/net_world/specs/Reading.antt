@@ -40,7 +40,7 @@ pub record IsTripleOf (text : List ℕ) (triple : Triple) : Type 0 where
 -- a clone's number, a space, and the text of a triple
 pub record IsCloneAndTriple (rest : List ℕ) (number : ℕ) (triple : Triple) : Type 0 where
   pub text : List ℕ
-  pub whole : rest ≡ decimal number ++ 32 ∷ text
+  pub whole : rest ≡ decimal number ++ space ∷ text
   pub clone : IsCloneNumber number
   pub spelled : IsTripleOf text triple
 

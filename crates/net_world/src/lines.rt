@@ -4,15 +4,16 @@ ghost use Rattle.std.specs.List.{list_any};
 ghost use Rattle.std.specs.Fmt.{decimal};
 ghost use Rattle.mld_model.specs.Bytes.{Lacks};
 ghost use Rattle.mld_model.specs.Characters.{space};
-ghost use Rattle.rdf_terms.specs.Domain.{is_domain};
+ghost use Rattle.iri_rules.specs.Domain.{is_domain};
 ghost use Rattle.rdf_terms.specs.declared.terms.Triple.{Triple};
 ghost use Rattle.mld_model.specs.Schedule.{IsNothing, is_unbuilt, unbuilt_words, is_word, first_word, SpellsSetup, SpellsCommand};
 ghost use Rattle.mld_model.specs.World.{clone_count};
 ghost use Rattle.mld_model.specs.declared.Command.{Command};
 ghost use Rattle.net_world.specs.Reading.{SetupIs, CommandIs, IsBadSetup, IsBadCommand, IsTripleOf, IsCloneAndTriple, IsAddOf, IsRemoveOf, IsDeliverOf, IsShowOf, IsCompareOf, IsJoinOf};
 
+use iri_rules::{Text, is_domain};
 use mld_model::{CLONE_COUNT, Command};
-use rdf_terms::{Text, Triple, TripleFault, is_domain, read_triple};
+use rdf_terms::{Triple, TripleFault, read_triple};
 use std::alloc::{AllocError, Global};
 use thiserror::Error;
 
@@ -109,12 +110,12 @@ const UNBUILT_WORDS: [&[u8]; 9] = [
     b"crash",
 ];
 
-/// A line that isn't built yet: one of those words comes first, or `add` or `remove` does and a backslash stands somewhere.
+/// A line that isn't built yet: one of those words comes first.
+#[tactic(auto, unfolding(mld_model::specs::Schedule::is_unbuilt))]
 fn is_unbuilt(line: &[u8]) -> bool
     ensures { result ≡ is_unbuilt line.now }
 {
-    let word = first_word(line);
-    is_unbuilt_word(word) || (is_before_triple(word) && line.contains(&b'\\'))
+    is_unbuilt_word(first_word(line))
 }
 
 /// One of the first words of lines that aren't built yet.
@@ -122,13 +123,6 @@ fn is_unbuilt_word(word: &[u8]) -> bool
     ensures { result ≡ list_any (λ unbuilt. is_word unbuilt word.now) unbuilt_words }
 {
     UNBUILT_WORDS.iter().any(|unbuilt| *unbuilt == word)
-}
-
-/// `add` or `remove`, the first words of lines that end with a triple.
-fn is_before_triple(word: &[u8]) -> bool
-    ensures { result ≡ (is_word (codes "add") word.now || is_word (codes "remove") word.now) }
-{
-    word == b"add".as_slice() || word == b"remove".as_slice()
 }
 
 /// The bytes before the first space, or all of them.
@@ -245,7 +239,6 @@ fn read_clone(alloc: Global, text: &[u8]) -> Result<Option<u8>, AllocError>
 
 /// The command of a line, where the line spells one.
 fn command_of(alloc: Global, line: &[u8]) -> Result<Option<Command>, AllocError>
-    requires { ¬ IsTrue (is_unbuilt line.now) }
     ensures { IfOk result (λ found. MatchOption found ((command : Command) → ¬ SpellsCommand line.now command) (λ command. SpellsCommand line.now command)) }
 {
     if let Some(rest) = behind(line, b"add ") {
@@ -271,7 +264,6 @@ fn command_of(alloc: Global, line: &[u8]) -> Result<Option<Command>, AllocError>
 
 /// What follows `add` and a space: a clone's number, a space, and a triple.
 fn read_add(alloc: Global, rest: &[u8]) -> Result<Option<Command>, AllocError>
-    requires { Lacks 92 rest.now }
     ensures { IfOk result (λ found. MatchOption found ((command : Command) → ¬ IsAddOf rest.now command) (λ command. IsAddOf rest.now command)) }
 {
     let Some((number, triple)) = read_clone_and_triple(alloc, rest)? else {
@@ -282,7 +274,6 @@ fn read_add(alloc: Global, rest: &[u8]) -> Result<Option<Command>, AllocError>
 
 /// What follows `remove` and a space: a clone's number, a space, and a triple.
 fn read_remove(alloc: Global, rest: &[u8]) -> Result<Option<Command>, AllocError>
-    requires { Lacks 92 rest.now }
     ensures { IfOk result (λ found. MatchOption found ((command : Command) → ¬ IsRemoveOf rest.now command) (λ command. IsRemoveOf rest.now command)) }
 {
     let Some((number, triple)) = read_clone_and_triple(alloc, rest)? else {
@@ -293,7 +284,6 @@ fn read_remove(alloc: Global, rest: &[u8]) -> Result<Option<Command>, AllocError
 
 /// A clone's number, a space, and a triple.
 fn read_clone_and_triple(alloc: Global, rest: &[u8]) -> Result<Option<(u8, Triple)>, AllocError>
-    requires { Lacks 92 rest.now }
     ensures { IfOk result (λ found. MatchOption found ((number : ℕ) (triple : Triple) → ¬ IsCloneAndTriple rest.now number triple) (λ parts. IsCloneAndTriple rest.now parts.0 parts.1)) }
 {
     let Some((number, text)) = split_at_space(rest) else {
@@ -310,7 +300,6 @@ fn read_clone_and_triple(alloc: Global, rest: &[u8]) -> Result<Option<(u8, Tripl
 
 /// The triple of a text, where the text is UTF-8 and spells one within the limits.
 fn read_triple_bytes(alloc: Global, text: &[u8]) -> Result<Option<Triple>, AllocError>
-    requires { Lacks 92 text.now }
     ensures { IfOk result (λ found. MatchOption found ((triple : Triple) → ¬ IsTripleOf text.now triple) (λ triple. IsTripleOf text.now triple)) }
 {
     let Ok(text) = str::from_utf8(text) else {

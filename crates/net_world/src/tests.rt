@@ -4,7 +4,8 @@ ghost use Rattle.mld_model.specs.Step.{HasCloneNumbers};
 ghost use Rattle.net_world.specs.Worlds.{IsStanding};
 
 use crate::{Command, LineRefusal, Setup, State, World, push_ready, read_command, read_setup};
-use rdf_terms::{Iri, Term, Text, Triple};
+use iri_rules::Text;
+use rdf_terms::{Iri, Term, Triple};
 use std::alloc::Global;
 use std::test::Fail;
 use std::thread::Threads;

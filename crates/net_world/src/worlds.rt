@@ -18,9 +18,10 @@ use crate::replies::{
 };
 use crate::summaries::{Summary, summarize};
 use clone_core::{Adopted, Asker, Covering, Done, Got, MldClone, ReceiveFault, UpdateFault};
+use iri_rules::Text;
 use mld_model::{CLONE_COUNT, CloneState, Command};
 use mld_ops::{Entry, Message, Messages};
-use rdf_terms::{Text, Triple};
+use rdf_terms::Triple;
 use std::alloc::{AllocError, Global};
 use std::marker::Model;
 use std::mem;

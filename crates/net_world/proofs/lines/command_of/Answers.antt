@@ -1,18 +1,12 @@
 use Rattle.mld_model.specs.Schedule.{SpellsCommand}
 use Rattle.net_world.specs.Reading.{IsAddOf, IsRemoveOf, IsDeliverOf, IsShowOf, IsCompareOf, IsJoinOf}
-use Rattle.net_world.proofs.LinesCommands.{built_add, built_remove, read_behind, add_behind, remove_behind, deliver_behind, show_behind, compare_behind, join_behind}
+use Rattle.net_world.proofs.LinesCommands.{read_behind, add_behind, remove_behind, deliver_behind, show_behind, compare_behind, join_behind}
 use Rattle.net_world.proofs.lines.command_of.Goals as goal
-
-pub read_add-requires : goal.read_add-requires
-read_add-requires c = built_add c.args.line.now c.in-Some.rest.now c.requires c.in-Some.ensures
 
 pub returns-in-Some : goal.returns-in-Some
 returns-in-Some c =
     read_behind (λ command. IsAddOf c.in-Some.rest.now command) (λ command. SpellsCommand c.args.line.now command) c.read_add.result
     (add_behind c.args.line.now c.in-Some.rest.now c.in-Some.ensures) c.read_add.ensures
-
-pub read_remove-requires : goal.read_remove-requires
-read_remove-requires c = built_remove c.args.line.now c.in-Some-behind.rest.now c.requires c.in-Some-behind.ensures
 
 pub returns-in-Some-behind : goal.returns-in-Some-behind
 returns-in-Some-behind c =

@@ -1,11 +1,7 @@
 use Rattle.std.proofs.Common.{ℕ, List, subst, sym}
-use Rattle.mld_model.specs.Bytes.{Lacks}
 use Rattle.net_world.specs.Reading.{IsTripleOf}
-use Rattle.net_world.proofs.LinesCommands.{lacks_backslash, no_triple}
+use Rattle.net_world.proofs.LinesCommands.{no_triple}
 use Rattle.net_world.proofs.lines.read_triple_bytes.Goals as goal
-
-pub read_triple-requires : goal.read_triple-requires
-read_triple-requires c = lacks_backslash c.in-Ok.text.now (subst (λ (l : List ℕ). Lacks 92 l) (sym c.in-Ok.ensures.cases.0) c.requires)
 
 pub returns-in-Err-TooLong : goal.returns-in-Err-TooLong
 returns-in-Err-TooLong c = λ triple spelled.
