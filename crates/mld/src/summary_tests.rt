@@ -4,7 +4,7 @@ use crate::tests::{ran_by, with_comment};
 use mld_io::{MemorySink, MemorySource};
 use mld_ops::Tagged;
 use net_world::{CloneSummary, State, Summary};
-use rdf_terms::{Triple, has_no_backslash, read_triple};
+use rdf_terms::{Triple, read_triple};
 use std::alloc::{AllocError, Global};
 use std::test::Fail;
 use std::thread::Threads;
@@ -109,9 +109,6 @@ fn told_of<R: Threads>(
 /// The triple of the schedules.
 fn triple(alloc: Global) -> Result<Triple, Fail> {
     let text = "<http://d/a> <http://d/#p> \"x\" .";
-    if !has_no_backslash(text) {
-        return Err(Fail::from("a backslash"));
-    }
     Ok(read_triple(alloc, text)?)
 }
 
@@ -175,7 +172,7 @@ fn a_run_tells_of_its_world_at_some_statuses(rt: HostRuntime) -> Result<(), Fail
         (b"", 4, false),
         (b"domain d clones 2\nask 0\n", 20, false),
         (b"ask\n", 20, false),
-        (b"domain d clones 2\nadd 0 \\\n", 20, false),
+        (b"domain d clones 2\nstop 0\n", 20, false),
     ];
     for (schedule, status, told) in cases {
         let ended = ends_telling(&rt, rt.alloc(), schedule)?;
