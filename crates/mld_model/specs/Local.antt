@@ -139,9 +139,10 @@ pub record IsFullFor (clone : LocalClone) (entry : EntryValue) : Type 0 where
   pub lacks : ¬ Has (ranges_of clone.held) entry.range
   pub full : held_limit ≤ length clone.held
 
--- the dots that an entry rests on cover the clone's own path beyond its own clock: another one has used its leaf
-abbrev pub IsForeign : LocalClone → EntryValue → Type 0
-IsForeign clone entry = ticks_of clone.ticks clone.path < ticks_of entry.time clone.path
+-- an entry is of the clone's own path, and its last tick is above the clone's own: another one has used its leaf
+pub record IsForeign (clone : LocalClone) (entry : EntryValue) : Type 0 where
+  pub own : entry.range.path ≡ clone.path
+  pub beyond : ticks_of clone.ticks clone.path < entry.range.last
 
 -- the clone forks its leaf for the one of the id: it keeps the left half, and gives the right one with a snapshot of what it has
 pub record LocallyForks (old : LocalClone) (id : List ℕ) (new : LocalClone) (give : Give) : Type 0 where

@@ -514,23 +514,23 @@ deliver_held running world stands sound message number entry live sent is must l
       pairs = at.stands.pairs;
     }))
 
--- an entry that was sent says no more of a clone's own path than the clone knows
+-- an entry that was sent is none of a clone's own path beyond what the clone knows
 pub never_foreign : (running : RunningWorld) (world : World) → StandsFor running world → IsSound world → (message number : ℕ) (entry : EntryValue) (live : LocalClone)
     → sent_message running message ≡ Some (sent.Range entry) → get_or running.clones number states.Absent ≡ states.Live live → ¬ IsForeign live entry
 never_foreign running world stands sound message number entry live sent is foreign =
     let s : SentRange world entry message = sent_range running world stands message entry sent in
     let at : LiveAt world number live = live_at running world stands number live is in
     let stored : Stored = kept_by live at.base at.journal in
-    let own : Dot = dot_at live.path (ticks_of entry.time live.path) in
-    let covered : Covers entry.time own = record { positive = omega (arith, foreign); within = omega arith } in
-    let time = (s.entry_stands.net.time own).0 covered in
-    let done : IsDone world.history own = elim time.cause [
-      | inl cause ↦ causes_done world.history time.last own sound.lawful time.stands cause
-      | inr last ↦ record { operation = time.last; stands = time.stands; is = time.is ∙ sym last }
-    ] in
-    let known : Knows (known_of stored) done.operation.dot = (live_sound world number stored at.held sound at.live).own done.operation done.stands (ap (λ (d : Dot). d.path) done.is) in
-    let again : Covers live.ticks own = (at.stands.known own).1 (subst (λ (d : Dot). Knows (known_of stored) d) done.is known) in
-    omega (arith, again.within, foreign)
+    let same : entry.range ≡ s.range = s.entry_stands.net.same in
+    let sent_whole : IsDoneRange world.history s.range = sound.messages (RangeOf s.range) s.stands in
+    let last : Dot = dot_at s.range.path s.range.last in
+    let done : IsDone world.history last = sent_whole.done last (record { path = refl; above = sent_whole.some; below = omega arith }) in
+    let path : s.range.path ≡ live.path = sym (ap (λ (r : Range). r.path) same) ∙ foreign.own in
+    let known : Knows (known_of stored) done.operation.dot = (live_sound world number stored at.held sound at.live).own done.operation done.stands (ap (λ (d : Dot). d.path) done.is ∙ path) in
+    let again : Covers live.ticks last = (at.stands.known last).1 (subst (λ (d : Dot). Knows (known_of stored) d) done.is known) in
+    let within : s.range.last ≤ ticks_of live.ticks live.path = subst (λ (p : List ℕ). s.range.last ≤ ticks_of live.ticks p) path again.within in
+    let last_is : entry.range.last ≡ s.range.last = ap (λ (r : Range). r.last) same in
+    omega (arith, within, last_is, foreign.beyond)
 
 -- ---- show
 
