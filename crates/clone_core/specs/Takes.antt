@@ -22,11 +22,11 @@ abbrev pub IsFullAt : LocalClone → EntryValue → HeldFault → Type 0
 IsFullAt clone entry held.Full = IsFullFor clone entry
 IsFullAt clone entry held.NoMemory = Unit {0}
 
--- why an entry was refused: it is foreign, and the fault names its ticks of the clone's path and the clone's own; or it would be
+-- why an entry was refused: it is foreign, and the fault names its last tick and the clone's own; or it would be
 -- held where too many are; or memory ran out
 abbrev pub RefusesEntry : LocalClone → EntryValue → ReceiveFault → Type 0
 RefusesEntry old entry (fault.ForeignTick said own) =
-    IsForeign old entry × (said ≡ ticks_of entry.time old.path) × (own ≡ ticks_of old.ticks old.path)
+    IsForeign old entry × (said ≡ entry.range.last) × (own ≡ ticks_of old.ticks old.path)
 RefusesEntry old entry fault.HeldFull = ¬ IsForeign old entry × MustBeHeld old entry × IsFullFor old entry
 RefusesEntry old entry fault.Deep = ⊥
 RefusesEntry old entry fault.NoMemory = Unit {0}

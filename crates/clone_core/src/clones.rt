@@ -365,9 +365,10 @@ impl MldClone {
         ensures unchanged { OnErr result (self.new ≡ self.old) }
     {
         let path = self.path();
+        let range = entry.range();
         let own = self.known().ticks(&path);
-        let said = entry.time().ticks(&path);
-        if own < said {
+        let said = range.last;
+        if range.path == path && own < said {
             return Err(ReceiveFault::ForeignTick { said, own });
         }
         if is_known(self.known(), entry) {

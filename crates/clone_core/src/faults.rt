@@ -17,10 +17,11 @@ pub enum UpdateFault {
 /// Why a message was refused.
 #[derive(Clone, Copy, Debug, PartialEq, Eq, Error)]
 pub enum ReceiveFault {
-    /// The entry rests on more ticks of the clone's own path than the clone has used: another one has used its leaf.
+    /// The entry is of the clone's own path, and goes beyond the ticks that the clone has used: another one has used its
+    /// leaf.
     #[error("another one has used the leaf: tick {said} of {own}")]
     ForeignTick {
-        /// The ticks of the path that the entry rests on.
+        /// The last tick of the entry.
         said: u32,
         /// The ticks that the clone has used.
         own: u32,

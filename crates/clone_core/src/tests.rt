@@ -318,11 +318,25 @@ fn answer_to_first<R: Threads>(rt: &R, alloc: Global, zero: u32) -> Result<Word,
 }
 
 #[test]
-fn a_foreign_use_of_the_leaf_is_told(rt: HostRuntime) -> Result<(), Fail> {
+fn what_rests_on_ticks_to_come_is_held(rt: HostRuntime) -> Result<(), Fail> {
     assert_eq!(rt; answer_to_first(&rt, rt.alloc(), 0)?, Word::Took(1));
     assert_eq!(rt; answer_to_first(&rt, rt.alloc(), 1)?, Word::Took(1));
-    let foreign = ReceiveFault::ForeignTick { said: 3, own: 1 };
-    assert_eq!(rt; answer_to_first(&rt, rt.alloc(), 3)?, Word::Fault(foreign));
+    assert_eq!(rt; answer_to_first(&rt, rt.alloc(), 3)?, Word::Held);
+    Ok(())
+}
+
+// What b, which has made one operation, answers to one of its own path at a tick.
+fn answer_to_own<R: Threads>(rt: &R, alloc: Global, tick: u32) -> Result<Word, Fail> {
+    let mut b = adding(alloc, true, &[T])?;
+    let message = bare(alloc, 0, tick)?;
+    Ok(answer(&mut b, rt, alloc, &message))
+}
+
+#[test]
+fn a_foreign_use_of_the_leaf_is_told(rt: HostRuntime) -> Result<(), Fail> {
+    assert_eq!(rt; answer_to_own(&rt, rt.alloc(), 1)?, Word::Known);
+    let foreign = ReceiveFault::ForeignTick { said: 2, own: 1 };
+    assert_eq!(rt; answer_to_own(&rt, rt.alloc(), 2)?, Word::Fault(foreign));
     Ok(())
 }
 
