@@ -1,43 +1,54 @@
 -- Lines of an input, and the limits that they are read under.
-use Rattle.std.specs.Prelude.{◌≡◌, ◌≢◌, ℕ, ◌+◌, ◌<◌, ◌≤◌, Bool, List, [], ◌∷◌, ◌++◌, length, ◌==◌, if◌then◌else◌, All, Option, None, Some, Result, Ok, Err}
+use Rattle.std.specs.Prelude.{◌≡◌, ◌≢◌, ◌↔◌, ℕ, ◌+◌, ◌<◌, ◌≤◌, Bool, IsTrue, List, [], ◌∷◌, ◌++◌, length, ◌==◌, if◌then◌else◌, All, Option, None, Some, Result, Ok, Err}
 use Rattle.mld_io.specs.declared.faults.LineFault.{LineFault}
 use Rattle.mld_io.specs.declared.faults.LineFault.TheVariants.{ReadFault, TooLarge, NoMemory}
+
+-- LF, the byte that ends a line
+abbrev pub line_feed : ℕ
+line_feed = 10
 
 -- a byte at the front of the first of these lines
 abbrev pub onto_first : ℕ → List (List ℕ) → List (List ℕ)
 onto_first b [] = (b ∷ []) ∷ []
 onto_first b (l ∷ ls) = (b ∷ l) ∷ ls
 
--- the lines of an input: a line ends with LF (10), which is no part of it; the last may lack it
+-- the lines of an input: a line ends with LF, which is no part of it; the last may lack it
 abbrev pub lines_of : List ℕ → List (List ℕ)
 lines_of [] = []
-lines_of (b ∷ bs) = if b == 10 then [] ∷ lines_of bs else onto_first b (lines_of bs)
+lines_of (b ∷ bs) = if b == line_feed then [] ∷ lines_of bs else onto_first b (lines_of bs)
 
 -- the bytes before the first LF, or all of them
 abbrev pub first_line : List ℕ → List ℕ
 first_line [] = []
-first_line (b ∷ bs) = if b == 10 then [] else b ∷ first_line bs
+first_line (b ∷ bs) = if b == line_feed then [] else b ∷ first_line bs
 
 -- the bytes after the first LF, or none
 abbrev pub after_line : List ℕ → List ℕ
 after_line [] = []
-after_line (b ∷ bs) = if b == 10 then bs else after_line bs
+after_line (b ∷ bs) = if b == line_feed then bs else after_line bs
 
 -- how many bytes the first line takes, its LF included
 abbrev pub line_size : List ℕ → ℕ
 line_size [] = 0
-line_size (b ∷ bs) = if b == 10 then 1 else 1 + line_size bs
+line_size (b ∷ bs) = if b == line_feed then 1 else 1 + line_size bs
 
 -- none of these bytes is an LF
 abbrev pub HasNoEnd : List ℕ → Type 0
-HasNoEnd bytes = All (λ b. b ≢ 10) bytes
+HasNoEnd bytes = All (λ b. b ≢ line_feed) bytes
 
--- what a reader of lines is: the limit of a line, the limit of the input, the bytes taken so far, and whether it is good
+-- how many lines end within these bytes, which is how many of them are LFs
+abbrev pub ended_lines : List ℕ → ℕ
+ended_lines [] = 0
+ended_lines (b ∷ bs) = if b == line_feed then 1 + ended_lines bs else ended_lines bs
+
+-- what a reader of lines is: the limit of a line, the limit of the input, the bytes taken so far, whether it is good, and
+-- whether the source has told its end
 pub record LinesValue : Type 0 where
   pub line : ℕ
   pub all : ℕ
   pub taken : ℕ
   pub good : Bool
+  pub ended : Bool
 
 -- the next line keeps both limits
 pub record FitsLine (lines : LinesValue) (bytes : List ℕ) : Type 0 where
@@ -49,12 +60,13 @@ pub record IsEnd (bytes : List ℕ) (left : Option (List ℕ)) : Type 0 where
   pub empty : bytes ≡ []
   pub none_left : left ≡ Some []
 
--- the first line was taken, and the rest is left
-pub record IsLine (lines : LinesValue) (bytes piece : List ℕ) (taken : ℕ) (left : Option (List ℕ)) : Type 0 where
+-- the first line was taken, and the rest is left; the source told its end where the line lacks its LF, and only there
+pub record IsLine (lines : LinesValue) (bytes piece : List ℕ) (taken : ℕ) (ended : Bool) (left : Option (List ℕ)) : Type 0 where
   pub some : bytes ≢ []
   pub fits : FitsLine lines bytes
   pub piece_is : piece ≡ first_line bytes
   pub taken_is : taken ≡ lines.taken + line_size bytes
+  pub ended_is : IsTrue ended ↔ HasNoEnd bytes
   pub left_is : left ≡ Some (after_line bytes)
 
 -- there is a line, and it does not fit
@@ -78,13 +90,13 @@ pub record TakesAtMost (bytes : List ℕ) (left : Option (List ℕ)) (most : ℕ
   pub left_is : left ≡ Some rest
   pub few : length front ≤ most
 
--- the answer to a call for the next line, at a source that had these bytes
-abbrev pub NextLine : LinesValue → List ℕ → Result (Option (List ℕ)) LineFault → ℕ → Option (List ℕ) → Type 0
-NextLine lines bytes (Ok None) taken left = IsEnd bytes left
-NextLine lines bytes (Ok (Some piece)) taken left = IsLine lines bytes piece taken left
-NextLine lines bytes (Err TooLarge) taken left = IsTooLarge lines bytes
-NextLine lines bytes (Err ReadFault) taken left = IsCutShort bytes left
-NextLine lines bytes (Err NoMemory) taken left = IsCutShort bytes left
+-- the answer to a call for the next line, at a source that had these bytes and had not told its end
+abbrev pub NextLine : LinesValue → List ℕ → Result (Option (List ℕ)) LineFault → ℕ → Bool → Option (List ℕ) → Type 0
+NextLine lines bytes (Ok None) taken ended left = IsEnd bytes left
+NextLine lines bytes (Ok (Some piece)) taken ended left = IsLine lines bytes piece taken ended left
+NextLine lines bytes (Err TooLarge) taken ended left = IsTooLarge lines bytes
+NextLine lines bytes (Err ReadFault) taken ended left = IsCutShort bytes left
+NextLine lines bytes (Err NoMemory) taken ended left = IsCutShort bytes left
 
 -- at the end none was taken; a line took at least a byte, and kept to the input's limit
 abbrev pub Progresses : Result (Option (List ℕ)) LineFault → ℕ → ℕ → ℕ → Type 0

@@ -1,10 +1,10 @@
 -- Laws of the lines of an input.
 use Rattle.std.specs.Prelude.{◌≡◌, ◌≢◌, ℕ, ◌+◌, ◌<◌, ◌≤◌, Bool, true, false, List, [], ◌∷◌, ◌++◌, length, ◌==◌}
-use Rattle.std.proofs.Common.{refl, ap, arith, inl, inr, cond, eqb}
+use Rattle.std.proofs.Common.{refl, sym, ◌∙◌, append-nil, ap, arith, inl, inr, cond, eqb}
 use Rattle.std.proofs.lemmas.List.Elements.{All-nil, All-cons, All-head, All-tail}
 use Rattle.std.proofs.lemmas.Bool.{ne_eqb}
 use Rattle.std.proofs.lemmas.Bool.Decides.{eqb_tells}
-use Rattle.mld_io.specs.Lines.{lines_of, onto_first, first_line, after_line, line_size, HasNoEnd}
+use Rattle.mld_io.specs.Lines.{line_feed, ended_lines, lines_of, onto_first, first_line, after_line, line_size, HasNoEnd}
 
 -- the first of the lines, and then the lines of what follows it
 abbrev pub FirstOfLines : Type 0
@@ -17,21 +17,21 @@ first_step b bs false goes_on = goes_on
 
 pub first_of_lines_lem : FirstOfLines
 first_of_lines_lem [] some = absurd (some refl)
-first_of_lines_lem (b ∷ []) some = first_step b [] (b == 10) refl
-first_of_lines_lem (b ∷ c ∷ cs) some = first_step b (c ∷ cs) (b == 10) (ap (onto_first b) (first_of_lines_lem (c ∷ cs) (λ e. cc)))
+first_of_lines_lem (b ∷ []) some = first_step b [] (b == line_feed) refl
+first_of_lines_lem (b ∷ c ∷ cs) some = first_step b (c ∷ cs) (b == line_feed) (ap (onto_first b) (first_of_lines_lem (c ∷ cs) (λ e. cc)))
 
 -- a first line has no LF in it
 pub HasNoEnd-first_line : (bytes : List ℕ) → HasNoEnd (first_line bytes)
-HasNoEnd-first_line [] = All-nil (λ b. b ≢ 10)
-HasNoEnd-first_line (b ∷ bs) = elim (eqb_tells b 10) [
-  | inl h ↦ rw h.0 (All-nil (λ b. b ≢ 10))
-  | inr h ↦ rw h.0 (All-cons (λ b. b ≢ 10) b (first_line bs) h.1 (HasNoEnd-first_line bs))
+HasNoEnd-first_line [] = All-nil (λ b. b ≢ line_feed)
+HasNoEnd-first_line (b ∷ bs) = elim (eqb_tells b line_feed) [
+  | inl h ↦ rw h.0 (All-nil (λ b. b ≢ line_feed))
+  | inr h ↦ rw h.0 (All-cons (λ b. b ≢ line_feed) b (first_line bs) h.1 (HasNoEnd-first_line bs))
 ]
 
 -- the first line with its LF, and what is left, make up the input
 pub length-line_size : (bytes : List ℕ) → line_size bytes + length (after_line bytes) ≡ length bytes
 length-line_size [] = refl
-length-line_size (b ∷ bs) = elim (eqb_tells b 10) [
+length-line_size (b ∷ bs) = elim (eqb_tells b line_feed) [
   | inl h ↦ rw h.0 (omega arith)
   | inr h ↦ rw h.0 (omega (arith, length-line_size bs))
 ]
@@ -39,7 +39,7 @@ length-line_size (b ∷ bs) = elim (eqb_tells b 10) [
 -- a line takes a byte or more
 pub line_size_some : (bytes : List ℕ) → bytes ≢ [] → 0 < line_size bytes
 line_size_some [] some = absurd (some refl)
-line_size_some (b ∷ bs) some = elim (eqb_tells b 10) [
+line_size_some (b ∷ bs) some = elim (eqb_tells b line_feed) [
   | inl h ↦ rw h.0 (omega arith)
   | inr h ↦ rw h.0 (omega arith)
 ]
@@ -51,7 +51,7 @@ length-after_line bytes some = omega (arith, length-line_size bytes, line_size_s
 -- the first line is no longer than what it takes
 pub length-first_line : (bytes : List ℕ) → length (first_line bytes) ≤ line_size bytes
 length-first_line [] = omega arith
-length-first_line (b ∷ bs) = elim (eqb_tells b 10) [
+length-first_line (b ∷ bs) = elim (eqb_tells b line_feed) [
   | inl h ↦ rw h.0 (omega arith)
   | inr h ↦ rw h.0 (omega (arith, length-first_line bs))
 ]
@@ -60,19 +60,46 @@ length-first_line (b ∷ bs) = elim (eqb_tells b 10) [
 pub first_line-append : (front rest : List ℕ) → HasNoEnd front → first_line (front ++ rest) ≡ front ++ first_line rest
 first_line-append [] rest no_end = refl
 first_line-append (b ∷ bs) rest no_end =
-    let other : eqb b 10 ≡ false = ne_eqb b 10 (All-head (λ b. b ≢ 10) b bs no_end) in
-    rw other (ap (λ l. b ∷ l) (first_line-append bs rest (All-tail (λ b. b ≢ 10) b bs no_end)))
+    let other : eqb b line_feed ≡ false = ne_eqb b line_feed (All-head (λ b. b ≢ line_feed) b bs no_end) in
+    rw other (ap (λ l. b ∷ l) (first_line-append bs rest (All-tail (λ b. b ≢ line_feed) b bs no_end)))
 
 -- they are no part of what is left after it
 pub after_line-append : (front rest : List ℕ) → HasNoEnd front → after_line (front ++ rest) ≡ after_line rest
 after_line-append [] rest no_end = refl
 after_line-append (b ∷ bs) rest no_end =
-    let other : eqb b 10 ≡ false = ne_eqb b 10 (All-head (λ b. b ≢ 10) b bs no_end) in
-    rw other (after_line-append bs rest (All-tail (λ b. b ≢ 10) b bs no_end))
+    let other : eqb b line_feed ≡ false = ne_eqb b line_feed (All-head (λ b. b ≢ line_feed) b bs no_end) in
+    rw other (after_line-append bs rest (All-tail (λ b. b ≢ line_feed) b bs no_end))
 
 -- and the line takes them too
 pub line_size-append : (front rest : List ℕ) → HasNoEnd front → line_size (front ++ rest) ≡ length front + line_size rest
 line_size-append [] rest no_end = omega arith
 line_size-append (b ∷ bs) rest no_end =
-    let other : eqb b 10 ≡ false = ne_eqb b 10 (All-head (λ b. b ≢ 10) b bs no_end) in
-    rw other (omega (arith, line_size-append bs rest (All-tail (λ b. b ≢ 10) b bs no_end)))
+    let other : eqb b line_feed ≡ false = ne_eqb b line_feed (All-head (λ b. b ≢ line_feed) b bs no_end) in
+    rw other (omega (arith, line_size-append bs rest (All-tail (λ b. b ≢ line_feed) b bs no_end)))
+
+-- where there is an LF, the first line, that LF and what is left make up the bytes
+pub first_line_ends : (bytes : List ℕ) → ¬ HasNoEnd bytes → bytes ≡ first_line bytes ++ line_feed ∷ after_line bytes
+first_line_ends [] has = absurd (has (All-nil (λ b. b ≢ line_feed)))
+first_line_ends (b ∷ bs) has = elim (eqb_tells b line_feed) [
+  | inl h ↦ rw h.0 (ap (λ (x : ℕ). x ∷ bs) h.1)
+  | inr h ↦ rw h.0 (ap (λ (l : List ℕ). b ∷ l) (first_line_ends bs (λ none. has (All-cons (λ b. b ≢ line_feed) b bs h.1 none))))
+]
+
+-- where there is none, nothing is left after the first line
+pub after_line_none : (bytes : List ℕ) → HasNoEnd bytes → after_line bytes ≡ []
+after_line_none bytes none = ap after_line (sym (append-nil bytes)) ∙ after_line-append bytes [] none
+
+-- as many lines end within two lists as within each of them
+pub ended_lines-append : (front rest : List ℕ) → ended_lines (front ++ rest) ≡ ended_lines front + ended_lines rest
+ended_lines-append [] rest = omega arith
+ended_lines-append (b ∷ bs) rest = elim (eqb_tells b line_feed) [
+  | inl h ↦ rw h.0 (omega (arith, ended_lines-append bs rest))
+  | inr h ↦ rw h.0 (ended_lines-append bs rest)
+]
+
+-- and none where there is no LF
+pub ended_lines_none : (bytes : List ℕ) → HasNoEnd bytes → ended_lines bytes ≡ 0
+ended_lines_none [] none = refl
+ended_lines_none (b ∷ bs) none =
+    let other : eqb b line_feed ≡ false = ne_eqb b line_feed (All-head (λ b. b ≢ line_feed) b bs none) in
+    rw other (ended_lines_none bs (All-tail (λ b. b ≢ line_feed) b bs none))

@@ -1,5 +1,5 @@
 //! The lines of a source.
-ghost use Rattle.std.specs.Prelude.{◌≡◌, ℕ, ◌+◌, ◌-◌, ◌≤◌, List, length, true, Some, IsTrue, IfOk, IfSome, OnErr, is_ok};
+ghost use Rattle.std.specs.Prelude.{◌≡◌, ℕ, ◌+◌, ◌-◌, ◌≤◌, List, length, true, false, None, Some, Ok, IsTrue, IfOk, IfSome, OnErr, is_ok};
 ghost use Rattle.mld_io.specs.Faults.{HasCause, HasLineCause};
 ghost use Rattle.mld_io.specs.Lines.{NextLine, Progresses, TakesAtMost};
 ghost use Rattle.mld_io.specs.LinesLaws.{FirstOfLines};
@@ -22,6 +22,7 @@ pub struct Lines {
     all: u64,
     taken: u64,
     good: bool,
+    ended: bool,
 }
 
 impl Model for Lines {
@@ -30,7 +31,7 @@ impl Model for Lines {
 
     ghost Value = { LinesValue };
 
-    ghost view = { λ l. record { line = l.line; all = l.all; taken = l.taken; good = l.good } };
+    ghost view = { λ l. record { line = l.line; all = l.all; taken = l.taken; good = l.good; ended = l.ended } };
 
     ghost invariant = { λ l. l.taken ≤ l.all };
 }
@@ -39,7 +40,7 @@ impl Lines {
     /// A reader of lines of at most `line` bytes, an LF not counted, of an input of at most `all`
     /// bytes, each LF counted.
     pub fn new(alloc: Global, line: usize, all: u64) -> Result<Lines, AllocError>
-        ensures { IfOk result (λ l. l ≡ record { line = line; all = all; taken = 0; good = true }) }
+        ensures { IfOk result (λ l. l ≡ record { line = line; all = all; taken = 0; good = true; ended = false }) }
     {
         Ok(Lines {
             alloc,
@@ -47,6 +48,7 @@ impl Lines {
             all,
             taken: 0,
             good: true,
+            ended: false,
         })
     }
 
@@ -59,7 +61,8 @@ impl Lines {
 
     /// Takes the next line from the source, its LF included, and gives it without that LF. The
     /// last line may lack one. `None` says that the input is at its end. Nothing past that LF is
-    /// taken, and one byte at most past the limit of the input.
+    /// taken, and one byte at most past the limit of the input. Once the source has told its end,
+    /// by an answer of 0, it is not read again.
     ///
     /// # Errors
     ///
@@ -72,31 +75,47 @@ impl Lines {
         ensures good { self.new.good ≡ is_ok result }
         ensures progress { Progresses result self.old.taken self.new.taken self.old.all }
         ensures short { IfOk result (λ next. IfSome next (λ piece. length piece ≤ self.old.line)) }
-        ensures line { (bytes : List ℕ) → S.left source.old ≡ Some bytes
-            → NextLine self.old bytes result self.new.taken (S.left source.new) }
+        ensures line { self.old.ended ≡ false → (bytes : List ℕ) → S.left source.old ≡ Some bytes
+            → NextLine self.old bytes result self.new.taken self.new.ended (S.left source.new) }
+        ensures end { IfOk result (λ next. next ≡ None → IsTrue self.new.ended) }
+        ensures ended { IsTrue self.old.ended → (result ≡ Ok None) × (source.new ≡ source.old) × (self.new ≡ self.old) }
         ensures frugal { (bytes : List ℕ) → S.left source.old ≡ Some bytes
             → TakesAtMost bytes (S.left source.new) ((self.old.all - self.old.taken) + 1) }
         ensures cause { HasLineCause (S.faults source.old) (S.faults source.new) result }
     {
-        let next = take_line(self.alloc, source, self.line, self.all, &mut self.taken);
+        if self.ended {
+            return Ok(None);
+        }
+        let next = take_line(
+            self.alloc,
+            source,
+            self.line,
+            self.all,
+            &mut self.taken,
+            &mut self.ended,
+        );
         self.good = next.is_ok();
         next
     }
 }
 
-/// Takes the next line from the source, and counts its bytes where it fits the limits.
+/// Takes the next line from the source, and counts its bytes where it fits the limits. `ended` is
+/// set where the source told its end.
 fn take_line<S: Source>(
     alloc: Global,
     source: &mut S,
     line: usize,
     all: u64,
     taken: &mut u64,
+    ended: &mut bool,
 ) -> Result<Option<Piece>, LineFault>
-    requires { taken.old ≤ all }
+    requires within { taken.old ≤ all }
+    requires goes_on { ended.old ≡ false }
     ensures progress { Progresses result taken.old taken.new all }
     ensures short { IfOk result (λ next. IfSome next (λ piece. length piece ≤ line)) }
     ensures line { (bytes : List ℕ) → S.left source.old ≡ Some bytes
-        → NextLine (record { line = line; all = all; taken = taken.old; good = true }) bytes result taken.new (S.left source.new) }
+        → NextLine (record { line = line; all = all; taken = taken.old; good = true; ended = false }) bytes result taken.new ended.new (S.left source.new) }
+    ensures end { IfOk result (λ next. next ≡ None → IsTrue ended.new) }
     ensures frugal { (bytes : List ℕ) → S.left source.old ≡ Some bytes
         → TakesAtMost bytes (S.left source.new) ((all - taken.old) + 1) }
     ensures cause { HasLineCause (S.faults source.old) (S.faults source.new) result }
@@ -118,6 +137,7 @@ fn take_line<S: Source>(
         }
         bytes.push(byte)?;
     }
+    *ended = true;
     if size == 0 {
         return Ok(None);
     }

@@ -54,6 +54,25 @@ fn lines_end_with_lf_or_the_input(rt: HostRuntime) -> Result<(), Fail> {
 }
 
 #[test]
+fn nothing_is_read_behind_the_end(rt: HostRuntime) -> Result<(), Fail> {
+    let alloc = rt.alloc();
+    // Reads 0 and 1 give bytes and read 2 the end; any later one would fail.
+    let mut source = MemorySource::new(alloc, b"ab", &[3, 4])?;
+    let mut lines = Lines::new(alloc, 10, 10)?;
+    assert!(rt; lines.is_good());
+    let last = lines.next(&mut source)?.ok_or("a last line")?;
+    assert_eq!(rt; last.as_slice(), b"ab".as_slice());
+    assert!(rt; lines.is_good());
+    assert!(rt; lines.next(&mut source)?.is_none());
+    assert!(rt; lines.is_good());
+    assert!(rt; lines.next(&mut source)?.is_none());
+    // Call 3 is the first that this test makes itself.
+    let mut byte = [0u8; 1];
+    assert_eq!(rt; source.read(&mut byte), Err(Failed));
+    Ok(())
+}
+
+#[test]
 fn limits_are_kept_to_the_byte(rt: HostRuntime) -> Result<(), Fail> {
     let alloc = rt.alloc();
     let cases: [(&[u8], usize, u64, bool); 6] = [

@@ -1,5 +1,5 @@
 -- What each answer says of the bytes that the source tells.
-use Rattle.std.proofs.Common.{◌≡◌, ℕ, List, [], ◌∷◌, ◌++◌, Ok, Option, ap, ◌∙◌, subst, arith}
+use Rattle.std.proofs.Common.{◌≡◌, ℕ, List, [], ◌∷◌, ◌++◌, Ok, Option, refl, ap, ◌∙◌, subst, arith}
 use Rattle.std.proofs.lemmas.Result.{err_from_is_err_and}
 use Rattle.mld_io.specs.Reads.{TakesByte}
 use Rattle.mld_io.proofs.LineSteps.{ReadSoFar-push, IsCutShort-from_part, more_bytes, no_more_bytes, IsLine-from_lf, IsLine-from_end, IsTooLarge-from_all, IsTooLarge-from_line, IsEnd-from_start, TakesAtMost-with_byte, TakesAtMost-front, TakesAtMost-all}
@@ -27,7 +27,7 @@ returns-then-byte-eq-LF-clause-line g c = λ bytes e.
     let s = c.loop-bytes.invariant.left bytes e in
     let front = c.loop-bytes.bytes.items in
     let m = more_bytes bytes front c.in-Some.byte _ _ s (at_option _ _ _ _ c.in-Some.is (c.in_ok-byte.ensures.byte s.rest s.left_is)) in
-    rw c.from_vec.ensures (IsLine-from_lf _ bytes front m.0 _ _ s.no_end (m.1 ∙ ap (λ b. front ++ b ∷ m.0) c.if-byte-eq-LF.true) m.2 (omega arith) (omega arith) (omega arith))
+    rw c.from_vec.ensures (IsLine-from_lf _ bytes front m.0 _ _ _ s.no_end (m.1 ∙ ap (λ b. front ++ b ∷ m.0) c.if-byte-eq-LF.true) m.2 (omega arith) (omega arith) (omega arith) c.requires.goes_on)
 
 pub returns-then-len-line-clause-line : goal.returns-then-len-line-clause-line
 returns-then-len-line-clause-line g c = λ bytes e.
@@ -71,7 +71,7 @@ returns-clause-line g c = λ bytes e.
     let s = c.loop-bytes.invariant.left bytes e in
     let front = c.loop-bytes.bytes.items in
     let m = no_more_bytes bytes front _ _ s (at_option _ _ _ _ c.in_default.is (c.in_ok-byte.ensures.byte s.rest s.left_is)) in
-    rw c.from_vec-2.ensures (IsLine-from_end _ bytes front _ _ s.no_end m.0 m.1 (omega arith) (omega arith) (omega arith) (omega arith))
+    rw c.from_vec-2.ensures (IsLine-from_end _ bytes front _ _ _ s.no_end m.0 m.1 (omega arith) (omega arith) (omega arith) (omega arith) refl)
 
 pub returns-then-size-room-clause-frugal : goal.returns-then-size-room-clause-frugal
 returns-then-size-room-clause-frugal g c = λ bytes e.
