@@ -12,7 +12,7 @@ use Rattle.mld_model.specs.World.{World}
 use Rattle.mld_model.specs.Runs.{Stage, Waiting, Running, Acts, Runs, IsBad, IsUnbuilt, Before, Outcome, Finished, BadLine, UnbuiltLine, Verdict}
 use Rattle.mld_model.specs.Sound.{IsSound}
 use Rattle.mld_model.specs.StandsFor.{RunningWorld, StandsFor}
-use Rattle.mld.specs.Ran.{Finishes, StopsAtBad, StopsAtUnbuilt, StopsAtLarge, BreaksOff, WritesFront, StageStands, IsStandingStage, ActsWell, TakesLine, IfSomeLine, HasReadCause, HasWriteCause, Agrees, steps_of}
+use Rattle.mld.specs.Ran.{Finishes, StopsAtBad, StopsAtUnbuilt, StopsAtLarge, BreaksOff, ReadsLines, WritesFront, StageStands, IsStandingStage, ActsWell, TakesLine, IfSomeLine, HasReadCause, HasWriteCause, Agrees, steps_of}
 use Rattle.mld_model.specs.declared.Command.{Command}
 use Rattle.mld_model.specs.World.{founded}
 use Rattle.mld_model.specs.Reply.{Ready, reply_text}
@@ -77,10 +77,6 @@ takes_some left rest line size grown piece text is same takes bytes told =
     let P : Option (List ℕ) → Type 0 = λ o. TakesLine size bytes rest grown o in
     let Q : List ℕ → Type 0 = λ t. TakesLine size bytes rest grown (Some t) in
     subst Q (sym same) (subst P is (takes bytes told))
-
-pub takes_none : (left rest line : Option (List ℕ)) (size grown : ℕ) → line ≡ None
-    → ((bytes : List ℕ) → left ≡ Some bytes → TakesLine size bytes rest grown line) → (bytes : List ℕ) → left ≡ Some bytes → TakesLine size bytes rest grown None
-takes_none left rest line size grown is takes bytes told = let P : Option (List ℕ) → Type 0 = λ o. TakesLine size bytes rest grown o in subst P is (takes bytes told)
 
 -- the one word of a list is the text, or the list is another
 pub one_word : {X : Type 0} (f : X → List ℕ) (words : List X) (word : X) (spelled text : List ℕ) (same : Bool) → 1 ≤ length words → length words < 2
@@ -169,22 +165,22 @@ end_of bytes rest before now running lines text (Running world) stands runs whol
     record { text = text; world = world; verdict = subst P (sym whole) runs; keeps = promises_kept (lines_of bytes) text world (subst P (sym whole) runs); all = all; fits = fits; written = written; holds = stands }
 
 -- the source is at its end, and a world runs
-pub finishes : (given left rest before now : Option (List ℕ)) (size grown : ℕ) (running : RunningWorld) (done : ℕ) → IsUnderWay given left before now size (Some running) done
-    → ((bytes : List ℕ) → left ≡ Some bytes → TakesLine size bytes rest grown None) → (bytes : List ℕ) → given ≡ Some bytes → Finishes (StageStands (Some running)) bytes rest before now
+pub finishes : (given left rest before now : Option (List ℕ)) (size : ℕ) (running : RunningWorld) (done : ℕ) → IsUnderWay given left before now size (Some running) done
+    → ((bytes : List ℕ) → given ≡ Some bytes → (behind : List ℕ) → left ≡ Some behind → (behind ≡ []) × (rest ≡ Some [])) → (bytes : List ℕ) → given ≡ Some bytes → Finishes (StageStands (Some running)) bytes rest before now
 unfolding Verdict
-finishes given left rest before now size grown running done way takes bytes is =
+finishes given left rest before now size running done way none bytes is =
     let at : IsLeft bytes left size done way.lines = way.left_of bytes is in
-    let end : TakesLine size at.rest rest grown None = takes at.rest at.is in
+    let end : (at.rest ≡ []) × (rest ≡ Some []) = none bytes is at.rest at.is in
     let lines : lines_of bytes ≡ way.lines = at.whole ∙ ap (λ b. way.lines ++ lines_of b) end.0 ∙ append-nil way.lines in
     end_of bytes rest before now running way.lines way.text way.stage way.stands way.runs lines end.1 (all_fit bytes left size done way.lines at end.0) way.written
 
 -- the source is at its end, and no line was a domain line
-pub ends_waiting : (given left rest before now : Option (List ℕ)) (size grown : ℕ) (done : ℕ) → IsUnderWay given left before now size None done
-    → ((bytes : List ℕ) → left ≡ Some bytes → TakesLine size bytes rest grown None) → (bytes : List ℕ) → given ≡ Some bytes → StopsAtBad (StageStands None) bytes (done + 1) before now
+pub ends_waiting : (given left rest before now : Option (List ℕ)) (size : ℕ) (done : ℕ) → IsUnderWay given left before now size None done
+    → ((bytes : List ℕ) → given ≡ Some bytes → (behind : List ℕ) → left ≡ Some behind → (behind ≡ []) × (rest ≡ Some [])) → (bytes : List ℕ) → given ≡ Some bytes → StopsAtBad (StageStands None) bytes (done + 1) before now
 unfolding Verdict
-ends_waiting given left rest before now size grown done way takes bytes is =
+ends_waiting given left rest before now size done way none bytes is =
     let at : IsLeft bytes left size done way.lines = way.left_of bytes is in
-    let end : TakesLine size at.rest rest grown None = takes at.rest at.is in
+    let end : (at.rest ≡ []) × (rest ≡ Some []) = none bytes is at.rest at.is in
     record {
       text = way.text;
       stage = way.stage;
@@ -252,18 +248,21 @@ stops_large given left before now size world done number way counts breaks bytes
 
 -- reading failed in the line behind those done
 pub breaks_off : (given left rest before now : Option (List ℕ)) (size : ℕ) (world : Option RunningWorld) (done : ℕ) → IsUnderWay given left before now size world done
-    → ((bytes : List ℕ) → left ≡ Some bytes → IsCutShort bytes rest) → (bytes : List ℕ) → given ≡ Some bytes → BreaksOff bytes rest before now
-breaks_off given left rest before now size world done way cut bytes is =
+    → ((bytes : List ℕ) → left ≡ Some bytes → IsCutShort bytes rest) → ((bytes : List ℕ) → given ≡ Some bytes → ReadsLines bytes rest done)
+    → (bytes : List ℕ) → given ≡ Some bytes → BreaksOff (StageStands world) bytes rest before now
+breaks_off given left rest before now size world done way cut reads bytes is =
     let at : IsLeft bytes left size done way.lines = way.left_of bytes is in
     let P : List ℕ → Type 0 = λ b. IsCutShort b rest in
     record {
       lines = done;
+      reads = reads bytes is;
       text = way.text;
       stage = way.stage;
       done = record { front = way.lines; rest = lines_of at.rest; whole = at.whole; counted = ap (λ n. n + 1) way.counted; runs = way.runs };
       fits = at.fits;
       cut = subst P at.behind (cut at.rest at.is);
       written = way.written;
+      holds = way.stands;
     }
 
 -- a line of a world that runs
@@ -358,22 +357,22 @@ stops_unbuilt_at given left rest before now size grown world done taken piece li
 
 -- the state at the end of the source, said of an equal state
 
-pub finishes_at : (given left rest before now : Option (List ℕ)) (size grown : ℕ) (world : Option RunningWorld) (running : RunningWorld) (done : ℕ) (taken : Option (List ℕ))
-    → IsUnderWay given left before now size world done → world ≡ Some running → taken ≡ None → ((bytes : List ℕ) → left ≡ Some bytes → TakesLine size bytes rest grown taken)
+pub finishes_at : (given left rest before now : Option (List ℕ)) (size : ℕ) (world : Option RunningWorld) (running : RunningWorld) (done : ℕ)
+    → IsUnderWay given left before now size world done → world ≡ Some running → ((bytes : List ℕ) → given ≡ Some bytes → (behind : List ℕ) → left ≡ Some behind → (behind ≡ []) × (rest ≡ Some []))
     → (bytes : List ℕ) → given ≡ Some bytes → Finishes (StageStands world) bytes rest before now
-finishes_at given left rest before now size grown world running done taken way is none takes bytes told =
+finishes_at given left rest before now size world running done way is none bytes told =
     let P : Option RunningWorld → Type 0 = λ w. IsUnderWay given left before now size w done in
     let Q : Option RunningWorld → Type 0 = λ w. Finishes (StageStands w) bytes rest before now in
-    subst Q (sym is) (finishes given left rest before now size grown running done (subst P is way) (takes_none left rest taken size grown none takes) bytes told)
+    subst Q (sym is) (finishes given left rest before now size running done (subst P is way) none bytes told)
 
-pub ends_waiting_at : (given left rest before now : Option (List ℕ)) (size grown : ℕ) (world : Option RunningWorld) (done : ℕ) (taken : Option (List ℕ)) (at : ℕ)
-    → IsUnderWay given left before now size world done → world ≡ None → taken ≡ None → ((bytes : List ℕ) → left ≡ Some bytes → TakesLine size bytes rest grown taken) → at ≡ done + 1
+pub ends_waiting_at : (given left rest before now : Option (List ℕ)) (size : ℕ) (world : Option RunningWorld) (done at : ℕ)
+    → IsUnderWay given left before now size world done → world ≡ None → ((bytes : List ℕ) → given ≡ Some bytes → (behind : List ℕ) → left ≡ Some behind → (behind ≡ []) × (rest ≡ Some [])) → at ≡ done + 1
     → (bytes : List ℕ) → given ≡ Some bytes → StopsAtBad (StageStands world) bytes at before now
-ends_waiting_at given left rest before now size grown world done taken at way is none takes counts bytes told =
+ends_waiting_at given left rest before now size world done at way is none counts bytes told =
     let P : Option RunningWorld → Type 0 = λ w. IsUnderWay given left before now size w done in
     let Q : ℕ → Type 0 = λ n. StopsAtBad (StageStands world) bytes n before now in
     let R : Option RunningWorld → Type 0 = λ w. StopsAtBad (StageStands w) bytes (done + 1) before now in
-    subst Q (sym counts) (subst R (sym is) (ends_waiting given left rest before now size grown done (subst P is way) (takes_none left rest taken size grown none takes) bytes told))
+    subst Q (sym counts) (subst R (sym is) (ends_waiting given left rest before now size done (subst P is way) none bytes told))
 
 -- the fault of a line that is too large names the line
 pub large_number : (number at : ℕ) → ◌≡◌ {A = Result (Option (List ℕ)) RunFault} (Err (faults.TooLarge number)) (Err (faults.TooLarge at)) → at ≡ number

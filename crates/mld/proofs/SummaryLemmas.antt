@@ -85,6 +85,19 @@ large_as P Q bytes line before now holds ends = record {
   holds = holds ends.stage ends.holds;
 }
 
+pub breaks_as : (P Q : Stage → Type 0) (bytes : List ℕ) (left before now : Option (List ℕ)) → ((stage : Stage) → P stage → Q stage) → BreaksOff P bytes left before now → BreaksOff Q bytes left before now
+breaks_as P Q bytes left before now holds ends = record {
+  lines = ends.lines;
+  reads = ends.reads;
+  text = ends.text;
+  stage = ends.stage;
+  done = ends.done;
+  fits = ends.fits;
+  cut = ends.cut;
+  written = ends.written;
+  holds = holds ends.stage ends.holds;
+}
+
 -- ---- the clauses of the run
 
 -- what is told at a fault at which a run has to tell of its world
@@ -128,10 +141,11 @@ large_by result fault world ran given before now by ends large line is bytes tol
 
 pub breaks_off_by : (result : Result (Unit {0}) RunFault) (fault : Option RunFault) (world : Option RunningWorld) (ran : Ran) (given left before now : Option (List ℕ))
     → fault ≡ result_err result → EndsBy fault world ran
-    → (result ≡ Err faults.ReadFault → (bytes : List ℕ) → given ≡ Some bytes → BreaksOff bytes left before now)
-    → ran.fault ≡ Some faults.ReadFault → (bytes : List ℕ) → given ≡ Some bytes → BreaksOff bytes left before now
-breaks_off_by result fault world ran given left before now by ends breaks is =
-    breaks (err_by result fault faults.ReadFault by (ended_by fault world ran ends (Some faults.ReadFault) (λ none. cc (none)) is))
+    → (result ≡ Err faults.ReadFault → (bytes : List ℕ) → given ≡ Some bytes → BreaksOff (StageStands world) bytes left before now)
+    → ran.fault ≡ Some faults.ReadFault → (bytes : List ℕ) → given ≡ Some bytes → BreaksOff (TellsOf ran.world) bytes left before now
+breaks_off_by result fault world ran given left before now by ends breaks is bytes told =
+    breaks_as (StageStands world) (TellsOf ran.world) bytes left before now (told_from fault world ran ends (Some faults.ReadFault) is refl)
+    (breaks (err_by result fault faults.ReadFault by (ended_by fault world ran ends (Some faults.ReadFault) (λ none. cc (none)) is)) bytes told)
 
 -- the fault of the replay agrees with the verdict
 agrees_replay : (result : Result (Unit {0}) RunFault) (P : Stage → Type 0) (bytes : List ℕ) (left before now : Option (List ℕ)) → OnOk result (Finishes P bytes left before now)
@@ -170,3 +184,11 @@ not_fault result fault world ran by ends other untold differs is =
       | inl same ↦ differs (same.0 ∙ from)
       | inr told ↦ false≢true (sym (ap tells from ∙ untold) ∙ told.0)
     ]
+
+-- nor is one at which something is told, where memory did not run out either
+pub not_told_fault : (result : Result (Unit {0}) RunFault) (fault : Option RunFault) (world : Option RunningWorld) (ran : Ran) → fault ≡ result_err result → EndsBy fault world ran
+    → (other : RunFault) → ran.fault ≢ Some other → ran.fault ≢ Some faults.NoMemory → result ≢ Err other
+not_told_fault result fault world ran by ends other differs lacks is = elim ends [
+  | inl same ↦ differs (same.0 ∙ (by ∙ ap (λ (r : Result (Unit {0}) RunFault). result_err r) is))
+  | inr told ↦ lacks told.1
+]

@@ -2,7 +2,7 @@
 use Rattle.std.specs.Prelude.{◌≡◌, ◌≢◌, ◌⊎◌, ℕ, ◌+◌, ◌<◌, List, [], ◌∷◌, ◌++◌, take, Bool, true, false, IsTrue, Option, None, Some, Result, IsErrOf, codes}
 use Rattle.std.specs.Io.KnownBytes.{Appends}
 use Rattle.mld_io.specs.Faults.{Rose}
-use Rattle.mld_io.specs.Lines.{lines_of, first_line, after_line, line_size, IsCutShort}
+use Rattle.mld_io.specs.Lines.{lines_of, ended_lines, first_line, after_line, line_size, IsCutShort}
 use Rattle.mld.specs.Limits.{left_after, BreaksLimits, IsTooLargeLine}
 use Rattle.mld_model.specs.World.{World}
 use Rattle.mld_model.specs.Runs.{Stage, Waiting, Running, Acts, Runs, Before, Outcome, Finished, BadLine, UnbuiltLine, Verdict}
@@ -30,9 +30,9 @@ status_of (Some (faults.Unbuilt line)) = 20
 abbrev pub IsReplay : List (List ℕ) → Type 0
 IsReplay words = words ≡ codes "replay" ∷ []
 
--- there was no line, or the first was taken, which keeps the limits, and its bytes were counted
+-- there was no line, and nothing was taken; or the first was taken, which keeps the limits, and its bytes were counted
 abbrev pub TakesLine : ℕ → List ℕ → Option (List ℕ) → ℕ → Option (List ℕ) → Type 0
-TakesLine size bytes left grown None = (bytes ≡ []) × (left ≡ Some [])
+TakesLine size bytes left grown None = left ≡ Some bytes
 TakesLine size bytes left grown (Some line) = (bytes ≢ []) × (line ≡ first_line bytes) × (left ≡ Some (after_line bytes)) × (grown ≡ size + line_size bytes) × (¬ BreaksLimits size bytes)
 
 -- what holds where there was a line
@@ -111,15 +111,26 @@ pub record StopsAtLarge (P : Stage → Type 0) (bytes : List ℕ) (number : ℕ)
   pub written : Appends before after text
   pub holds : P stage
 
--- so many lines were done, none of them too large, and their text was written; of the bytes behind them a part of one line was read
-pub record BreaksOff (bytes : List ℕ) (left before after : Option (List ℕ)) : Type 0 where
+-- so many lines end within the bytes that were read; the others are left
+pub record ReadsLines (bytes : List ℕ) (left : Option (List ℕ)) (lines : ℕ) : Type 0 where
+  pub read : List ℕ
+  pub rest : List ℕ
+  pub whole : bytes ≡ read ++ rest
+  pub ends : ended_lines read ≡ lines
+  pub left_is : left ≡ Some rest
+
+-- the lines done are those whose LF was read, none of them is too large, and their text was written; of the bytes behind them
+-- a part of one line was read; and this holds of the stage that they led to
+pub record BreaksOff (P : Stage → Type 0) (bytes : List ℕ) (left before after : Option (List ℕ)) : Type 0 where
   pub lines : ℕ
+  pub reads : ReadsLines bytes left lines
   pub text : List ℕ
   pub stage : Stage
   pub done : Before (lines_of bytes) (lines + 1) text stage
   pub fits : (line : ℕ) → line < lines → ¬ IsTooLargeLine bytes line
   pub cut : IsCutShort (left_after lines bytes) left
   pub written : Appends before after text
+  pub holds : P stage
 
 -- what was written is a front of the text of a run over the first lines of these bytes
 pub record WritesFront (bytes : List ℕ) (before after : Option (List ℕ)) : Type 0 where
@@ -165,9 +176,11 @@ pub record ActsWell (stage : Stage) (line text : List ℕ) (running : Option Run
   pub acts : Acts stage line text next
   pub stands : StageStands running next
 
--- a run that ends so tells of its world: at the end of the input, at a bad line, and at a line that is too large
+-- a run that ends so tells of its world: at the end of the input, where the source failed, at a bad line, and at a line that is
+-- too large
 abbrev pub tells : Option RunFault → Bool
 tells None = true
+tells (Some faults.ReadFault) = true
 tells (Some (faults.BadLine line)) = true
 tells (Some (faults.TooLarge line)) = true
 tells (Some fault) = false

@@ -1,11 +1,11 @@
 -- A replay that is under way: the lines done so far, what they wrote, and the model that the state stands for.
-use Rattle.std.specs.Prelude.{◌≡◌, ℕ, ◌<◌, ◌≤◌, List, ◌++◌, Option, Some, length}
+use Rattle.std.specs.Prelude.{◌≡◌, ℕ, ◌<◌, ◌≤◌, Bool, false, IsTrue, List, [], ◌++◌, Option, Some, length}
 use Rattle.std.specs.Io.KnownBytes.{Appends}
 use Rattle.mld_io.specs.Lines.{lines_of}
 use Rattle.mld_model.specs.Runs.{Stage, Waiting, Runs}
 use Rattle.mld_model.specs.StandsFor.{RunningWorld}
 use Rattle.mld.specs.Limits.{left_after, size_of_lines, IsTooLargeLine}
-use Rattle.mld.specs.Ran.{StageStands, steps_of}
+use Rattle.mld.specs.Ran.{StageStands, ReadsLines, steps_of}
 
 -- so many lines of so many bytes are done, none of them too large, and this is left of the bytes that were given
 pub record IsLeft (bytes : List ℕ) (left : Option (List ℕ)) (size done : ℕ) (lines : List (List ℕ)) : Type 0 where
@@ -27,3 +27,9 @@ pub record IsUnderWay (given left before now : Option (List ℕ)) (size : ℕ) (
   pub steps : steps_of world ≤ done
   pub left_of : (bytes : List ℕ) → given ≡ Some bytes → IsLeft bytes left size done lines
   pub written : Appends before now text
+
+-- what is known of the end of the input while so many lines are done: once the source has told it, nothing is left, and before
+-- that each of the lines had its LF
+pub record KnowsEnd (ended : Bool) (given left : Option (List ℕ)) (done : ℕ) : Type 0 where
+  pub none_left : IsTrue ended → (bytes : List ℕ) → given ≡ Some bytes → left ≡ Some []
+  pub reads : ended ≡ false → (bytes : List ℕ) → given ≡ Some bytes → ReadsLines bytes left done

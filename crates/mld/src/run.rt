@@ -1,9 +1,9 @@
 //! The run: all that the program does, over the words, the source and the sink that it is handed.
-ghost use Rattle.std.specs.Prelude.{◌≡◌, ◌≢◌, ◌↔◌, ◌≤◌, ◌<◌, ◌+◌, ℕ, List, map, take, IsTrue, IfOk, IfErr, OnOk, OnErr, IsErrOf};
+ghost use Rattle.std.specs.Prelude.{◌≡◌, ◌≢◌, ◌↔◌, ◌≤◌, ◌<◌, ◌+◌, ℕ, List, [], map, take, false, None, IsTrue, IfOk, IfErr, OnOk, OnErr, IsErrOf};
 ghost use Rattle.std.specs.Io.KnownBytes.{Appends};
 ghost use Rattle.std.specs.String.{string_bytes};
 ghost use Rattle.mld_io.specs.Faults.{Rose};
-ghost use Rattle.mld_io.specs.Lines.{lines_of, IsCutShort};
+ghost use Rattle.mld_io.specs.Lines.{lines_of, HasNoEnd, IsCutShort};
 ghost use Rattle.mld_model.specs.World.{World as ModelWorld};
 ghost use Rattle.mld_model.specs.Runs.{Stage, Waiting, Running, Outcome, Verdict, IsBad, IsUnbuilt};
 ghost use Rattle.mld_model.specs.Sound.{IsSound};
@@ -55,7 +55,7 @@ pub struct Ran {
     pub status: u8,
     /// Why it isn't 0.
     pub fault: Option<RunFault>,
-    /// What there is to tell of the world that it ended with: at the statuses 0, 4 and 7, where the clones were founded.
+    /// What there is to tell of the world that it ended with: at the statuses 0, 2, 4 and 7, where the clones were founded.
     pub world: Option<Summary>,
 }
 
@@ -63,8 +63,9 @@ pub struct Ran {
 ///
 /// # Statuses
 /// 0: the source was read to its end. 1: the words are not `replay` alone; nothing is read or written. 2: the source
-/// failed. 3: the sink failed. 4: a line is outside the grammar, or the input ended before a `domain` line. 5: no memory.
-/// 7: a line is too large. 20: a line isn't built yet. Each line is answered before the next is read.
+/// failed; the lines whose LF was read are done. 3: the sink failed. 4: a line is outside the grammar, or the input ended
+/// before a `domain` line. 5: no memory. 7: a line is too large. 20: a line isn't built yet. Each line is answered before the
+/// next is read.
 pub fn run<R: Threads, S: Source, K: Sink>(
     rt: &R,
     alloc: Global,
@@ -89,16 +90,18 @@ pub fn run<R: Threads, S: Source, K: Sink>(
         → StopsAtUnbuilt bytes line (K.held sink.old) (K.held sink.new) }
     ensures large { (line : ℕ) → result.fault ≡ Some (RunFault.TooLarge line) → (bytes : List ℕ) → S.left source.old ≡ Some bytes
         → StopsAtLarge (TellsOf result.world) bytes line (K.held sink.old) (K.held sink.new) }
-    // At 2 the source failed within a line, or at its end: the text is that of the lines before it.
+    // At 2 the source failed within a line, or before it told its end. The lines done are those whose LF was read, the text is
+    // theirs, and the world that they lead to is told of.
     ensures broken_off { result.fault ≡ Some RunFault.ReadFault → (bytes : List ℕ) → S.left source.old ≡ Some bytes
-        → BreaksOff bytes (S.left source.new) (K.held sink.old) (K.held sink.new) }
+        → BreaksOff (TellsOf result.world) bytes (S.left source.new) (K.held sink.old) (K.held sink.new) }
     // Whatever the status is, what was written is a front of the text of a run over the first lines.
     ensures front { (bytes : List ℕ) → S.left source.old ≡ Some bytes → WritesFront bytes (K.held sink.old) (K.held sink.new) }
     // At the other statuses nothing is told of the world.
     ensures silent { ¬ IsTrue (tells result.fault) → result.world ≡ None }
-    // 2 comes where the source's count of faults rose, and nowhere else; and so 3 with the sink's.
+    // 2 comes where the source's count of faults rose, and 3 where the sink's did. At other statuses that count is what it was;
+    // but where memory for the summary was wanting after a failed read, the run ended by 5.
     ensures read { result.fault ≡ Some RunFault.ReadFault → Rose (S.faults source.old) (S.faults source.new) }
-    ensures no_read_fault { result.fault ≢ Some RunFault.ReadFault → S.faults source.new ≡ S.faults source.old }
+    ensures no_read_fault { result.fault ≢ Some RunFault.ReadFault → result.fault ≢ Some RunFault.NoMemory → S.faults source.new ≡ S.faults source.old }
     ensures write { result.fault ≡ Some RunFault.WriteFault → Rose (K.faults sink.old) (K.faults sink.new) }
     ensures no_write_fault { result.fault ≢ Some RunFault.WriteFault → K.faults sink.new ≡ K.faults sink.old }
     // Whatever the verdict on the lines is, the run ends so, unless it ended by 2, 3, 5 or 7.
@@ -146,7 +149,7 @@ fn tells(fault: Option<RunFault>) -> bool
     ensures { result ≡ tells fault }
 {
     match fault {
-        None | Some(RunFault::BadLine(_) | RunFault::TooLarge(_)) => true,
+        None | Some(RunFault::ReadFault | RunFault::BadLine(_) | RunFault::TooLarge(_)) => true,
         Some(_) => false,
     }
 }
@@ -207,7 +210,7 @@ fn replay<R: Threads, S: Source, K: Sink>(
     ensures large { (line : ℕ) → IsErrOf result (RunFault.TooLarge line) → (bytes : List ℕ) → S.left source.old ≡ Some bytes
         → StopsAtLarge (StageStands world.new) bytes line (K.held sink.old) (K.held sink.new) }
     ensures broken_off { IsErrOf result RunFault.ReadFault → (bytes : List ℕ) → S.left source.old ≡ Some bytes
-        → BreaksOff bytes (S.left source.new) (K.held sink.old) (K.held sink.new) }
+        → BreaksOff (StageStands world.new) bytes (S.left source.new) (K.held sink.old) (K.held sink.new) }
     ensures front { (bytes : List ℕ) → S.left source.old ≡ Some bytes → WritesFront bytes (K.held sink.old) (K.held sink.new) }
     ensures read { HasReadCause (S.faults source.old) (S.faults source.new) result }
     ensures write { HasWriteCause (K.faults sink.old) (K.faults sink.new) result }
@@ -235,6 +238,9 @@ fn next_line<S: Source>(
     requires line { lines.old.line ≡ line_limit }
     requires all { lines.old.all ≡ input_limit }
     ensures line { (bytes : List ℕ) → S.left source.old ≡ Some bytes → IfOk result (TakesLine lines.old.taken bytes (S.left source.new) lines.new.taken) }
+    ensures at_end { lines.old.ended ≡ false → (bytes : List ℕ) → S.left source.old ≡ Some bytes → IfOk result (λ line. line ≡ None → bytes ≡ []) }
+    ensures ended { (bytes : List ℕ) → S.left source.old ≡ Some bytes → IfOk result (IfSomeLine (λ _. IsTrue lines.new.ended ↔ HasNoEnd bytes)) }
+    ensures failed { OnErr result (lines.old.ended ≡ false) }
     ensures large { (at : ℕ) → IsErrOf result (RunFault.TooLarge at) → (at ≡ number) × ((bytes : List ℕ) → S.left source.old ≡ Some bytes → BreaksLimits lines.old.taken bytes) }
     ensures broken_off { IsErrOf result RunFault.ReadFault → (bytes : List ℕ) → S.left source.old ≡ Some bytes → IsCutShort bytes (S.left source.new) }
     ensures good { OnOk result (IsTrue lines.new.good) }

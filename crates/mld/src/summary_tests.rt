@@ -184,6 +184,42 @@ fn a_run_tells_of_its_world_at_some_statuses(rt: HostRuntime) -> Result<(), Fail
     Ok(())
 }
 
+#[test]
+fn a_run_whose_source_fails_tells_of_the_lines_done(rt: HostRuntime) -> Result<(), Fail> {
+    let schedule =
+        b"domain d clones 2\nadd 0 <http://d/a> <http://d/#p> \"x\" .\nadd 0 <http://d/a> <http://d/#p> \"x\" .";
+    // The lines take 18 and 39 bytes with their LF, and the last one 38: read 57 is the first behind the second line, and
+    // read 95 the first behind the third. Where either fails two lines are done, so one pair is there.
+    for failing in [57, 95] {
+        let mut source = MemorySource::new(rt.alloc(), schedule, &[failing])?;
+        let mut sink = MemorySink::new(rt.alloc(), &[])?;
+        let ran = ran_by(&rt, rt.alloc(), "replay", &mut source, &mut sink)?;
+        assert_eq!(rt; ran.status, 2);
+        assert_eq!(rt; ran.fault, Some(RunFault::ReadFault));
+        assert!(rt; sink.bytes() == b"ready 2\ndid r0.1 m1\n".as_slice());
+        let summary = ran.world.ok_or("a summary")?;
+        let zero = Told {
+            known: &[(leaf(false), 1)],
+            journal: &[only(false, 1)],
+            dots: &[dot(false, 1)],
+        };
+        let one = Told {
+            known: &[],
+            journal: &[],
+            dots: &[],
+        };
+        let triple = triple(rt.alloc())?;
+        assert!(rt; is_told(&summary, &zero, &one, &triple));
+    }
+    // No domain line is done.
+    let mut source = MemorySource::new(rt.alloc(), schedule, &[17])?;
+    let mut sink = MemorySink::new(rt.alloc(), &[])?;
+    let ran = ran_by(&rt, rt.alloc(), "replay", &mut source, &mut sink)?;
+    assert_eq!(rt; ran.status, 2);
+    assert!(rt; ran.world.is_none());
+    Ok(())
+}
+
 /// A run over `SPREAD` ends well with the whole text and tells of its world, or for want of memory with a front of the text
 /// and tells nothing.
 fn ends_or_lacks_memory<R: Threads>(rt: &R, alloc: Global) -> Result<bool, AllocError> {

@@ -363,6 +363,27 @@ fn a_failed_read_or_write_ends_the_run(rt: HostRuntime) -> Result<(), Fail> {
     Ok(())
 }
 
+#[test]
+fn nothing_is_read_behind_the_end(rt: HostRuntime) -> Result<(), Fail> {
+    // 24 bytes without a last LF: reads 0 to 23 give them and read 24 the end, so the failures of later reads are never met.
+    let cases: [(&[u64], u8, Option<RunFault>, &str); 3] = [
+        (&[25, 26, 27], 0, None, "ready 2\nhas 0\n"),
+        // Where the read fails that would tell the end, the last line isn't done.
+        (&[24], 2, Some(RunFault::ReadFault), "ready 2\n"),
+        (&[17], 2, Some(RunFault::ReadFault), ""),
+    ];
+    for (reads, status, fault, text) in cases {
+        let schedule = b"domain d clones 2\nshow 0";
+        let mut source = MemorySource::new(rt.alloc(), schedule, reads)?;
+        let mut sink = MemorySink::new(rt.alloc(), &[])?;
+        let ran = ran_by(&rt, rt.alloc(), "replay", &mut source, &mut sink)?;
+        assert_eq!(rt; ran.status, status);
+        assert_eq!(rt; ran.fault, fault);
+        assert!(rt; sink.bytes() == text.as_bytes());
+    }
+    Ok(())
+}
+
 /// Runs by these words, and asserts that it ends for them: it writes nothing and leaves the source as it was.
 fn refuses<R: Threads + Abort>(rt: &R, alloc: Global, texts: &[&str]) -> Result<(), Fail> {
     let mut words = Vec::new(alloc);

@@ -1,5 +1,6 @@
 use Rattle.std.proofs.Common.{◌∙◌, ◌+◌, refl, sym, ap, arith}
 use Rattle.std.proofs.lemmas.Result.{err_from_is_err_and}
+use Rattle.mld.proofs.LimitLemmas.{end_first, end_more, end_cut, end_none}
 use Rattle.mld.proofs.RunLemmas.{under_way_first, under_way_more, front_first, front_of_way, front_of_reply, takes_some, stops_bad_at, stops_unbuilt_at, stops_large, breaks_off, finishes_at, ends_waiting_at, same_bad, read_well, wrote_well, same_fault, err_same, of_line}
 use Rattle.mld.proofs.run.replay.Goals as goal
 
@@ -27,6 +28,10 @@ loop-line-preserved g c = record {
       (takes_some (g.S.Source.left c.loop-line.source) (g.S.Source.left c.next_line.new.source) c.in_ok-line.field-0 c.loop-line.lines.taken c.next_line.new.lines.taken c.in-Some.line c.as_slice.result.now c.in-Some.is c.as_slice.ensures c.in_ok-line.ensures.line)
       c.in_ok-reply.ensures.ok c.in_ok-reply.ensures.steps
       (rw (sym c.as_slice-in-Some.ensures.value) c.in_ok-write_reply.ensures.ok);
+  ends = end_more (g.S.Source.left c.args.source.now) (g.S.Source.left c.loop-line.source) (g.S.Source.left c.next_line.new.source) c.loop-line.lines.taken c.next_line.new.lines.taken c.loop-line.done
+      c.loop-line.invariant.way.lines c.in-Some.line c.loop-line.lines.ended c.next_line.new.lines.ended c.loop-line.invariant.ends c.loop-line.invariant.way.left_of
+      (takes_some (g.S.Source.left c.loop-line.source) (g.S.Source.left c.next_line.new.source) c.in_ok-line.field-0 c.loop-line.lines.taken c.next_line.new.lines.taken c.in-Some.line c.in-Some.line c.in-Some.is refl c.in_ok-line.ensures.line)
+      (λ bytes told. of_line _ c.in_ok-line.field-0 c.in-Some.line c.in-Some.is (c.in_ok-line.ensures.ended bytes told));
   good = c.in_ok-line.ensures.good;
   line = c.next_line.ensures.limits.0 ∙ c.loop-line.invariant.line;
   all = c.next_line.ensures.limits.1 ∙ c.loop-line.invariant.all;
@@ -39,14 +44,18 @@ loop-line-preserved g c = record {
 pub returns-in-Some-world-clause-finished : goal.returns-in-Some-world-clause-finished
 returns-in-Some-world-clause-finished g c = λ bytes told.
     finishes_at (g.S.Source.left c.args.source.now) (g.S.Source.left c.loop-line.source) (g.S.Source.left c.next_line.new.source)
-    (g.K.Sink.held c.args.sink.now) (g.K.Sink.held c.loop-line.sink) c.loop-line.lines.taken c.next_line.new.lines.taken c.loop-line.world c.in-Some-world.field-0 c.loop-line.done c.in_ok-line.field-0
-    c.loop-line.invariant.way c.in-Some-world.is c.in_default.is c.in_ok-line.ensures.line bytes told
+    (g.K.Sink.held c.args.sink.now) (g.K.Sink.held c.loop-line.sink) c.loop-line.lines.taken c.loop-line.world c.in-Some-world.field-0 c.loop-line.done
+    c.loop-line.invariant.way c.in-Some-world.is
+    (end_none (g.S.Source.left c.args.source.now) (g.S.Source.left c.loop-line.source) (g.S.Source.left c.next_line.new.source) c.in_ok-line.field-0 c.loop-line.lines.taken c.next_line.new.lines.taken c.loop-line.done
+    c.loop-line.lines.ended c.loop-line.invariant.ends c.in_default.is c.in_ok-line.ensures.line c.in_ok-line.ensures.at_end) bytes told
 
 pub returns-in-None-clause-bad : goal.returns-in-None-clause-bad
 returns-in-None-clause-bad g c = λ line is bytes told.
     ends_waiting_at (g.S.Source.left c.args.source.now) (g.S.Source.left c.loop-line.source) (g.S.Source.left c.next_line.new.source)
-    (g.K.Sink.held c.args.sink.now) (g.K.Sink.held c.loop-line.sink) c.loop-line.lines.taken c.next_line.new.lines.taken c.loop-line.world c.loop-line.done c.in_ok-line.field-0 line
-    c.loop-line.invariant.way c.in-None.is c.in_default.is c.in_ok-line.ensures.line (same_bad (c.loop-line.done + 1) line is) bytes told
+    (g.K.Sink.held c.args.sink.now) (g.K.Sink.held c.loop-line.sink) c.loop-line.lines.taken c.loop-line.world c.loop-line.done line
+    c.loop-line.invariant.way c.in-None.is
+    (end_none (g.S.Source.left c.args.source.now) (g.S.Source.left c.loop-line.source) (g.S.Source.left c.next_line.new.source) c.in_ok-line.field-0 c.loop-line.lines.taken c.next_line.new.lines.taken c.loop-line.done
+    c.loop-line.lines.ended c.loop-line.invariant.ends c.in_default.is c.in_ok-line.ensures.line c.in_ok-line.ensures.at_end) (same_bad (c.loop-line.done + 1) line is) bytes told
 
 pub returns-in_err-line-clause-large : goal.returns-in_err-line-clause-large
 returns-in_err-line-clause-large g c = λ line is bytes told.
@@ -59,11 +68,14 @@ pub returns-in_err-line-clause-broken_off : goal.returns-in_err-line-clause-brok
 returns-in_err-line-clause-broken_off g c = λ is bytes told.
     let p = err_from_is_err_and c.from_residual-in_err-line.result c.from_residual-in_err-line.ensures.1 in
     breaks_off (g.S.Source.left c.args.source.now) (g.S.Source.left c.loop-line.source) (g.S.Source.left c.next_line.new.source) (g.K.Sink.held c.args.sink.now) (g.K.Sink.held c.loop-line.sink)
-    c.loop-line.lines.taken c.loop-line.world c.loop-line.done c.loop-line.invariant.way (c.in_err-line.ensures.broken_off (err_same _ _ (same_fault _ _ _ _ p.1 p.2 is))) bytes told
+    c.loop-line.lines.taken c.loop-line.world c.loop-line.done c.loop-line.invariant.way (c.in_err-line.ensures.broken_off (err_same _ _ (same_fault _ _ _ _ p.1 p.2 is)))
+    (end_cut (g.S.Source.left c.args.source.now) (g.S.Source.left c.loop-line.source) (g.S.Source.left c.next_line.new.source) c.loop-line.done c.loop-line.lines.ended c.loop-line.invariant.ends
+    c.in_err-line.ensures.failed (c.in_err-line.ensures.broken_off (err_same _ _ (same_fault _ _ _ _ p.1 p.2 is)))) bytes told
 
 pub loop-line-init : goal.loop-line-init
 loop-line-init g c = record {
   way = under_way_first (g.S.Source.left c.args.source.now) (g.K.Sink.held c.args.sink.now) c.in_ok-lines.lines.taken c.args.world.now (ap (λ l. l.taken) c.in_ok-lines.ensures) c.requires;
+  ends = end_first (g.S.Source.left c.args.source.now) c.in_ok-lines.lines.ended (ap (λ l. l.ended) c.in_ok-lines.ensures);
   good = ap (λ l. l.good) c.in_ok-lines.ensures;
   line = ap (λ l. l.line) c.in_ok-lines.ensures;
   all = ap (λ l. l.all) c.in_ok-lines.ensures;

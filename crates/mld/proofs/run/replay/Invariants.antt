@@ -1,11 +1,12 @@
 use Rattle.std.proofs.Common.{◌≡◌, ◌-◌, ◌≤◌, IsTrue}
 use Rattle.mld.specs.Limits.{line_limit, input_limit}
-use Rattle.mld.specs.UnderWay.{IsUnderWay}
+use Rattle.mld.specs.UnderWay.{IsUnderWay, KnowsEnd}
 use Rattle.mld.proofs.run.replay.Given as goal
 
 abbrev pub invariant-loop-line : goal.invariant-loop-line
 invariant-loop-line g l = record {
   way : IsUnderWay (g.S.Source.left l.fn.source) (g.S.Source.left l.source) (g.K.Sink.held l.fn.sink) (g.K.Sink.held l.sink) l.lines.taken l.world l.done;
+  ends : KnowsEnd l.lines.ended (g.S.Source.left l.fn.source) (g.S.Source.left l.source) l.done;
   good : IsTrue l.lines.good;
   line : l.lines.line ≡ line_limit;
   all : l.lines.all ≡ input_limit;

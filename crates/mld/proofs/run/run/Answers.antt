@@ -1,5 +1,5 @@
 use Rattle.mld.proofs.RunLemmas.{front_first}
-use Rattle.mld.proofs.SummaryLemmas.{finishes_by, bad_by, large_by, breaks_off_by, agrees_by, not_fault}
+use Rattle.mld.proofs.SummaryLemmas.{finishes_by, bad_by, large_by, breaks_off_by, agrees_by, not_fault, not_told_fault}
 use Rattle.std.proofs.Common.{refl}
 use Rattle.mld.specs.declared.run.RunFault.TheVariants as faults
 use Rattle.mld.proofs.run.run.Goals as goal
@@ -34,8 +34,8 @@ pub returns-then-not-is_replay-clause-front : goal.returns-then-not-is_replay-cl
 returns-then-not-is_replay-clause-front g c = λ bytes told. front_first (g.K.Sink.held c.args.sink.now) bytes
 
 pub returns-clause-no_read_fault : goal.returns-clause-no_read_fault
-returns-clause-no_read_fault g c = λ differs.
-    c.replay.ensures.read.quiet (not_fault c.replay.result c.err-fault.result c.replay.new.world c.ended_with.result c.err-fault.ensures.value c.ended_with.ensures.ends faults.ReadFault refl differs)
+returns-clause-no_read_fault g c = λ differs lacks.
+    c.replay.ensures.read.quiet (not_told_fault c.replay.result c.err-fault.result c.replay.new.world c.ended_with.result c.err-fault.ensures.value c.ended_with.ensures.ends faults.ReadFault differs lacks)
 
 pub returns-clause-no_write_fault : goal.returns-clause-no_write_fault
 returns-clause-no_write_fault g c = λ differs.
