@@ -21,7 +21,7 @@ use Rattle.mld_ops.specs.Tagged.{tagged_cmp}
 use Rattle.mld_ops.specs.AscendingLaws.{has_filter, ascending_filter}
 use Rattle.mld_ops.specs.Entry.{IsEntry}
 use Rattle.mld_ops.specs.Effect.{range_of}
-use Rattle.mld_model.specs.Step.{ArePairsOf}
+use Rattle.mld_model.specs.CloneStep.{ArePairsOf}
 use Rattle.clone_core.specs.Making.{MayBeDeleted}
 
 -- the test of a pair for its triple

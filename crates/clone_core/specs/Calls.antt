@@ -10,7 +10,7 @@ use Rattle.mld_ops.specs.declared.messages.Message.TheVariants as message
 use Rattle.mld_ops.specs.declared.tagged.Tagged.{Tagged}
 use Rattle.mld_ops.specs.Entry.{EntryValue}
 use Rattle.mld_ops.specs.Ready.{IsKnownEntry}
-use Rattle.mld_model.specs.Step.{ArePairsOf}
+use Rattle.mld_model.specs.CloneStep.{ArePairsOf}
 use Rattle.mld_model.specs.Local.{LocalClone, LocallyMakes, LocallyAccepts, MustBeHeld, LocallyHolds, IsForeign}
 use Rattle.clone_core.specs.Joining.{Gives, RefusesAsk}
 use Rattle.clone_core.specs.Takes.{RefusesEntry}

@@ -1,7 +1,7 @@
 //! The entries of a clone's own operations.
 ghost use Rattle.std.specs.Prelude.{◌≡◌, ◌+◌, IfOk};
 ghost use Rattle.clone_core.specs.Making.{IsInsertion, IsDeletion, MayBeDeleted};
-ghost use Rattle.mld_model.specs.Step.{ArePairsOf};
+ghost use Rattle.mld_model.specs.CloneStep.{ArePairsOf};
 ghost use Rattle.mld_ops.specs.Tagged.{tagged_cmp};
 ghost use Rattle.tree_clock.specs.Clock.{ticks_of};
 ghost use Rattle.tree_clock.specs.Lists.{IsAscending};

@@ -9,19 +9,20 @@ use Rattle.std.specs.Io.KnownBytes.{Appends}
 use Rattle.mld_io.specs.Lines.{lines_of, after_line, IsCutShort}
 use Rattle.mld_io.specs.LinesLaws.{first_of_lines_lem}
 use Rattle.mld_model.specs.World.{World}
-use Rattle.mld_model.specs.Runs.{Stage, Waiting, Running, Acts, Runs, IsBad, IsUnbuilt, Before, Outcome, Finished, BadLine, UnbuiltLine, Verdict}
+use Rattle.schedule_model.specs.Runs.{Stage, Waiting, Running, Acts, Runs, IsBad, IsUnbuilt, Before, Outcome, Finished, BadLine, UnbuiltLine, Verdict}
 use Rattle.mld_model.specs.Sound.{IsSound}
 use Rattle.mld_model.specs.StandsFor.{RunningWorld, StandsFor}
 use Rattle.mld.specs.Ran.{Finishes, StopsAtBad, StopsAtUnbuilt, StopsAtLarge, BreaksOff, ReadsLines, WritesFront, StageStands, IsStandingStage, ActsWell, TakesLine, IfSomeLine, HasReadCause, HasWriteCause, Agrees, steps_of}
-use Rattle.mld_model.specs.declared.Command.{Command}
+use Rattle.schedule_model.specs.declared.Command.{Command}
 use Rattle.mld_model.specs.World.{founded}
-use Rattle.mld_model.specs.Reply.{Ready, reply_text}
+use Rattle.mld_model.specs.Reply.{Ready}
+use Rattle.schedule_model.specs.ReplyText.{reply_text}
 use Rattle.mld_model.specs.StandsFor.{founded_running}
 use Rattle.mld_model.specs.FoundedLaws.{founded_sound}
-use Rattle.mld_model.specs.WorldLaws.{founded_stands}
-use Rattle.mld_model.specs.WorldStep.{Follows}
-use Rattle.mld_model.specs.RunsLaws.{one_verdict}
-use Rattle.mld_model.specs.PromisesLaws.{promises_kept}
+use Rattle.schedule_model.specs.WorldLaws.{founded_stands}
+use Rattle.schedule_model.specs.WorldStep.{Follows}
+use Rattle.schedule_model.specs.RunsLaws.{one_verdict}
+use Rattle.schedule_model.specs.PromisesLaws.{promises_kept}
 use Rattle.mld.specs.declared.run.RunFault.{RunFault}
 use Rattle.mld.specs.declared.run.RunFault.TheVariants as faults
 use Rattle.net_world.specs.declared.lines.Setup.{Setup}

@@ -4,7 +4,7 @@ use Rattle.std.specs.Result.{result_err}
 use Rattle.std.proofs.lemmas.Bool.{false≢true}
 use Rattle.std.proofs.Common.{◌≡◌, ◌≢◌, ◌∙◌, inl, inr, ap, Bool, true, false, ℕ, List, sym, subst, refl, Option, Some, None}
 use Rattle.mld_io.specs.Lines.{lines_of}
-use Rattle.mld_model.specs.Runs.{Stage, Waiting, Running, Outcome, Verdict}
+use Rattle.schedule_model.specs.Runs.{Stage, Waiting, Running, Outcome, Verdict}
 use Rattle.mld_model.specs.StandsFor.{RunningWorld}
 use Rattle.net_world.specs.declared.summaries.Summary.{Summary}
 use Rattle.mld.specs.Summaries.{TellsOf}

@@ -5,8 +5,8 @@ use Rattle.mld_io.specs.Faults.{Rose}
 use Rattle.mld_io.specs.Lines.{lines_of, ended_lines, first_line, after_line, line_size, IsCutShort}
 use Rattle.mld.specs.Limits.{left_after, BreaksLimits, IsTooLargeLine}
 use Rattle.mld_model.specs.World.{World}
-use Rattle.mld_model.specs.Runs.{Stage, Waiting, Running, Acts, Runs, Before, Outcome, Finished, BadLine, UnbuiltLine, Verdict}
-use Rattle.mld_model.specs.Promises.{KeepsPromises}
+use Rattle.schedule_model.specs.Runs.{Stage, Waiting, Running, Acts, Runs, Before, Outcome, Finished, BadLine, UnbuiltLine, Verdict}
+use Rattle.schedule_model.specs.Promises.{KeepsPromises}
 use Rattle.mld_model.specs.Sound.{IsSound}
 use Rattle.mld_model.specs.StandsFor.{RunningWorld, StandsFor}
 use Rattle.net_world.specs.Summaries.{Tells}

@@ -1,6 +1,6 @@
 -- What a run tells of the world that it ends with.
 use Rattle.std.specs.Prelude.{Option, None, Some}
-use Rattle.mld_model.specs.Runs.{Stage, Waiting, Running}
+use Rattle.schedule_model.specs.Runs.{Stage, Waiting, Running}
 use Rattle.net_world.specs.declared.summaries.Summary.{Summary}
 use Rattle.net_world.specs.Summaries.{TellsOfClones}
 

@@ -2,7 +2,7 @@
 use Rattle.std.specs.Prelude.{◌≡◌, ℕ, ◌<◌, ◌≤◌, Bool, false, IsTrue, List, [], ◌++◌, Option, Some, length}
 use Rattle.std.specs.Io.KnownBytes.{Appends}
 use Rattle.mld_io.specs.Lines.{lines_of}
-use Rattle.mld_model.specs.Runs.{Stage, Waiting, Runs}
+use Rattle.schedule_model.specs.Runs.{Stage, Waiting, Runs}
 use Rattle.mld_model.specs.StandsFor.{RunningWorld}
 use Rattle.mld.specs.Limits.{left_after, size_of_lines, IsTooLargeLine}
 use Rattle.mld.specs.Ran.{StageStands, ReadsLines, steps_of}

@@ -5,7 +5,7 @@ ghost use Rattle.std.specs.String.{string_bytes};
 ghost use Rattle.mld_io.specs.Faults.{Rose};
 ghost use Rattle.mld_io.specs.Lines.{lines_of, HasNoEnd, IsCutShort};
 ghost use Rattle.mld_model.specs.World.{World as ModelWorld};
-ghost use Rattle.mld_model.specs.Runs.{Stage, Waiting, Running, Outcome, Verdict, IsBad, IsUnbuilt};
+ghost use Rattle.schedule_model.specs.Runs.{Stage, Waiting, Running, Outcome, Verdict, IsBad, IsUnbuilt};
 ghost use Rattle.mld_model.specs.Sound.{IsSound};
 ghost use Rattle.mld_model.specs.StandsFor.{StandsFor};
 ghost use Rattle.net_world.specs.Worlds.{IsStanding};

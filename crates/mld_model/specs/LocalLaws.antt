@@ -23,7 +23,7 @@ use Rattle.mld_ops.specs.PickingLaws.{pairs_as, pairs_more}
 use Rattle.mld_ops.specs.Ready.{last_dot, IsKnownEntry, IsReadyEntry}
 use Rattle.mld_ops.specs.Cut.{IsCutOf}
 use Rattle.mld_model.specs.Clone.{Stored, known_of, with_range, IsKnown, IsReady}
-use Rattle.mld_model.specs.Step.{IsNextTick}
+use Rattle.mld_model.specs.CloneStep.{IsNextTick}
 use Rattle.mld_model.specs.Sound.{IsDoneRange}
 use Rattle.mld_model.specs.Local.{LocalClone, next_dot, LocallyMakes}
 use Rattle.mld_model.specs.StandsFor.{EntryStandsFor, LocalStandsFor}

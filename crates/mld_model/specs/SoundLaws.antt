@@ -21,7 +21,7 @@ use Rattle.mld_ops.specs.PickingLaws.{first_is, first_member, rest_members, kept
 use Rattle.mld_ops.specs.Ready.{last_dot}
 use Rattle.mld_model.specs.Clone.{Clone, Absent, Asking, Live, Stored, known_of, with_range, IsKnown, IsReady, Releases}
 use Rattle.mld_model.specs.World.{World, Message, RangeOf, Want, SnapshotOf, JoinAsk, JoinGive, clone_at, clone_count, with_clone}
-use Rattle.mld_model.specs.Step.{IsNextTick, after_operation, after_asking, left_half, after_fork, joined_with}
+use Rattle.mld_model.specs.CloneStep.{IsNextTick, after_operation, after_asking, left_half, after_fork, joined_with}
 use Rattle.mld_model.specs.Sound.{Keeps, IsSoundClone, IsDoneRange, IsSoundMessage, IsOpenGive, IsSoundGive, IsSound}
 use Rattle.mld_model.specs.ReleaseLaws.{releases_path, releases_left}
 use Rattle.mld_model.specs.KnownLaws.{known_with, known_with-old, known_with-new}

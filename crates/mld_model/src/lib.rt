@@ -1,32 +1,10 @@
-//! The model that the programs are proved against: definitions of clones, worlds, steps, schedules and runs, and the
-//! laws over them. Its functions have no code: each carries a law as its contract.
+//! The model of clones and of the world that they are in: what they keep and know, what they do, and what every world keeps.
+//! Another program can stand on it: it knows no lines and no commands.
 #![tactic(auto)]
 
 mod limits;
-mod soundness;
-mod verdicts;
 
 pub use limits::CLONE_COUNT;
-use rdf_terms::Triple;
-pub use soundness::{answers_survive, promises_kept, sound_worlds};
-pub use verdicts::{one_reading, one_step, one_verdict};
-
-/// A command of a schedule. The numbers of clones are below `CLONE_COUNT`, those of messages begin with 1.
-#[derive(Debug, Drop)]
-pub enum Command {
-    /// `add C TRIPLE`: clone C inserts the triple.
-    Add(u8, Triple),
-    /// `remove C TRIPLE`: clone C deletes the triple.
-    Remove(u8, Triple),
-    /// `deliver M C`: message M comes to clone C.
-    Deliver(u64, u8),
-    /// `show C`: the pairs of clone C.
-    Show(u8),
-    /// `compare C C`: the dots that two clones know, side by side.
-    Compare(u8, u8),
-    /// `join C`: clone C asks for a leaf.
-    Join(u8),
-}
 
 /// The state of a clone of a world that runs.
 #[derive(Drop)]

@@ -15,12 +15,12 @@ use Rattle.rdf_terms.proofs.Complete.{one_spelled}
 use Rattle.rdf_terms.specs.declared.terms.Triple.{Triple}
 use Rattle.rdf_terms.specs.declared.faults.TripleFault.{TripleFault}
 use Rattle.rdf_terms.specs.declared.faults.TripleFault.TheVariants.{NotTriple, TooLong, NoMemory}
-use Rattle.mld_model.specs.Characters.{space}
+use Rattle.schedule_model.specs.Characters.{space}
 use Rattle.mld_model.specs.World.{clone_count}
-use Rattle.mld_model.specs.declared.Command.{Command}
-use Rattle.mld_model.specs.declared.Command.TheVariants.{Add, Remove, Deliver, Show, Compare, Join}
-use Rattle.mld_model.specs.Bytes.{Lacks, Lacks-from_test, one_split, apart}
-use Rattle.mld_model.specs.Schedule.{SpellsSetup, SpellsCommand}
+use Rattle.schedule_model.specs.declared.Command.{Command}
+use Rattle.schedule_model.specs.declared.Command.TheVariants.{Add, Remove, Deliver, Show, Compare, Join}
+use Rattle.schedule_model.specs.Bytes.{Lacks, Lacks-from_test, one_split, apart}
+use Rattle.schedule_model.specs.Schedule.{SpellsSetup, SpellsCommand}
 use Rattle.net_world.specs.Reading.{IsTripleOf, IsCloneAndTriple, IsAddOf, IsRemoveOf, IsDeliverOf, IsShowOf, IsCompareOf, IsJoinOf}
 use Rattle.net_world.proofs.LinesText.{has_space}
 use Rattle.net_world.proofs.LinesNumbers.{small, number_first}

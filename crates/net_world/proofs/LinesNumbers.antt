@@ -10,9 +10,9 @@ use Rattle.std.specs.Cmp.Lexicographic.{pointwise}
 use Rattle.std.proofs.lemmas.Bool.{false≢true}
 use Rattle.std.proofs.lemmas.Slice.Eq.{bytes_eq-Decides}
 use Rattle.std.proofs.lemmas.Str.{IsUtf8-from_ascii}
-use Rattle.mld_model.specs.Characters.{space}
+use Rattle.schedule_model.specs.Characters.{space}
 use Rattle.mld_model.specs.World.{clone_count}
-use Rattle.mld_model.specs.Bytes.{Lacks, Lacks-decimal, one_split}
+use Rattle.schedule_model.specs.Bytes.{Lacks, Lacks-decimal, one_split}
 
 -- the number of a clone is a small number
 pub small : {number : ℕ} → number < clone_count → number < 2 ^ 64

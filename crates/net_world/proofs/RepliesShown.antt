@@ -5,8 +5,9 @@ use Rattle.std.specs.List.{flat_map, range_with_len}
 use Rattle.std.proofs.lemmas.List.{append_assoc, take_all}
 use Rattle.tree_clock.specs.declared.dots.Range.{Range}
 use Rattle.mld_ops.specs.declared.tagged.Tagged.{Tagged}
-use Rattle.mld_model.specs.Characters.{line_end}
-use Rattle.mld_model.specs.Reply.{reply_text, pair_line, spaced_range, spaced_message, Shows, Took, Answer}
+use Rattle.schedule_model.specs.Characters.{line_end}
+use Rattle.schedule_model.specs.ReplyText.{reply_text, pair_line, spaced_range, spaced_message}
+use Rattle.mld_model.specs.Reply.{Shows, Took, Answer}
 
 -- a head and a line for each pair, in two steps
 pub pairs_shown : (old mid out head : List ℕ) (pairs : List Tagged) (i : ℕ) → length pairs ≤ i

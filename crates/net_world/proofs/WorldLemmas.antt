@@ -8,9 +8,9 @@ use Rattle.mld_ops.specs.declared.messages.Give.{Give}
 use Rattle.mld_ops.specs.declared.messages.Message.{Message}
 use Rattle.mld_ops.specs.declared.messages.Message.TheVariants as kinds
 use Rattle.mld_model.specs.declared.CloneState.TheVariants as states
-use Rattle.mld_model.specs.declared.Command.{Command}
-use Rattle.mld_model.specs.declared.Command.TheVariants.{Add, Remove, Deliver, Show, Compare, Join}
-use Rattle.mld_model.specs.Step.{HasCloneNumbers}
+use Rattle.schedule_model.specs.declared.Command.{Command}
+use Rattle.schedule_model.specs.declared.Command.TheVariants.{Add, Remove, Deliver, Show, Compare, Join}
+use Rattle.schedule_model.specs.Step.{HasCloneNumbers}
 use Rattle.mld_model.specs.World.{World, Message as ModelMessage, JoinGive, founded, clone_count}
 use Rattle.mld_model.specs.Reply.{Reply, Did, NoOperation, Took, Held, Shows, Sent, Answer as Answers, Joined, NoMessage, IsAbsent, IsAsking, IsLive}
 use Rattle.mld_model.specs.Sound.{IsSound}
@@ -18,9 +18,9 @@ use Rattle.mld_model.specs.Local.{LocalAsker, LocalClone, next_dot}
 use Rattle.mld_model.specs.FoundedLaws.{founded_sound}
 use Rattle.mld_model.specs.StandsFor.{RunningClone, RunningWorld, MessageStandsFor, StandsFor, id_of, founded_running}
 use Rattle.mld_model.specs.StandsForLaws.{live_at, asking_at}
-use Rattle.mld_model.specs.WorldStep.{Follows}
-use Rattle.mld_model.specs.WorldLaws.{founded_stands, stepped, stepped_with, stepped_sending, sent_message, SentAs, sent_as, LocallyCompares, next_tick_within, never_foreign, add_follows, add_absent, add_asking, remove_follows, remove_nothing, remove_absent, remove_asking, deliver_nothing, deliver_absent, deliver_known, deliver_taken, deliver_held, deliver_held_already, deliver_full, show_follows, show_absent, show_asking, compare_follows, compare_absent_first, compare_asking_first, compare_absent_second, compare_asking_second}
-use Rattle.mld_model.specs.JoinLaws.{stepped_telling, join_absent, join_again, join_live, deliver_ask_own, deliver_deep, deliver_ask, deliver_give_live, deliver_joined, deliver_asking}
+use Rattle.schedule_model.specs.WorldStep.{Follows}
+use Rattle.schedule_model.specs.WorldLaws.{founded_stands, stepped, stepped_with, stepped_sending, sent_message, SentAs, sent_as, LocallyCompares, next_tick_within, never_foreign, add_follows, add_absent, add_asking, remove_follows, remove_nothing, remove_absent, remove_asking, deliver_nothing, deliver_absent, deliver_known, deliver_taken, deliver_held, deliver_held_already, deliver_full, show_follows, show_absent, show_asking, compare_follows, compare_absent_first, compare_asking_first, compare_absent_second, compare_asking_second}
+use Rattle.schedule_model.specs.JoinLaws.{stepped_telling, join_absent, join_again, join_live, deliver_ask_own, deliver_deep, deliver_ask, deliver_give_live, deliver_joined, deliver_asking}
 use Rattle.clone_core.specs.Calls.{ComparesAs}
 use Rattle.clone_core.specs.Joining.{IsGoodMessage}
 use Rattle.clone_core.specs.declared.answers.Covering.{Covering}

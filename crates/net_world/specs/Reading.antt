@@ -4,11 +4,11 @@ use Rattle.std.specs.Str.{IsUtf8}
 use Rattle.std.specs.Fmt.{decimal}
 use Rattle.rdf_terms.specs.declared.terms.Triple.{Triple}
 use Rattle.rdf_terms.specs.Grammar.{SpellsTriple, IsWithin}
-use Rattle.mld_model.specs.Characters.{space}
-use Rattle.mld_model.specs.declared.Command.TheVariants.{Add, Remove, Deliver, Show, Compare, Join}
-use Rattle.mld_model.specs.declared.Command.{Command}
-use Rattle.mld_model.specs.Schedule.{IsNothing, is_unbuilt, SpellsSetup, SpellsCommand, IsCloneNumber}
-use Rattle.mld_model.specs.Runs.{IsBad, Waiting}
+use Rattle.schedule_model.specs.Characters.{space}
+use Rattle.schedule_model.specs.declared.Command.TheVariants.{Add, Remove, Deliver, Show, Compare, Join}
+use Rattle.schedule_model.specs.declared.Command.{Command}
+use Rattle.schedule_model.specs.Schedule.{IsNothing, is_unbuilt, SpellsSetup, SpellsCommand, IsCloneNumber}
+use Rattle.schedule_model.specs.Runs.{IsBad, Waiting}
 use Rattle.net_world.specs.declared.lines.Setup.{Setup}
 
 -- a line that was read while no domain line has come: it says nothing, or it is the domain line

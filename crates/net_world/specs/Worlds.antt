@@ -10,13 +10,14 @@ use Rattle.mld_ops.specs.declared.messages.Give.{Give}
 use Rattle.mld_ops.specs.declared.messages.Message.{Message}
 use Rattle.mld_ops.specs.declared.messages.Message.TheVariants as kinds
 use Rattle.mld_model.specs.declared.CloneState.TheVariants as states
-use Rattle.mld_model.specs.declared.Command.{Command}
+use Rattle.schedule_model.specs.declared.Command.{Command}
 use Rattle.mld_model.specs.World.{World}
-use Rattle.mld_model.specs.Reply.{Reply, reply_text, Did, NoOperation, Took, Held, HeldFull, AlreadyKnown, Shows, Sent, Answer as Answers, Joined, Deep, NoMessage, Ignored, IsAbsent, IsLive}
+use Rattle.mld_model.specs.Reply.{Reply, Did, NoOperation, Took, Held, HeldFull, AlreadyKnown, Shows, Sent, Answer as Answers, Joined, Deep, NoMessage, Ignored, IsAbsent, IsLive}
+use Rattle.schedule_model.specs.ReplyText.{reply_text}
 use Rattle.mld_model.specs.Sound.{IsSound}
 use Rattle.mld_model.specs.Local.{LocalAsker, LocalClone, IsForeign}
 use Rattle.mld_model.specs.StandsFor.{RunningClone, RunningWorld, StandsFor, id_of}
-use Rattle.mld_model.specs.WorldStep.{Follows}
+use Rattle.schedule_model.specs.WorldStep.{Follows}
 use Rattle.clone_core.specs.Calls.{Sets, Receives, Refuses, ComparesAs}
 use Rattle.clone_core.specs.Joining.{IsGiveFor, GivesNone, IsGoodMessage}
 use Rattle.mld_model.specs.Local.{LocallyJoins}

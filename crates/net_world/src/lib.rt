@@ -9,7 +9,7 @@ mod tests;
 mod worlds;
 
 pub use lines::{LineRefusal, Setup, read_command, read_setup};
-pub use mld_model::Command;
+pub use schedule_model::Command;
 pub use replies::push_ready;
 pub use summaries::{CloneSummary, State, Summary};
 pub use worlds::World;

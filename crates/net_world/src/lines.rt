@@ -2,17 +2,18 @@
 ghost use Rattle.std.specs.Prelude.{◌≡◌, ◌≢◌, ◌<◌, ◌≤◌, ◌^◌, ◌++◌, ◌∷◌, ◌↔◌, ◌||◌, ℕ, List, codes, IsTrue, IfOk, IsErrOf, MatchOption, EachIndex, slice_index, length};
 ghost use Rattle.std.specs.List.{list_any};
 ghost use Rattle.std.specs.Fmt.{decimal};
-ghost use Rattle.mld_model.specs.Bytes.{Lacks};
-ghost use Rattle.mld_model.specs.Characters.{space};
+ghost use Rattle.schedule_model.specs.Bytes.{Lacks};
+ghost use Rattle.schedule_model.specs.Characters.{space};
 ghost use Rattle.iri_rules.specs.Domain.{is_domain};
 ghost use Rattle.rdf_terms.specs.declared.terms.Triple.{Triple};
-ghost use Rattle.mld_model.specs.Schedule.{IsNothing, is_unbuilt, unbuilt_words, is_word, first_word, SpellsSetup, SpellsCommand};
+ghost use Rattle.schedule_model.specs.Schedule.{IsNothing, is_unbuilt, unbuilt_words, is_word, first_word, SpellsSetup, SpellsCommand};
 ghost use Rattle.mld_model.specs.World.{clone_count};
-ghost use Rattle.mld_model.specs.declared.Command.{Command};
+ghost use Rattle.schedule_model.specs.declared.Command.{Command};
 ghost use Rattle.net_world.specs.Reading.{SetupIs, CommandIs, IsBadSetup, IsBadCommand, IsTripleOf, IsCloneAndTriple, IsAddOf, IsRemoveOf, IsDeliverOf, IsShowOf, IsCompareOf, IsJoinOf};
 
 use iri_rules::{Text, is_domain};
-use mld_model::{CLONE_COUNT, Command};
+use mld_model::CLONE_COUNT;
+use schedule_model::Command;
 use rdf_terms::{Triple, TripleFault, read_triple};
 use std::alloc::{AllocError, Global};
 use thiserror::Error;
@@ -111,7 +112,7 @@ const UNBUILT_WORDS: [&[u8]; 9] = [
 ];
 
 /// A line that isn't built yet: one of those words comes first.
-#[tactic(auto, unfolding(mld_model::specs::Schedule::is_unbuilt))]
+#[tactic(auto, unfolding(schedule_model::specs::Schedule::is_unbuilt))]
 fn is_unbuilt(line: &[u8]) -> bool
     ensures { result ≡ is_unbuilt line.now }
 {

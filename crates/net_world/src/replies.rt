@@ -1,7 +1,8 @@
 //! The text of replies: lines that end with LF, added at the end of an output.
 ghost use Rattle.std.specs.Prelude.{◌≡◌, ◌<◌, ◌^◌, ◌+◌, ◌++◌, ◌∷◌, [], OnOk};
 ghost use Rattle.std.specs.List.{range_with_len};
-ghost use Rattle.mld_model.specs.Reply.{reply_text, pair_line, spaced_range, spaced_message, Ready, Did, Took, Sent, Answer, Joined, Shows};
+ghost use Rattle.schedule_model.specs.ReplyText.{reply_text, pair_line, spaced_range, spaced_message};
+ghost use Rattle.mld_model.specs.Reply.{Ready, Did, Took, Sent, Answer, Joined, Shows};
 ghost use Rattle.net_world.specs.Words.{reply_of};
 
 use mld_ops::Tagged;

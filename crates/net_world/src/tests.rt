@@ -1,6 +1,6 @@
 //! Lines, a founded world and its steps, worked by hand.
 ghost use Rattle.std.specs.Prelude.{◌≡◌, ◌+◌, ◌<◌, IfOk};
-ghost use Rattle.mld_model.specs.Step.{HasCloneNumbers};
+ghost use Rattle.schedule_model.specs.Step.{HasCloneNumbers};
 ghost use Rattle.net_world.specs.Worlds.{IsStanding};
 
 use crate::{Command, LineRefusal, Setup, State, World, push_ready, read_command, read_setup};

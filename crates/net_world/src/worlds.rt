@@ -19,7 +19,8 @@ use crate::replies::{
 use crate::summaries::{Summary, summarize};
 use clone_core::{Adopted, Asker, Covering, Done, Got, MldClone, ReceiveFault, UpdateFault};
 use iri_rules::Text;
-use mld_model::{CLONE_COUNT, CloneState, Command};
+use mld_model::{CLONE_COUNT, CloneState};
+use schedule_model::Command;
 use mld_ops::{Entry, Message, Messages};
 use rdf_terms::Triple;
 use std::alloc::{AllocError, Global};
@@ -79,7 +80,7 @@ enum Answer {
 impl World {
     ghost use Rattle.std.specs.Prelude.{◌≡◌, ◌+◌, ◌<◌, ◌≤◌, IfOk, OnOk};
     ghost use Rattle.mld_model.specs.StandsFor.{founded_running};
-    ghost use Rattle.mld_model.specs.Step.{HasCloneNumbers};
+    ghost use Rattle.schedule_model.specs.Step.{HasCloneNumbers};
     ghost use Rattle.net_world.specs.Worlds.{IsStanding, Stepped};
     ghost use Rattle.net_world.specs.Summaries.{Tells};
 

@@ -1,4 +1,4 @@
-use Rattle.mld_model.specs.Runs.{IsBad, IsUnbuilt}
+use Rattle.schedule_model.specs.Runs.{IsBad, IsUnbuilt}
 use Rattle.mld.proofs.RunLemmas.{bad_fault, unbuilt_fault, running_stage_at}
 use Rattle.mld.proofs.run.act.Goals as goal
 

@@ -1,5 +1,6 @@
 use Rattle.std.proofs.Common.{◌∙◌, ◌++◌, ap, List, ℕ}
-use Rattle.mld_model.specs.Reply.{reply_text, Ready}
+use Rattle.schedule_model.specs.ReplyText.{reply_text}
+use Rattle.mld_model.specs.Reply.{Ready}
 use Rattle.mld.proofs.RunLemmas.{opened}
 use Rattle.mld.proofs.run.open_world.Goals as goal
 

@@ -1,4 +1,4 @@
-use Rattle.mld_model.specs.Schedule.{SpellsCommand}
+use Rattle.schedule_model.specs.Schedule.{SpellsCommand}
 use Rattle.net_world.specs.Reading.{IsAddOf, IsRemoveOf, IsDeliverOf, IsShowOf, IsCompareOf, IsJoinOf}
 use Rattle.net_world.proofs.LinesCommands.{read_behind, add_behind, remove_behind, deliver_behind, show_behind, compare_behind, join_behind}
 use Rattle.net_world.proofs.lines.command_of.Goals as goal

@@ -1,7 +1,7 @@
 use Rattle.std.proofs.Common.{rules, tests}
 use Rattle.std.proofs.lemmas.Iterator.{YieldsList-from_slice}
 use Rattle.std.proofs.lemmas.Iterator.Search.{any_from_yields_List}
-use Rattle.mld_model.specs.Schedule.{is_word}
+use Rattle.schedule_model.specs.Schedule.{is_word}
 use Rattle.net_world.proofs.lines.is_unbuilt_word.Goals as goal
 
 pub returns : goal.returns

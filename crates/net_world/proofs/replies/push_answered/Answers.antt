@@ -1,7 +1,7 @@
 use Rattle.std.proofs.Common.{◌∙◌, ◌++◌, ◌+◌, List, ℕ, ap, sym, arith, codes, refl, rules}
 use Rattle.std.specs.List.{flat_map, range_with_len}
 use Rattle.std.proofs.lemmas.List.{append_assoc}
-use Rattle.mld_model.specs.Reply.{spaced_message}
+use Rattle.schedule_model.specs.ReplyText.{spaced_message}
 use Rattle.net_world.proofs.RepliesShown.{numbers_more, numbers_shown}
 use Rattle.net_world.proofs.replies.push_answered.Goals as goal
 

@@ -1,6 +1,6 @@
 use Rattle.std.proofs.Common.{◌≡◌, ◌++◌, ◌≤◌}
 use Rattle.std.specs.List.{flat_map, range_with_len}
-use Rattle.mld_model.specs.Reply.{spaced_message}
+use Rattle.schedule_model.specs.ReplyText.{spaced_message}
 use Rattle.net_world.proofs.replies.push_answered.Given as goal
 
 abbrev pub invariant-loop-index : goal.invariant-loop-index

@@ -1,6 +1,6 @@
 use Rattle.std.proofs.Common.{◌≡◌, ◌++◌, take}
 use Rattle.std.specs.List.{flat_map}
-use Rattle.mld_model.specs.Reply.{pair_line}
+use Rattle.schedule_model.specs.ReplyText.{pair_line}
 use Rattle.net_world.proofs.replies.push_pairs.Given as goal
 
 abbrev pub invariant-loop-pair : goal.invariant-loop-pair

@@ -1,6 +1,6 @@
 use Rattle.std.proofs.Common.{rules}
 use Rattle.std.proofs.lemmas.List.{append_assoc}
-use Rattle.mld_model.specs.Reply.{reply_text}
+use Rattle.schedule_model.specs.ReplyText.{reply_text}
 use Rattle.net_world.proofs.replies.push_sent.Goals as goal
 
 pub returns : goal.returns

@@ -1,6 +1,6 @@
 use Rattle.std.proofs.Common.{◌≡◌, ◌++◌, take}
 use Rattle.std.specs.List.{flat_map}
-use Rattle.mld_model.specs.Reply.{spaced_range}
+use Rattle.schedule_model.specs.ReplyText.{spaced_range}
 use Rattle.net_world.proofs.replies.push_took.Given as goal
 
 abbrev pub invariant-loop-range : goal.invariant-loop-range

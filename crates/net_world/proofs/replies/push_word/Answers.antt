@@ -1,5 +1,5 @@
 use Rattle.std.proofs.Common.{ap, rules, sym}
-use Rattle.mld_model.specs.Reply.{reply_text}
+use Rattle.schedule_model.specs.ReplyText.{reply_text}
 use Rattle.net_world.specs.Words.{reply_of}
 use Rattle.net_world.proofs.RepliesShown.{word_pushed}
 use Rattle.net_world.proofs.replies.push_word.Goals as goal

@@ -1,6 +1,6 @@
 use Rattle.std.proofs.Common.{List, sym, subst}
 use Rattle.std.proofs.lemmas.Result.{IfOk-weaker}
-use Rattle.mld_model.specs.declared.Command.TheVariants.{Add, Remove, Deliver, Show, Compare, Join}
+use Rattle.schedule_model.specs.declared.Command.TheVariants.{Add, Remove, Deliver, Show, Compare, Join}
 use Rattle.mld_model.specs.StandsFor.{RunningClone, RunningWorld}
 use Rattle.net_world.specs.Worlds.{HasNextTick, AreFitFor, ShowsAt, ComparesAt}
 use Rattle.net_world.specs.contracts.worlds.World.{the_view}

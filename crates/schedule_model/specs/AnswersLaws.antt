@@ -1,0 +1,368 @@
+-- What an answer to an `add` or a `remove` promises is kept by each step, and so by each run.
+use Rattle.std.specs.Prelude.{◌≡◌, ℕ, ◌<◌, List, [], ◌∷◌, ◌++◌, ◌⊎◌, Option, Some, None, MatchOption, length}
+use Rattle.std.proofs.Common.{refl, sym, ◌∙◌, ap, subst, inl, inr, get_or, set}
+use Rattle.std.proofs.lemmas.Bool.{cases_eq}
+use Rattle.std.proofs.lemmas.List.{get_or-set_same, get_or-set_other}
+use Rattle.rdf_terms.specs.declared.terms.Triple.{Triple}
+use Rattle.tree_clock.specs.declared.dots.Dot.{Dot}
+use Rattle.tree_clock.specs.declared.dots.Range.{Range}
+use Rattle.tree_clock.specs.Lists.{Has}
+use Rattle.tree_clock.specs.Dot.{Knows}
+use Rattle.mld_ops.specs.declared.tagged.Tagged.{Tagged}
+use Rattle.mld_ops.specs.History.{Operation, dot_at}
+use Rattle.mld_ops.specs.Effect.{range_of}
+use Rattle.mld_ops.specs.HistoryLaws.{range_of_has}
+use Rattle.schedule_model.specs.declared.Command.{Command}
+use Rattle.schedule_model.specs.declared.Command.TheVariants.{Add, Remove, Deliver, Show, Compare, Join}
+use Rattle.mld_model.specs.Clone.{Clone, Absent, Asking, Empty, Down, Live, Stored, known_of, with_range}
+use Rattle.mld_model.specs.World.{World, Message, RangeOf, JoinAsk, JoinGive, message_at, clone_at}
+use Rattle.mld_model.specs.Reply.{Reply, Did, NoMessage}
+use Rattle.schedule_model.specs.ReplyText.{reply_text}
+use Rattle.mld_model.specs.CloneStep.{Answers, Makes, Adds, Removes, Receives, Joins, left_half, Gives, joined_with, Adopts, Takes}
+use Rattle.schedule_model.specs.Step.{Step}
+use Rattle.schedule_model.specs.Runs.{Stage, Waiting, Running, Acts, Runs}
+use Rattle.mld_model.specs.Sound.{Keeps}
+use Rattle.mld_model.specs.SoundLaws.{place_of_clone}
+use Rattle.mld_model.specs.ReleaseLaws.{releases_known}
+use Rattle.mld_model.specs.KnownLaws.{known_with-old, known_with-new}
+use Rattle.schedule_model.specs.StepSoundLaws.{lists_same, weighs_same}
+use Rattle.schedule_model.specs.RunsLaws.{one_act, one_run}
+use Rattle.schedule_model.specs.Answers.{Remembers, IsAddOf, IsRemoveOf, IsAnswered, Survives}
+use Rattle.schedule_model.specs.Laws.{AddRemembers, RemoveRemembers, StepRemembers, AnswersSurvive}
+
+-- ---- the step that makes an operation
+
+-- a number at which a live clone stands is one of the places
+place_of_live : (world : World) (number : ℕ) (stored : Stored) (held : List Range) → clone_at world number ≡ Live stored held → number < length world.clones
+place_of_live world number stored held is =
+    place_of_clone world.clones number stored (subst (λ (clone : Clone). Keeps clone stored) (sym is) refl)
+
+-- the operation of a clone with this tick
+abbrev own_operation : Stored → ℕ → List Tagged → List Triple → Operation
+own_operation stored tick deletes inserts = record { dot = dot_at stored.path tick; causes = known_of stored; deletes = deletes; inserts = inserts }
+
+-- the clone that made an operation remembers it
+makes_remembers : (world : World) (number : ℕ) (stored : Stored) (held : List Range) (deletes : List Tagged) (inserts : List Triple) (reply : Reply) (next : World)
+    → clone_at world number ≡ Live stored held → (made : Makes world number stored held deletes inserts reply next)
+    → Remembers next number (own_operation stored made.tick deletes inserts)
+makes_remembers world number stored held deletes inserts reply next is made =
+    let own : Dot = dot_at stored.path made.tick in
+    let inside : number < length world.clones = place_of_live world number stored held is in
+    subst (λ (world : World). Remembers world number (own_operation stored made.tick deletes inserts)) (sym made.changes) (record {
+      stored = with_range stored (range_of own);
+      held = held;
+      live = get_or-set_same world.clones number (Live (with_range stored (range_of own)) held) Absent inside;
+      known = known_with-new stored (range_of own) own (range_of_has own own refl);
+      stands = inl refl;
+    })
+
+-- the answer tells of the operation's dot
+told_dot : (own dot : Dot) (count message : ℕ) → Did dot message ≡ Did own count → own ≡ dot
+told_dot own dot count message told = cc
+
+-- an `add` that tells of a dot made an operation, and its clone remembers it
+adds_remembers : (world : World) (number : ℕ) (triple : Triple) (clone : Clone) (dot : Dot) (message : ℕ) (next : World)
+    → clone_at world number ≡ clone → Adds world number triple clone (Did dot message) next
+    → (operation : Operation) × IsAddOf triple dot operation × Remembers next number operation
+adds_remembers world number triple Absent dot message next is p = absurd (cc (p.0))
+adds_remembers world number triple Asking dot message next is p = absurd (cc (p.0))
+adds_remembers world number triple Empty dot message next is p = absurd (cc (p.0))
+adds_remembers world number triple (Down stored) dot message next is p = absurd (cc (p.0))
+adds_remembers world number triple (Live stored held) dot message next is p = (
+  own_operation stored p.tick [] (triple ∷ []),
+  record { is = told_dot (dot_at stored.path p.tick) dot _ message p.replies; inserts = refl; deletes = refl },
+  makes_remembers world number stored held [] (triple ∷ []) (Did dot message) next is p,
+)
+
+-- and so did a `remove`
+removes_remembers : (world : World) (number : ℕ) (triple : Triple) (clone : Clone) (dot : Dot) (message : ℕ) (next : World)
+    → clone_at world number ≡ clone → Removes world number triple clone (Did dot message) next
+    → (operation : Operation) × IsRemoveOf world number triple dot operation × Remembers next number operation
+removes_remembers world number triple Absent dot message next is p = absurd (cc (p.0))
+removes_remembers world number triple Asking dot message next is p = absurd (cc (p.0))
+removes_remembers world number triple Empty dot message next is p = absurd (cc (p.0))
+removes_remembers world number triple (Down stored) dot message next is p = absurd (cc (p.0))
+removes_remembers world number triple (Live stored held) dot message next is (pairs, deletes, meant, are, inl nothing) = absurd (cc (nothing.1.0))
+removes_remembers world number triple (Live stored held) dot message next is (pairs, deletes, meant, are, inr made) =
+    let p : Makes world number stored held deletes [] (Did dot message) next = made.1 in (
+      own_operation stored p.tick deletes [],
+      record {
+        is = told_dot (dot_at stored.path p.tick) dot _ message p.replies;
+        inserts = refl;
+        some = made.0;
+        stored = stored;
+        held = held;
+        live = is;
+        pairs = pairs;
+        meant = meant;
+        deletes = are;
+      },
+      makes_remembers world number stored held deletes [] (Did dot message) next is p,
+    )
+
+-- the dot that an `add` tells of is that of an operation which inserts just the triple, and the clone remembers it
+pub add_remembers : AddRemembers
+unfolding Step
+add_remembers world number triple dot message next p = adds_remembers world number triple (clone_at world number) dot message next refl p
+
+-- the dot that a `remove` tells of is that of an operation which deletes the pairs of the triple, and the clone remembers it
+pub remove_remembers : RemoveRemembers
+unfolding Step
+remove_remembers world number triple dot message next p = removes_remembers world number triple (clone_at world number) dot message next refl p
+
+-- ---- the steps behind it
+
+-- a world that is left as it was remembers what it did
+same_remembers : (world next : World) (number : ℕ) (operation : Operation) → Remembers world number operation → next ≡ world → Remembers next number operation
+same_remembers world next number operation remembers same = subst (λ (world : World). Remembers world number operation) (sym same) remembers
+
+-- two live clones that are one keep the same
+one_live : (stored kept : Stored) (held back : List Range) → Live stored held ≡ Live kept back → stored ≡ kept
+one_live stored kept held back same = cc
+
+-- a world where one live clone knows no fewer dots, and whose history has grown, remembers what it did
+grown_remembers : (world next : World) (number : ℕ) (operation : Operation) (grower : ℕ) (stored grown : Stored) (held left : List Range)
+    → Remembers world number operation → clone_at world grower ≡ Live stored held
+    → next.clones ≡ set world.clones grower (Live grown left)
+    → ((dot : Dot) → Knows (known_of stored) dot → Knows (known_of grown) dot)
+    → ((other : Operation) → Has world.history other → Has next.history other) → Remembers next number operation
+grown_remembers world next number operation grower stored grown held left remembers live clones knows grows =
+    let now : Clone = Live grown left in
+    let at : clone_at next number ≡ get_or (set world.clones grower now) number Absent = ap (λ (cs : List Clone). get_or cs number Absent) clones in
+    elim (cases_eq number grower) [
+      | inl same ↦
+          let here : clone_at world number ≡ Live stored held = subst (λ (k : ℕ). clone_at world k ≡ Live stored held) (sym same) live in
+          let kept : remembers.stored ≡ stored = one_live remembers.stored stored remembers.held held (sym remembers.live ∙ here) in
+          record {
+            stored = grown;
+            held = left;
+            live = at ∙ ap (λ (k : ℕ). get_or (set world.clones grower now) k Absent) same
+                ∙ get_or-set_same world.clones grower now Absent (place_of_live world grower stored held live);
+            known = knows operation.dot (subst (λ (s : Stored). Knows (known_of s) operation.dot) kept remembers.known);
+            stands = grows operation remembers.stands;
+          }
+      | inr differs ↦ record {
+        stored = remembers.stored;
+        held = remembers.held;
+        live = at ∙ get_or-set_other world.clones grower number now Absent differs ∙ remembers.live;
+        known = remembers.known;
+        stands = grows operation remembers.stands;
+      }
+    ]
+
+-- a clone that makes an operation leads to such a world
+makes_keeps : (world : World) (number : ℕ) (operation : Operation) (maker : ℕ) (stored : Stored) (held : List Range) (deletes : List Tagged) (inserts : List Triple) (reply : Reply) (next : World)
+    → Remembers world number operation → clone_at world maker ≡ Live stored held
+    → Makes world maker stored held deletes inserts reply next → Remembers next number operation
+makes_keeps world number operation maker stored held deletes inserts reply next remembers is made =
+    grown_remembers world next number operation maker stored (with_range stored (range_of (dot_at stored.path made.tick))) held held remembers is
+    (ap (λ (w : World). w.clones) made.changes)
+    (known_with-old stored (range_of (dot_at stored.path made.tick)))
+    (λ other stands. subst (λ (w : World). Has w.history other) (sym made.changes) (inr stands))
+
+-- what is remembered stays so at an `add`
+adds_keep : (world : World) (number : ℕ) (operation : Operation) (maker : ℕ) (triple : Triple) (clone : Clone) (reply : Reply) (next : World)
+    → Remembers world number operation → clone_at world maker ≡ clone → Adds world maker triple clone reply next → Remembers next number operation
+adds_keep world number operation maker triple Absent reply next remembers is p = same_remembers world next number operation remembers p.1
+adds_keep world number operation maker triple Asking reply next remembers is p = same_remembers world next number operation remembers p.1
+adds_keep world number operation maker triple Empty reply next remembers is p = same_remembers world next number operation remembers p.1
+adds_keep world number operation maker triple (Down stored) reply next remembers is p = same_remembers world next number operation remembers p.1
+adds_keep world number operation maker triple (Live stored held) reply next remembers is p =
+    makes_keeps world number operation maker stored held [] (triple ∷ []) reply next remembers is p
+
+-- at a `remove`
+removes_keep : (world : World) (number : ℕ) (operation : Operation) (maker : ℕ) (triple : Triple) (clone : Clone) (reply : Reply) (next : World)
+    → Remembers world number operation → clone_at world maker ≡ clone → Removes world maker triple clone reply next → Remembers next number operation
+removes_keep world number operation maker triple Absent reply next remembers is p = same_remembers world next number operation remembers p.1
+removes_keep world number operation maker triple Asking reply next remembers is p = same_remembers world next number operation remembers p.1
+removes_keep world number operation maker triple Empty reply next remembers is p = same_remembers world next number operation remembers p.1
+removes_keep world number operation maker triple (Down stored) reply next remembers is p = same_remembers world next number operation remembers p.1
+removes_keep world number operation maker triple (Live stored held) reply next remembers is (pairs, deletes, meant, are, inl nothing) =
+    same_remembers world next number operation remembers nothing.1.1
+removes_keep world number operation maker triple (Live stored held) reply next remembers is (pairs, deletes, meant, are, inr made) =
+    makes_keeps world number operation maker stored held deletes [] reply next remembers is made.1
+
+-- where a range comes to a live clone
+receives_keep : (world : World) (number : ℕ) (operation : Operation) (taker : ℕ) (stored : Stored) (held : List Range) (range : Range) (reply : Reply) (next : World)
+    → Remembers world number operation → clone_at world taker ≡ Live stored held
+    → Receives world taker stored held range reply next → Remembers next number operation
+receives_keep world number operation taker stored held range reply next remembers is (inl p) = same_remembers world next number operation remembers p.1.1
+receives_keep world number operation taker stored held range reply next remembers is (inr (inl p)) =
+    grown_remembers world next number operation taker stored p.after held p.left remembers is
+    (ap (λ (w : World). w.clones) p.changes)
+    (λ dot known. releases_known world.history (with_range stored range) held p.taken p.after p.left p.releases dot (known_with-old stored range dot known))
+    (λ other stands. subst (λ (w : World). Has w.history other) (sym p.changes) stands)
+receives_keep world number operation taker stored held range reply next remembers is (inr (inr (back, inl p))) = same_remembers world next number operation remembers p.1.1
+receives_keep world number operation taker stored held range reply next remembers is (inr (inr (back, inr (inl p)))) = same_remembers world next number operation remembers p.2.1
+receives_keep world number operation taker stored held range reply next remembers is (inr (inr (back, inr (inr p)))) =
+    grown_remembers world next number operation taker stored stored held (held ++ range ∷ []) remembers is
+    (ap (λ (w : World). w.clones) p.3)
+    (λ dot known. known)
+    (λ other stands. subst (λ (w : World). Has w.history other) (sym p.3) stands)
+
+-- a world where a clone that was not live has become something else, and whose history is the same, remembers what it did
+woken_remembers : (world next : World) (number : ℕ) (operation : Operation) (waker : ℕ) (now : Clone)
+    → Remembers world number operation → ((stored : Stored) (held : List Range) → ¬ (clone_at world waker ≡ Live stored held))
+    → next.clones ≡ set world.clones waker now → next.history ≡ world.history → Remembers next number operation
+woken_remembers world next number operation waker now remembers asleep clones history = record {
+  stored = remembers.stored;
+  held = remembers.held;
+  live = ap (λ (cs : List Clone). get_or cs number Absent) clones
+      ∙ get_or-set_other world.clones waker number now Absent
+      (λ same. asleep remembers.stored remembers.held (sym (ap (λ (k : ℕ). clone_at world k) same) ∙ remembers.live)) ∙ remembers.live;
+  known = remembers.known;
+  stands = subst (λ (operations : List Operation). Has operations operation) (sym history) remembers.stands;
+}
+
+-- where a clone asks for a leaf
+joins_keep : (world : World) (number : ℕ) (operation : Operation) (asker : ℕ) (clone : Clone) (reply : Reply) (next : World)
+    → Remembers world number operation → clone_at world asker ≡ clone → Joins world asker clone reply next → Remembers next number operation
+joins_keep world number operation asker Absent reply next remembers is p =
+    woken_remembers world next number operation asker Asking remembers (λ stored held live. cc (is, live))
+    (ap (λ (w : World). w.clones) p.1) (ap (λ (w : World). w.history) p.1)
+joins_keep world number operation asker Asking reply next remembers is p =
+    woken_remembers world next number operation asker Asking remembers (λ stored held live. cc (is, live))
+    (ap (λ (w : World). w.clones) p.1) (ap (λ (w : World). w.history) p.1)
+joins_keep world number operation asker Empty reply next remembers is p = same_remembers world next number operation remembers p.1
+joins_keep world number operation asker (Down stored) reply next remembers is p = same_remembers world next number operation remembers p.1
+joins_keep world number operation asker (Live stored held) reply next remembers is p = same_remembers world next number operation remembers p.1
+
+-- where a live clone is asked for a leaf: one that forks knows what it knew
+gives_keep : (world : World) (number : ℕ) (operation : Operation) (giver : ℕ) (stored : Stored) (held : List Range) (id : ℕ) (reply : Reply) (next : World)
+    → Remembers world number operation → clone_at world giver ≡ Live stored held
+    → Gives world giver stored held id reply next → Remembers next number operation
+gives_keep world number operation giver stored held id reply next remembers is (inl p) = same_remembers world next number operation remembers p.1.1
+gives_keep world number operation giver stored held id reply next remembers is (inr (inl p)) = same_remembers world next number operation remembers p.2.1
+gives_keep world number operation giver stored held id reply next remembers is (inr (inr p)) =
+    grown_remembers world next number operation giver stored (left_half stored) held held remembers is
+    (ap (λ (w : World). w.clones) p.3)
+    (λ dot known. known)
+    (λ other stands. subst (λ (w : World). Has w.history other) (sym p.3) stands)
+
+-- where a leaf comes to a clone that asks
+adopts_keep : (world : World) (number : ℕ) (operation : Operation) (taker id : ℕ) (path : List ℕ) (dots : List Range) (reply : Reply) (next : World)
+    → Remembers world number operation → clone_at world taker ≡ Asking
+    → Adopts world taker id path dots reply next → Remembers next number operation
+adopts_keep world number operation taker id path dots reply next remembers is (inl p) =
+    woken_remembers world next number operation taker (Live (joined_with path dots) []) remembers (λ stored held live. cc (is, live))
+    (ap (λ (w : World). w.clones) p.2) (ap (λ (w : World). w.history) p.2)
+adopts_keep world number operation taker id path dots reply next remembers is (inr p) = same_remembers world next number operation remembers p.1.1
+
+-- where a message comes to a clone
+takes_keep : (world : World) (number : ℕ) (operation : Operation) (taker : ℕ) (message : Message) (clone : Clone) (reply : Reply) (next : World)
+    → Remembers world number operation → clone_at world taker ≡ clone → Takes world taker message clone reply next → Remembers next number operation
+takes_keep world number operation taker message Absent reply next remembers is p = same_remembers world next number operation remembers p.1
+takes_keep world number operation taker (JoinGive id path dots) Asking reply next remembers is p =
+    adopts_keep world number operation taker id path dots reply next remembers is p
+takes_keep world number operation taker message Asking reply next remembers is p = same_remembers world next number operation remembers p.1
+takes_keep world number operation taker message Empty reply next remembers is p = same_remembers world next number operation remembers p.1
+takes_keep world number operation taker message (Down stored) reply next remembers is p = same_remembers world next number operation remembers p.1
+takes_keep world number operation taker (RangeOf range) (Live stored held) reply next remembers is p =
+    receives_keep world number operation taker stored held range reply next remembers is p
+takes_keep world number operation taker (JoinAsk id) (Live stored held) reply next remembers is p =
+    gives_keep world number operation taker stored held id reply next remembers is p
+takes_keep world number operation taker (JoinGive id path dots) (Live stored held) reply next remembers is p =
+    same_remembers world next number operation remembers p.1
+takes_keep world number operation taker message clone reply next remembers is p = absurd p
+
+-- at a `deliver`
+delivers_keep : (world : World) (number : ℕ) (operation : Operation) (taker : ℕ) (sent : Option Message) (reply : Reply) (next : World)
+    → Remembers world number operation
+    → MatchOption sent (Answers world NoMessage reply next) (λ message. Takes world taker message (clone_at world taker) reply next)
+    → Remembers next number operation
+delivers_keep world number operation taker None reply next remembers p = same_remembers world next number operation remembers p.1
+delivers_keep world number operation taker (Some message) reply next remembers p =
+    takes_keep world number operation taker message (clone_at world taker) reply next remembers refl p
+
+-- what is remembered before a step is remembered after it
+pub step_remembers : StepRemembers
+unfolding Step
+step_remembers world number operation (Add maker triple) reply next remembers p =
+    adds_keep world number operation maker triple (clone_at world maker) reply next remembers refl p
+step_remembers world number operation (Remove maker triple) reply next remembers p =
+    removes_keep world number operation maker triple (clone_at world maker) reply next remembers refl p
+step_remembers world number operation (Deliver message taker) reply next remembers p =
+    delivers_keep world number operation taker (message_at world message) reply next remembers p
+step_remembers world number operation (Show shower) reply next remembers p =
+    same_remembers world next number operation remembers (lists_same world (clone_at world shower) reply next p)
+step_remembers world number operation (Join asker) reply next remembers p =
+    joins_keep world number operation asker (clone_at world asker) reply next remembers refl p
+step_remembers world number operation (Compare one other) reply next remembers p =
+    same_remembers world next number operation remembers (weighs_same world (clone_at world one) (clone_at world other) reply next p)
+
+-- ---- runs
+
+-- a world runs at the stage, and remembers the operation
+abbrev StageRemembers : Stage → ℕ → Operation → Type 0
+StageRemembers Waiting number operation = ⊥
+StageRemembers (Running world) number operation = Remembers world number operation
+
+-- a line leads from such a stage to another
+acts_keep : (stage : Stage) (number : ℕ) (operation : Operation) (line text : List ℕ) (next : Stage)
+    → StageRemembers stage number operation → Acts stage line text next → StageRemembers next number operation
+acts_keep Waiting number operation line text next remembers p = absurd remembers
+acts_keep (Running world) number operation line text next remembers (inl p) =
+    subst (λ (stage : Stage). StageRemembers stage number operation) (sym p.2) remembers
+acts_keep (Running world) number operation line text next remembers (inr p) =
+    subst (λ (stage : Stage). StageRemembers stage number operation) (sym p.changes)
+    (step_remembers world number operation p.command p.reply p.after remembers p.steps)
+
+-- and so do lines
+lines_keep : (stage : Stage) (number : ℕ) (operation : Operation) (lines : List (List ℕ)) (text : List ℕ) (next : Stage)
+    → StageRemembers stage number operation → Runs stage lines text next → StageRemembers next number operation
+lines_keep stage number operation [] text next remembers p = subst (λ (stage : Stage). StageRemembers stage number operation) (sym p.1) remembers
+lines_keep stage number operation (line ∷ lines) text next remembers p =
+    lines_keep p.2 number operation lines p.1 next (acts_keep stage number operation line p.0 p.2 remembers p.3) p.4
+
+-- a run over two lists of lines is a run over the first and then one over the second
+pub run_split : (stage : Stage) (front rest : List (List ℕ)) (text : List ℕ) (next : Stage) → Runs stage (front ++ rest) text next
+    → (first : List ℕ) × (second : List ℕ) × (middle : Stage) × Runs stage front first middle × Runs middle rest second next
+run_split stage [] rest text next p = ([], text, stage, (refl, refl), p)
+run_split stage (line ∷ front) rest text next p =
+    let q = run_split p.2 front rest p.1 next p.4 in
+    (p.0 ++ q.0, q.1, q.2, (p.0, q.0, p.2, p.3, q.3, refl), q.4)
+
+-- an answer is true right behind its step
+answered_remembers : (before : World) (command : Command) (number : ℕ) (triple : Triple) (dot : Dot) (message : ℕ) (after : World)
+    → (command ≡ Add number triple) ⊎ (command ≡ Remove number triple) → Step before command (Did dot message) after
+    → Survives before command dot after number
+answered_remembers before command number triple dot message after (inl is) steps =
+    let p = add_remembers before number triple dot message after (subst (λ (c : Command). Step before c (Did dot message) after) is steps) in
+    subst (λ (c : Command). Survives before c dot after number) (sym is) (record { operation = p.0; is = p.1.is; made = p.1; remembers = p.2 })
+answered_remembers before command number triple dot message after (inr is) steps =
+    let p = remove_remembers before number triple dot message after (subst (λ (c : Command). Step before c (Did dot message) after) is steps) in
+    subst (λ (c : Command). Survives before c dot after number) (sym is) (record { operation = p.0; is = p.1.is; made = p.1; remembers = p.2 })
+
+-- the lines behind the one that was answered lead from the world after it to the world in the end
+lines_behind : (lines : List (List ℕ)) (text : List ℕ) (world : World) (number : ℕ) (dot : Dot)
+    → Runs Waiting lines text (Running world) → (answered : IsAnswered lines number dot)
+    → (second : List ℕ) × Runs (Running answered.after) answered.rest second (Running world)
+lines_behind lines text world number dot runs answered =
+    let split = run_split Waiting answered.front (answered.line ∷ answered.rest) text (Running world)
+    (subst (λ (ls : List (List ℕ)). Runs Waiting ls text (Running world)) answered.whole runs) in
+    let same = one_run Waiting answered.front split.0 answered.text split.2 (Running answered.before) split.3 answered.runs in
+    let behind : Runs (Running answered.before) (answered.line ∷ answered.rest) split.1 (Running world) =
+    subst (λ (stage : Stage). Runs stage (answered.line ∷ answered.rest) split.1 (Running world)) same.1 split.4 in
+    let act : Acts (Running answered.before) answered.line (reply_text (Did dot answered.message)) (Running answered.after) = inr (record {
+      command = answered.command;
+      reply = Did dot answered.message;
+      after = answered.after;
+      spells = answered.spells;
+      steps = answered.steps;
+      replies = refl;
+      changes = refl;
+    }) in
+    let acted = one_act (Running answered.before) answered.line behind.0 (reply_text (Did dot answered.message)) behind.2 (Running answered.after) behind.3 act in
+    (behind.1, subst (λ (stage : Stage). Runs stage answered.rest behind.1 (Running world)) acted.1 behind.4)
+
+-- the operation of each answer is remembered in the world that a run leads to
+pub answers_survive : AnswersSurvive
+answers_survive lines text world runs number dot answered =
+    let survives = answered_remembers answered.before answered.command number answered.triple dot answered.message answered.after answered.changes answered.steps in
+    let behind = lines_behind lines text world number dot runs answered in
+    record {
+      operation = survives.operation;
+      is = survives.is;
+      made = survives.made;
+      remembers = lines_keep (Running answered.after) number survives.operation answered.rest behind.0 (Running world) survives.remembers behind.1;
+    }

@@ -1,0 +1,117 @@
+-- The laws of schedules and of the worlds that they reach, as the contracts of the crate state them.
+use Rattle.std.specs.Prelude.{◌≡◌, ℕ, List, IsTrue}
+use Rattle.rdf_terms.specs.declared.terms.Triple.{Triple}
+use Rattle.tree_clock.specs.declared.dots.Dot.{Dot}
+use Rattle.tree_clock.specs.declared.dots.Range.{Range}
+use Rattle.mld_ops.specs.declared.tagged.Tagged.{Tagged}
+use Rattle.mld_ops.specs.History.{Operation}
+use Rattle.mld_ops.specs.Meaning.{IsMeaning}
+use Rattle.schedule_model.specs.declared.Command.{Command}
+use Rattle.schedule_model.specs.declared.Command.TheVariants.{Add, Remove}
+use Rattle.mld_model.specs.Clone.{IsWithin}
+use Rattle.mld_model.specs.World.{World, founded}
+use Rattle.mld_model.specs.Reply.{Reply, Did}
+use Rattle.schedule_model.specs.Step.{HasCloneNumbers, Step}
+use Rattle.mld_model.specs.Sound.{IsSound}
+use Rattle.schedule_model.specs.Schedule.{IsNothing, is_unbuilt, SpellsSetup, SpellsCommand}
+use Rattle.schedule_model.specs.Answers.{Remembers, IsAddOf, IsRemoveOf}
+use Rattle.schedule_model.specs.Promises.{AnswersHold, LeavesDiffer, KeepsPromises}
+use Rattle.schedule_model.specs.Runs.{Stage, Waiting, Running, Acts, Runs, IsBad, IsUnbuilt, Outcome, Verdict}
+
+-- a line is at most one of these: it says nothing, it isn't built yet, it is a domain line, it is a command
+pub record IsOfOneKind (line : List ℕ) : Type 0 where
+  pub nothing_unbuilt : IsNothing line → ¬ IsTrue (is_unbuilt line)
+  pub nothing_setup : IsNothing line → (domain : List ℕ) (count : ℕ) → ¬ SpellsSetup line domain count
+  pub nothing_command : IsNothing line → (command : Command) → ¬ SpellsCommand line command
+  pub unbuilt_setup : IsTrue (is_unbuilt line) → (domain : List ℕ) (count : ℕ) → ¬ SpellsSetup line domain count
+  pub unbuilt_command : IsTrue (is_unbuilt line) → (command : Command) → ¬ SpellsCommand line command
+  pub setup_command : (domain : List ℕ) (count : ℕ) → SpellsSetup line domain count → (command : Command) → ¬ SpellsCommand line command
+
+-- each line is of at most one kind
+abbrev pub OneKind : Type 0
+OneKind = (line : List ℕ) → IsOfOneKind line
+
+-- a domain line spells one domain and one number of clones
+abbrev pub OneSetup : Type 0
+OneSetup = (line domain other : List ℕ) (count number : ℕ) → SpellsSetup line domain count → SpellsSetup line other number → (domain ≡ other) × (count ≡ number)
+
+-- a line spells one command
+abbrev pub OneCommand : Type 0
+OneCommand = (line : List ℕ) (command other : Command) → SpellsCommand line command → SpellsCommand line other → command ≡ other
+
+-- a step of a world by a command has one reply, and leads to one world
+abbrev pub OneStep : Type 0
+OneStep = (world : World) (command : Command) (reply other : Reply) (next after : World)
+    → Step world command reply next → Step world command other after → (reply ≡ other) × (next ≡ after)
+
+-- a line adds one text to what is written, and leads to one stage
+abbrev pub OneAct : Type 0
+OneAct = (stage : Stage) (line text other : List ℕ) (next after : Stage) → Acts stage line text next → Acts stage line other after → (text ≡ other) × (next ≡ after)
+
+-- a line that says nothing or acts is neither outside the grammar nor unbuilt, and no line is both of these
+pub record IsOfOneOutcome (stage : Stage) (line : List ℕ) : Type 0 where
+  pub acts_bad : (text : List ℕ) (next : Stage) → Acts stage line text next → ¬ IsBad stage line
+  pub acts_unbuilt : (text : List ℕ) (next : Stage) → Acts stage line text next → ¬ IsUnbuilt stage line
+  pub bad_unbuilt : IsBad stage line → ¬ IsUnbuilt stage line
+
+-- each line has at most one of these outcomes at each stage
+abbrev pub OneOutcome : Type 0
+OneOutcome = (stage : Stage) (line : List ℕ) → IsOfOneOutcome stage line
+
+-- a run over lines writes one text, and leads to one stage
+abbrev pub OneRun : Type 0
+OneRun = (stage : Stage) (lines : List (List ℕ)) (text other : List ℕ) (next after : Stage)
+    → Runs stage lines text next → Runs stage lines other after → (text ≡ other) × (next ≡ after)
+
+-- the lines of a schedule have one verdict
+abbrev pub OneVerdict : Type 0
+OneVerdict = (lines : List (List ℕ)) (outcome other : Outcome) → Verdict lines outcome → Verdict lines other → outcome ≡ other
+
+-- the founded world is sound
+abbrev pub FoundedIsSound : Type 0
+FoundedIsSound = (domain : List ℕ) (count : ℕ) → IsSound (founded domain count)
+
+-- a step of a sound world, by a command whose clones there are, leads to a sound world
+abbrev pub StepIsSound : Type 0
+StepIsSound = (world : World) (command : Command) (reply : Reply) (next : World) → HasCloneNumbers command → IsSound world
+    → Step world command reply next → IsSound next
+
+-- each world that a schedule reaches is sound
+abbrev pub RunsAreSound : Type 0
+RunsAreSound = (lines : List (List ℕ)) (text : List ℕ) (world : World) → Runs Waiting lines text (Running world) → IsSound world
+
+-- clones that know the same dots have the same pairs
+abbrev pub SamePairs : Type 0
+SamePairs = (history : List Operation) (known other : List Range) (pairs others : List Tagged)
+    → IsWithin known other → IsWithin other known → IsMeaning history known pairs → IsMeaning history other others → pairs ≡ others
+
+-- the dot that an `add` tells of is that of an operation with the triple as its one insert and no deletes, and its clone
+-- remembers the operation
+abbrev pub AddRemembers : Type 0
+AddRemembers = (world : World) (number : ℕ) (triple : Triple) (dot : Dot) (message : ℕ) (next : World)
+    → Step world (Add number triple) (Did dot message) next
+    → (operation : Operation) × IsAddOf triple dot operation × Remembers next number operation
+
+-- the dot that a `remove` tells of is that of an operation with no inserts, which deletes the pairs of the triple that
+-- its clone had, at least one; and its clone remembers the operation
+abbrev pub RemoveRemembers : Type 0
+RemoveRemembers = (world : World) (number : ℕ) (triple : Triple) (dot : Dot) (message : ℕ) (next : World)
+    → Step world (Remove number triple) (Did dot message) next
+    → (operation : Operation) × IsRemoveOf world number triple dot operation × Remembers next number operation
+
+-- what a clone remembers before a step it remembers after it
+abbrev pub StepRemembers : Type 0
+StepRemembers = (world : World) (number : ℕ) (operation : Operation) (command : Command) (reply : Reply) (next : World)
+    → Remembers world number operation → Step world command reply next → Remembers next number operation
+
+-- in the world that a schedule reaches, each clone remembers the operation of each `add` and `remove` that was answered with a dot
+abbrev pub AnswersSurvive : Type 0
+AnswersSurvive = (lines : List (List ℕ)) (text : List ℕ) (world : World) → Runs Waiting lines text (Running world) → AnswersHold lines world
+
+-- no two clones of a sound world hold one leaf
+abbrev pub OneLeaf : Type 0
+OneLeaf = (world : World) → IsSound world → LeavesDiffer world
+
+-- the world that a schedule reaches keeps what is promised
+abbrev pub RunsKeepPromises : Type 0
+RunsKeepPromises = (lines : List (List ℕ)) (text : List ℕ) (world : World) → Runs Waiting lines text (Running world) → KeepsPromises lines world

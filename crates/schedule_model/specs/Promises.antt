@@ -1,0 +1,31 @@
+-- What is promised of the world that the lines of a schedule lead to.
+use Rattle.std.specs.Prelude.{◌≡◌, ◌≢◌, ℕ, List}
+use Rattle.tree_clock.specs.declared.dots.Dot.{Dot}
+use Rattle.tree_clock.specs.declared.dots.Range.{Range}
+use Rattle.mld_ops.specs.declared.tagged.Tagged.{Tagged}
+use Rattle.mld_ops.specs.Meaning.{IsMeaning}
+use Rattle.schedule_model.specs.Answers.{IsAnswered, Survives}
+use Rattle.mld_model.specs.Clone.{Stored, Live, IsWithin, known_of}
+use Rattle.mld_model.specs.Sound.{Keeps, IsSound}
+use Rattle.mld_model.specs.World.{World, clone_at}
+
+-- clones that know the same dots have the same pairs, so they show the same
+abbrev pub ClonesAgree : World → Type 0
+ClonesAgree world = (number other : ℕ) (stored kept : Stored) (held waiting : List Range) → clone_at world number ≡ Live stored held → clone_at world other ≡ Live kept waiting
+    → IsWithin (known_of stored) (known_of kept) → IsWithin (known_of kept) (known_of stored)
+    → (pairs others : List Tagged) → IsMeaning world.history (known_of stored) pairs → IsMeaning world.history (known_of kept) others → pairs ≡ others
+
+-- the operation of each `add` and `remove` of the lines that was answered with a dot stands unchanged, and its clone knows it
+abbrev pub AnswersHold : List (List ℕ) → World → Type 0
+AnswersHold lines world = (number : ℕ) (dot : Dot) (answered : IsAnswered lines number dot) → Survives answered.before answered.command dot world number
+
+-- no two clones hold one leaf
+abbrev pub LeavesDiffer : World → Type 0
+LeavesDiffer world = (number other : ℕ) (stored kept : Stored) → number ≢ other → Keeps (clone_at world number) stored → Keeps (clone_at world other) kept → stored.path ≢ kept.path
+
+-- the world that the lines lead to is sound, its clones agree, what was answered holds, and each leaf has one clone
+pub record KeepsPromises (lines : List (List ℕ)) (world : World) : Type 0 where
+  pub sound : IsSound world
+  pub agree : ClonesAgree world
+  pub answers : AnswersHold lines world
+  pub leaves : LeavesDiffer world

@@ -1,0 +1,16 @@
+-- The world that the lines of a schedule lead to keeps what is promised.
+use Rattle.mld_model.specs.Clone.{known_of}
+use Rattle.mld_model.specs.Sound.{IsSound}
+use Rattle.schedule_model.specs.Laws.{RunsKeepPromises}
+use Rattle.schedule_model.specs.StepSoundLaws.{runs_sound, same_pairs, one_leaf}
+use Rattle.schedule_model.specs.AnswersLaws.{answers_survive}
+
+pub promises_kept : RunsKeepPromises
+promises_kept lines text world runs =
+    let sound : IsSound world = runs_sound lines text world runs in
+    record {
+      sound = sound;
+      agree = λ number other stored kept held waiting one two within back pairs others. same_pairs world.history (known_of stored) (known_of kept) pairs others within back;
+      answers = answers_survive lines text world runs;
+      leaves = one_leaf world sound;
+    }

@@ -1,0 +1,89 @@
+-- Runs of the model over lines, and the verdict on the lines of a schedule.
+use Rattle.std.specs.Prelude.{◌≡◌, ℕ, ◌+◌, List, [], ◌∷◌, ◌++◌, ◌⊎◌, IsTrue, length}
+use Rattle.schedule_model.specs.declared.Command.{Command}
+use Rattle.mld_model.specs.World.{World, founded}
+use Rattle.mld_model.specs.Reply.{Reply, Ready}
+use Rattle.schedule_model.specs.ReplyText.{reply_text}
+use Rattle.schedule_model.specs.Step.{Step}
+use Rattle.schedule_model.specs.Schedule.{IsNothing, is_unbuilt, SpellsSetup, SpellsCommand}
+
+-- how far a schedule has come: it waits for its domain line, or a world runs
+pub data Stage : Type 0 where
+  Waiting : Stage
+  Running : World → Stage
+
+-- the domain line founds the world
+pub record Founds (line text : List ℕ) (next : Stage) : Type 0 where
+  pub domain : List ℕ
+  pub count : ℕ
+  pub spells : SpellsSetup line domain count
+  pub replies : text ≡ reply_text (Ready count)
+  pub changes : next ≡ Running (founded domain count)
+
+-- a command line makes one step of the world
+pub record Commands (world : World) (line text : List ℕ) (next : Stage) : Type 0 where
+  pub command : Command
+  pub reply : Reply
+  pub after : World
+  pub spells : SpellsCommand line command
+  pub steps : Step world command reply after
+  pub replies : text ≡ reply_text reply
+  pub changes : next ≡ Running after
+
+-- the line says nothing, or acts: it adds the text to what is written and leads to the next stage
+abbrev pub Acts : Stage → List ℕ → List ℕ → Stage → Type 0
+Acts Waiting line text next = (IsNothing line × (text ≡ []) × (next ≡ Waiting)) ⊎ Founds line text next
+Acts (Running world) line text next = (IsNothing line × (text ≡ []) × (next ≡ Running world)) ⊎ Commands world line text next
+
+-- a run over lines, one after another: the text is what they add, in order
+abbrev pub Runs : Stage → List (List ℕ) → List ℕ → Stage → Type 0
+Runs stage [] text next = (text ≡ []) × (next ≡ stage)
+Runs stage (line ∷ lines) text next =
+    (front : List ℕ) × (rest : List ℕ) × (middle : Stage) × Acts stage line front middle × Runs middle lines rest next × (text ≡ front ++ rest)
+
+-- the line isn't built yet, whatever the stage is
+abbrev pub IsUnbuilt : Stage → List ℕ → Type 0
+IsUnbuilt stage line = IsTrue (is_unbuilt line)
+
+-- the line is outside the grammar at this stage, and isn't one that will be built
+abbrev pub IsBad : Stage → List ℕ → Type 0
+IsBad Waiting line = ¬ IsNothing line × ¬ IsTrue (is_unbuilt line) × ((domain : List ℕ) (count : ℕ) → ¬ SpellsSetup line domain count)
+IsBad (Running world) line = ¬ IsNothing line × ¬ IsTrue (is_unbuilt line) × ((command : Command) → ¬ SpellsCommand line command)
+
+-- the lines before a line, what they write and the stage that they lead to
+pub record Before (lines : List (List ℕ)) (number : ℕ) (text : List ℕ) (stage : Stage) : Type 0 where
+  pub front : List (List ℕ)
+  pub rest : List (List ℕ)
+  pub whole : lines ≡ front ++ rest
+  pub counted : number ≡ length front + 1
+  pub runs : Runs Waiting front text stage
+
+-- the line that comes next
+abbrev pub IsFirst : List ℕ → List (List ℕ) → Type 0
+IsFirst line lines = (rest : List (List ℕ)) × (lines ≡ line ∷ rest)
+
+-- the line of the number is the first that is bad: it is outside the grammar, or it would come after the last line and
+-- no line was a domain line
+pub record StopsBad (lines : List (List ℕ)) (number : ℕ) (text : List ℕ) (stage : Stage) : Type 0 where
+  pub before : Before lines number text stage
+  pub bad : ((line : List ℕ) × IsFirst line before.rest × IsBad stage line) ⊎ ((before.rest ≡ []) × (stage ≡ Waiting))
+
+-- the line of the number is the first that isn't built yet, and no earlier line is bad
+pub record StopsUnbuilt (lines : List (List ℕ)) (number : ℕ) (text : List ℕ) (stage : Stage) : Type 0 where
+  pub before : Before lines number text stage
+  pub line : List ℕ
+  pub first : IsFirst line before.rest
+  pub unbuilt : IsUnbuilt stage line
+
+-- what becomes of a schedule: its last line is done, or a line is the first bad one, or the first unbuilt one; each with
+-- the text that the lines before write
+pub data Outcome : Type 0 where
+  Finished : List ℕ → World → Outcome
+  BadLine : ℕ → List ℕ → Stage → Outcome
+  UnbuiltLine : ℕ → List ℕ → Stage → Outcome
+
+-- the lines of a schedule have this outcome
+unfoldable pub Verdict : List (List ℕ) → Outcome → Type 0
+Verdict lines (Finished text world) = Runs Waiting lines text (Running world)
+Verdict lines (BadLine number text stage) = StopsBad lines number text stage
+Verdict lines (UnbuiltLine number text stage) = StopsUnbuilt lines number text stage

@@ -1,0 +1,198 @@
+-- A line acts in one way at each stage, a run has one end, and the lines of a schedule have one verdict.
+use Rattle.std.specs.Prelude.{◌≡◌, ℕ, suc, ◌+◌, List, [], ◌∷◌, ◌++◌, ◌⊎◌, length}
+use Rattle.std.proofs.Common.{refl, sym, ◌∙◌, subst, subst₂, ap, arith, inl, inr}
+use Rattle.schedule_model.specs.declared.Command.{Command}
+use Rattle.mld_model.specs.World.{World}
+use Rattle.mld_model.specs.Reply.{Ready}
+use Rattle.schedule_model.specs.ReplyText.{reply_text}
+use Rattle.schedule_model.specs.Step.{Step}
+use Rattle.schedule_model.specs.Runs.{Stage, Waiting, Running, Founds, Commands, Acts, Runs, IsUnbuilt, IsBad, IsFirst, Outcome, Finished, BadLine, UnbuiltLine, Verdict}
+use Rattle.schedule_model.specs.Laws.{OneAct, OneOutcome, OneRun, OneVerdict}
+use Rattle.schedule_model.specs.ScheduleLaws.{one_kind, one_setup, one_command}
+use Rattle.schedule_model.specs.StepLaws.{one_step}
+
+-- ---- lines
+
+-- the domain line founds one world
+founds_once : (line text other : List ℕ) (next after : Stage) → Founds line text next → Founds line other after → (text ≡ other) × (next ≡ after)
+founds_once line text other next after p q =
+    let same = one_setup line p.domain q.domain p.count q.count p.spells q.spells in
+    (p.replies ∙ ap (λ (count : ℕ). reply_text (Ready count)) same.1 ∙ sym q.replies, cc (p.changes, q.changes, same.0, same.1))
+
+-- a command line makes one step
+commands_once : (world : World) (line text other : List ℕ) (next after : Stage)
+    → Commands world line text next → Commands world line other after → (text ≡ other) × (next ≡ after)
+commands_once world line text other next after p q =
+    let command = one_command line p.command q.command p.spells q.spells in
+    let same = one_step world q.command p.reply q.reply p.after q.after
+    (subst (λ (command : Command). Step world command p.reply p.after) command p.steps) q.steps in
+    (p.replies ∙ ap reply_text same.0 ∙ sym q.replies, p.changes ∙ ap Running same.1 ∙ sym q.changes)
+
+-- a line adds one text to what is written, and leads to one stage
+pub one_act : OneAct
+one_act Waiting line text other next after (inl p) (inl q) = (p.1 ∙ sym q.1, p.2 ∙ sym q.2)
+one_act Waiting line text other next after (inl p) (inr q) = absurd ((one_kind line).nothing_setup p.0 q.domain q.count q.spells)
+one_act Waiting line text other next after (inr p) (inl q) = absurd ((one_kind line).nothing_setup q.0 p.domain p.count p.spells)
+one_act Waiting line text other next after (inr p) (inr q) = founds_once line text other next after p q
+one_act (Running world) line text other next after (inl p) (inl q) = (p.1 ∙ sym q.1, p.2 ∙ sym q.2)
+one_act (Running world) line text other next after (inl p) (inr q) = absurd ((one_kind line).nothing_command p.0 q.command q.spells)
+one_act (Running world) line text other next after (inr p) (inl q) = absurd ((one_kind line).nothing_command q.0 p.command p.spells)
+one_act (Running world) line text other next after (inr p) (inr q) = commands_once world line text other next after p q
+
+-- ---- the outcomes of a line
+
+-- what acts isn't outside the grammar
+acts_bad : (stage : Stage) (line text : List ℕ) (next : Stage) → Acts stage line text next → ¬ IsBad stage line
+acts_bad Waiting line text next (inl p) bad = bad.0 p.0
+acts_bad Waiting line text next (inr p) bad = bad.2 p.domain p.count p.spells
+acts_bad (Running world) line text next (inl p) bad = bad.0 p.0
+acts_bad (Running world) line text next (inr p) bad = bad.2 p.command p.spells
+
+-- what acts is built
+acts_unbuilt : (stage : Stage) (line text : List ℕ) (next : Stage) → Acts stage line text next → ¬ IsUnbuilt stage line
+acts_unbuilt Waiting line text next (inl p) u = (one_kind line).nothing_unbuilt p.0 u
+acts_unbuilt Waiting line text next (inr p) u = (one_kind line).unbuilt_setup u p.domain p.count p.spells
+acts_unbuilt (Running world) line text next (inl p) u = (one_kind line).nothing_unbuilt p.0 u
+acts_unbuilt (Running world) line text next (inr p) u = (one_kind line).unbuilt_command u p.command p.spells
+
+-- what is outside the grammar isn't among the lines that will be built
+bad_unbuilt : (stage : Stage) (line : List ℕ) → IsBad stage line → ¬ IsUnbuilt stage line
+bad_unbuilt Waiting line bad u = bad.1 u
+bad_unbuilt (Running world) line bad u = bad.1 u
+
+-- each line has at most one of these outcomes at each stage
+pub one_outcome : OneOutcome
+one_outcome stage line = record {
+  acts_bad = acts_bad stage line;
+  acts_unbuilt = acts_unbuilt stage line;
+  bad_unbuilt = bad_unbuilt stage line;
+}
+
+-- ---- runs
+
+-- a run over lines writes one text, and leads to one stage
+pub one_run : OneRun
+one_run stage [] text other next after p q = (p.0 ∙ sym q.0, p.1 ∙ sym q.1)
+one_run stage (line ∷ lines) text other next after p q =
+    let first = one_act stage line p.0 q.0 p.2 q.2 p.3 q.3 in
+    let rest = one_run q.2 lines p.1 q.1 next after (subst (λ (stage : Stage). Runs stage lines p.1 next) first.1 p.4) q.4 in
+    (cc (p.5, q.5, first.0, rest.0), rest.1)
+
+-- ---- verdicts
+
+-- the outcome where the lines come after one more, which wrote the text
+later : List ℕ → Outcome → Outcome
+later front (Finished text world) = Finished (front ++ text) world
+later front (BadLine number text stage) = BadLine (suc number) (front ++ text) stage
+later front (UnbuiltLine number text stage) = UnbuiltLine (suc number) (front ++ text) stage
+
+-- one line, and the lines after it
+record ReadsOn (stage : Stage) (line : List ℕ) (after : Stage → Outcome → Type 0) (outcome : Outcome) : Type 0 where
+  front : List ℕ
+  middle : Stage
+  rest : Outcome
+  acts : Acts stage line front middle
+  goes : after middle rest
+  is : outcome ≡ later front rest
+
+-- what becomes of lines that are read from the stage on, by the lines
+abbrev Reads : List (List ℕ) → Stage → Outcome → Type 0
+Reads [] Waiting outcome = outcome ≡ BadLine 1 [] Waiting
+Reads [] (Running world) outcome = outcome ≡ Finished [] world
+Reads (line ∷ lines) stage outcome =
+    (IsBad stage line × (outcome ≡ BadLine 1 [] stage))
+    ⊎ ((IsUnbuilt stage line × (outcome ≡ UnbuiltLine 1 [] stage))
+    ⊎ ReadsOn stage line (Reads lines) outcome)
+
+-- lines are read in one way
+reads_once : (lines : List (List ℕ)) (stage : Stage) (outcome other : Outcome) → Reads lines stage outcome → Reads lines stage other → outcome ≡ other
+reads_once [] Waiting outcome other p q = p ∙ sym q
+reads_once [] (Running world) outcome other p q = p ∙ sym q
+reads_once (line ∷ lines) stage outcome other (inl p) (inl q) = p.1 ∙ sym q.1
+reads_once (line ∷ lines) stage outcome other (inl p) (inr (inl q)) = absurd (bad_unbuilt stage line p.0 q.0)
+reads_once (line ∷ lines) stage outcome other (inl p) (inr (inr q)) = absurd (acts_bad stage line q.front q.middle q.acts p.0)
+reads_once (line ∷ lines) stage outcome other (inr (inl p)) (inl q) = absurd (bad_unbuilt stage line q.0 p.0)
+reads_once (line ∷ lines) stage outcome other (inr (inl p)) (inr (inl q)) = p.1 ∙ sym q.1
+reads_once (line ∷ lines) stage outcome other (inr (inl p)) (inr (inr q)) = absurd (acts_unbuilt stage line q.front q.middle q.acts p.0)
+reads_once (line ∷ lines) stage outcome other (inr (inr p)) (inl q) = absurd (acts_bad stage line p.front p.middle p.acts q.0)
+reads_once (line ∷ lines) stage outcome other (inr (inr p)) (inr (inl q)) = absurd (acts_unbuilt stage line p.front p.middle p.acts q.0)
+reads_once (line ∷ lines) stage outcome other (inr (inr p)) (inr (inr q)) =
+    let first = one_act stage line p.front q.front p.middle q.middle p.acts q.acts in
+    let rest = reads_once lines q.middle p.rest q.rest (subst (λ (stage : Stage). Reads lines stage p.rest) first.1 p.goes) q.goes in
+    cc (p.is, q.is, first.0, rest)
+
+-- a run over all lines reads them
+reads_finished : (lines : List (List ℕ)) (stage : Stage) (text : List ℕ) (world : World) → Runs stage lines text (Running world) → Reads lines stage (Finished text world)
+unfolding later
+reads_finished [] Waiting text world h = absurd (cc (h.1))
+reads_finished [] (Running other) text world h = cc (h.0, h.1)
+reads_finished (line ∷ lines) stage text world h = inr (inr (record {
+  front = h.0;
+  middle = h.2;
+  rest = Finished h.1 world;
+  acts = h.3;
+  goes = reads_finished lines h.2 h.1 world h.4;
+  is = ap (λ (text : List ℕ). Finished text world) h.5;
+}))
+
+-- what stands behind the lines of a front: a bad line, or no line where no domain line came
+abbrev Ends : List (List ℕ) → Stage → Type 0
+Ends rest stage = ((line : List ℕ) × IsFirst line rest × IsBad stage line) ⊎ ((rest ≡ []) × (stage ≡ Waiting))
+
+-- the lines behind such a front are bad at once
+ends_now : (rest : List (List ℕ)) (stage : Stage) → Ends rest stage → Reads rest stage (BadLine 1 [] stage)
+ends_now rest stage (inl h) = subst (λ (rest : List (List ℕ)). Reads rest stage (BadLine 1 [] stage)) (sym h.1.1) (inl (h.2, refl))
+ends_now rest stage (inr h) =
+    subst (λ (rest : List (List ℕ)). Reads rest stage (BadLine 1 [] stage)) (sym h.0)
+    (subst (λ (stage : Stage). Reads [] stage (BadLine 1 [] stage)) (sym h.1) refl)
+
+-- a run over the lines before a bad one reads as far as that one
+reads_bad : (front rest : List (List ℕ)) (stage : Stage) (text : List ℕ) (next : Stage) → Runs stage front text next → Ends rest next
+    → Reads (front ++ rest) stage (BadLine (length front + 1) text next)
+unfolding later
+reads_bad [] rest stage text next runs h =
+    subst (λ (text : List ℕ). Reads rest stage (BadLine 1 text next)) (sym runs.0)
+    (subst (λ (stage : Stage). Reads rest stage (BadLine 1 [] next)) runs.1 (ends_now rest next h))
+reads_bad (line ∷ front) rest stage text next runs h = inr (inr (record {
+  front = runs.0;
+  middle = runs.2;
+  rest = BadLine (length front + 1) runs.1 next;
+  acts = runs.3;
+  goes = reads_bad front rest runs.2 runs.1 next runs.4 h;
+  is = let counted : suc (length front) + 1 ≡ suc (length front + 1) = omega arith in cc (counted, runs.5);
+}))
+
+-- a run over the lines before one that isn't built reads as far as that one
+reads_unbuilt : (front rest : List (List ℕ)) (stage : Stage) (text : List ℕ) (next : Stage) → Runs stage front text next
+    → (line : List ℕ) → IsFirst line rest → IsUnbuilt next line → Reads (front ++ rest) stage (UnbuiltLine (length front + 1) text next)
+unfolding later
+reads_unbuilt [] rest stage text next runs line first h =
+    let now : Reads rest next (UnbuiltLine 1 [] next) =
+    subst (λ (rest : List (List ℕ)). Reads rest next (UnbuiltLine 1 [] next)) (sym first.1) (inr (inl (h, refl))) in
+    subst (λ (text : List ℕ). Reads rest stage (UnbuiltLine 1 text next)) (sym runs.0)
+    (subst (λ (stage : Stage). Reads rest stage (UnbuiltLine 1 [] next)) runs.1 now)
+reads_unbuilt (before ∷ front) rest stage text next runs line first h = inr (inr (record {
+  front = runs.0;
+  middle = runs.2;
+  rest = UnbuiltLine (length front + 1) runs.1 next;
+  acts = runs.3;
+  goes = reads_unbuilt front rest runs.2 runs.1 next runs.4 line first h;
+  is = let counted : suc (length front) + 1 ≡ suc (length front + 1) = omega arith in cc (counted, runs.5);
+}))
+
+-- a verdict says how the lines are read
+verdict_reads : (lines : List (List ℕ)) (outcome : Outcome) → Verdict lines outcome → Reads lines Waiting outcome
+unfolding Verdict
+verdict_reads lines (Finished text world) h = reads_finished lines Waiting text world h
+verdict_reads lines (BadLine number text stage) h =
+    let before = h.before in
+    subst₂ (λ (lines : List (List ℕ)) (number : ℕ). Reads lines Waiting (BadLine number text stage)) (sym before.whole) (sym before.counted)
+    (reads_bad before.front before.rest Waiting text stage before.runs h.bad)
+verdict_reads lines (UnbuiltLine number text stage) h =
+    let before = h.before in
+    subst₂ (λ (lines : List (List ℕ)) (number : ℕ). Reads lines Waiting (UnbuiltLine number text stage)) (sym before.whole) (sym before.counted)
+    (reads_unbuilt before.front before.rest Waiting text stage before.runs h.line h.first h.unbuilt)
+
+-- the lines of a schedule have one verdict
+pub one_verdict : OneVerdict
+one_verdict lines outcome other p q = reads_once lines Waiting outcome other (verdict_reads lines outcome p) (verdict_reads lines other q)

@@ -1,0 +1,61 @@
+-- The grammar of a schedule's lines, as bytes without their LF.
+use Rattle.std.specs.Prelude.{◌≡◌, ℕ, ◌^◌, ◌<◌, ◌≤◌, List, [], ◌∷◌, ◌++◌, Bool, not, ◌==◌, nat_eq, IsTrue, codes, take_while}
+use Rattle.std.specs.Cmp.Lexicographic.{pointwise}
+use Rattle.std.specs.List.{list_any}
+use Rattle.std.specs.Str.{IsUtf8}
+use Rattle.std.specs.Fmt.{decimal}
+use Rattle.iri_rules.specs.Domain.{is_domain}
+use Rattle.rdf_terms.specs.Grammar.{SpellsTriple, IsWithin}
+use Rattle.schedule_model.specs.Characters.{space, hash_mark}
+use Rattle.mld_model.specs.World.{clone_count}
+use Rattle.schedule_model.specs.declared.Command.{Command}
+use Rattle.schedule_model.specs.declared.Command.TheVariants.{Add, Remove, Deliver, Show, Compare, Join}
+
+-- an empty line, or a comment: `#` first, and UTF-8 throughout
+pub data IsNothing : List ℕ → Type 0 where
+  empty : IsNothing []
+  comment : (rest : List ℕ) → IsUtf8 (hash_mark ∷ rest) → IsNothing (hash_mark ∷ rest)
+
+-- the bytes before the first space
+abbrev pub first_word : List ℕ → List ℕ
+first_word line = take_while (λ byte. not (byte == space)) line
+
+-- two texts are the same
+abbrev pub is_word : List ℕ → List ℕ → Bool
+is_word = pointwise nat_eq
+
+-- the first words of lines that aren't built yet
+abbrev pub unbuilt_words : List (List ℕ)
+unbuilt_words =
+    codes "stop" ∷ codes "open" ∷ codes "ask" ∷ codes "compact" ∷ codes "truncate"
+    ∷ codes "query" ∷ codes "update" ∷ codes "single" ∷ codes "crash" ∷ []
+
+-- a line that isn't built yet, whatever its rest is: one of those words first
+unfoldable pub is_unbuilt : List ℕ → Bool
+is_unbuilt line = list_any (λ word. is_word word (first_word line)) unbuilt_words
+
+-- `domain D clones N`
+pub record SpellsSetup (line domain : List ℕ) (count : ℕ) : Type 0 where
+  pub whole : line ≡ codes "domain " ++ (domain ++ (codes " clones " ++ decimal count))
+  pub name : IsTrue (is_domain domain)
+  pub some : 1 ≤ count
+  pub most : count ≤ clone_count
+
+-- the number of a clone, the first of which is 0
+abbrev pub IsCloneNumber : ℕ → Type 0
+IsCloneNumber number = number < clone_count
+
+-- the line spells the command; a triple is the rest of its line
+abbrev pub SpellsCommand : List ℕ → Command → Type 0
+SpellsCommand line (Add number triple) =
+    (text : List ℕ) × (line ≡ codes "add " ++ (decimal number ++ space ∷ text)) × IsCloneNumber number
+    × IsUtf8 text × SpellsTriple text triple × IsWithin triple
+SpellsCommand line (Remove number triple) =
+    (text : List ℕ) × (line ≡ codes "remove " ++ (decimal number ++ space ∷ text)) × IsCloneNumber number
+    × IsUtf8 text × SpellsTriple text triple × IsWithin triple
+SpellsCommand line (Deliver message number) =
+    (line ≡ codes "deliver " ++ (decimal message ++ space ∷ decimal number)) × (message < 2 ^ 64) × IsCloneNumber number
+SpellsCommand line (Show number) = (line ≡ codes "show " ++ decimal number) × IsCloneNumber number
+SpellsCommand line (Join number) = (line ≡ codes "join " ++ decimal number) × IsCloneNumber number
+SpellsCommand line (Compare number other) =
+    (line ≡ codes "compare " ++ (decimal number ++ space ∷ decimal other)) × IsCloneNumber number × IsCloneNumber other

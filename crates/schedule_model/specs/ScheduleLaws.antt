@@ -1,0 +1,175 @@
+-- Each line of a schedule is of one kind, and is read in one way.
+use Rattle.std.specs.Prelude.{◌≡◌, ℕ, ◌^◌, ◌<◌, List, [], ◌∷◌, ◌++◌, ◌⊎◌, false, true, ◌&&◌, IsTrue, codes, nat_eq, nat_le, length}
+use Rattle.std.specs.List.{list_all}
+use Rattle.std.specs.Fmt.{decimal}
+use Rattle.std.proofs.Common.{refl, sym, ◌∙◌, subst, ap, arith, inl, inr, drop, one-add}
+use Rattle.std.proofs.lemmas.Bool.{false≢true, and_parts}
+use Rattle.std.proofs.lemmas.Fmt.{decimal_injective}
+use Rattle.iri_rules.specs.Domain.{is_domain, is_domain_byte, domain_limit}
+use Rattle.rdf_terms.specs.Grammar.{SpellsTriple}
+use Rattle.schedule_model.specs.Characters.{space, hash_mark}
+use Rattle.mld_model.specs.World.{clone_count}
+use Rattle.schedule_model.specs.declared.Command.{Command}
+use Rattle.schedule_model.specs.declared.Command.TheVariants.{Add, Remove, Deliver, Show, Compare, Join}
+use Rattle.schedule_model.specs.Schedule.{IsNothing, empty, comment, is_unbuilt, SpellsSetup, SpellsCommand}
+use Rattle.schedule_model.specs.Bytes.{Lacks, Lacks-from_test, Lacks-decimal, one_split, apart}
+use Rattle.rdf_terms.proofs.Complete.{one_spelled}
+use Rattle.schedule_model.specs.Step.{HasCloneNumbers}
+use Rattle.schedule_model.specs.Laws.{OneKind, OneSetup, OneCommand}
+
+-- ---- what a line begins with
+
+-- a line that says nothing is empty, or begins with `#`
+nothing_begins : {line : List ℕ} → IsNothing line → (line ≡ []) ⊎ ((rest : List ℕ) × (line ≡ hash_mark ∷ rest))
+nothing_begins empty = inl refl
+nothing_begins (comment rest text) = inr (rest, refl)
+
+-- so it isn't a line that begins with another byte
+nothing_apart : {line rest : List ℕ} {byte : ℕ} → IsNothing line → line ≡ byte ∷ rest → nat_eq hash_mark byte ≡ false → ⊥
+nothing_apart h e other = elim (nothing_begins h) [
+  | inl none ↦ cc
+  | inr some ↦ apart some.1 e other
+]
+
+-- the first byte of a command: `a`, `r`, `d`, `s`, `j` or `c`
+begins : Command → ℕ
+begins (Add number triple) = 97
+begins (Remove number triple) = 114
+begins (Deliver message number) = 100
+begins (Show number) = 115
+begins (Join number) = 106
+begins (Compare number other) = 99
+
+-- a command begins with that byte
+command_begins : (line : List ℕ) (command : Command) → SpellsCommand line command → (rest : List ℕ) × (line ≡ begins command ∷ rest)
+unfolding begins
+command_begins line (Add number triple) h = (_, h.1)
+command_begins line (Remove number triple) h = (_, h.1)
+command_begins line (Deliver message number) h = (_, h.0)
+command_begins line (Show number) h = (_, h.0)
+command_begins line (Join number) h = (_, h.0)
+command_begins line (Compare number other) h = (_, h.0)
+
+-- no command begins with `#`
+begins_apart : (command : Command) → nat_eq hash_mark (begins command) ≡ false
+unfolding begins
+begins_apart (Add number triple) = refl
+begins_apart (Remove number triple) = refl
+begins_apart (Deliver message number) = refl
+begins_apart (Show number) = refl
+begins_apart (Join number) = refl
+begins_apart (Compare number other) = refl
+
+-- ---- numbers
+
+-- the number of a clone is a small number
+small : {number : ℕ} → number < clone_count → number < 2 ^ 64
+small h = omega arith
+
+-- the numbers of clones in a command that a line spells are those of clones that there are
+pub spells_numbers : (line : List ℕ) (command : Command) → SpellsCommand line command → HasCloneNumbers command
+spells_numbers line (Add number triple) h = h.2
+spells_numbers line (Remove number triple) h = h.2
+spells_numbers line (Deliver message number) h = h.2
+spells_numbers line (Show number) h = h.1
+spells_numbers line (Join number) h = h.1
+spells_numbers line (Compare number other) h = (h.1, h.2)
+
+-- numbers are written without spaces
+no_space : (number : ℕ) → number < 2 ^ 64 → Lacks space (decimal number)
+no_space = Lacks-decimal space (λ digit h e. omega arith)
+
+-- a number and what stands behind the space after it
+one_number : (m n : ℕ) (x y : List ℕ) → m < 2 ^ 64 → n < 2 ^ 64 → decimal m ++ space ∷ x ≡ decimal n ++ space ∷ y → (m ≡ n) × (x ≡ y)
+one_number m n x y p q e =
+    let parts = one_split space (decimal m) (decimal n) x y (no_space m p) (no_space n q) e in
+    (decimal_injective m n p q parts.0, parts.1)
+
+-- ---- lines that aren't built yet
+
+-- a comment is none of them
+unbuilt_comment : (rest : List ℕ) → is_unbuilt (hash_mark ∷ rest) ≡ false
+unfolding is_unbuilt
+unbuilt_comment rest = rw one-add refl
+
+-- nor is any line that says nothing
+unbuilt_nothing : (line : List ℕ) → IsNothing line → ¬ IsTrue (is_unbuilt line)
+unfolding is_unbuilt
+unbuilt_nothing line h u = elim (nothing_begins h) [
+  | inl none ↦ false≢true (subst (λ (l : List ℕ). is_unbuilt l ≡ true) none u)
+  | inr some ↦ false≢true (sym (unbuilt_comment some.0) ∙ subst (λ (l : List ℕ). is_unbuilt l ≡ true) some.1 u)
+]
+
+-- nor a domain line
+unbuilt_setup : (line domain : List ℕ) (count : ℕ) → IsTrue (is_unbuilt line) → ¬ SpellsSetup line domain count
+unfolding is_unbuilt
+unbuilt_setup line domain count u h = false≢true (subst (λ (l : List ℕ). is_unbuilt l ≡ true) h.whole u)
+
+-- nor a command
+unbuilt_command : (line : List ℕ) (command : Command) → IsTrue (is_unbuilt line) → ¬ SpellsCommand line command
+unfolding is_unbuilt
+unbuilt_command line (Add number triple) u h = false≢true (subst (λ (l : List ℕ). is_unbuilt l ≡ true) h.1 u)
+unbuilt_command line (Remove number triple) u h = false≢true (subst (λ (l : List ℕ). is_unbuilt l ≡ true) h.1 u)
+unbuilt_command line (Deliver message number) u h = false≢true (subst (λ (l : List ℕ). is_unbuilt l ≡ true) h.0 u)
+unbuilt_command line (Show number) u h = false≢true (subst (λ (l : List ℕ). is_unbuilt l ≡ true) h.0 u)
+unbuilt_command line (Join number) u h = false≢true (subst (λ (l : List ℕ). is_unbuilt l ≡ true) h.0 u)
+unbuilt_command line (Compare number other) u h = false≢true (subst (λ (l : List ℕ). is_unbuilt l ≡ true) h.0 u)
+
+-- ---- domain lines and commands
+
+-- no domain line is a command
+setup_command : (line domain : List ℕ) (count : ℕ) (command : Command) → SpellsSetup line domain count → ¬ SpellsCommand line command
+setup_command line domain count (Add number triple) p q = apart p.whole q.1 refl
+setup_command line domain count (Remove number triple) p q = apart p.whole q.1 refl
+setup_command line domain count (Deliver message number) p q = apart (ap (drop 1) p.whole) (ap (drop 1) q.0) refl
+setup_command line domain count (Show number) p q = apart p.whole q.0 refl
+setup_command line domain count (Join number) p q = apart p.whole q.0 refl
+setup_command line domain count (Compare number other) p q = apart p.whole q.0 refl
+
+-- each line is of at most one kind
+pub one_kind : OneKind
+one_kind line = record {
+  nothing_unbuilt = unbuilt_nothing line;
+  nothing_setup = λ h domain count setup. nothing_apart h setup.whole refl;
+  nothing_command = λ h command spells. let first = command_begins line command spells in nothing_apart h first.1 (begins_apart command);
+  unbuilt_setup = λ u domain count. unbuilt_setup line domain count u;
+  unbuilt_command = λ u command. unbuilt_command line command u;
+  setup_command = λ domain count setup command. setup_command line domain count command setup;
+}
+
+-- no name of a domain has a space
+domain_lacks : (domain : List ℕ) → IsTrue (is_domain domain) → Lacks space domain
+unfolding is_domain
+domain_lacks domain h = Lacks-from_test is_domain_byte space refl domain (and_parts (nat_le 1 (length domain) && nat_le (length domain) domain_limit) (list_all is_domain_byte domain) h).1
+
+-- a domain line spells one domain and one number of clones
+pub one_setup : OneSetup
+one_setup line domain other count number p q =
+    let tails : domain ++ space ∷ (codes "clones " ++ decimal count) ≡ other ++ space ∷ (codes "clones " ++ decimal number) = ap (drop 7) (sym p.whole ∙ q.whole) in
+    let parts = one_split space domain other _ _ (domain_lacks domain p.name) (domain_lacks other q.name) tails in
+    (parts.0, decimal_injective count number (omega (arith, p.most)) (omega (arith, q.most)) (ap (drop 7) parts.1))
+
+-- a line spells one command
+pub one_command : OneCommand
+unfolding begins
+one_command line (Add number triple) (Add other second) p q =
+    let parts = one_number number other p.0 q.0 (small p.2) (small q.2) (ap (drop 4) (sym p.1 ∙ q.1)) in
+    let same = one_spelled q.0 triple second (subst (λ (text : List ℕ). SpellsTriple text triple) parts.1 p.4) q.4 in
+    cc (parts.0, same)
+one_command line (Remove number triple) (Remove other second) p q =
+    let parts = one_number number other p.0 q.0 (small p.2) (small q.2) (ap (drop 7) (sym p.1 ∙ q.1)) in
+    let same = one_spelled q.0 triple second (subst (λ (text : List ℕ). SpellsTriple text triple) parts.1 p.4) q.4 in
+    cc (parts.0, same)
+one_command line (Deliver message number) (Deliver other second) p q =
+    let parts = one_number message other (decimal number) (decimal second) p.1 q.1 (ap (drop 8) (sym p.0 ∙ q.0)) in
+    let same = decimal_injective number second (small p.2) (small q.2) parts.1 in
+    cc (parts.0, same)
+one_command line (Show number) (Show other) p q =
+    ap Show (decimal_injective number other (small p.1) (small q.1) (ap (drop 5) (sym p.0 ∙ q.0)))
+one_command line (Join number) (Join other) p q =
+    ap Join (decimal_injective number other (small p.1) (small q.1) (ap (drop 5) (sym p.0 ∙ q.0)))
+one_command line (Compare number with) (Compare other second) p q =
+    let parts = one_number number other (decimal with) (decimal second) (small p.1) (small q.1) (ap (drop 8) (sym p.0 ∙ q.0)) in
+    let same = decimal_injective with second (small p.2) (small q.2) parts.1 in
+    cc (parts.0, same)
+one_command line command other p q = absurd (apart (command_begins line command p).1 (command_begins line other q).1 refl)

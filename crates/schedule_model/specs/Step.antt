@@ -1,0 +1,26 @@
+-- One step of the world: a command, its reply, and the world after it.
+use Rattle.std.specs.Prelude.{◌<◌, MatchOption}
+use Rattle.schedule_model.specs.declared.Command.{Command}
+use Rattle.schedule_model.specs.declared.Command.TheVariants.{Add, Remove, Deliver, Show, Compare, Join}
+use Rattle.mld_model.specs.CloneStep.{Answers, Adds, Removes, Takes, Lists, Joins, Weighs}
+use Rattle.mld_model.specs.World.{World, message_at, clone_at, clone_count}
+use Rattle.mld_model.specs.Reply.{Reply, NoMessage}
+
+-- the numbers of clones in a command are those of clones that there are
+abbrev pub HasCloneNumbers : Command → Type 0
+HasCloneNumbers (Add number triple) = number < clone_count
+HasCloneNumbers (Remove number triple) = number < clone_count
+HasCloneNumbers (Deliver message number) = number < clone_count
+HasCloneNumbers (Show number) = number < clone_count
+HasCloneNumbers (Join number) = number < clone_count
+HasCloneNumbers (Compare number other) = (number < clone_count) × (other < clone_count)
+
+-- the step: the world before, the command, the reply, the world after
+unfoldable pub Step : World → Command → Reply → World → Type 0
+Step world (Add number triple) reply next = Adds world number triple (clone_at world number) reply next
+Step world (Remove number triple) reply next = Removes world number triple (clone_at world number) reply next
+Step world (Deliver message number) reply next =
+    MatchOption (message_at world message) (Answers world NoMessage reply next) (λ sent. Takes world number sent (clone_at world number) reply next)
+Step world (Show number) reply next = Lists world (clone_at world number) reply next
+Step world (Join number) reply next = Joins world number (clone_at world number) reply next
+Step world (Compare number other) reply next = Weighs world (clone_at world number) (clone_at world other) reply next

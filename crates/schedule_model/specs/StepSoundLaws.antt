@@ -1,0 +1,192 @@
+-- Each world that a schedule reaches is sound, and what a reader may take from that.
+use Rattle.std.specs.Prelude.{◌≡◌, ℕ, zero, suc, ◌<◌, List, [], ◌∷◌, Option, Some, None, MatchOption, slice_get}
+use Rattle.std.proofs.Common.{refl, sym, subst, inl, inr}
+use Rattle.rdf_terms.specs.declared.terms.Triple.{Triple}
+use Rattle.tree_clock.specs.declared.dots.Range.{Range}
+use Rattle.tree_clock.specs.Lists.{Has}
+use Rattle.mld_ops.specs.MeaningLaws.{one_meaning, same_known}
+use Rattle.schedule_model.specs.declared.Command.TheVariants.{Add, Remove, Deliver, Show, Compare, Join}
+use Rattle.mld_model.specs.Clone.{Clone, Absent, Asking, Empty, Down, Live, Stored}
+use Rattle.mld_model.specs.World.{World, Message, RangeOf, JoinAsk, JoinGive, message_at, clone_count, clone_at}
+use Rattle.mld_model.specs.Reply.{Reply, NoMessage}
+use Rattle.mld_model.specs.CloneStep.{Answers, Makes, Adds, Removes, Receives, Joins, Gives, Adopts, Takes, Lists, ComparesWith, Weighs}
+use Rattle.schedule_model.specs.Step.{Step}
+use Rattle.schedule_model.specs.Runs.{Stage, Waiting, Running, Acts, Runs}
+use Rattle.mld_model.specs.Sound.{Keeps, IsSound}
+use Rattle.mld_model.specs.SoundLaws.{apart_differ, made_sound, taken_sound, holding_sound, asked_sound, forked_sound, stands_at, joined_sound}
+use Rattle.schedule_model.specs.ScheduleLaws.{spells_numbers}
+use Rattle.mld_model.specs.FoundedLaws.{founded_sound}
+use Rattle.schedule_model.specs.Laws.{StepIsSound, RunsAreSound, SamePairs, OneLeaf}
+
+-- ---- steps
+
+-- a world that is left as it was stays sound
+same_sound : (world next : World) → IsSound world → next ≡ world → IsSound next
+same_sound world next sound same = subst IsSound (sym same) sound
+
+-- an `add` leads to a sound world
+adds_sound : (world : World) (number : ℕ) (triple : Triple) (clone : Clone) (reply : Reply) (next : World)
+    → IsSound world → clone_at world number ≡ clone → Adds world number triple clone reply next → IsSound next
+adds_sound world number triple Absent reply next sound is p = same_sound world next sound p.1
+adds_sound world number triple Asking reply next sound is p = same_sound world next sound p.1
+adds_sound world number triple Empty reply next sound is p = same_sound world next sound p.1
+adds_sound world number triple (Down stored) reply next sound is p = same_sound world next sound p.1
+adds_sound world number triple (Live stored held) reply next sound is p =
+    subst IsSound (sym p.changes)
+    (made_sound world number stored held p.tick [] (triple ∷ []) sound is p.is_next (λ pair h. absurd h) (λ pair h. absurd h))
+
+-- and so does a `remove`
+removes_sound : (world : World) (number : ℕ) (triple : Triple) (clone : Clone) (reply : Reply) (next : World)
+    → IsSound world → clone_at world number ≡ clone → Removes world number triple clone reply next → IsSound next
+removes_sound world number triple Absent reply next sound is p = same_sound world next sound p.1
+removes_sound world number triple Asking reply next sound is p = same_sound world next sound p.1
+removes_sound world number triple Empty reply next sound is p = same_sound world next sound p.1
+removes_sound world number triple (Down stored) reply next sound is p = same_sound world next sound p.1
+removes_sound world number triple (Live stored held) reply next sound is (pairs, deletes, meant, are, inl nothing) = same_sound world next sound nothing.1.1
+removes_sound world number triple (Live stored held) reply next sound is (pairs, deletes, meant, are, inr made) =
+    let p : Makes world number stored held deletes [] reply next = made.1 in
+    subst IsSound (sym p.changes) (made_sound world number stored held p.tick deletes [] sound is p.is_next
+    (λ pair h. (meant.sound pair ((are.members pair).0 h).0).covered) (λ pair h. (meant.sound pair ((are.members pair).0 h).0).inserted))
+
+-- a range that comes to a live clone leads to a sound world
+receives_sound : (world : World) (number : ℕ) (stored : Stored) (held : List Range) (range : Range) (reply : Reply) (next : World)
+    → IsSound world → clone_at world number ≡ Live stored held → Has world.messages (RangeOf range)
+    → Receives world number stored held range reply next → IsSound next
+receives_sound world number stored held range reply next sound is sent (inl p) = same_sound world next sound p.1.1
+receives_sound world number stored held range reply next sound is sent (inr (inl p)) =
+    subst IsSound (sym p.changes) (taken_sound world number stored held range p.taken p.after p.left sound is (sound.messages (RangeOf range) sent) p.ready p.releases)
+receives_sound world number stored held range reply next sound is sent (inr (inr (back, inl p))) = same_sound world next sound p.1.1
+receives_sound world number stored held range reply next sound is sent (inr (inr (back, inr (inl p)))) = same_sound world next sound p.2.1
+receives_sound world number stored held range reply next sound is sent (inr (inr (back, inr (inr p)))) =
+    subst IsSound (sym p.3) (holding_sound world number stored held range sound is (sound.messages (RangeOf range) sent))
+
+-- a clone that asks for a leaf leads to a sound world
+joins_sound : (world : World) (number : ℕ) (clone : Clone) (reply : Reply) (next : World)
+    → number < clone_count → IsSound world → clone_at world number ≡ clone → Joins world number clone reply next → IsSound next
+joins_sound world number Absent reply next small sound is p =
+    subst IsSound (sym p.1) (asked_sound world number sound small (λ stored. subst (λ (c : Clone). ¬ Keeps c stored) (sym is) (λ h. h)))
+joins_sound world number Asking reply next small sound is p =
+    subst IsSound (sym p.1) (asked_sound world number sound small (λ stored. subst (λ (c : Clone). ¬ Keeps c stored) (sym is) (λ h. h)))
+joins_sound world number Empty reply next small sound is p = same_sound world next sound p.1
+joins_sound world number (Down stored) reply next small sound is p = same_sound world next sound p.1
+joins_sound world number (Live stored held) reply next small sound is p = same_sound world next sound p.1
+
+-- and so does a live clone that is asked for one
+gives_sound : (world : World) (number : ℕ) (stored : Stored) (held : List Range) (id : ℕ) (reply : Reply) (next : World)
+    → IsSound world → clone_at world number ≡ Live stored held → Has world.messages (JoinAsk id)
+    → Gives world number stored held id reply next → IsSound next
+gives_sound world number stored held id reply next sound is sent (inl p) = same_sound world next sound p.1.1
+gives_sound world number stored held id reply next sound is sent (inr (inl p)) = same_sound world next sound p.2.1
+gives_sound world number stored held id reply next sound is sent (inr (inr p)) =
+    subst IsSound (sym p.3) (forked_sound world number stored held id sound is (sound.messages (JoinAsk id) sent))
+
+-- and a leaf that comes to a clone that asks
+adopts_sound : (world : World) (number place id : ℕ) (path : List ℕ) (dots : List Range) (reply : Reply) (next : World)
+    → IsSound world → clone_at world number ≡ Asking → slice_get world.messages place ≡ Some (JoinGive id path dots)
+    → Adopts world number id path dots reply next → IsSound next
+adopts_sound world number place id path dots reply next sound is sent (inl p) =
+    subst IsSound (sym p.2) (joined_sound world number place path dots sound is
+    (subst (λ (k : ℕ). slice_get world.messages place ≡ Some (JoinGive k path dots)) p.0 sent))
+adopts_sound world number place id path dots reply next sound is sent (inr p) = same_sound world next sound p.1.1
+
+-- and so does a message that comes to a clone
+takes_sound : (world : World) (number : ℕ) (message : Message) (clone : Clone) (reply : Reply) (next : World)
+    → IsSound world → clone_at world number ≡ clone → (sent : (place : ℕ) × (slice_get world.messages place ≡ Some message))
+    → Takes world number message clone reply next → IsSound next
+takes_sound world number message Absent reply next sound is sent p = same_sound world next sound p.1
+takes_sound world number (JoinGive id path dots) Asking reply next sound is sent p =
+    adopts_sound world number sent.0 id path dots reply next sound is sent.1 p
+takes_sound world number message Asking reply next sound is sent p = same_sound world next sound p.1
+takes_sound world number message Empty reply next sound is sent p = same_sound world next sound p.1
+takes_sound world number message (Down stored) reply next sound is sent p = same_sound world next sound p.1
+takes_sound world number (RangeOf range) (Live stored held) reply next sound is sent p =
+    receives_sound world number stored held range reply next sound is (stands_at world.messages sent.0 (RangeOf range) sent.1) p
+takes_sound world number (JoinAsk id) (Live stored held) reply next sound is sent p =
+    gives_sound world number stored held id reply next sound is (stands_at world.messages sent.0 (JoinAsk id) sent.1) p
+takes_sound world number (JoinGive id path dots) (Live stored held) reply next sound is sent p = same_sound world next sound p.1
+takes_sound world number message clone reply next sound is sent p = absurd p
+
+-- the message of a number stands at a place of those that were sent
+was_sent : (world : World) (number : ℕ) (message : Message) → message_at world number ≡ Some message
+    → (place : ℕ) × (slice_get world.messages place ≡ Some message)
+was_sent world zero message is = absurd (cc)
+was_sent world (suc before) message is = (before, is)
+
+-- a `deliver` leads to a sound world
+delivers_sound : (world : World) (number : ℕ) (sent : Option Message) (reply : Reply) (next : World)
+    → IsSound world → ((message : Message) → sent ≡ Some message → (place : ℕ) × (slice_get world.messages place ≡ Some message))
+    → MatchOption sent (Answers world NoMessage reply next) (λ message. Takes world number message (clone_at world number) reply next)
+    → IsSound next
+delivers_sound world number None reply next sound has p = same_sound world next sound p.1
+delivers_sound world number (Some message) reply next sound has p =
+    takes_sound world number message (clone_at world number) reply next sound refl (has message refl) p
+
+-- a `show` leaves the world as it was
+pub lists_same : (world : World) (clone : Clone) (reply : Reply) (next : World) → Lists world clone reply next → next ≡ world
+lists_same world Absent reply next p = p.1
+lists_same world Asking reply next p = p.1
+lists_same world Empty reply next p = p.1
+lists_same world (Down stored) reply next p = p.1
+lists_same world (Live stored held) reply next p = p.2.1
+
+-- and so does a `compare` at a live clone
+compares_same : (world : World) (stored : Stored) (clone : Clone) (reply : Reply) (next : World) → ComparesWith world stored clone reply next → next ≡ world
+compares_same world stored Absent reply next p = p.1
+compares_same world stored Asking reply next p = p.1
+compares_same world stored Empty reply next p = p.1
+compares_same world stored (Down other) reply next p = p.1
+compares_same world stored (Live other held) reply next p = p.1
+
+-- whatever the states of its clones are
+pub weighs_same : (world : World) (clone other : Clone) (reply : Reply) (next : World) → Weighs world clone other reply next → next ≡ world
+weighs_same world Absent other reply next p = p.1
+weighs_same world Asking other reply next p = p.1
+weighs_same world Empty other reply next p = p.1
+weighs_same world (Down stored) other reply next p = p.1
+weighs_same world (Live stored held) other reply next p = compares_same world stored other reply next p
+
+-- a step of a sound world, by a command whose clones there are, leads to a sound world
+pub step_sound : StepIsSound
+unfolding Step
+step_sound world (Add number triple) reply next small sound p = adds_sound world number triple (clone_at world number) reply next sound refl p
+step_sound world (Remove number triple) reply next small sound p = removes_sound world number triple (clone_at world number) reply next sound refl p
+step_sound world (Deliver message number) reply next small sound p = delivers_sound world number (message_at world message) reply next sound (was_sent world message) p
+step_sound world (Show number) reply next small sound p = same_sound world next sound (lists_same world (clone_at world number) reply next p)
+step_sound world (Join number) reply next small sound p = joins_sound world number (clone_at world number) reply next small sound refl p
+step_sound world (Compare number other) reply next small sound p =
+    same_sound world next sound (weighs_same world (clone_at world number) (clone_at world other) reply next p)
+
+-- ---- runs
+
+-- the world that runs at a stage is sound
+abbrev IsSoundStage : Stage → Type 0
+IsSoundStage Waiting = Unit {0}
+IsSoundStage (Running world) = IsSound world
+
+-- a line leads from such a stage to another
+acts_sound : (stage : Stage) (line text : List ℕ) (next : Stage) → IsSoundStage stage → Acts stage line text next → IsSoundStage next
+acts_sound Waiting line text next sound (inl p) = subst IsSoundStage (sym p.2) tt
+acts_sound Waiting line text next sound (inr p) = subst IsSoundStage (sym p.changes) (founded_sound p.domain p.count)
+acts_sound (Running world) line text next sound (inl p) = subst IsSoundStage (sym p.2) sound
+acts_sound (Running world) line text next sound (inr p) = subst IsSoundStage (sym p.changes) (step_sound world p.command p.reply p.after (spells_numbers line p.command p.spells) sound p.steps)
+
+-- and so do lines
+lines_sound : (stage : Stage) (lines : List (List ℕ)) (text : List ℕ) (next : Stage) → IsSoundStage stage → Runs stage lines text next → IsSoundStage next
+lines_sound stage [] text next sound p = subst IsSoundStage (sym p.1) sound
+lines_sound stage (line ∷ lines) text next sound p = lines_sound p.2 lines p.1 next (acts_sound stage line p.0 p.2 sound p.3) p.4
+
+-- each world that a schedule reaches is sound
+pub runs_sound : RunsAreSound
+runs_sound lines text world p = lines_sound Waiting lines text (Running world) tt p
+
+-- ---- what a reader may take from that
+
+-- clones that know the same dots have the same pairs
+pub same_pairs : SamePairs
+same_pairs history known other pairs others here there p q =
+    one_meaning history other pairs others (same_known history known other pairs here there p) q
+
+-- no two clones of a sound world hold one leaf
+pub one_leaf : OneLeaf
+one_leaf world sound number other stored kept differ here there =
+    apart_differ stored.path kept.path (sound.apart number other stored kept differ here there)

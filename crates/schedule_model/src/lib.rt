@@ -1,0 +1,27 @@
+//! What a schedule is: its lines and commands, the steps that they make of a world, its runs, its verdict, and what is promised
+//! of the world that it leads to. Its functions have no code: each carries a law as its contract.
+#![tactic(auto)]
+
+mod soundness;
+mod verdicts;
+
+use rdf_terms::Triple;
+pub use soundness::{answers_survive, promises_kept, sound_worlds};
+pub use verdicts::{one_reading, one_step, one_verdict};
+
+/// A command of a schedule. The numbers of clones are below `CLONE_COUNT`, those of messages begin with 1.
+#[derive(Debug, Drop)]
+pub enum Command {
+    /// `add C TRIPLE`: clone C inserts the triple.
+    Add(u8, Triple),
+    /// `remove C TRIPLE`: clone C deletes the triple.
+    Remove(u8, Triple),
+    /// `deliver M C`: message M comes to clone C.
+    Deliver(u64, u8),
+    /// `show C`: the pairs of clone C.
+    Show(u8),
+    /// `compare C C`: the dots that two clones know, side by side.
+    Compare(u8, u8),
+    /// `join C`: clone C asks for a leaf.
+    Join(u8),
+}
