@@ -1,6 +1,7 @@
 pub mod Characters
 pub mod ReplyText
 pub mod Step
+pub mod DurableSteps
 pub mod Schedule
 pub mod Runs
 pub mod WorldStep
@@ -16,3 +17,4 @@ pub mod RunsLaws
 pub mod StepSoundLaws
 pub mod AnswersLaws
 pub mod PromisesLaws
+pub mod DurableLaws

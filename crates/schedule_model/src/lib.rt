@@ -2,9 +2,11 @@
 //! of the world that it leads to. Its functions have no code: each carries a law as its contract.
 #![tactic(auto)]
 
+mod durable;
 mod soundness;
 mod verdicts;
 
+pub use durable::durable_steps_lead;
 use rdf_terms::Triple;
 pub use soundness::{answers_survive, promises_kept, sound_worlds};
 pub use verdicts::{one_reading, one_step, one_verdict};

@@ -1,0 +1,309 @@
+-- The durable steps of a command lead to the next world.
+use Rattle.std.specs.Prelude.{◌≡◌, ◌≢◌, ℕ, ◌<◌, List, [], ◌∷◌, ◌++◌, ◌+◌, Option, Some, None, MatchOption, map, length}
+use Rattle.std.proofs.Common.{refl, sym, ◌∙◌, ap, arith, inl, inr, subst, get_or, set, append-nil, append_assoc}
+use Rattle.std.proofs.lemmas.List.{get_or-set_same, get_or-set_other}
+use Rattle.rdf_terms.specs.declared.terms.Triple.{Triple}
+use Rattle.tree_clock.specs.declared.dots.Range.{Range}
+use Rattle.mld_ops.specs.declared.tagged.Tagged.{Tagged}
+use Rattle.mld_ops.specs.History.{Operation, dot_at}
+use Rattle.schedule_model.specs.declared.Command.{Command}
+use Rattle.schedule_model.specs.declared.Command.TheVariants.{Add, Remove, Deliver, Show, Compare, Join}
+use Rattle.mld_model.specs.Clone.{Clone, Absent, Asking, Empty, Down, Live, Stored, known_of, with_range, Releases}
+use Rattle.mld_model.specs.World.{World, Message, RangeOf, JoinAsk, JoinGive, message_at, clone_count, clone_at}
+use Rattle.mld_model.specs.Reply.{Reply, Did, Took, Answer, Joined, NoMessage, Ignored, IsAbsent, IsDown}
+use Rattle.mld_model.specs.CloneStep.{Answers, Makes, Adds, Removes, Accepts, HoldsBack, Receives, Joins, left_half, Gives, joined_with, Adopts, Takes, Lists, ComparesWith, Weighs}
+use Rattle.mld_model.specs.Durable.{DurableStep, AppendsMade, AppendsTaken, kept_of, kept_after, history_after}
+use Rattle.schedule_model.specs.Step.{Step}
+use Rattle.schedule_model.specs.DurableSteps.{done_at, MakesDurably, taking_steps, giving_steps, joining_steps, message_steps, DurableSteps, LeadsDurably, DurableStepsLead, OneDurableList}
+
+-- ---- what durable steps lead to
+
+-- the steps give what the clone of the number keeps in the next world, and the history; the other clones keep what they kept
+record Leads (world : World) (number : ℕ) (steps : List DurableStep) (next : World) : Type 0 where
+  pub kept : kept_after (kept_of (clone_at world number)) steps ≡ kept_of (clone_at next number)
+  pub made : history_after world.history steps ≡ next.history
+  pub others : (other : ℕ) → other ≢ number → kept_of (clone_at next other) ≡ kept_of (clone_at world other)
+
+-- no steps lead to a world that is left as it was
+same_leads : (world next : World) (number : ℕ) → next ≡ world → Leads world number [] next
+same_leads world next number same = record {
+  kept = ap (λ (w : World). kept_of (clone_at w number)) (sym same);
+  made = ap (λ (w : World). w.history) (sym same);
+  others = λ other differs. ap (λ (w : World). kept_of (clone_at w other)) same;
+}
+
+-- an answer that changes nothing, and has no steps, leads to such a world
+answered_leads : (world next : World) (number : ℕ) (steps_of : Reply → List DurableStep) (answer reply : Reply)
+    → steps_of answer ≡ [] → Answers world answer reply next → Leads world number (steps_of reply) next
+answered_leads world next number steps_of answer reply none p =
+    subst (λ (steps : List DurableStep). Leads world number steps next) (sym (ap steps_of p.0 ∙ none)) (same_leads world next number p.1)
+
+-- the steps lead to a world in which one clone is another, and keeps what they give
+changed_leads : (world next : World) (number : ℕ) (steps : List DurableStep) (clone now : Clone)
+    → number < length world.clones → clone_at world number ≡ clone → next.clones ≡ set world.clones number now
+    → kept_after (kept_of clone) steps ≡ kept_of now → history_after world.history steps ≡ next.history → Leads world number steps next
+changed_leads world next number steps clone now inside is clones kept made =
+    let at : (k : ℕ) → clone_at next k ≡ get_or (set world.clones number now) k Absent = λ k. ap (λ (cs : List Clone). get_or cs k Absent) clones in
+    record {
+      kept = ap (λ (c : Clone). kept_after (kept_of c) steps) is ∙ kept
+          ∙ ap kept_of (sym (at number ∙ get_or-set_same world.clones number now Absent inside));
+      made = made;
+      others = λ other differs. ap kept_of (at other ∙ get_or-set_other world.clones number other now Absent differs);
+    }
+
+-- ---- ranges that are taken
+
+-- what a clone keeps that took the ranges has them at the end of its journal
+pub releases_journal : (history : List Operation) (stored : Stored) (held taken : List Range) (after : Stored) (left : List Range)
+    → Releases history stored held taken after left
+    → after ≡ record { path = stored.path; base = stored.base; journal = stored.journal ++ taken }
+releases_journal history stored held [] after left p =
+    p.2 ∙ (λ i. record { path = stored.path; base = stored.base; journal = sym (append-nil stored.journal) i })
+releases_journal history stored held (range ∷ taken) after left p =
+    releases_journal history (with_range stored range) p.1 taken after left p.4
+    ∙ (λ i. record { path = stored.path; base = stored.base; journal = append_assoc stored.journal (range ∷ []) taken i })
+
+-- the appends of the ranges that are released give what the clone keeps then
+pub releases_kept : (history : List Operation) (stored : Stored) (held taken : List Range) (after : Stored) (left : List Range)
+    → Releases history stored held taken after left → kept_after (Some stored) (map (λ range. AppendsTaken range) taken) ≡ Some after
+releases_kept history stored held [] after left p = ap (λ (s : Stored). Some s) (sym p.2)
+releases_kept history stored held (range ∷ taken) after left p = releases_kept history (with_range stored range) p.1 taken after left p.4
+
+-- they make no operation
+pub taking_history : (history : List Operation) (taken : List Range) → history_after history (map (λ range. AppendsTaken range) taken) ≡ history
+taking_history history [] = refl
+taking_history history (range ∷ taken) = taking_history history taken
+
+-- ---- local changes
+
+-- there are durable steps of a local change that lead to the next world
+abbrev MakesAndLeads : World → ℕ → Reply → World → Type 0
+MakesAndLeads world number reply next = (steps : List DurableStep) × MakesDurably world reply next steps × Leads world number steps next
+
+-- there are none where nothing changes
+unmade_leads : (world next : World) (number : ℕ) (answer reply : Reply)
+    → MakesDurably world answer next [] → Answers world answer reply next → MakesAndLeads world number reply next
+unmade_leads world next number answer reply none p =
+    ([], subst (λ (r : Reply). MakesDurably world r next []) (sym p.0) none, same_leads world next number p.1)
+
+-- where an operation is made, its append is the one step
+makes_leads : (world : World) (number : ℕ) (stored : Stored) (held : List Range) (deletes : List Tagged) (inserts : List Triple) (reply : Reply) (next : World)
+    → number < length world.clones → clone_at world number ≡ Live stored held
+    → Makes world number stored held deletes inserts reply next → MakesAndLeads world number reply next
+makes_leads world number stored held deletes inserts reply next inside is p =
+    let operation : Operation = record { dot = dot_at stored.path p.tick; causes = known_of stored; deletes = deletes; inserts = inserts } in
+    let steps : List DurableStep = AppendsMade operation ∷ [] in
+    let joined : next.history ≡ operation ∷ world.history = ap (λ (w : World). w.history) p.changes in (
+      steps,
+      subst (λ (r : Reply). MakesDurably world r next steps) (sym p.replies) (record { operation = operation; joined = joined; one = refl }),
+      changed_leads world next number steps (Live stored held) _ inside is (ap (λ (w : World). w.clones) p.changes) refl (sym joined),
+    )
+
+-- an `add` has such steps
+adds_lead : (world : World) (number : ℕ) (triple : Triple) (clone : Clone) (reply : Reply) (next : World)
+    → number < length world.clones → clone_at world number ≡ clone → Adds world number triple clone reply next → MakesAndLeads world number reply next
+adds_lead world number triple Absent reply next inside is p = unmade_leads world next number _ reply refl p
+adds_lead world number triple Asking reply next inside is p = unmade_leads world next number _ reply refl p
+adds_lead world number triple Empty reply next inside is p = unmade_leads world next number _ reply refl p
+adds_lead world number triple (Down stored) reply next inside is p = unmade_leads world next number _ reply refl p
+adds_lead world number triple (Live stored held) reply next inside is p = makes_leads world number stored held [] (triple ∷ []) reply next inside is p
+
+-- and so has a `remove`
+removes_lead : (world : World) (number : ℕ) (triple : Triple) (clone : Clone) (reply : Reply) (next : World)
+    → number < length world.clones → clone_at world number ≡ clone → Removes world number triple clone reply next → MakesAndLeads world number reply next
+removes_lead world number triple Absent reply next inside is p = unmade_leads world next number _ reply refl p
+removes_lead world number triple Asking reply next inside is p = unmade_leads world next number _ reply refl p
+removes_lead world number triple Empty reply next inside is p = unmade_leads world next number _ reply refl p
+removes_lead world number triple (Down stored) reply next inside is p = unmade_leads world next number _ reply refl p
+removes_lead world number triple (Live stored held) reply next inside is (pairs, deletes, meant, are, inl nothing) =
+    unmade_leads world next number _ reply refl nothing.1
+removes_lead world number triple (Live stored held) reply next inside is (pairs, deletes, meant, are, inr made) =
+    makes_leads world number stored held deletes [] reply next inside is made.1
+
+-- ---- messages
+
+-- a range that a live clone takes leads to the next world by the appends of all that is taken
+accepts_lead : (world : World) (number : ℕ) (stored : Stored) (held : List Range) (range : Range) (reply : Reply) (next : World)
+    → number < length world.clones → clone_at world number ≡ Live stored held
+    → Accepts world number stored held range reply next → Leads world number (taking_steps reply) next
+accepts_lead world number stored held range reply next inside is p =
+    subst (λ (r : Reply). Leads world number (taking_steps r) next) (sym p.replies)
+    (changed_leads world next number (taking_steps (Took (range ∷ p.taken))) (Live stored held) (Live p.after p.left) inside is (ap (λ (w : World). w.clones) p.changes)
+    (releases_kept world.history (with_range stored range) held p.taken p.after p.left p.releases)
+    (taking_history world.history (range ∷ p.taken) ∙ ap (λ (w : World). w.history) (sym p.changes)))
+
+-- a range that is held back leads there by none
+holds_lead : (world : World) (number : ℕ) (stored : Stored) (held : List Range) (range : Range) (reply : Reply) (next : World)
+    → number < length world.clones → clone_at world number ≡ Live stored held
+    → HoldsBack world number stored held range reply next → Leads world number (taking_steps reply) next
+holds_lead world number stored held range reply next inside is (inl p) = answered_leads world next number taking_steps _ reply refl p.1
+holds_lead world number stored held range reply next inside is (inr (inl p)) = answered_leads world next number taking_steps _ reply refl p.2
+holds_lead world number stored held range reply next inside is (inr (inr p)) =
+    subst (λ (r : Reply). Leads world number (taking_steps r) next) (sym p.2)
+    (changed_leads world next number [] (Live stored held) (Live stored (held ++ range ∷ [])) inside is (ap (λ (w : World). w.clones) p.3)
+    refl (ap (λ (w : World). w.history) (sym p.3)))
+
+-- so a range that comes to a live clone leads there by the appends of what is taken
+receives_lead : (world : World) (number : ℕ) (stored : Stored) (held : List Range) (range : Range) (reply : Reply) (next : World)
+    → number < length world.clones → clone_at world number ≡ Live stored held
+    → Receives world number stored held range reply next → Leads world number (taking_steps reply) next
+receives_lead world number stored held range reply next inside is (inl p) = answered_leads world next number taking_steps _ reply refl p.1
+receives_lead world number stored held range reply next inside is (inr (inl p)) = accepts_lead world number stored held range reply next inside is p
+receives_lead world number stored held range reply next inside is (inr (inr p)) = holds_lead world number stored held range reply next inside is p.1
+
+-- a live clone that is asked for a leaf leads there by the append of the fork, if it forks
+gives_lead : (world : World) (number : ℕ) (stored : Stored) (held : List Range) (id : ℕ) (reply : Reply) (next : World)
+    → number < length world.clones → clone_at world number ≡ Live stored held
+    → Gives world number stored held id reply next → Leads world number (giving_steps reply) next
+gives_lead world number stored held id reply next inside is (inl p) = answered_leads world next number giving_steps _ reply refl p.1
+gives_lead world number stored held id reply next inside is (inr (inl p)) = answered_leads world next number giving_steps _ reply refl p.2
+gives_lead world number stored held id reply next inside is (inr (inr p)) =
+    subst (λ (r : Reply). Leads world number (giving_steps r) next) (sym p.2)
+    (changed_leads world next number (giving_steps (Answer ((length world.messages + 1) ∷ []))) (Live stored held) (Live (left_half stored) held) inside is
+    (ap (λ (w : World). w.clones) p.3) refl (ap (λ (w : World). w.history) (sym p.3)))
+
+-- one who asks and takes a leaf leads there by creating what it keeps
+adopts_lead : (world : World) (number id : ℕ) (path : List ℕ) (dots : List Range) (reply : Reply) (next : World)
+    → number < length world.clones → clone_at world number ≡ Asking
+    → Adopts world number id path dots reply next → Leads world number (joining_steps path dots reply) next
+adopts_lead world number id path dots reply next inside is (inl p) =
+    subst (λ (r : Reply). Leads world number (joining_steps path dots r) next) (sym p.1)
+    (changed_leads world next number (joining_steps path dots (Joined path)) Asking (Live (joined_with path dots) []) inside is
+    (ap (λ (w : World). w.clones) p.2) refl (ap (λ (w : World). w.history) (sym p.2)))
+adopts_lead world number id path dots reply next inside is (inr p) = answered_leads world next number (joining_steps path dots) _ reply refl p.1
+
+-- an answer that has no steps for any kind of message has none for this one
+quiet : (message : Message) (answer : Reply) → taking_steps answer ≡ [] → giving_steps answer ≡ []
+    → ((path : List ℕ) (dots : List Range) → joining_steps path dots answer ≡ []) → message_steps message answer ≡ []
+quiet (RangeOf range) answer takes gives joins = takes
+quiet (JoinAsk id) answer takes gives joins = gives
+quiet (JoinGive id path dots) answer takes gives joins = joins path dots
+quiet message answer takes gives joins = refl
+
+-- a message that comes to a clone leads there by its steps
+takes_lead : (world : World) (number : ℕ) (message : Message) (clone : Clone) (reply : Reply) (next : World)
+    → number < length world.clones → clone_at world number ≡ clone
+    → Takes world number message clone reply next → Leads world number (message_steps message reply) next
+takes_lead world number message Absent reply next inside is p =
+    answered_leads world next number (message_steps message) IsAbsent reply (quiet message IsAbsent refl refl (λ path dots. refl)) p
+takes_lead world number (JoinGive id path dots) Asking reply next inside is p = adopts_lead world number id path dots reply next inside is p
+takes_lead world number message Asking reply next inside is p =
+    answered_leads world next number (message_steps message) Ignored reply (quiet message Ignored refl refl (λ path dots. refl)) p
+takes_lead world number message Empty reply next inside is p =
+    answered_leads world next number (message_steps message) IsDown reply (quiet message IsDown refl refl (λ path dots. refl)) p
+takes_lead world number message (Down stored) reply next inside is p =
+    answered_leads world next number (message_steps message) IsDown reply (quiet message IsDown refl refl (λ path dots. refl)) p
+takes_lead world number (RangeOf range) (Live stored held) reply next inside is p = receives_lead world number stored held range reply next inside is p
+takes_lead world number (JoinAsk id) (Live stored held) reply next inside is p = gives_lead world number stored held id reply next inside is p
+takes_lead world number (JoinGive id path dots) (Live stored held) reply next inside is p =
+    answered_leads world next number (joining_steps path dots) Ignored reply refl p
+takes_lead world number message clone reply next inside is p = absurd p
+
+-- the durable steps of a `deliver` of this message, if there is one
+abbrev DeliversDurably : Option Message → Reply → List DurableStep → Type 0
+DeliversDurably sent reply steps = MatchOption sent (steps ≡ []) (λ message. steps ≡ message_steps message reply)
+
+-- a `deliver` has durable steps that lead to the next world
+delivers_lead : (world : World) (number : ℕ) (sent : Option Message) (reply : Reply) (next : World) → number < length world.clones
+    → MatchOption sent (Answers world NoMessage reply next) (λ message. Takes world number message (clone_at world number) reply next)
+    → (steps : List DurableStep) × DeliversDurably sent reply steps × Leads world number steps next
+delivers_lead world number None reply next inside p = ([], refl, same_leads world next number p.1)
+delivers_lead world number (Some message) reply next inside p =
+    (message_steps message reply, refl, takes_lead world number message (clone_at world number) reply next inside refl p)
+
+-- ---- asking, and looking
+
+-- a clone that asks for a leaf leads there by none
+joins_lead : (world : World) (number : ℕ) (clone : Clone) (reply : Reply) (next : World)
+    → number < length world.clones → clone_at world number ≡ clone → Joins world number clone reply next → Leads world number [] next
+joins_lead world number Absent reply next inside is p =
+    changed_leads world next number [] Absent Asking inside is (ap (λ (w : World). w.clones) p.1) refl (ap (λ (w : World). w.history) (sym p.1))
+joins_lead world number Asking reply next inside is p =
+    changed_leads world next number [] Asking Asking inside is (ap (λ (w : World). w.clones) p.1) refl (ap (λ (w : World). w.history) (sym p.1))
+joins_lead world number Empty reply next inside is p = same_leads world next number p.1
+joins_lead world number (Down stored) reply next inside is p = same_leads world next number p.1
+joins_lead world number (Live stored held) reply next inside is p = same_leads world next number p.1
+
+-- a `show` leaves the world as it was
+lists_lead : (world : World) (number : ℕ) (clone : Clone) (reply : Reply) (next : World) → Lists world clone reply next → Leads world number [] next
+lists_lead world number (Live stored held) reply next p = same_leads world next number p.2.1
+lists_lead world number Absent reply next p = same_leads world next number p.1
+lists_lead world number Asking reply next p = same_leads world next number p.1
+lists_lead world number Empty reply next p = same_leads world next number p.1
+lists_lead world number (Down stored) reply next p = same_leads world next number p.1
+
+-- and so does a `compare` at a live clone
+compares_lead : (world : World) (number : ℕ) (stored : Stored) (clone : Clone) (reply : Reply) (next : World)
+    → ComparesWith world stored clone reply next → Leads world number [] next
+compares_lead world number stored Absent reply next p = same_leads world next number p.1
+compares_lead world number stored Asking reply next p = same_leads world next number p.1
+compares_lead world number stored Empty reply next p = same_leads world next number p.1
+compares_lead world number stored (Down other) reply next p = same_leads world next number p.1
+compares_lead world number stored (Live other held) reply next p = same_leads world next number p.1
+
+-- whatever the states of its clones are
+weighs_lead : (world : World) (number : ℕ) (clone other : Clone) (reply : Reply) (next : World)
+    → Weighs world clone other reply next → Leads world number [] next
+weighs_lead world number Absent other reply next p = same_leads world next number p.1
+weighs_lead world number Asking other reply next p = same_leads world next number p.1
+weighs_lead world number Empty other reply next p = same_leads world next number p.1
+weighs_lead world number (Down stored) other reply next p = same_leads world next number p.1
+weighs_lead world number (Live stored held) other reply next p = compares_lead world number stored other reply next p
+
+-- ---- the laws
+
+-- steps of a command that lead there
+leads_durably : (world : World) (command : Command) (reply : Reply) (next : World) (steps : List DurableStep)
+    → DurableSteps world command reply next steps → Leads world (done_at command) steps next → LeadsDurably world command reply next
+leads_durably world command reply next steps are leads =
+    record { steps = steps; are = are; kept = leads.kept; made = leads.made; others = leads.others }
+
+-- a number of a clone is one of the places
+place_of : (world : World) (number : ℕ) → number < clone_count → length world.clones ≡ clone_count → number < length world.clones
+place_of world number small count = omega (arith, small, count)
+
+-- each step of a world by a command whose clones there are has durable steps that lead to the next world
+pub durable_steps_lead : DurableStepsLead
+unfolding Step DurableSteps
+durable_steps_lead world (Add number triple) reply next small count p =
+    let made = adds_lead world number triple (clone_at world number) reply next (place_of world number small count) refl p in
+    leads_durably world (Add number triple) reply next made.0 made.1 made.2
+durable_steps_lead world (Remove number triple) reply next small count p =
+    let made = removes_lead world number triple (clone_at world number) reply next (place_of world number small count) refl p in
+    leads_durably world (Remove number triple) reply next made.0 made.1 made.2
+durable_steps_lead world (Deliver message number) reply next small count p =
+    let given = delivers_lead world number (message_at world message) reply next (place_of world number small count) p in
+    leads_durably world (Deliver message number) reply next given.0 given.1 given.2
+durable_steps_lead world (Show number) reply next small count p =
+    leads_durably world (Show number) reply next [] refl (lists_lead world number (clone_at world number) reply next p)
+durable_steps_lead world (Join number) reply next small count p =
+    leads_durably world (Join number) reply next [] refl (joins_lead world number (clone_at world number) reply next (place_of world number small count) refl p)
+durable_steps_lead world (Compare number other) reply next small count p =
+    leads_durably world (Compare number other) reply next [] refl (weighs_lead world number (clone_at world number) (clone_at world other) reply next p)
+
+-- one operation joined the history
+one_operation : (history next : List Operation) (operation other : Operation) → next ≡ operation ∷ history → next ≡ other ∷ history → operation ≡ other
+one_operation history next operation other p q = cc
+
+-- the steps of a local change are one list
+makes_once : (world : World) (reply : Reply) (next : World) (steps other : List DurableStep)
+    → MakesDurably world reply next steps → MakesDurably world reply next other → steps ≡ other
+makes_once world (Did dot message) next steps other p q =
+    p.one ∙ ap (λ (operation : Operation). AppendsMade operation ∷ []) (one_operation world.history next.history p.operation q.operation p.joined q.joined) ∙ sym q.one
+makes_once world reply next steps other p q = p ∙ sym q
+
+-- and so are those of a `deliver`
+delivers_once : (sent : Option Message) (reply : Reply) (steps other : List DurableStep)
+    → DeliversDurably sent reply steps → DeliversDurably sent reply other → steps ≡ other
+delivers_once None reply steps other p q = p ∙ sym q
+delivers_once (Some message) reply steps other p q = p ∙ sym q
+
+-- the durable steps of a step are one list
+pub one_durable_list : OneDurableList
+unfolding DurableSteps
+one_durable_list world (Add number triple) reply next steps other p q = makes_once world reply next steps other p q
+one_durable_list world (Remove number triple) reply next steps other p q = makes_once world reply next steps other p q
+one_durable_list world (Deliver message number) reply next steps other p q = delivers_once (message_at world message) reply steps other p q
+one_durable_list world (Show number) reply next steps other p q = p ∙ sym q
+one_durable_list world (Join number) reply next steps other p q = p ∙ sym q
+one_durable_list world (Compare number second) reply next steps other p q = p ∙ sym q

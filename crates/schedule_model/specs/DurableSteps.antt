@@ -1,0 +1,84 @@
+-- The durable steps of a command, on the device of its clone.
+use Rattle.std.specs.Prelude.{◌≡◌, ◌≢◌, ℕ, List, [], ◌∷◌, map, length, MatchOption}
+use Rattle.tree_clock.specs.declared.dots.Range.{Range}
+use Rattle.mld_ops.specs.History.{Operation}
+use Rattle.schedule_model.specs.declared.Command.{Command}
+use Rattle.schedule_model.specs.declared.Command.TheVariants.{Add, Remove, Deliver, Show, Compare, Join}
+use Rattle.mld_model.specs.CloneStep.{joined_with}
+use Rattle.mld_model.specs.World.{World, Message, RangeOf, Want, SnapshotOf, JoinAsk, JoinGive, message_at, clone_at, clone_count}
+use Rattle.mld_model.specs.Reply.{Reply, Did, Took, Answer, Joined}
+use Rattle.mld_model.specs.Durable.{DurableStep, AppendsMade, AppendsTaken, AppendsFork, Creates, kept_of, kept_after, history_after}
+use Rattle.schedule_model.specs.Step.{HasCloneNumbers, Step}
+
+-- the number of the clone at which a command is done; a `compare` is done at the first of its two
+abbrev pub done_at : Command → ℕ
+done_at (Add number triple) = number
+done_at (Remove number triple) = number
+done_at (Deliver message number) = number
+done_at (Show number) = number
+done_at (Compare number other) = number
+done_at (Join number) = number
+
+-- one step: the entry of the operation that joined the history is appended
+pub record AppendsOperation (world next : World) (steps : List DurableStep) : Type 0 where
+  pub operation : Operation
+  pub joined : next.history ≡ operation ∷ world.history
+  pub one : steps ≡ AppendsMade operation ∷ []
+
+-- a local change has that one step where the reply tells of an operation, else none
+abbrev pub MakesDurably : World → Reply → World → List DurableStep → Type 0
+MakesDurably world (Did dot message) next steps = AppendsOperation world next steps
+MakesDurably world reply next steps = steps ≡ []
+
+-- the ranges that a reply tells of are appended in their order
+abbrev pub taking_steps : Reply → List DurableStep
+taking_steps (Took ranges) = map (λ range. AppendsTaken range) ranges
+taking_steps reply = []
+
+-- a fork is appended where the reply tells of the leaf that was sent
+abbrev pub giving_steps : Reply → List DurableStep
+giving_steps (Answer numbers) = AppendsFork ∷ []
+giving_steps reply = []
+
+-- what the clone keeps is created where the reply tells that it joined
+abbrev pub joining_steps : List ℕ → List Range → Reply → List DurableStep
+joining_steps path dots (Joined leaf) = Creates (joined_with path dots) ∷ []
+joining_steps path dots reply = []
+
+-- the steps of a clone that a message came to, by its reply; wants and snapshots are never sent yet
+abbrev pub message_steps : Message → Reply → List DurableStep
+message_steps (RangeOf range) reply = taking_steps reply
+message_steps (JoinAsk id) reply = giving_steps reply
+message_steps (JoinGive id path dots) reply = joining_steps path dots reply
+message_steps (Want dots) reply = []
+message_steps (SnapshotOf dots) reply = []
+
+-- the durable steps of a command: the world before, the command, the reply, the world after, the steps
+unfoldable pub DurableSteps : World → Command → Reply → World → List DurableStep → Type 0
+DurableSteps world (Add number triple) reply next steps = MakesDurably world reply next steps
+DurableSteps world (Remove number triple) reply next steps = MakesDurably world reply next steps
+DurableSteps world (Deliver message number) reply next steps =
+    MatchOption (message_at world message) (steps ≡ []) (λ sent. steps ≡ message_steps sent reply)
+DurableSteps world (Show number) reply next steps = steps ≡ []
+DurableSteps world (Join number) reply next steps = steps ≡ []
+DurableSteps world (Compare number other) reply next steps = steps ≡ []
+
+-- the step of the world has durable steps, and all of them together lead to the next world
+pub record LeadsDurably (world : World) (command : Command) (reply : Reply) (next : World) : Type 0 where
+  pub steps : List DurableStep
+  pub are : DurableSteps world command reply next steps
+  -- they give what the clone keeps then, and the history
+  pub kept : kept_after (kept_of (clone_at world (done_at command))) steps ≡ kept_of (clone_at next (done_at command))
+  pub made : history_after world.history steps ≡ next.history
+  -- what the other clones keep stays as it was
+  pub others : (other : ℕ) → other ≢ done_at command → kept_of (clone_at next other) ≡ kept_of (clone_at world other)
+
+-- each step of a world by a command whose clones there are has durable steps that lead to the next world
+abbrev pub DurableStepsLead : Type 0
+DurableStepsLead = (world : World) (command : Command) (reply : Reply) (next : World)
+    → HasCloneNumbers command → length world.clones ≡ clone_count → Step world command reply next → LeadsDurably world command reply next
+
+-- the durable steps of a step are one list
+abbrev pub OneDurableList : Type 0
+OneDurableList = (world : World) (command : Command) (reply : Reply) (next : World) (steps other : List DurableStep)
+    → DurableSteps world command reply next steps → DurableSteps world command reply next other → steps ≡ other
