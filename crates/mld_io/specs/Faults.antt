@@ -7,9 +7,13 @@ use Rattle.mld_io.specs.declared.faults.LineFault.TheVariants as line
 use Rattle.mld_io.specs.declared.faults.WriteFault.{WriteFault}
 use Rattle.mld_io.specs.declared.faults.WriteFault.TheVariants as write
 
+-- a count after one more, which stops at its type's end
+abbrev pub counted : ℕ → ℕ
+counted n = min (n + 1) (2 ^ 64 - 1)
+
 -- the count of faults rose, or stands at its type's end
 abbrev pub Rose : ℕ → ℕ → Type 0
-Rose before now = min (before + 1) (2 ^ 64 - 1) ≤ now
+Rose before now = counted before ≤ now
 
 -- a count of faults never falls, a call that failed has raised it, and no other has
 pub record HasCause {T E : Type 0} (before now : ℕ) (result : Result T E) : Type 0 where

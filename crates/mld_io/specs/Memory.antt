@@ -1,12 +1,9 @@
 -- Sources and sinks in memory.
-use Rattle.std.specs.Prelude.{◌≡◌, ℕ, ◌+◌, ◌-◌, ◌^◌, min, List, ◌++◌, length, drop, Result, Ok, Err}
+use Rattle.std.specs.Prelude.{◌≡◌, ℕ, min, List, ◌++◌, length, drop, Result, Ok, Err}
 use Rattle.mld_io.specs.declared.faults.Failed.{Failed}
 use Rattle.mld_io.specs.declared.faults.IoFault.{IoFault}
 use Rattle.mld_io.specs.declared.faults.IoFault.TheVariants as io
-
--- a count after one more, which stops at its type's end
-abbrev pub counted : ℕ → ℕ
-counted n = min (n + 1) (2 ^ 64 - 1)
+use Rattle.mld_io.specs.Faults.{counted}
 
 -- what a source in memory is: the bytes left, the faults, the number of the next call, and the numbers of those that fail
 pub record SourceValue : Type 0 where

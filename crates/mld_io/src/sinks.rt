@@ -1,5 +1,5 @@
 //! Where bytes go.
-ghost use Rattle.std.specs.Prelude.{ℕ, ◌<◌, List, Option, length, take, IfOk, OnOk, OnErr};
+ghost use Rattle.std.specs.Prelude.{◌≡◌, ℕ, ◌<◌, List, [], Option, length, take, IsOk, IfOk, OnOk, OnErr};
 ghost use Rattle.std.specs.Io.{WritesAtMost};
 ghost use Rattle.std.specs.Io.KnownBytes.{Appends, WriteAppends};
 ghost use Rattle.mld_io.specs.Faults.{HasSinkCause, HasWriteCause};
@@ -28,7 +28,8 @@ pub trait Sink {
         ensures cause { HasSinkCause (faults self.old) (faults self.new) result };
 }
 
-/// Writes the whole piece, in as few calls as the sink takes. An empty piece writes nothing.
+/// Writes the whole piece: each call gives the sink all that it has not taken yet, so a sink that
+/// takes all is called once. An empty piece leaves the sink as it was.
 ///
 /// # Errors
 ///
@@ -37,6 +38,7 @@ pub fn write_all<K: Sink>(sink: &mut K, piece: &[u8]) -> Result<(), WriteFault>
     ensures ok { OnOk result (Appends (K.held sink.old) (K.held sink.new) piece.now) }
     ensures err { OnErr result ((n : ℕ) × Appends (K.held sink.old) (K.held sink.new) (take n piece.now)) }
     ensures cause { HasWriteCause (K.faults sink.old) (K.faults sink.new) result }
+    ensures untouched { piece.now ≡ [] → (sink.new ≡ sink.old) × IsOk result }
 {
     let mut done = 0;
     while done < piece.len() {

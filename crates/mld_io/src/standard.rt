@@ -1,10 +1,12 @@
 //! Sources and sinks over the readers and writers of std.
 ghost use Rattle.std.specs.Prelude.{◌≡◌};
-ghost use Rattle.mld_io.specs.Standard.{reader_left, reader_faults, writer_held, writer_faults};
+ghost use Rattle.mld_io.specs.Faults.{HasCause, HasSinkCause};
+ghost use Rattle.mld_io.specs.Standard.{reader_left, reader_faults, writer_held, writer_faults, TellsRead, TellsWrite};
 
 use crate::faults::{Failed, IoFault};
 use crate::sinks::Sink;
 use crate::sources::Source;
+use std::io;
 use std::io::{Read, Write};
 
 /// The source over a reader, which should be buffered. It tells the bytes that the reader tells.
@@ -30,12 +32,22 @@ impl<R: Read + Drop> Source for StdSource<R> {
     ghost faults = { reader_faults };
 
     fn read(&mut self, out: &mut [u8]) -> Result<usize, Failed> {
-        match self.reader.read(out) {
-            Ok(count) => Ok(count),
-            Err(_) => {
-                self.faults = self.faults.saturating_add(1);
-                Err(Failed)
-            }
+        let answer = self.reader.read(out);
+        tell_read(answer, &mut self.faults)
+    }
+}
+
+/// Tells a read of std: the count that it answered, where 0 is the end, or its failure, which is
+/// counted.
+fn tell_read(answer: io::Result<usize>, faults: &mut u64) -> Result<usize, Failed>
+    ensures told { TellsRead answer faults.old result faults.new }
+    ensures cause { HasCause faults.old faults.new result }
+{
+    match answer {
+        Ok(count) => Ok(count),
+        Err(_) => {
+            *faults = faults.saturating_add(1);
+            Err(Failed)
         }
     }
 }
@@ -62,14 +74,24 @@ impl<W: Write + Drop> Sink for StdSink<W> {
 
     ghost faults = { writer_faults };
 
-    /// A writer that takes none of a piece that is not empty has failed.
+    /// Gives the writer the whole piece, and answers how much of it the writer took.
     fn write(&mut self, piece: &[u8]) -> Result<usize, IoFault> {
-        match self.writer.write(piece) {
-            Ok(count) if count > 0 || piece.is_empty() => Ok(count),
-            _ => {
-                self.faults = self.faults.saturating_add(1);
-                Err(IoFault::Failed)
-            }
+        let answer = self.writer.write(piece);
+        tell_write(answer, piece.len(), &mut self.faults)
+    }
+}
+
+/// Tells a write of std of so many bytes: the count that it answered, or its failure, which is
+/// counted. A writer that took none of a piece that is not empty has failed.
+fn tell_write(answer: io::Result<usize>, size: usize, faults: &mut u64) -> Result<usize, IoFault>
+    ensures told { TellsWrite answer size faults.old result faults.new }
+    ensures cause { HasSinkCause faults.old faults.new result }
+{
+    match answer {
+        Ok(count) if count > 0 || size == 0 => Ok(count),
+        _ => {
+            *faults = faults.saturating_add(1);
+            Err(IoFault::Failed)
         }
     }
 }

@@ -133,6 +133,45 @@ fn a_sink_takes_parts_and_fails(rt: HostRuntime) -> Result<(), Fail> {
 }
 
 #[test]
+fn a_piece_is_written_by_one_call(rt: HostRuntime) -> Result<(), Fail> {
+    let alloc = rt.alloc();
+    // The sink takes all that it is given, and its second call fails.
+    let mut sink = MemorySink::new(alloc, &[1])?;
+    write_all(&mut sink, b"")?;
+    write_all(&mut sink, b"one piece")?;
+    write_all(&mut sink, b"")?;
+    assert_eq!(rt; write_all(&mut sink, b"x"), Err(WriteFault::Failed));
+    assert_eq!(rt; sink.bytes(), b"one piece".as_slice());
+    Ok(())
+}
+
+#[test]
+fn a_std_source_tells_its_end(rt: HostRuntime) -> Result<(), Fail> {
+    let mut source = StdSource::new(b"abc".as_slice());
+    let mut out = [0u8; 2];
+    assert_eq!(rt; source.read(&mut out), Ok(2));
+    assert_eq!(rt; out, *b"ab");
+    assert_eq!(rt; source.read(&mut out), Ok(1));
+    assert_eq!(rt; out[0], b'c');
+    assert_eq!(rt; source.read(&mut out), Ok(0));
+    assert_eq!(rt; source.read(&mut out), Ok(0));
+    Ok(())
+}
+
+#[test]
+fn a_std_sink_takes_a_large_piece_at_once(rt: HostRuntime) -> Result<(), Fail> {
+    let alloc = rt.alloc();
+    let piece = vec![in alloc; 7u8; 70_000]?;
+    let mut room = vec![in alloc; 0u8; 70_000]?;
+    assert_eq!(rt;
+        StdSink::new(room.as_mut_slice()).write(piece.as_slice()),
+        Ok(70_000)
+    );
+    assert_eq!(rt; room.as_slice(), piece.as_slice());
+    Ok(())
+}
+
+#[test]
 fn std_readers_and_writers_serve(rt: HostRuntime) -> Result<(), Fail> {
     let alloc = rt.alloc();
     let mut source = StdSource::new(BufReader::new(alloc, b"x\ny".as_slice())?);

@@ -1,5 +1,5 @@
--- The front of the piece up to `done` is written.
-use Rattle.std.proofs.Common.{◌≡◌, ◌-◌, ◌≤◌, length, take}
+-- The front of the piece up to `done` is written, and an empty piece is not.
+use Rattle.std.proofs.Common.{◌≡◌, ◌-◌, ◌≤◌, [], length, take}
 use Rattle.std.specs.Io.KnownBytes.{Appends}
 use Rattle.mld_io.proofs.sinks.write_all.Given as goal
 
@@ -7,6 +7,7 @@ abbrev pub invariant-loop-done : goal.invariant-loop-done
 invariant-loop-done g l = record {
   in_piece : l.done ≤ length l.piece;
   written : Appends (g.K.Sink.held l.initial.sink) (g.K.Sink.held l.sink) (take l.done l.piece);
+  untouched : l.piece ≡ [] → l.sink ≡ l.initial.sink;
   no_fault : g.K.Sink.faults l.sink ≡ g.K.Sink.faults l.initial.sink;
 }
 
