@@ -1,6 +1,7 @@
 //! The edges of the program: where bytes come from, where they go, and the lines between.
 #![tactic(auto)]
 
+mod banks;
 mod faults;
 mod line_reader;
 mod memory;
@@ -11,6 +12,7 @@ mod standard;
 #[cfg(test)]
 mod tests;
 
+pub use banks::{Banks, CrashBanks, Leave, Side};
 pub use faults::{Failed, IoFault, LineFault, WriteFault};
 pub use line_reader::{Lines, first_of_lines};
 pub use memory::{MemorySink, MemorySource};
