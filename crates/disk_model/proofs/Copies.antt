@@ -1,11 +1,10 @@
 -- Copies and writes within the front of a list.
-use Rattle.std.proofs.Common.{◌≡◌, ℕ, ◌+◌, ◌-◌, ◌<◌, ◌≤◌, max, List, ◌++◌, length, take, drop, refl, sym, ap, ◌∙◌, arith, length-append, length-drop, append_assoc, replicate, ◌/◌, inl, inr, drop_of_length-le}
+use Rattle.std.proofs.Common.{◌≡◌, ℕ, ◌+◌, ◌-◌, ◌≤◌, max, List, ◌++◌, length, take, drop, sym, ap, ◌∙◌, arith, length-append, length-drop, append_assoc, inl, inr, drop_of_length-le}
 use Rattle.std.proofs.Math.Seq.{take-add, take-append-add}
-use Rattle.std.proofs.lemmas.List.{take_at, length-take-le, take-append-le, take-append-drop, drop-take, length-replicate}
+use Rattle.std.proofs.lemmas.List.{take_at, length-take-le, take-append-le, take-append-drop, drop-take}
 use Rattle.std.proofs.lemmas.Bool.{cases_lt}
 use Rattle.mld_io.specs.Disk.{written}
 use Rattle.disk_model.specs.Sides.{Grows}
-use Rattle.disk_model.specs.Steps.{torn_piece}
 
 -- lists that agree up to `low`, once the bytes from there up to `high` were copied, agree up to there
 pub copied_agrees : (low high : ℕ) (to from now : List ℕ) → low ≤ high → high ≤ length to → high ≤ length from → take low to ≡ take low from
@@ -17,7 +16,7 @@ copied_agrees low high to from now ordered in_to in_from agree is =
     let long : length (take low to ++ middle) ≡ high = omega (arith, length-append (take low to) middle) in
     let back : low + (high - low) ≡ high = omega arith in
     ap (take high) is ∙ take_at (take low to ++ middle) (drop high to) high long ∙ ap (λ l. l ++ middle) agree
-      ∙ sym (take-add low (high - low) from) ∙ ap (λ k. take k from) back
+    ∙ sym (take-add low (high - low) from) ∙ ap (λ k. take k from) back
 
 -- a front of a front
 pub take-take : (k m : ℕ) (xs : List ℕ) → k ≤ m → m ≤ length xs → take k (take m xs) ≡ take k xs
@@ -34,7 +33,7 @@ pub written_before : (at k : ℕ) (piece xs : List ℕ) → k ≤ at → at ≤ 
 written_before at k piece xs below within =
     let long : length (take at xs) ≡ at = length-take-le at xs within in
     ap (take k) (append_assoc (take at xs) piece (drop (at + length piece) xs))
-      ∙ take-append-le k (take at xs) (piece ++ drop (at + length piece) xs) (omega arith) ∙ take-take k at xs below within
+    ∙ take-append-le k (take at xs) (piece ++ drop (at + length piece) xs) (omega arith) ∙ take-take k at xs below within
 
 -- the front of a list behind a front of that length
 drop-take_front : (e size : ℕ) (xs : List ℕ) → size ≤ length xs → drop e (take size xs) ≡ take (size - e) (drop e xs)
@@ -58,8 +57,8 @@ written_front at size piece xs at_in in_xs =
     let long : length front ≡ e = omega (arith, length-append (take at xs) piece) in
     let split : max size e ≡ length front + (size - e) = omega arith in
     ap (λ k. take k (front ++ rest)) split ∙ take-append-add front rest (size - e)
-      ∙ ap (λ l. front ++ l) (sym (drop-take_front e size xs in_xs))
-      ∙ ap (λ l. l ++ piece ++ drop e (take size xs)) (sym (take-take at size xs at_in in_xs))
+    ∙ ap (λ l. front ++ l) (sym (drop-take_front e size xs in_xs))
+    ∙ ap (λ l. l ++ piece ++ drop e (take size xs)) (sym (take-take at size xs at_in in_xs))
 
 -- a list that grew keeps its front
 pub grown_keeps : (k : ℕ) (old now : List ℕ) → Grows old now → k ≤ length old → take k now ≡ take k old
@@ -79,4 +78,4 @@ pub grown_written : (at size : ℕ) (piece old grown now : List ℕ) → Grows o
     → take (max size (at + length piece)) now ≡ written at piece (take size old)
 grown_written at size piece old grown now grows is at_in in_old =
     ap (take (max size (at + length piece))) is ∙ written_front at size piece grown at_in (omega (arith, grown_length old grown grows))
-      ∙ ap (written at piece) (grown_keeps size old grown grows in_old)
+    ∙ ap (written at piece) (grown_keeps size old grown grows in_old)

@@ -1,3 +1,5 @@
+pub mod Calls
+pub mod Memory
 pub mod Pieces
 pub mod SideBytes
 pub mod Sides

@@ -1,5 +1,5 @@
 -- Torn pieces.
-use Rattle.std.specs.Prelude.{◌≡◌, ◌≢◌, ℕ, ◌+◌, ◌-◌, ◌/◌, List, [], ◌∷◌, ◌++◌, length, take, replicate}
+use Rattle.std.specs.Prelude.{◌≡◌, ◌≢◌, ℕ, ◌-◌, ◌/◌, List, [], ◌∷◌, length, take, replicate}
 use Rattle.std.proofs.Common.{ap, arith, get_or, length-append}
 use Rattle.std.proofs.lemmas.List.{length-take-le, length-replicate}
 use Rattle.disk_model.specs.Steps.{torn_piece}

@@ -1,17 +1,17 @@
 -- Laws of the steps: what is left after them is what their log says that a crash may leave.
-use Rattle.std.specs.Prelude.{◌≡◌, ◌≢◌, ℕ, ◌+◌, ◌-◌, ◌≤◌, Bool, true, false, List, [], ◌∷◌, ◌++◌, length, take, drop}
-use Rattle.std.proofs.Common.{refl, sym, ◌∙◌, ap, subst, arith, length-append, length-drop, get_or}
+use Rattle.std.specs.Prelude.{◌≡◌, ℕ, ◌+◌, ◌-◌, ◌≤◌, false, List, [], ◌∷◌, ◌++◌, length, take, drop}
+use Rattle.std.proofs.Common.{refl, sym, ◌∙◌, ap, subst, arith, length-append, length-drop}
 use Rattle.std.proofs.lemmas.List.{length-take-le}
 use Rattle.std.proofs.lemmas.Bool.{false≢true}
 use Rattle.mld_io.specs.declared.banks.Side.{Side}
 use Rattle.mld_io.specs.declared.banks.Side.TheVariants.{A, B}
 use Rattle.mld_io.specs.declared.banks.Leave.{Leave}
 use Rattle.mld_io.specs.declared.banks.Leave.TheVariants as leave
-use Rattle.mld_io.specs.Disk.{Sides, Torn, TornOn, bytes_of, other_side, with_bytes, written, seen, seen_after, LeftAfter, MayLeave, IsSettledOn, IsSettled}
+use Rattle.mld_io.specs.Disk.{Sides, Torn, bytes_of, with_bytes, written, seen, MayLeave, IsSettledOn, IsSettled}
 use Rattle.mld_io.specs.DiskLaws.{Torn-unchanged, Torn-written, Torn-done, LeftAfter-mix, bytes_of-with_bytes, bytes_of-with_bytes_other, IsSettledOn-wrote_other, IsSettledOn-sync, IsSettled-both}
 use Rattle.disk_model.specs.declared.steps.Step.{Step}
 use Rattle.disk_model.specs.declared.steps.Step.TheVariants as step
-use Rattle.disk_model.specs.Steps.{torn_piece, write_left, left_by, same_side, unsynced, AreInOrder, calls_of, log_of}
+use Rattle.disk_model.specs.Steps.{torn_piece, write_left, left_by, unsynced, AreInOrder, calls_of, log_of}
 use Rattle.disk_model.specs.Pieces.{length-torn_piece, torn_piece_unset}
 
 -- bytes that are put where they were

@@ -1,6 +1,12 @@
 //! Devices of two sides in memory, which can be made to fail and to crash.
 #![tactic(auto)]
 
+mod banks;
+mod calls;
 mod sides;
 mod steps;
 mod store;
+#[cfg(test)]
+mod tests;
+
+pub use banks::MemoryBanks;

@@ -1,7 +1,7 @@
 //! What a bank in memory keeps: its sides, and the calls that made them.
 ghost use Rattle.std.specs.Prelude.{◌≡◌, ℕ, ◌+◌, ◌^◌, ◌<◌, ◌≤◌, [], ◌∷◌, true, false, cond, ◌||◌, length, IfOk, OnOk, OnErr};
 ghost use Rattle.mld_io.specs.Disk.{bytes_of};
-ghost use Rattle.disk_model.specs.Steps.{left_by, unsynced};
+ghost use Rattle.disk_model.specs.Steps.{left_by, AreInOrder};
 ghost use Rattle.disk_model.specs.Store.{StoreValue, with_step, synced, cut};
 
 use crate::sides::{BothSides, SideBytes};
@@ -102,7 +102,8 @@ impl Store {
     /// Leaves of the unsynced writes what a crash leaves. Where nothing is unsynced it adds no
     /// step.
     pub fn cut(&mut self, leave: Leave)
-        ensures { self.new ≡ cut leave self.old }
+        ensures cut { self.new ≡ cut leave self.old }
+        ensures in_order { AreInOrder self.old.first self.old.steps }
     {
         if self.sides.is_unsynced(Side::A) || self.sides.is_unsynced(Side::B) {
             self.sides.cut(leave);

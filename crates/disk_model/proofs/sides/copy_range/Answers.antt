@@ -9,5 +9,5 @@ returns-clause-agree c =
     let is_items = c.deref_mut.ensures.value in
     let same : length c.copy_part.new.to ≡ c.args.to.now.len = omega (arith, c.copy_part.auto.to, c.deref_mut.ensures.len) in
     ap (take c.args.end) (with_items_is c.args.to.now c.copy_part.new.to same)
-      ∙ copied_agrees c.args.begin c.args.end c.deref_mut.result.now c.args.from.now c.copy_part.new.to c.requires.ordered (omega (arith, c.deref_mut.ensures.len)) c.requires.in_from
-        (ap (take c.args.begin) is_items ∙ c.requires.agree) c.copy_part.ensures
+    ∙ copied_agrees c.args.begin c.args.end c.deref_mut.result.now c.args.from.now c.copy_part.new.to c.requires.ordered (omega (arith, c.deref_mut.ensures.len)) c.requires.in_from
+    (ap (take c.args.begin) is_items ∙ c.requires.agree) c.copy_part.ensures

@@ -1,5 +1,5 @@
 -- What a write makes of the three lists.
-use Rattle.std.proofs.Common.{◌≡◌, ℕ, ◌+◌, ◌≤◌, max, length, take, sym, ap, ◌∙◌, arith, vec_len}
+use Rattle.std.proofs.Common.{◌≡◌, ◌+◌, ◌≤◌, max, length, take, sym, ap, ◌∙◌, arith}
 use Rattle.std.proofs.lemmas.List.{length-take-le}
 use Rattle.mld_io.specs.Disk.{written}
 use Rattle.mld_io.specs.declared.banks.Leave.TheVariants.{Lose, Keep, Torn}
