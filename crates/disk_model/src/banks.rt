@@ -71,6 +71,7 @@ impl MemoryBanks {
         self.store.bytes(side)
     }
 
+    /// How many bytes a side has.
     fn size(&mut self, side: Side) -> Result<u64, IoFault>
         ensures length { IfOk result (λ n. n ≡ length (read_of side self.old)) }
         ensures moves { ReadMoves self.old result self.new }
@@ -80,6 +81,7 @@ impl MemoryBanks {
         Ok(self.store.bytes(side).len() as u64)
     }
 
+    /// Fills `out` with the bytes of a side from this place on.
     fn read(&mut self, side: Side, at: u64, out: &mut [u8]) -> Result<(), IoFault>
         requires { at + length out.old ≤ length (read_of side self.old) }
         ensures bytes { OnOk result (out.new ≡ take (length out.old) (drop at (read_of side self.old))) }
@@ -91,6 +93,7 @@ impl MemoryBanks {
         Ok(())
     }
 
+    /// Writes the piece on a side, also where it is then caught.
     fn write(&mut self, side: Side, at: u64, piece: &[u8]) -> Result<(), IoFault>
         requires { at ≤ length (read_of side self.old) }
         ensures small { OnOk result (at + length piece.now < 2 ^ 64) }
@@ -101,6 +104,7 @@ impl MemoryBanks {
         self.calls.end_change()
     }
 
+    /// Makes what reads give of a side durable, where it isn't caught.
     fn sync_side(&mut self, side: Side) -> Result<(), IoFault>
         ensures { SyncMoves side self.old result self.new }
     {
@@ -180,7 +184,7 @@ impl CrashBanks for MemoryBanks {
         self.calls.is_caught()
     }
 
-    /// It leaves what the last `arm` said.
+    /// It leaves of the unsynced writes what the last `arm` said.
     fn revive(&mut self)
         ensures cut { (l : Log) → Some (memory_log self.old) ≡ Some l → Revives l (Some (memory_log self.new)) }
         ensures meter { self.new.calls.meter ≡ revived self.old.calls.meter }

@@ -77,6 +77,18 @@ IsSettledOn-sync side synced log settled = λ image left. settled image left.0
 pub IsSettled-both : (side : Side) (log : Log) → IsSettledOn side log → IsSettledOn (other_side side) log → IsSettled log
 IsSettled-both side log on off = λ image left. sides_from_bytes side image (seen log) (on image left) (off image left)
 
+-- what a sync leaves settled stays so through the sync of the other side, so two syncs settle both
+pub IsSettled-synced : (side : Side) (log mid : Log) (now : Option Log) → Syncs side log (Some mid) → Syncs (other_side side) mid now → (next : Log) × (now ≡ Some next) × (seen next ≡ seen log) × IsSettled next
+IsSettled-synced side log mid now first second =
+    let one = IsSettledOn-synced side log (Some mid) first in
+    let is : one.0 ≡ mid = cc (one.1) in
+    let on : IsSettledOn side mid = subst (λ (l : Log). IsSettledOn side l) is one.3 in
+    let same : seen mid ≡ seen log = sym (ap seen is) ∙ one.2 in
+    synced_other second on same where
+      synced_other : Syncs (other_side side) mid now → IsSettledOn side mid → seen mid ≡ seen log → (next : Log) × (now ≡ Some next) × (seen next ≡ seen log) × IsSettled next
+      synced_other (inl e) on same = (grown (Synced (other_side side)) mid, e, same, IsSettled-both side (grown (Synced (other_side side)) mid) (IsSettledOn-sync side (other_side side) mid on) (λ image left. left.1))
+      synced_other (inr h) on same = (mid, h.0, same, IsSettled-both side mid on h.1)
+
 -- where both are settled, a crash after one write leaves that write torn, and nothing else changed
 pub MayLeave-wrote_settled : (side : Side) (at : ℕ) (piece : List ℕ) (log : Log) → IsSettled log
     → LeavesOnly (grown (Wrote side at piece) log) (λ image. TornOn side at piece (seen log) image)

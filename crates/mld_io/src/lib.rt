@@ -1,4 +1,5 @@
-//! The edges of the program: where bytes come from, where they go, and the lines between.
+//! The edges of the program: where bytes come from, where they go, the lines between, and devices
+//! that keep bytes and may crash.
 #![tactic(auto)]
 
 mod banks;
