@@ -10,7 +10,7 @@ ghost use Rattle.rdf_terms.specs.Compare.{suffix_text};
 ghost use Rattle.rdf_terms.specs.Literal.{is_same, xsd_string};
 ghost use Rattle.rdf_terms.specs.Spelling.{iri_text, datatype_text, literal_text};
 ghost use Rattle.rdf_terms.specs.Marks.{at_sign};
-ghost use Rattle.rdf_terms.specs.Order.{term_cmp, triple_cmp};
+ghost use Rattle.rdf_terms.specs.Order.{iri_cmp, term_cmp, triple_cmp};
 ghost use Rattle.rdf_terms.specs.OrderLaws.{term_total, triple_total};
 
 use crate::compare::{cmp_closed, cmp_escaped};
@@ -18,8 +18,8 @@ use crate::terms::{Iri, Kind, Literal, Term, Triple, XSD_STRING};
 use std::cmp::Ordering;
 
 /// Compares two IRIs by their bytes as they are written, so that `<http://d/a#>` comes before `<http://d/a>`.
-fn cmp_iris(a: &Iri, b: &Iri) -> Ordering
-    ensures { result ≡ slice_cmp nat_cmp (iri_text a.now) (iri_text b.now) }
+pub fn cmp_iris(a: &Iri, b: &Iri) -> Ordering
+    ensures { result ≡ iri_cmp a.now b.now }
 {
     cmp_closed(a.as_str().as_bytes(), b.as_str().as_bytes())
 }
