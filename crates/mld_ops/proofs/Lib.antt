@@ -2,3 +2,4 @@ pub mod Searching
 pub mod Walking
 pub mod Equality
 pub mod Computing
+pub mod Keeping

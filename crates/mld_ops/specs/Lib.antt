@@ -17,3 +17,5 @@ pub mod Ready
 pub mod Cut
 pub mod Messages
 pub mod Held
+pub mod Properties
+pub mod PropertiesLaws

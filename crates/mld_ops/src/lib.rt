@@ -9,6 +9,9 @@ mod message_tests;
 mod messages;
 mod operations;
 mod pairs;
+mod properties;
+#[cfg(test)]
+mod property_tests;
 mod tagged;
 #[cfg(test)]
 mod tests;
@@ -19,4 +22,5 @@ pub use limits::HELD_LIMIT;
 pub use messages::{Give, Message, Messages, Snapshot};
 pub use operations::{Operation, meaning};
 pub use pairs::{copy_pairs, has_pair, insert_pair, remove_pair, remove_pairs};
+pub use properties::kept_properties;
 pub use tagged::Tagged;

@@ -1,6 +1,6 @@
 //! Messages between the leaves of the tree.
 ghost use Rattle.std.specs.Prelude.{◌≡◌, ◌↔◌, ◌++◌, ◌∷◌, [], length, IsTrue, IfOk, OnOk, OnErr};
-ghost use Rattle.mld_ops.specs.Messages.{IsCopyOf, IsGiveCopy, IsSnapshotCopy};
+ghost use Rattle.mld_ops.specs.Messages.{snapshot_value, give_value, message_value};
 ghost use Rattle.tree_clock.specs.Clock.{IsClock};
 
 use crate::entries::Entry;
@@ -23,7 +23,7 @@ pub struct Snapshot {
 impl Snapshot {
     /// A copy.
     pub fn copy_in(&self, alloc: Global) -> Result<Snapshot, AllocError>
-        ensures copy { IfOk result (λ copy. IsSnapshotCopy copy self.now) }
+        ensures copy { IfOk result (λ copy. snapshot_value copy ≡ snapshot_value self.now) }
         ensures clock { IfOk result (λ copy. IsClock copy.clock.ticks) }
     {
         Ok(Snapshot {
@@ -47,7 +47,7 @@ pub struct Give {
 impl Give {
     /// A copy.
     pub fn copy_in(&self, alloc: Global) -> Result<Give, AllocError>
-        ensures { IfOk result (λ copy. IsGiveCopy copy self.now) }
+        ensures { IfOk result (λ copy. give_value copy ≡ give_value self.now) }
     {
         Ok(Give {
             id: self.id,
@@ -75,7 +75,7 @@ pub enum Message {
 impl Message {
     /// A copy.
     pub fn copy_in(&self, alloc: Global) -> Result<Message, AllocError>
-        ensures { IfOk result (λ copy. IsCopyOf copy self.now) }
+        ensures { IfOk result (λ copy. message_value copy ≡ message_value self.now) }
     {
         match self {
             Message::Range(entry) => Ok(Message::Range(entry.copy_in(alloc)?)),
