@@ -9,6 +9,7 @@ pub mod Local
 pub mod PairsLaws
 pub mod LocalLaws
 pub mod ReleasedLaws
+pub mod OneTickLaws
 pub mod StandsForLaws
 pub mod KnownLaws
 pub mod ReleaseLaws

@@ -1,16 +1,18 @@
 -- One clone alone: what it has of its own, without the history, and its steps.
-use Rattle.std.specs.Prelude.{◌≡◌, ℕ, ◌+◌, ◌<◌, ◌≤◌, List, [], ◌∷◌, ◌++◌, ◌⊎◌, ◌↔◌, length}
+use Rattle.std.specs.Prelude.{◌≡◌, ℕ, ◌+◌, ◌<◌, ◌≤◌, List, [], ◌∷◌, ◌++◌, ◌⊎◌, ◌↔◌, IsTrue, length}
+use Rattle.iri_rules.specs.Domain.{is_domain}
 use Rattle.rdf_terms.specs.declared.terms.Triple.{Triple}
+use Rattle.rdf_terms.specs.Order.{iri_cmp}
 use Rattle.tree_clock.specs.Limits.{path_limit}
 use Rattle.tree_clock.specs.Path.{zero_letter, one_letter}
 use Rattle.tree_clock.specs.declared.dots.Dot.{Dot}
 use Rattle.tree_clock.specs.declared.dots.Range.{Range}
 use Rattle.tree_clock.specs.Lists.{Has, IsAscending}
 use Rattle.tree_clock.specs.Clock.{ticks_of, Covers, IsClock, RaisesTo}
-use Rattle.mld_ops.specs.declared.messages.Give.{Give}
 use Rattle.mld_ops.specs.declared.tagged.Tagged.{Tagged}
 use Rattle.mld_ops.specs.Tagged.{tagged_cmp, insert_cmp}
 use Rattle.mld_ops.specs.Entry.{EntryValue}
+use Rattle.mld_ops.specs.Messages.{SnapshotValue, GiveValue}
 use Rattle.mld_ops.specs.Effect.{range_of}
 use Rattle.mld_ops.specs.History.{dot_at}
 use Rattle.mld_ops.specs.Picking.{HasNone, DropsThose, TakesFirst}
@@ -32,6 +34,30 @@ pub record LocalClone : Type 0 where
   pub ticks : List (List ℕ × ℕ)
   pub pairs : List Tagged
 
+-- a clone as contracts see it; what is known of the device that it is on will stand beside it
+pub record CloneValue : Type 0 where
+  pub local : LocalClone
+
+-- what a clone's device has of it: its path, the clock and the pairs of its base, and the entries of its journal
+pub record LocalStored : Type 0 where
+  pub path : List ℕ
+  pub base : List (List ℕ × ℕ)
+  pub base_pairs : List Tagged
+  pub entries : List EntryValue
+
+-- the part of a clone that its device has
+abbrev pub stored_of : LocalClone → LocalStored
+stored_of clone = record { path = clone.path; base = clone.base; base_pairs = clone.base_pairs; entries = clone.entries }
+
+-- what a clone knows and has
+abbrev pub snapshot_of : LocalClone → SnapshotValue
+snapshot_of clone = record { ticks = clone.ticks; pairs = clone.pairs }
+
+-- the domain's name is one, and the single-valued properties ascend as terms, each once
+pub record IsNamed (domain : List ℕ) (properties : List (List ℕ)) : Type 0 where
+  pub name : IsTrue (is_domain domain)
+  pub ascending : IsAscending iri_cmp properties
+
 -- one who asks for a leaf: its id, its domain and its single-valued properties
 pub record LocalAsker : Type 0 where
   pub id : List ℕ
@@ -46,8 +72,10 @@ LeadsTo ticks pairs (entry ∷ entries) after new =
     (next : List (List ℕ × ℕ)) × (middle : List Tagged) × IsReadyEntry ticks entry × RaisesTo ticks next (last_dot entry.range)
     × IsCutOf entry (ticks_of ticks entry.range.path) pairs middle × LeadsTo next middle entries after new
 
--- a clone's clock and pairs are what its journal leads to from its base, and the clocks have the dots of the pairs
+-- a clone's domain and properties are ones that it may have, its clock and pairs are what its journal leads to from its base, and
+-- the clocks have the dots of the pairs
 pub record IsLocal (clone : LocalClone) : Type 0 where
+  pub named : IsNamed clone.domain clone.properties
   pub base : IsClock clone.base
   pub base_pairs : IsAscending tagged_cmp clone.base_pairs
   pub base_covered : (pair : Tagged) → Has clone.base_pairs pair → Covers clone.base pair.dot
@@ -144,24 +172,23 @@ pub record IsForeign (clone : LocalClone) (entry : EntryValue) : Type 0 where
   pub own : entry.range.path ≡ clone.path
   pub beyond : ticks_of clone.ticks clone.path < entry.range.last
 
--- the clone forks its leaf for the one of the id: it keeps the left half, and gives the right one with a snapshot of what it has
-pub record LocallyForks (old : LocalClone) (id : List ℕ) (new : LocalClone) (give : Give) : Type 0 where
+-- the clone forks its leaf for the one of the id: it keeps the left half, and gives the right one with what it knows and has
+pub record LocallyForks (old : LocalClone) (id : List ℕ) (new : LocalClone) (give : GiveValue) : Type 0 where
   pub room : length old.path < path_limit
   pub left : new ≡ record old { path = old.path ++ zero_letter ∷ [] }
-  pub asker : give.id ≡ id
-  pub right : give.path ≡ old.path ++ one_letter ∷ []
-  pub clock : give.snapshot.clock.ticks ≡ old.ticks
-  pub pairs : give.snapshot.tagged.items ≡ old.pairs
+  pub right : give ≡ record { id = id; path = old.path ++ one_letter ∷ []; snapshot = snapshot_of old }
 
 -- the clone of one who asked and took a leaf: its base is what the snapshot has, it has no journal, and it holds nothing back
-pub record LocallyJoins (asker : LocalAsker) (give : Give) (new : LocalClone) : Type 0 where
-  pub id : new.id ≡ asker.id
-  pub domain : new.domain ≡ asker.domain
-  pub properties : new.properties ≡ asker.properties
-  pub path : new.path ≡ give.path
-  pub base : new.base ≡ give.snapshot.clock.ticks
-  pub base_pairs : new.base_pairs ≡ give.snapshot.tagged.items
-  pub entries : new.entries ≡ []
-  pub held : new.held ≡ []
-  pub ticks : new.ticks ≡ give.snapshot.clock.ticks
-  pub pairs : new.pairs ≡ give.snapshot.tagged.items
+abbrev pub joined_clone : LocalAsker → GiveValue → LocalClone
+joined_clone asker give = record {
+  id = asker.id;
+  domain = asker.domain;
+  properties = asker.properties;
+  path = give.path;
+  base = give.snapshot.ticks;
+  base_pairs = give.snapshot.pairs;
+  entries = [];
+  held = [];
+  ticks = give.snapshot.ticks;
+  pairs = give.snapshot.pairs;
+}

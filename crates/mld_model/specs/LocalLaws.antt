@@ -26,7 +26,7 @@ use Rattle.mld_model.specs.Clone.{Stored, known_of, with_range, IsKnown, IsReady
 use Rattle.mld_model.specs.CloneStep.{IsNextTick}
 use Rattle.mld_model.specs.Sound.{IsDoneRange}
 use Rattle.mld_model.specs.Local.{LocalClone, next_dot, LocallyMakes}
-use Rattle.mld_model.specs.StandsFor.{EntryStandsFor, LocalStandsFor}
+use Rattle.mld_model.specs.StandsFor.{EntryStandsFor, LocalStandsFor, SnapshotStandsFor}
 use Rattle.mld_model.specs.KnownLaws.{known_with, known_with-old, known_with-new, known_with-split}
 use Rattle.mld_model.specs.HistoryLaws.{done_not_fresh}
 
@@ -67,10 +67,8 @@ covers_next old new path dot raised = (
 -- an entry of a range that is done stands for it in the longer history too
 pub entry_still_stands : (history : List Operation) (next : Operation) (entry : EntryValue) (range : Range) → IsNext history next
     → IsDoneRange history range → EntryStandsFor history entry range → EntryStandsFor (next ∷ history) entry range
-entry_still_stands history next entry range is_next done stands = record {
-  net = net_with_unknown history range entry next stands.net (λ inside. done_not_fresh history next next.dot is_next (done.done next.dot inside) refl) done.some;
-  one = stands.one;
-}
+entry_still_stands history next entry range is_next done stands =
+    net_with_unknown history range entry next stands (λ inside. done_not_fresh history next next.dot is_next (done.done next.dot inside) refl) done.some
 
 -- and so do entries, one by one
 pub entries_still_stand : (history : List Operation) (next : Operation) (entries : List EntryValue) (ranges : List Range) → IsNext history next
@@ -89,10 +87,12 @@ pub local_still_stands : (history : List Operation) (next : Operation) (running 
     → ((range : Range) → Has stored.journal range → IsDoneRange history range) → ((range : Range) → Has held range → IsDoneRange history range)
     → LocalStandsFor history running stored held → LocalStandsFor (next ∷ history) running stored held
 local_still_stands history next running stored held is_next unknown journal_done held_done stands = record {
-  path = stands.path;
-  base = stands.base;
-  base_pairs = meaning_with_unknown history stored.base next running.base_pairs stands.base_pairs (λ k. unknown (base_known stored.base stored.journal next.dot k));
-  entries = entries_still_stand history next running.entries stored.journal is_next journal_done stands.entries;
+  kept = record {
+    path = stands.kept.path;
+    base = stands.kept.base;
+    base_pairs = meaning_with_unknown history stored.base next running.base_pairs stands.kept.base_pairs (λ k. unknown (base_known stored.base stored.journal next.dot k));
+    entries = entries_still_stand history next running.entries stored.journal is_next journal_done stands.kept.entries;
+  };
   held = entries_still_stand history next running.held held is_next held_done stands.held;
   known = stands.known;
   pairs = meaning_with_unknown history (known_of stored) next running.pairs stands.pairs unknown;
@@ -112,9 +112,9 @@ module _ (history : List Operation) (old : LocalClone) (base journal held : List
   unknown_yet : ¬ Knows (known_of (kept_by old base journal)) (next_dot old)
   unknown_yet known = done_not_fresh history (made_by old base journal deletes inserts) (next_dot old) is_next (closed.done (next_dot old) known) refl
 
-  -- the entry that it made is the net effect of the operation's range
-  pub made_net : IsNet (made_by old base journal deletes inserts ∷ history) (range_of (next_dot old)) entry
-  made_net = net_of_one (made_by old base journal deletes inserts ∷ history) (made_by old base journal deletes inserts) (is_next, lawful) (inl refl) entry makes.range
+  -- the entry that it made stands for the operation's range
+  pub made_entry : EntryStandsFor (made_by old base journal deletes inserts ∷ history) entry (range_of (next_dot old))
+  made_entry = net_of_one (made_by old base journal deletes inserts ∷ history) (made_by old base journal deletes inserts) (is_next, lawful) (inl refl) entry makes.range
       makes.deletes_ascend makes.inserts_ascend (record {
         deletes = makes.deletes_same;
         inserts = makes.inserts_same;
@@ -124,10 +124,6 @@ module _ (history : List Operation) (old : LocalClone) (base journal held : List
         );
       })
 
-  -- and so it stands for that range
-  pub made_entry : EntryStandsFor (made_by old base journal deletes inserts ∷ history) entry (range_of (next_dot old))
-  made_entry = record { net = made_net; one = refl }
-
   -- the clone that made the operation stands for what it knows then
   pub maker_stands : ((range : Range) → Has journal range → IsDoneRange history range) → ((range : Range) → Has held range → IsDoneRange history range)
       → LocalStandsFor (made_by old base journal deletes inserts ∷ history) new (with_range (kept_by old base journal) (range_of (next_dot old))) held
@@ -136,11 +132,13 @@ module _ (history : List Operation) (old : LocalClone) (base journal held : List
       let still : LocalStandsFor (operation ∷ history) old (kept_by old base journal) held =
       local_still_stands history operation old (kept_by old base journal) held is_next unknown_yet journal_done held_done stands in
       record {
-        path = makes.same.path;
-        base = λ dot. subst (λ (ticks : List (List ℕ × ℕ)). Covers ticks dot ↔ Knows base dot) (sym makes.same.base) (still.base dot);
-        base_pairs = subst (λ (pairs : List Tagged). IsMeaning (operation ∷ history) base pairs) (sym makes.same.base_pairs) still.base_pairs;
-        entries = subst (λ (entries : List EntryValue). AllPairs (EntryStandsFor (operation ∷ history)) entries (journal ++ range_of (next_dot old) ∷ [])) (sym makes.entries)
-            (pairs_more (EntryStandsFor (operation ∷ history)) old.entries journal entry (range_of (next_dot old)) still.entries made_entry);
+        kept = record {
+          path = makes.same.path;
+          base = λ dot. subst (λ (ticks : List (List ℕ × ℕ)). Covers ticks dot ↔ Knows base dot) (sym makes.same.base) (still.kept.base dot);
+          base_pairs = subst (λ (pairs : List Tagged). IsMeaning (operation ∷ history) base pairs) (sym makes.same.base_pairs) still.kept.base_pairs;
+          entries = subst (λ (entries : List EntryValue). AllPairs (EntryStandsFor (operation ∷ history)) entries (journal ++ range_of (next_dot old) ∷ [])) (sym makes.entries)
+              (pairs_more (EntryStandsFor (operation ∷ history)) old.entries journal entry (range_of (next_dot old)) still.kept.entries made_entry);
+        };
         held = subst (λ (entries : List EntryValue). AllPairs (EntryStandsFor (operation ∷ history)) entries held) (sym makes.held) still.held;
         known = λ dot. (
           λ c. elim ((covers_next old.ticks new.ticks old.path dot makes.clock).0 c) [
@@ -209,9 +207,8 @@ range_of_one range dot one is = λ i. record {
 }
 
 -- a clock and pairs are those of one who knows these dots
-pub record KnowsAs (history : List Operation) (dots : List Range) (ticks : List (List ℕ × ℕ)) (list : List Tagged) : Type 0 where
-  pub known : (dot : Dot) → Covers ticks dot ↔ Knows dots dot
-  pub pairs : IsMeaning history dots list
+abbrev pub KnowsAs : List Operation → List Range → List (List ℕ × ℕ) → List Tagged → Type 0
+KnowsAs history dots ticks pairs = SnapshotStandsFor history (record { ticks = ticks; pairs = pairs }) dots
 
 -- the clock raised to the last dot of a ready range has the known dots and those of the range
 pub raised_knows : (ticks next : List (List ℕ × ℕ)) (known : List Range) (range : Range) → ((dot : Dot) → Covers ticks dot ↔ Knows known dot)
@@ -234,12 +231,10 @@ raised_knows ticks next known range alike positive before clock dot = (
 -- what a ready entry of one tick leaves of the pairs is the meaning with that tick known
 pub taker_knows : (history : List Operation) (known : List Range) (ticks : List (List ℕ × ℕ)) (pairs : List Tagged) (range : Range) (entry : EntryValue)
     (next : List (List ℕ × ℕ)) (new : List Tagged)
-    → KnowsAs history known ticks pairs → EntryStandsFor history entry range → IsDoneRange history range
+    → KnowsAs history known ticks pairs → EntryStandsFor history entry range → range.first ≡ range.last → IsDoneRange history range
     → IsLawful history → IsClosed history known → IsReadyEntry ticks entry → RaisesTo ticks next (last_dot entry.range)
     → IsCutOf entry (ticks_of ticks entry.range.path) pairs new → KnowsAs history (known ++ range ∷ []) next new
-taker_knows history known ticks pairs range entry next new knows stands done lawful closed ready raises cut =
-    let net : IsNet history range entry = stands.net in
-    let one : range.first ≡ range.last = stands.one in
+taker_knows history known ticks pairs range entry next new knows net one done lawful closed ready raises cut =
     let last : IsDone history (last_dot range) = done.done (last_dot range) (record { path = refl; above = done.some; below = omega arith }) in
     let operation : Operation = last.operation in
     let effect : IsEffect operation entry = net_of_one_back history operation lawful last.stands range entry net one last.is in

@@ -52,11 +52,11 @@ abbrev pub founded_clone : ℕ → ℕ → Clone
 founded_clone count number =
     if nat_lt number count then Live (record { path = founded_path count number; base = []; journal = [] }) [] else Absent
 
--- the founded world
-abbrev pub founded : List ℕ → ℕ → World
-founded domain count = record {
+-- the world that was founded with this domain, these single-valued properties and so many clones
+abbrev pub founded : List ℕ → List (List ℕ) → ℕ → World
+founded domain properties count = record {
   domain = domain;
-  properties = [];
+  properties = properties;
   history = [];
   clones = map (founded_clone count) (range_with_len 0 clone_count);
   messages = [];

@@ -6,13 +6,19 @@ mod limits;
 
 pub use limits::CLONE_COUNT;
 
-/// The state of a clone of a world that runs.
+/// What stands in the place of a clone's device: clones live in memory alone so far.
 #[derive(Drop)]
-pub enum CloneState<A, L> {
-    /// It was never founded and never asked to join.
-    Absent,
+pub struct NoDevice;
+
+/// The state of a clone of a world that runs, with what the clone has in it.
+#[derive(Drop)]
+pub enum CloneState<B, A, D, L> {
+    /// It was never founded and never asked to join: its device is blank.
+    Absent(B),
     /// It asked for a leaf and waits for one.
     Asking(A),
+    /// It is stopped, and what it keeps is on its device.
+    Down(D),
     /// It runs.
     Live(L),
 }
