@@ -1,5 +1,5 @@
--- What an answer to an `add` or a `remove` promises is kept by each step, and so by each run.
-use Rattle.std.specs.Prelude.{◌≡◌, ℕ, ◌<◌, List, [], ◌∷◌, ◌++◌, ◌⊎◌, Option, Some, None, MatchOption, length}
+-- What an answer that tells of a dot promises is kept by each step, and so by each run.
+use Rattle.std.specs.Prelude.{◌≡◌, ℕ, ◌<◌, List, [], ◌∷◌, ◌++◌, Option, Some, None, MatchOption, length}
 use Rattle.std.proofs.Common.{refl, sym, ◌∙◌, ap, subst, inl, inr, get_or, set}
 use Rattle.std.proofs.lemmas.Bool.{cases_eq}
 use Rattle.std.proofs.lemmas.List.{get_or-set_same, get_or-set_other}
@@ -12,23 +12,20 @@ use Rattle.mld_ops.specs.declared.tagged.Tagged.{Tagged}
 use Rattle.mld_ops.specs.History.{Operation, dot_at}
 use Rattle.mld_ops.specs.Effect.{range_of}
 use Rattle.mld_ops.specs.HistoryLaws.{range_of_has}
-use Rattle.schedule_model.specs.declared.Command.{Command}
 use Rattle.schedule_model.specs.declared.Command.TheVariants.{Add, Remove, Deliver, Show, Compare, Join}
 use Rattle.mld_model.specs.Clone.{Clone, Absent, Asking, Empty, Down, Live, Stored, known_of, with_range}
 use Rattle.mld_model.specs.World.{World, Message, RangeOf, JoinAsk, JoinGive, message_at, clone_at}
 use Rattle.mld_model.specs.Reply.{Reply, Did, NoMessage}
-use Rattle.schedule_model.specs.ReplyText.{reply_text}
-use Rattle.mld_model.specs.CloneStep.{Answers, Makes, Adds, Removes, Receives, Joins, left_half, Gives, joined_with, Adopts, Takes}
+use Rattle.mld_model.specs.CloneStep.{Answers, Makes, Adds, Removes, Receives, Joins, left_half, Gives, joined_with, Adopts, Takes, Lists, Compares, ComparesWith, Weighs}
 use Rattle.schedule_model.specs.Step.{Step}
-use Rattle.schedule_model.specs.Runs.{Stage, Waiting, Running, Acts, Runs}
+use Rattle.schedule_model.specs.Runs.{Stage, Waiting, SetUp, Running, Commands, Acts, Runs}
 use Rattle.mld_model.specs.Sound.{Keeps}
 use Rattle.mld_model.specs.SoundLaws.{place_of_clone}
 use Rattle.mld_model.specs.ReleaseLaws.{releases_known}
 use Rattle.mld_model.specs.KnownLaws.{known_with-old, known_with-new}
 use Rattle.schedule_model.specs.StepSoundLaws.{lists_same, weighs_same}
-use Rattle.schedule_model.specs.RunsLaws.{one_act, one_run}
-use Rattle.schedule_model.specs.Answers.{Remembers, IsAddOf, IsRemoveOf, IsAnswered, Survives}
-use Rattle.schedule_model.specs.Laws.{AddRemembers, RemoveRemembers, StepRemembers, AnswersSurvive}
+use Rattle.schedule_model.specs.Answers.{Remembers, IsAddOf, IsRemoveOf}
+use Rattle.schedule_model.specs.Laws.{AddRemembers, RemoveRemembers, DidRemembers, StepRemembers, AnswersSurvive}
 
 -- ---- the step that makes an operation
 
@@ -50,11 +47,17 @@ makes_remembers world number stored held deletes inserts reply next is made =
     let inside : number < length world.clones = place_of_live world number stored held is in
     subst (λ (world : World). Remembers world number (own_operation stored made.tick deletes inserts)) (sym made.changes) (record {
       stored = with_range stored (range_of own);
-      held = held;
-      live = get_or-set_same world.clones number (Live (with_range stored (range_of own)) held) Absent inside;
+      keeps = subst (λ (clone : Clone). Keeps clone (with_range stored (range_of own)))
+          (sym (get_or-set_same world.clones number (Live (with_range stored (range_of own)) held) Absent inside)) refl;
       known = known_with-new stored (range_of own) own (range_of_has own own refl);
       stands = inl refl;
     })
+
+-- and it stands at the head of the history
+made_head : (world : World) (number : ℕ) (stored : Stored) (held : List Range) (deletes : List Tagged) (inserts : List Triple) (reply : Reply) (next : World)
+    → (made : Makes world number stored held deletes inserts reply next)
+    → next.history ≡ own_operation stored made.tick deletes inserts ∷ world.history
+made_head world number stored held deletes inserts reply next made = ap (λ (w : World). w.history) made.changes
 
 -- the answer tells of the operation's dot
 told_dot : (own dot : Dot) (count message : ℕ) → Did dot message ≡ Did own count → own ≡ dot
@@ -63,7 +66,7 @@ told_dot own dot count message told = cc
 -- an `add` that tells of a dot made an operation, and its clone remembers it
 adds_remembers : (world : World) (number : ℕ) (triple : Triple) (clone : Clone) (dot : Dot) (message : ℕ) (next : World)
     → clone_at world number ≡ clone → Adds world number triple clone (Did dot message) next
-    → (operation : Operation) × IsAddOf triple dot operation × Remembers next number operation
+    → (operation : Operation) × IsAddOf triple dot operation × (next.history ≡ operation ∷ world.history) × Remembers next number operation
 adds_remembers world number triple Absent dot message next is p = absurd (cc (p.0))
 adds_remembers world number triple Asking dot message next is p = absurd (cc (p.0))
 adds_remembers world number triple Empty dot message next is p = absurd (cc (p.0))
@@ -71,13 +74,14 @@ adds_remembers world number triple (Down stored) dot message next is p = absurd 
 adds_remembers world number triple (Live stored held) dot message next is p = (
   own_operation stored p.tick [] (triple ∷ []),
   record { is = told_dot (dot_at stored.path p.tick) dot _ message p.replies; inserts = refl; deletes = refl },
+  made_head world number stored held [] (triple ∷ []) (Did dot message) next p,
   makes_remembers world number stored held [] (triple ∷ []) (Did dot message) next is p,
 )
 
 -- and so did a `remove`
 removes_remembers : (world : World) (number : ℕ) (triple : Triple) (clone : Clone) (dot : Dot) (message : ℕ) (next : World)
     → clone_at world number ≡ clone → Removes world number triple clone (Did dot message) next
-    → (operation : Operation) × IsRemoveOf world number triple dot operation × Remembers next number operation
+    → (operation : Operation) × IsRemoveOf world number triple dot operation × (next.history ≡ operation ∷ world.history) × Remembers next number operation
 removes_remembers world number triple Absent dot message next is p = absurd (cc (p.0))
 removes_remembers world number triple Asking dot message next is p = absurd (cc (p.0))
 removes_remembers world number triple Empty dot message next is p = absurd (cc (p.0))
@@ -97,6 +101,7 @@ removes_remembers world number triple (Live stored held) dot message next is (pa
         meant = meant;
         deletes = are;
       },
+      made_head world number stored held deletes [] (Did dot message) next p,
       makes_remembers world number stored held deletes [] (Did dot message) next is p,
     )
 
@@ -110,15 +115,104 @@ pub remove_remembers : RemoveRemembers
 unfolding Step
 remove_remembers world number triple dot message next p = removes_remembers world number triple (clone_at world number) dot message next refl p
 
+-- a range that comes to a live clone is answered without a dot
+receives_tell_none : (world : World) (number : ℕ) (stored : Stored) (held : List Range) (range : Range) (dot : Dot) (message : ℕ) (next : World)
+    → ¬ Receives world number stored held range (Did dot message) next
+receives_tell_none world number stored held range dot message next (inl p) = cc (p.1.0)
+receives_tell_none world number stored held range dot message next (inr (inl p)) = cc (p.replies)
+receives_tell_none world number stored held range dot message next (inr (inr (back, inl p))) = cc (p.1.0)
+receives_tell_none world number stored held range dot message next (inr (inr (back, inr (inl p)))) = cc (p.2.0)
+receives_tell_none world number stored held range dot message next (inr (inr (back, inr (inr p)))) = cc (p.2)
+
+-- and so is a question for a leaf
+gives_tell_none : (world : World) (number : ℕ) (stored : Stored) (held : List Range) (id : ℕ) (dot : Dot) (message : ℕ) (next : World)
+    → ¬ Gives world number stored held id (Did dot message) next
+gives_tell_none world number stored held id dot message next (inl p) = cc (p.1.0)
+gives_tell_none world number stored held id dot message next (inr (inl p)) = cc (p.2.0)
+gives_tell_none world number stored held id dot message next (inr (inr p)) = cc (p.2)
+
+-- a leaf that comes to a clone that asks
+adopts_tell_none : (world : World) (number id : ℕ) (path : List ℕ) (dots : List Range) (dot : Dot) (message : ℕ) (next : World)
+    → ¬ Adopts world number id path dots (Did dot message) next
+adopts_tell_none world number id path dots dot message next (inl p) = cc (p.1)
+adopts_tell_none world number id path dots dot message next (inr p) = cc (p.1.0)
+
+-- whatever comes to a clone
+takes_tell_none : (world : World) (number : ℕ) (sent : Message) (clone : Clone) (dot : Dot) (message : ℕ) (next : World)
+    → ¬ Takes world number sent clone (Did dot message) next
+takes_tell_none world number sent Absent dot message next p = cc (p.0)
+takes_tell_none world number (JoinGive id path dots) Asking dot message next p = adopts_tell_none world number id path dots dot message next p
+takes_tell_none world number sent Asking dot message next p = cc (p.0)
+takes_tell_none world number sent Empty dot message next p = cc (p.0)
+takes_tell_none world number sent (Down stored) dot message next p = cc (p.0)
+takes_tell_none world number (RangeOf range) (Live stored held) dot message next p = receives_tell_none world number stored held range dot message next p
+takes_tell_none world number (JoinAsk id) (Live stored held) dot message next p = gives_tell_none world number stored held id dot message next p
+takes_tell_none world number (JoinGive id path dots) (Live stored held) dot message next p = cc (p.0)
+takes_tell_none world number sent clone dot message next p = p
+
+-- a `deliver`
+delivers_tell_none : (world : World) (number : ℕ) (sent : Option Message) (dot : Dot) (message : ℕ) (next : World)
+    → ¬ MatchOption sent (Answers world NoMessage (Did dot message) next) (λ it. Takes world number it (clone_at world number) (Did dot message) next)
+delivers_tell_none world number None dot message next p = cc (p.0)
+delivers_tell_none world number (Some it) dot message next p = takes_tell_none world number it (clone_at world number) dot message next p
+
+-- a `show`
+lists_tell_none : (world : World) (clone : Clone) (dot : Dot) (message : ℕ) (next : World) → ¬ Lists world clone (Did dot message) next
+lists_tell_none world Absent dot message next p = cc (p.0)
+lists_tell_none world Asking dot message next p = cc (p.0)
+lists_tell_none world Empty dot message next p = cc (p.0)
+lists_tell_none world (Down stored) dot message next p = cc (p.0)
+lists_tell_none world (Live stored held) dot message next p = cc (p.2.0)
+
+-- a `join`
+joins_tell_none : (world : World) (number : ℕ) (clone : Clone) (dot : Dot) (message : ℕ) (next : World) → ¬ Joins world number clone (Did dot message) next
+joins_tell_none world number Absent dot message next p = cc (p.0)
+joins_tell_none world number Asking dot message next p = cc (p.0)
+joins_tell_none world number Empty dot message next p = cc (p.0)
+joins_tell_none world number (Down stored) dot message next p = cc (p.0)
+joins_tell_none world number (Live stored held) dot message next p = cc (p.0)
+
+-- and a `compare`
+compares_tell_none : (known other : List Range) (dot : Dot) (message : ℕ) → ¬ Compares known other (Did dot message)
+compares_tell_none known other dot message (inl p) = cc (p.2)
+compares_tell_none known other dot message (inr (inl p)) = cc (p.2)
+compares_tell_none known other dot message (inr (inr (inl p))) = cc (p.2)
+compares_tell_none known other dot message (inr (inr (inr p))) = cc (p.2)
+
+compares_with_tell_none : (world : World) (stored : Stored) (clone : Clone) (dot : Dot) (message : ℕ) (next : World) → ¬ ComparesWith world stored clone (Did dot message) next
+compares_with_tell_none world stored Absent dot message next p = cc (p.0)
+compares_with_tell_none world stored Asking dot message next p = cc (p.0)
+compares_with_tell_none world stored Empty dot message next p = cc (p.0)
+compares_with_tell_none world stored (Down kept) dot message next p = cc (p.0)
+compares_with_tell_none world stored (Live other held) dot message next p = compares_tell_none (known_of stored) (known_of other) dot message p.0
+
+weighs_tell_none : (world : World) (clone other : Clone) (dot : Dot) (message : ℕ) (next : World) → ¬ Weighs world clone other (Did dot message) next
+weighs_tell_none world Absent other dot message next p = cc (p.0)
+weighs_tell_none world Asking other dot message next p = cc (p.0)
+weighs_tell_none world Empty other dot message next p = cc (p.0)
+weighs_tell_none world (Down stored) other dot message next p = cc (p.0)
+weighs_tell_none world (Live stored held) other dot message next p = compares_with_tell_none world stored other dot message next p
+
+-- the dot that a command tells of is that of an operation which its step put at the head of the history, and its clone
+-- remembers it
+pub did_remembers : DidRemembers
+unfolding Step
+did_remembers world (Add number triple) dot message next p =
+    let made = adds_remembers world number triple (clone_at world number) dot message next refl p in
+    record { operation = made.0; is = made.1.is; made = made.2; remembers = made.3 }
+did_remembers world (Remove number triple) dot message next p =
+    let made = removes_remembers world number triple (clone_at world number) dot message next refl p in
+    record { operation = made.0; is = made.1.is; made = made.2; remembers = made.3 }
+did_remembers world (Deliver sent number) dot message next p = absurd (delivers_tell_none world number (message_at world sent) dot message next p)
+did_remembers world (Show number) dot message next p = absurd (lists_tell_none world (clone_at world number) dot message next p)
+did_remembers world (Join number) dot message next p = absurd (joins_tell_none world number (clone_at world number) dot message next p)
+did_remembers world (Compare number other) dot message next p = absurd (weighs_tell_none world (clone_at world number) (clone_at world other) dot message next p)
+
 -- ---- the steps behind it
 
 -- a world that is left as it was remembers what it did
 same_remembers : (world next : World) (number : ℕ) (operation : Operation) → Remembers world number operation → next ≡ world → Remembers next number operation
 same_remembers world next number operation remembers same = subst (λ (world : World). Remembers world number operation) (sym same) remembers
-
--- two live clones that are one keep the same
-one_live : (stored kept : Stored) (held back : List Range) → Live stored held ≡ Live kept back → stored ≡ kept
-one_live stored kept held back same = cc
 
 -- a world where one live clone knows no fewer dots, and whose history has grown, remembers what it did
 grown_remembers : (world next : World) (number : ℕ) (operation : Operation) (grower : ℕ) (stored grown : Stored) (held left : List Range)
@@ -132,19 +226,19 @@ grown_remembers world next number operation grower stored grown held left rememb
     elim (cases_eq number grower) [
       | inl same ↦
           let here : clone_at world number ≡ Live stored held = subst (λ (k : ℕ). clone_at world k ≡ Live stored held) (sym same) live in
-          let kept : remembers.stored ≡ stored = one_live remembers.stored stored remembers.held held (sym remembers.live ∙ here) in
+          let kept : remembers.stored ≡ stored = sym (subst (λ (clone : Clone). Keeps clone remembers.stored) here remembers.keeps) in
+          let live_now : clone_at next number ≡ now =
+          at ∙ ap (λ (k : ℕ). get_or (set world.clones grower now) k Absent) same
+          ∙ get_or-set_same world.clones grower now Absent (place_of_live world grower stored held live) in
           record {
             stored = grown;
-            held = left;
-            live = at ∙ ap (λ (k : ℕ). get_or (set world.clones grower now) k Absent) same
-                ∙ get_or-set_same world.clones grower now Absent (place_of_live world grower stored held live);
+            keeps = subst (λ (clone : Clone). Keeps clone grown) (sym live_now) refl;
             known = knows operation.dot (subst (λ (s : Stored). Knows (known_of s) operation.dot) kept remembers.known);
             stands = grows operation remembers.stands;
           }
       | inr differs ↦ record {
         stored = remembers.stored;
-        held = remembers.held;
-        live = at ∙ get_or-set_other world.clones grower number now Absent differs ∙ remembers.live;
+        keeps = subst (λ (clone : Clone). Keeps clone remembers.stored) (sym (at ∙ get_or-set_other world.clones grower number now Absent differs)) remembers.keeps;
         known = remembers.known;
         stands = grows operation remembers.stands;
       }
@@ -200,16 +294,17 @@ receives_keep world number operation taker stored held range reply next remember
     (λ dot known. known)
     (λ other stands. subst (λ (w : World). Has w.history other) (sym p.3) stands)
 
--- a world where a clone that was not live has become something else, and whose history is the same, remembers what it did
+-- a world where a clone that kept nothing has become something else, and whose history is the same, remembers what it did
 woken_remembers : (world next : World) (number : ℕ) (operation : Operation) (waker : ℕ) (now : Clone)
-    → Remembers world number operation → ((stored : Stored) (held : List Range) → ¬ (clone_at world waker ≡ Live stored held))
+    → Remembers world number operation → ((stored : Stored) → ¬ Keeps (clone_at world waker) stored)
     → next.clones ≡ set world.clones waker now → next.history ≡ world.history → Remembers next number operation
 woken_remembers world next number operation waker now remembers asleep clones history = record {
   stored = remembers.stored;
-  held = remembers.held;
-  live = ap (λ (cs : List Clone). get_or cs number Absent) clones
+  keeps = subst (λ (clone : Clone). Keeps clone remembers.stored)
+      (sym (ap (λ (cs : List Clone). get_or cs number Absent) clones
       ∙ get_or-set_other world.clones waker number now Absent
-      (λ same. asleep remembers.stored remembers.held (sym (ap (λ (k : ℕ). clone_at world k) same) ∙ remembers.live)) ∙ remembers.live;
+      (λ same. asleep remembers.stored (subst (λ (k : ℕ). Keeps (clone_at world k) remembers.stored) same remembers.keeps))))
+      remembers.keeps;
   known = remembers.known;
   stands = subst (λ (operations : List Operation). Has operations operation) (sym history) remembers.stands;
 }
@@ -218,10 +313,10 @@ woken_remembers world next number operation waker now remembers asleep clones hi
 joins_keep : (world : World) (number : ℕ) (operation : Operation) (asker : ℕ) (clone : Clone) (reply : Reply) (next : World)
     → Remembers world number operation → clone_at world asker ≡ clone → Joins world asker clone reply next → Remembers next number operation
 joins_keep world number operation asker Absent reply next remembers is p =
-    woken_remembers world next number operation asker Asking remembers (λ stored held live. cc (is, live))
+    woken_remembers world next number operation asker Asking remembers (λ stored. subst (λ (clone : Clone). ¬ Keeps clone stored) (sym is) (λ h. h))
     (ap (λ (w : World). w.clones) p.1) (ap (λ (w : World). w.history) p.1)
 joins_keep world number operation asker Asking reply next remembers is p =
-    woken_remembers world next number operation asker Asking remembers (λ stored held live. cc (is, live))
+    woken_remembers world next number operation asker Asking remembers (λ stored. subst (λ (clone : Clone). ¬ Keeps clone stored) (sym is) (λ h. h))
     (ap (λ (w : World). w.clones) p.1) (ap (λ (w : World). w.history) p.1)
 joins_keep world number operation asker Empty reply next remembers is p = same_remembers world next number operation remembers p.1
 joins_keep world number operation asker (Down stored) reply next remembers is p = same_remembers world next number operation remembers p.1
@@ -244,7 +339,7 @@ adopts_keep : (world : World) (number : ℕ) (operation : Operation) (taker id :
     → Remembers world number operation → clone_at world taker ≡ Asking
     → Adopts world taker id path dots reply next → Remembers next number operation
 adopts_keep world number operation taker id path dots reply next remembers is (inl p) =
-    woken_remembers world next number operation taker (Live (joined_with path dots) []) remembers (λ stored held live. cc (is, live))
+    woken_remembers world next number operation taker (Live (joined_with path dots) []) remembers (λ stored. subst (λ (clone : Clone). ¬ Keeps clone stored) (sym is) (λ h. h))
     (ap (λ (w : World). w.clones) p.2) (ap (λ (w : World). w.history) p.2)
 adopts_keep world number operation taker id path dots reply next remembers is (inr p) = same_remembers world next number operation remembers p.1.1
 
@@ -295,17 +390,25 @@ step_remembers world number operation (Compare one other) reply next remembers p
 -- a world runs at the stage, and remembers the operation
 abbrev StageRemembers : Stage → ℕ → Operation → Type 0
 StageRemembers Waiting number operation = ⊥
+StageRemembers (SetUp setup) number operation = ⊥
 StageRemembers (Running world) number operation = Remembers world number operation
 
--- a line leads from such a stage to another
+-- a command leads from such a world to another
+commands_keep : (world : World) (number : ℕ) (operation : Operation) (line text : List ℕ) (next : Stage)
+    → Remembers world number operation → Commands (Running world) line text next → StageRemembers next number operation
+commands_keep world number operation line text next remembers p =
+    subst (λ (stage : Stage). StageRemembers stage number operation) (sym p.changes)
+    (step_remembers p.world number operation p.command p.reply p.after
+    (subst (λ (now : World). Remembers now number operation) (sym p.founds) remembers) p.steps)
+
+-- and so does each line
 acts_keep : (stage : Stage) (number : ℕ) (operation : Operation) (line text : List ℕ) (next : Stage)
     → StageRemembers stage number operation → Acts stage line text next → StageRemembers next number operation
 acts_keep Waiting number operation line text next remembers p = absurd remembers
+acts_keep (SetUp setup) number operation line text next remembers p = absurd remembers
 acts_keep (Running world) number operation line text next remembers (inl p) =
     subst (λ (stage : Stage). StageRemembers stage number operation) (sym p.2) remembers
-acts_keep (Running world) number operation line text next remembers (inr p) =
-    subst (λ (stage : Stage). StageRemembers stage number operation) (sym p.changes)
-    (step_remembers world number operation p.command p.reply p.after remembers p.steps)
+acts_keep (Running world) number operation line text next remembers (inr p) = commands_keep world number operation line text next remembers p
 
 -- and so do lines
 lines_keep : (stage : Stage) (number : ℕ) (operation : Operation) (lines : List (List ℕ)) (text : List ℕ) (next : Stage)
@@ -314,55 +417,14 @@ lines_keep stage number operation [] text next remembers p = subst (λ (stage : 
 lines_keep stage number operation (line ∷ lines) text next remembers p =
     lines_keep p.2 number operation lines p.1 next (acts_keep stage number operation line p.0 p.2 remembers p.3) p.4
 
--- a run over two lists of lines is a run over the first and then one over the second
-pub run_split : (stage : Stage) (front rest : List (List ℕ)) (text : List ℕ) (next : Stage) → Runs stage (front ++ rest) text next
-    → (first : List ℕ) × (second : List ℕ) × (middle : Stage) × Runs stage front first middle × Runs middle rest second next
-run_split stage [] rest text next p = ([], text, stage, (refl, refl), p)
-run_split stage (line ∷ front) rest text next p =
-    let q = run_split p.2 front rest p.1 next p.4 in
-    (p.0 ++ q.0, q.1, q.2, (p.0, q.0, p.2, p.3, q.3, refl), q.4)
-
--- an answer is true right behind its step
-answered_remembers : (before : World) (command : Command) (number : ℕ) (triple : Triple) (dot : Dot) (message : ℕ) (after : World)
-    → (command ≡ Add number triple) ⊎ (command ≡ Remove number triple) → Step before command (Did dot message) after
-    → Survives before command dot after number
-answered_remembers before command number triple dot message after (inl is) steps =
-    let p = add_remembers before number triple dot message after (subst (λ (c : Command). Step before c (Did dot message) after) is steps) in
-    subst (λ (c : Command). Survives before c dot after number) (sym is) (record { operation = p.0; is = p.1.is; made = p.1; remembers = p.2 })
-answered_remembers before command number triple dot message after (inr is) steps =
-    let p = remove_remembers before number triple dot message after (subst (λ (c : Command). Step before c (Did dot message) after) is steps) in
-    subst (λ (c : Command). Survives before c dot after number) (sym is) (record { operation = p.0; is = p.1.is; made = p.1; remembers = p.2 })
-
--- the lines behind the one that was answered lead from the world after it to the world in the end
-lines_behind : (lines : List (List ℕ)) (text : List ℕ) (world : World) (number : ℕ) (dot : Dot)
-    → Runs Waiting lines text (Running world) → (answered : IsAnswered lines number dot)
-    → (second : List ℕ) × Runs (Running answered.after) answered.rest second (Running world)
-lines_behind lines text world number dot runs answered =
-    let split = run_split Waiting answered.front (answered.line ∷ answered.rest) text (Running world)
-    (subst (λ (ls : List (List ℕ)). Runs Waiting ls text (Running world)) answered.whole runs) in
-    let same = one_run Waiting answered.front split.0 answered.text split.2 (Running answered.before) split.3 answered.runs in
-    let behind : Runs (Running answered.before) (answered.line ∷ answered.rest) split.1 (Running world) =
-    subst (λ (stage : Stage). Runs stage (answered.line ∷ answered.rest) split.1 (Running world)) same.1 split.4 in
-    let act : Acts (Running answered.before) answered.line (reply_text (Did dot answered.message)) (Running answered.after) = inr (record {
-      command = answered.command;
-      reply = Did dot answered.message;
-      after = answered.after;
-      spells = answered.spells;
-      steps = answered.steps;
-      replies = refl;
-      changes = refl;
-    }) in
-    let acted = one_act (Running answered.before) answered.line behind.0 (reply_text (Did dot answered.message)) behind.2 (Running answered.after) behind.3 act in
-    (behind.1, subst (λ (stage : Stage). Runs stage answered.rest behind.1 (Running world)) acted.1 behind.4)
-
--- the operation of each answer is remembered in the world that a run leads to
+-- the operation of each answer is remembered in the world that its run leads to
 pub answers_survive : AnswersSurvive
-answers_survive lines text world runs number dot answered =
-    let survives = answered_remembers answered.before answered.command number answered.triple dot answered.message answered.after answered.changes answered.steps in
-    let behind = lines_behind lines text world number dot runs answered in
+answers_survive lines world number dot answered =
+    let done = did_remembers answered.before answered.command dot answered.message answered.after answered.steps in
     record {
-      operation = survives.operation;
-      is = survives.is;
-      made = survives.made;
-      remembers = lines_keep (Running answered.after) number survives.operation answered.rest behind.0 (Running world) survives.remembers behind.1;
+      operation = done.operation;
+      is = done.is;
+      made = done.made;
+      remembers = lines_keep (Running answered.after) number done.operation answered.rest answered.more (Running world)
+          (subst (λ (k : ℕ). Remembers answered.after k done.operation) (sym answered.at) done.remembers) answered.goes_on;
     }

@@ -13,8 +13,8 @@ use Rattle.mld_model.specs.World.{World, Message, RangeOf, JoinAsk, JoinGive, me
 use Rattle.mld_model.specs.Reply.{Reply, Did, Took, Answer, Joined, NoMessage, Ignored, IsAbsent, IsDown}
 use Rattle.mld_model.specs.CloneStep.{Answers, Makes, Adds, Removes, Accepts, HoldsBack, Receives, Joins, left_half, Gives, joined_with, Adopts, Takes, Lists, ComparesWith, Weighs}
 use Rattle.mld_model.specs.Durable.{DurableStep, AppendsMade, AppendsTaken, kept_of, kept_after, history_after}
-use Rattle.schedule_model.specs.Step.{Step}
-use Rattle.schedule_model.specs.DurableSteps.{done_at, MakesDurably, taking_steps, giving_steps, joining_steps, message_steps, DurableSteps, LeadsDurably, DurableStepsLead, OneDurableList}
+use Rattle.schedule_model.specs.Step.{Step, clone_of}
+use Rattle.schedule_model.specs.DurableSteps.{MakesDurably, taking_steps, giving_steps, joining_steps, message_steps, DurableSteps, LeadsDurably, DurableStepsLead, OneDurableList}
 
 -- ---- what durable steps lead to
 
@@ -254,7 +254,7 @@ weighs_lead world number (Live stored held) other reply next p = compares_lead w
 
 -- steps of a command that lead there
 leads_durably : (world : World) (command : Command) (reply : Reply) (next : World) (steps : List DurableStep)
-    → DurableSteps world command reply next steps → Leads world (done_at command) steps next → LeadsDurably world command reply next
+    → DurableSteps world command reply next steps → Leads world (clone_of command) steps next → LeadsDurably world command reply next
 leads_durably world command reply next steps are leads =
     record { steps = steps; are = are; kept = leads.kept; made = leads.made; others = leads.others }
 

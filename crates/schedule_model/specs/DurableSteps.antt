@@ -8,16 +8,7 @@ use Rattle.mld_model.specs.CloneStep.{joined_with}
 use Rattle.mld_model.specs.World.{World, Message, RangeOf, Want, SnapshotOf, JoinAsk, JoinGive, message_at, clone_at, clone_count}
 use Rattle.mld_model.specs.Reply.{Reply, Did, Took, Answer, Joined}
 use Rattle.mld_model.specs.Durable.{DurableStep, AppendsMade, AppendsTaken, AppendsFork, Creates, kept_of, kept_after, history_after}
-use Rattle.schedule_model.specs.Step.{HasCloneNumbers, Step}
-
--- the number of the clone at which a command is done; a `compare` is done at the first of its two
-abbrev pub done_at : Command → ℕ
-done_at (Add number triple) = number
-done_at (Remove number triple) = number
-done_at (Deliver message number) = number
-done_at (Show number) = number
-done_at (Compare number other) = number
-done_at (Join number) = number
+use Rattle.schedule_model.specs.Step.{HasCloneNumbers, clone_of, Step}
 
 -- one step: the entry of the operation that joined the history is appended
 pub record AppendsOperation (world next : World) (steps : List DurableStep) : Type 0 where
@@ -68,10 +59,10 @@ pub record LeadsDurably (world : World) (command : Command) (reply : Reply) (nex
   pub steps : List DurableStep
   pub are : DurableSteps world command reply next steps
   -- they give what the clone keeps then, and the history
-  pub kept : kept_after (kept_of (clone_at world (done_at command))) steps ≡ kept_of (clone_at next (done_at command))
+  pub kept : kept_after (kept_of (clone_at world (clone_of command))) steps ≡ kept_of (clone_at next (clone_of command))
   pub made : history_after world.history steps ≡ next.history
   -- what the other clones keep stays as it was
-  pub others : (other : ℕ) → other ≢ done_at command → kept_of (clone_at next other) ≡ kept_of (clone_at world other)
+  pub others : (other : ℕ) → other ≢ clone_of command → kept_of (clone_at next other) ≡ kept_of (clone_at world other)
 
 -- each step of a world by a command whose clones there are has durable steps that lead to the next world
 abbrev pub DurableStepsLead : Type 0

@@ -1,5 +1,5 @@
 -- The laws of schedules and of the worlds that they reach, as the contracts of the crate state them.
-use Rattle.std.specs.Prelude.{◌≡◌, ℕ, List, IsTrue}
+use Rattle.std.specs.Prelude.{◌≡◌, ℕ, List, ◌∷◌, IsTrue}
 use Rattle.rdf_terms.specs.declared.terms.Triple.{Triple}
 use Rattle.tree_clock.specs.declared.dots.Dot.{Dot}
 use Rattle.tree_clock.specs.declared.dots.Range.{Range}
@@ -11,29 +11,29 @@ use Rattle.schedule_model.specs.declared.Command.TheVariants.{Add, Remove}
 use Rattle.mld_model.specs.Clone.{IsWithin}
 use Rattle.mld_model.specs.World.{World, founded}
 use Rattle.mld_model.specs.Reply.{Reply, Did}
-use Rattle.schedule_model.specs.Step.{HasCloneNumbers, Step}
+use Rattle.schedule_model.specs.Step.{HasCloneNumbers, clone_of, Step}
 use Rattle.mld_model.specs.Sound.{IsSound}
-use Rattle.schedule_model.specs.Schedule.{IsNothing, is_unbuilt, SpellsSetup, SpellsCommand}
-use Rattle.schedule_model.specs.Answers.{Remembers, IsAddOf, IsRemoveOf}
+use Rattle.schedule_model.specs.Schedule.{IsNothing, is_unbuilt, Setup, SpellsSetup, SpellsCommand}
+use Rattle.schedule_model.specs.Answers.{Remembers, IsAddOf, IsRemoveOf, Survives}
 use Rattle.schedule_model.specs.Promises.{AnswersHold, LeavesDiffer, KeepsPromises}
-use Rattle.schedule_model.specs.Runs.{Stage, Waiting, Running, Acts, Runs, IsBad, IsUnbuilt, Outcome, Verdict}
+use Rattle.schedule_model.specs.Runs.{Stage, Waiting, IsWorldOf, Acts, Runs, IsBad, IsUnbuilt, Outcome, Verdict}
 
 -- a line is at most one of these: it says nothing, it isn't built yet, it is a domain line, it is a command
 pub record IsOfOneKind (line : List ℕ) : Type 0 where
   pub nothing_unbuilt : IsNothing line → ¬ IsTrue (is_unbuilt line)
-  pub nothing_setup : IsNothing line → (domain : List ℕ) (count : ℕ) → ¬ SpellsSetup line domain count
+  pub nothing_setup : IsNothing line → (setup : Setup) → ¬ SpellsSetup line setup
   pub nothing_command : IsNothing line → (command : Command) → ¬ SpellsCommand line command
-  pub unbuilt_setup : IsTrue (is_unbuilt line) → (domain : List ℕ) (count : ℕ) → ¬ SpellsSetup line domain count
+  pub unbuilt_setup : IsTrue (is_unbuilt line) → (setup : Setup) → ¬ SpellsSetup line setup
   pub unbuilt_command : IsTrue (is_unbuilt line) → (command : Command) → ¬ SpellsCommand line command
-  pub setup_command : (domain : List ℕ) (count : ℕ) → SpellsSetup line domain count → (command : Command) → ¬ SpellsCommand line command
+  pub setup_command : (setup : Setup) → SpellsSetup line setup → (command : Command) → ¬ SpellsCommand line command
 
 -- each line is of at most one kind
 abbrev pub OneKind : Type 0
 OneKind = (line : List ℕ) → IsOfOneKind line
 
--- a domain line spells one domain and one number of clones
+-- a domain line spells one setup
 abbrev pub OneSetup : Type 0
-OneSetup = (line domain other : List ℕ) (count number : ℕ) → SpellsSetup line domain count → SpellsSetup line other number → (domain ≡ other) × (count ≡ number)
+OneSetup = (line : List ℕ) (setup other : Setup) → SpellsSetup line setup → SpellsSetup line other → setup ≡ other
 
 -- a line spells one command
 abbrev pub OneCommand : Type 0
@@ -69,7 +69,7 @@ OneVerdict = (lines : List (List ℕ)) (outcome other : Outcome) → Verdict lin
 
 -- the founded world is sound
 abbrev pub FoundedIsSound : Type 0
-FoundedIsSound = (domain : List ℕ) (count : ℕ) → IsSound (founded domain count)
+FoundedIsSound = (domain : List ℕ) (properties : List (List ℕ)) (count : ℕ) → IsSound (founded domain properties count)
 
 -- a step of a sound world, by a command whose clones there are, leads to a sound world
 abbrev pub StepIsSound : Type 0
@@ -78,35 +78,41 @@ StepIsSound = (world : World) (command : Command) (reply : Reply) (next : World)
 
 -- each world that a schedule reaches is sound
 abbrev pub RunsAreSound : Type 0
-RunsAreSound = (lines : List (List ℕ)) (text : List ℕ) (world : World) → Runs Waiting lines text (Running world) → IsSound world
+RunsAreSound = (lines : List (List ℕ)) (text : List ℕ) (stage : Stage) (world : World) → Runs Waiting lines text stage → IsWorldOf stage world → IsSound world
 
 -- clones that know the same dots have the same pairs
 abbrev pub SamePairs : Type 0
 SamePairs = (history : List Operation) (known other : List Range) (pairs others : List Tagged)
     → IsWithin known other → IsWithin other known → IsMeaning history known pairs → IsMeaning history other others → pairs ≡ others
 
--- the dot that an `add` tells of is that of an operation with the triple as its one insert and no deletes, and its clone
--- remembers the operation
+-- the dot that an `add` tells of is that of an operation with the triple as its one insert and no deletes; the step put it at
+-- the head of the history, and its clone remembers it
 abbrev pub AddRemembers : Type 0
 AddRemembers = (world : World) (number : ℕ) (triple : Triple) (dot : Dot) (message : ℕ) (next : World)
     → Step world (Add number triple) (Did dot message) next
-    → (operation : Operation) × IsAddOf triple dot operation × Remembers next number operation
+    → (operation : Operation) × IsAddOf triple dot operation × (next.history ≡ operation ∷ world.history) × Remembers next number operation
 
 -- the dot that a `remove` tells of is that of an operation with no inserts, which deletes the pairs of the triple that
--- its clone had, at least one; and its clone remembers the operation
+-- its clone had, at least one; the step put it at the head of the history, and its clone remembers it
 abbrev pub RemoveRemembers : Type 0
 RemoveRemembers = (world : World) (number : ℕ) (triple : Triple) (dot : Dot) (message : ℕ) (next : World)
     → Step world (Remove number triple) (Did dot message) next
-    → (operation : Operation) × IsRemoveOf world number triple dot operation × Remembers next number operation
+    → (operation : Operation) × IsRemoveOf world number triple dot operation × (next.history ≡ operation ∷ world.history) × Remembers next number operation
+
+-- the dot that a command tells of is that of an operation which its step put at the head of the history, and the clone that
+-- the command says of remembers it
+abbrev pub DidRemembers : Type 0
+DidRemembers = (world : World) (command : Command) (dot : Dot) (message : ℕ) (next : World)
+    → Step world command (Did dot message) next → Survives world next dot next (clone_of command)
 
 -- what a clone remembers before a step it remembers after it
 abbrev pub StepRemembers : Type 0
 StepRemembers = (world : World) (number : ℕ) (operation : Operation) (command : Command) (reply : Reply) (next : World)
     → Remembers world number operation → Step world command reply next → Remembers next number operation
 
--- in the world that a schedule reaches, each clone remembers the operation of each `add` and `remove` that was answered with a dot
+-- in the world that a schedule reaches, each clone remembers the operation of each of its lines that was answered with a dot
 abbrev pub AnswersSurvive : Type 0
-AnswersSurvive = (lines : List (List ℕ)) (text : List ℕ) (world : World) → Runs Waiting lines text (Running world) → AnswersHold lines world
+AnswersSurvive = (lines : List (List ℕ)) (world : World) → AnswersHold lines world
 
 -- no two clones of a sound world hold one leaf
 abbrev pub OneLeaf : Type 0
@@ -114,4 +120,4 @@ OneLeaf = (world : World) → IsSound world → LeavesDiffer world
 
 -- the world that a schedule reaches keeps what is promised
 abbrev pub RunsKeepPromises : Type 0
-RunsKeepPromises = (lines : List (List ℕ)) (text : List ℕ) (world : World) → Runs Waiting lines text (Running world) → KeepsPromises lines world
+RunsKeepPromises = (lines : List (List ℕ)) (text : List ℕ) (stage : Stage) (world : World) → Runs Waiting lines text stage → IsWorldOf stage world → KeepsPromises lines world

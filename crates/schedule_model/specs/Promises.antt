@@ -15,9 +15,10 @@ ClonesAgree world = (number other : ℕ) (stored kept : Stored) (held waiting : 
     → IsWithin (known_of stored) (known_of kept) → IsWithin (known_of kept) (known_of stored)
     → (pairs others : List Tagged) → IsMeaning world.history (known_of stored) pairs → IsMeaning world.history (known_of kept) others → pairs ≡ others
 
--- the operation of each `add` and `remove` of the lines that was answered with a dot stands unchanged, and its clone knows it
+-- the operation of each of the lines that was answered with a dot, on the way to this world, stands unchanged, and its clone
+-- knows it
 abbrev pub AnswersHold : List (List ℕ) → World → Type 0
-AnswersHold lines world = (number : ℕ) (dot : Dot) (answered : IsAnswered lines number dot) → Survives answered.before answered.command dot world number
+AnswersHold lines world = (number : ℕ) (dot : Dot) (answered : IsAnswered lines number dot world) → Survives answered.before answered.after dot world number
 
 -- no two clones hold one leaf
 abbrev pub LeavesDiffer : World → Type 0

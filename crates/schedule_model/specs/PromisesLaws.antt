@@ -6,11 +6,11 @@ use Rattle.schedule_model.specs.StepSoundLaws.{runs_sound, same_pairs, one_leaf}
 use Rattle.schedule_model.specs.AnswersLaws.{answers_survive}
 
 pub promises_kept : RunsKeepPromises
-promises_kept lines text world runs =
-    let sound : IsSound world = runs_sound lines text world runs in
+promises_kept lines text stage world runs founds =
+    let sound : IsSound world = runs_sound lines text stage world runs founds in
     record {
       sound = sound;
       agree = λ number other stored kept held waiting one two within back pairs others. same_pairs world.history (known_of stored) (known_of kept) pairs others within back;
-      answers = answers_survive lines text world runs;
+      answers = answers_survive lines world;
       leaves = one_leaf world sound;
     }

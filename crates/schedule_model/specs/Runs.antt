@@ -5,23 +5,38 @@ use Rattle.mld_model.specs.World.{World, founded}
 use Rattle.mld_model.specs.Reply.{Reply, Ready}
 use Rattle.schedule_model.specs.ReplyText.{reply_text}
 use Rattle.schedule_model.specs.Step.{Step}
-use Rattle.schedule_model.specs.Schedule.{IsNothing, is_unbuilt, SpellsSetup, SpellsCommand}
+use Rattle.schedule_model.specs.Schedule.{IsNothing, is_unbuilt, Setup, SpellsSetup, SpellsCommand}
 
--- how far a schedule has come: it waits for its domain line, or a world runs
+-- how far a schedule has come
 pub data Stage : Type 0 where
+  -- no domain line has come
   Waiting : Stage
+  -- the domain is set up, and no clone is founded
+  SetUp : Setup → Stage
+  -- the clones are founded
   Running : World → Stage
 
--- the domain line founds the world
-pub record Founds (line text : List ℕ) (next : Stage) : Type 0 where
-  pub domain : List ℕ
-  pub count : ℕ
-  pub spells : SpellsSetup line domain count
-  pub replies : text ≡ reply_text (Ready count)
-  pub changes : next ≡ Running (founded domain count)
+-- the world that is founded with a setup
+abbrev pub founded_by : Setup → World
+founded_by setup = founded setup.domain setup.properties setup.count
 
--- a command line makes one step of the world
-pub record Commands (world : World) (line text : List ℕ) (next : Stage) : Type 0 where
+-- the world that the clones of a stage are founded in: the first command founds them, and so does the end of the lines
+abbrev pub IsWorldOf : Stage → World → Type 0
+IsWorldOf Waiting world = ⊥
+IsWorldOf (SetUp setup) world = world ≡ founded_by setup
+IsWorldOf (Running now) world = world ≡ now
+
+-- the domain line sets up
+pub record SetsUp (line text : List ℕ) (next : Stage) : Type 0 where
+  pub setup : Setup
+  pub spells : SpellsSetup line setup
+  pub replies : text ≡ reply_text (Ready setup.count)
+  pub changes : next ≡ SetUp setup
+
+-- a command line makes one step of the world, and founds it first where no clone is founded
+pub record Commands (stage : Stage) (line text : List ℕ) (next : Stage) : Type 0 where
+  pub world : World
+  pub founds : IsWorldOf stage world
   pub command : Command
   pub reply : Reply
   pub after : World
@@ -32,8 +47,9 @@ pub record Commands (world : World) (line text : List ℕ) (next : Stage) : Type
 
 -- the line says nothing, or acts: it adds the text to what is written and leads to the next stage
 abbrev pub Acts : Stage → List ℕ → List ℕ → Stage → Type 0
-Acts Waiting line text next = (IsNothing line × (text ≡ []) × (next ≡ Waiting)) ⊎ Founds line text next
-Acts (Running world) line text next = (IsNothing line × (text ≡ []) × (next ≡ Running world)) ⊎ Commands world line text next
+Acts Waiting line text next = (IsNothing line × (text ≡ []) × (next ≡ Waiting)) ⊎ SetsUp line text next
+Acts (SetUp setup) line text next = (IsNothing line × (text ≡ []) × (next ≡ SetUp setup)) ⊎ Commands (SetUp setup) line text next
+Acts (Running world) line text next = (IsNothing line × (text ≡ []) × (next ≡ Running world)) ⊎ Commands (Running world) line text next
 
 -- a run over lines, one after another: the text is what they add, in order
 abbrev pub Runs : Stage → List (List ℕ) → List ℕ → Stage → Type 0
@@ -47,7 +63,8 @@ IsUnbuilt stage line = IsTrue (is_unbuilt line)
 
 -- the line is outside the grammar at this stage, and isn't one that will be built
 abbrev pub IsBad : Stage → List ℕ → Type 0
-IsBad Waiting line = ¬ IsNothing line × ¬ IsTrue (is_unbuilt line) × ((domain : List ℕ) (count : ℕ) → ¬ SpellsSetup line domain count)
+IsBad Waiting line = ¬ IsNothing line × ¬ IsTrue (is_unbuilt line) × ((setup : Setup) → ¬ SpellsSetup line setup)
+IsBad (SetUp setup) line = ¬ IsNothing line × ¬ IsTrue (is_unbuilt line) × ((command : Command) → ¬ SpellsCommand line command)
 IsBad (Running world) line = ¬ IsNothing line × ¬ IsTrue (is_unbuilt line) × ((command : Command) → ¬ SpellsCommand line command)
 
 -- the lines before a line, what they write and the stage that they lead to
@@ -75,15 +92,15 @@ pub record StopsUnbuilt (lines : List (List ℕ)) (number : ℕ) (text : List �
   pub first : IsFirst line before.rest
   pub unbuilt : IsUnbuilt stage line
 
--- what becomes of a schedule: its last line is done, or a line is the first bad one, or the first unbuilt one; each with
--- the text that the lines before write
+-- what becomes of a schedule: its last line is done, with the world that it leads to; or a line is the first bad one, or the
+-- first unbuilt one, with the stage that the lines before it lead to; each with the text that those lines write
 pub data Outcome : Type 0 where
   Finished : List ℕ → World → Outcome
   BadLine : ℕ → List ℕ → Stage → Outcome
   UnbuiltLine : ℕ → List ℕ → Stage → Outcome
 
--- the lines of a schedule have this outcome
+-- the lines of a schedule have this outcome; their end founds the clones where no command did
 unfoldable pub Verdict : List (List ℕ) → Outcome → Type 0
-Verdict lines (Finished text world) = Runs Waiting lines text (Running world)
+Verdict lines (Finished text world) = (stage : Stage) × Runs Waiting lines text stage × IsWorldOf stage world
 Verdict lines (BadLine number text stage) = StopsBad lines number text stage
 Verdict lines (UnbuiltLine number text stage) = StopsUnbuilt lines number text stage

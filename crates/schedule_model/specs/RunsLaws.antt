@@ -6,58 +6,75 @@ use Rattle.mld_model.specs.World.{World}
 use Rattle.mld_model.specs.Reply.{Ready}
 use Rattle.schedule_model.specs.ReplyText.{reply_text}
 use Rattle.schedule_model.specs.Step.{Step}
-use Rattle.schedule_model.specs.Runs.{Stage, Waiting, Running, Founds, Commands, Acts, Runs, IsUnbuilt, IsBad, IsFirst, Outcome, Finished, BadLine, UnbuiltLine, Verdict}
+use Rattle.schedule_model.specs.Schedule.{Setup}
+use Rattle.schedule_model.specs.Runs.{Stage, Waiting, SetUp, Running, founded_by, IsWorldOf, SetsUp, Commands, Acts, Runs, IsUnbuilt, IsBad, IsFirst, Outcome, Finished, BadLine, UnbuiltLine, Verdict}
 use Rattle.schedule_model.specs.Laws.{OneAct, OneOutcome, OneRun, OneVerdict}
 use Rattle.schedule_model.specs.ScheduleLaws.{one_kind, one_setup, one_command}
 use Rattle.schedule_model.specs.StepLaws.{one_step}
 
 -- ---- lines
 
--- the domain line founds one world
-founds_once : (line text other : List ℕ) (next after : Stage) → Founds line text next → Founds line other after → (text ≡ other) × (next ≡ after)
-founds_once line text other next after p q =
-    let same = one_setup line p.domain q.domain p.count q.count p.spells q.spells in
-    (p.replies ∙ ap (λ (count : ℕ). reply_text (Ready count)) same.1 ∙ sym q.replies, cc (p.changes, q.changes, same.0, same.1))
+-- the domain line sets up in one way
+sets_up_once : (line text other : List ℕ) (next after : Stage) → SetsUp line text next → SetsUp line other after → (text ≡ other) × (next ≡ after)
+sets_up_once line text other next after p q =
+    let same = one_setup line p.setup q.setup p.spells q.spells in
+    (p.replies ∙ ap (λ (setup : Setup). reply_text (Ready setup.count)) same ∙ sym q.replies, p.changes ∙ ap SetUp same ∙ sym q.changes)
+
+-- the clones of a stage are founded in one world
+world_once : (stage : Stage) (world other : World) → IsWorldOf stage world → IsWorldOf stage other → world ≡ other
+world_once Waiting world other p q = absurd p
+world_once (SetUp setup) world other p q = p ∙ sym q
+world_once (Running now) world other p q = p ∙ sym q
 
 -- a command line makes one step
-commands_once : (world : World) (line text other : List ℕ) (next after : Stage)
-    → Commands world line text next → Commands world line other after → (text ≡ other) × (next ≡ after)
-commands_once world line text other next after p q =
+commands_once : (stage : Stage) (line text other : List ℕ) (next after : Stage)
+    → Commands stage line text next → Commands stage line other after → (text ≡ other) × (next ≡ after)
+commands_once stage line text other next after p q =
     let command = one_command line p.command q.command p.spells q.spells in
-    let same = one_step world q.command p.reply q.reply p.after q.after
-    (subst (λ (command : Command). Step world command p.reply p.after) command p.steps) q.steps in
+    let world = world_once stage p.world q.world p.founds q.founds in
+    let same = one_step q.world q.command p.reply q.reply p.after q.after
+    (subst₂ (λ (world : World) (command : Command). Step world command p.reply p.after) world command p.steps) q.steps in
     (p.replies ∙ ap reply_text same.0 ∙ sym q.replies, p.changes ∙ ap Running same.1 ∙ sym q.changes)
 
 -- a line adds one text to what is written, and leads to one stage
 pub one_act : OneAct
 one_act Waiting line text other next after (inl p) (inl q) = (p.1 ∙ sym q.1, p.2 ∙ sym q.2)
-one_act Waiting line text other next after (inl p) (inr q) = absurd ((one_kind line).nothing_setup p.0 q.domain q.count q.spells)
-one_act Waiting line text other next after (inr p) (inl q) = absurd ((one_kind line).nothing_setup q.0 p.domain p.count p.spells)
-one_act Waiting line text other next after (inr p) (inr q) = founds_once line text other next after p q
+one_act Waiting line text other next after (inl p) (inr q) = absurd ((one_kind line).nothing_setup p.0 q.setup q.spells)
+one_act Waiting line text other next after (inr p) (inl q) = absurd ((one_kind line).nothing_setup q.0 p.setup p.spells)
+one_act Waiting line text other next after (inr p) (inr q) = sets_up_once line text other next after p q
+one_act (SetUp setup) line text other next after (inl p) (inl q) = (p.1 ∙ sym q.1, p.2 ∙ sym q.2)
+one_act (SetUp setup) line text other next after (inl p) (inr q) = absurd ((one_kind line).nothing_command p.0 q.command q.spells)
+one_act (SetUp setup) line text other next after (inr p) (inl q) = absurd ((one_kind line).nothing_command q.0 p.command p.spells)
+one_act (SetUp setup) line text other next after (inr p) (inr q) = commands_once (SetUp setup) line text other next after p q
 one_act (Running world) line text other next after (inl p) (inl q) = (p.1 ∙ sym q.1, p.2 ∙ sym q.2)
 one_act (Running world) line text other next after (inl p) (inr q) = absurd ((one_kind line).nothing_command p.0 q.command q.spells)
 one_act (Running world) line text other next after (inr p) (inl q) = absurd ((one_kind line).nothing_command q.0 p.command p.spells)
-one_act (Running world) line text other next after (inr p) (inr q) = commands_once world line text other next after p q
+one_act (Running world) line text other next after (inr p) (inr q) = commands_once (Running world) line text other next after p q
 
 -- ---- the outcomes of a line
 
 -- what acts isn't outside the grammar
 acts_bad : (stage : Stage) (line text : List ℕ) (next : Stage) → Acts stage line text next → ¬ IsBad stage line
 acts_bad Waiting line text next (inl p) bad = bad.0 p.0
-acts_bad Waiting line text next (inr p) bad = bad.2 p.domain p.count p.spells
+acts_bad Waiting line text next (inr p) bad = bad.2 p.setup p.spells
+acts_bad (SetUp setup) line text next (inl p) bad = bad.0 p.0
+acts_bad (SetUp setup) line text next (inr p) bad = bad.2 p.command p.spells
 acts_bad (Running world) line text next (inl p) bad = bad.0 p.0
 acts_bad (Running world) line text next (inr p) bad = bad.2 p.command p.spells
 
 -- what acts is built
 acts_unbuilt : (stage : Stage) (line text : List ℕ) (next : Stage) → Acts stage line text next → ¬ IsUnbuilt stage line
 acts_unbuilt Waiting line text next (inl p) u = (one_kind line).nothing_unbuilt p.0 u
-acts_unbuilt Waiting line text next (inr p) u = (one_kind line).unbuilt_setup u p.domain p.count p.spells
+acts_unbuilt Waiting line text next (inr p) u = (one_kind line).unbuilt_setup u p.setup p.spells
+acts_unbuilt (SetUp setup) line text next (inl p) u = (one_kind line).nothing_unbuilt p.0 u
+acts_unbuilt (SetUp setup) line text next (inr p) u = (one_kind line).unbuilt_command u p.command p.spells
 acts_unbuilt (Running world) line text next (inl p) u = (one_kind line).nothing_unbuilt p.0 u
 acts_unbuilt (Running world) line text next (inr p) u = (one_kind line).unbuilt_command u p.command p.spells
 
 -- what is outside the grammar isn't among the lines that will be built
 bad_unbuilt : (stage : Stage) (line : List ℕ) → IsBad stage line → ¬ IsUnbuilt stage line
 bad_unbuilt Waiting line bad u = bad.1 u
+bad_unbuilt (SetUp setup) line bad u = bad.1 u
 bad_unbuilt (Running world) line bad u = bad.1 u
 
 -- each line has at most one of these outcomes at each stage
@@ -98,6 +115,7 @@ record ReadsOn (stage : Stage) (line : List ℕ) (after : Stage → Outcome → 
 -- what becomes of lines that are read from the stage on, by the lines
 abbrev Reads : List (List ℕ) → Stage → Outcome → Type 0
 Reads [] Waiting outcome = outcome ≡ BadLine 1 [] Waiting
+Reads [] (SetUp setup) outcome = outcome ≡ Finished [] (founded_by setup)
 Reads [] (Running world) outcome = outcome ≡ Finished [] world
 Reads (line ∷ lines) stage outcome =
     (IsBad stage line × (outcome ≡ BadLine 1 [] stage))
@@ -107,6 +125,7 @@ Reads (line ∷ lines) stage outcome =
 -- lines are read in one way
 reads_once : (lines : List (List ℕ)) (stage : Stage) (outcome other : Outcome) → Reads lines stage outcome → Reads lines stage other → outcome ≡ other
 reads_once [] Waiting outcome other p q = p ∙ sym q
+reads_once [] (SetUp setup) outcome other p q = p ∙ sym q
 reads_once [] (Running world) outcome other p q = p ∙ sym q
 reads_once (line ∷ lines) stage outcome other (inl p) (inl q) = p.1 ∙ sym q.1
 reads_once (line ∷ lines) stage outcome other (inl p) (inr (inl q)) = absurd (bad_unbuilt stage line p.0 q.0)
@@ -121,17 +140,23 @@ reads_once (line ∷ lines) stage outcome other (inr (inr p)) (inr (inr q)) =
     let rest = reads_once lines q.middle p.rest q.rest (subst (λ (stage : Stage). Reads lines stage p.rest) first.1 p.goes) q.goes in
     cc (p.is, q.is, first.0, rest)
 
+-- at the end the world of the stage is the one that is read
+reads_end : (stage : Stage) (text : List ℕ) (world : World) → text ≡ [] → IsWorldOf stage world → Reads [] stage (Finished text world)
+reads_end Waiting text world none is = absurd is
+reads_end (SetUp setup) text world none is = cc (none, is)
+reads_end (Running other) text world none is = cc (none, is)
+
 -- a run over all lines reads them
-reads_finished : (lines : List (List ℕ)) (stage : Stage) (text : List ℕ) (world : World) → Runs stage lines text (Running world) → Reads lines stage (Finished text world)
+reads_finished : (lines : List (List ℕ)) (stage : Stage) (text : List ℕ) (last : Stage) (world : World)
+    → Runs stage lines text last → IsWorldOf last world → Reads lines stage (Finished text world)
 unfolding later
-reads_finished [] Waiting text world h = absurd (cc (h.1))
-reads_finished [] (Running other) text world h = cc (h.0, h.1)
-reads_finished (line ∷ lines) stage text world h = inr (inr (record {
+reads_finished [] stage text last world h is = reads_end stage text world h.0 (subst (λ (stage : Stage). IsWorldOf stage world) h.1 is)
+reads_finished (line ∷ lines) stage text last world h is = inr (inr (record {
   front = h.0;
   middle = h.2;
   rest = Finished h.1 world;
   acts = h.3;
-  goes = reads_finished lines h.2 h.1 world h.4;
+  goes = reads_finished lines h.2 h.1 last world h.4 is;
   is = ap (λ (text : List ℕ). Finished text world) h.5;
 }))
 
@@ -183,7 +208,7 @@ reads_unbuilt (before ∷ front) rest stage text next runs line first h = inr (i
 -- a verdict says how the lines are read
 verdict_reads : (lines : List (List ℕ)) (outcome : Outcome) → Verdict lines outcome → Reads lines Waiting outcome
 unfolding Verdict
-verdict_reads lines (Finished text world) h = reads_finished lines Waiting text world h
+verdict_reads lines (Finished text world) h = reads_finished lines Waiting text h.0 world h.1 h.2
 verdict_reads lines (BadLine number text stage) h =
     let before = h.before in
     subst₂ (λ (lines : List (List ℕ)) (number : ℕ). Reads lines Waiting (BadLine number text stage)) (sym before.whole) (sym before.counted)

@@ -7,6 +7,7 @@ use Rattle.std.specs.Fmt.{decimal}
 use Rattle.iri_rules.specs.Domain.{is_domain}
 use Rattle.rdf_terms.specs.Grammar.{SpellsTriple, IsWithin}
 use Rattle.schedule_model.specs.Characters.{space, hash_mark}
+use Rattle.mld_model.specs.Local.{IsNamed}
 use Rattle.mld_model.specs.World.{clone_count}
 use Rattle.schedule_model.specs.declared.Command.{Command}
 use Rattle.schedule_model.specs.declared.Command.TheVariants.{Add, Remove, Deliver, Show, Compare, Join}
@@ -34,12 +35,26 @@ unbuilt_words =
 unfoldable pub is_unbuilt : List ℕ → Bool
 is_unbuilt line = list_any (λ word. is_word word (first_word line)) unbuilt_words
 
--- `domain D clones N`
-pub record SpellsSetup (line domain : List ℕ) (count : ℕ) : Type 0 where
-  pub whole : line ≡ codes "domain " ++ (domain ++ (codes " clones " ++ decimal count))
-  pub name : IsTrue (is_domain domain)
-  pub some : 1 ≤ count
-  pub most : count ≤ clone_count
+-- what a domain is set up with: its name, its single-valued properties, and how many clones it begins with
+pub record Setup : Type 0 where
+  pub domain : List ℕ
+  pub properties : List (List ℕ)
+  pub count : ℕ
+
+-- a setup by which clones may be founded: its domain's name is one, its properties ascend as terms, each once, and it has as many
+-- clones as there may be
+pub record IsSetup (setup : Setup) : Type 0 where
+  pub named : IsNamed setup.domain setup.properties
+  pub some : 1 ≤ setup.count
+  pub most : setup.count ≤ clone_count
+
+-- `domain D clones N`, which sets no property
+pub record SpellsSetup (line : List ℕ) (setup : Setup) : Type 0 where
+  pub whole : line ≡ codes "domain " ++ (setup.domain ++ (codes " clones " ++ decimal setup.count))
+  pub name : IsTrue (is_domain setup.domain)
+  pub some : 1 ≤ setup.count
+  pub most : setup.count ≤ clone_count
+  pub none : setup.properties ≡ []
 
 -- the number of a clone, the first of which is 0
 abbrev pub IsCloneNumber : ℕ → Type 0

@@ -11,7 +11,7 @@ use Rattle.schedule_model.specs.Characters.{space, hash_mark}
 use Rattle.mld_model.specs.World.{clone_count}
 use Rattle.schedule_model.specs.declared.Command.{Command}
 use Rattle.schedule_model.specs.declared.Command.TheVariants.{Add, Remove, Deliver, Show, Compare, Join}
-use Rattle.schedule_model.specs.Schedule.{IsNothing, empty, comment, is_unbuilt, SpellsSetup, SpellsCommand}
+use Rattle.schedule_model.specs.Schedule.{IsNothing, empty, comment, is_unbuilt, Setup, SpellsSetup, SpellsCommand}
 use Rattle.schedule_model.specs.Bytes.{Lacks, Lacks-from_test, Lacks-decimal, one_split, apart}
 use Rattle.rdf_terms.proofs.Complete.{one_spelled}
 use Rattle.schedule_model.specs.Step.{HasCloneNumbers}
@@ -101,9 +101,9 @@ unbuilt_nothing line h u = elim (nothing_begins h) [
 ]
 
 -- nor a domain line
-unbuilt_setup : (line domain : List ℕ) (count : ℕ) → IsTrue (is_unbuilt line) → ¬ SpellsSetup line domain count
+unbuilt_setup : (line : List ℕ) (setup : Setup) → IsTrue (is_unbuilt line) → ¬ SpellsSetup line setup
 unfolding is_unbuilt
-unbuilt_setup line domain count u h = false≢true (subst (λ (l : List ℕ). is_unbuilt l ≡ true) h.whole u)
+unbuilt_setup line setup u h = false≢true (subst (λ (l : List ℕ). is_unbuilt l ≡ true) h.whole u)
 
 -- nor a command
 unbuilt_command : (line : List ℕ) (command : Command) → IsTrue (is_unbuilt line) → ¬ SpellsCommand line command
@@ -118,23 +118,23 @@ unbuilt_command line (Compare number other) u h = false≢true (subst (λ (l : L
 -- ---- domain lines and commands
 
 -- no domain line is a command
-setup_command : (line domain : List ℕ) (count : ℕ) (command : Command) → SpellsSetup line domain count → ¬ SpellsCommand line command
-setup_command line domain count (Add number triple) p q = apart p.whole q.1 refl
-setup_command line domain count (Remove number triple) p q = apart p.whole q.1 refl
-setup_command line domain count (Deliver message number) p q = apart (ap (drop 1) p.whole) (ap (drop 1) q.0) refl
-setup_command line domain count (Show number) p q = apart p.whole q.0 refl
-setup_command line domain count (Join number) p q = apart p.whole q.0 refl
-setup_command line domain count (Compare number other) p q = apart p.whole q.0 refl
+setup_command : (line : List ℕ) (setup : Setup) (command : Command) → SpellsSetup line setup → ¬ SpellsCommand line command
+setup_command line setup (Add number triple) p q = apart p.whole q.1 refl
+setup_command line setup (Remove number triple) p q = apart p.whole q.1 refl
+setup_command line setup (Deliver message number) p q = apart (ap (drop 1) p.whole) (ap (drop 1) q.0) refl
+setup_command line setup (Show number) p q = apart p.whole q.0 refl
+setup_command line setup (Join number) p q = apart p.whole q.0 refl
+setup_command line setup (Compare number other) p q = apart p.whole q.0 refl
 
 -- each line is of at most one kind
 pub one_kind : OneKind
 one_kind line = record {
   nothing_unbuilt = unbuilt_nothing line;
-  nothing_setup = λ h domain count setup. nothing_apart h setup.whole refl;
+  nothing_setup = λ h setup spells. nothing_apart h spells.whole refl;
   nothing_command = λ h command spells. let first = command_begins line command spells in nothing_apart h first.1 (begins_apart command);
-  unbuilt_setup = λ u domain count. unbuilt_setup line domain count u;
+  unbuilt_setup = λ u setup. unbuilt_setup line setup u;
   unbuilt_command = λ u command. unbuilt_command line command u;
-  setup_command = λ domain count setup command. setup_command line domain count command setup;
+  setup_command = λ setup spells command. setup_command line setup command spells;
 }
 
 -- no name of a domain has a space
@@ -142,12 +142,14 @@ domain_lacks : (domain : List ℕ) → IsTrue (is_domain domain) → Lacks space
 unfolding is_domain
 domain_lacks domain h = Lacks-from_test is_domain_byte space refl domain (and_parts (nat_le 1 (length domain) && nat_le (length domain) domain_limit) (list_all is_domain_byte domain) h).1
 
--- a domain line spells one domain and one number of clones
+-- a domain line spells one setup
 pub one_setup : OneSetup
-one_setup line domain other count number p q =
-    let tails : domain ++ space ∷ (codes "clones " ++ decimal count) ≡ other ++ space ∷ (codes "clones " ++ decimal number) = ap (drop 7) (sym p.whole ∙ q.whole) in
-    let parts = one_split space domain other _ _ (domain_lacks domain p.name) (domain_lacks other q.name) tails in
-    (parts.0, decimal_injective count number (omega (arith, p.most)) (omega (arith, q.most)) (ap (drop 7) parts.1))
+one_setup line setup other p q =
+    let tails : setup.domain ++ space ∷ (codes "clones " ++ decimal setup.count) ≡ other.domain ++ space ∷ (codes "clones " ++ decimal other.count) = ap (drop 7) (sym p.whole ∙ q.whole) in
+    let parts = one_split space setup.domain other.domain _ _ (domain_lacks setup.domain p.name) (domain_lacks other.domain q.name) tails in
+    let counts = decimal_injective setup.count other.count (omega (arith, p.most)) (omega (arith, q.most)) (ap (drop 7) parts.1) in
+    let none : setup.properties ≡ other.properties = p.none ∙ sym q.none in
+    λ i. record { domain = parts.0 i; properties = none i; count = counts i }
 
 -- a line spells one command
 pub one_command : OneCommand

@@ -1,5 +1,5 @@
 -- One step of the world: a command, its reply, and the world after it.
-use Rattle.std.specs.Prelude.{◌<◌, MatchOption}
+use Rattle.std.specs.Prelude.{ℕ, ◌<◌, MatchOption}
 use Rattle.schedule_model.specs.declared.Command.{Command}
 use Rattle.schedule_model.specs.declared.Command.TheVariants.{Add, Remove, Deliver, Show, Compare, Join}
 use Rattle.mld_model.specs.CloneStep.{Answers, Adds, Removes, Takes, Lists, Joins, Weighs}
@@ -14,6 +14,15 @@ HasCloneNumbers (Deliver message number) = number < clone_count
 HasCloneNumbers (Show number) = number < clone_count
 HasCloneNumbers (Join number) = number < clone_count
 HasCloneNumbers (Compare number other) = (number < clone_count) × (other < clone_count)
+
+-- what a command says of: the clone that it is done at (the first of two)
+abbrev pub clone_of : Command → ℕ
+clone_of (Add number triple) = number
+clone_of (Remove number triple) = number
+clone_of (Deliver message number) = number
+clone_of (Show number) = number
+clone_of (Join number) = number
+clone_of (Compare number other) = number
 
 -- the step: the world before, the command, the reply, the world after
 unfoldable pub Step : World → Command → Reply → World → Type 0

@@ -11,7 +11,7 @@ use Rattle.mld_model.specs.World.{World, Message, RangeOf, JoinAsk, JoinGive, me
 use Rattle.mld_model.specs.Reply.{Reply, NoMessage}
 use Rattle.mld_model.specs.CloneStep.{Answers, Makes, Adds, Removes, Receives, Joins, Gives, Adopts, Takes, Lists, ComparesWith, Weighs}
 use Rattle.schedule_model.specs.Step.{Step}
-use Rattle.schedule_model.specs.Runs.{Stage, Waiting, Running, Acts, Runs}
+use Rattle.schedule_model.specs.Runs.{Stage, Waiting, SetUp, Running, IsWorldOf, Commands, Acts, Runs}
 use Rattle.mld_model.specs.Sound.{Keeps, IsSound}
 use Rattle.mld_model.specs.SoundLaws.{apart_differ, made_sound, taken_sound, holding_sound, asked_sound, forked_sound, stands_at, joined_sound}
 use Rattle.schedule_model.specs.ScheduleLaws.{spells_numbers}
@@ -161,14 +161,29 @@ step_sound world (Compare number other) reply next small sound p =
 -- the world that runs at a stage is sound
 abbrev IsSoundStage : Stage → Type 0
 IsSoundStage Waiting = Unit {0}
+IsSoundStage (SetUp setup) = Unit {0}
 IsSoundStage (Running world) = IsSound world
 
--- a line leads from such a stage to another
+-- and so is the world that the clones of such a stage are founded in
+world_sound : (stage : Stage) (world : World) → IsSoundStage stage → IsWorldOf stage world → IsSound world
+world_sound Waiting world sound is = absurd is
+world_sound (SetUp setup) world sound is = subst IsSound (sym is) (founded_sound setup.domain setup.properties setup.count)
+world_sound (Running now) world sound is = subst IsSound (sym is) sound
+
+-- a command leads from such a stage to another
+commands_sound : (stage : Stage) (line text : List ℕ) (next : Stage) → IsSoundStage stage → Commands stage line text next → IsSoundStage next
+commands_sound stage line text next sound p =
+    subst IsSoundStage (sym p.changes)
+    (step_sound p.world p.command p.reply p.after (spells_numbers line p.command p.spells) (world_sound stage p.world sound p.founds) p.steps)
+
+-- and so does each line
 acts_sound : (stage : Stage) (line text : List ℕ) (next : Stage) → IsSoundStage stage → Acts stage line text next → IsSoundStage next
 acts_sound Waiting line text next sound (inl p) = subst IsSoundStage (sym p.2) tt
-acts_sound Waiting line text next sound (inr p) = subst IsSoundStage (sym p.changes) (founded_sound p.domain p.count)
+acts_sound Waiting line text next sound (inr p) = subst IsSoundStage (sym p.changes) tt
+acts_sound (SetUp setup) line text next sound (inl p) = subst IsSoundStage (sym p.2) tt
+acts_sound (SetUp setup) line text next sound (inr p) = commands_sound (SetUp setup) line text next sound p
 acts_sound (Running world) line text next sound (inl p) = subst IsSoundStage (sym p.2) sound
-acts_sound (Running world) line text next sound (inr p) = subst IsSoundStage (sym p.changes) (step_sound world p.command p.reply p.after (spells_numbers line p.command p.spells) sound p.steps)
+acts_sound (Running world) line text next sound (inr p) = commands_sound (Running world) line text next sound p
 
 -- and so do lines
 lines_sound : (stage : Stage) (lines : List (List ℕ)) (text : List ℕ) (next : Stage) → IsSoundStage stage → Runs stage lines text next → IsSoundStage next
@@ -177,7 +192,7 @@ lines_sound stage (line ∷ lines) text next sound p = lines_sound p.2 lines p.1
 
 -- each world that a schedule reaches is sound
 pub runs_sound : RunsAreSound
-runs_sound lines text world p = lines_sound Waiting lines text (Running world) tt p
+runs_sound lines text stage world runs founds = world_sound stage world (lines_sound Waiting lines text stage tt runs) founds
 
 -- ---- what a reader may take from that
 

@@ -1,6 +1,6 @@
 //! Every world that a schedule reaches is sound, and keeps what its clones answered. The functions have no code, and their
 //! contracts are the laws of such worlds.
-ghost use Rattle.schedule_model.specs.Laws.{FoundedIsSound, StepIsSound, RunsAreSound, SamePairs, OneLeaf, AddRemembers, RemoveRemembers, StepRemembers, AnswersSurvive, RunsKeepPromises};
+ghost use Rattle.schedule_model.specs.Laws.{FoundedIsSound, StepIsSound, RunsAreSound, SamePairs, OneLeaf, AddRemembers, RemoveRemembers, DidRemembers, StepRemembers, AnswersSurvive, RunsKeepPromises};
 
 /// The founded world is sound, a step of a sound world by a command whose clones there are leads to a sound world, and so
 /// each world that a schedule reaches is sound. Clones that know the same dots have the same pairs. No two clones of a sound world hold one leaf.
@@ -12,24 +12,26 @@ pub fn sound_worlds()
     ensures one_leaf { OneLeaf }
 {}
 
-/// An answer holds from then on. A clone *remembers* an operation where it is live and knows the operation's dot, and the
-/// operation stands in the world's history.
+/// An answer that tells of a dot holds from then on. A clone *remembers* an operation where it is live or down and knows the
+/// operation's dot, and the operation stands in the world's history.
 ///
-/// The dot that an `add` tells of is that of an operation which inserts the triple alone and deletes nothing, and the clone
-/// remembers that operation after the step. The dot that a `remove` tells of is that of an operation which inserts nothing
-/// and deletes the pairs of the triple, at least one, that the clone had before; the clone remembers that one too. What a
-/// clone remembers before a step it remembers after it, whatever the command is. So in the world that a schedule reaches,
-/// the operation of each `add` and `remove` of its lines that was answered with a dot is remembered by its clone.
+/// The dot that an `add` tells of is that of an operation which inserts the triple alone and deletes nothing. The dot that a
+/// `remove` tells of is that of an operation which inserts nothing and deletes the pairs of the triple, at least one, that the
+/// clone had before. Whatever command tells of a dot, its step put the operation of that dot at the head of the history, and
+/// its clone remembers that operation after the step. What a clone remembers before a step it remembers after it, whatever
+/// the command is. So in the world that a schedule reaches, the operation of each of its lines that was answered with a dot is
+/// remembered by its clone.
 pub fn answers_survive()
     ensures add { AddRemembers }
     ensures remove { RemoveRemembers }
+    ensures did { DidRemembers }
     ensures kept { StepRemembers }
     ensures answered { AnswersSurvive }
 {}
 
 /// What is promised of the world that a schedule reaches: it is sound; its clones that know the same dots have the same pairs;
-/// the operation of each `add` and `remove` of its lines that was answered with a dot stands unchanged, and its clone knows
-/// it; no two clones hold one leaf.
+/// the operation of each of its lines that was answered with a dot stands unchanged, and its clone knows it; no two clones
+/// hold one leaf.
 pub fn promises_kept()
     ensures { RunsKeepPromises }
 {}

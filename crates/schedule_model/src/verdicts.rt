@@ -2,7 +2,7 @@
 ghost use Rattle.schedule_model.specs.Laws.{OneKind, OneSetup, OneCommand, OneStep, OneAct, OneOutcome, OneRun, OneVerdict};
 
 /// A line of a schedule is read in one way: it says nothing, isn't built yet, is a domain line or is a command, and never
-/// two of these; and it spells one domain with one number of clones, or one command.
+/// two of these; and it spells one setup, or one command.
 pub fn one_reading()
     ensures kind { OneKind }
     ensures setup { OneSetup }
