@@ -81,6 +81,7 @@ taken_by old entries held ticks pairs = record {
 pub local_taken : (old : LocalClone) (entries held : List EntryValue) (ticks : List (List ℕ × ℕ)) (pairs : List Tagged) → IsLocal old
     → AllByRecursion IsEntry entries → LeadsTo old.ticks old.pairs entries ticks pairs → length held ≤ held_limit → IsLocal (taken_by old entries held ticks pairs)
 local_taken old entries held ticks pairs local e l h = record {
+  named = local.named;
   base = local.base;
   base_pairs = local.base_pairs;
   base_covered = local.base_covered;

@@ -4,7 +4,7 @@ ghost use Rattle.clone_core.specs.Joining.{AreCopies};
 
 use crate::clones::MldClone;
 use iri_rules::Text;
-use mld_ops::{Give, Message, Snapshot};
+use mld_ops::{Give, Message, Snapshot, kept_properties};
 use rdf_terms::Iri;
 use std::alloc::{AllocError, Global};
 use std::marker::Model;
@@ -21,11 +21,13 @@ pub struct Asker {
 }
 
 impl Model for Asker {
-    ghost use Rattle.mld_model.specs.Local.{LocalAsker};
+    ghost use Rattle.mld_model.specs.Local.{LocalAsker, IsNamed};
 
     ghost Value = { LocalAsker };
 
     ghost view = { λ asker. record { id = asker.id; domain = asker.domain; properties = asker.properties.items } };
+
+    ghost invariant = { λ asker. IsNamed asker.domain asker.properties.items };
 }
 
 /// What became of a message that came to who asks.
@@ -40,19 +42,26 @@ pub enum Adopted {
 }
 
 impl Asker {
-    ghost use Rattle.std.specs.Prelude.{◌≡◌, MatchOption};
-    ghost use Rattle.mld_model.specs.Local.{LocalAsker};
+    ghost use Rattle.std.specs.Prelude.{◌≡◌, IsTrue, MatchOption};
+    ghost use Rattle.iri_rules.specs.Domain.{is_domain};
+    ghost use Rattle.rdf_terms.specs.Order.{iri_cmp};
+    ghost use Rattle.tree_clock.specs.Lists.{IsAscending};
     ghost use Rattle.mld_ops.specs.declared.messages.Message.TheVariants as message;
-    ghost use Rattle.clone_core.specs.Joining.{IsGoodMessage, IsGiveFor, GivesNone, Adopts};
+    ghost use Rattle.mld_ops.specs.Messages.{message_value, IsGoodMessage};
+    ghost use Rattle.mld_ops.specs.Properties.{AreKept};
+    ghost use Rattle.clone_core.specs.Joining.{IsGiveFor, GivesNone, Adopts};
 
-    /// One who asks.
+    /// One who asks, who keeps these properties in order.
     pub fn new(id: Uuid, domain: Text, properties: Vec<Iri>) -> Asker
-        ensures { result ≡ record { id = id; domain = domain; properties = properties.items } }
+        requires { IsTrue (is_domain domain) }
+        ensures id { result.id ≡ id }
+        ensures domain { result.domain ≡ domain }
+        ensures kept { AreKept properties.items result.properties }
     {
         Asker {
             id,
             domain,
-            properties,
+            properties: kept_properties(properties),
         }
     }
 
@@ -65,28 +74,31 @@ impl Asker {
 
     /// Its domain.
     pub fn domain(&self) -> &str
-        ensures { result.now ≡ self.now.domain }
+        ensures domain { result.now ≡ self.now.domain }
+        ensures name { IsTrue (is_domain self.now.domain) }
     {
         self.domain.as_str()
     }
 
-    /// The properties that have one value at most for each subject.
+    /// The properties that have one value at most for each subject, ascending as terms.
     pub fn properties(&self) -> &[Iri]
-        ensures { result.now ≡ self.now.properties }
+        ensures properties { result.now ≡ self.now.properties }
+        ensures ascending { IsAscending iri_cmp self.now.properties }
     {
         self.properties.as_slice()
     }
 
     /// The question for a leaf.
     pub fn ask(&self) -> Message
-        ensures { result ≡ message.JoinAsk self.now.id }
+        ensures asks { result ≡ message.JoinAsk self.now.id }
+        ensures good { IsGoodMessage (message_value result) }
     {
         Message::JoinAsk(self.id)
     }
 
     /// Becomes a clone by a message that gives it a leaf: its base is what the giver had. Other messages are ignored.
     pub fn receive<R: Threads>(self, _rt: &R, alloc: Global, message: &Message) -> Adopted
-        requires { IsGoodMessage message.now }
+        requires { IsGoodMessage (message_value message.now) }
         ensures { Adopts self message.now result }
     {
         let Some(give) = self.given(message) else {

@@ -10,7 +10,7 @@ use crate::plans::{Plan, plan_of};
 use crate::steps::{Step, take_steps};
 use causal_buffer::{Held, HeldFault, is_known, is_ready};
 use iri_rules::Text;
-use mld_ops::{Entry, Give, Message, Messages, Snapshot, Tagged, copy_pairs};
+use mld_ops::{Entry, Give, Message, Messages, Snapshot, Tagged, copy_pairs, kept_properties};
 use rdf_terms::{Iri, Triple};
 use std::alloc::{AllocError, Global};
 use std::collections::VecDeque;
@@ -36,53 +36,45 @@ pub struct MldClone {
 }
 
 impl Model for MldClone {
-    ghost use Rattle.mld_model.specs.Local.{LocalClone, IsLocal};
+    ghost use Rattle.mld_model.specs.Local.{CloneValue, IsLocal};
 
-    ghost Value = { LocalClone };
+    ghost Value = { CloneValue };
 
     ghost use Rattle.clone_core.specs.View.{clone_of};
 
-    ghost view = { clone_of };
+    ghost view = { λ c. record { local = clone_of c } };
 
     ghost invariant = { λ c. IsLocal (clone_of c) };
 }
 
 impl MldClone {
-    ghost use Rattle.std.specs.Prelude.{◌≡◌, ◌+◌, ◌<◌, ◌^◌, ◌↔◌, ◌∷◌, [], false, length, IfOk, IfErr, OnOk, OnErr, IsErrOf, MatchOption};
-    ghost use Rattle.clone_core.specs.Joining.{IsSound, IsSnapshotOf, joined_clone, Gives, AreGood, AnswersGood, RefusesAsk};
-    ghost use Rattle.mld_ops.specs.Messages.{IsSnapshotCopy};
+    ghost use Rattle.std.specs.Prelude.{◌≡◌, ◌+◌, ◌<◌, ◌^◌, ◌↔◌, ◌∷◌, [], false, length, IsTrue, IfOk, IfErr, OnOk, OnErr, IsErrOf, MatchOption};
+    ghost use Rattle.clone_core.specs.Joining.{Gives, AreGood, AnswersGood, RefusesAsk};
+    ghost use Rattle.iri_rules.specs.Domain.{is_domain};
+    ghost use Rattle.rdf_terms.specs.Order.{iri_cmp};
+    ghost use Rattle.mld_ops.specs.Messages.{snapshot_value, message_value, IsGoodSnapshot, IsGoodMessage};
+    ghost use Rattle.mld_ops.specs.Properties.{AreKept};
     ghost use Rattle.clone_core.specs.Calls.{Sets, Receives, ReceivesEntry, ReceivesAsk, Refuses, RemovesPairs, ComparesAs, HasRange, LacksRange};
     ghost use Rattle.clone_core.specs.Making.{IsNextEntry};
     ghost use Rattle.clone_core.specs.Takes.{MakesEntry, IsFullAt, RefusesEntry};
-    ghost use Rattle.mld_model.specs.Local.{LocalClone, IsLocal, blank_clone, next_dot, LocallyMakes, LocallyAccepts, LocallyHolds, IsForeign};
+    ghost use Rattle.mld_model.specs.Local.{IsLocal, IsNamed, blank_clone, joined_clone, snapshot_of, next_dot, LocallyMakes, LocallyAccepts, LocallyHolds, IsForeign};
     ghost use Rattle.mld_ops.specs.Ready.{IsReadyEntry};
     ghost use Rattle.mld_ops.specs.Tagged.{tagged_cmp};
-    ghost use Rattle.tree_clock.specs.Clock.{ticks_of};
+    ghost use Rattle.tree_clock.specs.Clock.{ticks_of, IsClock};
     ghost use Rattle.tree_clock.specs.Limits.{path_limit, tick_limit};
     ghost use Rattle.tree_clock.specs.Lists.{IsAscending};
 
-    /// The first clone of a domain, at the root path. It knows nothing.
+    /// The first clone of a domain, at the root path, which keeps these properties in order. It knows nothing.
     pub fn genesis(alloc: Global, id: Uuid, domain: Text, properties: Vec<Iri>) -> MldClone
-        ensures { result ≡ blank_clone id domain properties.items [] }
-    {
-        MldClone::with_leaf(alloc, Leaf::genesis(), id, domain, properties)
-    }
-
-    /// A clone that has this leaf and knows nothing.
-    pub fn with_leaf(
-        alloc: Global,
-        leaf: Leaf,
-        id: Uuid,
-        domain: Text,
-        properties: Vec<Iri>,
-    ) -> MldClone
-        ensures { result ≡ blank_clone id domain properties.items leaf }
+        requires { IsTrue (is_domain domain) }
+        ensures kept { AreKept properties.items result.local.properties }
+        ensures blank { result.local ≡ blank_clone id domain result.local.properties [] }
     {
         MldClone {
             id,
             domain,
-            properties,
-            leaf,
+            properties: kept_properties(properties),
+            leaf: Leaf::genesis(),
             base: Clock::empty(alloc),
             base_pairs: Vec::new(alloc),
             clock: Clock::empty(alloc),
@@ -102,9 +94,13 @@ impl MldClone {
         base: Snapshot,
         copy: Snapshot,
     ) -> MldClone
-        requires copies { IsSnapshotCopy copy base }
-        requires sound { IsSound base }
-        ensures { result ≡ joined_clone id domain properties.items leaf base }
+        requires named { IsNamed domain properties.items }
+        requires copies { snapshot_value copy ≡ snapshot_value base }
+        requires clock { IsClock base.clock.ticks }
+        requires good { IsGoodSnapshot (snapshot_value base) }
+        ensures { result.local ≡ joined_clone
+            (record { id = id; domain = domain; properties = properties.items })
+            (record { id = id; path = leaf; snapshot = snapshot_value base }) }
     {
         MldClone {
             id,
@@ -122,93 +118,95 @@ impl MldClone {
 
     /// The clone's id.
     pub fn id(&self) -> Uuid
-        ensures { result ≡ self.now.id }
+        ensures { result ≡ self.now.local.id }
     {
         self.id
     }
 
     /// The clone's domain.
     pub fn domain(&self) -> &str
-        ensures { result.now ≡ self.now.domain }
+        ensures domain { result.now ≡ self.now.local.domain }
+        ensures name { IsTrue (is_domain self.now.local.domain) }
     {
         self.domain.as_str()
     }
 
-    /// The properties that have one value at most for each subject.
+    /// The properties that have one value at most for each subject, ascending as terms.
     pub fn properties(&self) -> &[Iri]
-        ensures { result.now ≡ self.now.properties }
+        ensures properties { result.now ≡ self.now.local.properties }
+        ensures ascending { IsAscending iri_cmp self.now.local.properties }
     {
         self.properties.as_slice()
     }
 
     /// The path of the clone's leaf.
     pub fn path(&self) -> Path
-        ensures { result ≡ self.now.path }
+        ensures { result ≡ self.now.local.path }
     {
         self.leaf.path()
     }
 
     /// The dots of the clone's base.
     pub fn base(&self) -> &Clock
-        ensures { result.now.ticks ≡ self.now.base }
+        ensures { result.now.ticks ≡ self.now.local.base }
     {
         &self.base
     }
 
     /// The pairs of the clone's base, ascending.
     pub fn base_pairs(&self) -> &[Tagged]
-        ensures { result.now ≡ self.now.base_pairs }
+        ensures { result.now ≡ self.now.local.base_pairs }
     {
         self.base_pairs.as_slice()
     }
 
     /// The entries of the clone's journal, in the order in which it took them.
     pub fn journal(&self) -> &[Entry]
-        ensures { result.now ≡ self.now.entries }
+        ensures { result.now ≡ self.now.local.entries }
     {
         self.journal.as_slice()
     }
 
     /// The entries that the clone holds back, in order of arrival.
     pub fn held(&self) -> &[Entry]
-        ensures { result.now ≡ self.now.held }
+        ensures { result.now ≡ self.now.local.held }
     {
         self.held.as_slice()
     }
 
     /// The dots that the clone knows.
     pub fn known(&self) -> &Clock
-        ensures ticks { result.now.ticks ≡ self.now.ticks }
-        ensures local { IsLocal self.now }
+        ensures ticks { result.now.ticks ≡ self.now.local.ticks }
+        ensures local { IsLocal self.now.local }
     {
         &self.clock
     }
 
     /// The clone's pairs, ascending.
     pub fn pairs(&self) -> &[Tagged]
-        ensures pairs { result.now ≡ self.now.pairs }
-        ensures ascending { IsAscending tagged_cmp self.now.pairs }
+        ensures pairs { result.now ≡ self.now.local.pairs }
+        ensures ascending { IsAscending tagged_cmp self.now.local.pairs }
     {
         self.pairs.as_slice()
     }
 
     /// A copy of the clone's pairs, ascending.
     pub fn tagged(&self, alloc: Global) -> Result<Vec<Tagged>, AllocError>
-        ensures { IfOk result (λ pairs. pairs.items ≡ self.now.pairs) }
+        ensures { IfOk result (λ pairs. pairs.items ≡ self.now.local.pairs) }
     {
         copy_pairs(alloc, self.pairs())
     }
 
     /// The entry of the journal that has this very range.
     pub fn entry_of(&self, range: &Range) -> Option<&Entry>
-        ensures { MatchOption result (LacksRange self.now.entries range.now) (λ entry. HasRange self.now.entries range.now entry.now) }
+        ensures { MatchOption result (LacksRange self.now.local.entries range.now) (λ entry. HasRange self.now.local.entries range.now entry.now) }
     {
         entry_in(self.journal(), range)
     }
 
     /// How the dots that this clone knows compare with those of another.
     pub fn compare(&self, other: &MldClone) -> Covering
-        ensures { ComparesAs self.now.ticks other.now.ticks result }
+        ensures { ComparesAs self.now.local.ticks other.now.local.ticks result }
     {
         match (self.clock.leq(&other.clock), other.clock.leq(&self.clock)) {
             (true, true) => Covering::Same,
@@ -226,9 +224,9 @@ impl MldClone {
         triple: &Triple,
         present: bool,
     ) -> Result<Done, UpdateFault>
-        ensures ok { IfOk result (λ done. Sets self.old triple.now present done self.new) }
+        ensures ok { IfOk result (λ done. Sets self.old.local triple.now present done self.new.local) }
         ensures spent { IsErrOf result UpdateFault.TicksSpent
-            ↔ (ticks_of self.old.ticks self.old.path ≡ tick_limit) }
+            ↔ (ticks_of self.old.local.ticks self.old.local.path ≡ tick_limit) }
         ensures unchanged { OnErr result (self.new ≡ self.old) }
     {
         let path = self.path();
@@ -249,8 +247,8 @@ impl MldClone {
 
     // Makes the operation at the next dot that inserts a triple.
     fn insert(&mut self, alloc: Global, dot: &Dot, triple: &Triple) -> Result<Entry, AllocError>
-        requires { dot.now ≡ next_dot self.old }
-        ensures ok { IfOk result (λ entry. LocallyMakes self.old [] (triple.now ∷ []) self.new entry) }
+        requires { dot.now ≡ next_dot self.old.local }
+        ensures ok { IfOk result (λ entry. LocallyMakes self.old.local [] (triple.now ∷ []) self.new.local entry) }
         ensures err { OnErr result (self.new ≡ self.old) }
     {
         let entry = insertion(alloc, self.known(), dot, triple)?;
@@ -261,8 +259,8 @@ impl MldClone {
 
     // Makes the operation at the next dot that deletes the pairs of a triple, if there are any.
     fn remove(&mut self, alloc: Global, dot: &Dot, triple: &Triple) -> Result<Done, AllocError>
-        requires { dot.now ≡ next_dot self.old }
-        ensures ok { IfOk result (λ done. Sets self.old triple.now false done self.new) }
+        requires { dot.now ≡ next_dot self.old.local }
+        ensures ok { IfOk result (λ done. Sets self.old.local triple.now false done self.new.local) }
         ensures err { OnErr result (self.new ≡ self.old) }
     {
         let deletes = pairs_of(alloc, self.pairs(), triple)?;
@@ -277,9 +275,9 @@ impl MldClone {
 
     // Takes the entry of an operation of the clone's own.
     fn make(&mut self, alloc: Global, dot: &Dot, entry: Entry) -> Result<(), AllocError>
-        requires dot { dot.now ≡ next_dot self.old }
-        requires next { IsNextEntry self.old.ticks dot.now entry }
-        ensures ok { OnOk result (MakesEntry self.old entry self.new) }
+        requires dot { dot.now ≡ next_dot self.old.local }
+        requires next { IsNextEntry self.old.local.ticks dot.now entry }
+        ensures ok { OnOk result (MakesEntry self.old.local entry self.new.local) }
         ensures err { OnErr result (self.new ≡ self.old) }
     {
         let step = Step::new(alloc, entry, dot.tick - 1)?;
@@ -294,16 +292,17 @@ impl MldClone {
     }
 
     /// Takes an entry that is ready, and then those held back that this releases; or holds it back. Forks the leaf for who asks for one.
-    /// Messages of other kinds are ignored. After a refusal the clone is as it was.
+    /// Messages of other kinds are ignored. A snapshot in the message is one that may be taken. After a refusal the clone is as it was.
     pub fn receive<R: Threads>(
         &mut self,
         _rt: &R,
         alloc: Global,
         message: &Message,
     ) -> Result<Got, ReceiveFault>
-        ensures ok { IfOk result (λ got. Receives self.old message.now got self.new) }
+        requires { IsGoodMessage (message_value message.now) }
+        ensures ok { IfOk result (λ got. Receives self.old.local message.now got self.new.local) }
         ensures good { IfOk result AnswersGood }
-        ensures err { IfErr result (Refuses self.old message.now) }
+        ensures err { IfErr result (Refuses self.old.local message.now) }
         ensures unchanged { OnErr result (self.new ≡ self.old) }
     {
         match message {
@@ -315,9 +314,9 @@ impl MldClone {
 
     // Forks the leaf for who asks by an id, unless that is the clone's own.
     fn receive_ask(&mut self, alloc: Global, id: &Uuid) -> Result<Got, ReceiveFault>
-        ensures ok { IfOk result (λ got. ReceivesAsk self.old id.now got self.new) }
+        ensures ok { IfOk result (λ got. ReceivesAsk self.old.local id.now got self.new.local) }
         ensures good { IfOk result AnswersGood }
-        ensures err { IfErr result (RefusesAsk self.old id.now) }
+        ensures err { IfErr result (RefusesAsk self.old.local id.now) }
         ensures unchanged { OnErr result (self.new ≡ self.old) }
     {
         if *id == self.id {
@@ -332,8 +331,8 @@ impl MldClone {
     // Forks the leaf, which is not too deep, for who asks by an id: it keeps the left half, and the right one is given with all that the
     // clone has.
     fn give(&mut self, alloc: Global, id: &Uuid) -> Result<Messages, AllocError>
-        requires { length self.old.path < path_limit }
-        ensures ok { IfOk result (λ messages. Gives self.old id.now messages self.new) }
+        requires { length self.old.local.path < path_limit }
+        ensures ok { IfOk result (λ messages. Gives self.old.local id.now messages self.new.local) }
         ensures good { IfOk result (λ messages. AreGood messages) }
         ensures err { OnErr result (self.new ≡ self.old) }
     {
@@ -350,7 +349,7 @@ impl MldClone {
 
     // A copy of what the clone knows and has.
     fn snapshot(&self, alloc: Global) -> Result<Snapshot, AllocError>
-        ensures { IfOk result (IsSnapshotOf self.now) }
+        ensures { IfOk result (λ snapshot. snapshot_value snapshot ≡ snapshot_of self.now.local) }
     {
         Ok(Snapshot {
             clock: self.clock.copy_in(alloc)?,
@@ -360,8 +359,8 @@ impl MldClone {
 
     // Takes an entry, or holds it back.
     fn receive_entry(&mut self, alloc: Global, entry: &Entry) -> Result<Got, ReceiveFault>
-        ensures ok { IfOk result (λ got. ¬ IsForeign self.old entry.now × ReceivesEntry self.old entry.now got self.new) }
-        ensures err { IfErr result (RefusesEntry self.old entry.now) }
+        ensures ok { IfOk result (λ got. ¬ IsForeign self.old.local entry.now × ReceivesEntry self.old.local entry.now got self.new.local) }
+        ensures err { IfErr result (RefusesEntry self.old.local entry.now) }
         ensures unchanged { OnErr result (self.new ≡ self.old) }
     {
         let path = self.path();
@@ -383,8 +382,8 @@ impl MldClone {
 
     // Holds an entry back.
     fn hold(&mut self, alloc: Global, entry: &Entry) -> Result<(), HeldFault>
-        ensures ok { OnOk result (LocallyHolds self.old entry.now self.new) }
-        ensures full { IfErr result (IsFullAt self.old entry.now) }
+        ensures ok { OnOk result (LocallyHolds self.old.local entry.now self.new.local) }
+        ensures full { IfErr result (IsFullAt self.old.local entry.now) }
         ensures err { OnErr result (self.new ≡ self.old) }
     {
         self.held.add(alloc, entry)?;
@@ -393,8 +392,8 @@ impl MldClone {
 
     // Takes an entry that is ready, and then those held back that this releases.
     fn accept(&mut self, alloc: Global, entry: &Entry) -> Result<Got, AllocError>
-        requires { IsReadyEntry self.old.ticks entry.now }
-        ensures ok { IfOk result (λ got. ReceivesEntry self.old entry.now got self.new) }
+        requires { IsReadyEntry self.old.local.ticks entry.now }
+        ensures ok { IfOk result (λ got. ReceivesEntry self.old.local entry.now got self.new.local) }
         ensures err { OnErr result (self.new ≡ self.old) }
     {
         let Plan {

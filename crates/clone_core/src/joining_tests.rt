@@ -1,94 +1,24 @@
 //! Joining, worked by hand.
 ghost use Rattle.std.specs.Prelude.{IfOk};
-ghost use Rattle.clone_core.specs.Joining.{IsGoodMessage};
+ghost use Rattle.mld_ops.specs.Messages.{message_value, IsGoodMessage};
 
+use crate::test_clones::{ask, asker, first, given, joined, joined_from, set, triple};
 use crate::{Adopted, Asker, Covering, Done, Got, MldClone, ReceiveFault, UpdateFault};
-use iri_rules::Text;
 use mld_ops::{Give, Message, Snapshot, Tagged};
-use rdf_terms::{Iri, Term, Triple};
+use rdf_terms::Term;
 use std::alloc::Global;
 use std::test::Fail;
 use std::thread::Threads;
 use tree_clock::{Clock, Dot, Path};
 use uuid::Uuid;
 
-// A triple that differs from others by its object.
-fn triple(alloc: Global, object: &str) -> Result<Triple, Fail> {
-    Ok(Triple {
-        s: Iri::new(alloc, "http://example.org/s")?,
-        p: Iri::new(alloc, "http://example.org/p")?,
-        o: Term::Iri(Iri::new(alloc, object)?),
-    })
-}
-
-// Adds the triple of an object, or removes it.
-fn set(clone: &mut MldClone, alloc: Global, object: &str, present: bool) -> Result<Done, Fail> {
-    let triple = triple(alloc, object)?;
-    Ok(clone.set(alloc, &triple, present)?)
-}
-
-// The first clone, with the id 1.
-fn first(alloc: Global) -> Result<MldClone, Fail> {
-    let domain = Text::new(alloc, "example.org")?;
-    let id = Uuid::from_u128(1);
-    Ok(MldClone::genesis(alloc, id, domain, Vec::new(alloc)))
-}
-
 // The clone 1 at the root: it added t and u, and removed t.
-fn giver(alloc: Global) -> Result<MldClone, Fail> {
+fn giver(alloc: Global) -> Result<Box<MldClone>, Fail> {
     let mut clone = first(alloc)?;
     set(&mut clone, alloc, "http://example.org/t", true)?;
     set(&mut clone, alloc, "http://example.org/u", true)?;
     set(&mut clone, alloc, "http://example.org/t", false)?;
     Ok(clone)
-}
-
-// One who asks.
-fn asker(alloc: Global, number: u128) -> Result<Asker, Fail> {
-    let domain = Text::new(alloc, "example.org")?;
-    let id = Uuid::from_u128(number);
-    Ok(Asker::new(id, domain, Vec::new(alloc)))
-}
-
-// The question of one who asks.
-fn ask(number: u128) -> Message {
-    Message::JoinAsk(Uuid::from_u128(number))
-}
-
-// The message that a clone answers to an ask by the id 2.
-fn given<R: Threads>(clone: &mut MldClone, rt: &R, alloc: Global) -> Result<Message, Fail>
-    ensures { IfOk result IsGoodMessage }
-{
-    let Got::Answer(messages) = clone.receive(rt, alloc, &ask(2))? else {
-        return Err("no answer".into());
-    };
-    let mut messages = messages.into_vec();
-    let Some(given) = messages.pop() else {
-        return Err("no message".into());
-    };
-    Ok(given)
-}
-
-// The clone that one who asks becomes.
-fn joined<R: Threads>(
-    asker: Asker,
-    rt: &R,
-    alloc: Global,
-    message: &Message,
-) -> Result<MldClone, Fail>
-    requires { IsGoodMessage message.now }
-{
-    match asker.receive(rt, alloc, message) {
-        Adopted::Joined(clone) => Ok(clone),
-        Adopted::Ignored(_) => Err("ignored".into()),
-        Adopted::Refused(_) => Err("refused".into()),
-    }
-}
-
-// The clone 2 that joins from the clone 1.
-fn joined_from<R: Threads>(one: &mut MldClone, rt: &R, alloc: Global) -> Result<MldClone, Fail> {
-    let given = given(one, rt, alloc)?;
-    joined(asker(alloc, 2)?, rt, alloc, &given)
 }
 
 // Whether the only pair is that of u, by the second operation of the root.
@@ -121,12 +51,24 @@ fn is_answer(got: &Got) -> bool {
     }
 }
 
+// Whether a clone answers an ask with its right half.
+fn gives_right_half<R: Threads>(clone: &mut MldClone, rt: &R, alloc: Global) -> bool {
+    match clone.receive(rt, alloc, &ask(2)) {
+        Ok(got) => is_answer(&got),
+        Err(_) => false,
+    }
+}
+
+// Whether the clone 1 keeps the left half, and all that it had.
+fn keeps_left_half(one: &MldClone) -> bool {
+    one.path() == Path::root().child(false) && one.journal().len() == 3 && has_only_u(one.pairs())
+}
+
 #[test]
 fn a_clone_that_is_asked_gives_its_right_half(rt: HostRuntime) -> Result<(), Fail> {
     let mut one = giver(rt.alloc())?;
-    assert!(rt; is_answer(&one.receive(&rt, rt.alloc(), &ask(2))?));
-    assert!(rt; one.path() == Path::root().child(false));
-    assert!(rt; one.journal().len() == 3 && has_only_u(one.pairs()));
+    assert!(rt; gives_right_half(&mut one, &rt, rt.alloc()));
+    assert!(rt; keeps_left_half(&one));
     Ok(())
 }
 
@@ -145,8 +87,7 @@ fn begins(two: &MldClone) -> bool {
 fn who_asked_begins_with_what_the_giver_has(rt: HostRuntime) -> Result<(), Fail> {
     let mut one = giver(rt.alloc())?;
     let two = joined_from(&mut one, &rt, rt.alloc())?;
-    assert!(rt; begins(&two));
-    assert_eq!(rt; one.compare(&two), Covering::Same);
+    assert!(rt; begins(&two) && one.compare(&two) == Covering::Same);
     Ok(())
 }
 
@@ -174,7 +115,9 @@ fn a_clone_that_joined_works_on(rt: HostRuntime) -> Result<(), Fail> {
 }
 
 // Whether a live clone ignores the message.
-fn ignores<R: Threads>(clone: &mut MldClone, rt: &R, alloc: Global, message: &Message) -> bool {
+fn ignores<R: Threads>(clone: &mut MldClone, rt: &R, alloc: Global, message: &Message) -> bool
+    requires { IsGoodMessage (message_value message.now) }
+{
     matches!(clone.receive(rt, alloc, message), Ok(Got::Ignored))
 }
 
@@ -182,8 +125,8 @@ fn ignores<R: Threads>(clone: &mut MldClone, rt: &R, alloc: Global, message: &Me
 fn live_clones_take_no_leaf(rt: HostRuntime) -> Result<(), Fail> {
     let mut one = first(rt.alloc())?;
     let given = given(&mut one, &rt, rt.alloc())?;
-    assert!(rt; ignores(&mut one, &rt, rt.alloc(), &given));
     let mut two = joined(asker(rt.alloc(), 2)?, &rt, rt.alloc(), &given)?;
+    assert!(rt; ignores(&mut one, &rt, rt.alloc(), &given));
     assert!(rt; ignores(&mut two, &rt, rt.alloc(), &given));
     Ok(())
 }
@@ -197,11 +140,11 @@ fn an_ask_of_its_own_is_ignored(rt: HostRuntime) -> Result<(), Fail> {
 }
 
 // Whether one who asks ignores the message and is as before.
-fn asks_on<R: Threads>(asker: Asker, rt: &R, alloc: Global, message: &Message) -> bool
-    requires { IsGoodMessage message.now }
+fn asks_on<R: Threads>(asker: Box<Asker>, rt: &R, alloc: Global, message: &Message) -> bool
+    requires { IsGoodMessage (message_value message.now) }
 {
     let id = asker.id();
-    match asker.receive(rt, alloc, message) {
+    match Box::into_inner(asker).receive(rt, alloc, message) {
         Adopted::Ignored(same) => same.id() == id,
         Adopted::Joined(_) | Adopted::Refused(_) => false,
     }
@@ -216,17 +159,23 @@ fn a_leaf_for_another_one_is_ignored(rt: HostRuntime) -> Result<(), Fail> {
 }
 
 // Whether one who asks ignores its own question.
-fn asks_itself<R: Threads>(asker: Asker, rt: &R, alloc: Global) -> bool {
+fn asks_itself<R: Threads>(asker: Box<Asker>, rt: &R, alloc: Global) -> bool {
     let message = asker.ask();
     matches!(&message, Message::JoinAsk(id) if *id == asker.id())
         && asks_on(asker, rt, alloc, &message)
 }
 
+// Whether this is the one of the id 2.
+fn is_second(asker: &Asker) -> bool {
+    asker.id() == Uuid::from_u128(2)
+        && asker.domain() == "example.org"
+        && asker.properties().is_empty()
+}
+
 #[test]
 fn who_asks_tells_its_parts(rt: HostRuntime) -> Result<(), Fail> {
     let asker = asker(rt.alloc(), 2)?;
-    assert!(rt; asker.id() == Uuid::from_u128(2) && asker.properties().is_empty());
-    assert_eq!(rt; asker.domain(), "example.org");
+    assert!(rt; is_second(&asker));
     assert!(rt; asks_itself(asker, &rt, rt.alloc()));
     Ok(())
 }
@@ -247,10 +196,10 @@ fn is_deep<R: Threads>(clone: &mut MldClone, rt: &R, alloc: Global) -> bool {
 fn a_leaf_of_64_letters_is_too_deep(rt: HostRuntime) -> Result<(), Fail> {
     let mut one = first(rt.alloc())?;
     fork(&mut one, &rt, rt.alloc(), 63);
-    assert_eq!(rt; one.path().len(), 63);
+    assert!(rt; one.path().len() == 63);
     assert!(rt; !is_deep(&mut one, &rt, rt.alloc()));
     assert!(rt; is_deep(&mut one, &rt, rt.alloc()));
-    assert_eq!(rt; one.path().len(), 64);
+    assert!(rt; one.path().len() == 64);
     Ok(())
 }
 
@@ -269,28 +218,28 @@ fn is_deep_operation(done: &Done) -> bool {
 fn a_deep_clone_works_on(rt: HostRuntime) -> Result<(), Fail> {
     let mut one = first(rt.alloc())?;
     fork(&mut one, &rt, rt.alloc(), 65);
-    let done = set(&mut one, rt.alloc(), "http://example.org/t", true)?;
-    assert!(rt; is_deep_operation(&done));
-    assert_eq!(rt; one.pairs().len(), 1);
+    assert!(rt; is_deep_operation(&set(&mut one, rt.alloc(), "http://example.org/t", true)?));
+    assert!(rt; one.pairs().len() == 1);
     Ok(())
 }
 
 // A message that gives the root to the id 2, where so many ticks of it are known and no pair is there.
-fn given_at(alloc: Global, tick: u32) -> Result<Message, Fail>
-    ensures { IfOk result IsGoodMessage }
+fn given_at(alloc: Global, tick: u32) -> Result<Box<Message>, Fail>
+    ensures { IfOk result (λ given. IsGoodMessage (message_value given.value)) }
 {
     let path = Path::root();
     let mut clock = Clock::empty(alloc);
     clock.reserve(&path)?;
     clock.raise(&Dot { path, tick });
-    Ok(Message::JoinGive(Give {
+    let give = Give {
         id: Uuid::from_u128(2),
         path,
         snapshot: Snapshot {
             clock,
             tagged: Vec::new(alloc),
         },
-    }))
+    };
+    Ok(Box::new(alloc, Message::JoinGive(give))?)
 }
 
 // Whether a clone refuses an insert since its ticks are spent.
@@ -302,13 +251,18 @@ fn is_spent(clone: &mut MldClone, alloc: Global) -> Result<bool, Fail> {
     }
 }
 
+// Whether the clone knows the last tick of the root, and made the operation there.
+fn made_last(clone: &MldClone) -> bool {
+    clone.known().ticks(&Path::root()) == 4_294_967_295 && clone.journal().len() == 1
+}
+
 #[test]
 fn the_last_tick_is_used_and_none_behind_it(rt: HostRuntime) -> Result<(), Fail> {
     let message = given_at(rt.alloc(), 4_294_967_294)?;
     let mut two = joined(asker(rt.alloc(), 2)?, &rt, rt.alloc(), &message)?;
     assert!(rt; !is_spent(&mut two, rt.alloc())?);
-    assert_eq!(rt; two.known().ticks(&Path::root()), 4_294_967_295);
+    assert!(rt; made_last(&two));
     assert!(rt; is_spent(&mut two, rt.alloc())?);
-    assert_eq!(rt; two.journal().len(), 1);
+    assert!(rt; made_last(&two));
     Ok(())
 }

@@ -12,6 +12,8 @@ mod pairs;
 mod plans;
 mod steps;
 #[cfg(test)]
+mod test_clones;
+#[cfg(test)]
 mod tests;
 
 pub use answers::{Covering, Done, Got};

@@ -4,7 +4,7 @@ use Rattle.mld_ops.specs.declared.tagged.Tagged.{Tagged}
 use Rattle.mld_ops.specs.Tagged.{tagged_cmp}
 use Rattle.mld_ops.specs.Entry.{EntryValue}
 use Rattle.mld_ops.specs.Ready.{IsReadyEntry}
-use Rattle.mld_model.specs.Local.{LocalClone, LocallyAccepts}
+use Rattle.mld_model.specs.Local.{CloneValue, LocallyAccepts}
 use Rattle.clone_core.specs.LocalLaws.{local_ascends}
 use Rattle.clone_core.specs.Plans.{entries_of, StepsCut}
 use Rattle.clone_core.specs.View.{clone_of}
@@ -33,6 +33,6 @@ returns-clause-ok c =
     let pairs = c.take_steps.new.pairs.items in
     let cut = subst (λ (ps : List Tagged). StepsCut ps steps pairs) c.grow.ensures.pairs c.take_steps.ensures.pairs in
     let behind = c.take_steps.ensures.journal ∙ ap (λ (es : List EntryValue). es ++ entries_of steps) c.grow.ensures.journal in
-    let ready = subst (λ (clone : LocalClone). IsReadyEntry clone.ticks c.args.entry.now) (sym c.self.view_is) c.requires in
-    subst (λ (clone : LocalClone). LocallyAccepts clone c.args.entry.now (planned old c.args.entry.now plan pairs c.take_steps.new.journal.items c.replace_held.new.held c.in_ok-clock.ensures cut behind c.replace_held.ensures) plan.ranges) c.self.view_is
+    let ready = subst (λ (clone : CloneValue). IsReadyEntry clone.local.ticks c.args.entry.now) (sym c.self.view_is) c.requires in
+    subst (λ (clone : CloneValue). LocallyAccepts clone.local c.args.entry.now (planned old c.args.entry.now plan pairs c.take_steps.new.journal.items c.replace_held.new.held c.in_ok-clock.ensures cut behind c.replace_held.ensures) plan.ranges) c.self.view_is
     (planned_accepts old c.args.entry.now plan pairs c.take_steps.new.journal.items c.replace_held.new.held c.in_ok-clock.ensures cut behind c.replace_held.ensures ready)

@@ -4,7 +4,7 @@ use Rattle.tree_clock.specs.Clock.{RaisesTo}
 use Rattle.mld_ops.specs.declared.tagged.Tagged.{Tagged}
 use Rattle.mld_ops.specs.Tagged.{tagged_cmp}
 use Rattle.mld_ops.specs.Entry.{EntryValue}
-use Rattle.mld_model.specs.Local.{LocalClone}
+use Rattle.mld_model.specs.Local.{CloneValue}
 use Rattle.clone_core.specs.LocalLaws.{local_ascends}
 use Rattle.clone_core.specs.Making.{IsNextEntry}
 use Rattle.clone_core.specs.Plans.{entries_of, StepsCut}
@@ -25,7 +25,7 @@ invariant_of-self-2 c =
     let steps = c.push_back.new.self.items in
     let pairs = c.take_steps.new.pairs.items in
     let after = c.raise.new.self.ticks in
-    let next = subst (λ (clone : LocalClone). IsNextEntry clone.ticks dot c.args.entry) (sym c.self.view_is) c.requires.next in
+    let next = subst (λ (clone : CloneValue). IsNextEntry clone.local.ticks dot c.args.entry) (sym c.self.view_is) c.requires.next in
     let one : steps ≡ step ∷ [] = c.in_ok-push_back.ensures.items ∙ ap (λ (ss : List StepValue). ss ++ step ∷ []) c.new-steps.ensures.items in
     let raised = subst (λ ts. RaisesTo ts after dot) c.reserve.ensures.ticks c.raise.ensures.raised in
     let cut = subst (λ (ps : List Tagged). StepsCut ps steps pairs) c.grow.ensures.pairs c.take_steps.ensures.pairs in
