@@ -20,7 +20,7 @@ use Rattle.mld_model.specs.World.{clone_count}
 use Rattle.schedule_model.specs.declared.Command.{Command}
 use Rattle.schedule_model.specs.declared.Command.TheVariants.{Add, Remove, Deliver, Show, Compare, Join}
 use Rattle.schedule_model.specs.Bytes.{Lacks, Lacks-from_test, one_split, apart}
-use Rattle.schedule_model.specs.Schedule.{SpellsSetup, SpellsCommand}
+use Rattle.schedule_model.specs.Schedule.{Setup, SpellsSetup, SpellsCommand}
 use Rattle.net_world.specs.Reading.{IsTripleOf, IsCloneAndTriple, IsAddOf, IsRemoveOf, IsDeliverOf, IsShowOf, IsCompareOf, IsJoinOf}
 use Rattle.net_world.proofs.LinesText.{has_space}
 use Rattle.net_world.proofs.LinesNumbers.{small, number_first}
@@ -187,11 +187,11 @@ domain_lacks : (domain : List ℕ) → IsTrue (is_domain domain) → Lacks space
 domain_lacks domain h = Lacks-from_test is_domain_byte space refl domain (domain_bytes domain h)
 
 -- what follows `domain` and a space
-setup_rest : (line rest domain : List ℕ) (count : ℕ) → line ≡ codes "domain " ++ rest → SpellsSetup line domain count → rest ≡ domain ++ space ∷ (codes "clones " ++ decimal count)
-setup_rest line rest domain count e s = ap (drop 7) (sym e ∙ s.whole)
+setup_rest : (line rest : List ℕ) (setup : Setup) → line ≡ codes "domain " ++ rest → SpellsSetup line setup → rest ≡ setup.domain ++ space ∷ (codes "clones " ++ decimal setup.count)
+setup_rest line rest setup e s = ap (drop 7) (sym e ∙ s.whole)
 
-pub setup_spaced : (line rest : List ℕ) → line ≡ codes "domain " ++ rest → Lacks space rest → (domain : List ℕ) (count : ℕ) → ¬ SpellsSetup line domain count
-setup_spaced line rest e h domain count s = has_space rest domain (codes "clones " ++ decimal count) h (setup_rest line rest domain count e s)
+pub setup_spaced : (line rest : List ℕ) → line ≡ codes "domain " ++ rest → Lacks space rest → (setup : Setup) → ¬ SpellsSetup line setup
+setup_spaced line rest e h setup s = has_space rest setup.domain (codes "clones " ++ decimal setup.count) h (setup_rest line rest setup e s)
 
 -- a domain line up to the space behind its name
 pub record IsCut (line name behind : List ℕ) : Type 0 where
@@ -200,20 +200,20 @@ pub record IsCut (line name behind : List ℕ) : Type 0 where
   pub cut : rest ≡ name ++ space ∷ behind
   pub spaceless : Lacks space name
 
-setup_cut : (line name behind domain : List ℕ) (count : ℕ) → IsCut line name behind → SpellsSetup line domain count → (name ≡ domain) × (behind ≡ codes "clones " ++ decimal count)
-setup_cut line name behind domain count k s =
-    one_split space name domain behind (codes "clones " ++ decimal count) k.spaceless (domain_lacks domain s.name) (sym k.cut ∙ setup_rest line k.rest domain count k.first s)
+setup_cut : (line name behind : List ℕ) (setup : Setup) → IsCut line name behind → SpellsSetup line setup → (name ≡ setup.domain) × (behind ≡ codes "clones " ++ decimal setup.count)
+setup_cut line name behind setup k s =
+    one_split space name setup.domain behind (codes "clones " ++ decimal setup.count) k.spaceless (domain_lacks setup.domain s.name) (sym k.cut ∙ setup_rest line k.rest setup k.first s)
 
-pub setup_counted : (line name behind : List ℕ) → IsCut line name behind → ((rest : List ℕ) → behind ≢ codes "clones " ++ rest) → (domain : List ℕ) (count : ℕ) → ¬ SpellsSetup line domain count
-setup_counted line name behind k h domain count s = h (decimal count) (setup_cut line name behind domain count k s).1
+pub setup_counted : (line name behind : List ℕ) → IsCut line name behind → ((rest : List ℕ) → behind ≢ codes "clones " ++ rest) → (setup : Setup) → ¬ SpellsSetup line setup
+setup_counted line name behind k h setup s = h (decimal setup.count) (setup_cut line name behind setup k s).1
 
-pub setup_domain : (line name behind : List ℕ) → IsCut line name behind → ¬ IsTrue (is_domain name) → (domain : List ℕ) (count : ℕ) → ¬ SpellsSetup line domain count
-setup_domain line name behind k h domain count s = h (subst (λ (d : List ℕ). is_domain d ≡ true) (sym (setup_cut line name behind domain count k s).0) s.name)
+pub setup_domain : (line name behind : List ℕ) → IsCut line name behind → ¬ IsTrue (is_domain name) → (setup : Setup) → ¬ SpellsSetup line setup
+setup_domain line name behind k h setup s = h (subst (λ (d : List ℕ). is_domain d ≡ true) (sym (setup_cut line name behind setup k s).0) s.name)
 
 pub setup_number : (line name behind number : List ℕ) → IsCut line name behind → behind ≡ codes "clones " ++ number → ((count : ℕ) → 1 ≤ count → count ≤ clone_count → number ≢ decimal count)
-    → (domain : List ℕ) (count : ℕ) → ¬ SpellsSetup line domain count
-setup_number line name behind number k e h domain count s =
-    h count s.some s.most (ap (drop 7) (sym e ∙ (setup_cut line name behind domain count k s).1))
+    → (setup : Setup) → ¬ SpellsSetup line setup
+setup_number line name behind number k e h setup s =
+    h setup.count s.some s.most (ap (drop 7) (sym e ∙ (setup_cut line name behind setup k s).1))
 
 -- the name of a domain is ASCII
 domain_byte_small : (byte : ℕ) → is_domain_byte byte ≡ true → byte < 128

@@ -7,20 +7,36 @@ use Rattle.rdf_terms.specs.Grammar.{SpellsTriple, IsWithin}
 use Rattle.schedule_model.specs.Characters.{space}
 use Rattle.schedule_model.specs.declared.Command.TheVariants.{Add, Remove, Deliver, Show, Compare, Join}
 use Rattle.schedule_model.specs.declared.Command.{Command}
-use Rattle.schedule_model.specs.Schedule.{IsNothing, is_unbuilt, SpellsSetup, SpellsCommand, IsCloneNumber}
-use Rattle.schedule_model.specs.Runs.{IsBad, Waiting}
+use Rattle.schedule_model.specs.Schedule.{Setup as ModelSetup, IsNothing, is_unbuilt, SpellsSetup, SpellsCommand, IsCloneNumber}
+use Rattle.schedule_model.specs.Runs.{IsBad, IsUnbuilt, Waiting}
 use Rattle.net_world.specs.declared.lines.Setup.{Setup}
+use Rattle.net_world.specs.declared.lines.SetupLine.{SetupLine}
+use Rattle.net_world.specs.declared.lines.SetupLine.TheVariants as lines
 
--- a line that was read while no domain line has come: it says nothing, or it is the domain line
-abbrev pub SetupIs : List ℕ → Option Setup → Type 0
-SetupIs line None = IsNothing line
-SetupIs line (Some setup) = SpellsSetup line setup.domain setup.clones
+-- the setup of the model
+abbrev pub setup_of : Setup → ModelSetup
+setup_of setup = record { domain = setup.domain; properties = setup.props.items; count = setup.clones }
 
--- it is outside the grammar, and isn't one that will be built
-abbrev pub IsBadSetup : List ℕ → Type 0
-IsBadSetup line = IsBad Waiting line
+-- what a line was read as before the clones are founded: while no domain line has come it says nothing, or it is the domain
+-- line; and behind that one it leaves the setup as it was
+abbrev pub SetupIs : List ℕ → Option Setup → SetupLine → Type 0
+SetupIs line None (lines.Other None) = IsNothing line
+SetupIs line None (lines.Other (Some setup)) = ⊥
+SetupIs line None (lines.Setup setup) = SpellsSetup line (setup_of setup)
+SetupIs line (Some setup) (lines.Other so_far) = so_far ≡ Some setup
+SetupIs line (Some setup) (lines.Setup next) = ⊥
 
--- a line that was read once the clones are founded: it says nothing, or it is a command
+-- no domain line has come, and the line is outside the grammar and isn't one that will be built
+abbrev pub IsBadSetup : List ℕ → Option Setup → Type 0
+IsBadSetup line None = IsBad Waiting line
+IsBadSetup line (Some setup) = ⊥
+
+-- no domain line has come, and the line isn't built yet
+abbrev pub IsUnbuiltSetup : List ℕ → Option Setup → Type 0
+IsUnbuiltSetup line None = IsUnbuilt Waiting line
+IsUnbuiltSetup line (Some setup) = ⊥
+
+-- a line that was read behind the domain line: it says nothing, or it is a command
 abbrev pub CommandIs : List ℕ → Option Command → Type 0
 CommandIs line None = IsNothing line
 CommandIs line (Some command) = SpellsCommand line command

@@ -65,9 +65,10 @@ pub record IsSummaryOf (live : LocalClone) (summary : CloneSummary) : Type 0 whe
 
 -- what is told of a clone as it runs, by its state
 abbrev pub Summarizes : RunningClone → CloneSummary → Type 0
-Summarizes running.Absent summary = IsBlank summary states.Absent
+Summarizes (running.Absent blank) summary = IsBlank summary states.Absent
 Summarizes (running.Asking asker) summary = IsBlank summary states.Asking
-Summarizes (running.Live live) summary = IsSummaryOf live summary
+Summarizes (running.Down device) summary = IsBlank summary states.Down
+Summarizes (running.Live live) summary = IsSummaryOf live.local summary
 
 -- what is told of clones as they run, one by one
 abbrev pub SummarizesAll : List RunningClone → List CloneSummary → Type 0

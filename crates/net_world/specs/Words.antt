@@ -1,5 +1,5 @@
 -- The replies that are the same words each time.
-use Rattle.mld_model.specs.Reply.{Reply, NoOperation, Held, HeldFull, AlreadyKnown, NoMessage, Ignored, Deep, IsAbsent, IsAsking, IsLive, Same, Less, More, Apart}
+use Rattle.mld_model.specs.Reply.{Reply, NoOperation, Held, HeldFull, AlreadyKnown, NoMessage, Ignored, Deep, IsAbsent, IsAsking, IsDown, IsLive, Same, Less, More, Apart}
 use Rattle.clone_core.specs.declared.answers.Covering.{Covering}
 use Rattle.clone_core.specs.declared.answers.Covering.TheVariants as covering
 use Rattle.net_world.specs.declared.replies.Word.{Word}
@@ -16,6 +16,7 @@ reply_of words.Ignored = Ignored
 reply_of words.Deep = Deep
 reply_of words.Absent = IsAbsent
 reply_of words.Asking = IsAsking
+reply_of words.Down = IsDown
 reply_of words.Live = IsLive
 reply_of words.Same = Same
 reply_of words.Less = Less

@@ -1,15 +1,19 @@
 //! The world of a schedule: its lines, its clones and every message ever sent.
 #![tactic(auto)]
 
+mod faults;
+mod founding;
 mod lines;
 mod replies;
+mod states;
 mod summaries;
 #[cfg(test)]
 mod tests;
 mod worlds;
 
-pub use lines::{LineRefusal, Setup, read_command, read_setup};
-pub use schedule_model::Command;
+pub use faults::WorldFault;
+pub use lines::{LineRefusal, Setup, SetupLine, read_command, read_setup};
 pub use replies::push_ready;
+pub use schedule_model::Command;
 pub use summaries::{CloneSummary, State, Summary};
 pub use worlds::World;

@@ -6,25 +6,37 @@ ghost use Rattle.schedule_model.specs.Bytes.{Lacks};
 ghost use Rattle.schedule_model.specs.Characters.{space};
 ghost use Rattle.iri_rules.specs.Domain.{is_domain};
 ghost use Rattle.rdf_terms.specs.declared.terms.Triple.{Triple};
-ghost use Rattle.schedule_model.specs.Schedule.{IsNothing, is_unbuilt, unbuilt_words, is_word, first_word, SpellsSetup, SpellsCommand};
+ghost use Rattle.schedule_model.specs.Schedule.{Setup as ModelSetup, IsNothing, is_unbuilt, unbuilt_words, is_word, first_word, SpellsSetup, SpellsCommand};
 ghost use Rattle.mld_model.specs.World.{clone_count};
 ghost use Rattle.schedule_model.specs.declared.Command.{Command};
-ghost use Rattle.net_world.specs.Reading.{SetupIs, CommandIs, IsBadSetup, IsBadCommand, IsTripleOf, IsCloneAndTriple, IsAddOf, IsRemoveOf, IsDeliverOf, IsShowOf, IsCompareOf, IsJoinOf};
+ghost use Rattle.net_world.specs.Reading.{setup_of, SetupIs, CommandIs, IsBadSetup, IsUnbuiltSetup, IsBadCommand, IsTripleOf, IsCloneAndTriple, IsAddOf, IsRemoveOf, IsDeliverOf, IsShowOf, IsCompareOf, IsJoinOf};
 
+use crate::faults::WorldFault;
 use iri_rules::{Text, is_domain};
 use mld_model::CLONE_COUNT;
+use rdf_terms::{Iri, Triple, TripleFault, read_triple};
 use schedule_model::Command;
-use rdf_terms::{Triple, TripleFault, read_triple};
 use std::alloc::{AllocError, Global};
 use thiserror::Error;
 
-/// What a domain line says.
+/// What a domain is set up with.
 #[derive(Debug, Drop)]
 pub struct Setup {
     /// The name of the domain.
     pub domain: Text,
     /// How many clones are founded, 1 to `CLONE_COUNT`.
     pub clones: u8,
+    /// The single-valued properties. No line sets one yet.
+    pub props: Vec<Iri>,
+}
+
+/// What a line was before the clones are founded.
+#[derive(Debug, Drop)]
+pub enum SetupLine {
+    /// It sets up the domain, which is set up so from then on.
+    Setup(Setup),
+    /// It sets up nothing, and this is what there was before it.
+    Other(Option<Setup>),
 }
 
 /// Why a line was not read.
@@ -41,6 +53,19 @@ pub enum LineRefusal {
     NoMemory,
 }
 
+impl From<WorldFault> for LineRefusal {
+    ghost use Rattle.std.specs.Prelude.{◌≡◌};
+    ghost use Rattle.net_world.specs.declared.lines.LineRefusal.TheVariants.{NoMemory};
+
+    ghost from_gives = { λ _ refusal. refusal ≡ NoMemory };
+
+    fn from(fault: WorldFault) -> LineRefusal {
+        match fault {
+            WorldFault::NoMemory => LineRefusal::NoMemory,
+        }
+    }
+}
+
 impl From<AllocError> for LineRefusal {
     ghost use Rattle.std.specs.Prelude.{◌≡◌};
     ghost use Rattle.net_world.specs.declared.lines.LineRefusal.TheVariants.{NoMemory};
@@ -52,26 +77,50 @@ impl From<AllocError> for LineRefusal {
     }
 }
 
-/// Reads a line, without its LF, while no domain line has come: `domain D clones N`, or `None` for an empty line or a comment.
-pub fn read_setup(alloc: Global, line: &[u8]) -> Result<Option<Setup>, LineRefusal>
-    ensures ok { IfOk result (SetupIs line.now) }
-    ensures bad { IsErrOf result LineRefusal.BadLine → IsBadSetup line.now }
-    ensures unbuilt { IsErrOf result LineRefusal.Unbuilt → IsTrue (is_unbuilt line.now) }
+/// Reads a line, without its LF, while no clone is founded, with what is set up so far.
+///
+/// While no domain line has come this is `domain D clones N`, or `Other` for an empty line or a comment. From then on each line
+/// is `Other`, whatever it holds: it is for `read_command` to say what it is.
+pub fn read_setup(
+    alloc: Global,
+    line: &[u8],
+    so_far: Option<Setup>,
+) -> Result<SetupLine, LineRefusal>
+    ensures ok { IfOk result (SetupIs line.now so_far) }
+    ensures bad { IsErrOf result LineRefusal.BadLine → IsBadSetup line.now so_far }
+    ensures unbuilt { IsErrOf result LineRefusal.Unbuilt → IsUnbuiltSetup line.now so_far }
+{
+    match so_far {
+        Some(setup) => Ok(SetupLine::Other(Some(setup))),
+        None => read_first(alloc, line),
+    }
+}
+
+/// Reads a line while no domain line has come.
+fn read_first(alloc: Global, line: &[u8]) -> Result<SetupLine, LineRefusal>
+    ensures ok { IfOk result (SetupIs line.now None) }
+    ensures bad { IsErrOf result LineRefusal.BadLine → IsBadSetup line.now None }
+    ensures unbuilt { IsErrOf result LineRefusal.Unbuilt → IsUnbuiltSetup line.now None }
 {
     if is_nothing(line) {
-        return Ok(None);
+        return Ok(SetupLine::Other(None));
     }
     if is_unbuilt(line) {
         return Err(LineRefusal::Unbuilt);
     }
-    match setup_of(alloc, line)? {
-        Some(setup) => Ok(Some(setup)),
+    match domain_line(alloc, line)? {
+        Some(setup) => Ok(SetupLine::Setup(setup)),
         None => Err(LineRefusal::BadLine),
     }
 }
 
-/// Reads a line, without its LF, once the clones are founded: a command, or `None` for an empty line or a comment.
-pub fn read_command(alloc: Global, line: &[u8]) -> Result<Option<Command>, LineRefusal>
+/// Reads a line, without its LF, once the domain of this name is set up: a command, or `None` for an empty line or a comment.
+pub fn read_command(
+    alloc: Global,
+    line: &[u8],
+    _domain: &str,
+) -> Result<Option<Command>, LineRefusal>
+    requires { IsTrue (is_domain _domain.now) }
     ensures ok { IfOk result (CommandIs line.now) }
     ensures bad { IsErrOf result LineRefusal.BadLine → IsBadCommand line.now }
     ensures unbuilt { IsErrOf result LineRefusal.Unbuilt → IsTrue (is_unbuilt line.now) }
@@ -160,8 +209,8 @@ fn behind<'a>(line: &'a [u8], front: &[u8]) -> Option<&'a [u8]>
 }
 
 /// `domain D clones N`, where the line spells it.
-fn setup_of(alloc: Global, line: &[u8]) -> Result<Option<Setup>, AllocError>
-    ensures { IfOk result (λ found. MatchOption found ((domain : List ℕ) (count : ℕ) → ¬ SpellsSetup line.now domain count) (λ setup. SpellsSetup line.now setup.domain setup.clones)) }
+fn domain_line(alloc: Global, line: &[u8]) -> Result<Option<Setup>, AllocError>
+    ensures { IfOk result (λ found. MatchOption found ((setup : ModelSetup) → ¬ SpellsSetup line.now setup) (λ setup. SpellsSetup line.now (setup_of setup))) }
 {
     let Some(rest) = behind(line, b"domain ") else {
         return Ok(None);
@@ -178,7 +227,11 @@ fn setup_of(alloc: Global, line: &[u8]) -> Result<Option<Setup>, AllocError>
     let Some(clones) = read_count(alloc, number)? else {
         return Ok(None);
     };
-    Ok(Some(Setup { domain, clones }))
+    Ok(Some(Setup {
+        domain,
+        clones,
+        props: Vec::new(alloc),
+    }))
 }
 
 /// The name of a domain.

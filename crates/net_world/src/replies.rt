@@ -31,6 +31,8 @@ pub enum Word {
     Absent,
     /// `asking`: the clone asks for a leaf.
     Asking,
+    /// `down`: the clone is stopped.
+    Down,
     /// `live`: the clone is live.
     Live,
     /// `same`: two clones know the same dots.
@@ -57,6 +59,7 @@ pub fn push_word(out: &mut Vec<u8>, word: Word) -> Result<(), AllocError>
         Word::Deep => out.extend_from_slice(b"deep\n"),
         Word::Absent => out.extend_from_slice(b"absent\n"),
         Word::Asking => out.extend_from_slice(b"asking\n"),
+        Word::Down => out.extend_from_slice(b"down\n"),
         Word::Live => out.extend_from_slice(b"live\n"),
         Word::Same => out.extend_from_slice(b"same\n"),
         Word::Less => out.extend_from_slice(b"less\n"),

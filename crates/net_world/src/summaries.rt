@@ -4,7 +4,8 @@ ghost use Rattle.mld_ops.specs.Held.{ranges_of};
 ghost use Rattle.net_world.specs.Summaries.{IsBlank, IsSummaryOf, Summarizes, SummarizesAll};
 ghost use Rattle.net_world.specs.declared.summaries.State.{State};
 
-use clone_core::{Asker, MldClone};
+use crate::states::RunningClone;
+use clone_core::MldClone;
 use mld_model::CloneState;
 use mld_ops::{Entry, Tagged};
 use std::alloc::{AllocError, Global};
@@ -48,10 +49,7 @@ pub struct Summary {
 }
 
 /// What there is to tell of the clones of a world.
-pub fn summarize(
-    alloc: Global,
-    clones: &[CloneState<Asker, MldClone>],
-) -> Result<Summary, AllocError>
+pub fn summarize(alloc: Global, clones: &[RunningClone]) -> Result<Summary, AllocError>
     ensures { IfOk result (λ summary. SummarizesAll clones.now summary.clones.items) }
 {
     let mut summaries = Vec::with_capacity(alloc, clones.len())?;
@@ -62,22 +60,20 @@ pub fn summarize(
 }
 
 /// What there is to tell of a clone.
-fn summary_of(
-    alloc: Global,
-    clone: &CloneState<Asker, MldClone>,
-) -> Result<CloneSummary, AllocError>
+fn summary_of(alloc: Global, clone: &RunningClone) -> Result<CloneSummary, AllocError>
     ensures { IfOk result (Summarizes clone.now) }
 {
     match clone {
-        CloneState::Absent => Ok(blank(alloc, State::Absent)),
+        CloneState::Absent(_) => Ok(blank(alloc, State::Absent)),
         CloneState::Asking(_) => Ok(blank(alloc, State::Asking)),
+        CloneState::Down(_) => Ok(blank(alloc, State::Down)),
         CloneState::Live(live) => summary_of_live(alloc, live),
     }
 }
 
 /// What there is to tell of a live clone.
 fn summary_of_live(alloc: Global, clone: &MldClone) -> Result<CloneSummary, AllocError>
-    ensures { IfOk result (IsSummaryOf clone.now) }
+    ensures { IfOk result (IsSummaryOf clone.now.local) }
 {
     let known = clone.known().to_list(alloc)?;
     let base = clone.base().to_list(alloc)?;

@@ -3,7 +3,9 @@ ghost use Rattle.std.specs.Prelude.{◌≡◌, ◌+◌, ◌<◌, IfOk};
 ghost use Rattle.schedule_model.specs.Step.{HasCloneNumbers};
 ghost use Rattle.net_world.specs.Worlds.{IsStanding};
 
-use crate::{Command, LineRefusal, Setup, State, World, push_ready, read_command, read_setup};
+use crate::{
+    Command, LineRefusal, Setup, SetupLine, State, World, push_ready, read_command, read_setup,
+};
 use iri_rules::Text;
 use rdf_terms::{Iri, Term, Triple};
 use std::alloc::Global;
@@ -13,50 +15,55 @@ use tree_clock::Path;
 
 #[test]
 fn a_domain_line_is_read(rt: HostRuntime) -> Result<(), Fail> {
-    let Some(setup) = read_setup(rt.alloc(), b"domain d.x clones 2")? else {
+    let SetupLine::Setup(setup) = read_setup(rt.alloc(), b"domain d.x clones 2", None)? else {
         return Err(Fail::from("no domain line"));
     };
     assert_eq!(rt; setup.domain.as_str(), "d.x");
     assert_eq!(rt; setup.clones, 2);
-    assert!(rt; read_setup(rt.alloc(), b"# x")?.is_none());
+    assert!(rt; setup.props.is_empty());
+    let SetupLine::Other(Some(kept)) = read_setup(rt.alloc(), b"show 0", Some(setup))? else {
+        return Err(Fail::from("no setup"));
+    };
+    assert_eq!(rt; kept.clones, 2);
+    let nothing = read_setup(rt.alloc(), b"# x", None)?;
+    assert!(rt; matches!(nothing, SetupLine::Other(None)));
     Ok(())
 }
 
 #[test]
+#[tactic(auto, unfolding(iri_rules::specs::Domain::is_domain))]
 fn lines_are_refused(rt: HostRuntime) {
     assert_eq!(rt;
-        read_setup(rt.alloc(), b"show 0").err(),
+        read_setup(rt.alloc(), b"show 0", None).err(),
         Some(LineRefusal::BadLine)
     );
     assert_eq!(rt;
-        read_setup(rt.alloc(), b"ask").err(),
+        read_setup(rt.alloc(), b"ask", None).err(),
         Some(LineRefusal::Unbuilt)
     );
     assert_eq!(rt;
-        read_command(rt.alloc(), b"show 32").err(),
+        read_command(rt.alloc(), b"show 32", "d").err(),
         Some(LineRefusal::BadLine)
     );
     assert_eq!(rt;
-        read_command(rt.alloc(), b"stop 0").err(),
+        read_command(rt.alloc(), b"stop 0", "d").err(),
         Some(LineRefusal::Unbuilt)
     );
 }
 
 #[test]
+#[tactic(auto, unfolding(iri_rules::specs::Domain::is_domain))]
 fn a_command_is_read(rt: HostRuntime) -> Result<(), Fail> {
-    let command = read_command(rt.alloc(), b"deliver 7 31")?;
+    let command = read_command(rt.alloc(), b"deliver 7 31", "d")?;
     assert!(rt; matches!(command, Some(Command::Deliver(7, 31))));
-    assert!(rt; read_command(rt.alloc(), b"")?.is_none());
+    assert!(rt; read_command(rt.alloc(), b"", "d")?.is_none());
     Ok(())
 }
 
 #[test]
 fn a_founded_world_tells_of_its_clones(rt: HostRuntime) -> Result<(), Fail> {
-    let setup = Setup {
-        domain: Text::new(rt.alloc(), "d.x")?,
-        clones: 2,
-    };
-    let world = World::found(rt.alloc(), &setup)?;
+    let world = two_clones(&rt, rt.alloc())?;
+    assert_eq!(rt; world.domain(), "d.x");
     let summary = world.summary(rt.alloc())?;
     let paths = [
         summary.clones.first().and_then(|clone| clone.path),
@@ -82,15 +89,17 @@ fn a_founded_world_tells_of_its_clones(rt: HostRuntime) -> Result<(), Fail> {
 }
 
 // A world of two clones.
-fn two_clones(alloc: Global) -> Result<World, Fail>
+#[tactic(auto, unfolding(iri_rules::specs::Domain::is_domain))]
+fn two_clones<R: Threads>(rt: &R, alloc: Global) -> Result<World, Fail>
     ensures standing { IfOk result IsStanding }
     ensures steps { IfOk result (λ world. world.steps ≡ 0) }
 {
     let setup = Setup {
         domain: Text::new(alloc, "d.x")?,
         clones: 2,
+        props: Vec::new(alloc),
     };
-    Ok(World::found(alloc, &setup)?)
+    Ok(World::found(rt, alloc, &setup)?)
 }
 
 // Whether a command is answered by this text.
@@ -134,7 +143,7 @@ fn adds<R: Threads>(world: &mut World, rt: &R, alloc: Global, wanted: &[u8]) -> 
 
 #[test]
 fn what_is_added_is_sent_and_taken(rt: HostRuntime) -> Result<(), Fail> {
-    let mut world = two_clones(rt.alloc())?;
+    let mut world = two_clones(&rt, rt.alloc())?;
     assert!(rt; adds(&mut world, &rt, rt.alloc(), b"did r0.1 m1\n")?);
     assert!(rt;
         answers(
@@ -168,7 +177,7 @@ fn what_is_added_is_sent_and_taken(rt: HostRuntime) -> Result<(), Fail> {
 
 #[test]
 fn what_is_added_is_shown(rt: HostRuntime) -> Result<(), Fail> {
-    let mut world = two_clones(rt.alloc())?;
+    let mut world = two_clones(&rt, rt.alloc())?;
     assert!(rt; adds(&mut world, &rt, rt.alloc(), b"did r0.1 m1\n")?);
     let shown = "has 1\nr0.1 <http://d/a> <http://d/#p> <http://d/b> .\n";
     assert!(rt;
@@ -185,7 +194,7 @@ fn what_is_added_is_shown(rt: HostRuntime) -> Result<(), Fail> {
 
 #[test]
 fn a_step_joins(rt: HostRuntime) -> Result<(), Fail> {
-    let mut world = two_clones(rt.alloc())?;
+    let mut world = two_clones(&rt, rt.alloc())?;
     assert!(rt; answers(&mut world, &rt, rt.alloc(), &Command::Show(7), b"absent\n")?);
     assert!(rt; answers(&mut world, &rt, rt.alloc(), &Command::Join(7), b"sent m1\n")?);
     assert!(rt; answers(&mut world, &rt, rt.alloc(), &Command::Show(7), b"asking\n")?);

@@ -1,54 +1,59 @@
 //! The world: its clones, and every message ever sent.
-ghost use Rattle.std.specs.Prelude.{◌≡◌, ◌+◌, ◌<◌, ◌≤◌, [], length, vec_len, map, option_copied, IfOk, OnOk};
-ghost use Rattle.std.specs.List.{range_with_len};
-ghost use Rattle.mld_model.specs.StandsFor.{id_of, founded_local};
+ghost use Rattle.std.specs.Prelude.{◌≡◌, ◌+◌, ◌<◌, ◌≤◌, [], length, vec_len, map, option_copied, IsTrue, MatchResult, IfOk, OnOk};
+ghost use Rattle.mld_model.specs.StandsFor.{id_of};
+ghost use Rattle.mld_model.specs.declared.CloneState.TheVariants as states;
 ghost use Rattle.mld_ops.specs.Entry.{EntryValue};
+ghost use Rattle.mld_ops.specs.Messages.{message_value, IsGoodMessage};
 ghost use Rattle.mld_ops.specs.declared.messages.Message.TheVariants as kinds;
-ghost use Rattle.mld_model.specs.Local.{IsForeign, blank_clone};
+ghost use Rattle.mld_model.specs.Local.{IsForeign};
 ghost use Rattle.mld_model.specs.World.{clone_count};
 ghost use Rattle.tree_clock.specs.Limits.{tick_limit};
-ghost use Rattle.clone_core.specs.Joining.{IsGoodMessage};
-ghost use Rattle.net_world.specs.Founding.{leaf_before};
+ghost use Rattle.iri_rules.specs.Domain.{is_domain};
 ghost use Rattle.net_world.specs.Words.{reply_of, reply_of_covering};
-ghost use Rattle.net_world.specs.Worlds.{nth_message, HasNextTick, IsFitFor, AreFitFor, Sends, SetsAt, SetsTo, IsAsking, AdoptsAt, AnswersAt, AnswersLive, AreSent, DeliversTo, JoinsTo, ShowsAt, ComparesAt, Writes, IsQuiet, reply_of_answer};
+ghost use Rattle.net_world.specs.Worlds.{IsAt, IsMissingAt, nth_message, HasNextTick, IsFitFor, AreFitFor, Sends, SetsAt, SetsTo, IsAsking, AdoptsAt, AnswersAt, AnswersLive, AreSent, TellsAnswer, DeliversTo, AskedAt, Begins, SendsQuestion, JoinsTo, ShowsAt, ComparesAt, Writes, IsQuiet, reply_of_answer};
 
+use crate::faults::WorldFault;
+use crate::founding::founded_clones;
 use crate::lines::Setup;
 use crate::replies::{
     Word, push_answered, push_did, push_joined, push_pairs, push_sent, push_took, push_word,
 };
+use crate::states::{RunningClone, copy_properties, new_asker};
 use crate::summaries::{Summary, summarize};
 use clone_core::{Adopted, Asker, Covering, Done, Got, MldClone, ReceiveFault, UpdateFault};
 use iri_rules::Text;
-use mld_model::{CLONE_COUNT, CloneState};
-use schedule_model::Command;
+use mld_model::{CloneState, NoDevice};
 use mld_ops::{Entry, Message, Messages};
-use rdf_terms::Triple;
+use rdf_terms::{Iri, Triple};
+use schedule_model::Command;
 use std::alloc::{AllocError, Global};
 use std::marker::Model;
 use std::mem;
 use std::thread::Threads;
-use tree_clock::{Dot, Leaf, Path};
-use uuid::Uuid;
+use tree_clock::{Dot, Path};
 
 /// A world that runs.
 #[derive(Drop)]
 pub struct World {
     domain: Text,
-    clones: Vec<CloneState<Asker, MldClone>>,
+    properties: Vec<Iri>,
+    clones: Vec<RunningClone>,
     messages: Vec<Message>,
     steps: u32,
 }
 
 impl Model for World {
-    ghost use Rattle.std.specs.Prelude.{◌≡◌, vec_len};
+    ghost use Rattle.std.specs.Prelude.{◌≡◌, map, vec_len};
+    ghost use Rattle.mld_ops.specs.Messages.{message_value};
+    ghost use Rattle.mld_model.specs.Local.{IsNamed};
     ghost use Rattle.mld_model.specs.StandsFor.{RunningWorld};
     ghost use Rattle.mld_model.specs.World.{clone_count};
 
     ghost Value = { RunningWorld };
 
-    ghost view = { λ w. record { domain = w.domain; clones = w.clones.items; messages = w.messages.items; steps = w.steps } };
+    ghost view = { λ w. record { domain = w.domain; properties = w.properties.items; clones = w.clones.items; messages = map message_value w.messages.items; steps = w.steps } };
 
-    ghost invariant = { λ w. vec_len w.clones ≡ clone_count };
+    ghost invariant = { λ w. (vec_len w.clones ≡ clone_count) × IsNamed w.domain w.properties.items };
 }
 
 /// What became of a triple that was to be there, or to be gone, at a clone.
@@ -60,11 +65,20 @@ enum Change {
     Done(Done),
 }
 
+/// What a clone answers that is told to ask for a leaf.
+#[derive(Drop)]
+enum Asked {
+    /// It has a leaf, and this is the word for that.
+    Settled(Word),
+    /// It asks by this message.
+    Question(Message),
+}
+
 /// What a clone answers to a message.
 #[derive(Drop)]
 enum Answer {
-    /// There is no such clone.
-    Absent,
+    /// The clone is neither live nor does it ask, and this is the word for that.
+    Away(Word),
     /// The clone asks for a leaf, and the message gives it none.
     Ignored,
     /// The clone asked for a leaf, and lives from now on at this path.
@@ -78,26 +92,39 @@ enum Answer {
 }
 
 impl World {
-    ghost use Rattle.std.specs.Prelude.{◌≡◌, ◌+◌, ◌<◌, ◌≤◌, IfOk, OnOk};
-    ghost use Rattle.mld_model.specs.StandsFor.{founded_running};
+    ghost use Rattle.std.specs.Prelude.{◌≡◌, ◌+◌, ◌<◌, ◌≤◌, IsTrue, IfOk, OnOk};
+    ghost use Rattle.iri_rules.specs.Domain.{is_domain};
+    ghost use Rattle.mld_model.specs.StandsFor.{StandsFor};
+    ghost use Rattle.schedule_model.specs.Runs.{founded_by};
+    ghost use Rattle.schedule_model.specs.Schedule.{IsSetup};
+    ghost use Rattle.net_world.specs.Reading.{setup_of};
     ghost use Rattle.schedule_model.specs.Step.{HasCloneNumbers};
     ghost use Rattle.net_world.specs.Worlds.{IsStanding, Stepped};
     ghost use Rattle.net_world.specs.Summaries.{Tells};
 
     /// The founded world: the clones from 0 on are live, each with a leaf of its own, and the others are absent.
-    pub fn found(alloc: Global, setup: &Setup) -> Result<World, AllocError>
-        requires some { 1 ≤ setup.now.clones }
-        requires most { setup.now.clones ≤ clone_count }
-        ensures founded { IfOk result (λ world. world ≡ founded_running setup.now.domain setup.now.clones) }
+    pub fn found<R: Threads>(rt: &R, alloc: Global, setup: &Setup) -> Result<World, WorldFault>
+        requires { IsSetup (setup_of setup.now) }
+        ensures founded { IfOk result (λ world. StandsFor world (founded_by (setup_of setup.now))) }
         ensures standing { IfOk result IsStanding }
+        ensures steps { IfOk result (λ world. world.steps ≡ 0) }
     {
-        let clones = founded_clones(alloc, &setup.domain, setup.clones)?;
+        let clones = founded_clones(rt, alloc, setup)?;
         Ok(World {
             domain: setup.domain.copy_in(alloc)?,
+            properties: copy_properties(alloc, setup.props.as_slice())?,
             clones,
             messages: Vec::new(alloc),
             steps: 0,
         })
+    }
+
+    /// The name of the domain.
+    pub fn domain(&self) -> &str
+        ensures text { result.now ≡ self.now.domain }
+        ensures name { IsTrue (is_domain self.now.domain) }
+    {
+        self.domain.as_str()
     }
 
     /// What there is to tell of the world: of each world of the model that it stands for.
@@ -110,6 +137,25 @@ impl World {
     /// Does a command, and adds the text of its reply to the output. After an error the world may have done a part of it,
     /// and is not used again.
     pub fn step<R: Threads>(
+        &mut self,
+        rt: &R,
+        alloc: Global,
+        command: &Command,
+        out: &mut Vec<u8>,
+    ) -> Result<(), WorldFault>
+        requires few { self.old.steps < tick_limit }
+        requires standing { IsStanding self.old }
+        requires numbers { HasCloneNumbers command.now }
+        ensures done { OnOk result (Stepped self.old command.now self.new out.old.items out.new.items) }
+        ensures standing { OnOk result (IsStanding self.new) }
+        ensures steps { OnOk result (self.new.steps ≡ self.old.steps + 1) }
+    {
+        self.carry_out(rt, alloc, command, out)?;
+        Ok(())
+    }
+
+    // Does a command, as `step` says.
+    fn carry_out<R: Threads>(
         &mut self,
         rt: &R,
         alloc: Global,
@@ -139,7 +185,15 @@ impl World {
             }
             Command::Join(number) => {
                 let (clones, messages) = (&mut self.clones, &mut self.messages);
-                join_to(alloc, clones, messages, &self.domain, *number, out)
+                join_to(
+                    alloc,
+                    clones,
+                    messages,
+                    &self.domain,
+                    self.properties.as_slice(),
+                    *number,
+                    out,
+                )
             }
             Command::Show(number) => show(alloc, self.clones.as_slice(), *number, out),
             Command::Compare(number, other) => {
@@ -149,69 +203,10 @@ impl World {
     }
 }
 
-/// The clones of the founded world: clone 0 has the first leaf, forks it once for each other clone, and keeps the left half.
-fn founded_clones(
-    alloc: Global,
-    domain: &Text,
-    count: u8,
-) -> Result<Vec<CloneState<Asker, MldClone>>, AllocError>
-    requires some { 1 ≤ count }
-    requires most { count ≤ clone_count }
-    ensures { IfOk result (λ clones. clones.items ≡ map (founded_local domain.now count) (range_with_len 0 clone_count)) }
-{
-    let mut leaf = Leaf::genesis();
-    let mut others = Vec::new(alloc);
-    for number in 1..CLONE_COUNT {
-        others.push(forked_clone(alloc, domain, &mut leaf, count, number)?)?;
-    }
-    let mut clones = Vec::new(alloc);
-    clones.push(CloneState::Live(live_clone(alloc, domain, leaf, 0)?))?;
-    clones.append(&mut others)?;
-    Ok(clones)
-}
-
-/// A clone of the founded world that isn't the first, where it has one of that number: it gets the right half of the leaf.
-fn forked_clone(
-    alloc: Global,
-    domain: &Text,
-    leaf: &mut Leaf,
-    count: u8,
-    number: u8,
-) -> Result<CloneState<Asker, MldClone>, AllocError>
-    requires first { 1 ≤ number }
-    requires room { count ≤ clone_count }
-    requires leaf { leaf.old ≡ leaf_before count number }
-    ensures leaf { OnOk result (leaf.new ≡ leaf_before count (number + 1)) }
-    ensures clone { IfOk result (λ clone. clone ≡ founded_local domain.now count number) }
-{
-    if number >= count {
-        return Ok(CloneState::Absent);
-    }
-    let Some(right) = leaf.give() else {
-        unreachable!()
-    };
-    Ok(CloneState::Live(live_clone(alloc, domain, right, number)?))
-}
-
-/// The clone of a number that has this leaf and knows nothing.
-fn live_clone(alloc: Global, domain: &Text, leaf: Leaf, number: u8) -> Result<MldClone, AllocError>
-    ensures { IfOk result (λ clone. clone ≡ blank_clone (id_of number) domain.now [] leaf) }
-{
-    let domain = domain.copy_in(alloc)?;
-    Ok(MldClone::with_leaf(alloc, leaf, id_of(number), domain, Vec::new(alloc)))
-}
-
-/// The id of a clone: the UUID whose number is the clone's.
-fn id_of(number: u8) -> Uuid
-    ensures { result ≡ id_of number }
-{
-    Uuid::from_u128(u128::from(number))
-}
-
 /// Clone `number` inserts a triple, or deletes the pairs of it, and the entry of that is sent.
 fn set_to(
     alloc: Global,
-    clones: &mut Vec<CloneState<Asker, MldClone>>,
+    clones: &mut Vec<RunningClone>,
     messages: &mut Vec<Message>,
     number: u8,
     triple: &Triple,
@@ -221,7 +216,7 @@ fn set_to(
     requires number { number < vec_len clones.old }
     requires ticks { HasNextTick clones.old.items number }
     ensures count { vec_len clones.new ≡ vec_len clones.old }
-    ensures ok { OnOk result (SetsTo clones.old.items messages.old.items number triple.now present clones.new.items messages.new.items out.old.items out.new.items) }
+    ensures ok { OnOk result (SetsTo clones.old.items (map message_value messages.old.items) number triple.now present clones.new.items (map message_value messages.new.items) out.old.items out.new.items) }
 {
     match set_at(alloc, clones, number, triple, present)? {
         Change::Missing(word) => push_word(out, word),
@@ -233,7 +228,7 @@ fn set_to(
 /// Clone `number`, where it is live, makes the operation that inserts a triple, or the one that deletes the pairs of it.
 fn set_at(
     alloc: Global,
-    clones: &mut Vec<CloneState<Asker, MldClone>>,
+    clones: &mut Vec<RunningClone>,
     number: u8,
     triple: &Triple,
     present: bool,
@@ -244,8 +239,9 @@ fn set_at(
     ensures ok { IfOk result (SetsAt clones.old.items clones.new.items number triple.now present) }
 {
     match &mut clones[usize::from(number)] {
-        CloneState::Absent => Ok(Change::Missing(Word::Absent)),
+        CloneState::Absent(_) => Ok(Change::Missing(Word::Absent)),
         CloneState::Asking(_) => Ok(Change::Missing(Word::Asking)),
+        CloneState::Down(_) => Ok(Change::Missing(Word::Down)),
         CloneState::Live(clone) => match clone.set(alloc, triple, present) {
             Ok(done) => Ok(Change::Done(done)),
             Err(UpdateFault::NoMemory) => Err(AllocError),
@@ -261,7 +257,7 @@ fn send_operation(
     entry: Entry,
     out: &mut Vec<u8>,
 ) -> Result<(), AllocError>
-    ensures { OnOk result (Sends messages.old.items entry messages.new.items out.old.items out.new.items) }
+    ensures { OnOk result (Sends (map message_value messages.old.items) entry (map message_value messages.new.items) out.old.items out.new.items) }
 {
     let range = entry.range();
     let dot = Dot {
@@ -284,26 +280,75 @@ fn message_at(messages: &[Message], number: u64) -> Option<&Message>
 /// Clone `number`, which has no leaf yet, asks for one; it may ask again.
 fn join_to(
     alloc: Global,
-    clones: &mut Vec<CloneState<Asker, MldClone>>,
+    clones: &mut Vec<RunningClone>,
     messages: &mut Vec<Message>,
     domain: &Text,
+    properties: &[Iri],
     number: u8,
     out: &mut Vec<u8>,
 ) -> Result<(), AllocError>
-    requires { number < vec_len clones.old }
+    requires number { number < vec_len clones.old }
+    requires name { IsTrue (is_domain domain.now) }
     ensures count { vec_len clones.new ≡ vec_len clones.old }
-    ensures done { OnOk result (JoinsTo domain.now clones.old.items messages.old.items number clones.new.items messages.new.items out.old.items out.new.items) }
+    ensures done { OnOk result (JoinsTo domain.now properties.now clones.old.items (map message_value messages.old.items) number clones.new.items (map message_value messages.new.items) out.old.items out.new.items) }
 {
-    let question = match &clones[usize::from(number)] {
-        CloneState::Live(_) => return push_word(out, Word::Live),
-        CloneState::Asking(asker) => asker.ask(),
-        CloneState::Absent => {
-            let asker = Asker::new(id_of(number), domain.copy_in(alloc)?, Vec::new(alloc));
-            let question = asker.ask();
-            clones[usize::from(number)] = CloneState::Asking(asker);
-            question
+    match ask_at(alloc, clones, domain, properties, number)? {
+        Asked::Settled(word) => push_word(out, word),
+        Asked::Question(question) => send_question(alloc, messages, question, out),
+    }
+}
+
+/// Clone `number`, where it has no leaf, asks for one.
+fn ask_at(
+    alloc: Global,
+    clones: &mut Vec<RunningClone>,
+    domain: &Text,
+    properties: &[Iri],
+    number: u8,
+) -> Result<Asked, AllocError>
+    requires number { number < vec_len clones.old }
+    requires name { IsTrue (is_domain domain.now) }
+    ensures count { vec_len clones.new ≡ vec_len clones.old }
+    ensures ok { IfOk result (AskedAt domain.now properties.now clones.old.items clones.new.items number) }
+{
+    match &clones[usize::from(number)] {
+        CloneState::Live(_) => Ok(Asked::Settled(Word::Live)),
+        CloneState::Down(_) => Ok(Asked::Settled(Word::Down)),
+        CloneState::Asking(asker) => Ok(Asked::Question(asker.ask())),
+        CloneState::Absent(_) => {
+            let state = &mut clones[usize::from(number)];
+            let question = begin_to_ask(alloc, state, domain, properties, number)?;
+            Ok(Asked::Question(question))
         }
-    };
+    }
+}
+
+/// Clone `number` becomes one who asks for a leaf, and gives its question.
+fn begin_to_ask(
+    alloc: Global,
+    state: &mut RunningClone,
+    domain: &Text,
+    properties: &[Iri],
+    number: u8,
+) -> Result<Message, AllocError>
+    requires { IsTrue (is_domain domain.now) }
+    ensures { IfOk result (Begins domain.now properties.now number state.new) }
+{
+    let asker = new_asker(alloc, domain, properties, number)?;
+    let question = asker.ask();
+    *state = CloneState::Asking(asker);
+    Ok(question)
+}
+
+/// Sends a question: it is the next message, and the reply names its number.
+fn send_question(
+    alloc: Global,
+    messages: &mut Vec<Message>,
+    question: Message,
+    out: &mut Vec<u8>,
+) -> Result<(), AllocError>
+    ensures { OnOk result (SendsQuestion (map message_value messages.old.items) question (map message_value messages.new.items) out.old.items out.new.items) }
+{
     push_sent(alloc, out, messages.len() + 1)?;
     messages.push(question)?;
     Ok(())
@@ -313,21 +358,34 @@ fn join_to(
 fn deliver_to<R: Threads>(
     rt: &R,
     alloc: Global,
-    clones: &mut Vec<CloneState<Asker, MldClone>>,
+    clones: &mut Vec<RunningClone>,
     messages: &mut Vec<Message>,
     message: u64,
     number: u8,
     out: &mut Vec<u8>,
 ) -> Result<(), AllocError>
     requires number { number < vec_len clones.old }
-    requires fit { AreFitFor clones.old.items messages.old.items message number }
+    requires fit { AreFitFor clones.old.items (map message_value messages.old.items) message number }
     ensures count { vec_len clones.new ≡ vec_len clones.old }
-    ensures done { OnOk result (DeliversTo clones.old.items messages.old.items message number clones.new.items messages.new.items out.old.items out.new.items) }
+    ensures done { OnOk result (DeliversTo clones.old.items (map message_value messages.old.items) message number clones.new.items (map message_value messages.new.items) out.old.items out.new.items) }
 {
     let Some(message) = message_at(messages, message) else {
         return push_word(out, Word::NoMessage);
     };
-    match receive_at(rt, alloc, clones, number, message)? {
+    let answer = receive_at(rt, alloc, clones, number, message)?;
+    tell(alloc, messages, answer, out)
+}
+
+/// Writes the reply that an answer is, and sends what it sends.
+fn tell(
+    alloc: Global,
+    messages: &mut Vec<Message>,
+    answer: Answer,
+    out: &mut Vec<u8>,
+) -> Result<(), AllocError>
+    ensures { OnOk result (TellsAnswer (map message_value messages.old.items) answer (map message_value messages.new.items) out.old.items out.new.items) }
+{
+    match answer {
         Answer::Got(Got::Answer(answers)) => send_answers(alloc, messages, answers, out),
         answer => push_answer(alloc, out, &answer),
     }
@@ -337,17 +395,18 @@ fn deliver_to<R: Threads>(
 fn receive_at<R: Threads>(
     rt: &R,
     alloc: Global,
-    clones: &mut Vec<CloneState<Asker, MldClone>>,
+    clones: &mut Vec<RunningClone>,
     number: u8,
     message: &Message,
 ) -> Result<Answer, AllocError>
     requires number { number < vec_len clones.old }
-    requires fit { IsFitFor clones.old.items number message.now }
+    requires fit { IsFitFor clones.old.items number (message_value message.now) }
     ensures count { vec_len clones.new ≡ vec_len clones.old }
     ensures ok { IfOk result (AnswersAt clones.old.items clones.new.items number message.now) }
 {
     match &mut clones[usize::from(number)] {
-        CloneState::Absent => Ok(Answer::Absent),
+        CloneState::Absent(_) => Ok(Answer::Away(Word::Absent)),
+        CloneState::Down(_) => Ok(Answer::Away(Word::Down)),
         CloneState::Live(clone) => receive_live(rt, alloc, clone, message),
         asking => adopt_at(rt, alloc, asking, message),
     }
@@ -360,7 +419,8 @@ fn receive_live<R: Threads>(
     clone: &mut MldClone,
     message: &Message,
 ) -> Result<Answer, AllocError>
-    requires { (entry : EntryValue) → message.now ≡ kinds.Range entry → ¬ IsForeign clone.old entry }
+    requires own { (entry : EntryValue) → message.now ≡ kinds.Range entry → ¬ IsForeign clone.old.local entry }
+    requires good { IsGoodMessage (message_value message.now) }
     ensures { IfOk result (AnswersLive clone.old message.now clone.new) }
 {
     match clone.receive(rt, alloc, message) {
@@ -376,14 +436,14 @@ fn receive_live<R: Threads>(
 fn adopt_at<R: Threads>(
     rt: &R,
     alloc: Global,
-    state: &mut CloneState<Asker, MldClone>,
+    state: &mut RunningClone,
     message: &Message,
 ) -> Result<Answer, AllocError>
     requires asking { IsAsking state.old }
-    requires good { IsGoodMessage message.now }
+    requires good { IsGoodMessage (message_value message.now) }
     ensures { IfOk result (AdoptsAt state.old state.new message.now) }
 {
-    let CloneState::Asking(asker) = mem::replace(state, CloneState::Absent) else {
+    let CloneState::Asking(asker) = mem::replace(state, CloneState::Absent(NoDevice)) else {
         unreachable!()
     };
     match asker.receive(rt, alloc, message) {
@@ -406,7 +466,7 @@ fn push_answer(alloc: Global, out: &mut Vec<u8>, answer: &Answer) -> Result<(), 
     ensures { OnOk result (Writes (reply_of_answer answer.now) out.old.items out.new.items) }
 {
     match answer {
-        Answer::Absent => push_word(out, Word::Absent),
+        Answer::Away(word) => push_word(out, *word),
         Answer::Joined(path) => push_joined(alloc, out, path),
         Answer::Got(Got::Took(ranges)) => push_took(alloc, out, ranges.as_slice()),
         Answer::Got(Got::Held) => push_word(out, Word::Held),
@@ -425,32 +485,44 @@ fn send_answers(
     answers: Messages,
     out: &mut Vec<u8>,
 ) -> Result<(), AllocError>
-    ensures { OnOk result (AreSent messages.old.items answers messages.new.items out.old.items out.new.items) }
+    ensures { OnOk result (AreSent (map message_value messages.old.items) (map message_value answers) (map message_value messages.new.items) out.old.items out.new.items) }
 {
     push_answered(alloc, out, messages.len() + 1, answers.len())?;
     messages.append(&mut answers.into_vec())
 }
 
+/// Clone `number`, where it is live, or the word for its state.
+fn live_at(clones: &[RunningClone], number: u8) -> Result<&MldClone, Word>
+    requires { number < length clones.now }
+    ensures { MatchResult result (λ clone. IsAt clones.now number (states.Live clone.now)) (λ word. IsMissingAt clones.now number word) }
+{
+    match &clones[usize::from(number)] {
+        CloneState::Absent(_) => Err(Word::Absent),
+        CloneState::Asking(_) => Err(Word::Asking),
+        CloneState::Down(_) => Err(Word::Down),
+        CloneState::Live(clone) => Ok(clone),
+    }
+}
+
 /// Lists the pairs of clone `number`.
 fn show(
     alloc: Global,
-    clones: &[CloneState<Asker, MldClone>],
+    clones: &[RunningClone],
     number: u8,
     out: &mut Vec<u8>,
 ) -> Result<(), AllocError>
     requires { number < length clones.now }
     ensures { OnOk result (ShowsAt clones.now number out.old.items out.new.items) }
 {
-    match &clones[usize::from(number)] {
-        CloneState::Absent => push_word(out, Word::Absent),
-        CloneState::Asking(_) => push_word(out, Word::Asking),
-        CloneState::Live(clone) => push_pairs(alloc, out, clone.pairs()),
+    match live_at(clones, number) {
+        Ok(clone) => push_pairs(alloc, out, clone.pairs()),
+        Err(word) => push_word(out, word),
     }
 }
 
 /// Compares the dots that two clones know.
 fn compare(
-    clones: &[CloneState<Asker, MldClone>],
+    clones: &[RunningClone],
     number: u8,
     other: u8,
     out: &mut Vec<u8>,
@@ -459,15 +531,13 @@ fn compare(
     requires second { other < length clones.now }
     ensures { OnOk result (ComparesAt clones.now number other out.old.items out.new.items) }
 {
-    let first = match &clones[usize::from(number)] {
-        CloneState::Absent => return push_word(out, Word::Absent),
-        CloneState::Asking(_) => return push_word(out, Word::Asking),
-        CloneState::Live(clone) => clone,
+    let first = match live_at(clones, number) {
+        Ok(clone) => clone,
+        Err(word) => return push_word(out, word),
     };
-    match &clones[usize::from(other)] {
-        CloneState::Absent => push_word(out, Word::Absent),
-        CloneState::Asking(_) => push_word(out, Word::Asking),
-        CloneState::Live(second) => push_word(out, word_of(first.compare(second))),
+    match live_at(clones, other) {
+        Ok(second) => push_word(out, word_of(first.compare(second))),
+        Err(word) => push_word(out, word),
     }
 }
 

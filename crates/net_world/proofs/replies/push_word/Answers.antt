@@ -59,3 +59,7 @@ returns-in-Asking c = search rules
 pub returns-in-Live : goal.returns-in-Live
 unfolding reply_text
 returns-in-Live c = search rules
+
+pub returns-in-Down : goal.returns-in-Down
+unfolding reply_text
+returns-in-Down c = search rules

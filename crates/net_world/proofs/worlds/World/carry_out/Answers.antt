@@ -1,11 +1,12 @@
-use Rattle.std.proofs.Common.{List, sym, subst}
+use Rattle.std.proofs.Common.{ℕ, List, map, sym, subst}
+use Rattle.mld_ops.specs.Messages.{message_value}
 use Rattle.std.proofs.lemmas.Result.{IfOk-weaker}
 use Rattle.schedule_model.specs.declared.Command.TheVariants.{Add, Remove, Deliver, Show, Compare, Join}
 use Rattle.mld_model.specs.StandsFor.{RunningClone, RunningWorld}
-use Rattle.net_world.specs.Worlds.{HasNextTick, AreFitFor, ShowsAt, ComparesAt}
+use Rattle.net_world.specs.Worlds.{HasNextTick, AreFitFor, JoinsTo, ShowsAt, ComparesAt}
 use Rattle.net_world.specs.contracts.worlds.World.{the_view}
-use Rattle.net_world.proofs.WorldLemmas.{standing_after, after_step, has_next_tick, are_fit, stepped_of, added, removed, delivered, joined, below_of, shown, compared}
-use Rattle.net_world.proofs.worlds.World.step.Goals as goal
+use Rattle.net_world.proofs.WorldLemmas.{standing_after, after_step, has_next_tick, are_fit, stepped_of, added, removed, delivered, joined, shown, compared}
+use Rattle.net_world.proofs.worlds.World.carry_out.Goals as goal
 
 pub set_to-requires-clause-ticks : goal.set_to-requires-clause-ticks
 set_to-requires-clause-ticks g c =
@@ -26,36 +27,39 @@ pub returns-in-Add-clause-done : goal.returns-in-Add-clause-done
 returns-in-Add-clause-done g c =
     let view : RunningWorld = the_view c.self.inside in
     IfOk-weaker c.set_to.result _ _ (λ _ h.
-    stepped_of c.args.self.now view c.args.command.now (Add c.in-Add.number c.in-Add.triple) (after_step view c.set_to.new.clones.items c.set_to.new.messages.items)
+    stepped_of c.args.self.now view c.args.command.now (Add c.in-Add.number c.in-Add.triple) (after_step view c.set_to.new.clones.items (map message_value c.set_to.new.messages.items))
     c.args.out.now.items c.set_to.new.out.items c.self.view_is c.in-Add.is
-    (added view c.in-Add.number c.in-Add.triple c.set_to.new.clones.items c.set_to.new.messages.items c.args.out.now.items c.set_to.new.out.items h))
+    (added view c.in-Add.number c.in-Add.triple c.set_to.new.clones.items (map message_value c.set_to.new.messages.items) c.args.out.now.items c.set_to.new.out.items h))
     c.set_to.ensures.ok
 
 pub returns-in-Remove-clause-done : goal.returns-in-Remove-clause-done
 returns-in-Remove-clause-done g c =
     let view : RunningWorld = the_view c.self.inside in
     IfOk-weaker c.set_to-in-Remove.result _ _ (λ _ h.
-    stepped_of c.args.self.now view c.args.command.now (Remove c.in-Remove.number c.in-Remove.triple) (after_step view c.set_to-in-Remove.new.clones.items c.set_to-in-Remove.new.messages.items)
+    stepped_of c.args.self.now view c.args.command.now (Remove c.in-Remove.number c.in-Remove.triple) (after_step view c.set_to-in-Remove.new.clones.items (map message_value c.set_to-in-Remove.new.messages.items))
     c.args.out.now.items c.set_to-in-Remove.new.out.items c.self.view_is c.in-Remove.is
-    (removed view c.in-Remove.number c.in-Remove.triple c.set_to-in-Remove.new.clones.items c.set_to-in-Remove.new.messages.items c.args.out.now.items c.set_to-in-Remove.new.out.items h))
+    (removed view c.in-Remove.number c.in-Remove.triple c.set_to-in-Remove.new.clones.items (map message_value c.set_to-in-Remove.new.messages.items) c.args.out.now.items c.set_to-in-Remove.new.out.items h))
     c.set_to-in-Remove.ensures.ok
 
 pub returns-in-Deliver-clause-done : goal.returns-in-Deliver-clause-done
 returns-in-Deliver-clause-done g c =
     let view : RunningWorld = the_view c.self.inside in
     IfOk-weaker c.deliver_to.result _ _ (λ _ h.
-    stepped_of c.args.self.now view c.args.command.now (Deliver c.in-Deliver.message c.in-Deliver.number) (after_step view c.deliver_to.new.clones.items c.deliver_to.new.messages.items)
+    stepped_of c.args.self.now view c.args.command.now (Deliver c.in-Deliver.message c.in-Deliver.number) (after_step view c.deliver_to.new.clones.items (map message_value c.deliver_to.new.messages.items))
     c.args.out.now.items c.deliver_to.new.out.items c.self.view_is c.in-Deliver.is
-    (delivered view c.in-Deliver.message c.in-Deliver.number c.deliver_to.new.clones.items c.deliver_to.new.messages.items c.args.out.now.items c.deliver_to.new.out.items h))
+    (delivered view c.in-Deliver.message c.in-Deliver.number c.deliver_to.new.clones.items (map message_value c.deliver_to.new.messages.items) c.args.out.now.items c.deliver_to.new.out.items h))
     c.deliver_to.ensures.done
 
 pub returns-in-Join-clause-done : goal.returns-in-Join-clause-done
 returns-in-Join-clause-done g c =
     let view : RunningWorld = the_view c.self.inside in
+    let P : List (List ℕ) → Type 0 = λ properties. JoinsTo view.domain properties view.clones view.messages c.in-Join.number c.join_to.new.clones.items (map message_value c.join_to.new.messages.items)
+    c.args.out.now.items c.join_to.new.out.items in
     IfOk-weaker c.join_to.result _ _ (λ _ h.
-    stepped_of c.args.self.now view c.args.command.now (Join c.in-Join.number) (after_step view c.join_to.new.clones.items c.join_to.new.messages.items)
+    stepped_of c.args.self.now view c.args.command.now (Join c.in-Join.number) (after_step view c.join_to.new.clones.items (map message_value c.join_to.new.messages.items))
     c.args.out.now.items c.join_to.new.out.items c.self.view_is c.in-Join.is
-    (joined view c.in-Join.number c.join_to.new.clones.items c.join_to.new.messages.items c.args.out.now.items c.join_to.new.out.items (below_of c.args.command.now c.in-Join.number c.requires.numbers c.in-Join.is) h))
+    (joined view c.in-Join.number c.join_to.new.clones.items (map message_value c.join_to.new.messages.items) c.args.out.now.items c.join_to.new.out.items c.self.invariant.1
+    (subst P c.as_slice.ensures.value h)))
     c.join_to.ensures.done
 
 pub returns-in-Show-clause-done : goal.returns-in-Show-clause-done
@@ -65,7 +69,7 @@ returns-in-Show-clause-done g c =
     let P : List RunningClone → Type 0 = λ cs. ShowsAt cs c.in-Show.number c.args.out.now.items c.show.new.out.items in
     stepped_of c.args.self.now view c.args.command.now (Show c.in-Show.number) (after_step view view.clones view.messages)
     c.args.out.now.items c.show.new.out.items c.self.view_is c.in-Show.is
-    (shown view c.in-Show.number c.args.out.now.items c.show.new.out.items (subst P c.as_slice.ensures.value h)))
+    (shown view c.in-Show.number c.args.out.now.items c.show.new.out.items (subst P c.as_slice-in-Show.ensures.value h)))
     c.show.ensures
 
 pub returns-in-Compare-clause-done : goal.returns-in-Compare-clause-done

@@ -1,5 +1,5 @@
 use Rattle.net_world.proofs.LinesCommands.{setup_spaced, setup_counted, setup_domain, setup_number}
-use Rattle.net_world.proofs.lines.setup_of.Goals as goal
+use Rattle.net_world.proofs.lines.domain_line.Goals as goal
 
 pub returns-in_default-split_at_space : goal.returns-in_default-split_at_space
 returns-in_default-split_at_space c = setup_spaced c.args.line.now c.in-Some.rest.now c.in-Some.ensures c.in_default-split_at_space.ensures
