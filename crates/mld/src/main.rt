@@ -2,24 +2,12 @@
 #![tactic(auto)]
 
 use mld_io::{StdSink, StdSource};
+use mld_replay::run::{Ran, RunFault, ended, run};
 use std::alloc::{Alloc, Global};
 use std::env::{self, Env};
 use std::io::{self, BufReader, ErrorKind, Input, Print};
 use std::process::ExitCode;
 use std::thread::Threads;
-
-#[cfg(test)]
-mod held_tests;
-#[cfg(test)]
-mod join_tests;
-mod limits;
-mod run;
-#[cfg(test)]
-mod summary_tests;
-#[cfg(test)]
-mod tests;
-
-use run::{Ran, RunFault, ended, run};
 
 fn main(rt: HostRuntime) -> ExitCode {
     let ran = match run_on_standard(&rt) {

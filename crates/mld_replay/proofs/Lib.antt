@@ -1,0 +1,4 @@
+pub mod LimitLemmas
+pub mod RunLemmas
+pub mod StageLemmas
+pub mod SummaryLemmas

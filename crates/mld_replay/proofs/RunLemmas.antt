@@ -1,0 +1,359 @@
+-- A replay from line to line, and how it ends.
+use Rattle.std.proofs.Common.{◌≡◌, ◌≢◌, ℕ, ◌+◌, ◌≤◌, ◌<◌, List, [], ◌∷◌, ◌++◌, ◌↔◌, inl, inr, refl, sym, ◌∙◌, ap, arith, subst, length, Option, None, Some, append_assoc, append-nil, length-append, get_or, map, take, Bool, Err, Result, Ok}
+use Rattle.std.specs.Prelude.{IsTrue, nat_eq, OnOk}
+use Rattle.std.proofs.lemmas.List.{take_all}
+use Rattle.std.proofs.Math.Seq.{take-append-add}
+use Rattle.std.specs.Cmp.Lexicographic.{pointwise}
+use Rattle.tree_clock.specs.DotLaws.{path_eq-Decides}
+use Rattle.std.specs.Io.KnownBytes.{Appends}
+use Rattle.mld_io.specs.Lines.{lines_of, after_line, IsCutShort}
+use Rattle.mld_io.specs.LinesLaws.{first_of_lines_lem}
+use Rattle.schedule_model.specs.Runs.{Stage, Waiting, Acts, Runs, IsBad, IsUnbuilt, Before, Outcome, Finished, BadLine, UnbuiltLine, Verdict}
+use Rattle.mld_replay.specs.Ran.{Finishes, StopsAtBad, StopsAtUnbuilt, StopsAtLarge, BreaksOff, ReadsLines, WritesFront, TakesLine, IfSomeLine, HasReadCause, HasWriteCause, Agrees}
+use Rattle.mld_replay.specs.Stages.{StageStands, IsStandingStage, ActsWell, EndsWell, steps_of}
+use Rattle.mld_replay.specs.declared.stages.Stage.{Stage as RunningStage}
+use Rattle.mld_replay.specs.declared.stages.Stage.TheVariants as stages
+use Rattle.schedule_model.specs.RunsLaws.{one_verdict}
+use Rattle.schedule_model.specs.PromisesLaws.{promises_kept}
+use Rattle.mld_replay.specs.declared.run.RunFault.{RunFault}
+use Rattle.mld_replay.specs.declared.run.RunFault.TheVariants as faults
+use Rattle.net_world.specs.declared.lines.LineRefusal.{LineRefusal}
+use Rattle.net_world.specs.declared.lines.LineRefusal.TheVariants as refusals
+use Rattle.mld_replay.specs.Stops.{fault_of}
+use Rattle.mld_replay.specs.UnderWay.{IsLeft, IsUnderWay}
+use Rattle.mld_replay.specs.Limits.{BreaksLimits, IsTooLargeLine}
+use Rattle.mld_replay.proofs.LimitLemmas.{left_first, taken_left, taken_fit, all_fit, large_next}
+
+-- a run goes on by one line
+runs_more : (stage middle next : Stage) (lines : List (List ℕ)) (text line more : List ℕ) → Runs stage lines text middle → Acts middle line more next
+    → Runs stage (lines ++ line ∷ []) (text ++ more) next
+runs_more stage middle next [] text line more runs acts =
+    let P : List ℕ → Type 0 = λ t. Runs stage (line ∷ []) (t ++ more) next in
+    let Q : Stage → Type 0 = λ s. Acts s line more next in
+    subst P (sym runs.0) (more, [], next, subst Q runs.1 acts, (refl, refl), sym (append-nil more))
+runs_more stage middle next (one ∷ lines) text line more (front, rest, between, acts_one, runs_rest, whole) acts =
+    (front, rest ++ more, between, acts_one, runs_more between middle next lines rest line more runs_rest acts, ap (λ t. t ++ more) whole ∙ append_assoc front rest more)
+
+appends_more : (before middle after : Option (List ℕ)) (text more : List ℕ) → Appends before middle text → Appends middle after more → Appends before after (text ++ more)
+appends_more None middle after text more h k = tt
+appends_more (Some xs) None after text more h k = absurd h
+appends_more (Some xs) (Some ys) None text more h k = absurd k
+appends_more (Some xs) (Some ys) (Some zs) text more h k = k ∙ ap (λ t. t ++ more) h ∙ append_assoc xs text more
+
+pub appends_nothing : (before : Option (List ℕ)) → Appends before before []
+appends_nothing None = tt
+appends_nothing (Some xs) = sym (append-nil xs)
+
+-- nothing is done yet
+pub under_way_first : (given before : Option (List ℕ)) (size : ℕ) (running : RunningStage) → size ≡ 0 → running ≡ stages.Waiting → IsUnderWay given given before before size running 0
+under_way_first given before size running nothing none =
+    let P : RunningStage → Type 0 = λ w. IsUnderWay given given before before size w 0 in
+    subst P (sym none) (record {
+      lines = [];
+      text = [];
+      stage = Waiting;
+      counted = refl;
+      runs = (refl, refl);
+      stands = tt;
+      steps = omega arith;
+      left_of = left_first given size nothing;
+      written = appends_nothing before;
+    })
+
+-- a line was taken, said of an equal line
+pub takes_some : (left rest line : Option (List ℕ)) (size grown : ℕ) (piece text : List ℕ) → line ≡ Some piece → text ≡ piece
+    → ((bytes : List ℕ) → left ≡ Some bytes → TakesLine size bytes rest grown line) → (bytes : List ℕ) → left ≡ Some bytes → TakesLine size bytes rest grown (Some text)
+takes_some left rest line size grown piece text is same takes bytes told =
+    let P : Option (List ℕ) → Type 0 = λ o. TakesLine size bytes rest grown o in
+    let Q : List ℕ → Type 0 = λ t. TakesLine size bytes rest grown (Some t) in
+    subst Q (sym same) (subst P is (takes bytes told))
+
+-- the one word of a list is the text, or the list is another
+pub one_word : {X : Type 0} (f : X → List ℕ) (words : List X) (word : X) (spelled text : List ℕ) (same : Bool) → 1 ≤ length words → length words < 2
+    → word ≡ get_or words 0 word → spelled ≡ f word → same ≡ pointwise nat_eq spelled text → IsTrue same ↔ (map f words ≡ text ∷ [])
+one_word f [] word spelled text same some few is spells tests = absurd (omega (arith, some))
+one_word f (first ∷ []) word spelled text same some few is spells tests =
+    let e : spelled ≡ f first = spells ∙ ap f is in
+    (λ h. ap (λ t. t ∷ []) (sym e ∙ (path_eq-Decides spelled text).0 (sym tests ∙ h)), λ h. tests ∙ (path_eq-Decides spelled text).1 (e ∙ heads_same (f first) text h))
+  where
+    heads_same : (a b : List ℕ) → a ∷ [] ≡ b ∷ [] → a ≡ b
+    heads_same a b h = cc
+one_word f (first ∷ second ∷ words) word spelled text same some few is spells tests = absurd (omega (arith, few))
+
+-- one more line is done
+pub under_way_more : (given left rest before now after : Option (List ℕ)) (size grown : ℕ) (running next : RunningStage) (done : ℕ) (line text : List ℕ)
+    → IsUnderWay given left before now size running done
+    → ((bytes : List ℕ) → left ≡ Some bytes → TakesLine size bytes rest grown (Some line))
+    → ((stage : Stage) → StageStands running stage → ActsWell stage line text next) → steps_of next ≤ steps_of running + 1
+    → Appends now after text → IsUnderWay given rest before after grown next (done + 1)
+under_way_more given left rest before now after size grown running next done line text way takes acts few writes =
+    let act : ActsWell way.stage line text next = acts way.stage way.stands in
+    record {
+      lines = way.lines ++ line ∷ [];
+      text = way.text ++ text;
+      stage = act.next;
+      counted = omega (arith, way.counted, length-append way.lines (line ∷ []));
+      runs = runs_more Waiting way.stage act.next way.lines way.text line text way.runs act.acts;
+      stands = act.stands;
+      steps = omega (arith, few, way.steps);
+      left_of = taken_left given left size grown done way.lines line rest way.left_of takes;
+      written = appends_more before now after way.text text way.written writes;
+    }
+
+-- ---- what was written is a front of the text of a run over the first lines
+
+pub front_first : (before : Option (List ℕ)) (bytes : List ℕ) → WritesFront bytes before before
+front_first before bytes = record { lines = []; rest = lines_of bytes; whole = refl; text = []; stage = Waiting; runs = (refl, refl); size = 0; written = appends_nothing before }
+
+pub front_of_way : (given left before now : Option (List ℕ)) (size : ℕ) (running : RunningStage) (done : ℕ) → IsUnderWay given left before now size running done
+    → (bytes : List ℕ) → given ≡ Some bytes → WritesFront bytes before now
+front_of_way given left before now size running done way bytes is =
+    let at : IsLeft bytes left size done way.lines = way.left_of bytes is in
+    let P : List ℕ → Type 0 = λ t. Appends before now t in
+    record {
+      lines = way.lines;
+      rest = lines_of at.rest;
+      whole = at.whole;
+      text = way.text;
+      stage = way.stage;
+      runs = way.runs;
+      size = length way.text;
+      written = subst P (sym (take_all (length way.text) way.text (omega arith))) way.written;
+    }
+
+-- and so is it where the reply to a line was cut short
+pub front_of_reply : (given left rest before now after : Option (List ℕ)) (size grown : ℕ) (running next : RunningStage) (done : ℕ) (line text : List ℕ)
+    → IsUnderWay given left before now size running done
+    → ((bytes : List ℕ) → left ≡ Some bytes → TakesLine size bytes rest grown (Some line))
+    → ((stage : Stage) → StageStands running stage → ActsWell stage line text next)
+    → (n : ℕ) → Appends now after (take n text) → (bytes : List ℕ) → given ≡ Some bytes → WritesFront bytes before after
+front_of_reply given left rest before now after size grown running next done line text way takes acts n writes bytes is =
+    let act : ActsWell way.stage line text next = acts way.stage way.stands in
+    let at : IsLeft bytes rest grown (done + 1) (way.lines ++ line ∷ []) = taken_left given left size grown done way.lines line rest way.left_of takes bytes is in
+    let P : List ℕ → Type 0 = λ t. Appends before after t in
+    record {
+      lines = way.lines ++ line ∷ [];
+      rest = lines_of at.rest;
+      whole = at.whole;
+      text = way.text ++ text;
+      stage = act.next;
+      runs = runs_more Waiting way.stage act.next way.lines way.text line text way.runs act.acts;
+      size = length way.text + n;
+      written = subst P (sym (take-append-add way.text text n)) (appends_more before now after way.text (take n text) way.written writes);
+    }
+
+-- the state stands for some stage
+pub standing_from : (given left before now : Option (List ℕ)) (size : ℕ) (running : RunningStage) (done : ℕ) → IsUnderWay given left before now size running done → IsStandingStage running
+standing_from given left before now size running done way = record { stage = way.stage; stands = way.stands }
+
+-- the source is at its end, and the clones are founded
+pub finishes : (given left rest before now : Option (List ℕ)) (size : ℕ) (running next : RunningStage) (done : ℕ) → IsUnderWay given left before now size running done
+    → ((bytes : List ℕ) → given ≡ Some bytes → (behind : List ℕ) → left ≡ Some behind → (behind ≡ []) × (rest ≡ Some []))
+    → ((stage : Stage) → StageStands running stage → EndsWell stage next) → (bytes : List ℕ) → given ≡ Some bytes → Finishes (StageStands next) bytes rest before now
+unfolding Verdict
+finishes given left rest before now size running next done way none ends bytes is =
+    let at : IsLeft bytes left size done way.lines = way.left_of bytes is in
+    let end : (at.rest ≡ []) × (rest ≡ Some []) = none bytes is at.rest at.is in
+    let lines : lines_of bytes ≡ way.lines = at.whole ∙ ap (λ b. way.lines ++ lines_of b) end.0 ∙ append-nil way.lines in
+    let ended : EndsWell way.stage next = ends way.stage way.stands in
+    let P : List (List ℕ) → Type 0 = λ ls. Runs Waiting ls way.text way.stage in
+    let runs : Runs Waiting (lines_of bytes) way.text way.stage = subst P (sym lines) way.runs in
+    record {
+      text = way.text;
+      world = ended.world;
+      verdict = (way.stage, runs, ended.founds);
+      keeps = promises_kept (lines_of bytes) way.text way.stage ended.world runs ended.founds;
+      all = end.1;
+      fits = all_fit bytes left size done way.lines at end.0;
+      written = way.written;
+      holds = ended.stands;
+    }
+
+-- the source is at its end, and no line was a domain line
+pub ends_waiting : (given left rest before now : Option (List ℕ)) (size : ℕ) (running : RunningStage) (done : ℕ) → IsUnderWay given left before now size running done
+    → ((bytes : List ℕ) → given ≡ Some bytes → (behind : List ℕ) → left ≡ Some behind → (behind ≡ []) × (rest ≡ Some []))
+    → ((stage : Stage) → StageStands running stage → stage ≡ Waiting) → (bytes : List ℕ) → given ≡ Some bytes → StopsAtBad (StageStands running) bytes (done + 1) before now
+unfolding Verdict
+ends_waiting given left rest before now size running done way none waits bytes is =
+    let at : IsLeft bytes left size done way.lines = way.left_of bytes is in
+    let end : (at.rest ≡ []) × (rest ≡ Some []) = none bytes is at.rest at.is in
+    record {
+      text = way.text;
+      stage = way.stage;
+      verdict = record {
+        before = record { front = way.lines; rest = lines_of at.rest; whole = at.whole; counted = ap (λ n. n + 1) way.counted; runs = way.runs };
+        bad = inr (ap lines_of end.0, waits way.stage way.stands);
+      };
+      fits = λ before below. all_fit bytes left size done way.lines at end.0 before;
+      written = way.written;
+      holds = way.stands;
+    }
+
+-- the lines before a line that was taken
+before_line : (given left rest before now : Option (List ℕ)) (size grown : ℕ) (running : RunningStage) (done : ℕ) (line : List ℕ) → (way : IsUnderWay given left before now size running done)
+    → ((bytes : List ℕ) → left ≡ Some bytes → TakesLine size bytes rest grown (Some line)) → (bytes : List ℕ) → given ≡ Some bytes
+    → (b : Before (lines_of bytes) (done + 1) way.text way.stage) × ((others : List (List ℕ)) × (b.rest ≡ line ∷ others))
+    × ((before : ℕ) → before < done + 1 → ¬ IsTooLargeLine bytes before)
+before_line given left rest before now size grown running done line way takes bytes is =
+    let at : IsLeft bytes left size done way.lines = way.left_of bytes is in
+    let taken : TakesLine size at.rest rest grown (Some line) = takes at.rest at.is in (
+      record { front = way.lines; rest = lines_of at.rest; whole = at.whole; counted = ap (λ n. n + 1) way.counted; runs = way.runs },
+      (lines_of (after_line at.rest), first_of_lines_lem at.rest taken.0 ∙ ap (λ l. l ∷ lines_of (after_line at.rest)) (sym taken.1)),
+      taken_fit bytes left rest size grown done way.lines line at taken,
+    )
+
+-- a line that was taken is bad
+pub stops_bad : (given left rest before now : Option (List ℕ)) (size grown : ℕ) (running : RunningStage) (done : ℕ) (line : List ℕ) → IsUnderWay given left before now size running done
+    → ((bytes : List ℕ) → left ≡ Some bytes → TakesLine size bytes rest grown (Some line)) → ((stage : Stage) → StageStands running stage → IsBad stage line)
+    → (bytes : List ℕ) → given ≡ Some bytes → StopsAtBad (StageStands running) bytes (done + 1) before now
+unfolding Verdict
+stops_bad given left rest before now size grown running done line way takes bad bytes is =
+    let b = before_line given left rest before now size grown running done line way takes bytes is in
+    record { text = way.text; stage = way.stage; verdict = record { before = b.0; bad = inl (line, b.1, bad way.stage way.stands) }; fits = b.2; written = way.written; holds = way.stands }
+
+-- a line that was taken isn't built
+pub stops_unbuilt : (given left rest before now : Option (List ℕ)) (size grown : ℕ) (running : RunningStage) (done : ℕ) (line : List ℕ) → IsUnderWay given left before now size running done
+    → ((bytes : List ℕ) → left ≡ Some bytes → TakesLine size bytes rest grown (Some line)) → ((stage : Stage) → StageStands running stage → IsUnbuilt stage line)
+    → (bytes : List ℕ) → given ≡ Some bytes → StopsAtUnbuilt bytes (done + 1) before now
+unfolding Verdict
+stops_unbuilt given left rest before now size grown running done line way takes unbuilt bytes is =
+    let b = before_line given left rest before now size grown running done line way takes bytes is in
+    record { text = way.text; stage = way.stage; verdict = record { before = b.0; line = line; first = b.1; unbuilt = unbuilt way.stage way.stands }; fits = b.2; written = way.written }
+
+-- the line of the number is too large
+pub stops_large : (given left before now : Option (List ℕ)) (size : ℕ) (running : RunningStage) (done number : ℕ) → IsUnderWay given left before now size running done → number ≡ done + 1
+    → ((bytes : List ℕ) → left ≡ Some bytes → BreaksLimits size bytes) → (bytes : List ℕ) → given ≡ Some bytes → StopsAtLarge (StageStands running) bytes number before now
+stops_large given left before now size running done number way counts breaks bytes is =
+    let at : IsLeft bytes left size done way.lines = way.left_of bytes is in
+    record {
+      text = way.text;
+      stage = way.stage;
+      done = record { front = way.lines; rest = lines_of at.rest; whole = at.whole; counted = counts ∙ ap (λ n. n + 1) way.counted; runs = way.runs };
+      fits = λ lines below. at.fits lines (omega (arith, below, counts));
+      large = λ lines is_lines.
+          let P : ℕ → Type 0 = λ k. IsTooLargeLine bytes k in
+          let same : done ≡ lines = omega (arith, counts, is_lines) in
+          subst P same (large_next bytes left size done way.lines at (breaks at.rest at.is));
+      written = way.written;
+      holds = way.stands;
+    }
+
+-- reading failed in the line behind those done
+pub breaks_off : (given left rest before now : Option (List ℕ)) (size : ℕ) (running : RunningStage) (done : ℕ) → IsUnderWay given left before now size running done
+    → ((bytes : List ℕ) → left ≡ Some bytes → IsCutShort bytes rest) → ((bytes : List ℕ) → given ≡ Some bytes → ReadsLines bytes rest done)
+    → (bytes : List ℕ) → given ≡ Some bytes → BreaksOff (StageStands running) bytes rest before now
+breaks_off given left rest before now size running done way cut reads bytes is =
+    let at : IsLeft bytes left size done way.lines = way.left_of bytes is in
+    let P : List ℕ → Type 0 = λ b. IsCutShort b rest in
+    record {
+      lines = done;
+      reads = reads bytes is;
+      text = way.text;
+      stage = way.stage;
+      done = record { front = way.lines; rest = lines_of at.rest; whole = at.whole; counted = ap (λ n. n + 1) way.counted; runs = way.runs };
+      fits = at.fits;
+      cut = subst P at.behind (cut at.rest at.is);
+      written = way.written;
+      holds = way.stands;
+    }
+
+-- the run ends as the verdict says
+
+pub agrees_finished : (P : Stage → Type 0) (bytes : List ℕ) (left before now : Option (List ℕ)) → Finishes P bytes left before now → (outcome : Outcome) → Verdict (lines_of bytes) outcome → Agrees None outcome
+agrees_finished P bytes left before now ends outcome verdict =
+    let Q : Outcome → Type 0 = λ o. Agrees None o in
+    subst Q (one_verdict (lines_of bytes) (Finished ends.text ends.world) outcome ends.verdict verdict) tt
+
+pub agrees_fault : (P : Stage → Type 0) (bytes : List ℕ) (before now : Option (List ℕ)) (fault : RunFault) → (fault ≢ faults.Usage)
+    → ((line : ℕ) → fault ≡ faults.BadLine line → StopsAtBad P bytes line before now) → ((line : ℕ) → fault ≡ faults.Unbuilt line → StopsAtUnbuilt bytes line before now)
+    → (outcome : Outcome) → Verdict (lines_of bytes) outcome → Agrees (Some fault) outcome
+agrees_fault P bytes before now faults.Usage usage bad unbuilt outcome verdict = absurd (usage refl)
+agrees_fault P bytes before now faults.ReadFault usage bad unbuilt outcome verdict = tt
+agrees_fault P bytes before now faults.WriteFault usage bad unbuilt outcome verdict = tt
+agrees_fault P bytes before now faults.NoMemory usage bad unbuilt outcome verdict = tt
+agrees_fault P bytes before now (faults.TooLarge line) usage bad unbuilt outcome verdict = tt
+agrees_fault P bytes before now (faults.BadLine line) usage bad unbuilt outcome verdict =
+    let ends : StopsAtBad P bytes line before now = bad line refl in
+    let Q : Outcome → Type 0 = λ o. Agrees (Some (faults.BadLine line)) o in
+    subst Q (one_verdict (lines_of bytes) (BadLine line ends.text ends.stage) outcome ends.verdict verdict) refl
+agrees_fault P bytes before now (faults.Unbuilt line) usage bad unbuilt outcome verdict =
+    let ends : StopsAtUnbuilt bytes line before now = unbuilt line refl in
+    let Q : Outcome → Type 0 = λ o. Agrees (Some (faults.Unbuilt line)) o in
+    subst Q (one_verdict (lines_of bytes) (UnbuiltLine line ends.text ends.stage) outcome ends.verdict verdict) refl
+
+-- a line that was taken and not done, said of equal values
+
+pub stops_bad_at : (given left rest before now : Option (List ℕ)) (size grown : ℕ) (running : RunningStage) (done : ℕ) (taken : Option (List ℕ)) (piece line : List ℕ) (at : ℕ)
+    → IsUnderWay given left before now size running done → taken ≡ Some piece → line ≡ piece → ((bytes : List ℕ) → left ≡ Some bytes → TakesLine size bytes rest grown taken)
+    → at ≡ done + 1 → ((stage : Stage) → StageStands running stage → IsBad stage line) → (next : RunningStage) → next ≡ running
+    → (bytes : List ℕ) → given ≡ Some bytes → StopsAtBad (StageStands next) bytes at before now
+stops_bad_at given left rest before now size grown running done taken piece line at way is same takes counts bad next kept bytes told =
+    let P : ℕ → Type 0 = λ n. StopsAtBad (StageStands running) bytes n before now in
+    let Q : RunningStage → Type 0 = λ w. StopsAtBad (StageStands w) bytes at before now in
+    subst Q (sym kept) (subst P (sym counts) (stops_bad given left rest before now size grown running done line way (takes_some left rest taken size grown piece line is same takes) bad bytes told))
+
+pub stops_unbuilt_at : (given left rest before now : Option (List ℕ)) (size grown : ℕ) (running : RunningStage) (done : ℕ) (taken : Option (List ℕ)) (piece line : List ℕ) (at : ℕ)
+    → IsUnderWay given left before now size running done → taken ≡ Some piece → line ≡ piece → ((bytes : List ℕ) → left ≡ Some bytes → TakesLine size bytes rest grown taken)
+    → at ≡ done + 1 → ((stage : Stage) → StageStands running stage → IsUnbuilt stage line)
+    → (bytes : List ℕ) → given ≡ Some bytes → StopsAtUnbuilt bytes at before now
+stops_unbuilt_at given left rest before now size grown running done taken piece line at way is same takes counts unbuilt bytes told =
+    let P : ℕ → Type 0 = λ n. StopsAtUnbuilt bytes n before now in
+    subst P (sym counts) (stops_unbuilt given left rest before now size grown running done line way (takes_some left rest taken size grown piece line is same takes) unbuilt bytes told)
+
+-- the end of the source while no domain line has come, said of an equal state and number
+
+pub ends_waiting_at : (given left rest before now : Option (List ℕ)) (size : ℕ) (running : RunningStage) (done at : ℕ)
+    → IsUnderWay given left before now size running done → ((bytes : List ℕ) → given ≡ Some bytes → (behind : List ℕ) → left ≡ Some behind → (behind ≡ []) × (rest ≡ Some []))
+    → at ≡ done + 1 → ((stage : Stage) → StageStands running stage → stage ≡ Waiting) → (next : RunningStage) → next ≡ running
+    → (bytes : List ℕ) → given ≡ Some bytes → StopsAtBad (StageStands next) bytes at before now
+ends_waiting_at given left rest before now size running done at way none counts waits next kept bytes told =
+    let P : ℕ → Type 0 = λ n. StopsAtBad (StageStands running) bytes n before now in
+    let Q : RunningStage → Type 0 = λ w. StopsAtBad (StageStands w) bytes at before now in
+    subst Q (sym kept) (subst P (sym counts) (ends_waiting given left rest before now size running done way none waits bytes told))
+
+-- the fault of a line that is too large names the line
+pub large_number : (number at : ℕ) → ◌≡◌ {A = Result (Option (List ℕ)) RunFault} (Err (faults.TooLarge number)) (Err (faults.TooLarge at)) → at ≡ number
+large_number number at same = cc
+
+-- the counts of faults are what they were where a line was taken, and where a reply was written
+pub read_well : {T : Type 0} (before now : ℕ) (value : T) → HasReadCause {T = T} before now (Ok value) → now ≡ before
+read_well before now value cause = cause.quiet (λ same. absurd (cc (same)))
+
+pub wrote_well : {T : Type 0} (before now : ℕ) (value : T) → HasWriteCause {T = T} before now (Ok value) → now ≡ before
+wrote_well before now value cause = cause.quiet (λ same. absurd (cc (same)))
+
+-- the fault of a bad line came from a stop at a bad line
+pub bad_fault : {T U : Type 0} (stop : LineRefusal) (number at : ℕ) (fault : RunFault) → fault ≡ fault_of stop number → ◌≡◌ {A = Result T RunFault} (Err fault) (Err (faults.BadLine at))
+    → (◌≡◌ {A = Result U LineRefusal} (Err stop) (Err refusals.BadLine)) × (at ≡ number)
+bad_fault {U = U} stop number at fault is same = let fault_is : fault ≡ faults.BadLine at = cc in bad_stop stop number at (sym is ∙ fault_is)
+  where
+    bad_stop : (stop : LineRefusal) (number at : ℕ) → fault_of stop number ≡ faults.BadLine at → (◌≡◌ {A = Result U LineRefusal} (Err stop) (Err refusals.BadLine)) × (at ≡ number)
+    bad_stop refusals.BadLine number at same = (refl, cc)
+    bad_stop refusals.Unbuilt number at same = absurd (cc)
+    bad_stop refusals.NoMemory number at same = absurd (cc)
+
+-- and that of an unbuilt line from a stop at one
+pub unbuilt_fault : {T U : Type 0} (stop : LineRefusal) (number at : ℕ) (fault : RunFault) → fault ≡ fault_of stop number → ◌≡◌ {A = Result T RunFault} (Err fault) (Err (faults.Unbuilt at))
+    → (◌≡◌ {A = Result U LineRefusal} (Err stop) (Err refusals.Unbuilt)) × (at ≡ number)
+unbuilt_fault {U = U} stop number at fault is same = let fault_is : fault ≡ faults.Unbuilt at = cc in unbuilt_stop stop number at (sym is ∙ fault_is)
+  where
+    unbuilt_stop : (stop : LineRefusal) (number at : ℕ) → fault_of stop number ≡ faults.Unbuilt at → (◌≡◌ {A = Result U LineRefusal} (Err stop) (Err refusals.Unbuilt)) × (at ≡ number)
+    unbuilt_stop refusals.BadLine number at same = absurd (cc)
+    unbuilt_stop refusals.Unbuilt number at same = (refl, cc)
+    unbuilt_stop refusals.NoMemory number at same = absurd (cc)
+
+-- what holds of a line that was there
+pub of_line : (P : List ℕ → Type 0) (taken : Option (List ℕ)) (line : List ℕ) → taken ≡ Some line → IfSomeLine P taken → P line
+of_line P taken line is h = let Q : Option (List ℕ) → Type 0 = λ o. IfSomeLine P o in subst Q is h
+
+pub err_same : {T : Type 0} (fault other : RunFault) → fault ≡ other → ◌≡◌ {A = Result T RunFault} (Err fault) (Err other)
+err_same fault other same = ap (λ (f : RunFault). Err f) same
+
+-- a result that is an error with a fault, and with another
+pub same_fault : {T : Type 0} (result : Result T RunFault) (passed fault other : RunFault) → result ≡ Err passed → passed ≡ fault → result ≡ Err other → fault ≡ other
+same_fault result passed fault other is from same = let e : passed ≡ other = cc (is, same) in sym from ∙ e
+
+-- what a good end gives, it gives on
+pub on_ok : {A B : Type 0} (result : Result (Unit {0}) RunFault) → (A → B) → OnOk result A → OnOk result B
+on_ok (Ok done) f h = f h
+on_ok (Err fault) f h = tt

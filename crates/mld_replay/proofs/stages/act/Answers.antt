@@ -1,0 +1,11 @@
+use Rattle.schedule_model.specs.Runs.{IsBad, IsUnbuilt}
+use Rattle.mld_replay.proofs.StageLemmas.{running_stage}
+use Rattle.mld_replay.proofs.stages.act.Goals as goal
+
+pub returns-in-Running-clause-bad : goal.returns-in-Running-clause-bad
+returns-in-Running-clause-bad g c = λ is.
+    running_stage (λ stage. IsBad stage c.args.line.now) c.args.stage.now c.in-Running.world c.in-Running.is (λ model stands sound. c.command.ensures.bad is model)
+
+pub returns-in-Running-clause-unbuilt : goal.returns-in-Running-clause-unbuilt
+returns-in-Running-clause-unbuilt g c = λ is.
+    running_stage (λ stage. IsUnbuilt stage c.args.line.now) c.args.stage.now c.in-Running.world c.in-Running.is (λ model stands sound. c.command.ensures.unbuilt is model)

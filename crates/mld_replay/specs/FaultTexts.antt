@@ -1,0 +1,15 @@
+-- The text of a fault, as it stands on standard error.
+use Rattle.std.specs.Prelude.{ℕ, List, ◌++◌, codes}
+use Rattle.std.specs.Fmt.{decimal}
+use Rattle.mld_replay.specs.declared.run.RunFault.{RunFault}
+use Rattle.mld_replay.specs.declared.run.RunFault.TheVariants as faults
+
+-- the text of a fault: the program's name, the number of the line where there is one, and what went wrong
+abbrev pub fault_text : RunFault → List ℕ
+fault_text faults.Usage = codes "mld: usage"
+fault_text faults.ReadFault = codes "mld: read fault"
+fault_text faults.WriteFault = codes "mld: write fault"
+fault_text (faults.BadLine line) = codes "mld: line " ++ decimal line ++ codes ": bad line"
+fault_text faults.NoMemory = codes "mld: no memory"
+fault_text (faults.TooLarge line) = codes "mld: line " ++ decimal line ++ codes ": too large"
+fault_text (faults.Unbuilt line) = codes "mld: line " ++ decimal line ++ codes ": unbuilt"

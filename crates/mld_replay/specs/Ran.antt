@@ -1,0 +1,188 @@
+-- How a run ends, and what it has written then.
+use Rattle.std.specs.Prelude.{◌≡◌, ◌≢◌, ◌⊎◌, ℕ, ◌+◌, ◌<◌, List, [], ◌∷◌, ◌++◌, take, Bool, true, false, IsTrue, Option, None, Some, Result, IsErrOf, codes}
+use Rattle.std.specs.Io.KnownBytes.{Appends}
+use Rattle.mld_io.specs.Faults.{Rose}
+use Rattle.mld_io.specs.Lines.{lines_of, ended_lines, first_line, after_line, line_size, IsCutShort}
+use Rattle.mld_replay.specs.Limits.{left_after, BreaksLimits, IsTooLargeLine}
+use Rattle.mld_model.specs.World.{World}
+use Rattle.schedule_model.specs.Runs.{Stage, Waiting, Running, Runs, Before, Outcome, Finished, BadLine, UnbuiltLine, Verdict}
+use Rattle.schedule_model.specs.Promises.{KeepsPromises}
+use Rattle.net_world.specs.Summaries.{Tells}
+use Rattle.net_world.specs.declared.summaries.Summary.{Summary}
+use Rattle.mld_replay.specs.declared.stages.Stage.{Stage as RunningStage}
+use Rattle.mld_replay.specs.declared.stages.Stage.TheVariants as stages
+use Rattle.mld_replay.specs.declared.run.Ran.{Ran}
+use Rattle.mld_replay.specs.declared.run.RunFault.{RunFault}
+use Rattle.mld_replay.specs.declared.run.RunFault.TheVariants as faults
+
+-- the status of the program
+abbrev pub status_of : Option RunFault → ℕ
+status_of None = 0
+status_of (Some faults.Usage) = 1
+status_of (Some faults.ReadFault) = 2
+status_of (Some faults.WriteFault) = 3
+status_of (Some (faults.BadLine line)) = 4
+status_of (Some faults.NoMemory) = 5
+status_of (Some (faults.TooLarge line)) = 7
+status_of (Some (faults.Unbuilt line)) = 20
+
+-- the one word is `replay`
+abbrev pub IsReplay : List (List ℕ) → Type 0
+IsReplay words = words ≡ codes "replay" ∷ []
+
+-- there was no line, and nothing was taken; or the first was taken, which keeps the limits, and its bytes were counted
+abbrev pub TakesLine : ℕ → List ℕ → Option (List ℕ) → ℕ → Option (List ℕ) → Type 0
+TakesLine size bytes left grown None = left ≡ Some bytes
+TakesLine size bytes left grown (Some line) = (bytes ≢ []) × (line ≡ first_line bytes) × (left ≡ Some (after_line bytes)) × (grown ≡ size + line_size bytes) × (¬ BreaksLimits size bytes)
+
+-- what holds where there was a line
+abbrev pub IfSomeLine : (List ℕ → Type 0) → Option (List ℕ) → Type 0
+IfSomeLine P None = Unit {0}
+IfSomeLine P (Some line) = P line
+
+-- the faults of reading a line: a failure, want of memory, a line that is too large
+abbrev pub IsReadingFault : RunFault → Type 0
+IsReadingFault faults.ReadFault = Unit {0}
+IsReadingFault faults.NoMemory = Unit {0}
+IsReadingFault (faults.TooLarge line) = Unit {0}
+IsReadingFault fault = ⊥
+
+-- the faults of writing a reply: a failure, want of memory
+abbrev pub IsWritingFault : RunFault → Type 0
+IsWritingFault faults.WriteFault = Unit {0}
+IsWritingFault faults.NoMemory = Unit {0}
+IsWritingFault fault = ⊥
+
+-- the faults of a line: it is bad or unbuilt, or there was want of memory
+abbrev pub IsLineFault : RunFault → Type 0
+IsLineFault (faults.BadLine line) = Unit {0}
+IsLineFault (faults.Unbuilt line) = Unit {0}
+IsLineFault faults.NoMemory = Unit {0}
+IsLineFault fault = ⊥
+
+-- the faults of the end of the lines: no domain line came, or there was want of memory
+abbrev pub IsEndFault : RunFault → Type 0
+IsEndFault (faults.BadLine line) = Unit {0}
+IsEndFault faults.NoMemory = Unit {0}
+IsEndFault fault = ⊥
+
+-- the count of the source's faults rose where the fault is one of reading, and else it is what it was
+pub record HasReadCause {T : Type 0} (before now : ℕ) (result : Result T RunFault) : Type 0 where
+  pub failed : IsErrOf result faults.ReadFault → Rose before now
+  pub quiet : ¬ IsErrOf result faults.ReadFault → now ≡ before
+
+-- the count of the sink's faults rose where the fault is one of writing, and else it is what it was
+pub record HasWriteCause {T : Type 0} (before now : ℕ) (result : Result T RunFault) : Type 0 where
+  pub failed : IsErrOf result faults.WriteFault → Rose before now
+  pub quiet : ¬ IsErrOf result faults.WriteFault → now ≡ before
+
+-- the source is at its end, none of its lines is too large, and the text of a run over them was written; the world that they
+-- lead to keeps what is promised, and this holds of it
+pub record Finishes (P : Stage → Type 0) (bytes : List ℕ) (left before after : Option (List ℕ)) : Type 0 where
+  pub text : List ℕ
+  pub world : World
+  pub verdict : Verdict (lines_of bytes) (Finished text world)
+  pub keeps : KeepsPromises (lines_of bytes) world
+  pub all : left ≡ Some []
+  pub fits : (lines : ℕ) → ¬ IsTooLargeLine bytes lines
+  pub written : Appends before after text
+  pub holds : P (Running world)
+
+-- the line of the number is the first bad one, no line up to it is too large, and the text of the lines before it was written;
+-- and this holds of the stage that they led to
+pub record StopsAtBad (P : Stage → Type 0) (bytes : List ℕ) (number : ℕ) (before after : Option (List ℕ)) : Type 0 where
+  pub text : List ℕ
+  pub stage : Stage
+  pub verdict : Verdict (lines_of bytes) (BadLine number text stage)
+  pub fits : (lines : ℕ) → lines < number → ¬ IsTooLargeLine bytes lines
+  pub written : Appends before after text
+  pub holds : P stage
+
+-- the line of the number is the first unbuilt one, no line up to it is too large, and the text of the lines before it was written
+pub record StopsAtUnbuilt (bytes : List ℕ) (number : ℕ) (before after : Option (List ℕ)) : Type 0 where
+  pub text : List ℕ
+  pub stage : Stage
+  pub verdict : Verdict (lines_of bytes) (UnbuiltLine number text stage)
+  pub fits : (lines : ℕ) → lines < number → ¬ IsTooLargeLine bytes lines
+  pub written : Appends before after text
+
+-- the line of the number is the first that is too large, the lines before it are a run, and their text was written; and this
+-- holds of the stage that they led to
+pub record StopsAtLarge (P : Stage → Type 0) (bytes : List ℕ) (number : ℕ) (before after : Option (List ℕ)) : Type 0 where
+  pub text : List ℕ
+  pub stage : Stage
+  pub done : Before (lines_of bytes) number text stage
+  pub fits : (lines : ℕ) → lines + 1 < number → ¬ IsTooLargeLine bytes lines
+  pub large : (lines : ℕ) → number ≡ lines + 1 → IsTooLargeLine bytes lines
+  pub written : Appends before after text
+  pub holds : P stage
+
+-- so many lines end within the bytes that were read; the others are left
+pub record ReadsLines (bytes : List ℕ) (left : Option (List ℕ)) (lines : ℕ) : Type 0 where
+  pub read : List ℕ
+  pub rest : List ℕ
+  pub whole : bytes ≡ read ++ rest
+  pub ends : ended_lines read ≡ lines
+  pub left_is : left ≡ Some rest
+
+-- the lines done are those whose LF was read, none of them is too large, and their text was written; of the bytes behind them
+-- a part of one line was read; and this holds of the stage that they led to
+pub record BreaksOff (P : Stage → Type 0) (bytes : List ℕ) (left before after : Option (List ℕ)) : Type 0 where
+  pub lines : ℕ
+  pub reads : ReadsLines bytes left lines
+  pub text : List ℕ
+  pub stage : Stage
+  pub done : Before (lines_of bytes) (lines + 1) text stage
+  pub fits : (line : ℕ) → line < lines → ¬ IsTooLargeLine bytes line
+  pub cut : IsCutShort (left_after lines bytes) left
+  pub written : Appends before after text
+  pub holds : P stage
+
+-- what was written is a front of the text of a run over the first lines of these bytes
+pub record WritesFront (bytes : List ℕ) (before after : Option (List ℕ)) : Type 0 where
+  pub lines : List (List ℕ)
+  pub rest : List (List ℕ)
+  pub whole : lines_of bytes ≡ lines ++ rest
+  pub text : List ℕ
+  pub stage : Stage
+  pub runs : Runs Waiting lines text stage
+  pub size : ℕ
+  pub written : Appends before after (take size text)
+
+-- the run ended as the verdict says, or by a fault of reading or writing, want of memory or a line that is too large
+abbrev pub Agrees : Option RunFault → Outcome → Type 0
+Agrees None (Finished text world) = Unit {0}
+Agrees (Some (faults.BadLine line)) (BadLine number text stage) = line ≡ number
+Agrees (Some (faults.Unbuilt line)) (UnbuiltLine number text stage) = line ≡ number
+Agrees (Some faults.ReadFault) outcome = Unit {0}
+Agrees (Some faults.WriteFault) outcome = Unit {0}
+Agrees (Some faults.NoMemory) outcome = Unit {0}
+Agrees (Some (faults.TooLarge line)) outcome = Unit {0}
+Agrees fault outcome = ⊥
+
+-- a run that ends so tells of its world: at the end of the input, where the source failed, at a bad line, and at a line that is
+-- too large
+abbrev pub tells : Option RunFault → Bool
+tells None = true
+tells (Some faults.ReadFault) = true
+tells (Some (faults.BadLine line)) = true
+tells (Some (faults.TooLarge line)) = true
+tells (Some fault) = false
+
+-- what is told of a state: of the world that runs, and nothing where no clone is founded
+abbrev pub SummarizesStage : RunningStage → Option Summary → Type 0
+SummarizesStage stages.Waiting None = Unit {0}
+SummarizesStage (stages.SetUp setup) None = Unit {0}
+SummarizesStage (stages.Running running) (Some summary) = Tells running summary
+SummarizesStage running summary = ⊥
+
+-- what is told where a run has to tell of its world, and where not
+abbrev pub IfTold : Bool → RunningStage → Option Summary → Type 0
+IfTold true running summary = SummarizesStage running summary
+IfTold false running summary = summary ≡ None
+
+-- the run ended so, and tells of its world where it has to; or it had to, and memory ran out over that
+abbrev pub EndsBy : Option RunFault → RunningStage → Ran → Type 0
+EndsBy fault running ran =
+    ((ran.fault ≡ fault) × IfTold (tells fault) running ran.world)
+    ⊎ (IsTrue (tells fault) × (ran.fault ≡ Some faults.NoMemory) × (ran.world ≡ None))

@@ -1,0 +1,12 @@
+-- What a run tells of the world that it ends with.
+use Rattle.std.specs.Prelude.{Option, None, Some}
+use Rattle.schedule_model.specs.Runs.{Stage, Waiting, SetUp, Running}
+use Rattle.net_world.specs.declared.summaries.Summary.{Summary}
+use Rattle.net_world.specs.Summaries.{TellsOfClones}
+
+-- what is told of the stage that a schedule leads to: nothing while no clone is founded, and then each clone of the world
+abbrev pub TellsOf : Option Summary → Stage → Type 0
+TellsOf None Waiting = Unit {0}
+TellsOf None (SetUp setup) = Unit {0}
+TellsOf (Some summary) (Running world) = TellsOfClones world.history world.clones summary.clones.items
+TellsOf summary stage = ⊥

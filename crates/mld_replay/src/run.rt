@@ -1,0 +1,345 @@
+//! The run: all that the program does, over the words, the source and the sink that it is handed.
+ghost use Rattle.std.specs.Prelude.{◌≡◌, ◌≢◌, ◌↔◌, ◌≤◌, ◌<◌, ◌+◌, ℕ, List, [], map, take, false, None, IsTrue, IfOk, IfErr, OnOk, OnErr, IsErrOf};
+ghost use Rattle.std.specs.Io.KnownBytes.{Appends};
+ghost use Rattle.std.specs.String.{string_bytes};
+ghost use Rattle.mld_io.specs.Faults.{Rose};
+ghost use Rattle.mld_io.specs.Lines.{lines_of, HasNoEnd, IsCutShort};
+ghost use Rattle.schedule_model.specs.Runs.{Stage as ModelStage, Waiting, Outcome, Verdict, IsBad, IsUnbuilt};
+ghost use Rattle.tree_clock.specs.Limits.{tick_limit};
+ghost use Rattle.mld_replay.specs.Stops.{fault_of};
+ghost use Rattle.mld_replay.specs.Limits.{BreaksLimits, line_limit, input_limit};
+ghost use Rattle.mld_replay.specs.Summaries.{TellsOf};
+ghost use Rattle.mld_replay.specs.Stages.{StageStands, IsStandingStage, steps_of, ActsWell, EndsWell};
+ghost use Rattle.mld_replay.specs.Ran.{status_of, tells, IsReplay, Finishes, StopsAtBad, StopsAtUnbuilt, StopsAtLarge, BreaksOff, WritesFront, SummarizesStage, EndsBy, Agrees, TakesLine, IfSomeLine, IsReadingFault, IsWritingFault, IsLineFault, IsEndFault, HasReadCause, HasWriteCause};
+
+use crate::limits::{INPUT_LIMIT, LINE_LIMIT};
+use crate::stages::{Stage, act, finish};
+use mld_io::{LineFault, Lines, Piece, Sink, Source, WriteFault, write_all};
+use net_world::{LineRefusal, Summary};
+use std::alloc::{AllocError, Global};
+use std::fmt;
+use std::thread::Threads;
+use thiserror::Error;
+
+/// Why a run ended before its input did.
+#[derive(Clone, Copy, Debug, PartialEq, Eq, Error)]
+pub enum RunFault {
+    /// The words are none that the program knows.
+    Usage,
+    /// The source failed.
+    ReadFault,
+    /// The sink failed.
+    WriteFault,
+    /// The line of this number is outside the grammar.
+    BadLine(u64),
+    /// No memory was found.
+    NoMemory,
+    /// The line of this number is too large.
+    TooLarge(u64),
+    /// The line of this number isn't built yet.
+    Unbuilt(u64),
+}
+
+/// How a run ended.
+#[derive(Drop)]
+pub struct Ran {
+    /// The status of the program.
+    pub status: u8,
+    /// Why it isn't 0.
+    pub fault: Option<RunFault>,
+    /// What there is to tell of the world that it ended with: at the statuses 0, 2, 4 and 7, where the clones were founded.
+    pub world: Option<Summary>,
+}
+
+/// Does all that the program does: by the word `replay` it reads a schedule from the source and writes the replies.
+///
+/// # Statuses
+/// 0: the source was read to its end. 1: the words are not `replay` alone; nothing is read or written. 2: the source
+/// failed; the lines whose LF was read are done. 3: the sink failed. 4: a line is outside the grammar, or the input ended
+/// before a `domain` line. 5: no memory. 7: a line is too large. 20: a line isn't built yet. Each line is answered before the
+/// next is read.
+pub fn run<R: Threads, S: Source, K: Sink>(
+    rt: &R,
+    alloc: Global,
+    words: &Vec<String>,
+    source: &mut S,
+    sink: &mut K,
+) -> Ran
+    ensures status { result.status ≡ status_of result.fault }
+    ensures usage { (result.fault ≡ Some RunFault.Usage) ↔ (¬ IsReplay (map (λ w. string_bytes w) words.now.items)) }
+    ensures untouched { result.fault ≡ Some RunFault.Usage → (source.new ≡ source.old) × (sink.new ≡ sink.old) }
+
+    // At status 0 the source is read to its end, none of its lines is too large, and what was written is the text of a run of
+    // the model over them. The world that they lead to is the one that is told of, with the meaning of what each clone knows.
+    // Clones of it that know the same have the same pairs, each answer of a dot holds in it, and no two hold one leaf.
+    ensures finished { result.fault ≡ None → (bytes : List ℕ) → S.left source.old ≡ Some bytes
+        → Finishes (TellsOf result.world) bytes (S.left source.new) (K.held sink.old) (K.held sink.new) }
+    // At 4, 20 and 7 the line of that number is the first that is bad, unbuilt or too large; at 4 and 20 none up to it is too
+    // large. The text is that of the lines before it. At 4 and 7 the world that those lead to is told of.
+    ensures bad { (line : ℕ) → result.fault ≡ Some (RunFault.BadLine line) → (bytes : List ℕ) → S.left source.old ≡ Some bytes
+        → StopsAtBad (TellsOf result.world) bytes line (K.held sink.old) (K.held sink.new) }
+    ensures unbuilt { (line : ℕ) → result.fault ≡ Some (RunFault.Unbuilt line) → (bytes : List ℕ) → S.left source.old ≡ Some bytes
+        → StopsAtUnbuilt bytes line (K.held sink.old) (K.held sink.new) }
+    ensures large { (line : ℕ) → result.fault ≡ Some (RunFault.TooLarge line) → (bytes : List ℕ) → S.left source.old ≡ Some bytes
+        → StopsAtLarge (TellsOf result.world) bytes line (K.held sink.old) (K.held sink.new) }
+    // At 2 the source failed within a line, or before it told its end. The lines done are those whose LF was read, the text is
+    // theirs, and the world that they lead to is told of.
+    ensures broken_off { result.fault ≡ Some RunFault.ReadFault → (bytes : List ℕ) → S.left source.old ≡ Some bytes
+        → BreaksOff (TellsOf result.world) bytes (S.left source.new) (K.held sink.old) (K.held sink.new) }
+    // Whatever the status is, what was written is a front of the text of a run over the first lines.
+    ensures front { (bytes : List ℕ) → S.left source.old ≡ Some bytes → WritesFront bytes (K.held sink.old) (K.held sink.new) }
+    // At the other statuses nothing is told of the world.
+    ensures silent { ¬ IsTrue (tells result.fault) → result.world ≡ None }
+    // 2 comes where the source's count of faults rose, and 3 where the sink's did. At other statuses that count is what it was;
+    // but where memory for the summary was wanting after a failed read, the run ended by 5.
+    ensures read { result.fault ≡ Some RunFault.ReadFault → Rose (S.faults source.old) (S.faults source.new) }
+    ensures no_read_fault { result.fault ≢ Some RunFault.ReadFault → result.fault ≢ Some RunFault.NoMemory → S.faults source.new ≡ S.faults source.old }
+    ensures write { result.fault ≡ Some RunFault.WriteFault → Rose (K.faults sink.old) (K.faults sink.new) }
+    ensures no_write_fault { result.fault ≢ Some RunFault.WriteFault → K.faults sink.new ≡ K.faults sink.old }
+    // Whatever the verdict on the lines is, the run ends so, unless it ended by 2, 3, 5 or 7.
+    ensures exact { (bytes : List ℕ) → S.left source.old ≡ Some bytes → (outcome : Outcome) → Verdict (lines_of bytes) outcome
+        → IsReplay (map (λ w. string_bytes w) words.now.items) → Agrees result.fault outcome }
+{
+    if !is_replay(words) {
+        return ended(Some(RunFault::Usage), None);
+    }
+    let mut stage = Stage::Waiting;
+    let fault = replay(rt, alloc, source, sink, &mut stage).err();
+    ended_with(alloc, fault, &stage)
+}
+
+/// A run that ended so, with what it tells of its world where it has to. Where there is no memory for that, it ended by want of
+/// memory.
+fn ended_with(alloc: Global, fault: Option<RunFault>, stage: &Stage) -> Ran
+    ensures status { result.status ≡ status_of result.fault }
+    ensures ends { EndsBy fault stage.now result }
+{
+    if !tells(fault) {
+        return ended(fault, None);
+    }
+    match summary_of(alloc, stage) {
+        Ok(summary) => ended(fault, summary),
+        Err(AllocError) => ended(Some(RunFault::NoMemory), None),
+    }
+}
+
+/// A run that ended so, and tells this of its world.
+pub fn ended(fault: Option<RunFault>, world: Option<Summary>) -> Ran
+    ensures fault { result.fault ≡ fault }
+    ensures status { result.status ≡ status_of fault }
+    ensures world { result.world ≡ world }
+{
+    Ran {
+        status: status_of(fault),
+        fault,
+        world,
+    }
+}
+
+/// A run that ends so tells of its world.
+fn tells(fault: Option<RunFault>) -> bool
+    ensures { result ≡ tells fault }
+{
+    match fault {
+        None | Some(RunFault::ReadFault | RunFault::BadLine(_) | RunFault::TooLarge(_)) => true,
+        Some(_) => false,
+    }
+}
+
+/// What there is to tell of the world, where the clones are founded.
+fn summary_of(alloc: Global, stage: &Stage) -> Result<Option<Summary>, AllocError>
+    ensures { IfOk result (SummarizesStage stage.now) }
+{
+    match stage {
+        Stage::Waiting | Stage::SetUp(_) => Ok(None),
+        Stage::Running(world) => Ok(Some(world.summary(alloc)?)),
+    }
+}
+
+/// The status of the program for the way in which a run ended.
+fn status_of(fault: Option<RunFault>) -> u8
+    ensures { result ≡ status_of fault }
+{
+    match fault {
+        None => 0,
+        Some(RunFault::Usage) => 1,
+        Some(RunFault::ReadFault) => 2,
+        Some(RunFault::WriteFault) => 3,
+        Some(RunFault::BadLine(_)) => 4,
+        Some(RunFault::NoMemory) => 5,
+        Some(RunFault::TooLarge(_)) => 7,
+        Some(RunFault::Unbuilt(_)) => 20,
+    }
+}
+
+/// The one word is `replay`.
+fn is_replay(words: &Vec<String>) -> bool
+    ensures { IsTrue result ↔ IsReplay (map (λ w. string_bytes w) words.now.items) }
+{
+    match words.as_slice() {
+        [word] => word.as_str() == "replay",
+        _ => false,
+    }
+}
+
+/// Replays the schedule of the source, and leaves the stage that it leads to. Where a line isn't built or memory runs out,
+/// what is left is not to be used.
+fn replay<R: Threads, S: Source, K: Sink>(
+    rt: &R,
+    alloc: Global,
+    source: &mut S,
+    sink: &mut K,
+    stage: &mut Stage,
+) -> Result<(), RunFault>
+    requires { stage.old ≡ Stage.Waiting }
+    ensures usage { ¬ IsErrOf result RunFault.Usage }
+    ensures finished { OnOk result ((bytes : List ℕ) → S.left source.old ≡ Some bytes
+        → Finishes (StageStands stage.new) bytes (S.left source.new) (K.held sink.old) (K.held sink.new)) }
+    ensures bad { (line : ℕ) → IsErrOf result (RunFault.BadLine line) → (bytes : List ℕ) → S.left source.old ≡ Some bytes
+        → StopsAtBad (StageStands stage.new) bytes line (K.held sink.old) (K.held sink.new) }
+    ensures unbuilt { (line : ℕ) → IsErrOf result (RunFault.Unbuilt line) → (bytes : List ℕ) → S.left source.old ≡ Some bytes
+        → StopsAtUnbuilt bytes line (K.held sink.old) (K.held sink.new) }
+    ensures large { (line : ℕ) → IsErrOf result (RunFault.TooLarge line) → (bytes : List ℕ) → S.left source.old ≡ Some bytes
+        → StopsAtLarge (StageStands stage.new) bytes line (K.held sink.old) (K.held sink.new) }
+    ensures broken_off { IsErrOf result RunFault.ReadFault → (bytes : List ℕ) → S.left source.old ≡ Some bytes
+        → BreaksOff (StageStands stage.new) bytes (S.left source.new) (K.held sink.old) (K.held sink.new) }
+    ensures front { (bytes : List ℕ) → S.left source.old ≡ Some bytes → WritesFront bytes (K.held sink.old) (K.held sink.new) }
+    ensures read { HasReadCause (S.faults source.old) (S.faults source.new) result }
+    ensures write { HasWriteCause (K.faults sink.old) (K.faults sink.new) result }
+{
+    let mut lines = Lines::new(alloc, LINE_LIMIT, INPUT_LIMIT)?;
+    let mut done = 0;
+    while let Some(line) = next_line(&mut lines, source, done + 1)? {
+        done += 1;
+        let reply = do_line(rt, alloc, stage, line.as_slice(), done)?;
+        write_reply(sink, reply.as_slice())?;
+    }
+    end_lines(rt, alloc, stage, done + 1)
+}
+
+/// The next line, where line `number` is due.
+fn next_line<S: Source>(
+    lines: &mut Lines,
+    source: &mut S,
+    number: u64,
+) -> Result<Option<Piece>, RunFault>
+    requires good { IsTrue lines.old.good }
+    requires line { lines.old.line ≡ line_limit }
+    requires all { lines.old.all ≡ input_limit }
+    ensures line { (bytes : List ℕ) → S.left source.old ≡ Some bytes → IfOk result (TakesLine lines.old.taken bytes (S.left source.new) lines.new.taken) }
+    ensures at_end { lines.old.ended ≡ false → (bytes : List ℕ) → S.left source.old ≡ Some bytes → IfOk result (λ line. line ≡ None → bytes ≡ []) }
+    ensures ended { (bytes : List ℕ) → S.left source.old ≡ Some bytes → IfOk result (IfSomeLine (λ _. IsTrue lines.new.ended ↔ HasNoEnd bytes)) }
+    ensures failed { OnErr result (lines.old.ended ≡ false) }
+    ensures large { (at : ℕ) → IsErrOf result (RunFault.TooLarge at) → (at ≡ number) × ((bytes : List ℕ) → S.left source.old ≡ Some bytes → BreaksLimits lines.old.taken bytes) }
+    ensures broken_off { IsErrOf result RunFault.ReadFault → (bytes : List ℕ) → S.left source.old ≡ Some bytes → IsCutShort bytes (S.left source.new) }
+    ensures good { OnOk result (IsTrue lines.new.good) }
+    ensures limits { (lines.new.line ≡ lines.old.line) × (lines.new.all ≡ lines.old.all) }
+    ensures progress { IfOk result (IfSomeLine (λ _. (lines.old.taken < lines.new.taken) × (lines.new.taken ≤ lines.old.all))) }
+    ensures end { IfOk result (λ line. line ≡ None → lines.new.taken ≡ lines.old.taken) }
+    ensures fault { IfErr result IsReadingFault }
+    ensures cause { HasReadCause (S.faults source.old) (S.faults source.new) result }
+{
+    match lines.next(source) {
+        Ok(line) => Ok(line),
+        Err(LineFault::ReadFault) => Err(RunFault::ReadFault),
+        Err(LineFault::TooLarge) => Err(RunFault::TooLarge(number)),
+        Err(LineFault::NoMemory) => Err(RunFault::NoMemory),
+    }
+}
+
+/// Writes the text of a line's reply as one piece.
+fn write_reply<K: Sink>(sink: &mut K, reply: &[u8]) -> Result<(), RunFault>
+    ensures ok { OnOk result (Appends (K.held sink.old) (K.held sink.new) reply.now) }
+    ensures err { OnErr result ((n : ℕ) × Appends (K.held sink.old) (K.held sink.new) (take n reply.now)) }
+    ensures fault { IfErr result IsWritingFault }
+    ensures cause { HasWriteCause (K.faults sink.old) (K.faults sink.new) result }
+{
+    write_all(sink, reply).map_err(|fault| match fault {
+        WriteFault::Failed => RunFault::WriteFault,
+        WriteFault::NoMemory => RunFault::NoMemory,
+    })
+}
+
+/// Does line `number`, and gives the text of its reply.
+fn do_line<R: Threads>(
+    rt: &R,
+    alloc: Global,
+    stage: &mut Stage,
+    line: &[u8],
+    number: u64,
+) -> Result<Vec<u8>, RunFault>
+    requires few { steps_of stage.old < tick_limit }
+    requires standing { IsStandingStage stage.old }
+    ensures ok { IfOk result (λ text. (model : ModelStage) → StageStands stage.old model → ActsWell model line.now text.items stage.new) }
+    ensures steps { OnOk result (steps_of stage.new ≤ steps_of stage.old + 1) }
+    ensures bad { (at : ℕ) → IsErrOf result (RunFault.BadLine at) → (at ≡ number) × ((model : ModelStage) → StageStands stage.old model → IsBad model line.now) }
+    ensures kept { (at : ℕ) → IsErrOf result (RunFault.BadLine at) → stage.new ≡ stage.old }
+    ensures unbuilt { (at : ℕ) → IsErrOf result (RunFault.Unbuilt at) → (at ≡ number) × ((model : ModelStage) → StageStands stage.old model → IsUnbuilt model line.now) }
+    ensures other { IfErr result IsLineFault }
+{
+    match act(rt, alloc, stage, line) {
+        Ok(text) => Ok(text),
+        Err(stop) => Err(fault_of(stop, number)),
+    }
+}
+
+/// Ends the lines, where line `number` would be the next.
+fn end_lines<R: Threads>(
+    rt: &R,
+    alloc: Global,
+    stage: &mut Stage,
+    number: u64,
+) -> Result<(), RunFault>
+    requires { IsStandingStage stage.old }
+    ensures ok { OnOk result ((model : ModelStage) → StageStands stage.old model → EndsWell model stage.new) }
+    ensures bad { (at : ℕ) → IsErrOf result (RunFault.BadLine at) → (at ≡ number) × ((model : ModelStage) → StageStands stage.old model → model ≡ Waiting) }
+    ensures kept { (at : ℕ) → IsErrOf result (RunFault.BadLine at) → stage.new ≡ stage.old }
+    ensures other { IfErr result IsEndFault }
+{
+    match finish(rt, alloc, stage) {
+        Ok(()) => Ok(()),
+        Err(stop) => Err(fault_of(stop, number)),
+    }
+}
+
+/// Why the run ends at line `number`.
+fn fault_of(stop: LineRefusal, number: u64) -> RunFault
+    ensures { result ≡ fault_of stop number }
+{
+    match stop {
+        LineRefusal::BadLine => RunFault::BadLine(number),
+        LineRefusal::Unbuilt => RunFault::Unbuilt(number),
+        LineRefusal::NoMemory => RunFault::NoMemory,
+    }
+}
+
+// What the program writes to standard error.
+impl fmt::Display for RunFault {
+    ghost use Rattle.std.specs.Prelude.{Some};
+    ghost use Rattle.mld_replay.specs.FaultTexts.{fault_text};
+
+    ghost output = { λ fault. Some (fault_text fault) };
+
+    fn fmt<W: fmt::Write>(&self, f: &mut fmt::Formatter<W>) -> fmt::Result {
+        match self {
+            RunFault::Usage => write!(f, "mld: usage"),
+            RunFault::ReadFault => write!(f, "mld: read fault"),
+            RunFault::WriteFault => write!(f, "mld: write fault"),
+            RunFault::BadLine(line) => write!(f, "mld: line {line}: bad line"),
+            RunFault::NoMemory => write!(f, "mld: no memory"),
+            RunFault::TooLarge(line) => write!(f, "mld: line {line}: too large"),
+            RunFault::Unbuilt(line) => write!(f, "mld: line {line}: unbuilt"),
+        }
+    }
+}
+
+impl From<AllocError> for RunFault {
+    ghost use Rattle.std.specs.Prelude.{◌≡◌};
+    ghost use Rattle.mld_replay.specs.declared.run.RunFault.TheVariants.{NoMemory};
+
+    ghost from_gives = { λ _ e. e ≡ NoMemory };
+
+    fn from(_error: AllocError) -> RunFault {
+        RunFault::NoMemory
+    }
+}

@@ -1,0 +1,254 @@
+//! Schedules worked by hand, each with what the run tells of the world that it ends with.
+use crate::run::RunFault;
+use crate::tests::{ran_by, with_comment};
+use mld_io::{MemorySink, MemorySource};
+use mld_ops::Tagged;
+use net_world::{CloneSummary, State, Summary};
+use rdf_terms::{Triple, read_triple};
+use std::alloc::{AllocError, Global};
+use std::test::Fail;
+use std::thread::Threads;
+use tree_clock::{Dot, Path, Range};
+
+/// A triple is added, and comes to the other clone.
+const SPREAD: &str =
+    "domain d clones 2\nadd 0 <http://d/a> <http://d/#p> \"x\" .\ndeliver 1 1\nshow 0\nshow 1\ncompare 0 1\n";
+
+/// What is written for that.
+const SPREAD_TEXT: &str =
+    "ready 2\ndid r0.1 m1\ntook r0.1-1\nhas 1\nr0.1 <http://d/a> <http://d/#p> \"x\" .\nhas 1\nr0.1 <http://d/a> <http://d/#p> \"x\" .\nsame\n";
+
+/// A triple is added at both clones and removed at one, and all of that comes to the other, which adds it once more.
+const REMOVED: &str =
+    "domain d clones 2\nadd 0 <http://d/a> <http://d/#p> \"x\" .\nadd 1 <http://d/a> <http://d/#p> \"x\" .\nremove 1 <http://d/a> <http://d/#p> \"x\" .\ndeliver 1 1\ndeliver 2 0\ndeliver 3 0\nshow 0\ncompare 0 1\nadd 0 <http://d/a> <http://d/#p> \"x\" .\nshow 0\ncompare 0 1\n";
+
+/// The leaf of a clone of two.
+fn leaf(one: bool) -> Path {
+    Path::root().child(one)
+}
+
+/// The dot of a leaf with a tick.
+fn dot(one: bool, tick: u32) -> Dot {
+    Dot {
+        path: leaf(one),
+        tick,
+    }
+}
+
+/// The range of one dot.
+fn only(one: bool, tick: u32) -> Range {
+    Range {
+        path: leaf(one),
+        first: tick,
+        last: tick,
+    }
+}
+
+/// What a live clone of two has to tell, where its pairs are all of one triple.
+#[derive(Clone, Copy)]
+struct Told<'a> {
+    known: &'a [(Path, u32)],
+    journal: &'a [Range],
+    dots: &'a [Dot],
+}
+
+/// The pairs are those of the triple with these dots, in this order.
+fn are_pairs(pairs: &[Tagged], triple: &Triple, dots: &[Dot]) -> bool {
+    pairs.len() == dots.len()
+        && pairs
+            .iter()
+            .zip(dots)
+            .all(|(pair, dot)| pair.triple == *triple && pair.dot == *dot)
+}
+
+/// A clone is live, has this leaf, and tells just this.
+fn is_live(clone: &CloneSummary, one: bool, told: &Told<'_>, triple: &Triple) -> bool {
+    clone.state == State::Live
+        && clone.path == Some(leaf(one))
+        && clone.known.as_slice() == told.known
+        && clone.base.is_empty()
+        && clone.journal.as_slice() == told.journal
+        && are_pairs(clone.tagged.as_slice(), triple, told.dots)
+}
+
+/// A clone is absent, and tells nothing.
+fn is_absent(clone: &CloneSummary) -> bool {
+    clone.state == State::Absent
+        && clone.path.is_none()
+        && clone.known.is_empty()
+        && clone.base.is_empty()
+        && clone.journal.is_empty()
+        && clone.tagged.is_empty()
+}
+
+/// There are 32 clones: the two of them that are live tell just this, and the others are absent.
+fn is_told(summary: &Summary, zero: &Told<'_>, one: &Told<'_>, triple: &Triple) -> bool {
+    match summary.clones.as_slice() {
+        [first, second, others @ ..] => {
+            is_live(first, false, zero, triple)
+                && is_live(second, true, one, triple)
+                && others.len() == 30
+                && others.iter().all(is_absent)
+        }
+        _ => false,
+    }
+}
+
+/// What is told of the world that a schedule leads to.
+fn told_of<R: Threads>(
+    rt: &R,
+    alloc: Global,
+    schedule: &[u8],
+) -> Result<(u8, Option<Summary>), AllocError> {
+    let mut source = MemorySource::new(alloc, schedule, &[])?;
+    let mut sink = MemorySink::new(alloc, &[])?;
+    let ran = ran_by(rt, alloc, "replay", &mut source, &mut sink)?;
+    Ok((ran.status, ran.world))
+}
+
+/// The triple of the schedules.
+fn triple(alloc: Global) -> Result<Triple, Fail> {
+    let text = "<http://d/a> <http://d/#p> \"x\" .";
+    Ok(read_triple(alloc, text)?)
+}
+
+/// A schedule is read to its end, and just this is told of the world that it leads to.
+fn tells<R: Threads>(
+    rt: &R,
+    alloc: Global,
+    schedule: &str,
+    zero: &Told<'_>,
+    one: &Told<'_>,
+) -> Result<bool, Fail> {
+    let triple = triple(alloc)?;
+    let (status, world) = told_of(rt, alloc, schedule.as_bytes())?;
+    Ok(match world {
+        Some(summary) => status == 0 && is_told(&summary, zero, one, &triple),
+        None => false,
+    })
+}
+
+#[test]
+fn a_run_tells_of_its_clones(rt: HostRuntime) -> Result<(), Fail> {
+    let same = Told {
+        known: &[(leaf(false), 1)],
+        journal: &[only(false, 1)],
+        dots: &[dot(false, 1)],
+    };
+    let spread = tells(&rt, rt.alloc(), SPREAD, &same, &same)?;
+    assert!(rt; spread);
+    let zero = Told {
+        known: &[(leaf(false), 2), (leaf(true), 2)],
+        journal: &[only(false, 1), only(true, 1), only(true, 2), only(false, 2)],
+        dots: &[dot(false, 1), dot(false, 2)],
+    };
+    let one = Told {
+        known: &[(leaf(false), 1), (leaf(true), 2)],
+        journal: &[only(true, 1), only(true, 2), only(false, 1)],
+        dots: &[dot(false, 1)],
+    };
+    let removed = tells(&rt, rt.alloc(), REMOVED, &zero, &one)?;
+    assert!(rt; removed);
+    Ok(())
+}
+
+/// The status of a schedule, and whether it tells of its world.
+fn ends_telling<R: Threads>(
+    rt: &R,
+    alloc: Global,
+    schedule: &[u8],
+) -> Result<(u8, bool), AllocError> {
+    let (status, world) = told_of(rt, alloc, schedule)?;
+    Ok((status, world.is_some()))
+}
+
+#[test]
+fn a_run_tells_of_its_world_at_some_statuses(rt: HostRuntime) -> Result<(), Fail> {
+    let cases: [(&[u8], u8, bool); 10] = [
+        // The end founds the clones where no command did, and a line that ends the run before that leaves no world.
+        (b"domain d clones 2\n", 0, true),
+        (b"domain d clones 1\nfoo\n", 4, false),
+        (b"domain d clones 1\n\n# c\nshow\n", 4, false),
+        (b"domain d clones 2\nshow 0\nshow\n", 4, true),
+        (b"# c\nshow\n", 4, false),
+        (b"# c\n", 4, false),
+        (b"", 4, false),
+        (b"domain d clones 2\nask 0\n", 20, false),
+        (b"ask\n", 20, false),
+        (b"domain d clones 2\nstop 0\n", 20, false),
+    ];
+    for (schedule, status, told) in cases {
+        let ended = ends_telling(&rt, rt.alloc(), schedule)?;
+        assert_eq!(rt; ended, (status, told), "{schedule:?}");
+    }
+    let larger = with_comment(rt.alloc(), b"domain d clones 2\n", 1_048_577)?;
+    let ended = ends_telling(&rt, rt.alloc(), &larger)?;
+    assert_eq!(rt; ended, (7, false));
+    let larger = with_comment(rt.alloc(), b"domain d clones 2\nshow 0\n", 1_048_577)?;
+    let ended = ends_telling(&rt, rt.alloc(), &larger)?;
+    assert_eq!(rt; ended, (7, true));
+    Ok(())
+}
+
+#[test]
+fn a_run_whose_source_fails_tells_of_the_lines_done(rt: HostRuntime) -> Result<(), Fail> {
+    let schedule =
+        b"domain d clones 2\nadd 0 <http://d/a> <http://d/#p> \"x\" .\nadd 0 <http://d/a> <http://d/#p> \"x\" .";
+    // The lines take 18 and 39 bytes with their LF, and the last one 38: read 57 is the first behind the second line, and
+    // read 95 the first behind the third. Where either fails two lines are done, so one pair is there.
+    for failing in [57, 95] {
+        let mut source = MemorySource::new(rt.alloc(), schedule, &[failing])?;
+        let mut sink = MemorySink::new(rt.alloc(), &[])?;
+        let ran = ran_by(&rt, rt.alloc(), "replay", &mut source, &mut sink)?;
+        assert_eq!(rt; ran.status, 2);
+        assert_eq!(rt; ran.fault, Some(RunFault::ReadFault));
+        assert!(rt; sink.bytes() == b"ready 2\ndid r0.1 m1\n".as_slice());
+        let summary = ran.world.ok_or("a summary")?;
+        let zero = Told {
+            known: &[(leaf(false), 1)],
+            journal: &[only(false, 1)],
+            dots: &[dot(false, 1)],
+        };
+        let one = Told {
+            known: &[],
+            journal: &[],
+            dots: &[],
+        };
+        let triple = triple(rt.alloc())?;
+        assert!(rt; is_told(&summary, &zero, &one, &triple));
+    }
+    // No domain line is done, and then no command.
+    for failing in [17, 18, 56] {
+        let mut source = MemorySource::new(rt.alloc(), schedule, &[failing])?;
+        let mut sink = MemorySink::new(rt.alloc(), &[])?;
+        let ran = ran_by(&rt, rt.alloc(), "replay", &mut source, &mut sink)?;
+        assert_eq!(rt; ran.status, 2);
+        assert!(rt; ran.world.is_none());
+    }
+    Ok(())
+}
+
+/// A run over `SPREAD` ends well with the whole text and tells of its world, or for want of memory with a front of the text
+/// and tells nothing.
+fn ends_or_lacks_memory<R: Threads>(rt: &R, alloc: Global) -> Result<bool, AllocError> {
+    let text = SPREAD_TEXT.as_bytes();
+    let mut source = MemorySource::new(alloc, SPREAD.as_bytes(), &[])?;
+    let mut sink = MemorySink::new(alloc, &[])?;
+    let ran = ran_by(rt, alloc, "replay", &mut source, &mut sink)?;
+    let written = sink.bytes();
+    Ok(match ran.fault {
+        None => ran.status == 0 && ran.world.is_some() && written == text,
+        Some(RunFault::NoMemory) => {
+            ran.status == 5 && ran.world.is_none() && text.starts_with(written)
+        }
+        Some(_) => false,
+    })
+}
+
+/// Passes too where an allocation fails, so that each can be made to fail in turn.
+#[test]
+fn want_of_memory_leaves_a_front_of_the_text(rt: HostRuntime) {
+    if let Ok(is_so) = ends_or_lacks_memory(&rt, rt.alloc()) {
+        assert!(rt; is_so);
+    }
+}
