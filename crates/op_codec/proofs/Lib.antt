@@ -1,0 +1,16 @@
+pub mod FieldLaws
+pub mod PathLaws
+pub mod PathReading
+pub mod Appending
+pub mod TripleLaws
+pub mod ListLaws
+pub mod ClockReading
+pub mod EntryLaws
+pub mod Sequences
+pub mod FieldTrips
+pub mod PathTrips
+pub mod ListTrips
+pub mod PairTrips
+pub mod EntryTrips
+pub mod MessageTrips
+pub mod ReadWritten

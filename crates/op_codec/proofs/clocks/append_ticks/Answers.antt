@@ -1,0 +1,11 @@
+use Rattle.op_codec.specs.Clocks.{ticks_bytes, clock_bytes}
+use Rattle.op_codec.proofs.Appending.{all_appended, items_kept, at_err}
+use Rattle.op_codec.proofs.clocks.append_ticks.Goals as goal
+
+pub returns-in_err-append_dot-clause-err : goal.returns-in_err-append_dot-clause-err
+returns-in_err-append_dot-clause-err c =
+    at_err c.from_residual-in_err-append_dot.result (items_kept ticks_bytes c.args.list.now c.args.out.now.items c.loop-path.path-index c.loop-path.out.items c.append_dot.new.out.items c.loop-path.invariant c.in_err-append_dot.ensures.err)
+
+pub returns-clause-ok : goal.returns-clause-ok
+unfolding clock_bytes
+returns-clause-ok c = all_appended ticks_bytes c.args.list.now c.args.out.now.items c.loop-path.path-index c.loop-path.out.items c.loop-path-test.false c.loop-path.invariant

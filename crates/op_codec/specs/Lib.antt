@@ -1,0 +1,12 @@
+pub mod Reading
+pub mod Paths
+pub mod Lists
+pub mod Clocks
+pub mod Triples
+pub mod Pairs
+pub mod Entries
+pub mod Messages
+pub mod Agreement
+pub mod Stored
+pub mod Kept
+pub mod Laws
