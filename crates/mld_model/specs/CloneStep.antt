@@ -1,5 +1,5 @@
 -- What a clone of a world does, and what comes to it: each with its reply and the world after it, whatever line asks for it.
-use Rattle.std.specs.Prelude.{◌≡◌, ◌≢◌, ℕ, ◌+◌, ◌<◌, ◌≤◌, List, [], ◌∷◌, ◌++◌, ◌⊎◌, ◌↔◌, length}
+use Rattle.std.specs.Prelude.{◌≡◌, ◌≢◌, ℕ, ◌+◌, ◌<◌, ◌≤◌, List, [], ◌∷◌, ◌++◌, ◌↔◌, length}
 use Rattle.rdf_terms.specs.declared.terms.Triple.{Triple}
 use Rattle.tree_clock.specs.Limits.{path_limit}
 use Rattle.tree_clock.specs.Path.{zero_letter, one_letter}
@@ -19,6 +19,20 @@ use Rattle.mld_model.specs.Reply.{Reply, Did, NoOperation, Took, Held, HeldFull,
 -- a reply that changes nothing
 abbrev pub Answers : World → Reply → Reply → World → Type 0
 Answers world answer reply next = (reply ≡ answer) × (next ≡ world)
+
+-- what holds by the state of a clone: where it is absent, where it asks, where it is down, and where it is live with what it keeps
+-- and holds back
+abbrev pub ByState : Clone → Type 0 → Type 0 → Type 0 → (Stored → List Range → Type 0) → Type 0
+ByState Absent absent asking down live = absent
+ByState Asking absent asking down live = asking
+ByState Empty absent asking down live = down
+ByState (Down stored) absent asking down live = down
+ByState (Live stored held) absent asking down live = live stored held
+
+-- what a live clone alone does, by what it keeps and holds back: any other replies with its state, and nothing changes
+abbrev pub IfLive : World → Clone → Reply → World → (Stored → List Range → Type 0) → Type 0
+IfLive world clone reply next does =
+    ByState clone (Answers world IsAbsent reply next) (Answers world IsAsking reply next) (Answers world IsDown reply next) does
 
 -- the tick after the last that is known of the path
 pub record IsNextTick (known : List Range) (path : List ℕ) (tick : ℕ) : Type 0 where
@@ -44,26 +58,24 @@ pub record Makes (world : World) (number : ℕ) (stored : Stored) (held : List R
 
 -- a triple is added by the operation that inserts it
 abbrev pub Adds : World → ℕ → Triple → Clone → Reply → World → Type 0
-Adds world number triple Absent reply next = Answers world IsAbsent reply next
-Adds world number triple Asking reply next = Answers world IsAsking reply next
-Adds world number triple Empty reply next = Answers world IsDown reply next
-Adds world number triple (Down stored) reply next = Answers world IsDown reply next
-Adds world number triple (Live stored held) reply next = Makes world number stored held [] (triple ∷ []) reply next
+Adds world number triple clone reply next =
+    IfLive world clone reply next (λ stored held. Makes world number stored held [] (triple ∷ []) reply next)
 
 -- the pairs of a triple, ascending
 pub record ArePairsOf (triple : Triple) (pairs deletes : List Tagged) : Type 0 where
   pub ascending : IsAscending tagged_cmp deletes
   pub members : (pair : Tagged) → Has deletes pair ↔ (Has pairs pair × (pair.triple ≡ triple))
 
--- a triple is removed by the operation that deletes all pairs which are present for it; where there is none, no operation is made
+-- a live clone deletes these pairs: there are none and no operation is made, or one operation deletes them all
+pub data Deletes (world : World) (number : ℕ) (stored : Stored) (held : List Range) (deletes : List Tagged) (reply : Reply) (next : World) : Type 0 where
+  finds_none : deletes ≡ [] → Answers world NoOperation reply next → Deletes world number stored held deletes reply next
+  deletes_all : deletes ≢ [] → Makes world number stored held deletes [] reply next → Deletes world number stored held deletes reply next
+
+-- a triple is removed where all pairs that are present for it are deleted
 abbrev pub Removes : World → ℕ → Triple → Clone → Reply → World → Type 0
-Removes world number triple Absent reply next = Answers world IsAbsent reply next
-Removes world number triple Asking reply next = Answers world IsAsking reply next
-Removes world number triple Empty reply next = Answers world IsDown reply next
-Removes world number triple (Down stored) reply next = Answers world IsDown reply next
-Removes world number triple (Live stored held) reply next =
+Removes world number triple clone reply next = IfLive world clone reply next (λ stored held.
     (pairs : List Tagged) × (deletes : List Tagged) × IsMeaning world.history (known_of stored) pairs × ArePairsOf triple pairs deletes
-    × (((deletes ≡ []) × Answers world NoOperation reply next) ⊎ ((deletes ≢ []) × Makes world number stored held deletes [] reply next))
+    × Deletes world number stored held deletes reply next)
 
 -- a live clone takes a range that is ready, and then those held back that this releases
 pub record Accepts (world : World) (number : ℕ) (stored : Stored) (held : List Range) (range : Range) (reply : Reply) (next : World) : Type 0 where
@@ -76,30 +88,31 @@ pub record Accepts (world : World) (number : ℕ) (stored : Stored) (held : List
   pub changes : next ≡ with_clone world number (Live after left)
 
 -- a live clone holds a range back: it is held already, or too many others are, or it is held from now on
-abbrev pub HoldsBack : World → ℕ → Stored → List Range → Range → Reply → World → Type 0
-HoldsBack world number stored held range reply next =
-    (Has held range × Answers world Held reply next)
-    ⊎ ((¬ Has held range × (held_limit ≤ length held) × Answers world HeldFull reply next)
-    ⊎ (¬ Has held range × (length held < held_limit) × (reply ≡ Held) × (next ≡ with_clone world number (Live stored (held ++ range ∷ [])))))
+pub data HoldsBack (world : World) (number : ℕ) (stored : Stored) (held : List Range) (range : Range) (reply : Reply) (next : World) : Type 0 where
+  holds_already : Has held range → Answers world Held reply next → HoldsBack world number stored held range reply next
+  holds_too_many : ¬ Has held range → held_limit ≤ length held → Answers world HeldFull reply next → HoldsBack world number stored held range reply next
+  holds_from_now : ¬ Has held range → length held < held_limit → reply ≡ Held → next ≡ with_clone world number (Live stored (held ++ range ∷ []))
+      → HoldsBack world number stored held range reply next
 
 -- a range that comes to a live clone: it is known, or it is ready and taken, or it is held back
-abbrev pub Receives : World → ℕ → Stored → List Range → Range → Reply → World → Type 0
-Receives world number stored held range reply next =
-    (IsKnown (known_of stored) range × Answers world AlreadyKnown reply next)
-    ⊎ (Accepts world number stored held range reply next
-    ⊎ (IsHeldBack world.history (known_of stored) range × HoldsBack world number stored held range reply next))
+pub data Receives (world : World) (number : ℕ) (stored : Stored) (held : List Range) (range : Range) (reply : Reply) (next : World) : Type 0 where
+  knows_already : IsKnown (known_of stored) range → Answers world AlreadyKnown reply next → Receives world number stored held range reply next
+  accepts : Accepts world number stored held range reply next → Receives world number stored held range reply next
+  holds_back : IsHeldBack world.history (known_of stored) range → HoldsBack world number stored held range reply next
+      → Receives world number stored held range reply next
 
 -- the world after the clone of the number asked for a leaf: it waits for one, and a message that asks is sent
 abbrev pub after_asking : World → ℕ → World
 after_asking world number = record (with_clone world number Asking) { messages = world.messages ++ JoinAsk number ∷ [] }
 
--- a clone that isn't live asks for a leaf, and may ask again
+-- the question for a leaf is sent
+abbrev pub Asks : World → ℕ → Reply → World → Type 0
+Asks world number reply next = (reply ≡ Sent (length world.messages + 1)) × (next ≡ after_asking world number)
+
+-- a clone that is absent asks for a leaf, and one that asks already may ask again
 abbrev pub Joins : World → ℕ → Clone → Reply → World → Type 0
-Joins world number Absent reply next = (reply ≡ Sent (length world.messages + 1)) × (next ≡ after_asking world number)
-Joins world number Asking reply next = (reply ≡ Sent (length world.messages + 1)) × (next ≡ after_asking world number)
-Joins world number Empty reply next = Answers world IsDown reply next
-Joins world number (Down stored) reply next = Answers world IsDown reply next
-Joins world number (Live stored held) reply next = Answers world IsLive reply next
+Joins world number clone reply next =
+    ByState clone (Asks world number reply next) (Asks world number reply next) (Answers world IsDown reply next) (λ stored held. Answers world IsLive reply next)
 
 -- what a clone keeps that forked its leaf: the left half of it
 abbrev pub left_half : Stored → Stored
@@ -114,63 +127,56 @@ after_fork world number stored held id =
     }
 
 -- a live clone is asked for a leaf by the clone of an id: it is that clone itself, or its leaf is too deep, or it forks
-abbrev pub Gives : World → ℕ → Stored → List Range → ℕ → Reply → World → Type 0
-Gives world number stored held id reply next =
-    ((id ≡ number) × Answers world Ignored reply next)
-    ⊎ (((id ≢ number) × (path_limit ≤ length stored.path) × Answers world Deep reply next)
-    ⊎ ((id ≢ number) × (length stored.path < path_limit) × (reply ≡ Answer ((length world.messages + 1) ∷ [])) × (next ≡ after_fork world number stored held id)))
+pub data Gives (world : World) (number : ℕ) (stored : Stored) (held : List Range) (id : ℕ) (reply : Reply) (next : World) : Type 0 where
+  asked_itself : id ≡ number → Answers world Ignored reply next → Gives world number stored held id reply next
+  is_too_deep : id ≢ number → path_limit ≤ length stored.path → Answers world Deep reply next → Gives world number stored held id reply next
+  forks : id ≢ number → length stored.path < path_limit → reply ≡ Answer ((length world.messages + 1) ∷ []) → next ≡ after_fork world number stored held id
+      → Gives world number stored held id reply next
 
 -- what a clone keeps that took a leaf with these dots: a base of them, and no journal
 abbrev pub joined_with : List ℕ → List Range → Stored
 joined_with path dots = record { path = path; base = dots; journal = [] }
 
 -- a leaf for the clone of an id comes to a clone that asks: it is that clone and lives from now on, or it isn't
-abbrev pub Adopts : World → ℕ → ℕ → List ℕ → List Range → Reply → World → Type 0
-Adopts world number id path dots reply next =
-    ((id ≡ number) × (reply ≡ Joined path) × (next ≡ with_clone world number (Live (joined_with path dots) [])))
-    ⊎ ((id ≢ number) × Answers world Ignored reply next)
+pub data Adopts (world : World) (number id : ℕ) (path : List ℕ) (dots : List Range) (reply : Reply) (next : World) : Type 0 where
+  becomes_live : id ≡ number → reply ≡ Joined path → next ≡ with_clone world number (Live (joined_with path dots) []) → Adopts world number id path dots reply next
+  leaves_it : id ≢ number → Answers world Ignored reply next → Adopts world number id path dots reply next
 
--- a message comes to a clone; wants and snapshots are never sent yet
+-- a message comes to a clone that asks
+abbrev pub AskerTakes : World → ℕ → Message → Reply → World → Type 0
+AskerTakes world number (JoinGive id path dots) reply next = Adopts world number id path dots reply next
+AskerTakes world number message reply next = Answers world Ignored reply next
+
+-- a message comes to a live clone; wants and snapshots are never sent yet
+abbrev pub LiveTakes : World → ℕ → Message → Stored → List Range → Reply → World → Type 0
+LiveTakes world number (RangeOf range) stored held reply next = Receives world number stored held range reply next
+LiveTakes world number (JoinAsk id) stored held reply next = Gives world number stored held id reply next
+LiveTakes world number (JoinGive id path dots) stored held reply next = Answers world Ignored reply next
+LiveTakes world number message stored held reply next = ⊥
+
+-- a message comes to a clone
 abbrev pub Takes : World → ℕ → Message → Clone → Reply → World → Type 0
-Takes world number message Absent reply next = Answers world IsAbsent reply next
-Takes world number (JoinGive id path dots) Asking reply next = Adopts world number id path dots reply next
-Takes world number message Asking reply next = Answers world Ignored reply next
-Takes world number message Empty reply next = Answers world IsDown reply next
-Takes world number message (Down stored) reply next = Answers world IsDown reply next
-Takes world number (RangeOf range) (Live stored held) reply next = Receives world number stored held range reply next
-Takes world number (JoinAsk id) (Live stored held) reply next = Gives world number stored held id reply next
-Takes world number (JoinGive id path dots) (Live stored held) reply next = Answers world Ignored reply next
-Takes world number message (Live stored held) reply next = ⊥
+Takes world number message clone reply next =
+    ByState clone (Answers world IsAbsent reply next) (AskerTakes world number message reply next) (Answers world IsDown reply next)
+    (λ stored held. LiveTakes world number message stored held reply next)
 
 -- the pairs of a clone: the meaning of the dots that it knows
 abbrev pub Lists : World → Clone → Reply → World → Type 0
-Lists world Absent reply next = Answers world IsAbsent reply next
-Lists world Asking reply next = Answers world IsAsking reply next
-Lists world Empty reply next = Answers world IsDown reply next
-Lists world (Down stored) reply next = Answers world IsDown reply next
-Lists world (Live stored held) reply next =
-    (pairs : List Tagged) × IsMeaning world.history (known_of stored) pairs × Answers world (Shows pairs) reply next
+Lists world clone reply next = IfLive world clone reply next (λ stored held.
+    (pairs : List Tagged) × IsMeaning world.history (known_of stored) pairs × Answers world (Shows pairs) reply next)
 
 -- how two sets of dots compare
-abbrev pub Compares : List Range → List Range → Reply → Type 0
-Compares known other reply =
-    (IsWithin known other × IsWithin other known × (reply ≡ Same))
-    ⊎ ((IsWithin known other × ¬ IsWithin other known × (reply ≡ Less))
-    ⊎ ((¬ IsWithin known other × IsWithin other known × (reply ≡ More))
-    ⊎ (¬ IsWithin known other × ¬ IsWithin other known × (reply ≡ Apart))))
+pub data Compares (known other : List Range) (reply : Reply) : Type 0 where
+  same_dots : IsWithin known other → IsWithin other known → reply ≡ Same → Compares known other reply
+  fewer_dots : IsWithin known other → ¬ IsWithin other known → reply ≡ Less → Compares known other reply
+  more_dots : ¬ IsWithin known other → IsWithin other known → reply ≡ More → Compares known other reply
+  dots_apart : ¬ IsWithin known other → ¬ IsWithin other known → reply ≡ Apart → Compares known other reply
 
 -- the dots of a live clone beside those of another
 abbrev pub ComparesWith : World → Stored → Clone → Reply → World → Type 0
-ComparesWith world stored Absent reply next = Answers world IsAbsent reply next
-ComparesWith world stored Asking reply next = Answers world IsAsking reply next
-ComparesWith world stored Empty reply next = Answers world IsDown reply next
-ComparesWith world stored (Down other) reply next = Answers world IsDown reply next
-ComparesWith world stored (Live other held) reply next = Compares (known_of stored) (known_of other) reply × (next ≡ world)
+ComparesWith world stored clone reply next =
+    IfLive world clone reply next (λ other held. Compares (known_of stored) (known_of other) reply × (next ≡ world))
 
 -- the states of both clones are looked at in turn
 abbrev pub Weighs : World → Clone → Clone → Reply → World → Type 0
-Weighs world Absent other reply next = Answers world IsAbsent reply next
-Weighs world Asking other reply next = Answers world IsAsking reply next
-Weighs world Empty other reply next = Answers world IsDown reply next
-Weighs world (Down stored) other reply next = Answers world IsDown reply next
-Weighs world (Live stored held) other reply next = ComparesWith world stored other reply next
+Weighs world clone other reply next = IfLive world clone reply next (λ stored held. ComparesWith world stored other reply next)

@@ -2,6 +2,7 @@ pub mod Clone
 pub mod World
 pub mod Reply
 pub mod CloneStep
+pub mod StateLaws
 pub mod Durable
 pub mod Sound
 pub mod StandsFor

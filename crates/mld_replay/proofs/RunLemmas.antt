@@ -1,5 +1,5 @@
 -- A replay from line to line, and how it ends.
-use Rattle.std.proofs.Common.{◌≡◌, ◌≢◌, ℕ, ◌+◌, ◌≤◌, ◌<◌, List, [], ◌∷◌, ◌++◌, ◌↔◌, inl, inr, refl, sym, ◌∙◌, ap, arith, subst, length, Option, None, Some, append_assoc, append-nil, length-append, get_or, map, take, Bool, Err, Result, Ok}
+use Rattle.std.proofs.Common.{◌≡◌, ◌≢◌, ℕ, ◌+◌, ◌≤◌, ◌<◌, List, [], ◌∷◌, ◌++◌, ◌↔◌, refl, sym, ◌∙◌, ap, arith, subst, length, Option, None, Some, append_assoc, append-nil, length-append, get_or, map, take, Bool, Err, Result, Ok}
 use Rattle.std.specs.Prelude.{IsTrue, nat_eq, OnOk}
 use Rattle.std.proofs.lemmas.List.{take_all}
 use Rattle.std.proofs.Math.Seq.{take-append-add}
@@ -8,7 +8,7 @@ use Rattle.tree_clock.specs.DotLaws.{path_eq-Decides}
 use Rattle.std.specs.Io.KnownBytes.{Appends}
 use Rattle.mld_io.specs.Lines.{lines_of, after_line, IsCutShort}
 use Rattle.mld_io.specs.LinesLaws.{first_of_lines_lem}
-use Rattle.schedule_model.specs.Runs.{Stage, Waiting, Acts, Runs, IsBad, IsUnbuilt, Before, Outcome, Finished, BadLine, UnbuiltLine, Verdict}
+use Rattle.schedule_model.specs.Runs.{Stage, Waiting, Acts, Runs, bad_line, no_domain, IsBad, IsUnbuilt, RunsBefore, Outcome, Finished, BadLine, UnbuiltLine, Verdict}
 use Rattle.mld_replay.specs.Ran.{Finishes, StopsAtBad, StopsAtUnbuilt, StopsAtLarge, BreaksOff, ReadsLines, WritesFront, TakesLine, IfSomeLine, HasReadCause, HasWriteCause, Agrees}
 use Rattle.mld_replay.specs.Stages.{StageStands, IsStandingStage, ActsWell, EndsWell, steps_of}
 use Rattle.mld_replay.specs.declared.stages.Stage.{Stage as RunningStage}
@@ -182,7 +182,7 @@ ends_waiting given left rest before now size running done way none waits bytes i
       stage = way.stage;
       verdict = record {
         before = record { front = way.lines; rest = lines_of at.rest; whole = at.whole; counted = ap (λ n. n + 1) way.counted; runs = way.runs };
-        bad = inr (ap lines_of end.0, waits way.stage way.stands);
+        bad = no_domain (ap lines_of end.0) (waits way.stage way.stands);
       };
       fits = λ before below. all_fit bytes left size done way.lines at end.0 before;
       written = way.written;
@@ -192,7 +192,7 @@ ends_waiting given left rest before now size running done way none waits bytes i
 -- the lines before a line that was taken
 before_line : (given left rest before now : Option (List ℕ)) (size grown : ℕ) (running : RunningStage) (done : ℕ) (line : List ℕ) → (way : IsUnderWay given left before now size running done)
     → ((bytes : List ℕ) → left ≡ Some bytes → TakesLine size bytes rest grown (Some line)) → (bytes : List ℕ) → given ≡ Some bytes
-    → (b : Before (lines_of bytes) (done + 1) way.text way.stage) × ((others : List (List ℕ)) × (b.rest ≡ line ∷ others))
+    → (b : RunsBefore (lines_of bytes) (done + 1) way.text way.stage) × ((others : List (List ℕ)) × (b.rest ≡ line ∷ others))
     × ((before : ℕ) → before < done + 1 → ¬ IsTooLargeLine bytes before)
 before_line given left rest before now size grown running done line way takes bytes is =
     let at : IsLeft bytes left size done way.lines = way.left_of bytes is in
@@ -209,7 +209,7 @@ pub stops_bad : (given left rest before now : Option (List ℕ)) (size grown : �
 unfolding Verdict
 stops_bad given left rest before now size grown running done line way takes bad bytes is =
     let b = before_line given left rest before now size grown running done line way takes bytes is in
-    record { text = way.text; stage = way.stage; verdict = record { before = b.0; bad = inl (line, b.1, bad way.stage way.stands) }; fits = b.2; written = way.written; holds = way.stands }
+    record { text = way.text; stage = way.stage; verdict = record { before = b.0; bad = bad_line line b.1 (bad way.stage way.stands) }; fits = b.2; written = way.written; holds = way.stands }
 
 -- a line that was taken isn't built
 pub stops_unbuilt : (given left rest before now : Option (List ℕ)) (size grown : ℕ) (running : RunningStage) (done : ℕ) (line : List ℕ) → IsUnderWay given left before now size running done

@@ -1,5 +1,5 @@
 -- What a line makes of a schedule's state, and what its end does.
-use Rattle.std.proofs.Common.{◌≡◌, ℕ, List, [], refl, sym, subst, inl, inr, Option, None, Some}
+use Rattle.std.proofs.Common.{◌≡◌, ℕ, List, [], refl, sym, subst, Option, None, Some}
 use Rattle.schedule_model.specs.declared.Command.{Command}
 use Rattle.mld_model.specs.World.{World}
 use Rattle.mld_model.specs.Reply.{Ready}
@@ -7,7 +7,7 @@ use Rattle.mld_model.specs.Sound.{IsSound}
 use Rattle.mld_model.specs.StandsFor.{RunningWorld, StandsFor}
 use Rattle.mld_model.specs.FoundedLaws.{founded_sound}
 use Rattle.schedule_model.specs.ReplyText.{reply_text}
-use Rattle.schedule_model.specs.Runs.{Stage, Waiting, SetUp, Running, founded_by, IsWorldOf, Commands, Acts}
+use Rattle.schedule_model.specs.Runs.{Stage, Waiting, SetUp, Running, founded_by, IsWorldOf, says_nothing, sets_up, commands}
 use Rattle.schedule_model.specs.WorldStep.{Follows}
 use Rattle.net_world.specs.declared.lines.Setup.{Setup}
 use Rattle.net_world.specs.declared.lines.SetupLine.{SetupLine}
@@ -39,17 +39,11 @@ set_up line read setup text is reads writes =
     let spelled = subst P is reads in
     record {
       next = SetUp (setup_of setup);
-      acts = inr (record { setup = setup_of setup; spells = spelled; replies = writes; changes = refl });
+      acts = sets_up (record { setup = setup_of setup; spells = spelled; replies = writes; changes = refl });
       stands = (refl, spelled_setup line (setup_of setup) spelled);
     }
 
 -- ---- a line behind the domain line
-
--- a command acts at a stage whose clones are founded in some world
-acts_command : (stage : Stage) (world : World) (line text : List ℕ) (next : Stage) → IsWorldOf stage world → Commands stage line text next → Acts stage line text next
-acts_command Waiting world line text next founds commands = absurd founds
-acts_command (SetUp setup) world line text next founds commands = inr commands
-acts_command (Running now) world line text next founds commands = inr commands
 
 -- it is a command
 pub commanded : (stage : Stage) (line : List ℕ) (read : Option Command) (command : Command) (old new : RunningWorld) (text : List ℕ)
@@ -60,7 +54,7 @@ commanded stage line read command old new text is reads stepped model founds sta
     let follows : Follows model command stepped.reply new = stepped.follows model stands sound in
     record {
       next = Running follows.next;
-      acts = acts_command stage model line text (Running follows.next) founds (record {
+      acts = commands (record {
         world = model;
         founds = founds;
         command = command;
@@ -87,14 +81,14 @@ pub still_set_up : (setup : Setup) (line : List ℕ) (read : Option Command) →
     → ActsWell (SetUp (setup_of setup)) line [] (stages.SetUp setup)
 still_set_up setup line read spelled is reads =
     let P : Option Command → Type 0 = λ c. CommandIs line c in
-    record { next = SetUp (setup_of setup); acts = inl (subst P is reads, refl, refl); stands = (refl, spelled) }
+    record { next = SetUp (setup_of setup); acts = says_nothing (subst P is reads) refl refl; stands = (refl, spelled) }
 
 -- it says nothing, and a world runs
 pub still_runs : (line : List ℕ) (read : Option Command) (old : RunningWorld) → read ≡ None → CommandIs line read
     → (model : World) → StandsFor old model → IsSound model → ActsWell (Running model) line [] (stages.Running old)
 still_runs line read old is reads model stands sound =
     let P : Option Command → Type 0 = λ c. CommandIs line c in
-    record { next = Running model; acts = inl (subst P is reads, refl, refl); stands = (stands, sound) }
+    record { next = Running model; acts = says_nothing (subst P is reads) refl refl; stands = (stands, sound) }
 
 -- ---- the stage that a state stands for
 

@@ -5,7 +5,7 @@ use Rattle.mld_io.specs.Faults.{Rose}
 use Rattle.mld_io.specs.Lines.{lines_of, ended_lines, first_line, after_line, line_size, IsCutShort}
 use Rattle.mld_replay.specs.Limits.{left_after, BreaksLimits, IsTooLargeLine}
 use Rattle.mld_model.specs.World.{World}
-use Rattle.schedule_model.specs.Runs.{Stage, Waiting, Running, Runs, Before, Outcome, Finished, BadLine, UnbuiltLine, Verdict}
+use Rattle.schedule_model.specs.Runs.{Stage, Waiting, Running, Runs, RunsBefore, Outcome, Finished, BadLine, UnbuiltLine, Verdict}
 use Rattle.schedule_model.specs.Promises.{KeepsPromises}
 use Rattle.net_world.specs.Summaries.{Tells}
 use Rattle.net_world.specs.declared.summaries.Summary.{Summary}
@@ -111,7 +111,7 @@ pub record StopsAtUnbuilt (bytes : List ℕ) (number : ℕ) (before after : Opti
 pub record StopsAtLarge (P : Stage → Type 0) (bytes : List ℕ) (number : ℕ) (before after : Option (List ℕ)) : Type 0 where
   pub text : List ℕ
   pub stage : Stage
-  pub done : Before (lines_of bytes) number text stage
+  pub done : RunsBefore (lines_of bytes) number text stage
   pub fits : (lines : ℕ) → lines + 1 < number → ¬ IsTooLargeLine bytes lines
   pub large : (lines : ℕ) → number ≡ lines + 1 → IsTooLargeLine bytes lines
   pub written : Appends before after text
@@ -132,7 +132,7 @@ pub record BreaksOff (P : Stage → Type 0) (bytes : List ℕ) (left before afte
   pub reads : ReadsLines bytes left lines
   pub text : List ℕ
   pub stage : Stage
-  pub done : Before (lines_of bytes) (lines + 1) text stage
+  pub done : RunsBefore (lines_of bytes) (lines + 1) text stage
   pub fits : (line : ℕ) → line < lines → ¬ IsTooLargeLine bytes line
   pub cut : IsCutShort (left_after lines bytes) left
   pub written : Appends before after text

@@ -44,6 +44,16 @@ pub record IsRemoveOf (before : World) (number : ℕ) (triple : Triple) (dot : D
   pub meant : IsMeaning before.history (known_of stored) pairs
   pub deletes : ArePairsOf triple pairs operation.deletes
 
+-- an operation with the triple as its one insert was put at the head of the history, and the clone of the number remembers it
+abbrev pub RemembersAdd : World → ℕ → Triple → Dot → World → Type 0
+RemembersAdd before number triple dot next =
+    (operation : Operation) × IsAddOf triple dot operation × (next.history ≡ operation ∷ before.history) × Remembers next number operation
+
+-- and one that deletes the pairs of the triple
+abbrev pub RemembersRemove : World → ℕ → Triple → Dot → World → Type 0
+RemembersRemove before number triple dot next =
+    (operation : Operation) × IsRemoveOf before number triple dot operation × (next.history ≡ operation ∷ before.history) × Remembers next number operation
+
 -- one of the lines is a command at the clone of the number, its answer tells of the dot, and the run that it stands in leads to
 -- the world
 pub record IsAnswered (lines : List (List ℕ)) (number : ℕ) (dot : Dot) (world : World) : Type 0 where

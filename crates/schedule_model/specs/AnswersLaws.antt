@@ -10,21 +10,23 @@ use Rattle.tree_clock.specs.Lists.{Has}
 use Rattle.tree_clock.specs.Dot.{Knows}
 use Rattle.mld_ops.specs.declared.tagged.Tagged.{Tagged}
 use Rattle.mld_ops.specs.History.{Operation, dot_at}
+use Rattle.mld_ops.specs.Meaning.{IsMeaning}
 use Rattle.mld_ops.specs.Effect.{range_of}
 use Rattle.mld_ops.specs.HistoryLaws.{range_of_has}
 use Rattle.schedule_model.specs.declared.Command.TheVariants.{Add, Remove, Deliver, Show, Compare, Join}
 use Rattle.mld_model.specs.Clone.{Clone, Absent, Asking, Empty, Down, Live, Stored, known_of, with_range}
 use Rattle.mld_model.specs.World.{World, Message, RangeOf, JoinAsk, JoinGive, message_at, clone_at}
 use Rattle.mld_model.specs.Reply.{Reply, Did, NoMessage}
-use Rattle.mld_model.specs.CloneStep.{Answers, Makes, Adds, Removes, Receives, Joins, left_half, Gives, joined_with, Adopts, Takes, Lists, Compares, ComparesWith, Weighs}
+use Rattle.mld_model.specs.CloneStep.{Answers, Makes, Adds, ArePairsOf, Deletes, finds_none, deletes_all, Removes, holds_already, holds_too_many, holds_from_now, Receives, knows_already, accepts, holds_back, Joins, left_half, Gives, asked_itself, is_too_deep, forks, joined_with, Adopts, becomes_live, leaves_it, Takes, Lists, Compares, same_dots, fewer_dots, more_dots, dots_apart, ComparesWith, Weighs}
+use Rattle.mld_model.specs.StateLaws.{IsState, is_absent, is_asking, is_down, if_live}
 use Rattle.schedule_model.specs.Step.{Step}
-use Rattle.schedule_model.specs.Runs.{Stage, Waiting, SetUp, Running, Commands, Acts, Runs}
+use Rattle.schedule_model.specs.Runs.{Stage, Waiting, SetUp, Running, Commands, Acts, says_nothing, commands, Runs}
 use Rattle.mld_model.specs.Sound.{Keeps}
 use Rattle.mld_model.specs.SoundLaws.{place_of_clone}
 use Rattle.mld_model.specs.ReleaseLaws.{releases_known}
 use Rattle.mld_model.specs.KnownLaws.{known_with-old, known_with-new}
 use Rattle.schedule_model.specs.StepSoundLaws.{lists_same, weighs_same}
-use Rattle.schedule_model.specs.Answers.{Remembers, IsAddOf, IsRemoveOf}
+use Rattle.schedule_model.specs.Answers.{Remembers, RemembersAdd, RemembersRemove}
 use Rattle.schedule_model.specs.Laws.{AddRemembers, RemoveRemembers, DidRemembers, StepRemembers, AnswersSurvive}
 
 -- ---- the step that makes an operation
@@ -63,47 +65,55 @@ made_head world number stored held deletes inserts reply next made = ap (λ (w :
 told_dot : (own dot : Dot) (count message : ℕ) → Did dot message ≡ Did own count → own ≡ dot
 told_dot own dot count message told = cc
 
+-- a clone's state tells of no dot
+state_tells_none : (world : World) (answer : Reply) (dot : Dot) (message : ℕ) (next : World) → IsState answer → ¬ Answers world answer (Did dot message) next
+state_tells_none world answer dot message next is_absent p = cc (p.0)
+state_tells_none world answer dot message next is_asking p = cc (p.0)
+state_tells_none world answer dot message next is_down p = cc (p.0)
+
 -- an `add` that tells of a dot made an operation, and its clone remembers it
 adds_remembers : (world : World) (number : ℕ) (triple : Triple) (clone : Clone) (dot : Dot) (message : ℕ) (next : World)
-    → clone_at world number ≡ clone → Adds world number triple clone (Did dot message) next
-    → (operation : Operation) × IsAddOf triple dot operation × (next.history ≡ operation ∷ world.history) × Remembers next number operation
-adds_remembers world number triple Absent dot message next is p = absurd (cc (p.0))
-adds_remembers world number triple Asking dot message next is p = absurd (cc (p.0))
-adds_remembers world number triple Empty dot message next is p = absurd (cc (p.0))
-adds_remembers world number triple (Down stored) dot message next is p = absurd (cc (p.0))
-adds_remembers world number triple (Live stored held) dot message next is p = (
-  own_operation stored p.tick [] (triple ∷ []),
-  record { is = told_dot (dot_at stored.path p.tick) dot _ message p.replies; inserts = refl; deletes = refl },
-  made_head world number stored held [] (triple ∷ []) (Did dot message) next p,
-  makes_remembers world number stored held [] (triple ∷ []) (Did dot message) next is p,
+    → clone_at world number ≡ clone → Adds world number triple clone (Did dot message) next → RemembersAdd world number triple dot next
+adds_remembers world number triple clone dot message next is =
+    if_live (RemembersAdd world number triple dot next) world clone (Did dot message) next
+    (λ stored held. Makes world number stored held [] (triple ∷ []) (Did dot message) next)
+    (λ answer state p. absurd (state_tells_none world answer dot message next state p))
+    (λ stored held live p. (
+      own_operation stored p.tick [] (triple ∷ []),
+      record { is = told_dot (dot_at stored.path p.tick) dot _ message p.replies; inserts = refl; deletes = refl },
+      made_head world number stored held [] (triple ∷ []) (Did dot message) next p,
+      makes_remembers world number stored held [] (triple ∷ []) (Did dot message) next (is ∙ live) p,
+    ))
+
+-- where pairs were deleted that are the triple's, and the answer tells of a dot
+deletes_remembers : (world : World) (number : ℕ) (triple : Triple) (stored : Stored) (held : List Range) (pairs deletes : List Tagged) (dot : Dot) (message : ℕ) (next : World)
+    → clone_at world number ≡ Live stored held → IsMeaning world.history (known_of stored) pairs → ArePairsOf triple pairs deletes
+    → Deletes world number stored held deletes (Did dot message) next → RemembersRemove world number triple dot next
+deletes_remembers world number triple stored held pairs deletes dot message next is meant are (finds_none none p) = absurd (cc (p.0))
+deletes_remembers world number triple stored held pairs deletes dot message next is meant are (deletes_all some p) = (
+  own_operation stored p.tick deletes [],
+  record {
+    is = told_dot (dot_at stored.path p.tick) dot _ message p.replies;
+    inserts = refl;
+    some = some;
+    stored = stored;
+    held = held;
+    live = is;
+    pairs = pairs;
+    meant = meant;
+    deletes = are;
+  },
+  made_head world number stored held deletes [] (Did dot message) next p,
+  makes_remembers world number stored held deletes [] (Did dot message) next is p,
 )
 
--- and so did a `remove`
+-- so did a `remove`
 removes_remembers : (world : World) (number : ℕ) (triple : Triple) (clone : Clone) (dot : Dot) (message : ℕ) (next : World)
-    → clone_at world number ≡ clone → Removes world number triple clone (Did dot message) next
-    → (operation : Operation) × IsRemoveOf world number triple dot operation × (next.history ≡ operation ∷ world.history) × Remembers next number operation
-removes_remembers world number triple Absent dot message next is p = absurd (cc (p.0))
-removes_remembers world number triple Asking dot message next is p = absurd (cc (p.0))
-removes_remembers world number triple Empty dot message next is p = absurd (cc (p.0))
-removes_remembers world number triple (Down stored) dot message next is p = absurd (cc (p.0))
-removes_remembers world number triple (Live stored held) dot message next is (pairs, deletes, meant, are, inl nothing) = absurd (cc (nothing.1.0))
-removes_remembers world number triple (Live stored held) dot message next is (pairs, deletes, meant, are, inr made) =
-    let p : Makes world number stored held deletes [] (Did dot message) next = made.1 in (
-      own_operation stored p.tick deletes [],
-      record {
-        is = told_dot (dot_at stored.path p.tick) dot _ message p.replies;
-        inserts = refl;
-        some = made.0;
-        stored = stored;
-        held = held;
-        live = is;
-        pairs = pairs;
-        meant = meant;
-        deletes = are;
-      },
-      made_head world number stored held deletes [] (Did dot message) next p,
-      makes_remembers world number stored held deletes [] (Did dot message) next is p,
-    )
+    → clone_at world number ≡ clone → Removes world number triple clone (Did dot message) next → RemembersRemove world number triple dot next
+removes_remembers world number triple clone dot message next is =
+    if_live (RemembersRemove world number triple dot next) world clone (Did dot message) next _
+    (λ answer state p. absurd (state_tells_none world answer dot message next state p))
+    (λ stored held live p. deletes_remembers world number triple stored held p.0 p.1 dot message next (is ∙ live) p.2 p.3 p.4)
 
 -- the dot that an `add` tells of is that of an operation which inserts just the triple, and the clone remembers it
 pub add_remembers : AddRemembers
@@ -118,24 +128,24 @@ remove_remembers world number triple dot message next p = removes_remembers worl
 -- a range that comes to a live clone is answered without a dot
 receives_tell_none : (world : World) (number : ℕ) (stored : Stored) (held : List Range) (range : Range) (dot : Dot) (message : ℕ) (next : World)
     → ¬ Receives world number stored held range (Did dot message) next
-receives_tell_none world number stored held range dot message next (inl p) = cc (p.1.0)
-receives_tell_none world number stored held range dot message next (inr (inl p)) = cc (p.replies)
-receives_tell_none world number stored held range dot message next (inr (inr (back, inl p))) = cc (p.1.0)
-receives_tell_none world number stored held range dot message next (inr (inr (back, inr (inl p)))) = cc (p.2.0)
-receives_tell_none world number stored held range dot message next (inr (inr (back, inr (inr p)))) = cc (p.2)
+receives_tell_none world number stored held range dot message next (knows_already known p) = cc (p.0)
+receives_tell_none world number stored held range dot message next (accepts p) = cc (p.replies)
+receives_tell_none world number stored held range dot message next (holds_back back (holds_already has p)) = cc (p.0)
+receives_tell_none world number stored held range dot message next (holds_back back (holds_too_many lacks full p)) = cc (p.0)
+receives_tell_none world number stored held range dot message next (holds_back back (holds_from_now lacks few told is)) = cc told
 
 -- and so is a question for a leaf
 gives_tell_none : (world : World) (number : ℕ) (stored : Stored) (held : List Range) (id : ℕ) (dot : Dot) (message : ℕ) (next : World)
     → ¬ Gives world number stored held id (Did dot message) next
-gives_tell_none world number stored held id dot message next (inl p) = cc (p.1.0)
-gives_tell_none world number stored held id dot message next (inr (inl p)) = cc (p.2.0)
-gives_tell_none world number stored held id dot message next (inr (inr p)) = cc (p.2)
+gives_tell_none world number stored held id dot message next (asked_itself own p) = cc (p.0)
+gives_tell_none world number stored held id dot message next (is_too_deep differs deep p) = cc (p.0)
+gives_tell_none world number stored held id dot message next (forks differs room told is) = cc told
 
 -- a leaf that comes to a clone that asks
 adopts_tell_none : (world : World) (number id : ℕ) (path : List ℕ) (dots : List Range) (dot : Dot) (message : ℕ) (next : World)
     → ¬ Adopts world number id path dots (Did dot message) next
-adopts_tell_none world number id path dots dot message next (inl p) = cc (p.1)
-adopts_tell_none world number id path dots dot message next (inr p) = cc (p.1.0)
+adopts_tell_none world number id path dots dot message next (becomes_live own told is) = cc told
+adopts_tell_none world number id path dots dot message next (leaves_it differs p) = cc (p.0)
 
 -- whatever comes to a clone
 takes_tell_none : (world : World) (number : ℕ) (sent : Message) (clone : Clone) (dot : Dot) (message : ℕ) (next : World)
@@ -158,11 +168,8 @@ delivers_tell_none world number (Some it) dot message next p = takes_tell_none w
 
 -- a `show`
 lists_tell_none : (world : World) (clone : Clone) (dot : Dot) (message : ℕ) (next : World) → ¬ Lists world clone (Did dot message) next
-lists_tell_none world Absent dot message next p = cc (p.0)
-lists_tell_none world Asking dot message next p = cc (p.0)
-lists_tell_none world Empty dot message next p = cc (p.0)
-lists_tell_none world (Down stored) dot message next p = cc (p.0)
-lists_tell_none world (Live stored held) dot message next p = cc (p.2.0)
+lists_tell_none world clone dot message next =
+    if_live ⊥ world clone (Did dot message) next _ (λ answer state. state_tells_none world answer dot message next state) (λ stored held live p. cc (p.2.0))
 
 -- a `join`
 joins_tell_none : (world : World) (number : ℕ) (clone : Clone) (dot : Dot) (message : ℕ) (next : World) → ¬ Joins world number clone (Did dot message) next
@@ -174,24 +181,20 @@ joins_tell_none world number (Live stored held) dot message next p = cc (p.0)
 
 -- and a `compare`
 compares_tell_none : (known other : List Range) (dot : Dot) (message : ℕ) → ¬ Compares known other (Did dot message)
-compares_tell_none known other dot message (inl p) = cc (p.2)
-compares_tell_none known other dot message (inr (inl p)) = cc (p.2)
-compares_tell_none known other dot message (inr (inr (inl p))) = cc (p.2)
-compares_tell_none known other dot message (inr (inr (inr p))) = cc (p.2)
+compares_tell_none known other dot message (same_dots within back told) = cc told
+compares_tell_none known other dot message (fewer_dots within beyond told) = cc told
+compares_tell_none known other dot message (more_dots outside back told) = cc told
+compares_tell_none known other dot message (dots_apart outside beyond told) = cc told
 
 compares_with_tell_none : (world : World) (stored : Stored) (clone : Clone) (dot : Dot) (message : ℕ) (next : World) → ¬ ComparesWith world stored clone (Did dot message) next
-compares_with_tell_none world stored Absent dot message next p = cc (p.0)
-compares_with_tell_none world stored Asking dot message next p = cc (p.0)
-compares_with_tell_none world stored Empty dot message next p = cc (p.0)
-compares_with_tell_none world stored (Down kept) dot message next p = cc (p.0)
-compares_with_tell_none world stored (Live other held) dot message next p = compares_tell_none (known_of stored) (known_of other) dot message p.0
+compares_with_tell_none world stored clone dot message next =
+    if_live ⊥ world clone (Did dot message) next _ (λ answer state. state_tells_none world answer dot message next state)
+    (λ other held live p. compares_tell_none (known_of stored) (known_of other) dot message p.0)
 
 weighs_tell_none : (world : World) (clone other : Clone) (dot : Dot) (message : ℕ) (next : World) → ¬ Weighs world clone other (Did dot message) next
-weighs_tell_none world Absent other dot message next p = cc (p.0)
-weighs_tell_none world Asking other dot message next p = cc (p.0)
-weighs_tell_none world Empty other dot message next p = cc (p.0)
-weighs_tell_none world (Down stored) other dot message next p = cc (p.0)
-weighs_tell_none world (Live stored held) other dot message next p = compares_with_tell_none world stored other dot message next p
+weighs_tell_none world clone other dot message next =
+    if_live ⊥ world clone (Did dot message) next _ (λ answer state. state_tells_none world answer dot message next state)
+    (λ stored held live. compares_with_tell_none world stored other dot message next)
 
 -- the dot that a command tells of is that of an operation which its step put at the head of the history, and its clone
 -- remembers it
@@ -257,42 +260,42 @@ makes_keeps world number operation maker stored held deletes inserts reply next 
 -- what is remembered stays so at an `add`
 adds_keep : (world : World) (number : ℕ) (operation : Operation) (maker : ℕ) (triple : Triple) (clone : Clone) (reply : Reply) (next : World)
     → Remembers world number operation → clone_at world maker ≡ clone → Adds world maker triple clone reply next → Remembers next number operation
-adds_keep world number operation maker triple Absent reply next remembers is p = same_remembers world next number operation remembers p.1
-adds_keep world number operation maker triple Asking reply next remembers is p = same_remembers world next number operation remembers p.1
-adds_keep world number operation maker triple Empty reply next remembers is p = same_remembers world next number operation remembers p.1
-adds_keep world number operation maker triple (Down stored) reply next remembers is p = same_remembers world next number operation remembers p.1
-adds_keep world number operation maker triple (Live stored held) reply next remembers is p =
-    makes_keeps world number operation maker stored held [] (triple ∷ []) reply next remembers is p
+adds_keep world number operation maker triple clone reply next remembers is =
+    if_live (Remembers next number operation) world clone reply next _ (λ answer state p. same_remembers world next number operation remembers p.1)
+    (λ stored held live p. makes_keeps world number operation maker stored held [] (triple ∷ []) reply next remembers (is ∙ live) p)
+
+-- where pairs are deleted
+deletes_keep : (world : World) (number : ℕ) (operation : Operation) (maker : ℕ) (stored : Stored) (held : List Range) (deletes : List Tagged) (reply : Reply) (next : World)
+    → Remembers world number operation → clone_at world maker ≡ Live stored held
+    → Deletes world maker stored held deletes reply next → Remembers next number operation
+deletes_keep world number operation maker stored held deletes reply next remembers is (finds_none none p) = same_remembers world next number operation remembers p.1
+deletes_keep world number operation maker stored held deletes reply next remembers is (deletes_all some p) =
+    makes_keeps world number operation maker stored held deletes [] reply next remembers is p
 
 -- at a `remove`
 removes_keep : (world : World) (number : ℕ) (operation : Operation) (maker : ℕ) (triple : Triple) (clone : Clone) (reply : Reply) (next : World)
     → Remembers world number operation → clone_at world maker ≡ clone → Removes world maker triple clone reply next → Remembers next number operation
-removes_keep world number operation maker triple Absent reply next remembers is p = same_remembers world next number operation remembers p.1
-removes_keep world number operation maker triple Asking reply next remembers is p = same_remembers world next number operation remembers p.1
-removes_keep world number operation maker triple Empty reply next remembers is p = same_remembers world next number operation remembers p.1
-removes_keep world number operation maker triple (Down stored) reply next remembers is p = same_remembers world next number operation remembers p.1
-removes_keep world number operation maker triple (Live stored held) reply next remembers is (pairs, deletes, meant, are, inl nothing) =
-    same_remembers world next number operation remembers nothing.1.1
-removes_keep world number operation maker triple (Live stored held) reply next remembers is (pairs, deletes, meant, are, inr made) =
-    makes_keeps world number operation maker stored held deletes [] reply next remembers is made.1
+removes_keep world number operation maker triple clone reply next remembers is =
+    if_live (Remembers next number operation) world clone reply next _ (λ answer state p. same_remembers world next number operation remembers p.1)
+    (λ stored held live p. deletes_keep world number operation maker stored held p.1 reply next remembers (is ∙ live) p.4)
 
 -- where a range comes to a live clone
 receives_keep : (world : World) (number : ℕ) (operation : Operation) (taker : ℕ) (stored : Stored) (held : List Range) (range : Range) (reply : Reply) (next : World)
     → Remembers world number operation → clone_at world taker ≡ Live stored held
     → Receives world taker stored held range reply next → Remembers next number operation
-receives_keep world number operation taker stored held range reply next remembers is (inl p) = same_remembers world next number operation remembers p.1.1
-receives_keep world number operation taker stored held range reply next remembers is (inr (inl p)) =
+receives_keep world number operation taker stored held range reply next remembers is (knows_already known p) = same_remembers world next number operation remembers p.1
+receives_keep world number operation taker stored held range reply next remembers is (accepts p) =
     grown_remembers world next number operation taker stored p.after held p.left remembers is
     (ap (λ (w : World). w.clones) p.changes)
     (λ dot known. releases_known world.history (with_range stored range) held p.taken p.after p.left p.releases dot (known_with-old stored range dot known))
     (λ other stands. subst (λ (w : World). Has w.history other) (sym p.changes) stands)
-receives_keep world number operation taker stored held range reply next remembers is (inr (inr (back, inl p))) = same_remembers world next number operation remembers p.1.1
-receives_keep world number operation taker stored held range reply next remembers is (inr (inr (back, inr (inl p)))) = same_remembers world next number operation remembers p.2.1
-receives_keep world number operation taker stored held range reply next remembers is (inr (inr (back, inr (inr p)))) =
+receives_keep world number operation taker stored held range reply next remembers is (holds_back back (holds_already has p)) = same_remembers world next number operation remembers p.1
+receives_keep world number operation taker stored held range reply next remembers is (holds_back back (holds_too_many lacks full p)) = same_remembers world next number operation remembers p.1
+receives_keep world number operation taker stored held range reply next remembers is (holds_back back (holds_from_now lacks few told same)) =
     grown_remembers world next number operation taker stored stored held (held ++ range ∷ []) remembers is
-    (ap (λ (w : World). w.clones) p.3)
+    (ap (λ (w : World). w.clones) same)
     (λ dot known. known)
-    (λ other stands. subst (λ (w : World). Has w.history other) (sym p.3) stands)
+    (λ other stands. subst (λ (w : World). Has w.history other) (sym same) stands)
 
 -- a world where a clone that kept nothing has become something else, and whose history is the same, remembers what it did
 woken_remembers : (world next : World) (number : ℕ) (operation : Operation) (waker : ℕ) (now : Clone)
@@ -326,22 +329,22 @@ joins_keep world number operation asker (Live stored held) reply next remembers 
 gives_keep : (world : World) (number : ℕ) (operation : Operation) (giver : ℕ) (stored : Stored) (held : List Range) (id : ℕ) (reply : Reply) (next : World)
     → Remembers world number operation → clone_at world giver ≡ Live stored held
     → Gives world giver stored held id reply next → Remembers next number operation
-gives_keep world number operation giver stored held id reply next remembers is (inl p) = same_remembers world next number operation remembers p.1.1
-gives_keep world number operation giver stored held id reply next remembers is (inr (inl p)) = same_remembers world next number operation remembers p.2.1
-gives_keep world number operation giver stored held id reply next remembers is (inr (inr p)) =
+gives_keep world number operation giver stored held id reply next remembers is (asked_itself own p) = same_remembers world next number operation remembers p.1
+gives_keep world number operation giver stored held id reply next remembers is (is_too_deep differs deep p) = same_remembers world next number operation remembers p.1
+gives_keep world number operation giver stored held id reply next remembers is (forks differs room told same) =
     grown_remembers world next number operation giver stored (left_half stored) held held remembers is
-    (ap (λ (w : World). w.clones) p.3)
+    (ap (λ (w : World). w.clones) same)
     (λ dot known. known)
-    (λ other stands. subst (λ (w : World). Has w.history other) (sym p.3) stands)
+    (λ other stands. subst (λ (w : World). Has w.history other) (sym same) stands)
 
 -- where a leaf comes to a clone that asks
 adopts_keep : (world : World) (number : ℕ) (operation : Operation) (taker id : ℕ) (path : List ℕ) (dots : List Range) (reply : Reply) (next : World)
     → Remembers world number operation → clone_at world taker ≡ Asking
     → Adopts world taker id path dots reply next → Remembers next number operation
-adopts_keep world number operation taker id path dots reply next remembers is (inl p) =
+adopts_keep world number operation taker id path dots reply next remembers is (becomes_live own told same) =
     woken_remembers world next number operation taker (Live (joined_with path dots) []) remembers (λ stored. subst (λ (clone : Clone). ¬ Keeps clone stored) (sym is) (λ h. h))
-    (ap (λ (w : World). w.clones) p.2) (ap (λ (w : World). w.history) p.2)
-adopts_keep world number operation taker id path dots reply next remembers is (inr p) = same_remembers world next number operation remembers p.1.1
+    (ap (λ (w : World). w.clones) same) (ap (λ (w : World). w.history) same)
+adopts_keep world number operation taker id path dots reply next remembers is (leaves_it differs p) = same_remembers world next number operation remembers p.1
 
 -- where a message comes to a clone
 takes_keep : (world : World) (number : ℕ) (operation : Operation) (taker : ℕ) (message : Message) (clone : Clone) (reply : Reply) (next : World)
@@ -404,11 +407,11 @@ commands_keep world number operation line text next remembers p =
 -- and so does each line
 acts_keep : (stage : Stage) (number : ℕ) (operation : Operation) (line text : List ℕ) (next : Stage)
     → StageRemembers stage number operation → Acts stage line text next → StageRemembers next number operation
+acts_keep stage number operation line text next remembers (says_nothing nothing none same) =
+    subst (λ (stage : Stage). StageRemembers stage number operation) (sym same) remembers
 acts_keep Waiting number operation line text next remembers p = absurd remembers
 acts_keep (SetUp setup) number operation line text next remembers p = absurd remembers
-acts_keep (Running world) number operation line text next remembers (inl p) =
-    subst (λ (stage : Stage). StageRemembers stage number operation) (sym p.2) remembers
-acts_keep (Running world) number operation line text next remembers (inr p) = commands_keep world number operation line text next remembers p
+acts_keep (Running world) number operation line text next remembers (commands p) = commands_keep world number operation line text next remembers p
 
 -- and so do lines
 lines_keep : (stage : Stage) (number : ℕ) (operation : Operation) (lines : List (List ℕ)) (text : List ℕ) (next : Stage)

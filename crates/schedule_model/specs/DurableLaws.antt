@@ -1,6 +1,6 @@
 -- The durable steps of a command lead to the next world.
 use Rattle.std.specs.Prelude.{◌≡◌, ◌≢◌, ℕ, ◌<◌, List, [], ◌∷◌, ◌++◌, ◌+◌, Option, Some, None, MatchOption, map, length}
-use Rattle.std.proofs.Common.{refl, sym, ◌∙◌, ap, arith, inl, inr, subst, get_or, set, append-nil, append_assoc}
+use Rattle.std.proofs.Common.{refl, sym, ◌∙◌, ap, arith, subst, get_or, set, append-nil, append_assoc}
 use Rattle.std.proofs.lemmas.List.{get_or-set_same, get_or-set_other}
 use Rattle.rdf_terms.specs.declared.terms.Triple.{Triple}
 use Rattle.tree_clock.specs.declared.dots.Range.{Range}
@@ -11,7 +11,9 @@ use Rattle.schedule_model.specs.declared.Command.TheVariants.{Add, Remove, Deliv
 use Rattle.mld_model.specs.Clone.{Clone, Absent, Asking, Empty, Down, Live, Stored, known_of, with_range, Releases}
 use Rattle.mld_model.specs.World.{World, Message, RangeOf, JoinAsk, JoinGive, message_at, clone_count, clone_at}
 use Rattle.mld_model.specs.Reply.{Reply, Did, Took, Answer, Joined, NoMessage, Ignored, IsAbsent, IsDown}
-use Rattle.mld_model.specs.CloneStep.{Answers, Makes, Adds, Removes, Accepts, HoldsBack, Receives, Joins, left_half, Gives, joined_with, Adopts, Takes, Lists, ComparesWith, Weighs}
+use Rattle.mld_model.specs.CloneStep.{Answers, Makes, Adds, Deletes, finds_none, deletes_all, Removes, Accepts, HoldsBack, holds_already, holds_too_many, holds_from_now, Receives, knows_already, accepts, holds_back, Joins, left_half, Gives, asked_itself, is_too_deep, forks, joined_with, Adopts, becomes_live, leaves_it, Takes}
+use Rattle.mld_model.specs.StateLaws.{IsState, is_absent, is_asking, is_down, if_live}
+use Rattle.schedule_model.specs.StepSoundLaws.{lists_same, weighs_same}
 use Rattle.mld_model.specs.Durable.{DurableStep, AppendsMade, AppendsTaken, kept_of, kept_after, history_after}
 use Rattle.schedule_model.specs.Step.{Step, clone_of}
 use Rattle.schedule_model.specs.DurableSteps.{MakesDurably, taking_steps, giving_steps, joining_steps, message_steps, DurableSteps, LeadsDurably, DurableStepsLead, OneDurableList}
@@ -99,26 +101,32 @@ makes_leads world number stored held deletes inserts reply next inside is p =
       changed_leads world next number steps (Live stored held) _ inside is (ap (λ (w : World). w.clones) p.changes) refl (sym joined),
     )
 
+-- a clone's state has none
+state_leads : (world next : World) (number : ℕ) (answer reply : Reply) → IsState answer → Answers world answer reply next → MakesAndLeads world number reply next
+state_leads world next number answer reply is_absent p = unmade_leads world next number _ reply refl p
+state_leads world next number answer reply is_asking p = unmade_leads world next number _ reply refl p
+state_leads world next number answer reply is_down p = unmade_leads world next number _ reply refl p
+
 -- an `add` has such steps
 adds_lead : (world : World) (number : ℕ) (triple : Triple) (clone : Clone) (reply : Reply) (next : World)
     → number < length world.clones → clone_at world number ≡ clone → Adds world number triple clone reply next → MakesAndLeads world number reply next
-adds_lead world number triple Absent reply next inside is p = unmade_leads world next number _ reply refl p
-adds_lead world number triple Asking reply next inside is p = unmade_leads world next number _ reply refl p
-adds_lead world number triple Empty reply next inside is p = unmade_leads world next number _ reply refl p
-adds_lead world number triple (Down stored) reply next inside is p = unmade_leads world next number _ reply refl p
-adds_lead world number triple (Live stored held) reply next inside is p = makes_leads world number stored held [] (triple ∷ []) reply next inside is p
+adds_lead world number triple clone reply next inside is =
+    if_live (MakesAndLeads world number reply next) world clone reply next _ (λ answer state. state_leads world next number answer reply state)
+    (λ stored held live. makes_leads world number stored held [] (triple ∷ []) reply next inside (is ∙ live))
+
+-- so has the deletion of pairs
+deletes_lead : (world : World) (number : ℕ) (stored : Stored) (held : List Range) (deletes : List Tagged) (reply : Reply) (next : World)
+    → number < length world.clones → clone_at world number ≡ Live stored held
+    → Deletes world number stored held deletes reply next → MakesAndLeads world number reply next
+deletes_lead world number stored held deletes reply next inside is (finds_none none p) = unmade_leads world next number _ reply refl p
+deletes_lead world number stored held deletes reply next inside is (deletes_all some p) = makes_leads world number stored held deletes [] reply next inside is p
 
 -- and so has a `remove`
 removes_lead : (world : World) (number : ℕ) (triple : Triple) (clone : Clone) (reply : Reply) (next : World)
     → number < length world.clones → clone_at world number ≡ clone → Removes world number triple clone reply next → MakesAndLeads world number reply next
-removes_lead world number triple Absent reply next inside is p = unmade_leads world next number _ reply refl p
-removes_lead world number triple Asking reply next inside is p = unmade_leads world next number _ reply refl p
-removes_lead world number triple Empty reply next inside is p = unmade_leads world next number _ reply refl p
-removes_lead world number triple (Down stored) reply next inside is p = unmade_leads world next number _ reply refl p
-removes_lead world number triple (Live stored held) reply next inside is (pairs, deletes, meant, are, inl nothing) =
-    unmade_leads world next number _ reply refl nothing.1
-removes_lead world number triple (Live stored held) reply next inside is (pairs, deletes, meant, are, inr made) =
-    makes_leads world number stored held deletes [] reply next inside is made.1
+removes_lead world number triple clone reply next inside is =
+    if_live (MakesAndLeads world number reply next) world clone reply next _ (λ answer state. state_leads world next number answer reply state)
+    (λ stored held live p. deletes_lead world number stored held p.1 reply next inside (is ∙ live) p.4)
 
 -- ---- messages
 
@@ -136,41 +144,41 @@ accepts_lead world number stored held range reply next inside is p =
 holds_lead : (world : World) (number : ℕ) (stored : Stored) (held : List Range) (range : Range) (reply : Reply) (next : World)
     → number < length world.clones → clone_at world number ≡ Live stored held
     → HoldsBack world number stored held range reply next → Leads world number (taking_steps reply) next
-holds_lead world number stored held range reply next inside is (inl p) = answered_leads world next number taking_steps _ reply refl p.1
-holds_lead world number stored held range reply next inside is (inr (inl p)) = answered_leads world next number taking_steps _ reply refl p.2
-holds_lead world number stored held range reply next inside is (inr (inr p)) =
-    subst (λ (r : Reply). Leads world number (taking_steps r) next) (sym p.2)
-    (changed_leads world next number [] (Live stored held) (Live stored (held ++ range ∷ [])) inside is (ap (λ (w : World). w.clones) p.3)
-    refl (ap (λ (w : World). w.history) (sym p.3)))
+holds_lead world number stored held range reply next inside is (holds_already has p) = answered_leads world next number taking_steps _ reply refl p
+holds_lead world number stored held range reply next inside is (holds_too_many lacks full p) = answered_leads world next number taking_steps _ reply refl p
+holds_lead world number stored held range reply next inside is (holds_from_now lacks few told same) =
+    subst (λ (r : Reply). Leads world number (taking_steps r) next) (sym told)
+    (changed_leads world next number [] (Live stored held) (Live stored (held ++ range ∷ [])) inside is (ap (λ (w : World). w.clones) same)
+    refl (ap (λ (w : World). w.history) (sym same)))
 
 -- so a range that comes to a live clone leads there by the appends of what is taken
 receives_lead : (world : World) (number : ℕ) (stored : Stored) (held : List Range) (range : Range) (reply : Reply) (next : World)
     → number < length world.clones → clone_at world number ≡ Live stored held
     → Receives world number stored held range reply next → Leads world number (taking_steps reply) next
-receives_lead world number stored held range reply next inside is (inl p) = answered_leads world next number taking_steps _ reply refl p.1
-receives_lead world number stored held range reply next inside is (inr (inl p)) = accepts_lead world number stored held range reply next inside is p
-receives_lead world number stored held range reply next inside is (inr (inr p)) = holds_lead world number stored held range reply next inside is p.1
+receives_lead world number stored held range reply next inside is (knows_already known p) = answered_leads world next number taking_steps _ reply refl p
+receives_lead world number stored held range reply next inside is (accepts p) = accepts_lead world number stored held range reply next inside is p
+receives_lead world number stored held range reply next inside is (holds_back back p) = holds_lead world number stored held range reply next inside is p
 
 -- a live clone that is asked for a leaf leads there by the append of the fork, if it forks
 gives_lead : (world : World) (number : ℕ) (stored : Stored) (held : List Range) (id : ℕ) (reply : Reply) (next : World)
     → number < length world.clones → clone_at world number ≡ Live stored held
     → Gives world number stored held id reply next → Leads world number (giving_steps reply) next
-gives_lead world number stored held id reply next inside is (inl p) = answered_leads world next number giving_steps _ reply refl p.1
-gives_lead world number stored held id reply next inside is (inr (inl p)) = answered_leads world next number giving_steps _ reply refl p.2
-gives_lead world number stored held id reply next inside is (inr (inr p)) =
-    subst (λ (r : Reply). Leads world number (giving_steps r) next) (sym p.2)
+gives_lead world number stored held id reply next inside is (asked_itself own p) = answered_leads world next number giving_steps _ reply refl p
+gives_lead world number stored held id reply next inside is (is_too_deep differs deep p) = answered_leads world next number giving_steps _ reply refl p
+gives_lead world number stored held id reply next inside is (forks differs room told same) =
+    subst (λ (r : Reply). Leads world number (giving_steps r) next) (sym told)
     (changed_leads world next number (giving_steps (Answer ((length world.messages + 1) ∷ []))) (Live stored held) (Live (left_half stored) held) inside is
-    (ap (λ (w : World). w.clones) p.3) refl (ap (λ (w : World). w.history) (sym p.3)))
+    (ap (λ (w : World). w.clones) same) refl (ap (λ (w : World). w.history) (sym same)))
 
 -- one who asks and takes a leaf leads there by creating what it keeps
 adopts_lead : (world : World) (number id : ℕ) (path : List ℕ) (dots : List Range) (reply : Reply) (next : World)
     → number < length world.clones → clone_at world number ≡ Asking
     → Adopts world number id path dots reply next → Leads world number (joining_steps path dots reply) next
-adopts_lead world number id path dots reply next inside is (inl p) =
-    subst (λ (r : Reply). Leads world number (joining_steps path dots r) next) (sym p.1)
+adopts_lead world number id path dots reply next inside is (becomes_live own told same) =
+    subst (λ (r : Reply). Leads world number (joining_steps path dots r) next) (sym told)
     (changed_leads world next number (joining_steps path dots (Joined path)) Asking (Live (joined_with path dots) []) inside is
-    (ap (λ (w : World). w.clones) p.2) refl (ap (λ (w : World). w.history) (sym p.2)))
-adopts_lead world number id path dots reply next inside is (inr p) = answered_leads world next number (joining_steps path dots) _ reply refl p.1
+    (ap (λ (w : World). w.clones) same) refl (ap (λ (w : World). w.history) (sym same)))
+adopts_lead world number id path dots reply next inside is (leaves_it differs p) = answered_leads world next number (joining_steps path dots) _ reply refl p
 
 -- an answer that has no steps for any kind of message has none for this one
 quiet : (message : Message) (answer : Reply) → taking_steps answer ≡ [] → giving_steps answer ≡ []
@@ -211,7 +219,7 @@ delivers_lead world number None reply next inside p = ([], refl, same_leads worl
 delivers_lead world number (Some message) reply next inside p =
     (message_steps message reply, refl, takes_lead world number message (clone_at world number) reply next inside refl p)
 
--- ---- asking, and looking
+-- ---- asking
 
 -- a clone that asks for a leaf leads there by none
 joins_lead : (world : World) (number : ℕ) (clone : Clone) (reply : Reply) (next : World)
@@ -223,32 +231,6 @@ joins_lead world number Asking reply next inside is p =
 joins_lead world number Empty reply next inside is p = same_leads world next number p.1
 joins_lead world number (Down stored) reply next inside is p = same_leads world next number p.1
 joins_lead world number (Live stored held) reply next inside is p = same_leads world next number p.1
-
--- a `show` leaves the world as it was
-lists_lead : (world : World) (number : ℕ) (clone : Clone) (reply : Reply) (next : World) → Lists world clone reply next → Leads world number [] next
-lists_lead world number (Live stored held) reply next p = same_leads world next number p.2.1
-lists_lead world number Absent reply next p = same_leads world next number p.1
-lists_lead world number Asking reply next p = same_leads world next number p.1
-lists_lead world number Empty reply next p = same_leads world next number p.1
-lists_lead world number (Down stored) reply next p = same_leads world next number p.1
-
--- and so does a `compare` at a live clone
-compares_lead : (world : World) (number : ℕ) (stored : Stored) (clone : Clone) (reply : Reply) (next : World)
-    → ComparesWith world stored clone reply next → Leads world number [] next
-compares_lead world number stored Absent reply next p = same_leads world next number p.1
-compares_lead world number stored Asking reply next p = same_leads world next number p.1
-compares_lead world number stored Empty reply next p = same_leads world next number p.1
-compares_lead world number stored (Down other) reply next p = same_leads world next number p.1
-compares_lead world number stored (Live other held) reply next p = same_leads world next number p.1
-
--- whatever the states of its clones are
-weighs_lead : (world : World) (number : ℕ) (clone other : Clone) (reply : Reply) (next : World)
-    → Weighs world clone other reply next → Leads world number [] next
-weighs_lead world number Absent other reply next p = same_leads world next number p.1
-weighs_lead world number Asking other reply next p = same_leads world next number p.1
-weighs_lead world number Empty other reply next p = same_leads world next number p.1
-weighs_lead world number (Down stored) other reply next p = same_leads world next number p.1
-weighs_lead world number (Live stored held) other reply next p = compares_lead world number stored other reply next p
 
 -- ---- the laws
 
@@ -275,11 +257,11 @@ durable_steps_lead world (Deliver message number) reply next small count p =
     let given = delivers_lead world number (message_at world message) reply next (place_of world number small count) p in
     leads_durably world (Deliver message number) reply next given.0 given.1 given.2
 durable_steps_lead world (Show number) reply next small count p =
-    leads_durably world (Show number) reply next [] refl (lists_lead world number (clone_at world number) reply next p)
+    leads_durably world (Show number) reply next [] refl (same_leads world next number (lists_same world (clone_at world number) reply next p))
 durable_steps_lead world (Join number) reply next small count p =
     leads_durably world (Join number) reply next [] refl (joins_lead world number (clone_at world number) reply next (place_of world number small count) refl p)
 durable_steps_lead world (Compare number other) reply next small count p =
-    leads_durably world (Compare number other) reply next [] refl (weighs_lead world number (clone_at world number) (clone_at world other) reply next p)
+    leads_durably world (Compare number other) reply next [] refl (same_leads world next number (weighs_same world (clone_at world number) (clone_at world other) reply next p))
 
 -- one operation joined the history
 one_operation : (history next : List Operation) (operation other : Operation) → next ≡ operation ∷ history → next ≡ other ∷ history → operation ≡ other

@@ -1,5 +1,5 @@
 -- A running world where a clone asks for a leaf, or gives one, or takes one, stands for what the model's step makes.
-use Rattle.std.proofs.Common.{◌≡◌, ◌≢◌, ℕ, zero, suc, ◌+◌, ◌<◌, ◌≤◌, List, [], ◌∷◌, ◌++◌, inl, inr, refl, sym, ◌∙◌, ap, arith, subst, length, set, Some, append-nil}
+use Rattle.std.proofs.Common.{◌≡◌, ◌≢◌, ℕ, zero, suc, ◌+◌, ◌<◌, ◌≤◌, List, [], ◌∷◌, ◌++◌, refl, sym, ◌∙◌, ap, arith, subst, length, set, Some, append-nil}
 use Rattle.std.specs.Prelude.{slice_get}
 use Rattle.std.proofs.lemmas.List.{length-set}
 use Rattle.tree_clock.specs.Limits.{path_limit}
@@ -15,7 +15,7 @@ use Rattle.mld_model.specs.declared.CloneState.TheVariants as states
 use Rattle.mld_model.specs.Clone.{Clone, Absent, Asking, Empty, Down, Live, Stored, known_of}
 use Rattle.mld_model.specs.World.{World, Message, RangeOf, JoinAsk, JoinGive, message_at, clone_at, clone_count, with_clone}
 use Rattle.schedule_model.specs.Step.{Step}
-use Rattle.mld_model.specs.CloneStep.{Joins, Takes, after_asking, after_fork, left_half, joined_with}
+use Rattle.mld_model.specs.CloneStep.{Joins, asked_itself, is_too_deep, forks, becomes_live, leaves_it, Takes, after_asking, after_fork, left_half, joined_with}
 use Rattle.mld_model.specs.Reply.{Sent, Answer, Joined, Deep, Ignored, IsDown, IsLive}
 use Rattle.mld_model.specs.Sound.{Keeps, IsSound}
 use Rattle.mld_model.specs.Local.{LocalAsker, LocalClone, CloneValue, LocallyForks, joined_clone}
@@ -166,7 +166,7 @@ deliver_ask_own running world stands sound message number id live told is own =
     let at : LiveAt world number live.local = live_at running world stands number live is in
     let same : s.number ≡ number = number_of_id s.number number (sound.messages (JoinAsk s.number) s.stands) (place_of_state running world stands number (states.Live live) is) (sym s.is ∙ own ∙ at.is.id) in
     taking_follows (stepped running) world world message number (JoinAsk s.number) (Live (kept_by live.local at.base at.journal) at.held) Ignored s.at at.live
-    (inl (same, (refl, refl))) sound (stepped_stands running world stands)
+    (asked_itself same (refl, refl)) sound (stepped_stands running world stands)
 
 -- the numbers of two clones differ where their ids do
 others_ask : (world : World) (number asked : ℕ) (id : List ℕ) (live : LocalClone) → IsCloneOf world number live → id ≡ id_of asked → id ≢ live.id → asked ≢ number
@@ -180,13 +180,13 @@ deliver_deep running world stands sound message number id live told is differs d
     let s : SentAsk world id message = sent_ask running world stands message id told in
     let at : LiveAt world number live.local = live_at running world stands number live is in
     taking_follows (stepped running) world world message number (JoinAsk s.number) (Live (kept_by live.local at.base at.journal) at.held) Deep s.at at.live
-    (inr (inl (others_ask world number s.number id live.local at.is s.is differs, deep, (refl, refl)))) sound (stepped_stands running world stands)
+    (is_too_deep (others_ask world number s.number id live.local at.is s.is differs) deep (refl, refl)) sound (stepped_stands running world stands)
 
 -- the leaf that a clone gives stands for the one that the model's clone gives
 give_stands : (world : World) (asked : ℕ) (id : List ℕ) (live new : LocalClone) (give : GiveValue) (stored : Stored) (held : List Range) → LocallyForks live id new give
     → id ≡ id_of asked → LocalStandsFor world.history live stored held → GiveStandsFor world.history give asked (stored.path ++ one_letter ∷ []) (known_of stored)
-give_stands world asked id live new give stored held forks is stands =
-    subst (λ (g : GiveValue). GiveStandsFor world.history g asked (stored.path ++ one_letter ∷ []) (known_of stored)) (sym forks.right) (record {
+give_stands world asked id live new give stored held gives is stands =
+    subst (λ (g : GiveValue). GiveStandsFor world.history g asked (stored.path ++ one_letter ∷ []) (known_of stored)) (sym gives.right) (record {
       id = is;
       leaf = ap (λ path. path ++ one_letter ∷ []) stands.kept.path;
       snapshot = record { known = stands.known; pairs = stands.pairs };
@@ -197,7 +197,7 @@ pub deliver_ask : (running : RunningWorld) (world : World) → StandsFor running
     → sent_message running message ≡ Some (CarriesAsk id) → slice_get running.clones number ≡ Some (states.Live live) → id ≢ live.local.id
     → LocallyForks live.local id new.local give
     → Follows world (Deliver message number) (Answer ((length running.messages + 1) ∷ [])) (stepped_telling running number (states.Live new) (CarriesGive give))
-deliver_ask running world stands sound message number id live new give told is differs forks =
+deliver_ask running world stands sound message number id live new give told is differs gives =
     let s : SentAsk world id message = sent_ask running world stands message id told in
     let at : LiveAt world number live.local = live_at running world stands number live is in
     let stored : Stored = kept_by live.local at.base at.journal in
@@ -211,11 +211,11 @@ deliver_ask running world stands sound message number id live new give told is d
     } in
     taking_follows (stepped_telling running number (states.Live new) (CarriesGive give)) world (after_fork world number stored at.held s.number) message number
     (JoinAsk s.number) (Live stored at.held) (Answer ((length running.messages + 1) ∷ [])) s.at at.live
-    (inr (inr (others_ask world number s.number id live.local at.is s.is differs, forks.room, ap (λ n. Answer ((n + 1) ∷ [])) (sent_count running world stands), refl)))
+    (forks (others_ask world number s.number id live.local at.is s.is differs) gives.room (ap (λ n. Answer ((n + 1) ∷ [])) (sent_count running world stands)) refl)
     (forked_sound world number stored at.held s.number sound at.live (sound.messages (JoinAsk s.number) s.stands))
     (telling_stands running world stands sound number (states.Live new) (Live (left_half stored) at.held) (CarriesGive give) (JoinGive s.number (stored.path ++ one_letter ∷ []) (known_of stored))
-    (subst (λ (c : LocalClone). IsCloneOf world number c × LocalStandsFor world.history c (left_half stored) at.held) (sym forks.left) (of, now))
-    (give_stands world s.number id live.local new.local give stored at.held forks s.is at.stands)
+    (subst (λ (c : LocalClone). IsCloneOf world number c × LocalStandsFor world.history c (left_half stored) at.held) (sym gives.left) (of, now))
+    (give_stands world s.number id live.local new.local give stored at.held gives s.is at.stands)
     (one_tick_forked world number stored at.held stands.one_tick at.live) (λ range same. cc))
 
 -- ---- a leaf comes
@@ -281,7 +281,7 @@ deliver_joined running world stands sound message number give asker new told is 
     let mine : slice_get world.messages place.0 ≡ Some (JoinGive number s.path s.dots) = place.1 ∙ ap (λ (n : ℕ). Some (JoinGive n s.path s.dots)) same in
     taking_follows (stepped_with running number new) world (with_clone world number (Live (joined_with s.path s.dots) [])) message number
     (JoinGive s.number s.path s.dots) Asking (Joined give.path) s.at at.asking
-    (inl (same, ap (λ (path : List ℕ). Joined path) s.is.leaf, refl))
+    (becomes_live same (ap (λ (path : List ℕ). Joined path) s.is.leaf) refl)
     (joined_sound world number place.0 s.path s.dots sound at.asking mine)
     (changed_stands running world stands sound number new (joined_with s.path s.dots) []
     (subst (λ (c : LocalClone). IsCloneOf world number c) (sym joins) (record { id = at.is.id; domain = at.is.domain; properties = at.is.properties }))
@@ -292,7 +292,7 @@ deliver_joined running world stands sound message number give asker new told is 
 -- what one who asks does with a message that gives it no leaf
 passed_over : (world : World) (number : ℕ) (asker : LocalAsker) (what : MessageValue) (other : Message) → IsAskerOf world number asker
     → ((give : GiveValue) → what ≡ CarriesGive give → give.id ≢ asker.id) → MessageStandsFor world.history what other → Takes world number other Asking Ignored world
-passed_over world number asker (CarriesGive give) (JoinGive id path dots) is none relates = inr ((λ same. none give refl (relates.id ∙ ap id_of same ∙ sym is.id)), (refl, refl))
+passed_over world number asker (CarriesGive give) (JoinGive id path dots) is none relates = leaves_it (λ same. none give refl (relates.id ∙ ap id_of same ∙ sym is.id)) (refl, refl)
 passed_over world number asker (CarriesEntry entry) (RangeOf range) is none relates = (refl, refl)
 passed_over world number asker (CarriesAsk id) (JoinAsk asked) is none relates = (refl, refl)
 passed_over world number asker what other is none relates = absurd relates

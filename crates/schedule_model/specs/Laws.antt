@@ -1,5 +1,5 @@
 -- The laws of schedules and of the worlds that they reach, as the contracts of the crate state them.
-use Rattle.std.specs.Prelude.{◌≡◌, ℕ, List, ◌∷◌, IsTrue}
+use Rattle.std.specs.Prelude.{◌≡◌, ℕ, List, IsTrue}
 use Rattle.rdf_terms.specs.declared.terms.Triple.{Triple}
 use Rattle.tree_clock.specs.declared.dots.Dot.{Dot}
 use Rattle.tree_clock.specs.declared.dots.Range.{Range}
@@ -14,7 +14,7 @@ use Rattle.mld_model.specs.Reply.{Reply, Did}
 use Rattle.schedule_model.specs.Step.{HasCloneNumbers, clone_of, Step}
 use Rattle.mld_model.specs.Sound.{IsSound}
 use Rattle.schedule_model.specs.Schedule.{IsNothing, is_unbuilt, Setup, SpellsSetup, SpellsCommand}
-use Rattle.schedule_model.specs.Answers.{Remembers, IsAddOf, IsRemoveOf, Survives}
+use Rattle.schedule_model.specs.Answers.{Remembers, RemembersAdd, RemembersRemove, Survives}
 use Rattle.schedule_model.specs.Promises.{AnswersHold, LeavesDiffer, KeepsPromises}
 use Rattle.schedule_model.specs.Runs.{Stage, Waiting, IsWorldOf, Acts, Runs, IsBad, IsUnbuilt, Outcome, Verdict}
 
@@ -89,15 +89,13 @@ SamePairs = (history : List Operation) (known other : List Range) (pairs others 
 -- the head of the history, and its clone remembers it
 abbrev pub AddRemembers : Type 0
 AddRemembers = (world : World) (number : ℕ) (triple : Triple) (dot : Dot) (message : ℕ) (next : World)
-    → Step world (Add number triple) (Did dot message) next
-    → (operation : Operation) × IsAddOf triple dot operation × (next.history ≡ operation ∷ world.history) × Remembers next number operation
+    → Step world (Add number triple) (Did dot message) next → RemembersAdd world number triple dot next
 
 -- the dot that a `remove` tells of is that of an operation with no inserts, which deletes the pairs of the triple that
 -- its clone had, at least one; the step put it at the head of the history, and its clone remembers it
 abbrev pub RemoveRemembers : Type 0
 RemoveRemembers = (world : World) (number : ℕ) (triple : Triple) (dot : Dot) (message : ℕ) (next : World)
-    → Step world (Remove number triple) (Did dot message) next
-    → (operation : Operation) × IsRemoveOf world number triple dot operation × (next.history ≡ operation ∷ world.history) × Remembers next number operation
+    → Step world (Remove number triple) (Did dot message) next → RemembersRemove world number triple dot next
 
 -- the dot that a command tells of is that of an operation which its step put at the head of the history, and the clone that
 -- the command says of remembers it

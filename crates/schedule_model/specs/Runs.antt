@@ -1,5 +1,5 @@
 -- Runs of the model over lines, and the verdict on the lines of a schedule.
-use Rattle.std.specs.Prelude.{◌≡◌, ℕ, ◌+◌, List, [], ◌∷◌, ◌++◌, ◌⊎◌, IsTrue, length}
+use Rattle.std.specs.Prelude.{◌≡◌, ℕ, ◌+◌, List, [], ◌∷◌, ◌++◌, IsTrue, length}
 use Rattle.schedule_model.specs.declared.Command.{Command}
 use Rattle.mld_model.specs.World.{World, founded}
 use Rattle.mld_model.specs.Reply.{Reply, Ready}
@@ -45,11 +45,11 @@ pub record Commands (stage : Stage) (line text : List ℕ) (next : Stage) : Type
   pub replies : text ≡ reply_text reply
   pub changes : next ≡ Running after
 
--- the line says nothing, or acts: it adds the text to what is written and leads to the next stage
-abbrev pub Acts : Stage → List ℕ → List ℕ → Stage → Type 0
-Acts Waiting line text next = (IsNothing line × (text ≡ []) × (next ≡ Waiting)) ⊎ SetsUp line text next
-Acts (SetUp setup) line text next = (IsNothing line × (text ≡ []) × (next ≡ SetUp setup)) ⊎ Commands (SetUp setup) line text next
-Acts (Running world) line text next = (IsNothing line × (text ≡ []) × (next ≡ Running world)) ⊎ Commands (Running world) line text next
+-- the line says nothing, or is the domain line, or commands: it adds the text to what is written and leads to the next stage
+pub data Acts : Stage → List ℕ → List ℕ → Stage → Type 0 where
+  says_nothing : {stage : Stage} {line text : List ℕ} {next : Stage} → IsNothing line → text ≡ [] → next ≡ stage → Acts stage line text next
+  sets_up : {line text : List ℕ} {next : Stage} → SetsUp line text next → Acts Waiting line text next
+  commands : {stage : Stage} {line text : List ℕ} {next : Stage} → Commands stage line text next → Acts stage line text next
 
 -- a run over lines, one after another: the text is what they add, in order
 abbrev pub Runs : Stage → List (List ℕ) → List ℕ → Stage → Type 0
@@ -68,7 +68,7 @@ IsBad (SetUp setup) line = ¬ IsNothing line × ¬ IsTrue (is_unbuilt line) × (
 IsBad (Running world) line = ¬ IsNothing line × ¬ IsTrue (is_unbuilt line) × ((command : Command) → ¬ SpellsCommand line command)
 
 -- the lines before a line, what they write and the stage that they lead to
-pub record Before (lines : List (List ℕ)) (number : ℕ) (text : List ℕ) (stage : Stage) : Type 0 where
+pub record RunsBefore (lines : List (List ℕ)) (number : ℕ) (text : List ℕ) (stage : Stage) : Type 0 where
   pub front : List (List ℕ)
   pub rest : List (List ℕ)
   pub whole : lines ≡ front ++ rest
@@ -79,15 +79,20 @@ pub record Before (lines : List (List ℕ)) (number : ℕ) (text : List ℕ) (st
 abbrev pub IsFirst : List ℕ → List (List ℕ) → Type 0
 IsFirst line lines = (rest : List (List ℕ)) × (lines ≡ line ∷ rest)
 
--- the line of the number is the first that is bad: it is outside the grammar, or it would come after the last line and
--- no line was a domain line
+-- what stands behind the lines that led to a stage is bad at once: the next line is outside the grammar, or there is none and no line
+-- was a domain line
+pub data IsBadRest (rest : List (List ℕ)) (stage : Stage) : Type 0 where
+  bad_line : (line : List ℕ) → IsFirst line rest → IsBad stage line → IsBadRest rest stage
+  no_domain : rest ≡ [] → stage ≡ Waiting → IsBadRest rest stage
+
+-- the line of the number is the first that is bad
 pub record StopsBad (lines : List (List ℕ)) (number : ℕ) (text : List ℕ) (stage : Stage) : Type 0 where
-  pub before : Before lines number text stage
-  pub bad : ((line : List ℕ) × IsFirst line before.rest × IsBad stage line) ⊎ ((before.rest ≡ []) × (stage ≡ Waiting))
+  pub before : RunsBefore lines number text stage
+  pub bad : IsBadRest before.rest stage
 
 -- the line of the number is the first that isn't built yet, and no earlier line is bad
 pub record StopsUnbuilt (lines : List (List ℕ)) (number : ℕ) (text : List ℕ) (stage : Stage) : Type 0 where
-  pub before : Before lines number text stage
+  pub before : RunsBefore lines number text stage
   pub line : List ℕ
   pub first : IsFirst line before.rest
   pub unbuilt : IsUnbuilt stage line

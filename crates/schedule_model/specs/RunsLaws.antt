@@ -1,13 +1,13 @@
 -- A line acts in one way at each stage, a run has one end, and the lines of a schedule have one verdict.
-use Rattle.std.specs.Prelude.{◌≡◌, ℕ, suc, ◌+◌, List, [], ◌∷◌, ◌++◌, ◌⊎◌, length}
-use Rattle.std.proofs.Common.{refl, sym, ◌∙◌, subst, subst₂, ap, arith, inl, inr}
+use Rattle.std.specs.Prelude.{◌≡◌, ℕ, suc, ◌+◌, List, [], ◌∷◌, ◌++◌, length}
+use Rattle.std.proofs.Common.{refl, sym, ◌∙◌, subst, subst₂, ap, arith}
 use Rattle.schedule_model.specs.declared.Command.{Command}
 use Rattle.mld_model.specs.World.{World}
 use Rattle.mld_model.specs.Reply.{Ready}
 use Rattle.schedule_model.specs.ReplyText.{reply_text}
 use Rattle.schedule_model.specs.Step.{Step}
 use Rattle.schedule_model.specs.Schedule.{Setup}
-use Rattle.schedule_model.specs.Runs.{Stage, Waiting, SetUp, Running, founded_by, IsWorldOf, SetsUp, Commands, Acts, Runs, IsUnbuilt, IsBad, IsFirst, Outcome, Finished, BadLine, UnbuiltLine, Verdict}
+use Rattle.schedule_model.specs.Runs.{Stage, Waiting, SetUp, Running, founded_by, IsWorldOf, SetsUp, Commands, Acts, says_nothing, sets_up, commands, Runs, IsUnbuilt, IsBad, IsFirst, IsBadRest, bad_line, no_domain, Outcome, Finished, BadLine, UnbuiltLine, Verdict}
 use Rattle.schedule_model.specs.Laws.{OneAct, OneOutcome, OneRun, OneVerdict}
 use Rattle.schedule_model.specs.ScheduleLaws.{one_kind, one_setup, one_command}
 use Rattle.schedule_model.specs.StepLaws.{one_step}
@@ -38,38 +38,33 @@ commands_once stage line text other next after p q =
 
 -- a line adds one text to what is written, and leads to one stage
 pub one_act : OneAct
-one_act Waiting line text other next after (inl p) (inl q) = (p.1 ∙ sym q.1, p.2 ∙ sym q.2)
-one_act Waiting line text other next after (inl p) (inr q) = absurd ((one_kind line).nothing_setup p.0 q.setup q.spells)
-one_act Waiting line text other next after (inr p) (inl q) = absurd ((one_kind line).nothing_setup q.0 p.setup p.spells)
-one_act Waiting line text other next after (inr p) (inr q) = sets_up_once line text other next after p q
-one_act (SetUp setup) line text other next after (inl p) (inl q) = (p.1 ∙ sym q.1, p.2 ∙ sym q.2)
-one_act (SetUp setup) line text other next after (inl p) (inr q) = absurd ((one_kind line).nothing_command p.0 q.command q.spells)
-one_act (SetUp setup) line text other next after (inr p) (inl q) = absurd ((one_kind line).nothing_command q.0 p.command p.spells)
-one_act (SetUp setup) line text other next after (inr p) (inr q) = commands_once (SetUp setup) line text other next after p q
-one_act (Running world) line text other next after (inl p) (inl q) = (p.1 ∙ sym q.1, p.2 ∙ sym q.2)
-one_act (Running world) line text other next after (inl p) (inr q) = absurd ((one_kind line).nothing_command p.0 q.command q.spells)
-one_act (Running world) line text other next after (inr p) (inl q) = absurd ((one_kind line).nothing_command q.0 p.command p.spells)
-one_act (Running world) line text other next after (inr p) (inr q) = commands_once (Running world) line text other next after p q
+one_act stage line text other next after (says_nothing h none is) (says_nothing k too was) = (none ∙ sym too, is ∙ sym was)
+one_act stage line text other next after (says_nothing h none is) (sets_up q) = absurd ((one_kind line).nothing_setup h q.setup q.spells)
+one_act stage line text other next after (says_nothing h none is) (commands q) = absurd ((one_kind line).nothing_command h q.command q.spells)
+one_act stage line text other next after (sets_up p) (says_nothing k too was) = absurd ((one_kind line).nothing_setup k p.setup p.spells)
+one_act stage line text other next after (sets_up p) (sets_up q) = sets_up_once line text other next after p q
+one_act stage line text other next after (sets_up p) (commands q) = absurd q.founds
+one_act stage line text other next after (commands p) (says_nothing k too was) = absurd ((one_kind line).nothing_command k p.command p.spells)
+one_act stage line text other next after (commands p) (sets_up q) = absurd p.founds
+one_act stage line text other next after (commands p) (commands q) = commands_once stage line text other next after p q
 
 -- ---- the outcomes of a line
 
 -- what acts isn't outside the grammar
 acts_bad : (stage : Stage) (line text : List ℕ) (next : Stage) → Acts stage line text next → ¬ IsBad stage line
-acts_bad Waiting line text next (inl p) bad = bad.0 p.0
-acts_bad Waiting line text next (inr p) bad = bad.2 p.setup p.spells
-acts_bad (SetUp setup) line text next (inl p) bad = bad.0 p.0
-acts_bad (SetUp setup) line text next (inr p) bad = bad.2 p.command p.spells
-acts_bad (Running world) line text next (inl p) bad = bad.0 p.0
-acts_bad (Running world) line text next (inr p) bad = bad.2 p.command p.spells
+acts_bad Waiting line text next (says_nothing h none is) bad = bad.0 h
+acts_bad Waiting line text next (sets_up p) bad = bad.2 p.setup p.spells
+acts_bad Waiting line text next (commands p) bad = absurd p.founds
+acts_bad (SetUp setup) line text next (says_nothing h none is) bad = bad.0 h
+acts_bad (SetUp setup) line text next (commands p) bad = bad.2 p.command p.spells
+acts_bad (Running world) line text next (says_nothing h none is) bad = bad.0 h
+acts_bad (Running world) line text next (commands p) bad = bad.2 p.command p.spells
 
 -- what acts is built
 acts_unbuilt : (stage : Stage) (line text : List ℕ) (next : Stage) → Acts stage line text next → ¬ IsUnbuilt stage line
-acts_unbuilt Waiting line text next (inl p) u = (one_kind line).nothing_unbuilt p.0 u
-acts_unbuilt Waiting line text next (inr p) u = (one_kind line).unbuilt_setup u p.setup p.spells
-acts_unbuilt (SetUp setup) line text next (inl p) u = (one_kind line).nothing_unbuilt p.0 u
-acts_unbuilt (SetUp setup) line text next (inr p) u = (one_kind line).unbuilt_command u p.command p.spells
-acts_unbuilt (Running world) line text next (inl p) u = (one_kind line).nothing_unbuilt p.0 u
-acts_unbuilt (Running world) line text next (inr p) u = (one_kind line).unbuilt_command u p.command p.spells
+acts_unbuilt stage line text next (says_nothing h none is) u = (one_kind line).nothing_unbuilt h u
+acts_unbuilt stage line text next (sets_up p) u = (one_kind line).unbuilt_setup u p.setup p.spells
+acts_unbuilt stage line text next (commands p) u = (one_kind line).unbuilt_command u p.command p.spells
 
 -- what is outside the grammar isn't among the lines that will be built
 bad_unbuilt : (stage : Stage) (line : List ℕ) → IsBad stage line → ¬ IsUnbuilt stage line
@@ -112,30 +107,33 @@ record ReadsOn (stage : Stage) (line : List ℕ) (after : Stage → Outcome → 
   goes : after middle rest
   is : outcome ≡ later front rest
 
+-- what becomes of a line and those after it
+data ReadsLine (stage : Stage) (line : List ℕ) (after : Stage → Outcome → Type 0) (outcome : Outcome) : Type 0 where
+  stops_bad : IsBad stage line → outcome ≡ BadLine 1 [] stage → ReadsLine stage line after outcome
+  stops_unbuilt : IsUnbuilt stage line → outcome ≡ UnbuiltLine 1 [] stage → ReadsLine stage line after outcome
+  reads_on : ReadsOn stage line after outcome → ReadsLine stage line after outcome
+
 -- what becomes of lines that are read from the stage on, by the lines
 abbrev Reads : List (List ℕ) → Stage → Outcome → Type 0
 Reads [] Waiting outcome = outcome ≡ BadLine 1 [] Waiting
 Reads [] (SetUp setup) outcome = outcome ≡ Finished [] (founded_by setup)
 Reads [] (Running world) outcome = outcome ≡ Finished [] world
-Reads (line ∷ lines) stage outcome =
-    (IsBad stage line × (outcome ≡ BadLine 1 [] stage))
-    ⊎ ((IsUnbuilt stage line × (outcome ≡ UnbuiltLine 1 [] stage))
-    ⊎ ReadsOn stage line (Reads lines) outcome)
+Reads (line ∷ lines) stage outcome = ReadsLine stage line (Reads lines) outcome
 
 -- lines are read in one way
 reads_once : (lines : List (List ℕ)) (stage : Stage) (outcome other : Outcome) → Reads lines stage outcome → Reads lines stage other → outcome ≡ other
 reads_once [] Waiting outcome other p q = p ∙ sym q
 reads_once [] (SetUp setup) outcome other p q = p ∙ sym q
 reads_once [] (Running world) outcome other p q = p ∙ sym q
-reads_once (line ∷ lines) stage outcome other (inl p) (inl q) = p.1 ∙ sym q.1
-reads_once (line ∷ lines) stage outcome other (inl p) (inr (inl q)) = absurd (bad_unbuilt stage line p.0 q.0)
-reads_once (line ∷ lines) stage outcome other (inl p) (inr (inr q)) = absurd (acts_bad stage line q.front q.middle q.acts p.0)
-reads_once (line ∷ lines) stage outcome other (inr (inl p)) (inl q) = absurd (bad_unbuilt stage line q.0 p.0)
-reads_once (line ∷ lines) stage outcome other (inr (inl p)) (inr (inl q)) = p.1 ∙ sym q.1
-reads_once (line ∷ lines) stage outcome other (inr (inl p)) (inr (inr q)) = absurd (acts_unbuilt stage line q.front q.middle q.acts p.0)
-reads_once (line ∷ lines) stage outcome other (inr (inr p)) (inl q) = absurd (acts_bad stage line p.front p.middle p.acts q.0)
-reads_once (line ∷ lines) stage outcome other (inr (inr p)) (inr (inl q)) = absurd (acts_unbuilt stage line p.front p.middle p.acts q.0)
-reads_once (line ∷ lines) stage outcome other (inr (inr p)) (inr (inr q)) =
+reads_once (line ∷ lines) stage outcome other (stops_bad bad is) (stops_bad too was) = is ∙ sym was
+reads_once (line ∷ lines) stage outcome other (stops_bad bad is) (stops_unbuilt unbuilt was) = absurd (bad_unbuilt stage line bad unbuilt)
+reads_once (line ∷ lines) stage outcome other (stops_bad bad is) (reads_on q) = absurd (acts_bad stage line q.front q.middle q.acts bad)
+reads_once (line ∷ lines) stage outcome other (stops_unbuilt unbuilt is) (stops_bad bad was) = absurd (bad_unbuilt stage line bad unbuilt)
+reads_once (line ∷ lines) stage outcome other (stops_unbuilt unbuilt is) (stops_unbuilt too was) = is ∙ sym was
+reads_once (line ∷ lines) stage outcome other (stops_unbuilt unbuilt is) (reads_on q) = absurd (acts_unbuilt stage line q.front q.middle q.acts unbuilt)
+reads_once (line ∷ lines) stage outcome other (reads_on p) (stops_bad bad was) = absurd (acts_bad stage line p.front p.middle p.acts bad)
+reads_once (line ∷ lines) stage outcome other (reads_on p) (stops_unbuilt unbuilt was) = absurd (acts_unbuilt stage line p.front p.middle p.acts unbuilt)
+reads_once (line ∷ lines) stage outcome other (reads_on p) (reads_on q) =
     let first = one_act stage line p.front q.front p.middle q.middle p.acts q.acts in
     let rest = reads_once lines q.middle p.rest q.rest (subst (λ (stage : Stage). Reads lines stage p.rest) first.1 p.goes) q.goes in
     cc (p.is, q.is, first.0, rest)
@@ -151,41 +149,38 @@ reads_finished : (lines : List (List ℕ)) (stage : Stage) (text : List ℕ) (la
     → Runs stage lines text last → IsWorldOf last world → Reads lines stage (Finished text world)
 unfolding later
 reads_finished [] stage text last world h is = reads_end stage text world h.0 (subst (λ (stage : Stage). IsWorldOf stage world) h.1 is)
-reads_finished (line ∷ lines) stage text last world h is = inr (inr (record {
+reads_finished (line ∷ lines) stage text last world h is = reads_on (record {
   front = h.0;
   middle = h.2;
   rest = Finished h.1 world;
   acts = h.3;
   goes = reads_finished lines h.2 h.1 last world h.4 is;
   is = ap (λ (text : List ℕ). Finished text world) h.5;
-}))
+})
 
--- what stands behind the lines of a front: a bad line, or no line where no domain line came
-abbrev Ends : List (List ℕ) → Stage → Type 0
-Ends rest stage = ((line : List ℕ) × IsFirst line rest × IsBad stage line) ⊎ ((rest ≡ []) × (stage ≡ Waiting))
-
--- the lines behind such a front are bad at once
-ends_now : (rest : List (List ℕ)) (stage : Stage) → Ends rest stage → Reads rest stage (BadLine 1 [] stage)
-ends_now rest stage (inl h) = subst (λ (rest : List (List ℕ)). Reads rest stage (BadLine 1 [] stage)) (sym h.1.1) (inl (h.2, refl))
-ends_now rest stage (inr h) =
-    subst (λ (rest : List (List ℕ)). Reads rest stage (BadLine 1 [] stage)) (sym h.0)
-    (subst (λ (stage : Stage). Reads [] stage (BadLine 1 [] stage)) (sym h.1) refl)
+-- what is bad at once is read as that
+ends_now : (rest : List (List ℕ)) (stage : Stage) → IsBadRest rest stage → Reads rest stage (BadLine 1 [] stage)
+ends_now rest stage (bad_line line first bad) =
+    subst (λ (rest : List (List ℕ)). Reads rest stage (BadLine 1 [] stage)) (sym first.1) (stops_bad bad refl)
+ends_now rest stage (no_domain none waits) =
+    subst (λ (rest : List (List ℕ)). Reads rest stage (BadLine 1 [] stage)) (sym none)
+    (subst (λ (stage : Stage). Reads [] stage (BadLine 1 [] stage)) (sym waits) refl)
 
 -- a run over the lines before a bad one reads as far as that one
-reads_bad : (front rest : List (List ℕ)) (stage : Stage) (text : List ℕ) (next : Stage) → Runs stage front text next → Ends rest next
+reads_bad : (front rest : List (List ℕ)) (stage : Stage) (text : List ℕ) (next : Stage) → Runs stage front text next → IsBadRest rest next
     → Reads (front ++ rest) stage (BadLine (length front + 1) text next)
 unfolding later
 reads_bad [] rest stage text next runs h =
     subst (λ (text : List ℕ). Reads rest stage (BadLine 1 text next)) (sym runs.0)
     (subst (λ (stage : Stage). Reads rest stage (BadLine 1 [] next)) runs.1 (ends_now rest next h))
-reads_bad (line ∷ front) rest stage text next runs h = inr (inr (record {
+reads_bad (line ∷ front) rest stage text next runs h = reads_on (record {
   front = runs.0;
   middle = runs.2;
   rest = BadLine (length front + 1) runs.1 next;
   acts = runs.3;
   goes = reads_bad front rest runs.2 runs.1 next runs.4 h;
   is = let counted : suc (length front) + 1 ≡ suc (length front + 1) = omega arith in cc (counted, runs.5);
-}))
+})
 
 -- a run over the lines before one that isn't built reads as far as that one
 reads_unbuilt : (front rest : List (List ℕ)) (stage : Stage) (text : List ℕ) (next : Stage) → Runs stage front text next
@@ -193,17 +188,17 @@ reads_unbuilt : (front rest : List (List ℕ)) (stage : Stage) (text : List ℕ)
 unfolding later
 reads_unbuilt [] rest stage text next runs line first h =
     let now : Reads rest next (UnbuiltLine 1 [] next) =
-    subst (λ (rest : List (List ℕ)). Reads rest next (UnbuiltLine 1 [] next)) (sym first.1) (inr (inl (h, refl))) in
+    subst (λ (rest : List (List ℕ)). Reads rest next (UnbuiltLine 1 [] next)) (sym first.1) (stops_unbuilt h refl) in
     subst (λ (text : List ℕ). Reads rest stage (UnbuiltLine 1 text next)) (sym runs.0)
     (subst (λ (stage : Stage). Reads rest stage (UnbuiltLine 1 [] next)) runs.1 now)
-reads_unbuilt (before ∷ front) rest stage text next runs line first h = inr (inr (record {
+reads_unbuilt (before ∷ front) rest stage text next runs line first h = reads_on (record {
   front = runs.0;
   middle = runs.2;
   rest = UnbuiltLine (length front + 1) runs.1 next;
   acts = runs.3;
   goes = reads_unbuilt front rest runs.2 runs.1 next runs.4 line first h;
   is = let counted : suc (length front) + 1 ≡ suc (length front + 1) = omega arith in cc (counted, runs.5);
-}))
+})
 
 -- a verdict says how the lines are read
 verdict_reads : (lines : List (List ℕ)) (outcome : Outcome) → Verdict lines outcome → Reads lines Waiting outcome

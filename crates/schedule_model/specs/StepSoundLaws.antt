@@ -1,17 +1,20 @@
 -- Each world that a schedule reaches is sound, and what a reader may take from that.
 use Rattle.std.specs.Prelude.{◌≡◌, ℕ, zero, suc, ◌<◌, List, [], ◌∷◌, Option, Some, None, MatchOption, slice_get}
-use Rattle.std.proofs.Common.{refl, sym, subst, inl, inr}
+use Rattle.std.proofs.Common.{refl, sym, ◌∙◌, subst}
 use Rattle.rdf_terms.specs.declared.terms.Triple.{Triple}
 use Rattle.tree_clock.specs.declared.dots.Range.{Range}
 use Rattle.tree_clock.specs.Lists.{Has}
+use Rattle.mld_ops.specs.declared.tagged.Tagged.{Tagged}
+use Rattle.mld_ops.specs.Meaning.{IsMeaning}
 use Rattle.mld_ops.specs.MeaningLaws.{one_meaning, same_known}
 use Rattle.schedule_model.specs.declared.Command.TheVariants.{Add, Remove, Deliver, Show, Compare, Join}
-use Rattle.mld_model.specs.Clone.{Clone, Absent, Asking, Empty, Down, Live, Stored}
+use Rattle.mld_model.specs.Clone.{Clone, Absent, Asking, Empty, Down, Live, Stored, known_of}
 use Rattle.mld_model.specs.World.{World, Message, RangeOf, JoinAsk, JoinGive, message_at, clone_count, clone_at}
 use Rattle.mld_model.specs.Reply.{Reply, NoMessage}
-use Rattle.mld_model.specs.CloneStep.{Answers, Makes, Adds, Removes, Receives, Joins, Gives, Adopts, Takes, Lists, ComparesWith, Weighs}
+use Rattle.mld_model.specs.CloneStep.{Answers, Makes, Adds, ArePairsOf, Deletes, finds_none, deletes_all, Removes, holds_already, holds_too_many, holds_from_now, Receives, knows_already, accepts, holds_back, Joins, Gives, asked_itself, is_too_deep, forks, Adopts, becomes_live, leaves_it, Takes, Lists, ComparesWith, Weighs}
+use Rattle.mld_model.specs.StateLaws.{if_live}
 use Rattle.schedule_model.specs.Step.{Step}
-use Rattle.schedule_model.specs.Runs.{Stage, Waiting, SetUp, Running, IsWorldOf, Commands, Acts, Runs}
+use Rattle.schedule_model.specs.Runs.{Stage, Waiting, SetUp, Running, IsWorldOf, Commands, Acts, says_nothing, sets_up, commands, Runs}
 use Rattle.mld_model.specs.Sound.{Keeps, IsSound}
 use Rattle.mld_model.specs.SoundLaws.{apart_differ, made_sound, taken_sound, holding_sound, asked_sound, forked_sound, stands_at, joined_sound}
 use Rattle.schedule_model.specs.ScheduleLaws.{spells_numbers}
@@ -27,38 +30,38 @@ same_sound world next sound same = subst IsSound (sym same) sound
 -- an `add` leads to a sound world
 adds_sound : (world : World) (number : ℕ) (triple : Triple) (clone : Clone) (reply : Reply) (next : World)
     → IsSound world → clone_at world number ≡ clone → Adds world number triple clone reply next → IsSound next
-adds_sound world number triple Absent reply next sound is p = same_sound world next sound p.1
-adds_sound world number triple Asking reply next sound is p = same_sound world next sound p.1
-adds_sound world number triple Empty reply next sound is p = same_sound world next sound p.1
-adds_sound world number triple (Down stored) reply next sound is p = same_sound world next sound p.1
-adds_sound world number triple (Live stored held) reply next sound is p =
-    subst IsSound (sym p.changes)
-    (made_sound world number stored held p.tick [] (triple ∷ []) sound is p.is_next (λ pair h. absurd h) (λ pair h. absurd h))
+adds_sound world number triple clone reply next sound is =
+    if_live (IsSound next) world clone reply next (λ stored held. Makes world number stored held [] (triple ∷ []) reply next)
+    (λ answer state p. same_sound world next sound p.1) (λ stored held live p. subst IsSound (sym p.changes)
+    (made_sound world number stored held p.tick [] (triple ∷ []) sound (is ∙ live) p.is_next (λ pair h. absurd h) (λ pair h. absurd h)))
+
+-- and so do pairs of the clone that are deleted
+deletes_sound : (world : World) (number : ℕ) (stored : Stored) (held : List Range) (triple : Triple) (pairs deletes : List Tagged) (reply : Reply) (next : World)
+    → IsSound world → clone_at world number ≡ Live stored held → IsMeaning world.history (known_of stored) pairs → ArePairsOf triple pairs deletes
+    → Deletes world number stored held deletes reply next → IsSound next
+deletes_sound world number stored held triple pairs deletes reply next sound is meant are (finds_none none p) = same_sound world next sound p.1
+deletes_sound world number stored held triple pairs deletes reply next sound is meant are (deletes_all some p) =
+    subst IsSound (sym p.changes) (made_sound world number stored held p.tick deletes [] sound is p.is_next
+    (λ pair h. (meant.sound pair ((are.members pair).0 h).0).covered) (λ pair h. (meant.sound pair ((are.members pair).0 h).0).inserted))
 
 -- and so does a `remove`
 removes_sound : (world : World) (number : ℕ) (triple : Triple) (clone : Clone) (reply : Reply) (next : World)
     → IsSound world → clone_at world number ≡ clone → Removes world number triple clone reply next → IsSound next
-removes_sound world number triple Absent reply next sound is p = same_sound world next sound p.1
-removes_sound world number triple Asking reply next sound is p = same_sound world next sound p.1
-removes_sound world number triple Empty reply next sound is p = same_sound world next sound p.1
-removes_sound world number triple (Down stored) reply next sound is p = same_sound world next sound p.1
-removes_sound world number triple (Live stored held) reply next sound is (pairs, deletes, meant, are, inl nothing) = same_sound world next sound nothing.1.1
-removes_sound world number triple (Live stored held) reply next sound is (pairs, deletes, meant, are, inr made) =
-    let p : Makes world number stored held deletes [] reply next = made.1 in
-    subst IsSound (sym p.changes) (made_sound world number stored held p.tick deletes [] sound is p.is_next
-    (λ pair h. (meant.sound pair ((are.members pair).0 h).0).covered) (λ pair h. (meant.sound pair ((are.members pair).0 h).0).inserted))
+removes_sound world number triple clone reply next sound is =
+    if_live (IsSound next) world clone reply next _ (λ answer state p. same_sound world next sound p.1)
+    (λ stored held live p. deletes_sound world number stored held triple p.0 p.1 reply next sound (is ∙ live) p.2 p.3 p.4)
 
 -- a range that comes to a live clone leads to a sound world
 receives_sound : (world : World) (number : ℕ) (stored : Stored) (held : List Range) (range : Range) (reply : Reply) (next : World)
     → IsSound world → clone_at world number ≡ Live stored held → Has world.messages (RangeOf range)
     → Receives world number stored held range reply next → IsSound next
-receives_sound world number stored held range reply next sound is sent (inl p) = same_sound world next sound p.1.1
-receives_sound world number stored held range reply next sound is sent (inr (inl p)) =
+receives_sound world number stored held range reply next sound is sent (knows_already known p) = same_sound world next sound p.1
+receives_sound world number stored held range reply next sound is sent (accepts p) =
     subst IsSound (sym p.changes) (taken_sound world number stored held range p.taken p.after p.left sound is (sound.messages (RangeOf range) sent) p.ready p.releases)
-receives_sound world number stored held range reply next sound is sent (inr (inr (back, inl p))) = same_sound world next sound p.1.1
-receives_sound world number stored held range reply next sound is sent (inr (inr (back, inr (inl p)))) = same_sound world next sound p.2.1
-receives_sound world number stored held range reply next sound is sent (inr (inr (back, inr (inr p)))) =
-    subst IsSound (sym p.3) (holding_sound world number stored held range sound is (sound.messages (RangeOf range) sent))
+receives_sound world number stored held range reply next sound is sent (holds_back back (holds_already has p)) = same_sound world next sound p.1
+receives_sound world number stored held range reply next sound is sent (holds_back back (holds_too_many lacks full p)) = same_sound world next sound p.1
+receives_sound world number stored held range reply next sound is sent (holds_back back (holds_from_now lacks few told same)) =
+    subst IsSound (sym same) (holding_sound world number stored held range sound is (sound.messages (RangeOf range) sent))
 
 -- a clone that asks for a leaf leads to a sound world
 joins_sound : (world : World) (number : ℕ) (clone : Clone) (reply : Reply) (next : World)
@@ -75,19 +78,19 @@ joins_sound world number (Live stored held) reply next small sound is p = same_s
 gives_sound : (world : World) (number : ℕ) (stored : Stored) (held : List Range) (id : ℕ) (reply : Reply) (next : World)
     → IsSound world → clone_at world number ≡ Live stored held → Has world.messages (JoinAsk id)
     → Gives world number stored held id reply next → IsSound next
-gives_sound world number stored held id reply next sound is sent (inl p) = same_sound world next sound p.1.1
-gives_sound world number stored held id reply next sound is sent (inr (inl p)) = same_sound world next sound p.2.1
-gives_sound world number stored held id reply next sound is sent (inr (inr p)) =
-    subst IsSound (sym p.3) (forked_sound world number stored held id sound is (sound.messages (JoinAsk id) sent))
+gives_sound world number stored held id reply next sound is sent (asked_itself own p) = same_sound world next sound p.1
+gives_sound world number stored held id reply next sound is sent (is_too_deep differs deep p) = same_sound world next sound p.1
+gives_sound world number stored held id reply next sound is sent (forks differs room told same) =
+    subst IsSound (sym same) (forked_sound world number stored held id sound is (sound.messages (JoinAsk id) sent))
 
 -- and a leaf that comes to a clone that asks
 adopts_sound : (world : World) (number place id : ℕ) (path : List ℕ) (dots : List Range) (reply : Reply) (next : World)
     → IsSound world → clone_at world number ≡ Asking → slice_get world.messages place ≡ Some (JoinGive id path dots)
     → Adopts world number id path dots reply next → IsSound next
-adopts_sound world number place id path dots reply next sound is sent (inl p) =
-    subst IsSound (sym p.2) (joined_sound world number place path dots sound is
-    (subst (λ (k : ℕ). slice_get world.messages place ≡ Some (JoinGive k path dots)) p.0 sent))
-adopts_sound world number place id path dots reply next sound is sent (inr p) = same_sound world next sound p.1.1
+adopts_sound world number place id path dots reply next sound is sent (becomes_live own told same) =
+    subst IsSound (sym same) (joined_sound world number place path dots sound is
+    (subst (λ (k : ℕ). slice_get world.messages place ≡ Some (JoinGive k path dots)) own sent))
+adopts_sound world number place id path dots reply next sound is sent (leaves_it differs p) = same_sound world next sound p.1
 
 -- and so does a message that comes to a clone
 takes_sound : (world : World) (number : ℕ) (message : Message) (clone : Clone) (reply : Reply) (next : World)
@@ -123,27 +126,16 @@ delivers_sound world number (Some message) reply next sound has p =
 
 -- a `show` leaves the world as it was
 pub lists_same : (world : World) (clone : Clone) (reply : Reply) (next : World) → Lists world clone reply next → next ≡ world
-lists_same world Absent reply next p = p.1
-lists_same world Asking reply next p = p.1
-lists_same world Empty reply next p = p.1
-lists_same world (Down stored) reply next p = p.1
-lists_same world (Live stored held) reply next p = p.2.1
+lists_same world clone reply next = if_live (next ≡ world) world clone reply next _ (λ answer state p. p.1) (λ stored held live p. p.2.1)
 
 -- and so does a `compare` at a live clone
 compares_same : (world : World) (stored : Stored) (clone : Clone) (reply : Reply) (next : World) → ComparesWith world stored clone reply next → next ≡ world
-compares_same world stored Absent reply next p = p.1
-compares_same world stored Asking reply next p = p.1
-compares_same world stored Empty reply next p = p.1
-compares_same world stored (Down other) reply next p = p.1
-compares_same world stored (Live other held) reply next p = p.1
+compares_same world stored clone reply next = if_live (next ≡ world) world clone reply next _ (λ answer state p. p.1) (λ other held live p. p.1)
 
 -- whatever the states of its clones are
 pub weighs_same : (world : World) (clone other : Clone) (reply : Reply) (next : World) → Weighs world clone other reply next → next ≡ world
-weighs_same world Absent other reply next p = p.1
-weighs_same world Asking other reply next p = p.1
-weighs_same world Empty other reply next p = p.1
-weighs_same world (Down stored) other reply next p = p.1
-weighs_same world (Live stored held) other reply next p = compares_same world stored other reply next p
+weighs_same world clone other reply next =
+    if_live (next ≡ world) world clone reply next _ (λ answer state p. p.1) (λ stored held live. compares_same world stored other reply next)
 
 -- a step of a sound world, by a command whose clones there are, leads to a sound world
 pub step_sound : StepIsSound
@@ -178,12 +170,9 @@ commands_sound stage line text next sound p =
 
 -- and so does each line
 acts_sound : (stage : Stage) (line text : List ℕ) (next : Stage) → IsSoundStage stage → Acts stage line text next → IsSoundStage next
-acts_sound Waiting line text next sound (inl p) = subst IsSoundStage (sym p.2) tt
-acts_sound Waiting line text next sound (inr p) = subst IsSoundStage (sym p.changes) tt
-acts_sound (SetUp setup) line text next sound (inl p) = subst IsSoundStage (sym p.2) tt
-acts_sound (SetUp setup) line text next sound (inr p) = commands_sound (SetUp setup) line text next sound p
-acts_sound (Running world) line text next sound (inl p) = subst IsSoundStage (sym p.2) sound
-acts_sound (Running world) line text next sound (inr p) = commands_sound (Running world) line text next sound p
+acts_sound stage line text next sound (says_nothing h none is) = subst IsSoundStage (sym is) sound
+acts_sound stage line text next sound (sets_up p) = subst IsSoundStage (sym p.changes) tt
+acts_sound stage line text next sound (commands p) = commands_sound stage line text next sound p
 
 -- and so do lines
 lines_sound : (stage : Stage) (lines : List (List ℕ)) (text : List ℕ) (next : Stage) → IsSoundStage stage → Runs stage lines text next → IsSoundStage next

@@ -20,14 +20,16 @@ use Rattle.mld_ops.specs.Effect.{range_of}
 use Rattle.mld_ops.specs.Picking.{AllPairs}
 use Rattle.mld_ops.specs.PickingLaws.{pairs_more}
 use Rattle.mld_ops.specs.Ready.{IsKnownEntry}
+use Rattle.schedule_model.specs.declared.Command.{Command}
 use Rattle.schedule_model.specs.declared.Command.TheVariants.{Add, Remove, Deliver, Show, Compare}
 use Rattle.mld_model.specs.declared.CloneState.TheVariants as states
 use Rattle.mld_model.specs.Clone.{Clone, Absent, Asking, Empty, Down, Live, Stored, known_of, with_range, IsReady, IsHeldBack, IsWithin}
 use Rattle.mld_ops.specs.Held.{held_limit}
 use Rattle.mld_model.specs.World.{World, Message, RangeOf, message_at, clone_at, with_clone, founded, founded_clone, clone_count}
 use Rattle.schedule_model.specs.Step.{Step}
-use Rattle.mld_model.specs.CloneStep.{Answers, Adds, ArePairsOf, Removes, IsNextTick, Makes, after_operation, Receives, Takes, Lists, Compares, ComparesWith, Weighs}
-use Rattle.mld_model.specs.Reply.{Reply, Did, NoOperation, Took, Held, HeldFull, AlreadyKnown, Shows, Same, Less, More, Apart, NoMessage, IsAbsent, IsAsking, IsDown}
+use Rattle.mld_model.specs.CloneStep.{Answers, IfLive, ArePairsOf, finds_none, deletes_all, IsNextTick, Makes, after_operation, holds_already, holds_too_many, holds_from_now, Receives, knows_already, accepts, holds_back, Takes, Compares, same_dots, fewer_dots, more_dots, dots_apart}
+use Rattle.mld_model.specs.StateLaws.{live_does}
+use Rattle.mld_model.specs.Reply.{Reply, Did, NoOperation, Took, Held, HeldFull, AlreadyKnown, Shows, Same, Less, More, Apart, NoMessage}
 use Rattle.mld_model.specs.Sound.{IsDoneRange, IsSoundClone, IsSound}
 use Rattle.mld_model.specs.Local.{LocalClone, CloneValue, next_dot, LocallyMakes, LocallyAccepts, MustBeHeld, IsFullFor, IsForeign}
 use Rattle.mld_ops.specs.Held.{ranges_of}
@@ -120,16 +122,21 @@ stepped_stands running world stands = record {
 
 -- ---- a clone that isn't live
 
--- what holds of the model's clone where the running one isn't live
-missing_by : (P : Clone → Type 0) (world : World) (number : ℕ) (state : RunningClone) (clone : Clone) (reply : Reply)
-    → (reply ≡ IsAbsent → P Absent) → (reply ≡ IsAsking → P Asking) → (reply ≡ IsDown → P Empty) → ((stored : Stored) → reply ≡ IsDown → P (Down stored))
-    → IsMissingReply state reply → CloneStandsFor world number state clone → P clone
-missing_by P world number (states.Absent blank) Absent reply absent asking empty down is stands = absent is
-missing_by P world number (states.Asking asker) Asking reply absent asking empty down is stands = asking is
-missing_by P world number (states.Down device) Empty reply absent asking empty down is stands = empty is
-missing_by P world number (states.Down device) (Down stored) reply absent asking empty down is stands = down stored is
-missing_by P world number (states.Live live) clone reply absent asking empty down is stands = absurd is
-missing_by P world number state clone reply absent asking empty down is stands = absurd stands
+-- where the running clone isn't live, the model's does nothing of what only a live clone does
+missing_replies : (world : World) (number : ℕ) (state : RunningClone) (clone : Clone) (reply : Reply) (does : Stored → List Range → Type 0)
+    → IsMissingReply state reply → CloneStandsFor world number state clone → IfLive world clone reply world does
+missing_replies world number (states.Absent blank) Absent reply does is stands = (is, refl)
+missing_replies world number (states.Asking asker) Asking reply does is stands = (is, refl)
+missing_replies world number (states.Down device) Empty reply does is stands = (is, refl)
+missing_replies world number (states.Down device) (Down stored) reply does is stands = (is, refl)
+missing_replies world number (states.Live live) clone reply does is stands = absurd is
+missing_replies world number state clone reply does is stands = absurd stands
+
+-- a step that changes nothing follows the model
+staying_follows : (running : RunningWorld) (world : World) → StandsFor running world → IsSound world → (command : Command) (reply : Reply)
+    → Step world command reply world → Follows world command reply (stepped running)
+staying_follows running world stands sound command reply steps =
+    record { next = world; steps = steps; sound = sound; stands = stepped_stands running world stands }
 
 -- the next tick of a clone is at most the number of the step that makes it
 pub next_tick_within : (running : RunningWorld) (world : World) → StandsFor running world → IsSound world → (number : ℕ) (live : LocalClone)
@@ -208,21 +215,21 @@ unfolding Step
 add_follows running world stands sound number triple live is new entry makes =
     let made : MakesSoundly world number live.local [] (triple ∷ []) (Did (next_dot live.local) (length running.messages + 1)) (stepped_sending running number new entry)
     = makes_soundly running world stands sound number live is [] (triple ∷ []) new entry (λ pair h. absurd h) makes in
-    let P : Clone → Type 0 = λ c. Adds world number triple c (Did (next_dot live.local) (length running.messages + 1)) made.next in
-    record { next = made.next; steps = subst P (sym made.at.live) made.makes; sound = made.sound; stands = made.stands }
+    record {
+      next = made.next;
+      steps = live_does world (clone_at world number) (Did (next_dot live.local) (length running.messages + 1)) made.next _
+          (kept_by live.local made.at.base made.at.journal) made.at.held made.at.live made.makes;
+      sound = made.sound;
+      stands = made.stands;
+    }
 
 -- a clone that isn't live adds nothing
 pub add_missing : (running : RunningWorld) (world : World) → StandsFor running world → IsSound world → (number : ℕ) (triple : Triple) (state : RunningClone) (reply : Reply)
     → slice_get running.clones number ≡ Some state → IsMissingReply state reply → Follows world (Add number triple) reply (stepped running)
 unfolding Step
-add_missing running world stands sound number triple state reply is missing = record {
-  next = world;
-  steps = missing_by (λ c. Adds world number triple c reply world) world number state (clone_at world number) reply
-      (λ is_reply. (is_reply, refl)) (λ is_reply. (is_reply, refl)) (λ is_reply. (is_reply, refl)) (λ stored is_reply. (is_reply, refl))
-      missing (stands.clones number state is);
-  sound = sound;
-  stands = stepped_stands running world stands;
-}
+add_missing running world stands sound number triple state reply is missing =
+    staying_follows running world stands sound (Add number triple) reply
+    (missing_replies world number state (clone_at world number) reply _ missing (stands.clones number state is))
 
 -- ---- remove
 
@@ -236,10 +243,10 @@ remove_follows running world stands sound number triple live is deletes new entr
     let reply : Reply = Did (next_dot live.local) (length running.messages + 1) in
     let made : MakesSoundly world number live.local deletes [] reply (stepped_sending running number new entry)
     = makes_soundly running world stands sound number live is deletes [] new entry (λ pair h. ((are.members pair).0 h).0) makes in
-    let P : Clone → Type 0 = λ c. Removes world number triple c reply made.next in
     record {
       next = made.next;
-      steps = subst P (sym made.at.live) (live.local.pairs, deletes, made.at.stands.pairs, are, inr (some, made.makes));
+      steps = live_does world (clone_at world number) reply made.next _ (kept_by live.local made.at.base made.at.journal) made.at.held made.at.live
+          (live.local.pairs, deletes, made.at.stands.pairs, are, deletes_all some made.makes);
       sound = made.sound;
       stands = made.stands;
     }
@@ -250,21 +257,17 @@ pub remove_nothing : (running : RunningWorld) (world : World) → StandsFor runn
 unfolding Step
 remove_nothing running world stands sound number triple live is none =
     let at : LiveAt world number live.local = live_at running world stands number live is in
-    let P : Clone → Type 0 = λ c. Removes world number triple c NoOperation world in
-    record { next = world; steps = subst P (sym at.live) (live.local.pairs, [], at.stands.pairs, none, inl (refl, (refl, refl))); sound = sound; stands = stepped_stands running world stands }
+    staying_follows running world stands sound (Remove number triple) NoOperation
+    (live_does world (clone_at world number) NoOperation world _ (kept_by live.local at.base at.journal) at.held at.live
+    (live.local.pairs, [], at.stands.pairs, none, finds_none refl (refl, refl)))
 
 -- a clone that isn't live removes nothing
 pub remove_missing : (running : RunningWorld) (world : World) → StandsFor running world → IsSound world → (number : ℕ) (triple : Triple) (state : RunningClone) (reply : Reply)
     → slice_get running.clones number ≡ Some state → IsMissingReply state reply → Follows world (Remove number triple) reply (stepped running)
 unfolding Step
-remove_missing running world stands sound number triple state reply is missing = record {
-  next = world;
-  steps = missing_by (λ c. Removes world number triple c reply world) world number state (clone_at world number) reply
-      (λ is_reply. (is_reply, refl)) (λ is_reply. (is_reply, refl)) (λ is_reply. (is_reply, refl)) (λ stored is_reply. (is_reply, refl))
-      missing (stands.clones number state is);
-  sound = sound;
-  stands = stepped_stands running world stands;
-}
+remove_missing running world stands sound number triple state reply is missing =
+    staying_follows running world stands sound (Remove number triple) reply
+    (missing_replies world number state (clone_at world number) reply _ missing (stands.clones number state is))
 
 -- ---- deliver
 
@@ -319,7 +322,7 @@ pub deliver_nothing : (running : RunningWorld) (world : World) → StandsFor run
 unfolding Step
 deliver_nothing running world stands sound message number is =
     let P : Option Message → Type 0 = λ o. MatchOption o (Answers world NoMessage NoMessage world) (λ sent. Takes world number sent (clone_at world number) NoMessage world) in
-    record { next = world; steps = subst P (sym (no_message running world stands message is)) (refl, refl); sound = sound; stands = stepped_stands running world stands }
+    staying_follows running world stands sound (Deliver message number) NoMessage (subst P (sym (no_message running world stands message is)) (refl, refl))
 
 -- what a clone does with a message follows the model where the model's clone may do so
 pub taking_follows : (next : RunningWorld) (world after : World) (message number : ℕ) (what : Message) (clone : Clone) (reply : Reply)
@@ -376,7 +379,7 @@ deliver_known running world stands sound message number entry live sent is known
     let s : SentRange world entry message = sent_range running world stands message entry sent in
     let at : LiveAt world number live.local = live_at running world stands number live is in
     answer_follows running (stepped running) world world message number entry live AlreadyKnown s at
-    (inl ((known_alike world.history live.local.ticks (known_of (kept_by live.local at.base at.journal)) at.stands.known s.range entry s.entry_stands).0 known, (refl, refl)))
+    (knows_already ((known_alike world.history live.local.ticks (known_of (kept_by live.local at.base at.journal)) at.stands.known s.range entry s.entry_stands).0 known) (refl, refl))
     sound (stepped_stands running world stands)
 
 -- a running world where one clone is live as another, and nothing else has changed
@@ -397,34 +400,34 @@ changed_stands running world stands sound number new stored held of now one = re
 pub deliver_taken : (running : RunningWorld) (world : World) → StandsFor running world → IsSound world → (message number : ℕ) (entry : EntryValue) (live new : CloneValue) (ranges : List Range)
     → sent_message running message ≡ Some (CarriesEntry entry) → slice_get running.clones number ≡ Some (states.Live live) → LocallyAccepts live.local entry new.local ranges
     → Follows world (Deliver message number) (Took ranges) (stepped_with running number new)
-deliver_taken running world stands sound message number entry live new ranges sent is accepts =
+deliver_taken running world stands sound message number entry live new ranges sent is locally =
     let s : SentRange world entry message = sent_range running world stands message entry sent in
     let at : LiveAt world number live.local = live_at running world stands number live is in
     let stored : Stored = kept_by live.local at.base at.journal in
     let whole : IsSoundClone world.history stored = live_sound world number stored at.held sound at.live in
     let both : StandsDone world.history entry s.range =
     record { stands = s.entry_stands; one = stands.one_tick.sent s.range s.stands; done = sound.messages (RangeOf s.range) s.stands } in
-    let ready : IsReady world.history (known_of stored) s.range = accepted_ready world.history live.local new.local stored at.held s.range entry ranges at.stands both accepts in
+    let ready : IsReady world.history (known_of stored) s.range = accepted_ready world.history live.local new.local stored at.held s.range entry ranges at.stands both locally in
     let all : AllPairs (StandsDone world.history) live.local.held at.held =
     stand_done world.history live.local.held at.held at.stands.held (stands.one_tick.held number stored at.held at.live) (sound.held number stored at.held at.live) in
-    let released : Released world.history (with_range stored s.range) at.held accepts.taken new.local.held new.local.ticks new.local.pairs =
-    accepted_releases world.history live.local new.local stored at.held s.range entry ranges at.stands both accepts all sound.lawful whole in
+    let released : Released world.history (with_range stored s.range) at.held locally.taken new.local.held new.local.ticks new.local.pairs =
+    accepted_releases world.history live.local new.local stored at.held s.range entry ranges at.stands both locally all sound.lawful whole in
     let after : Stored = record { path = live.local.path; base = at.base; journal = (at.journal ++ s.range ∷ []) ++ released.ranges } in
     let next : World = with_clone world number (Live after released.rest) in
     answer_follows running (stepped_with running number new) world next message number entry live (Took ranges) s at
-    (inr (inl (record {
+    (accepts (record {
       ready = ready;
       taken = released.ranges;
       after = after;
       left = released.rest;
       releases = released.releases;
-      replies = ap Took (accepted_told world.history live.local new.local stored at.held s.range entry ranges at.stands both accepts released);
+      replies = ap Took (accepted_told world.history live.local new.local stored at.held s.range entry ranges at.stands both locally released);
       changes = refl {a = next};
-    })))
+    }))
     (taken_sound world number stored at.held s.range released.ranges after released.rest sound at.live both.done ready released.releases)
     (changed_stands running world stands sound number new after released.rest
-    (still_clone_of world world number live.local new.local accepts.same refl refl at.is)
-    (accepted_stands world.history live.local new.local stored at.held s.range entry ranges at.stands both accepts released)
+    (still_clone_of world world number live.local new.local locally.same refl refl at.is)
+    (accepted_stands world.history live.local new.local stored at.held s.range entry ranges at.stands both locally released)
     (one_tick_taken world number stored at.held s.range released.ranges after released.rest stands.one_tick at.live both.one released.releases refl))
 
 -- the entry would have to be held back in the model too
@@ -459,10 +462,9 @@ deliver_held_already running world stands sound message number entry live sent i
     let at : LiveAt world number live.local = live_at running world stands number live is in
     let positive : 1 ≤ s.range.first = (sound.messages (RangeOf s.range) s.stands).positive in
     answer_follows running (stepped running) world world message number entry live Held s at
-    (inr (inr (
-      must_be_held world live.local (kept_by live.local at.base at.journal) at.held s.range entry at.stands s.entry_stands positive must,
-      inl ((held_alike world.history live.local.held at.held entry s.range at.stands.held s.entry_stands.same).0 has, (refl, refl)),
-    )))
+    (holds_back
+    (must_be_held world live.local (kept_by live.local at.base at.journal) at.held s.range entry at.stands s.entry_stands positive must)
+    (holds_already ((held_alike world.history live.local.held at.held entry s.range at.stands.held s.entry_stands.same).0 has) (refl, refl)))
     sound (stepped_stands running world stands)
 
 -- a message comes to a clone that holds too many others back
@@ -474,14 +476,12 @@ deliver_full running world stands sound message number entry live sent is must f
     let at : LiveAt world number live.local = live_at running world stands number live is in
     let positive : 1 ≤ s.range.first = (sound.messages (RangeOf s.range) s.stands).positive in
     answer_follows running (stepped running) world world message number entry live HeldFull s at
-    (inr (inr (
-      must_be_held world live.local (kept_by live.local at.base at.journal) at.held s.range entry at.stands s.entry_stands positive must,
-      inr (inl (
-        (λ h. full.lacks ((held_alike world.history live.local.held at.held entry s.range at.stands.held s.entry_stands.same).1 h)),
-        omega (arith, full.full, pairs_count (EntryStandsFor world.history) live.local.held at.held at.stands.held),
-        (refl, refl),
-      )),
-    )))
+    (holds_back
+    (must_be_held world live.local (kept_by live.local at.base at.journal) at.held s.range entry at.stands s.entry_stands positive must)
+    (holds_too_many
+    (λ h. full.lacks ((held_alike world.history live.local.held at.held entry s.range at.stands.held s.entry_stands.same).1 h))
+    (omega (arith, full.full, pairs_count (EntryStandsFor world.history) live.local.held at.held at.stands.held))
+    (refl, refl)))
     sound (stepped_stands running world stands)
 
 -- a message comes to a clone that holds it back from now on
@@ -504,15 +504,12 @@ deliver_held running world stands sound message number entry live new sent is mu
       pairs = at.stands.pairs;
     } in
     answer_follows running (stepped_with running number new) world (with_clone world number (Live stored held)) message number entry live Held s at
-    (inr (inr (
-      must_be_held world live.local stored at.held s.range entry at.stands s.entry_stands done.positive must,
-      inr (inr (
-        (λ h. lacks ((held_alike world.history live.local.held at.held entry s.range at.stands.held s.entry_stands.same).1 h)),
-        omega (arith, few, pairs_count (EntryStandsFor world.history) live.local.held at.held at.stands.held),
-        refl,
-        refl,
-      )),
-    )))
+    (holds_back
+    (must_be_held world live.local stored at.held s.range entry at.stands s.entry_stands done.positive must)
+    (holds_from_now
+    (λ h. lacks ((held_alike world.history live.local.held at.held entry s.range at.stands.held s.entry_stands.same).1 h))
+    (omega (arith, few, pairs_count (EntryStandsFor world.history) live.local.held at.held at.stands.held))
+    refl refl))
     (holding_sound world number stored at.held s.range sound at.live done)
     (changed_stands running world stands sound number new stored held
     (subst (λ (c : LocalClone). IsCloneOf world number c) (sym same) of)
@@ -545,21 +542,17 @@ pub show_follows : (running : RunningWorld) (world : World) → StandsFor runnin
 unfolding Step
 show_follows running world stands sound number live is =
     let at : LiveAt world number live.local = live_at running world stands number live is in
-    let P : Clone → Type 0 = λ c. Lists world c (Shows live.local.pairs) world in
-    record { next = world; steps = subst P (sym at.live) (live.local.pairs, at.stands.pairs, (refl, refl)); sound = sound; stands = stepped_stands running world stands }
+    staying_follows running world stands sound (Show number) (Shows live.local.pairs)
+    (live_does world (clone_at world number) (Shows live.local.pairs) world _ (kept_by live.local at.base at.journal) at.held at.live
+    (live.local.pairs, at.stands.pairs, (refl, refl)))
 
 -- a clone that isn't live shows no pairs
 pub show_missing : (running : RunningWorld) (world : World) → StandsFor running world → IsSound world → (number : ℕ) (state : RunningClone) (reply : Reply)
     → slice_get running.clones number ≡ Some state → IsMissingReply state reply → Follows world (Show number) reply (stepped running)
 unfolding Step
-show_missing running world stands sound number state reply is missing = record {
-  next = world;
-  steps = missing_by (λ c. Lists world c reply world) world number state (clone_at world number) reply
-      (λ is_reply. (is_reply, refl)) (λ is_reply. (is_reply, refl)) (λ is_reply. (is_reply, refl)) (λ stored is_reply. (is_reply, refl))
-      missing (stands.clones number state is);
-  sound = sound;
-  stands = stepped_stands running world stands;
-}
+show_missing running world stands sound number state reply is missing =
+    staying_follows running world stands sound (Show number) reply
+    (missing_replies world number state (clone_at world number) reply _ missing (stands.clones number state is))
 
 -- ---- compare
 
@@ -592,32 +585,29 @@ compare_follows running world stands sound number second live other reply is was
     let b : LiveAt world second other.local = live_at running world stands second other was in
     let one = within_alike world.history live.local other.local (kept_by live.local a.base a.journal) (kept_by other.local b.base b.journal) a.held b.held a.stands b.stands in
     let two = within_alike world.history other.local live.local (kept_by other.local b.base b.journal) (kept_by live.local a.base a.journal) b.held a.held b.stands a.stands in
-    let P : Clone → Type 0 = λ c. Weighs world c (clone_at world second) reply world in
-    let Q : Clone → Type 0 = λ c. ComparesWith world (kept_by live.local a.base a.journal) c reply world in
-    let found : Compares (known_of (kept_by live.local a.base a.journal)) (known_of (kept_by other.local b.base b.journal)) reply = elim compares [
-      | inl same ↦ inl (one.0 same.0, two.0 same.1, same.2)
-      | inr rest ↦ inr (elim rest [
-        | inl less ↦ inl (one.0 less.0, (λ w. less.1 (two.1 w)), less.2)
-        | inr rest ↦ inr (elim rest [
-          | inl more ↦ inl ((λ w. more.0 (one.1 w)), two.0 more.1, more.2)
-          | inr apart ↦ inr ((λ w. apart.0 (one.1 w)), (λ w. apart.1 (two.1 w)), apart.2)
-        ])
-      ])
+    let stored : Stored = kept_by live.local a.base a.journal in
+    let kept : Stored = kept_by other.local b.base b.journal in
+    let found : Compares (known_of stored) (known_of kept) reply = elim compares [
+      | inl same ↦ same_dots (one.0 same.0) (two.0 same.1) same.2
+      | inr rest ↦ elim rest [
+        | inl less ↦ fewer_dots (one.0 less.0) (λ w. less.1 (two.1 w)) less.2
+        | inr rest ↦ elim rest [
+          | inl more ↦ more_dots (λ w. more.0 (one.1 w)) (two.0 more.1) more.2
+          | inr apart ↦ dots_apart (λ w. apart.0 (one.1 w)) (λ w. apart.1 (two.1 w)) apart.2
+        ]
+      ]
     ] in
-    record { next = world; steps = subst P (sym a.live) (subst Q (sym b.live) (found, refl)); sound = sound; stands = stepped_stands running world stands }
+    staying_follows running world stands sound (Compare number second) reply
+    (live_does world (clone_at world number) reply world _ stored a.held a.live
+    (live_does world (clone_at world second) reply world _ kept b.held b.live (found, refl)))
 
 -- the first of two clones isn't live
 pub compare_missing_first : (running : RunningWorld) (world : World) → StandsFor running world → IsSound world → (number second : ℕ) (state : RunningClone) (reply : Reply)
     → slice_get running.clones number ≡ Some state → IsMissingReply state reply → Follows world (Compare number second) reply (stepped running)
 unfolding Step
-compare_missing_first running world stands sound number second state reply is missing = record {
-  next = world;
-  steps = missing_by (λ c. Weighs world c (clone_at world second) reply world) world number state (clone_at world number) reply
-      (λ is_reply. (is_reply, refl)) (λ is_reply. (is_reply, refl)) (λ is_reply. (is_reply, refl)) (λ stored is_reply. (is_reply, refl))
-      missing (stands.clones number state is);
-  sound = sound;
-  stands = stepped_stands running world stands;
-}
+compare_missing_first running world stands sound number second state reply is missing =
+    staying_follows running world stands sound (Compare number second) reply
+    (missing_replies world number state (clone_at world number) reply _ missing (stands.clones number state is))
 
 -- the second of two clones isn't live
 pub compare_missing_second : (running : RunningWorld) (world : World) → StandsFor running world → IsSound world → (number second : ℕ) (live : CloneValue) (state : RunningClone) (reply : Reply)
@@ -626,12 +616,6 @@ pub compare_missing_second : (running : RunningWorld) (world : World) → Stands
 unfolding Step
 compare_missing_second running world stands sound number second live state reply is was missing =
     let a : LiveAt world number live.local = live_at running world stands number live is in
-    let P : Clone → Type 0 = λ c. Weighs world c (clone_at world second) reply world in
-    record {
-      next = world;
-      steps = subst P (sym a.live) (missing_by (λ c. ComparesWith world (kept_by live.local a.base a.journal) c reply world) world second state (clone_at world second) reply
-          (λ is_reply. (is_reply, refl)) (λ is_reply. (is_reply, refl)) (λ is_reply. (is_reply, refl)) (λ stored is_reply. (is_reply, refl))
-          missing (stands.clones second state was));
-      sound = sound;
-      stands = stepped_stands running world stands;
-    }
+    staying_follows running world stands sound (Compare number second) reply
+    (live_does world (clone_at world number) reply world _ (kept_by live.local a.base a.journal) a.held a.live
+    (missing_replies world second state (clone_at world second) reply _ missing (stands.clones second state was)))
