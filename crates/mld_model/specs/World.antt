@@ -24,10 +24,14 @@ pub record World : Type 0 where
   pub clones : List Clone
   pub messages : List Message
 
--- the message of a number; the first has number 1
+-- the member of a number; the first has number 1
+abbrev pub numbered : {X : Type 0} → List X → ℕ → Option X
+numbered items zero = None
+numbered items (suc before) = slice_get items before
+
+-- the message of a number
 abbrev pub message_at : World → ℕ → Option Message
-message_at world zero = None
-message_at world (suc before) = slice_get world.messages before
+message_at world number = numbered world.messages number
 
 -- how many clones there are, absent ones with them: the constant of `src/limits.rt`
 abbrev pub clone_count : ℕ

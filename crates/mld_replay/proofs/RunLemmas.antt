@@ -13,8 +13,8 @@ use Rattle.mld_replay.specs.Ran.{Finishes, StopsAtBad, StopsAtUnbuilt, StopsAtLa
 use Rattle.mld_replay.specs.Stages.{StageStands, IsStandingStage, ActsWell, EndsWell, steps_of}
 use Rattle.mld_replay.specs.declared.stages.Stage.{Stage as RunningStage}
 use Rattle.mld_replay.specs.declared.stages.Stage.TheVariants as stages
-use Rattle.schedule_model.specs.RunsLaws.{one_verdict}
-use Rattle.schedule_model.specs.PromisesLaws.{promises_kept}
+use Rattle.schedule_model.proofs.RunsLaws.{one_verdict}
+use Rattle.schedule_model.proofs.PromisesLaws.{promises_kept}
 use Rattle.mld_replay.specs.declared.run.RunFault.{RunFault}
 use Rattle.mld_replay.specs.declared.run.RunFault.TheVariants as faults
 use Rattle.net_world.specs.declared.lines.LineRefusal.{LineRefusal}

@@ -5,7 +5,7 @@ use Rattle.mld_model.specs.World.{World}
 use Rattle.mld_model.specs.Reply.{Ready}
 use Rattle.mld_model.specs.Sound.{IsSound}
 use Rattle.mld_model.specs.StandsFor.{RunningWorld, StandsFor}
-use Rattle.mld_model.specs.FoundedLaws.{founded_sound}
+use Rattle.mld_model.proofs.FoundedLaws.{founded_sound}
 use Rattle.schedule_model.specs.ReplyText.{reply_text}
 use Rattle.schedule_model.specs.Runs.{Stage, Waiting, SetUp, Running, founded_by, IsWorldOf, says_nothing, sets_up, commands}
 use Rattle.schedule_model.specs.WorldStep.{Follows}

@@ -8,7 +8,7 @@ use Rattle.mld_model.specs.World.{clone_count}
 use Rattle.mld_model.specs.declared.CloneState.TheVariants as states
 use Rattle.mld_model.specs.Local.{LocalAsker, LocalClone, CloneValue, blank_clone, joined_clone, snapshot_of}
 use Rattle.mld_model.specs.StandsFor.{RunningClone, id_of, founded_local}
-use Rattle.mld_model.specs.StandsForLaws.{same_number}
+use Rattle.mld_model.proofs.StandsForLaws.{same_number}
 use Rattle.mld_ops.specs.Messages.{GiveValue}
 use Rattle.mld_ops.specs.Properties.{AreKept}
 use Rattle.mld_ops.specs.PropertiesLaws.{kept_same}

@@ -19,7 +19,7 @@ use Rattle.schedule_model.specs.Characters.{space}
 use Rattle.mld_model.specs.World.{clone_count}
 use Rattle.schedule_model.specs.declared.Command.{Command}
 use Rattle.schedule_model.specs.declared.Command.TheVariants.{Add, Remove, Deliver, Show, Compare, Join}
-use Rattle.schedule_model.specs.Bytes.{Lacks, Lacks-from_test, one_split, apart}
+use Rattle.schedule_model.proofs.LackingLaws.{Lacks, Lacks-from_test, one_split, apart}
 use Rattle.schedule_model.specs.Schedule.{Setup, SpellsSetup, SpellsCommand}
 use Rattle.net_world.specs.Reading.{IsTripleOf, IsCloneAndTriple, IsAddOf, IsRemoveOf, IsDeliverOf, IsShowOf, IsCompareOf, IsJoinOf}
 use Rattle.net_world.proofs.LinesText.{has_space}

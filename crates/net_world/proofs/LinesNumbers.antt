@@ -12,7 +12,7 @@ use Rattle.std.proofs.lemmas.Slice.Eq.{bytes_eq-Decides}
 use Rattle.std.proofs.lemmas.Str.{IsUtf8-from_ascii}
 use Rattle.schedule_model.specs.Characters.{space}
 use Rattle.mld_model.specs.World.{clone_count}
-use Rattle.schedule_model.specs.Bytes.{Lacks, Lacks-decimal, one_split}
+use Rattle.schedule_model.proofs.LackingLaws.{Lacks, Lacks-decimal, one_split}
 
 -- the number of a clone is a small number
 pub small : {number : ℕ} → number < clone_count → number < 2 ^ 64

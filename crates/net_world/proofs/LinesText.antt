@@ -8,7 +8,7 @@ use Rattle.std.specs.declared.result.Result.{Result}
 use Rattle.std.specs.declared.result.Result.TheVariants.{Ok, Err}
 use Rattle.std.proofs.lemmas.List.Sums.{take_while-cons}
 use Rattle.schedule_model.specs.Characters.{space, hash_mark}
-use Rattle.schedule_model.specs.Bytes.{Lacks, Lacks_parts}
+use Rattle.schedule_model.proofs.LackingLaws.{Lacks, Lacks_parts}
 use Rattle.schedule_model.specs.Schedule.{IsNothing, empty, comment, first_word}
 
 -- ---- spaces

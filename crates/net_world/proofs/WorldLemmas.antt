@@ -19,12 +19,12 @@ use Rattle.mld_model.specs.World.{World, Message as ModelMessage}
 use Rattle.mld_model.specs.Reply.{Reply, Did, NoOperation, Took, Held, Shows, Sent, Answer as Answers, Joined, NoMessage}
 use Rattle.mld_model.specs.Sound.{IsSound}
 use Rattle.mld_model.specs.Local.{LocalClone, CloneValue, IsNamed, next_dot}
-use Rattle.mld_model.specs.FoundedLaws.{founded_sound}
+use Rattle.mld_model.proofs.FoundedLaws.{founded_sound}
 use Rattle.mld_model.specs.StandsFor.{RunningClone, RunningWorld, MessageStandsFor, StandsFor, id_of, founded_running}
-use Rattle.mld_model.specs.StandsForLaws.{live_at, asking_at, good_sent}
+use Rattle.mld_model.proofs.StandsForLaws.{live_at, asking_at, good_sent}
 use Rattle.schedule_model.specs.WorldStep.{Follows, IsMissingReply, IsAwayReply}
-use Rattle.schedule_model.specs.WorldLaws.{founded_stands, stepped, stepped_with, stepped_sending, sent_message, SentAs, sent_as, LocallyCompares, next_tick_within, never_foreign, add_follows, add_missing, remove_follows, remove_nothing, remove_missing, deliver_nothing, deliver_missing, deliver_known, deliver_taken, deliver_held, deliver_held_already, deliver_full, show_follows, show_missing, compare_follows, compare_missing_first, compare_missing_second}
-use Rattle.schedule_model.specs.JoinLaws.{stepped_telling, join_absent, join_again, join_live, join_down, deliver_ask_own, deliver_deep, deliver_ask, deliver_give_live, deliver_joined, deliver_asking}
+use Rattle.schedule_model.proofs.WorldLaws.{founded_stands, stepped, stepped_with, stepped_sending, sent_message, SentAs, sent_as, LocallyCompares, next_tick_within, never_foreign, add_follows, add_missing, remove_follows, remove_nothing, remove_missing, deliver_nothing, deliver_missing, deliver_known, deliver_taken, deliver_held, deliver_held_already, deliver_full, show_follows, show_missing, compare_follows, compare_missing_first, compare_missing_second}
+use Rattle.schedule_model.proofs.JoinLaws.{stepped_telling, join_absent, join_again, join_live, join_down, deliver_ask_own, deliver_deep, deliver_ask, deliver_give_live, deliver_joined, deliver_asking}
 use Rattle.clone_core.specs.Calls.{ComparesAs}
 use Rattle.clone_core.specs.declared.answers.Covering.{Covering}
 use Rattle.clone_core.specs.declared.answers.Covering.TheVariants as covering

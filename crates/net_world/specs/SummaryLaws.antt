@@ -10,7 +10,7 @@ use Rattle.mld_model.specs.declared.CloneState.TheVariants as states
 use Rattle.mld_model.specs.Clone.{Clone, Absent, Asking, Empty, Down, Live, known_of}
 use Rattle.mld_model.specs.World.{World}
 use Rattle.mld_model.specs.StandsFor.{RunningClone, RunningWorld, LocalStandsFor, CloneStandsFor}
-use Rattle.schedule_model.specs.WorldLaws.{same_ranges}
+use Rattle.schedule_model.proofs.WorldLaws.{same_ranges}
 use Rattle.net_world.specs.declared.summaries.CloneSummary.{CloneSummary}
 use Rattle.net_world.specs.declared.summaries.Summary.{Summary}
 use Rattle.net_world.specs.Summaries.{TellsOfClone, TellsOfClones, Summarizes, SummarizesAll, Tells}

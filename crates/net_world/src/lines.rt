@@ -2,7 +2,7 @@
 ghost use Rattle.std.specs.Prelude.{◌≡◌, ◌≢◌, ◌<◌, ◌≤◌, ◌^◌, ◌++◌, ◌∷◌, ◌↔◌, ◌||◌, ℕ, List, codes, IsTrue, IfOk, IsErrOf, MatchOption, EachIndex, slice_index, length};
 ghost use Rattle.std.specs.List.{list_any};
 ghost use Rattle.std.specs.Fmt.{decimal};
-ghost use Rattle.schedule_model.specs.Bytes.{Lacks};
+ghost use Rattle.schedule_model.specs.Lacking.{Lacks};
 ghost use Rattle.schedule_model.specs.Characters.{space};
 ghost use Rattle.iri_rules.specs.Domain.{is_domain};
 ghost use Rattle.rdf_terms.specs.declared.terms.Triple.{Triple};

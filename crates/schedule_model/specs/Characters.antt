@@ -1,14 +1,7 @@
--- The bytes of a schedule and of its replies that stand alone, by name.
+-- The bytes of a schedule and of its replies that stand alone, by name: a space stands between the parts of a line, and LF ends it.
 use Rattle.std.specs.Prelude.{ℕ}
-
--- ` `, which stands between the parts of a line
-abbrev pub space : ℕ
-space = 32
+pub use Rattle.rdf_terms.specs.Marks.{space, line_feed as line_end}
 
 -- `#`, with which a comment begins
 abbrev pub hash_mark : ℕ
 hash_mark = 35
-
--- LF, which ends a line
-abbrev pub line_end : ℕ
-line_end = 10

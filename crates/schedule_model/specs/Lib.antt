@@ -5,16 +5,7 @@ pub mod DurableSteps
 pub mod Schedule
 pub mod Runs
 pub mod WorldStep
-pub mod WorldLaws
-pub mod JoinLaws
-pub mod Bytes
+pub mod Lacking
 pub mod Answers
 pub mod Promises
 pub mod Laws
-pub mod ScheduleLaws
-pub mod StepLaws
-pub mod RunsLaws
-pub mod StepSoundLaws
-pub mod AnswersLaws
-pub mod PromisesLaws
-pub mod DurableLaws

@@ -1,4 +1,4 @@
-use Rattle.schedule_model.specs.AnswersLaws as laws
+use Rattle.schedule_model.proofs.AnswersLaws as laws
 use Rattle.schedule_model.proofs.soundness.answers_survive.Goals as goal
 
 pub returns-clause-add : goal.returns-clause-add

@@ -1,4 +1,4 @@
-use Rattle.schedule_model.specs.PromisesLaws as laws
+use Rattle.schedule_model.proofs.PromisesLaws as laws
 use Rattle.schedule_model.proofs.soundness.promises_kept.Goals as goal
 
 pub returns : goal.returns

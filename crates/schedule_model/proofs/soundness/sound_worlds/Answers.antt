@@ -1,5 +1,5 @@
-use Rattle.mld_model.specs.FoundedLaws.{founded_sound}
-use Rattle.schedule_model.specs.StepSoundLaws as laws
+use Rattle.mld_model.proofs.FoundedLaws.{founded_sound}
+use Rattle.schedule_model.proofs.StepSoundLaws as laws
 use Rattle.schedule_model.proofs.soundness.sound_worlds.Goals as goal
 
 pub returns-clause-founded : goal.returns-clause-founded

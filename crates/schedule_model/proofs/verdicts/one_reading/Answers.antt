@@ -1,4 +1,4 @@
-use Rattle.schedule_model.specs.ScheduleLaws.{one_kind, one_setup, one_command}
+use Rattle.schedule_model.proofs.ScheduleLaws.{one_kind, one_setup, one_command}
 use Rattle.schedule_model.proofs.verdicts.one_reading.Goals as goal
 
 pub returns-clause-kind : goal.returns-clause-kind

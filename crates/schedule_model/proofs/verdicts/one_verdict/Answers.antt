@@ -1,4 +1,4 @@
-use Rattle.schedule_model.specs.RunsLaws as laws
+use Rattle.schedule_model.proofs.RunsLaws as laws
 use Rattle.schedule_model.proofs.verdicts.one_verdict.Goals as goal
 
 pub returns-clause-act : goal.returns-clause-act

@@ -14,13 +14,13 @@ use Rattle.mld_ops.specs.PickingLaws.{first_is, pairs_none, pairs_drop, pairs_fi
 use Rattle.mld_ops.specs.Ready.{last_dot, IsKnownEntry, IsReadyEntry}
 use Rattle.mld_model.specs.Clone.{Stored, known_of, with_range, IsKnown, IsReady, Releases}
 use Rattle.mld_model.specs.Sound.{IsSoundClone, IsDoneRange}
-use Rattle.mld_model.specs.SoundLaws.{taker_stays_sound}
+use Rattle.mld_model.proofs.SoundLaws.{taker_stays_sound}
 use Rattle.mld_model.specs.Local.{LocalClone, LeadsTo, LocallyReleases, LocallyAccepts}
 use Rattle.mld_ops.specs.Held.{ranges_of}
 use Rattle.mld_model.specs.StandsFor.{EntryStandsFor, LocalStandsFor}
-use Rattle.mld_model.specs.KnownLaws.{known_with}
-use Rattle.mld_model.specs.PairsLaws.{pairs_append}
-use Rattle.mld_model.specs.LocalLaws.{KnowsAs, known_alike, ready_alike, raised_knows, taker_knows}
+use Rattle.mld_model.proofs.KnownLaws.{known_with}
+use Rattle.mld_model.proofs.PairsLaws.{pairs_append}
+use Rattle.mld_model.proofs.LocalLaws.{KnowsAs, known_alike, ready_alike, raised_knows, taker_knows}
 
 -- an entry stands for a range of one tick that is done
 pub record StandsDone (history : List Operation) (entry : EntryValue) (range : Range) : Type 0 where

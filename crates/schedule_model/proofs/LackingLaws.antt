@@ -1,15 +1,11 @@
--- Texts that lack a byte, and texts that are split at the first byte of a kind.
+-- Laws of texts that lack a byte, and of texts that are split at the first byte of a kind.
 use Rattle.std.specs.Prelude.{◌≡◌, ◌≢◌, ℕ, ◌+◌, ◌%◌, ◌^◌, ◌<◌, List, [], ◌∷◌, ◌++◌, Bool, false, true, ◌==◌, IsTrue, nat_eq}
 use Rattle.std.specs.List.{list_all, list_any}
 use Rattle.std.specs.Fmt.{decimal}
 use Rattle.std.proofs.Common.{refl, sym, ◌∙◌, subst, arith}
 use Rattle.std.proofs.lemmas.Bool.{false≢true, and_parts, ne_eqb, eq-eqb}
 use Rattle.std.proofs.lemmas.Fmt.{decimal_by_steps}
-
--- the text has no such byte
-abbrev pub Lacks : ℕ → List ℕ → Type 0
-Lacks byte [] = Unit {0}
-Lacks byte (first ∷ rest) = (first ≢ byte) × Lacks byte rest
+pub use Rattle.schedule_model.specs.Lacking.{Lacks}
 
 -- two texts that lack it do so together
 pub Lacks-append : (byte : ℕ) (front rest : List ℕ) → Lacks byte front → Lacks byte rest → Lacks byte (front ++ rest)

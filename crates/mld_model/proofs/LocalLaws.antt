@@ -27,8 +27,8 @@ use Rattle.mld_model.specs.CloneStep.{IsNextTick}
 use Rattle.mld_model.specs.Sound.{IsDoneRange}
 use Rattle.mld_model.specs.Local.{LocalClone, next_dot, LocallyMakes}
 use Rattle.mld_model.specs.StandsFor.{EntryStandsFor, LocalStandsFor, SnapshotStandsFor}
-use Rattle.mld_model.specs.KnownLaws.{known_with, known_with-old, known_with-new, known_with-split}
-use Rattle.mld_model.specs.HistoryLaws.{done_not_fresh}
+use Rattle.mld_model.proofs.KnownLaws.{known_with, known_with-old, known_with-new, known_with-split}
+use Rattle.mld_model.proofs.HistoryLaws.{done_not_fresh}
 
 -- what a running clone stands for has its path
 abbrev pub kept_by : LocalClone → List Range → List Range → Stored

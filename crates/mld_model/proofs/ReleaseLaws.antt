@@ -8,7 +8,7 @@ use Rattle.mld_ops.specs.History.{Operation}
 use Rattle.mld_ops.specs.Picking.{TakesFirst}
 use Rattle.mld_ops.specs.PickingLaws.{drops_one, first_one, none_no_first, first_member, rest_members, kept_members}
 use Rattle.mld_model.specs.Clone.{Stored, known_of, with_range, IsKnown, IsReady, Releases}
-use Rattle.mld_model.specs.KnownLaws.{known_with-old}
+use Rattle.mld_model.proofs.KnownLaws.{known_with-old}
 
 -- what is released is one list, and so is what is left
 pub releases_once : (history : List Operation) (stored : Stored) (held taken other : List Range) (after next : Stored) (left rest : List Range)

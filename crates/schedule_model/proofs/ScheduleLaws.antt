@@ -12,7 +12,7 @@ use Rattle.mld_model.specs.World.{clone_count}
 use Rattle.schedule_model.specs.declared.Command.{Command}
 use Rattle.schedule_model.specs.declared.Command.TheVariants.{Add, Remove, Deliver, Show, Compare, Join}
 use Rattle.schedule_model.specs.Schedule.{IsNothing, empty, comment, is_unbuilt, Setup, SpellsSetup, SpellsCommand}
-use Rattle.schedule_model.specs.Bytes.{Lacks, Lacks-from_test, Lacks-decimal, one_split, apart}
+use Rattle.schedule_model.proofs.LackingLaws.{Lacks, Lacks-from_test, Lacks-decimal, one_split, apart}
 use Rattle.rdf_terms.proofs.Complete.{one_spelled}
 use Rattle.schedule_model.specs.Step.{HasCloneNumbers}
 use Rattle.schedule_model.specs.Laws.{OneKind, OneSetup, OneCommand}

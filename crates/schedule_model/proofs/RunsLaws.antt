@@ -9,8 +9,8 @@ use Rattle.schedule_model.specs.Step.{Step}
 use Rattle.schedule_model.specs.Schedule.{Setup}
 use Rattle.schedule_model.specs.Runs.{Stage, Waiting, SetUp, Running, founded_by, IsWorldOf, SetsUp, Commands, Acts, says_nothing, sets_up, commands, Runs, IsUnbuilt, IsBad, IsFirst, IsBadRest, bad_line, no_domain, Outcome, Finished, BadLine, UnbuiltLine, Verdict}
 use Rattle.schedule_model.specs.Laws.{OneAct, OneOutcome, OneRun, OneVerdict}
-use Rattle.schedule_model.specs.ScheduleLaws.{one_kind, one_setup, one_command}
-use Rattle.schedule_model.specs.StepLaws.{one_step}
+use Rattle.schedule_model.proofs.ScheduleLaws.{one_kind, one_setup, one_command}
+use Rattle.schedule_model.proofs.StepLaws.{one_step}
 
 -- ---- lines
 

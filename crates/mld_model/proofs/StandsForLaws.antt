@@ -14,15 +14,15 @@ use Rattle.mld_ops.specs.Messages.{MessageValue, CarriesEntry, CarriesAsk, Carri
 use Rattle.mld_model.specs.Clone.{Clone, Absent, Asking, Empty, Down, Live, Stored}
 use Rattle.mld_model.specs.World.{World, Message, RangeOf, JoinAsk, JoinGive, clone_at, clone_count}
 use Rattle.mld_model.specs.Local.{LocalAsker, LocalClone, CloneValue, IsSameClone}
-use Rattle.mld_model.specs.PairsLaws.{PairAt, pair_at}
+use Rattle.mld_model.proofs.PairsLaws.{PairAt, pair_at}
 use Rattle.mld_model.specs.declared.NoDevice.{NoDevice}
 use Rattle.mld_model.specs.Sound.{IsSoundMessage, IsSound}
 use Rattle.mld_model.specs.declared.CloneState.TheVariants as states
 use Rattle.mld_model.specs.StandsFor.{RunningClone, RunningWorld, IsCloneOf, IsAskerOf, LocalStandsFor, CloneStandsFor, MessageStandsFor, StandsFor, id_of}
-use Rattle.mld_model.specs.SoundLaws.{live_sound}
-use Rattle.mld_model.specs.JournalLaws.{journal_done}
-use Rattle.mld_model.specs.HistoryLaws.{done_not_fresh}
-use Rattle.mld_model.specs.LocalLaws.{kept_by, entry_still_stands, local_still_stands}
+use Rattle.mld_model.proofs.SoundLaws.{live_sound}
+use Rattle.mld_model.proofs.JournalLaws.{journal_done}
+use Rattle.mld_model.proofs.HistoryLaws.{done_not_fresh}
+use Rattle.mld_model.proofs.LocalLaws.{kept_by, entry_still_stands, local_still_stands}
 
 -- ---- clones, one by one
 
@@ -63,28 +63,26 @@ asking_from : (world : World) (number : ℕ) (running : LocalAsker) (clone : Clo
 asking_from world number running Asking at stands = record { asking = at; is = stands }
 asking_from world number running clone at stands = absurd stands
 
--- where a clone runs, the model has a live clone for which it stands
-pub live_at : (running : RunningWorld) (world : World) → StandsFor running world → (number : ℕ) (live : CloneValue)
-    → slice_get running.clones number ≡ Some (states.Live live) → LiveAt world number live.local
-live_at running world stands number live is =
-    live_from world number live (clone_at world number) refl (stands.clones number (states.Live live) is)
+-- a running world that stands for a world
+module _ (running : RunningWorld) (world : World) (stands : StandsFor running world) where
+  -- where a clone runs, the model has a live clone for which it stands
+  pub live_at : (number : ℕ) (live : CloneValue) → slice_get running.clones number ≡ Some (states.Live live) → LiveAt world number live.local
+  live_at number live is =
+      live_from world number live (clone_at world number) refl (stands.clones number (states.Live live) is)
 
--- where a clone is absent, the model's clone is
-pub absent_at : (running : RunningWorld) (world : World) → StandsFor running world → (number : ℕ) (blank : NoDevice)
-    → slice_get running.clones number ≡ Some (states.Absent blank) → clone_at world number ≡ Absent
-absent_at running world stands number blank is =
-    absent_from world number blank (clone_at world number) (stands.clones number (states.Absent blank) is)
+  -- where a clone is absent, the model's clone is
+  pub absent_at : (number : ℕ) (blank : NoDevice) → slice_get running.clones number ≡ Some (states.Absent blank) → clone_at world number ≡ Absent
+  absent_at number blank is =
+      absent_from world number blank (clone_at world number) (stands.clones number (states.Absent blank) is)
 
--- where one asks, the model's clone of that number asks
-pub asking_at : (running : RunningWorld) (world : World) → StandsFor running world → (number : ℕ) (asker : LocalAsker)
-    → slice_get running.clones number ≡ Some (states.Asking asker) → AskingAt world number asker
-asking_at running world stands number asker is =
-    asking_from world number asker (clone_at world number) refl (stands.clones number (states.Asking asker) is)
+  -- where one asks, the model's clone of that number asks
+  pub asking_at : (number : ℕ) (asker : LocalAsker) → slice_get running.clones number ≡ Some (states.Asking asker) → AskingAt world number asker
+  asking_at number asker is =
+      asking_from world number asker (clone_at world number) refl (stands.clones number (states.Asking asker) is)
 
--- a clone in whatever state stands at one of the places
-pub place_of_state : (running : RunningWorld) (world : World) → StandsFor running world → (number : ℕ) (state : RunningClone)
-    → slice_get running.clones number ≡ Some state → number < clone_count
-place_of_state running world stands number state is = omega (arith, slice_get_within running.clones number state is, stands.count)
+  -- a clone in whatever state stands at one of the places
+  pub place_of_state : (number : ℕ) (state : RunningClone) → slice_get running.clones number ≡ Some state → number < clone_count
+  place_of_state number state is = omega (arith, slice_get_within running.clones number state is, stands.count)
 
 -- a list of clones doesn't change where one of them is set to the state that it has
 pub set_as_it_is : (clones : List RunningClone) (number : ℕ) (state : RunningClone) → slice_get clones number ≡ Some state → set clones number state ≡ clones

@@ -12,7 +12,7 @@ use Rattle.mld_ops.specs.HistoryLaws.{one_operation, range_of_has, knows_last}
 use Rattle.mld_ops.specs.Net.{IsTime}
 use Rattle.mld_ops.specs.Ready.{last_dot}
 use Rattle.mld_model.specs.Sound.{MayFollow, IsSoundJournal, IsDoneRange}
-use Rattle.mld_model.specs.HistoryLaws.{IsClosed-more, done_not_fresh}
+use Rattle.mld_model.proofs.HistoryLaws.{IsClosed-more, done_not_fresh}
 
 -- the dots that a journal is over are closed
 pub journal_over : (history : List Operation) (known journal : List Range) → IsSoundJournal history known journal → IsClosed history known

@@ -1,0 +1,14 @@
+pub mod StateLaws
+pub mod PairsLaws
+pub mod LocalLaws
+pub mod ReleasedLaws
+pub mod OneTickLaws
+pub mod StandsForLaws
+pub mod KnownLaws
+pub mod ReleaseLaws
+pub mod HistoryLaws
+pub mod JournalLaws
+pub mod LeafLaws
+pub mod SoundLaws
+pub mod JoiningLaws
+pub mod FoundedLaws

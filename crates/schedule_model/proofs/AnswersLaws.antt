@@ -1,0 +1,407 @@
+-- What an answer that tells of a dot promises is kept by each step, and so by each run.
+use Rattle.std.specs.Prelude.{◌≡◌, ℕ, ◌<◌, List, [], ◌∷◌, ◌++◌, Option, Some, None, MatchOption, length}
+use Rattle.std.proofs.Common.{refl, sym, ◌∙◌, ap, subst, inl, inr, get_or, set}
+use Rattle.std.proofs.lemmas.Bool.{cases_eq}
+use Rattle.std.proofs.lemmas.List.{get_or-set_same, get_or-set_other}
+use Rattle.rdf_terms.specs.declared.terms.Triple.{Triple}
+use Rattle.tree_clock.specs.declared.dots.Dot.{Dot}
+use Rattle.tree_clock.specs.declared.dots.Range.{Range}
+use Rattle.tree_clock.specs.Lists.{Has}
+use Rattle.tree_clock.specs.Dot.{Knows}
+use Rattle.mld_ops.specs.declared.tagged.Tagged.{Tagged}
+use Rattle.mld_ops.specs.History.{Operation, dot_at}
+use Rattle.mld_ops.specs.Meaning.{IsMeaning}
+use Rattle.mld_ops.specs.Effect.{range_of}
+use Rattle.mld_ops.specs.HistoryLaws.{range_of_has}
+use Rattle.schedule_model.specs.declared.Command.TheVariants.{Add, Remove, Deliver, Show, Compare, Join}
+use Rattle.mld_model.specs.Clone.{Clone, Absent, Asking, Empty, Down, Live, Stored, known_of, with_range}
+use Rattle.mld_model.specs.World.{World, Message, RangeOf, JoinAsk, JoinGive, message_at, clone_at}
+use Rattle.mld_model.specs.Reply.{Reply, Did, NoMessage}
+use Rattle.mld_model.specs.CloneStep.{Answers, Makes, Adds, ArePairsOf, Deletes, finds_none, deletes_all, Removes, holds_already, holds_too_many, holds_from_now, Receives, knows_already, accepts, holds_back, Joins, left_half, Gives, asked_itself, is_too_deep, forks, joined_with, Adopts, becomes_live, leaves_it, Takes, Lists, Compares, same_dots, fewer_dots, more_dots, dots_apart, ComparesWith, Weighs}
+use Rattle.mld_model.proofs.StateLaws.{IsState, is_absent, is_asking, is_down, if_live}
+use Rattle.schedule_model.specs.Step.{Step}
+use Rattle.schedule_model.specs.Runs.{Stage, Waiting, SetUp, Running, Commands, Acts, says_nothing, commands, Runs}
+use Rattle.mld_model.specs.Sound.{Keeps}
+use Rattle.mld_model.proofs.LeafLaws.{place_of_clone}
+use Rattle.mld_model.proofs.ReleaseLaws.{releases_known}
+use Rattle.mld_model.proofs.KnownLaws.{known_with-old, known_with-new}
+use Rattle.schedule_model.proofs.StepSoundLaws.{lists_same, weighs_same}
+use Rattle.schedule_model.specs.Answers.{Remembers, RemembersAdd, RemembersRemove}
+use Rattle.schedule_model.specs.Laws.{AddRemembers, RemoveRemembers, DidRemembers, StepRemembers, AnswersSurvive}
+
+-- ---- the step that makes an operation
+
+-- a number at which a live clone stands is one of the places
+place_of_live : (world : World) (number : ℕ) (stored : Stored) (held : List Range) → clone_at world number ≡ Live stored held → number < length world.clones
+place_of_live world number stored held is =
+    place_of_clone world.clones number stored (subst (λ (clone : Clone). Keeps clone stored) (sym is) refl)
+
+-- the operation of a clone with this tick
+abbrev own_operation : Stored → ℕ → List Tagged → List Triple → Operation
+own_operation stored tick deletes inserts = record { dot = dot_at stored.path tick; causes = known_of stored; deletes = deletes; inserts = inserts }
+
+-- the clone that made an operation remembers it
+makes_remembers : (world : World) (number : ℕ) (stored : Stored) (held : List Range) (deletes : List Tagged) (inserts : List Triple) (reply : Reply) (next : World)
+    → clone_at world number ≡ Live stored held → (made : Makes world number stored held deletes inserts reply next)
+    → Remembers next number (own_operation stored made.tick deletes inserts)
+makes_remembers world number stored held deletes inserts reply next is made =
+    let own : Dot = dot_at stored.path made.tick in
+    let inside : number < length world.clones = place_of_live world number stored held is in
+    subst (λ (world : World). Remembers world number (own_operation stored made.tick deletes inserts)) (sym made.changes) (record {
+      stored = with_range stored (range_of own);
+      keeps = subst (λ (clone : Clone). Keeps clone (with_range stored (range_of own)))
+          (sym (get_or-set_same world.clones number (Live (with_range stored (range_of own)) held) Absent inside)) refl;
+      known = known_with-new stored (range_of own) own (range_of_has own own refl);
+      stands = inl refl;
+    })
+
+-- and it stands at the head of the history
+made_head : (world : World) (number : ℕ) (stored : Stored) (held : List Range) (deletes : List Tagged) (inserts : List Triple) (reply : Reply) (next : World)
+    → (made : Makes world number stored held deletes inserts reply next)
+    → next.history ≡ own_operation stored made.tick deletes inserts ∷ world.history
+made_head world number stored held deletes inserts reply next made = ap (λ (w : World). w.history) made.changes
+
+-- the answer tells of the operation's dot
+told_dot : (own dot : Dot) (count message : ℕ) → Did dot message ≡ Did own count → own ≡ dot
+told_dot own dot count message told = cc
+
+-- how two sets of dots compare is told without a dot
+compares_tell_none : (known other : List Range) (dot : Dot) (message : ℕ) → ¬ Compares known other (Did dot message)
+compares_tell_none known other dot message (same_dots within back told) = cc told
+compares_tell_none known other dot message (fewer_dots within beyond told) = cc told
+compares_tell_none known other dot message (more_dots outside back told) = cc told
+compares_tell_none known other dot message (dots_apart outside beyond told) = cc told
+
+-- a step that is answered with a dot, and the world after it
+module _ (world next : World) (dot : Dot) (message : ℕ) where
+  -- a clone's state tells of no dot
+  state_tells_none : (answer : Reply) → IsState answer → ¬ Answers world answer (Did dot message) next
+  state_tells_none answer is_absent p = cc (p.0)
+  state_tells_none answer is_asking p = cc (p.0)
+  state_tells_none answer is_down p = cc (p.0)
+
+  -- an `add` that tells of a dot made an operation, and its clone remembers it
+  adds_remembers : (number : ℕ) (triple : Triple) (clone : Clone) → clone_at world number ≡ clone → Adds world number triple clone (Did dot message) next
+      → RemembersAdd world number triple dot next
+  adds_remembers number triple clone is =
+      if_live (RemembersAdd world number triple dot next) world clone (Did dot message) next
+      (λ stored held. Makes world number stored held [] (triple ∷ []) (Did dot message) next)
+      (λ answer state p. absurd (state_tells_none answer state p))
+      (λ stored held live p. (
+        own_operation stored p.tick [] (triple ∷ []),
+        record { is = told_dot (dot_at stored.path p.tick) dot _ message p.replies; inserts = refl; deletes = refl },
+        made_head world number stored held [] (triple ∷ []) (Did dot message) next p,
+        makes_remembers world number stored held [] (triple ∷ []) (Did dot message) next (is ∙ live) p,
+      ))
+
+  -- where pairs were deleted that are the triple's, and the answer tells of a dot
+  deletes_remembers : (number : ℕ) (triple : Triple) (stored : Stored) (held : List Range) (pairs deletes : List Tagged) → clone_at world number ≡ Live stored held
+      → IsMeaning world.history (known_of stored) pairs → ArePairsOf triple pairs deletes → Deletes world number stored held deletes (Did dot message) next
+      → RemembersRemove world number triple dot next
+  deletes_remembers number triple stored held pairs deletes is meant are (finds_none none p) = absurd (cc (p.0))
+  deletes_remembers number triple stored held pairs deletes is meant are (deletes_all some p) = (
+    own_operation stored p.tick deletes [],
+    record {
+      is = told_dot (dot_at stored.path p.tick) dot _ message p.replies;
+      inserts = refl;
+      some = some;
+      stored = stored;
+      held = held;
+      live = is;
+      pairs = pairs;
+      meant = meant;
+      deletes = are;
+    },
+    made_head world number stored held deletes [] (Did dot message) next p,
+    makes_remembers world number stored held deletes [] (Did dot message) next is p,
+  )
+
+  -- so did a `remove`
+  removes_remembers : (number : ℕ) (triple : Triple) (clone : Clone) → clone_at world number ≡ clone → Removes world number triple clone (Did dot message) next
+      → RemembersRemove world number triple dot next
+  removes_remembers number triple clone is =
+      if_live (RemembersRemove world number triple dot next) world clone (Did dot message) next _
+      (λ answer state p. absurd (state_tells_none answer state p))
+      (λ stored held live p. deletes_remembers number triple stored held p.0 p.1 (is ∙ live) p.2 p.3 p.4)
+
+  -- a range that comes to a live clone is answered without a dot
+  receives_tell_none : (number : ℕ) (stored : Stored) (held : List Range) (range : Range) → ¬ Receives world number stored held range (Did dot message) next
+  receives_tell_none number stored held range (knows_already known p) = cc (p.0)
+  receives_tell_none number stored held range (accepts p) = cc (p.replies)
+  receives_tell_none number stored held range (holds_back back (holds_already has p)) = cc (p.0)
+  receives_tell_none number stored held range (holds_back back (holds_too_many lacks full p)) = cc (p.0)
+  receives_tell_none number stored held range (holds_back back (holds_from_now lacks few told is)) = cc told
+
+  -- and so is a question for a leaf
+  gives_tell_none : (number : ℕ) (stored : Stored) (held : List Range) (id : ℕ) → ¬ Gives world number stored held id (Did dot message) next
+  gives_tell_none number stored held id (asked_itself own p) = cc (p.0)
+  gives_tell_none number stored held id (is_too_deep differs deep p) = cc (p.0)
+  gives_tell_none number stored held id (forks differs room told is) = cc told
+
+  -- a leaf that comes to a clone that asks
+  adopts_tell_none : (number id : ℕ) (path : List ℕ) (dots : List Range) → ¬ Adopts world number id path dots (Did dot message) next
+  adopts_tell_none number id path dots (becomes_live own told is) = cc told
+  adopts_tell_none number id path dots (leaves_it differs p) = cc (p.0)
+
+  -- whatever comes to a clone
+  takes_tell_none : (number : ℕ) (sent : Message) (clone : Clone) → ¬ Takes world number sent clone (Did dot message) next
+  takes_tell_none number sent Absent p = cc (p.0)
+  takes_tell_none number (JoinGive id path dots) Asking p = adopts_tell_none number id path dots p
+  takes_tell_none number sent Asking p = cc (p.0)
+  takes_tell_none number sent Empty p = cc (p.0)
+  takes_tell_none number sent (Down stored) p = cc (p.0)
+  takes_tell_none number (RangeOf range) (Live stored held) p = receives_tell_none number stored held range p
+  takes_tell_none number (JoinAsk id) (Live stored held) p = gives_tell_none number stored held id p
+  takes_tell_none number (JoinGive id path dots) (Live stored held) p = cc (p.0)
+  takes_tell_none number sent clone p = p
+
+  -- a `deliver`
+  delivers_tell_none : (number : ℕ) (sent : Option Message)
+      → ¬ MatchOption sent (Answers world NoMessage (Did dot message) next) (λ it. Takes world number it (clone_at world number) (Did dot message) next)
+  delivers_tell_none number None p = cc (p.0)
+  delivers_tell_none number (Some it) p = takes_tell_none number it (clone_at world number) p
+
+  -- a `show`
+  lists_tell_none : (clone : Clone) → ¬ Lists world clone (Did dot message) next
+  lists_tell_none clone =
+      if_live ⊥ world clone (Did dot message) next _ (λ answer state. state_tells_none answer state) (λ stored held live p. cc (p.2.0))
+
+  -- a `join`
+  joins_tell_none : (number : ℕ) (clone : Clone) → ¬ Joins world number clone (Did dot message) next
+  joins_tell_none number Absent p = cc (p.0)
+  joins_tell_none number Asking p = cc (p.0)
+  joins_tell_none number Empty p = cc (p.0)
+  joins_tell_none number (Down stored) p = cc (p.0)
+  joins_tell_none number (Live stored held) p = cc (p.0)
+
+  compares_with_tell_none : (stored : Stored) (clone : Clone) → ¬ ComparesWith world stored clone (Did dot message) next
+  compares_with_tell_none stored clone =
+      if_live ⊥ world clone (Did dot message) next _ (λ answer state. state_tells_none answer state)
+      (λ other held live p. compares_tell_none (known_of stored) (known_of other) dot message p.0)
+
+  weighs_tell_none : (clone other : Clone) → ¬ Weighs world clone other (Did dot message) next
+  weighs_tell_none clone other =
+      if_live ⊥ world clone (Did dot message) next _ (λ answer state. state_tells_none answer state)
+      (λ stored held live. compares_with_tell_none stored other)
+
+-- the dot that an `add` tells of is that of an operation which inserts just the triple, and the clone remembers it
+pub add_remembers : AddRemembers
+unfolding Step
+add_remembers world number triple dot message next p = adds_remembers world next dot message number triple (clone_at world number) refl p
+
+-- the dot that a `remove` tells of is that of an operation which deletes the pairs of the triple, and the clone remembers it
+pub remove_remembers : RemoveRemembers
+unfolding Step
+remove_remembers world number triple dot message next p = removes_remembers world next dot message number triple (clone_at world number) refl p
+
+-- the dot that a command tells of is that of an operation which its step put at the head of the history, and its clone
+-- remembers it
+pub did_remembers : DidRemembers
+unfolding Step
+did_remembers world (Add number triple) dot message next p =
+    let made = adds_remembers world next dot message number triple (clone_at world number) refl p in
+    record { operation = made.0; is = made.1.is; made = made.2; remembers = made.3 }
+did_remembers world (Remove number triple) dot message next p =
+    let made = removes_remembers world next dot message number triple (clone_at world number) refl p in
+    record { operation = made.0; is = made.1.is; made = made.2; remembers = made.3 }
+did_remembers world (Deliver sent number) dot message next p = absurd (delivers_tell_none world next dot message number (message_at world sent) p)
+did_remembers world (Show number) dot message next p = absurd (lists_tell_none world next dot message (clone_at world number) p)
+did_remembers world (Join number) dot message next p = absurd (joins_tell_none world next dot message number (clone_at world number) p)
+did_remembers world (Compare number other) dot message next p = absurd (weighs_tell_none world next dot message (clone_at world number) (clone_at world other) p)
+
+-- ---- the steps behind it
+
+-- what is remembered before a step is remembered after it
+module _ (world next : World) (number : ℕ) (operation : Operation) (remembers : Remembers world number operation) where
+  -- a world that is left as it was remembers what it did
+  same_remembers : next ≡ world → Remembers next number operation
+  same_remembers same = subst (λ (world : World). Remembers world number operation) (sym same) remembers
+
+  -- a world where one live clone knows no fewer dots, and whose history has grown, remembers what it did
+  grown_remembers : (grower : ℕ) (stored grown : Stored) (held left : List Range) → clone_at world grower ≡ Live stored held
+      → next.clones ≡ set world.clones grower (Live grown left) → ((dot : Dot) → Knows (known_of stored) dot → Knows (known_of grown) dot)
+      → ((other : Operation) → Has world.history other → Has next.history other) → Remembers next number operation
+  grown_remembers grower stored grown held left live clones knows grows =
+      let now : Clone = Live grown left in
+      let at : clone_at next number ≡ get_or (set world.clones grower now) number Absent = ap (λ (cs : List Clone). get_or cs number Absent) clones in
+      elim (cases_eq number grower) [
+        | inl same ↦
+            let here : clone_at world number ≡ Live stored held = subst (λ (k : ℕ). clone_at world k ≡ Live stored held) (sym same) live in
+            let kept : remembers.stored ≡ stored = sym (subst (λ (clone : Clone). Keeps clone remembers.stored) here remembers.keeps) in
+            let live_now : clone_at next number ≡ now =
+            at ∙ ap (λ (k : ℕ). get_or (set world.clones grower now) k Absent) same
+            ∙ get_or-set_same world.clones grower now Absent (place_of_live world grower stored held live) in
+            record {
+              stored = grown;
+              keeps = subst (λ (clone : Clone). Keeps clone grown) (sym live_now) refl;
+              known = knows operation.dot (subst (λ (s : Stored). Knows (known_of s) operation.dot) kept remembers.known);
+              stands = grows operation remembers.stands;
+            }
+        | inr differs ↦ record {
+          stored = remembers.stored;
+          keeps = subst (λ (clone : Clone). Keeps clone remembers.stored) (sym (at ∙ get_or-set_other world.clones grower number now Absent differs)) remembers.keeps;
+          known = remembers.known;
+          stands = grows operation remembers.stands;
+        }
+      ]
+
+  -- a clone that makes an operation leads to such a world
+  makes_keeps : (maker : ℕ) (stored : Stored) (held : List Range) (deletes : List Tagged) (inserts : List Triple) (reply : Reply) → clone_at world maker ≡ Live stored held
+      → Makes world maker stored held deletes inserts reply next → Remembers next number operation
+  makes_keeps maker stored held deletes inserts reply is made =
+      grown_remembers maker stored (with_range stored (range_of (dot_at stored.path made.tick))) held held is (ap (λ (w : World). w.clones) made.changes) (known_with-old stored (range_of (dot_at stored.path made.tick))) (λ other stands. subst (λ (w : World). Has w.history other) (sym made.changes) (inr stands))
+
+  -- what is remembered stays so at an `add`
+  adds_keep : (maker : ℕ) (triple : Triple) (clone : Clone) (reply : Reply) → clone_at world maker ≡ clone → Adds world maker triple clone reply next
+      → Remembers next number operation
+  adds_keep maker triple clone reply is =
+      if_live (Remembers next number operation) world clone reply next _ (λ answer state p. same_remembers p.1)
+      (λ stored held live p. makes_keeps maker stored held [] (triple ∷ []) reply (is ∙ live) p)
+
+  -- where pairs are deleted
+  deletes_keep : (maker : ℕ) (stored : Stored) (held : List Range) (deletes : List Tagged) (reply : Reply) → clone_at world maker ≡ Live stored held
+      → Deletes world maker stored held deletes reply next → Remembers next number operation
+  deletes_keep maker stored held deletes reply is (finds_none none p) = same_remembers p.1
+  deletes_keep maker stored held deletes reply is (deletes_all some p) =
+      makes_keeps maker stored held deletes [] reply is p
+
+  -- at a `remove`
+  removes_keep : (maker : ℕ) (triple : Triple) (clone : Clone) (reply : Reply) → clone_at world maker ≡ clone → Removes world maker triple clone reply next
+      → Remembers next number operation
+  removes_keep maker triple clone reply is =
+      if_live (Remembers next number operation) world clone reply next _ (λ answer state p. same_remembers p.1)
+      (λ stored held live p. deletes_keep maker stored held p.1 reply (is ∙ live) p.4)
+
+  -- where a range comes to a live clone
+  receives_keep : (taker : ℕ) (stored : Stored) (held : List Range) (range : Range) (reply : Reply) → clone_at world taker ≡ Live stored held
+      → Receives world taker stored held range reply next → Remembers next number operation
+  receives_keep taker stored held range reply is (knows_already known p) = same_remembers p.1
+  receives_keep taker stored held range reply is (accepts p) =
+      grown_remembers taker stored p.after held p.left is (ap (λ (w : World). w.clones) p.changes) (λ dot known. releases_known world.history (with_range stored range) held p.taken p.after p.left p.releases dot (known_with-old stored range dot known)) (λ other stands. subst (λ (w : World). Has w.history other) (sym p.changes) stands)
+  receives_keep taker stored held range reply is (holds_back back (holds_already has p)) = same_remembers p.1
+  receives_keep taker stored held range reply is (holds_back back (holds_too_many lacks full p)) = same_remembers p.1
+  receives_keep taker stored held range reply is (holds_back back (holds_from_now lacks few told same)) =
+      grown_remembers taker stored stored held (held ++ range ∷ []) is (ap (λ (w : World). w.clones) same) (λ dot known. known) (λ other stands. subst (λ (w : World). Has w.history other) (sym same) stands)
+
+  -- a world where a clone that kept nothing has become something else, and whose history is the same, remembers what it did
+  woken_remembers : (waker : ℕ) (now : Clone) → ((stored : Stored) → ¬ Keeps (clone_at world waker) stored) → next.clones ≡ set world.clones waker now
+      → next.history ≡ world.history → Remembers next number operation
+  woken_remembers waker now asleep clones history = record {
+    stored = remembers.stored;
+    keeps = subst (λ (clone : Clone). Keeps clone remembers.stored)
+        (sym (ap (λ (cs : List Clone). get_or cs number Absent) clones
+        ∙ get_or-set_other world.clones waker number now Absent
+        (λ same. asleep remembers.stored (subst (λ (k : ℕ). Keeps (clone_at world k) remembers.stored) same remembers.keeps))))
+        remembers.keeps;
+    known = remembers.known;
+    stands = subst (λ (operations : List Operation). Has operations operation) (sym history) remembers.stands;
+  }
+
+  -- where a clone asks for a leaf
+  joins_keep : (asker : ℕ) (clone : Clone) (reply : Reply) → clone_at world asker ≡ clone → Joins world asker clone reply next → Remembers next number operation
+  joins_keep asker Absent reply is p =
+      woken_remembers asker Asking (λ stored. subst (λ (clone : Clone). ¬ Keeps clone stored) (sym is) (λ h. h)) (ap (λ (w : World). w.clones) p.1) (ap (λ (w : World). w.history) p.1)
+  joins_keep asker Asking reply is p =
+      woken_remembers asker Asking (λ stored. subst (λ (clone : Clone). ¬ Keeps clone stored) (sym is) (λ h. h)) (ap (λ (w : World). w.clones) p.1) (ap (λ (w : World). w.history) p.1)
+  joins_keep asker Empty reply is p = same_remembers p.1
+  joins_keep asker (Down stored) reply is p = same_remembers p.1
+  joins_keep asker (Live stored held) reply is p = same_remembers p.1
+
+  -- where a live clone is asked for a leaf: one that forks knows what it knew
+  gives_keep : (giver : ℕ) (stored : Stored) (held : List Range) (id : ℕ) (reply : Reply) → clone_at world giver ≡ Live stored held
+      → Gives world giver stored held id reply next → Remembers next number operation
+  gives_keep giver stored held id reply is (asked_itself own p) = same_remembers p.1
+  gives_keep giver stored held id reply is (is_too_deep differs deep p) = same_remembers p.1
+  gives_keep giver stored held id reply is (forks differs room told same) =
+      grown_remembers giver stored (left_half stored) held held is (ap (λ (w : World). w.clones) same) (λ dot known. known) (λ other stands. subst (λ (w : World). Has w.history other) (sym same) stands)
+
+  -- where a leaf comes to a clone that asks
+  adopts_keep : (taker id : ℕ) (path : List ℕ) (dots : List Range) (reply : Reply) → clone_at world taker ≡ Asking → Adopts world taker id path dots reply next
+      → Remembers next number operation
+  adopts_keep taker id path dots reply is (becomes_live own told same) =
+      woken_remembers taker (Live (joined_with path dots) []) (λ stored. subst (λ (clone : Clone). ¬ Keeps clone stored) (sym is) (λ h. h)) (ap (λ (w : World). w.clones) same) (ap (λ (w : World). w.history) same)
+  adopts_keep taker id path dots reply is (leaves_it differs p) = same_remembers p.1
+
+  -- where a message comes to a clone
+  takes_keep : (taker : ℕ) (message : Message) (clone : Clone) (reply : Reply) → clone_at world taker ≡ clone → Takes world taker message clone reply next
+      → Remembers next number operation
+  takes_keep taker message Absent reply is p = same_remembers p.1
+  takes_keep taker (JoinGive id path dots) Asking reply is p =
+      adopts_keep taker id path dots reply is p
+  takes_keep taker message Asking reply is p = same_remembers p.1
+  takes_keep taker message Empty reply is p = same_remembers p.1
+  takes_keep taker message (Down stored) reply is p = same_remembers p.1
+  takes_keep taker (RangeOf range) (Live stored held) reply is p =
+      receives_keep taker stored held range reply is p
+  takes_keep taker (JoinAsk id) (Live stored held) reply is p =
+      gives_keep taker stored held id reply is p
+  takes_keep taker (JoinGive id path dots) (Live stored held) reply is p =
+      same_remembers p.1
+  takes_keep taker message clone reply is p = absurd p
+
+  -- at a `deliver`
+  delivers_keep : (taker : ℕ) (sent : Option Message) (reply : Reply)
+      → MatchOption sent (Answers world NoMessage reply next) (λ message. Takes world taker message (clone_at world taker) reply next) → Remembers next number operation
+  delivers_keep taker None reply p = same_remembers p.1
+  delivers_keep taker (Some message) reply p =
+      takes_keep taker message (clone_at world taker) reply refl p
+
+-- what is remembered before a step is remembered after it
+pub step_remembers : StepRemembers
+unfolding Step
+step_remembers world number operation (Add maker triple) reply next remembers p =
+    adds_keep world next number operation remembers maker triple (clone_at world maker) reply refl p
+step_remembers world number operation (Remove maker triple) reply next remembers p =
+    removes_keep world next number operation remembers maker triple (clone_at world maker) reply refl p
+step_remembers world number operation (Deliver message taker) reply next remembers p =
+    delivers_keep world next number operation remembers taker (message_at world message) reply p
+step_remembers world number operation (Show shower) reply next remembers p =
+    same_remembers world next number operation remembers (lists_same world (clone_at world shower) reply next p)
+step_remembers world number operation (Join asker) reply next remembers p =
+    joins_keep world next number operation remembers asker (clone_at world asker) reply refl p
+step_remembers world number operation (Compare one other) reply next remembers p =
+    same_remembers world next number operation remembers (weighs_same world (clone_at world one) (clone_at world other) reply next p)
+
+-- ---- runs
+
+-- a world runs at the stage, and remembers the operation
+abbrev StageRemembers : Stage → ℕ → Operation → Type 0
+StageRemembers Waiting number operation = ⊥
+StageRemembers (SetUp setup) number operation = ⊥
+StageRemembers (Running world) number operation = Remembers world number operation
+
+-- a command leads from such a world to another
+commands_keep : (world : World) (number : ℕ) (operation : Operation) (line text : List ℕ) (next : Stage)
+    → Remembers world number operation → Commands (Running world) line text next → StageRemembers next number operation
+commands_keep world number operation line text next remembers p =
+    subst (λ (stage : Stage). StageRemembers stage number operation) (sym p.changes)
+    (step_remembers p.world number operation p.command p.reply p.after
+    (subst (λ (now : World). Remembers now number operation) (sym p.founds) remembers) p.steps)
+
+-- and so does each line
+acts_keep : (stage : Stage) (number : ℕ) (operation : Operation) (line text : List ℕ) (next : Stage)
+    → StageRemembers stage number operation → Acts stage line text next → StageRemembers next number operation
+acts_keep stage number operation line text next remembers (says_nothing nothing none same) =
+    subst (λ (stage : Stage). StageRemembers stage number operation) (sym same) remembers
+acts_keep Waiting number operation line text next remembers p = absurd remembers
+acts_keep (SetUp setup) number operation line text next remembers p = absurd remembers
+acts_keep (Running world) number operation line text next remembers (commands p) = commands_keep world number operation line text next remembers p
+
+-- and so do lines
+lines_keep : (stage : Stage) (number : ℕ) (operation : Operation) (lines : List (List ℕ)) (text : List ℕ) (next : Stage)
+    → StageRemembers stage number operation → Runs stage lines text next → StageRemembers next number operation
+lines_keep stage number operation [] text next remembers p = subst (λ (stage : Stage). StageRemembers stage number operation) (sym p.1) remembers
+lines_keep stage number operation (line ∷ lines) text next remembers p =
+    lines_keep p.2 number operation lines p.1 next (acts_keep stage number operation line p.0 p.2 remembers p.3) p.4
+
+-- the operation of each answer is remembered in the world that its run leads to
+pub answers_survive : AnswersSurvive
+answers_survive lines world number dot answered =
+    let done = did_remembers answered.before answered.command dot answered.message answered.after answered.steps in
+    record {
+      operation = done.operation;
+      is = done.is;
+      made = done.made;
+      remembers = lines_keep (Running answered.after) number done.operation answered.rest answered.more (Running world)
+          (subst (λ (k : ℕ). Remembers answered.after k done.operation) (sym answered.at) done.remembers) answered.goes_on;
+    }

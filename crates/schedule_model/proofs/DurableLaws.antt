@@ -1,0 +1,283 @@
+-- The durable steps of a command lead to the next world.
+use Rattle.std.specs.Prelude.{◌≡◌, ◌≢◌, ℕ, ◌<◌, List, [], ◌∷◌, ◌++◌, ◌+◌, Option, Some, None, MatchOption, map, length}
+use Rattle.std.proofs.Common.{refl, sym, ◌∙◌, ap, arith, subst, get_or, set, append-nil, append_assoc}
+use Rattle.std.proofs.lemmas.List.{get_or-set_same, get_or-set_other}
+use Rattle.rdf_terms.specs.declared.terms.Triple.{Triple}
+use Rattle.tree_clock.specs.declared.dots.Range.{Range}
+use Rattle.mld_ops.specs.declared.tagged.Tagged.{Tagged}
+use Rattle.mld_ops.specs.History.{Operation, dot_at}
+use Rattle.schedule_model.specs.declared.Command.{Command}
+use Rattle.schedule_model.specs.declared.Command.TheVariants.{Add, Remove, Deliver, Show, Compare, Join}
+use Rattle.mld_model.specs.Clone.{Clone, Absent, Asking, Empty, Down, Live, Stored, known_of, with_range, Releases}
+use Rattle.mld_model.specs.World.{World, Message, RangeOf, JoinAsk, JoinGive, message_at, clone_count, clone_at}
+use Rattle.mld_model.specs.Reply.{Reply, Did, Took, Answer, Joined, NoMessage, Ignored, IsAbsent, IsDown}
+use Rattle.mld_model.specs.CloneStep.{Answers, Makes, Adds, Deletes, finds_none, deletes_all, Removes, Accepts, HoldsBack, holds_already, holds_too_many, holds_from_now, Receives, knows_already, accepts, holds_back, Joins, left_half, Gives, asked_itself, is_too_deep, forks, joined_with, Adopts, becomes_live, leaves_it, Takes}
+use Rattle.mld_model.proofs.StateLaws.{IsState, is_absent, is_asking, is_down, if_live}
+use Rattle.schedule_model.proofs.StepSoundLaws.{lists_same, weighs_same}
+use Rattle.mld_model.specs.Durable.{DurableStep, AppendsMade, AppendsTaken, kept_of, kept_after, history_after}
+use Rattle.schedule_model.specs.Step.{Step, clone_of}
+use Rattle.schedule_model.specs.DurableSteps.{MakesDurably, taking_steps, giving_steps, joining_steps, message_steps, DurableSteps, LeadsDurably, DurableStepsLead, OneDurableList}
+
+-- ---- what durable steps lead to
+
+-- the steps give what the clone of the number keeps in the next world, and the history; the other clones keep what they kept
+record Leads (world : World) (number : ℕ) (steps : List DurableStep) (next : World) : Type 0 where
+  pub kept : kept_after (kept_of (clone_at world number)) steps ≡ kept_of (clone_at next number)
+  pub made : history_after world.history steps ≡ next.history
+  pub others : (other : ℕ) → other ≢ number → kept_of (clone_at next other) ≡ kept_of (clone_at world other)
+
+-- ---- ranges that are taken
+
+-- what a clone keeps that took the ranges has them at the end of its journal
+pub releases_journal : (history : List Operation) (stored : Stored) (held taken : List Range) (after : Stored) (left : List Range)
+    → Releases history stored held taken after left
+    → after ≡ record { path = stored.path; base = stored.base; journal = stored.journal ++ taken }
+releases_journal history stored held [] after left p =
+    p.2 ∙ (λ i. record { path = stored.path; base = stored.base; journal = sym (append-nil stored.journal) i })
+releases_journal history stored held (range ∷ taken) after left p =
+    releases_journal history (with_range stored range) p.1 taken after left p.4
+    ∙ (λ i. record { path = stored.path; base = stored.base; journal = append_assoc stored.journal (range ∷ []) taken i })
+
+-- the appends of the ranges that are released give what the clone keeps then
+pub releases_kept : (history : List Operation) (stored : Stored) (held taken : List Range) (after : Stored) (left : List Range)
+    → Releases history stored held taken after left → kept_after (Some stored) (map (λ range. AppendsTaken range) taken) ≡ Some after
+releases_kept history stored held [] after left p = ap (λ (s : Stored). Some s) (sym p.2)
+releases_kept history stored held (range ∷ taken) after left p = releases_kept history (with_range stored range) p.1 taken after left p.4
+
+-- they make no operation
+pub taking_history : (history : List Operation) (taken : List Range) → history_after history (map (λ range. AppendsTaken range) taken) ≡ history
+taking_history history [] = refl
+taking_history history (range ∷ taken) = taking_history history taken
+
+-- ---- the steps of a command
+
+-- there are durable steps of a local change that lead to the next world
+abbrev MakesAndLeads : World → ℕ → Reply → World → Type 0
+MakesAndLeads world number reply next = (steps : List DurableStep) × MakesDurably world reply next steps × Leads world number steps next
+
+-- an answer that has no steps for any kind of message has none for this one
+quiet : (message : Message) (answer : Reply) → taking_steps answer ≡ [] → giving_steps answer ≡ []
+    → ((path : List ℕ) (dots : List Range) → joining_steps path dots answer ≡ []) → message_steps message answer ≡ []
+quiet (RangeOf range) answer takes gives joins = takes
+quiet (JoinAsk id) answer takes gives joins = gives
+quiet (JoinGive id path dots) answer takes gives joins = joins path dots
+quiet message answer takes gives joins = refl
+
+-- the durable steps of a `deliver` of this message, if there is one
+abbrev DeliversDurably : Option Message → Reply → List DurableStep → Type 0
+DeliversDurably sent reply steps = MatchOption sent (steps ≡ []) (λ message. steps ≡ message_steps message reply)
+
+-- ---- by the kind of command
+
+-- the clone of the number makes a step from the world to the next one
+module _ (world next : World) (number : ℕ) where
+  -- no steps lead to a world that is left as it was
+  same_leads : next ≡ world → Leads world number [] next
+  same_leads same = record {
+    kept = ap (λ (w : World). kept_of (clone_at w number)) (sym same);
+    made = ap (λ (w : World). w.history) (sym same);
+    others = λ other differs. ap (λ (w : World). kept_of (clone_at w other)) same;
+  }
+
+  -- an answer that changes nothing, and has no steps, leads to such a world
+  answered_leads : (steps_of : Reply → List DurableStep) (answer reply : Reply) → steps_of answer ≡ [] → Answers world answer reply next
+      → Leads world number (steps_of reply) next
+  answered_leads steps_of answer reply none p =
+      subst (λ (steps : List DurableStep). Leads world number steps next) (sym (ap steps_of p.0 ∙ none)) (same_leads p.1)
+
+  -- the steps lead to a world in which one clone is another, and keeps what they give
+  changed_leads : (steps : List DurableStep) (clone now : Clone) → number < length world.clones → clone_at world number ≡ clone → next.clones ≡ set world.clones number now
+      → kept_after (kept_of clone) steps ≡ kept_of now → history_after world.history steps ≡ next.history → Leads world number steps next
+  changed_leads steps clone now inside is clones kept made =
+      let at : (k : ℕ) → clone_at next k ≡ get_or (set world.clones number now) k Absent = λ k. ap (λ (cs : List Clone). get_or cs k Absent) clones in
+      record {
+        kept = ap (λ (c : Clone). kept_after (kept_of c) steps) is ∙ kept
+            ∙ ap kept_of (sym (at number ∙ get_or-set_same world.clones number now Absent inside));
+        made = made;
+        others = λ other differs. ap kept_of (at other ∙ get_or-set_other world.clones number other now Absent differs);
+      }
+
+  -- ---- local changes
+
+  -- there are none where nothing changes
+  unmade_leads : (answer reply : Reply) → MakesDurably world answer next [] → Answers world answer reply next → MakesAndLeads world number reply next
+  unmade_leads answer reply none p =
+      ([], subst (λ (r : Reply). MakesDurably world r next []) (sym p.0) none, same_leads p.1)
+
+  -- where an operation is made, its append is the one step
+  makes_leads : (stored : Stored) (held : List Range) (deletes : List Tagged) (inserts : List Triple) (reply : Reply) → number < length world.clones
+      → clone_at world number ≡ Live stored held → Makes world number stored held deletes inserts reply next → MakesAndLeads world number reply next
+  makes_leads stored held deletes inserts reply inside is p =
+      let operation : Operation = record { dot = dot_at stored.path p.tick; causes = known_of stored; deletes = deletes; inserts = inserts } in
+      let steps : List DurableStep = AppendsMade operation ∷ [] in
+      let joined : next.history ≡ operation ∷ world.history = ap (λ (w : World). w.history) p.changes in (
+        steps,
+        subst (λ (r : Reply). MakesDurably world r next steps) (sym p.replies) (record { operation = operation; joined = joined; one = refl }),
+        changed_leads steps (Live stored held) _ inside is (ap (λ (w : World). w.clones) p.changes) refl (sym joined),
+      )
+
+  -- a clone's state has none
+  state_leads : (answer reply : Reply) → IsState answer → Answers world answer reply next → MakesAndLeads world number reply next
+  state_leads answer reply is_absent p = unmade_leads _ reply refl p
+  state_leads answer reply is_asking p = unmade_leads _ reply refl p
+  state_leads answer reply is_down p = unmade_leads _ reply refl p
+
+  -- an `add` has such steps
+  adds_lead : (triple : Triple) (clone : Clone) (reply : Reply) → number < length world.clones → clone_at world number ≡ clone → Adds world number triple clone reply next
+      → MakesAndLeads world number reply next
+  adds_lead triple clone reply inside is =
+      if_live (MakesAndLeads world number reply next) world clone reply next _ (λ answer state. state_leads answer reply state)
+      (λ stored held live. makes_leads stored held [] (triple ∷ []) reply inside (is ∙ live))
+
+  -- so has the deletion of pairs
+  deletes_lead : (stored : Stored) (held : List Range) (deletes : List Tagged) (reply : Reply) → number < length world.clones → clone_at world number ≡ Live stored held
+      → Deletes world number stored held deletes reply next → MakesAndLeads world number reply next
+  deletes_lead stored held deletes reply inside is (finds_none none p) = unmade_leads _ reply refl p
+  deletes_lead stored held deletes reply inside is (deletes_all some p) = makes_leads stored held deletes [] reply inside is p
+
+  -- and so has a `remove`
+  removes_lead : (triple : Triple) (clone : Clone) (reply : Reply) → number < length world.clones → clone_at world number ≡ clone
+      → Removes world number triple clone reply next → MakesAndLeads world number reply next
+  removes_lead triple clone reply inside is =
+      if_live (MakesAndLeads world number reply next) world clone reply next _ (λ answer state. state_leads answer reply state)
+      (λ stored held live p. deletes_lead stored held p.1 reply inside (is ∙ live) p.4)
+
+  -- ---- messages
+
+  -- a range that a live clone takes leads to the next world by the appends of all that is taken
+  accepts_lead : (stored : Stored) (held : List Range) (range : Range) (reply : Reply) → number < length world.clones → clone_at world number ≡ Live stored held
+      → Accepts world number stored held range reply next → Leads world number (taking_steps reply) next
+  accepts_lead stored held range reply inside is p =
+      subst (λ (r : Reply). Leads world number (taking_steps r) next) (sym p.replies)
+      (changed_leads (taking_steps (Took (range ∷ p.taken))) (Live stored held) (Live p.after p.left) inside is (ap (λ (w : World). w.clones) p.changes) (releases_kept world.history (with_range stored range) held p.taken p.after p.left p.releases) (taking_history world.history (range ∷ p.taken) ∙ ap (λ (w : World). w.history) (sym p.changes)))
+
+  -- a range that is held back leads there by none
+  holds_lead : (stored : Stored) (held : List Range) (range : Range) (reply : Reply) → number < length world.clones → clone_at world number ≡ Live stored held
+      → HoldsBack world number stored held range reply next → Leads world number (taking_steps reply) next
+  holds_lead stored held range reply inside is (holds_already has p) = answered_leads taking_steps _ reply refl p
+  holds_lead stored held range reply inside is (holds_too_many lacks full p) = answered_leads taking_steps _ reply refl p
+  holds_lead stored held range reply inside is (holds_from_now lacks few told same) =
+      subst (λ (r : Reply). Leads world number (taking_steps r) next) (sym told)
+      (changed_leads [] (Live stored held) (Live stored (held ++ range ∷ [])) inside is (ap (λ (w : World). w.clones) same)
+      refl (ap (λ (w : World). w.history) (sym same)))
+
+  -- so a range that comes to a live clone leads there by the appends of what is taken
+  receives_lead : (stored : Stored) (held : List Range) (range : Range) (reply : Reply) → number < length world.clones → clone_at world number ≡ Live stored held
+      → Receives world number stored held range reply next → Leads world number (taking_steps reply) next
+  receives_lead stored held range reply inside is (knows_already known p) = answered_leads taking_steps _ reply refl p
+  receives_lead stored held range reply inside is (accepts p) = accepts_lead stored held range reply inside is p
+  receives_lead stored held range reply inside is (holds_back back p) = holds_lead stored held range reply inside is p
+
+  -- a live clone that is asked for a leaf leads there by the append of the fork, if it forks
+  gives_lead : (stored : Stored) (held : List Range) (id : ℕ) (reply : Reply) → number < length world.clones → clone_at world number ≡ Live stored held
+      → Gives world number stored held id reply next → Leads world number (giving_steps reply) next
+  gives_lead stored held id reply inside is (asked_itself own p) = answered_leads giving_steps _ reply refl p
+  gives_lead stored held id reply inside is (is_too_deep differs deep p) = answered_leads giving_steps _ reply refl p
+  gives_lead stored held id reply inside is (forks differs room told same) =
+      subst (λ (r : Reply). Leads world number (giving_steps r) next) (sym told)
+      (changed_leads (giving_steps (Answer ((length world.messages + 1) ∷ []))) (Live stored held) (Live (left_half stored) held) inside is (ap (λ (w : World). w.clones) same) refl (ap (λ (w : World). w.history) (sym same)))
+
+  -- one who asks and takes a leaf leads there by creating what it keeps
+  adopts_lead : (id : ℕ) (path : List ℕ) (dots : List Range) (reply : Reply) → number < length world.clones → clone_at world number ≡ Asking
+      → Adopts world number id path dots reply next → Leads world number (joining_steps path dots reply) next
+  adopts_lead id path dots reply inside is (becomes_live own told same) =
+      subst (λ (r : Reply). Leads world number (joining_steps path dots r) next) (sym told)
+      (changed_leads (joining_steps path dots (Joined path)) Asking (Live (joined_with path dots) []) inside is (ap (λ (w : World). w.clones) same) refl (ap (λ (w : World). w.history) (sym same)))
+  adopts_lead id path dots reply inside is (leaves_it differs p) = answered_leads (joining_steps path dots) _ reply refl p
+
+  -- a message that comes to a clone leads there by its steps
+  takes_lead : (message : Message) (clone : Clone) (reply : Reply) → number < length world.clones → clone_at world number ≡ clone
+      → Takes world number message clone reply next → Leads world number (message_steps message reply) next
+  takes_lead message Absent reply inside is p =
+      answered_leads (message_steps message) IsAbsent reply (quiet message IsAbsent refl refl (λ path dots. refl)) p
+  takes_lead (JoinGive id path dots) Asking reply inside is p = adopts_lead id path dots reply inside is p
+  takes_lead message Asking reply inside is p =
+      answered_leads (message_steps message) Ignored reply (quiet message Ignored refl refl (λ path dots. refl)) p
+  takes_lead message Empty reply inside is p =
+      answered_leads (message_steps message) IsDown reply (quiet message IsDown refl refl (λ path dots. refl)) p
+  takes_lead message (Down stored) reply inside is p =
+      answered_leads (message_steps message) IsDown reply (quiet message IsDown refl refl (λ path dots. refl)) p
+  takes_lead (RangeOf range) (Live stored held) reply inside is p = receives_lead stored held range reply inside is p
+  takes_lead (JoinAsk id) (Live stored held) reply inside is p = gives_lead stored held id reply inside is p
+  takes_lead (JoinGive id path dots) (Live stored held) reply inside is p =
+      answered_leads (joining_steps path dots) Ignored reply refl p
+  takes_lead message clone reply inside is p = absurd p
+
+  -- a `deliver` has durable steps that lead to the next world
+  delivers_lead : (sent : Option Message) (reply : Reply) → number < length world.clones
+      → MatchOption sent (Answers world NoMessage reply next) (λ message. Takes world number message (clone_at world number) reply next)
+      → (steps : List DurableStep) × DeliversDurably sent reply steps × Leads world number steps next
+  delivers_lead None reply inside p = ([], refl, same_leads p.1)
+  delivers_lead (Some message) reply inside p =
+      (message_steps message reply, refl, takes_lead message (clone_at world number) reply inside refl p)
+
+  -- ---- asking
+
+  -- a clone that asks for a leaf leads there by none
+  joins_lead : (clone : Clone) (reply : Reply) → number < length world.clones → clone_at world number ≡ clone → Joins world number clone reply next
+      → Leads world number [] next
+  joins_lead Absent reply inside is p =
+      changed_leads [] Absent Asking inside is (ap (λ (w : World). w.clones) p.1) refl (ap (λ (w : World). w.history) (sym p.1))
+  joins_lead Asking reply inside is p =
+      changed_leads [] Asking Asking inside is (ap (λ (w : World). w.clones) p.1) refl (ap (λ (w : World). w.history) (sym p.1))
+  joins_lead Empty reply inside is p = same_leads p.1
+  joins_lead (Down stored) reply inside is p = same_leads p.1
+  joins_lead (Live stored held) reply inside is p = same_leads p.1
+
+-- ---- the laws
+
+-- steps of a command that lead there
+leads_durably : (world : World) (command : Command) (reply : Reply) (next : World) (steps : List DurableStep)
+    → DurableSteps world command reply next steps → Leads world (clone_of command) steps next → LeadsDurably world command reply next
+leads_durably world command reply next steps are leads =
+    record { steps = steps; are = are; kept = leads.kept; made = leads.made; others = leads.others }
+
+-- a number of a clone is one of the places
+place_of : (world : World) (number : ℕ) → number < clone_count → length world.clones ≡ clone_count → number < length world.clones
+place_of world number small count = omega (arith, small, count)
+
+-- each step of a world by a command whose clones there are has durable steps that lead to the next world
+pub durable_steps_lead : DurableStepsLead
+unfolding Step DurableSteps
+durable_steps_lead world (Add number triple) reply next small count p =
+    let made = adds_lead world next number triple (clone_at world number) reply (place_of world number small count) refl p in
+    leads_durably world (Add number triple) reply next made.0 made.1 made.2
+durable_steps_lead world (Remove number triple) reply next small count p =
+    let made = removes_lead world next number triple (clone_at world number) reply (place_of world number small count) refl p in
+    leads_durably world (Remove number triple) reply next made.0 made.1 made.2
+durable_steps_lead world (Deliver message number) reply next small count p =
+    let given = delivers_lead world next number (message_at world message) reply (place_of world number small count) p in
+    leads_durably world (Deliver message number) reply next given.0 given.1 given.2
+durable_steps_lead world (Show number) reply next small count p =
+    leads_durably world (Show number) reply next [] refl (same_leads world next number (lists_same world (clone_at world number) reply next p))
+durable_steps_lead world (Join number) reply next small count p =
+    leads_durably world (Join number) reply next [] refl (joins_lead world next number (clone_at world number) reply (place_of world number small count) refl p)
+durable_steps_lead world (Compare number other) reply next small count p =
+    leads_durably world (Compare number other) reply next [] refl (same_leads world next number (weighs_same world (clone_at world number) (clone_at world other) reply next p))
+
+-- one operation joined the history
+one_operation : (history next : List Operation) (operation other : Operation) → next ≡ operation ∷ history → next ≡ other ∷ history → operation ≡ other
+one_operation history next operation other p q = cc
+
+-- the steps of a local change are one list
+makes_once : (world : World) (reply : Reply) (next : World) (steps other : List DurableStep)
+    → MakesDurably world reply next steps → MakesDurably world reply next other → steps ≡ other
+makes_once world (Did dot message) next steps other p q =
+    p.one ∙ ap (λ (operation : Operation). AppendsMade operation ∷ []) (one_operation world.history next.history p.operation q.operation p.joined q.joined) ∙ sym q.one
+makes_once world reply next steps other p q = p ∙ sym q
+
+-- and so are those of a `deliver`
+delivers_once : (sent : Option Message) (reply : Reply) (steps other : List DurableStep)
+    → DeliversDurably sent reply steps → DeliversDurably sent reply other → steps ≡ other
+delivers_once None reply steps other p q = p ∙ sym q
+delivers_once (Some message) reply steps other p q = p ∙ sym q
+
+-- the durable steps of a step are one list
+pub one_durable_list : OneDurableList
+unfolding DurableSteps
+one_durable_list world (Add number triple) reply next steps other p q = makes_once world reply next steps other p q
+one_durable_list world (Remove number triple) reply next steps other p q = makes_once world reply next steps other p q
+one_durable_list world (Deliver message number) reply next steps other p q = delivers_once (message_at world message) reply steps other p q
+one_durable_list world (Show number) reply next steps other p q = p ∙ sym q
+one_durable_list world (Join number) reply next steps other p q = p ∙ sym q
+one_durable_list world (Compare number second) reply next steps other p q = p ∙ sym q

@@ -1,0 +1,10 @@
+pub mod LackingLaws
+pub mod WorldLaws
+pub mod JoinLaws
+pub mod ScheduleLaws
+pub mod StepLaws
+pub mod RunsLaws
+pub mod StepSoundLaws
+pub mod AnswersLaws
+pub mod PromisesLaws
+pub mod DurableLaws

@@ -1,0 +1,207 @@
+-- A step of the world has one outcome.
+use Rattle.std.specs.Prelude.{◌≡◌, ℕ, ◌+◌, ◌<◌, List, [], ◌∷◌, length, Option, Some, None, MatchOption}
+use Rattle.std.proofs.Common.{sym, ◌∙◌, ap, arith, inl, inr, subst}
+use Rattle.std.proofs.lemmas.Bool.{cases_order}
+use Rattle.rdf_terms.specs.declared.terms.Triple.{Triple}
+use Rattle.tree_clock.specs.declared.dots.Range.{Range}
+use Rattle.tree_clock.specs.Lists.{Has}
+use Rattle.mld_ops.specs.declared.tagged.Tagged.{Tagged}
+use Rattle.mld_ops.specs.History.{dot_at}
+use Rattle.mld_ops.specs.Tagged.{tagged_cmp}
+use Rattle.mld_ops.specs.TaggedLaws.{tagged_total, tagged_exact}
+use Rattle.mld_ops.specs.AscendingLaws.{same_ascending}
+use Rattle.mld_ops.specs.MeaningLaws.{one_meaning}
+use Rattle.schedule_model.specs.declared.Command.TheVariants.{Add, Remove, Deliver, Show, Compare, Join}
+use Rattle.mld_model.specs.Clone.{Clone, Absent, Asking, Empty, Down, Live, Stored, known_of, with_range}
+use Rattle.mld_model.specs.World.{World, Message, RangeOf, JoinAsk, JoinGive, message_at, clone_at, with_clone}
+use Rattle.mld_model.specs.Reply.{Reply, Did, Took, Shows, NoMessage}
+use Rattle.mld_model.specs.CloneStep.{Answers, IsNextTick, after_operation, Makes, Adds, ArePairsOf, Deletes, finds_none, deletes_all, Removes, Accepts, HoldsBack, holds_already, holds_too_many, holds_from_now, Receives, knows_already, accepts, holds_back, Joins, Gives, asked_itself, is_too_deep, forks, Adopts, becomes_live, leaves_it, Takes, Lists, Compares, same_dots, fewer_dots, more_dots, dots_apart, ComparesWith, Weighs}
+use Rattle.mld_model.proofs.StateLaws.{AreSame, answers_once, once_if_live}
+use Rattle.schedule_model.specs.Step.{Step}
+use Rattle.mld_model.proofs.ReleaseLaws.{releases_once}
+use Rattle.schedule_model.specs.Laws.{OneStep}
+
+-- of two ticks that come next neither is below the other
+not_below : (known : List Range) (path : List ℕ) (tick other : ℕ) → IsNextTick known path tick → IsNextTick known path other → ¬ (tick < other)
+not_below known path tick other p q below =
+    let again = (p.after tick).0 ((q.after tick).1 (p.positive, below)) in
+    omega (arith, again.1)
+
+-- so one tick comes next
+one_next_tick : (known : List Range) (path : List ℕ) (tick other : ℕ) → IsNextTick known path tick → IsNextTick known path other → tick ≡ other
+one_next_tick known path tick other p q = elim (cases_order tick other) [
+  | inl same ↦ same
+  | inr (inl below) ↦ absurd (not_below known path tick other p q below)
+  | inr (inr above) ↦ absurd (not_below known path other tick q p above)
+]
+
+-- a triple has one list of pairs among the pairs of a clone
+pairs_once : (triple : Triple) (pairs others deletes second : List Tagged) → pairs ≡ others → ArePairsOf triple pairs deletes → ArePairsOf triple others second → deletes ≡ second
+pairs_once triple pairs others deletes second same p q =
+    same_ascending tagged_cmp tagged_total tagged_exact deletes second p.ascending q.ascending
+    (λ x h. let m = (p.members x).0 h in (q.members x).1 (subst (λ (ps : List Tagged). Has ps x) same m.0, m.1))
+    (λ x h. let m = (q.members x).0 h in (p.members x).1 (subst (λ (ps : List Tagged). Has ps x) (sym same) m.0, m.1))
+
+-- a `show` has one outcome: what a clone knows has one meaning
+lists_once : (world : World) (clone : Clone) (reply other : Reply) (next after : World)
+    → Lists world clone reply next → Lists world clone other after → AreSame reply next other after
+lists_once world clone reply other next after =
+    once_if_live world clone reply other next after _ _ (λ stored held p q.
+    (p.2.0 ∙ ap Shows (one_meaning world.history (known_of stored) p.0 q.0 p.1 q.1) ∙ sym q.2.0, p.2.1 ∙ sym q.2.1))
+
+-- two sets of dots compare in one way
+compares_once : (known others : List Range) (reply other : Reply) → Compares known others reply → Compares known others other → reply ≡ other
+compares_once known others reply other (same_dots within back told) (same_dots too again said) = told ∙ sym said
+compares_once known others reply other (same_dots within back told) (fewer_dots too beyond said) = absurd (beyond back)
+compares_once known others reply other (same_dots within back told) (more_dots outside too said) = absurd (outside within)
+compares_once known others reply other (same_dots within back told) (dots_apart outside beyond said) = absurd (outside within)
+compares_once known others reply other (fewer_dots within beyond told) (same_dots too back said) = absurd (beyond back)
+compares_once known others reply other (fewer_dots within beyond told) (fewer_dots too again said) = told ∙ sym said
+compares_once known others reply other (fewer_dots within beyond told) (more_dots outside back said) = absurd (outside within)
+compares_once known others reply other (fewer_dots within beyond told) (dots_apart outside too said) = absurd (outside within)
+compares_once known others reply other (more_dots outside back told) (same_dots within too said) = absurd (outside within)
+compares_once known others reply other (more_dots outside back told) (fewer_dots within beyond said) = absurd (outside within)
+compares_once known others reply other (more_dots outside back told) (more_dots too again said) = told ∙ sym said
+compares_once known others reply other (more_dots outside back told) (dots_apart too beyond said) = absurd (beyond back)
+compares_once known others reply other (dots_apart outside beyond told) (same_dots within back said) = absurd (outside within)
+compares_once known others reply other (dots_apart outside beyond told) (fewer_dots within too said) = absurd (outside within)
+compares_once known others reply other (dots_apart outside beyond told) (more_dots too back said) = absurd (beyond back)
+compares_once known others reply other (dots_apart outside beyond told) (dots_apart too again said) = told ∙ sym said
+
+-- a live clone beside another has one outcome
+compares_with_once : (world : World) (stored : Stored) (clone : Clone) (reply other : Reply) (next after : World)
+    → ComparesWith world stored clone reply next → ComparesWith world stored clone other after → AreSame reply next other after
+compares_with_once world stored clone reply other next after =
+    once_if_live world clone reply other next after _ _ (λ others held p q. (compares_once (known_of stored) (known_of others) reply other p.0 q.0, p.1 ∙ sym q.1))
+
+-- a `compare` has one outcome
+weighs_once : (world : World) (clone others : Clone) (reply other : Reply) (next after : World)
+    → Weighs world clone others reply next → Weighs world clone others other after → AreSame reply next other after
+weighs_once world clone others reply other next after =
+    once_if_live world clone reply other next after _ _ (λ stored held. compares_with_once world stored others reply other next after)
+
+-- each step has one outcome: two of them that are given
+module _ (world : World) (number : ℕ) (reply other : Reply) (next after : World) where
+  -- a local change has one outcome
+  makes_once : (stored : Stored) (held : List Range) (deletes : List Tagged) (inserts : List Triple) → Makes world number stored held deletes inserts reply next
+      → Makes world number stored held deletes inserts other after → AreSame reply next other after
+  makes_once stored held deletes inserts p q =
+      let same = one_next_tick (known_of stored) stored.path p.tick q.tick p.is_next q.is_next in (
+        p.replies ∙ ap (λ (tick : ℕ). Did (dot_at stored.path tick) (length world.messages + 1)) same ∙ sym q.replies,
+        p.changes ∙ ap (λ (tick : ℕ). after_operation world number stored held
+            (record { dot = dot_at stored.path tick; causes = known_of stored; deletes = deletes; inserts = inserts })) same ∙ sym q.changes,
+      )
+
+  -- an `add` has one outcome
+  adds_once : (triple : Triple) (clone : Clone) → Adds world number triple clone reply next → Adds world number triple clone other after → AreSame reply next other after
+  adds_once triple clone =
+      once_if_live world clone reply other next after _ _ (λ stored held. makes_once stored held [] (triple ∷ []))
+
+  -- these pairs are deleted in one way
+  deletes_once : (stored : Stored) (held : List Range) (deletes others : List Tagged) → deletes ≡ others → Deletes world number stored held deletes reply next
+      → Deletes world number stored held others other after → AreSame reply next other after
+  deletes_once stored held deletes others same (finds_none none p) (finds_none too q) = answers_once p q
+  deletes_once stored held deletes others same (finds_none none p) (deletes_all some q) = absurd (some (sym same ∙ none))
+  deletes_once stored held deletes others same (deletes_all some p) (finds_none none q) = absurd (some (same ∙ none))
+  deletes_once stored held deletes others same (deletes_all some p) (deletes_all too q) =
+      makes_once stored held deletes [] p (subst (λ (ds : List Tagged). Makes world number stored held ds [] other after) (sym same) q)
+
+  -- a `remove` has one outcome
+  removes_once : (triple : Triple) (clone : Clone) → Removes world number triple clone reply next → Removes world number triple clone other after
+      → AreSame reply next other after
+  removes_once triple clone =
+      once_if_live world clone reply other next after _ _ (λ stored held p q. deletes_once stored held p.1 q.1 (pairs_once triple p.0 q.0 p.1 q.1 (one_meaning world.history (known_of stored) p.0 q.0 p.2 q.2) p.3 q.3) p.4 q.4)
+
+  -- a range that is taken has one outcome
+  accepts_once : (stored : Stored) (held : List Range) (range : Range) → Accepts world number stored held range reply next
+      → Accepts world number stored held range other after → AreSame reply next other after
+  accepts_once stored held range p q =
+      let same = releases_once world.history (with_range stored range) held p.taken q.taken p.after q.after p.left q.left p.releases q.releases in (
+        p.replies ∙ ap (λ (taken : List Range). Took (range ∷ taken)) same.0 ∙ sym q.replies,
+        p.changes ∙ (λ i. with_clone world number (Live (same.1 i) (same.2 i))) ∙ sym q.changes,
+      )
+
+  -- a range that is held back has one outcome
+  holds_once : (stored : Stored) (held : List Range) (range : Range) → HoldsBack world number stored held range reply next
+      → HoldsBack world number stored held range other after → AreSame reply next other after
+  holds_once stored held range (holds_already has p) (holds_already too q) = answers_once p q
+  holds_once stored held range (holds_already has p) (holds_too_many lacks full q) = absurd (lacks has)
+  holds_once stored held range (holds_already has p) (holds_from_now lacks few told is) = absurd (lacks has)
+  holds_once stored held range (holds_too_many lacks full p) (holds_already has q) = absurd (lacks has)
+  holds_once stored held range (holds_too_many lacks full p) (holds_too_many too many q) = answers_once p q
+  holds_once stored held range (holds_too_many lacks full p) (holds_from_now too few told is) = absurd (omega (arith, full, few))
+  holds_once stored held range (holds_from_now lacks few told is) (holds_already has q) = absurd (lacks has)
+  holds_once stored held range (holds_from_now lacks few told is) (holds_too_many too full q) = absurd (omega (arith, full, few))
+  holds_once stored held range (holds_from_now lacks few told is) (holds_from_now too under said was) = (told ∙ sym said, is ∙ sym was)
+
+  -- a range that comes to a live clone has one outcome: it is known, or it is ready, or it is neither
+  receives_once : (stored : Stored) (held : List Range) (range : Range) → Receives world number stored held range reply next
+      → Receives world number stored held range other after → AreSame reply next other after
+  receives_once stored held range (knows_already known p) (knows_already too q) = answers_once p q
+  receives_once stored held range (knows_already known p) (accepts q) = absurd (q.ready.unknown known)
+  receives_once stored held range (knows_already known p) (holds_back back q) = absurd (back.unknown known)
+  receives_once stored held range (accepts p) (knows_already known q) = absurd (p.ready.unknown known)
+  receives_once stored held range (accepts p) (accepts q) = accepts_once stored held range p q
+  receives_once stored held range (accepts p) (holds_back back q) = absurd (back.unready p.ready)
+  receives_once stored held range (holds_back back p) (knows_already known q) = absurd (back.unknown known)
+  receives_once stored held range (holds_back back p) (accepts q) = absurd (back.unready q.ready)
+  receives_once stored held range (holds_back back p) (holds_back too q) = holds_once stored held range p q
+
+  -- a clone that asks for a leaf has one outcome
+  joins_once : (clone : Clone) → Joins world number clone reply next → Joins world number clone other after → AreSame reply next other after
+  joins_once Absent p q = answers_once p q
+  joins_once Asking p q = answers_once p q
+  joins_once Empty p q = answers_once p q
+  joins_once (Down stored) p q = answers_once p q
+  joins_once (Live stored held) p q = answers_once p q
+
+  -- a clone that is asked for a leaf has one outcome: it asked itself, or its leaf is too deep, or it forks
+  gives_once : (stored : Stored) (held : List Range) (id : ℕ) → Gives world number stored held id reply next → Gives world number stored held id other after
+      → AreSame reply next other after
+  gives_once stored held id (asked_itself own p) (asked_itself too q) = answers_once p q
+  gives_once stored held id (asked_itself own p) (is_too_deep differs deep q) = absurd (differs own)
+  gives_once stored held id (asked_itself own p) (forks differs room told is) = absurd (differs own)
+  gives_once stored held id (is_too_deep differs deep p) (asked_itself own q) = absurd (differs own)
+  gives_once stored held id (is_too_deep differs deep p) (is_too_deep too low q) = answers_once p q
+  gives_once stored held id (is_too_deep differs deep p) (forks too room told is) = absurd (omega (arith, deep, room))
+  gives_once stored held id (forks differs room told is) (asked_itself own q) = absurd (differs own)
+  gives_once stored held id (forks differs room told is) (is_too_deep too deep q) = absurd (omega (arith, deep, room))
+  gives_once stored held id (forks differs room told is) (forks too space said was) = (told ∙ sym said, is ∙ sym was)
+
+  -- a leaf that comes to a clone that asks has one outcome: it is the clone that it was given to, or it isn't
+  adopts_once : (id : ℕ) (path : List ℕ) (dots : List Range) → Adopts world number id path dots reply next → Adopts world number id path dots other after
+      → AreSame reply next other after
+  adopts_once id path dots (becomes_live own told is) (becomes_live too said was) = (told ∙ sym said, is ∙ sym was)
+  adopts_once id path dots (becomes_live own told is) (leaves_it differs q) = absurd (differs own)
+  adopts_once id path dots (leaves_it differs p) (becomes_live own told is) = absurd (differs own)
+  adopts_once id path dots (leaves_it differs p) (leaves_it too q) = answers_once p q
+
+  -- a message that comes to a clone has one outcome
+  takes_once : (message : Message) (clone : Clone) → Takes world number message clone reply next → Takes world number message clone other after
+      → AreSame reply next other after
+  takes_once message Absent p q = answers_once p q
+  takes_once (JoinGive id path dots) Asking p q = adopts_once id path dots p q
+  takes_once message Asking p q = answers_once p q
+  takes_once message Empty p q = answers_once p q
+  takes_once message (Down stored) p q = answers_once p q
+  takes_once (RangeOf range) (Live stored held) p q = receives_once stored held range p q
+  takes_once (JoinAsk id) (Live stored held) p q = gives_once stored held id p q
+  takes_once (JoinGive id path dots) (Live stored held) p q = answers_once p q
+  takes_once message clone p q = absurd p
+
+  -- a `deliver` has one outcome
+  delivers_once : (sent : Option Message) → MatchOption sent (Answers world NoMessage reply next) (λ message. Takes world number message (clone_at world number) reply next)
+      → MatchOption sent (Answers world NoMessage other after) (λ message. Takes world number message (clone_at world number) other after) → AreSame reply next other after
+  delivers_once None p q = answers_once p q
+  delivers_once (Some message) p q = takes_once message (clone_at world number) p q
+
+-- a step of a world by a command has one reply, and leads to one world
+pub one_step : OneStep
+unfolding Step
+one_step world (Add number triple) reply other next after p q = adds_once world number reply other next after triple (clone_at world number) p q
+one_step world (Remove number triple) reply other next after p q = removes_once world number reply other next after triple (clone_at world number) p q
+one_step world (Deliver message number) reply other next after p q = delivers_once world number reply other next after (message_at world message) p q
+one_step world (Show number) reply other next after p q = lists_once world (clone_at world number) reply other next after p q
+one_step world (Join number) reply other next after p q = joins_once world number reply other next after (clone_at world number) p q
+one_step world (Compare number second) reply other next after p q =
+    weighs_once world (clone_at world number) (clone_at world second) reply other next after p q

@@ -1,0 +1,183 @@
+-- Each world that a schedule reaches is sound, and what a reader may take from that.
+use Rattle.std.specs.Prelude.{◌≡◌, ℕ, ◌<◌, List, [], ◌∷◌, Option, Some, None, MatchOption, slice_get}
+use Rattle.std.proofs.Common.{refl, sym, ◌∙◌, subst}
+use Rattle.rdf_terms.specs.declared.terms.Triple.{Triple}
+use Rattle.tree_clock.specs.declared.dots.Range.{Range}
+use Rattle.tree_clock.specs.Lists.{Has}
+use Rattle.mld_ops.specs.declared.tagged.Tagged.{Tagged}
+use Rattle.mld_ops.specs.Meaning.{IsMeaning}
+use Rattle.mld_ops.specs.MeaningLaws.{one_meaning, same_known}
+use Rattle.schedule_model.specs.declared.Command.TheVariants.{Add, Remove, Deliver, Show, Compare, Join}
+use Rattle.mld_model.specs.Clone.{Clone, Absent, Asking, Empty, Down, Live, Stored, known_of}
+use Rattle.mld_model.specs.World.{World, Message, RangeOf, JoinAsk, JoinGive, message_at, clone_count, clone_at}
+use Rattle.mld_model.specs.Reply.{Reply, NoMessage}
+use Rattle.mld_model.specs.CloneStep.{Answers, Makes, Adds, ArePairsOf, Deletes, finds_none, deletes_all, Removes, holds_already, holds_too_many, holds_from_now, Receives, knows_already, accepts, holds_back, Joins, Gives, asked_itself, is_too_deep, forks, Adopts, becomes_live, leaves_it, Takes, Lists, ComparesWith, Weighs}
+use Rattle.mld_model.proofs.StateLaws.{if_live}
+use Rattle.schedule_model.specs.Step.{Step}
+use Rattle.schedule_model.specs.Runs.{Stage, Waiting, SetUp, Running, IsWorldOf, Commands, Acts, says_nothing, sets_up, commands, Runs}
+use Rattle.mld_model.specs.Sound.{Keeps, IsSound}
+use Rattle.mld_model.proofs.LeafLaws.{apart_differ}
+use Rattle.mld_model.proofs.SoundLaws.{made_sound, taken_sound, holding_sound}
+use Rattle.mld_model.proofs.JoiningLaws.{asked_sound, forked_sound, stands_at, joined_sound, place_of_message}
+use Rattle.schedule_model.proofs.ScheduleLaws.{spells_numbers}
+use Rattle.mld_model.proofs.FoundedLaws.{founded_sound}
+use Rattle.schedule_model.specs.Laws.{StepIsSound, RunsAreSound, SamePairs, OneLeaf}
+
+-- ---- steps
+
+-- a world that is left as it was stays sound
+same_sound : (world next : World) → IsSound world → next ≡ world → IsSound next
+same_sound world next sound same = subst IsSound (sym same) sound
+
+-- each step of a sound world leads to a sound world
+module _ (world next : World) (reply : Reply) (sound : IsSound world) where
+  -- an `add` leads to a sound world
+  adds_sound : (number : ℕ) (triple : Triple) (clone : Clone) → clone_at world number ≡ clone → Adds world number triple clone reply next → IsSound next
+  adds_sound number triple clone is =
+      if_live (IsSound next) world clone reply next (λ stored held. Makes world number stored held [] (triple ∷ []) reply next)
+      (λ answer state p. same_sound world next sound p.1) (λ stored held live p. subst IsSound (sym p.changes)
+      (made_sound world number stored held sound (is ∙ live) p.tick [] (triple ∷ []) p.is_next (λ pair h. absurd h) (λ pair h. absurd h)))
+
+  -- and so do pairs of the clone that are deleted
+  deletes_sound : (number : ℕ) (stored : Stored) (held : List Range) (triple : Triple) (pairs deletes : List Tagged) → clone_at world number ≡ Live stored held
+      → IsMeaning world.history (known_of stored) pairs → ArePairsOf triple pairs deletes → Deletes world number stored held deletes reply next → IsSound next
+  deletes_sound number stored held triple pairs deletes is meant are (finds_none none p) = same_sound world next sound p.1
+  deletes_sound number stored held triple pairs deletes is meant are (deletes_all some p) =
+      subst IsSound (sym p.changes) (made_sound world number stored held sound is p.tick deletes [] p.is_next (λ pair h. (meant.sound pair ((are.members pair).0 h).0).covered) (λ pair h. (meant.sound pair ((are.members pair).0 h).0).inserted))
+
+  -- and so does a `remove`
+  removes_sound : (number : ℕ) (triple : Triple) (clone : Clone) → clone_at world number ≡ clone → Removes world number triple clone reply next → IsSound next
+  removes_sound number triple clone is =
+      if_live (IsSound next) world clone reply next _ (λ answer state p. same_sound world next sound p.1)
+      (λ stored held live p. deletes_sound number stored held triple p.0 p.1 (is ∙ live) p.2 p.3 p.4)
+
+  -- a range that comes to a live clone leads to a sound world
+  receives_sound : (number : ℕ) (stored : Stored) (held : List Range) (range : Range) → clone_at world number ≡ Live stored held → Has world.messages (RangeOf range)
+      → Receives world number stored held range reply next → IsSound next
+  receives_sound number stored held range is sent (knows_already known p) = same_sound world next sound p.1
+  receives_sound number stored held range is sent (accepts p) =
+      subst IsSound (sym p.changes) (taken_sound world number stored held sound is range p.taken p.after p.left (sound.messages (RangeOf range) sent) p.ready p.releases)
+  receives_sound number stored held range is sent (holds_back back (holds_already has p)) = same_sound world next sound p.1
+  receives_sound number stored held range is sent (holds_back back (holds_too_many lacks full p)) = same_sound world next sound p.1
+  receives_sound number stored held range is sent (holds_back back (holds_from_now lacks few told same)) =
+      subst IsSound (sym same) (holding_sound world number stored held sound is range (sound.messages (RangeOf range) sent))
+
+  -- a clone that asks for a leaf leads to a sound world
+  joins_sound : (number : ℕ) (clone : Clone) → number < clone_count → clone_at world number ≡ clone → Joins world number clone reply next → IsSound next
+  joins_sound number Absent small is p =
+      subst IsSound (sym p.1) (asked_sound world number sound small (λ stored. subst (λ (c : Clone). ¬ Keeps c stored) (sym is) (λ h. h)))
+  joins_sound number Asking small is p =
+      subst IsSound (sym p.1) (asked_sound world number sound small (λ stored. subst (λ (c : Clone). ¬ Keeps c stored) (sym is) (λ h. h)))
+  joins_sound number Empty small is p = same_sound world next sound p.1
+  joins_sound number (Down stored) small is p = same_sound world next sound p.1
+  joins_sound number (Live stored held) small is p = same_sound world next sound p.1
+
+  -- and so does a live clone that is asked for one
+  gives_sound : (number : ℕ) (stored : Stored) (held : List Range) (id : ℕ) → clone_at world number ≡ Live stored held → Has world.messages (JoinAsk id)
+      → Gives world number stored held id reply next → IsSound next
+  gives_sound number stored held id is sent (asked_itself own p) = same_sound world next sound p.1
+  gives_sound number stored held id is sent (is_too_deep differs deep p) = same_sound world next sound p.1
+  gives_sound number stored held id is sent (forks differs room told same) =
+      subst IsSound (sym same) (forked_sound world number stored held sound is id (sound.messages (JoinAsk id) sent))
+
+  -- and a leaf that comes to a clone that asks
+  adopts_sound : (number place id : ℕ) (path : List ℕ) (dots : List Range) → clone_at world number ≡ Asking → slice_get world.messages place ≡ Some (JoinGive id path dots)
+      → Adopts world number id path dots reply next → IsSound next
+  adopts_sound number place id path dots is sent (becomes_live own told same) =
+      subst IsSound (sym same) (joined_sound world number place path dots sound is
+      (subst (λ (k : ℕ). slice_get world.messages place ≡ Some (JoinGive k path dots)) own sent))
+  adopts_sound number place id path dots is sent (leaves_it differs p) = same_sound world next sound p.1
+
+  -- and so does a message that comes to a clone
+  takes_sound : (number : ℕ) (message : Message) (clone : Clone) → clone_at world number ≡ clone → (sent : (place : ℕ) × (slice_get world.messages place ≡ Some message))
+      → Takes world number message clone reply next → IsSound next
+  takes_sound number message Absent is sent p = same_sound world next sound p.1
+  takes_sound number (JoinGive id path dots) Asking is sent p =
+      adopts_sound number sent.0 id path dots is sent.1 p
+  takes_sound number message Asking is sent p = same_sound world next sound p.1
+  takes_sound number message Empty is sent p = same_sound world next sound p.1
+  takes_sound number message (Down stored) is sent p = same_sound world next sound p.1
+  takes_sound number (RangeOf range) (Live stored held) is sent p =
+      receives_sound number stored held range is (stands_at world.messages sent.0 (RangeOf range) sent.1) p
+  takes_sound number (JoinAsk id) (Live stored held) is sent p =
+      gives_sound number stored held id is (stands_at world.messages sent.0 (JoinAsk id) sent.1) p
+  takes_sound number (JoinGive id path dots) (Live stored held) is sent p = same_sound world next sound p.1
+  takes_sound number message clone is sent p = absurd p
+
+  -- a `deliver` leads to a sound world
+  delivers_sound : (number : ℕ) (sent : Option Message) → ((message : Message) → sent ≡ Some message → (place : ℕ) × (slice_get world.messages place ≡ Some message))
+      → MatchOption sent (Answers world NoMessage reply next) (λ message. Takes world number message (clone_at world number) reply next) → IsSound next
+  delivers_sound number None has p = same_sound world next sound p.1
+  delivers_sound number (Some message) has p =
+      takes_sound number message (clone_at world number) refl (has message refl) p
+
+-- a `show` leaves the world as it was
+pub lists_same : (world : World) (clone : Clone) (reply : Reply) (next : World) → Lists world clone reply next → next ≡ world
+lists_same world clone reply next = if_live (next ≡ world) world clone reply next _ (λ answer state p. p.1) (λ stored held live p. p.2.1)
+
+-- and so does a `compare` at a live clone
+compares_same : (world : World) (stored : Stored) (clone : Clone) (reply : Reply) (next : World) → ComparesWith world stored clone reply next → next ≡ world
+compares_same world stored clone reply next = if_live (next ≡ world) world clone reply next _ (λ answer state p. p.1) (λ other held live p. p.1)
+
+-- whatever the states of its clones are
+pub weighs_same : (world : World) (clone other : Clone) (reply : Reply) (next : World) → Weighs world clone other reply next → next ≡ world
+weighs_same world clone other reply next =
+    if_live (next ≡ world) world clone reply next _ (λ answer state p. p.1) (λ stored held live. compares_same world stored other reply next)
+
+-- a step of a sound world, by a command whose clones there are, leads to a sound world
+pub step_sound : StepIsSound
+unfolding Step
+step_sound world (Add number triple) reply next small sound p = adds_sound world next reply sound number triple (clone_at world number) refl p
+step_sound world (Remove number triple) reply next small sound p = removes_sound world next reply sound number triple (clone_at world number) refl p
+step_sound world (Deliver message number) reply next small sound p = delivers_sound world next reply sound number (message_at world message) (place_of_message world message) p
+step_sound world (Show number) reply next small sound p = same_sound world next sound (lists_same world (clone_at world number) reply next p)
+step_sound world (Join number) reply next small sound p = joins_sound world next reply sound number (clone_at world number) small refl p
+step_sound world (Compare number other) reply next small sound p =
+    same_sound world next sound (weighs_same world (clone_at world number) (clone_at world other) reply next p)
+
+-- ---- runs
+
+-- the world that runs at a stage is sound
+abbrev IsSoundStage : Stage → Type 0
+IsSoundStage Waiting = Unit {0}
+IsSoundStage (SetUp setup) = Unit {0}
+IsSoundStage (Running world) = IsSound world
+
+-- and so is the world that the clones of such a stage are founded in
+world_sound : (stage : Stage) (world : World) → IsSoundStage stage → IsWorldOf stage world → IsSound world
+world_sound Waiting world sound is = absurd is
+world_sound (SetUp setup) world sound is = subst IsSound (sym is) (founded_sound setup.domain setup.properties setup.count)
+world_sound (Running now) world sound is = subst IsSound (sym is) sound
+
+-- a command leads from such a stage to another
+commands_sound : (stage : Stage) (line text : List ℕ) (next : Stage) → IsSoundStage stage → Commands stage line text next → IsSoundStage next
+commands_sound stage line text next sound p =
+    subst IsSoundStage (sym p.changes)
+    (step_sound p.world p.command p.reply p.after (spells_numbers line p.command p.spells) (world_sound stage p.world sound p.founds) p.steps)
+
+-- and so does each line
+acts_sound : (stage : Stage) (line text : List ℕ) (next : Stage) → IsSoundStage stage → Acts stage line text next → IsSoundStage next
+acts_sound stage line text next sound (says_nothing h none is) = subst IsSoundStage (sym is) sound
+acts_sound stage line text next sound (sets_up p) = subst IsSoundStage (sym p.changes) tt
+acts_sound stage line text next sound (commands p) = commands_sound stage line text next sound p
+
+-- and so do lines
+lines_sound : (stage : Stage) (lines : List (List ℕ)) (text : List ℕ) (next : Stage) → IsSoundStage stage → Runs stage lines text next → IsSoundStage next
+lines_sound stage [] text next sound p = subst IsSoundStage (sym p.1) sound
+lines_sound stage (line ∷ lines) text next sound p = lines_sound p.2 lines p.1 next (acts_sound stage line p.0 p.2 sound p.3) p.4
+
+-- each world that a schedule reaches is sound
+pub runs_sound : RunsAreSound
+runs_sound lines text stage world runs founds = world_sound stage world (lines_sound Waiting lines text stage tt runs) founds
+
+-- ---- what a reader may take from that
+
+-- clones that know the same dots have the same pairs
+pub same_pairs : SamePairs
+same_pairs history known other pairs others here there p q =
+    one_meaning history other pairs others (same_known history known other pairs here there p) q
+
+-- no two clones of a sound world hold one leaf
+pub one_leaf : OneLeaf
+one_leaf world sound number other stored kept differ here there =
+    apart_differ stored.path kept.path (sound.apart number other stored kept differ here there)

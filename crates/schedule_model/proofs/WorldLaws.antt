@@ -1,0 +1,619 @@
+-- A running world that takes a step stands for what the model's step makes.
+use Rattle.std.proofs.Common.{◌≡◌, ◌≢◌, ℕ, zero, suc, ◌+◌, ◌<◌, ◌≤◌, List, [], ◌∷◌, ◌++◌, ◌⊎◌, ◌↔◌, inl, inr, refl, sym, ◌∙◌, ap, arith, subst, length, get_or, set, Option, Some, None, map, ltb}
+use Rattle.std.specs.Prelude.{slice_get, MatchOption}
+use Rattle.std.specs.List.{range_with_len}
+use Rattle.std.proofs.lemmas.Bool.{cases_lt, cases_Bool}
+use Rattle.std.proofs.lemmas.List.{length-set}
+use Rattle.std.proofs.lemmas.Option.{slice_get_within, get_or_from_slice_get}
+use Rattle.std.proofs.lemmas.List.FromFn.{get_or-map-range_with_len, length-map-range_with_len}
+use Rattle.rdf_terms.specs.declared.terms.Triple.{Triple}
+use Rattle.tree_clock.specs.declared.dots.Dot.{Dot}
+use Rattle.tree_clock.specs.declared.dots.Range.{Range}
+use Rattle.tree_clock.specs.Lists.{Has}
+use Rattle.tree_clock.specs.Dot.{Knows}
+use Rattle.tree_clock.specs.Clock.{ticks_of, Covers}
+use Rattle.mld_ops.specs.declared.tagged.Tagged.{Tagged}
+use Rattle.mld_ops.specs.Messages.{MessageValue, CarriesEntry}
+use Rattle.mld_ops.specs.Entry.{EntryValue}
+use Rattle.mld_ops.specs.History.{Operation, IsDone, IsInserted, IsNext, dot_at}
+use Rattle.mld_ops.specs.Effect.{range_of}
+use Rattle.mld_ops.specs.Picking.{AllPairs}
+use Rattle.mld_ops.specs.PickingLaws.{pairs_more}
+use Rattle.mld_ops.specs.Ready.{last_dot, IsKnownEntry}
+use Rattle.schedule_model.specs.declared.Command.{Command}
+use Rattle.schedule_model.specs.declared.Command.TheVariants.{Add, Remove, Deliver, Show, Compare}
+use Rattle.mld_model.specs.declared.CloneState.TheVariants as states
+use Rattle.mld_model.specs.Clone.{Clone, Absent, Asking, Empty, Down, Live, Stored, known_of, with_range, IsReady, IsHeldBack, IsWithin}
+use Rattle.mld_ops.specs.Held.{held_limit}
+use Rattle.mld_model.specs.World.{World, Message, RangeOf, numbered, message_at, clone_at, with_clone, founded, founded_clone, clone_count}
+use Rattle.schedule_model.specs.Step.{Step}
+use Rattle.mld_model.specs.CloneStep.{Answers, IfLive, ArePairsOf, finds_none, deletes_all, IsNextTick, Makes, after_operation, holds_already, holds_too_many, holds_from_now, Receives, knows_already, accepts, holds_back, Takes, Compares, same_dots, fewer_dots, more_dots, dots_apart}
+use Rattle.mld_model.proofs.StateLaws.{live_does}
+use Rattle.mld_model.specs.Reply.{Reply, Did, NoOperation, Took, Held, HeldFull, AlreadyKnown, Shows, Same, Less, More, Apart, NoMessage}
+use Rattle.mld_model.specs.Sound.{IsDoneRange, IsSoundClone, IsSound}
+use Rattle.mld_model.specs.Local.{LocalClone, CloneValue, next_dot, LocallyMakes, LocallyAccepts, MustBeHeld, IsFullFor, IsForeign}
+use Rattle.mld_ops.specs.Held.{ranges_of}
+use Rattle.mld_model.specs.StandsFor.{RunningClone, RunningWorld, EntryStandsFor, LocalStandsFor, IsCloneOf, CloneStandsFor, MessageStandsFor, StandsFor, founded_local, founded_running}
+use Rattle.mld_model.proofs.JournalLaws.{journal_done}
+use Rattle.mld_model.proofs.SoundLaws.{made_is_next, made_sound, taken_sound, holding_sound, live_sound}
+use Rattle.mld_model.proofs.LocalLaws.{kept_by, next_tick_of, made_by, maker_stands, made_entry, known_alike, ready_alike}
+use Rattle.mld_model.proofs.ReleasedLaws.{StandsDone, stand_done, Released, accepted_ready, accepted_releases, accepted_told, accepted_stands}
+use Rattle.mld_model.proofs.PairsLaws.{PairAt, pair_at, no_pair_at, pairs_count}
+use Rattle.mld_model.proofs.StandsForLaws.{LiveAt, live_at, clone_stands_as, still_clone_of, clones_stand_set, clones_still_stand, messages_still_stand}
+use Rattle.mld_model.proofs.FoundedLaws.{founded_one_tick}
+use Rattle.mld_model.proofs.OneTickLaws.{HasOneTickClone, one_tick_changed, one_tick_made, one_tick_taken, one_tick_holding}
+use Rattle.schedule_model.specs.WorldStep.{Follows, IsMissingReply, IsAwayReply}
+
+-- the clone of a world that was just founded stands for the founded clone
+founded_clone_stands : (domain : List ℕ) (properties : List (List ℕ)) (count number : ℕ)
+    → CloneStandsFor (founded domain properties count) number (founded_local domain properties count number) (founded_clone count number)
+founded_clone_stands domain properties count number = elim (cases_Bool (ltb number count)) [
+  | inl below ↦ rw below (
+    record { id = refl; domain = refl; properties = refl },
+    record {
+      kept = record {
+        path = refl;
+        base = λ dot. ((λ c. absurd (omega (arith, c.positive, c.within))), λ k. absurd k);
+        base_pairs = record { ascending = tt; sound = λ pair h. absurd h; complete = λ pair k. absurd k.covered };
+        entries = tt;
+      };
+      held = tt;
+      known = λ dot. ((λ c. absurd (omega (arith, c.positive, c.within))), λ k. absurd k);
+      pairs = record { ascending = tt; sound = λ pair h. absurd h; complete = λ pair k. absurd k.covered };
+    },
+  )
+  | inr above ↦ rw above tt
+]
+
+founded_at : (domain : List ℕ) (properties : List (List ℕ)) (count number : ℕ) (state : RunningClone)
+    → slice_get (map (founded_local domain properties count) (range_with_len 0 clone_count)) number ≡ Some state
+    → CloneStandsFor (founded domain properties count) number state (clone_at (founded domain properties count) number)
+founded_at domain properties count number state is =
+    let running : List RunningClone = map (founded_local domain properties count) (range_with_len 0 clone_count) in
+    let inside : number < clone_count = omega (arith, slice_get_within running number state is, length-map-range_with_len (founded_local domain properties count) 0 clone_count) in
+    let same : founded_local domain properties count number ≡ state
+    = sym (get_or-map-range_with_len (founded_local domain properties count) 0 clone_count number number state inside (omega arith)) ∙ get_or_from_slice_get running number state state is in
+    subst (λ (r : RunningClone). CloneStandsFor (founded domain properties count) number r (clone_at (founded domain properties count) number)) same
+    (subst (λ (c : Clone). CloneStandsFor (founded domain properties count) number (founded_local domain properties count number) c)
+    (sym (get_or-map-range_with_len (founded_clone count) 0 clone_count number number Absent inside (omega arith)))
+    (founded_clone_stands domain properties count number))
+
+-- the world that runs when it was just founded stands for the founded world
+pub founded_stands : (domain : List ℕ) (properties : List (List ℕ)) (count : ℕ) → StandsFor (founded_running domain properties count) (founded domain properties count)
+founded_stands domain properties count = record {
+  domain = refl;
+  properties = refl;
+  count = length-map-range_with_len (founded_local domain properties count) 0 clone_count;
+  clones = founded_at domain properties count;
+  messages = tt;
+  one_tick = founded_one_tick domain properties count;
+  ticks = λ operation h. absurd h;
+}
+
+-- a running world after one more step
+abbrev pub stepped : RunningWorld → RunningWorld
+stepped running = record running { steps = running.steps + 1 }
+
+-- with another clone
+abbrev pub stepped_with : RunningWorld → ℕ → CloneValue → RunningWorld
+stepped_with running number clone = record running { clones = set running.clones number (states.Live clone); steps = running.steps + 1 }
+
+-- with another clone and the message of one more entry
+abbrev pub stepped_sending : RunningWorld → ℕ → CloneValue → EntryValue → RunningWorld
+stepped_sending running number clone entry = record running {
+  clones = set running.clones number (states.Live clone);
+  messages = running.messages ++ CarriesEntry entry ∷ [];
+  steps = running.steps + 1;
+}
+
+-- where the running clone isn't live, the model's does nothing of what only a live clone does
+missing_replies : (world : World) (number : ℕ) (state : RunningClone) (clone : Clone) (reply : Reply) (does : Stored → List Range → Type 0)
+    → IsMissingReply state reply → CloneStandsFor world number state clone → IfLive world clone reply world does
+missing_replies world number (states.Absent blank) Absent reply does is stands = (is, refl)
+missing_replies world number (states.Asking asker) Asking reply does is stands = (is, refl)
+missing_replies world number (states.Down device) Empty reply does is stands = (is, refl)
+missing_replies world number (states.Down device) (Down stored) reply does is stands = (is, refl)
+missing_replies world number (states.Live live) clone reply does is stands = absurd is
+missing_replies world number state clone reply does is stands = absurd stands
+
+-- what making an operation gives
+pub record MakesSoundly (world : World) (number : ℕ) (live : LocalClone) (deletes : List Tagged) (inserts : List Triple) (reply : Reply) (running : RunningWorld) : Type 0 where
+  pub at : LiveAt world number live
+  pub next : World
+  pub makes : Makes world number (kept_by live at.base at.journal) at.held deletes inserts reply next
+  pub sound : IsSound next
+  pub stands : StandsFor running next
+
+-- the message of a number, as it runs
+abbrev pub sent_message : RunningWorld → ℕ → Option MessageValue
+sent_message running number = numbered running.messages number
+
+-- the model's message of a number, and what stands for it
+pub record SentAs (world : World) (message : MessageValue) (number : ℕ) : Type 0 where
+  pub other : Message
+  pub at : message_at world number ≡ Some other
+  pub stands : Has world.messages other
+  pub relates : MessageStandsFor world.history message other
+
+-- the range of an entry that was sent
+pub record SentRange (world : World) (entry : EntryValue) (number : ℕ) : Type 0 where
+  pub range : Range
+  pub at : message_at world number ≡ Some (RangeOf range)
+  pub stands : Has world.messages (RangeOf range)
+  pub entry_stands : EntryStandsFor world.history entry range
+
+range_from : (world : World) (entry : EntryValue) (number : ℕ) (other : Message) → message_at world number ≡ Some other → Has world.messages other
+    → MessageStandsFor world.history (CarriesEntry entry) other → SentRange world entry number
+range_from world entry number (RangeOf range) at stands relates = record { range = range; at = at; stands = stands; entry_stands = relates }
+range_from world entry number other at stands relates = absurd relates
+
+-- a running world that stands for a world
+module _ (running : RunningWorld) (world : World) (stands : StandsFor running world) where
+  -- nothing but the count of steps changes
+  pub stepped_stands : StandsFor (stepped running) world
+  stepped_stands = record {
+    domain = stands.domain;
+    properties = stands.properties;
+    count = stands.count;
+    clones = stands.clones;
+    messages = stands.messages;
+    one_tick = stands.one_tick;
+    ticks = λ operation h. omega (arith, stands.ticks operation h);
+  }
+
+  -- where there is no message of a number there is none of it in the model
+  pub no_message : (message : ℕ) → sent_message running message ≡ None → message_at world message ≡ None
+  no_message zero is = refl
+  no_message (suc before) is = no_pair_at (MessageStandsFor world.history) running.messages world.messages stands.messages before is
+
+  -- what was sent by a number stands for the model's message of that number
+  pub sent_as : (number : ℕ) (message : MessageValue) → sent_message running number ≡ Some message → SentAs world message number
+  sent_as zero message is = cc
+  sent_as (suc before) message is =
+      let p : PairAt (MessageStandsFor world.history) message world.messages before = pair_at (MessageStandsFor world.history) running.messages world.messages stands.messages before message is in
+      record { other = p.other; at = p.at; stands = p.stands; relates = p.relates }
+
+  -- an entry was sent as a range
+  pub sent_range : (number : ℕ) (entry : EntryValue) → sent_message running number ≡ Some (CarriesEntry entry) → SentRange world entry number
+  sent_range number entry is =
+      let s : SentAs world (CarriesEntry entry) number = sent_as number (CarriesEntry entry) is in
+      range_from world entry number s.other s.at s.stands s.relates
+
+-- what a clone does with a message follows the model where the model's clone may do so
+pub taking_follows : (next : RunningWorld) (world after : World) (message number : ℕ) (what : Message) (clone : Clone) (reply : Reply)
+    → message_at world message ≡ Some what → clone_at world number ≡ clone → Takes world number what clone reply after → IsSound after → StandsFor next after
+    → Follows world (Deliver message number) reply next
+unfolding Step
+taking_follows next world after message number what clone reply sent is takes sound stands =
+    let P : Option Message → Type 0 = λ o. MatchOption o (Answers world NoMessage reply after) (λ m. Takes world number m (clone_at world number) reply after) in
+    let Q : Clone → Type 0 = λ c. Takes world number what c reply after in
+    record { next = after; steps = subst P (sym sent) (subst Q (sym is) takes); sound = sound; stands = stands }
+
+-- a clone that is absent or down takes no message
+takes_away : (world : World) (number : ℕ) (what : Message) (state : RunningClone) (clone : Clone) (reply : Reply) → IsAwayReply state reply
+    → CloneStandsFor world number state clone → Takes world number what clone reply world
+takes_away world number what (states.Absent blank) Absent reply away stands = (away, refl)
+takes_away world number what (states.Down device) Empty reply away stands = (away, refl)
+takes_away world number what (states.Down device) (Down stored) reply away stands = (away, refl)
+takes_away world number what (states.Asking asker) clone reply away stands = absurd away
+takes_away world number what (states.Live live) clone reply away stands = absurd away
+takes_away world number what state clone reply away stands = absurd stands
+
+-- how a live clone's answer to an entry follows the model
+answer_follows : (running next : RunningWorld) (world after : World) (message number : ℕ) (entry : EntryValue) (live : CloneValue) (reply : Reply)
+    → (s : SentRange world entry message) → (at : LiveAt world number live.local)
+    → Receives world number (kept_by live.local at.base at.journal) at.held s.range reply after → IsSound after → StandsFor next after
+    → Follows world (Deliver message number) reply next
+answer_follows running next world after message number entry live reply s at receives sound stands =
+    taking_follows next world after message number (RangeOf s.range) (Live (kept_by live.local at.base at.journal) at.held) reply s.at at.live receives sound stands
+
+-- the entry would have to be held back in the model too
+must_be_held : (world : World) (live : LocalClone) (stored : Stored) (held : List Range) (range : Range) (entry : EntryValue) → LocalStandsFor world.history live stored held
+    → EntryStandsFor world.history entry range → 1 ≤ range.first → MustBeHeld live entry → IsHeldBack world.history (known_of stored) range
+must_be_held world live stored held range entry stands entry_stands positive must = record {
+  unknown = λ k. must.unknown ((known_alike world.history live.ticks (known_of stored) stands.known range entry entry_stands).1 k);
+  unready = λ r. must.unready ((ready_alike world.history live.ticks (known_of stored) stands.known range entry entry_stands positive).1 r);
+}
+
+-- the ranges of entries that stand for ranges are those
+pub same_ranges : (history : List Operation) (entries : List EntryValue) (ranges : List Range) → AllPairs (EntryStandsFor history) entries ranges → ranges_of entries ≡ ranges
+same_ranges history [] [] all = refl
+same_ranges history (entry ∷ entries) (range ∷ ranges) all = λ i. all.0.same i ∷ same_ranges history entries ranges all.1 i
+same_ranges history [] (range ∷ ranges) all = absurd all
+same_ranges history (entry ∷ entries) [] all = absurd all
+
+-- a range is held just where an entry of it is
+held_alike : (history : List Operation) (entries : List EntryValue) (ranges : List Range) (entry : EntryValue) (range : Range) → AllPairs (EntryStandsFor history) entries ranges
+    → entry.range ≡ range → Has (ranges_of entries) entry.range ↔ Has ranges range
+held_alike history entries ranges entry range all same = (
+  λ h. subst (λ (r : Range). Has ranges r) same (subst (λ (rs : List Range). Has rs entry.range) (same_ranges history entries ranges all) h),
+  λ h. subst (λ (rs : List Range). Has rs entry.range) (sym (same_ranges history entries ranges all)) (subst (λ (r : Range). Has ranges r) (sym same) h),
+)
+
+-- the first clock's dots are all among the second's
+abbrev pub LocallyWithin : LocalClone → LocalClone → Type 0
+LocallyWithin live other = (dot : Dot) → Covers live.ticks dot → Covers other.ticks dot
+
+-- how two clocks compare
+abbrev pub LocallyCompares : LocalClone → LocalClone → Reply → Type 0
+LocallyCompares live other reply =
+    (LocallyWithin live other × LocallyWithin other live × (reply ≡ Same))
+    ⊎ ((LocallyWithin live other × ¬ LocallyWithin other live × (reply ≡ Less))
+    ⊎ ((¬ LocallyWithin live other × LocallyWithin other live × (reply ≡ More))
+    ⊎ (¬ LocallyWithin live other × ¬ LocallyWithin other live × (reply ≡ Apart))))
+
+within_alike : (history : List Operation) (live other : LocalClone) (stored kept : Stored) (held back : List Range) → LocalStandsFor history live stored held
+    → LocalStandsFor history other kept back → LocallyWithin live other ↔ IsWithin (known_of stored) (known_of kept)
+within_alike history live other stored kept held back a b = (
+  λ local dot known. (b.known dot).0 (local dot ((a.known dot).1 known)),
+  λ within dot covered. (b.known dot).1 (within dot ((a.known dot).0 covered)),
+)
+
+-- a running world that stands for a sound world
+module _ (running : RunningWorld) (world : World) (stands : StandsFor running world) (sound : IsSound world) where
+  -- ---- a clone that isn't live
+
+  -- a step that changes nothing follows the model
+  staying_follows : (command : Command) (reply : Reply)
+      → Step world command reply world → Follows world command reply (stepped running)
+  staying_follows command reply steps =
+      record { next = world; steps = steps; sound = sound; stands = stepped_stands running world stands }
+
+  -- the next tick of a clone is at most the number of the step that makes it
+  pub next_tick_within : (number : ℕ) (live : LocalClone)
+      → LiveAt world number live → (next_dot live).tick ≤ running.steps + 1
+  next_tick_within number live at = elim (cases_lt 0 (ticks_of live.ticks live.path)) [
+    | inl some ↦
+        let own : Dot = dot_at live.path (ticks_of live.ticks live.path) in
+        let known : Knows (known_of (kept_by live at.base at.journal)) own = (at.stands.known own).0 (record { positive = omega arith; within = omega arith }) in
+        let done : IsDone world.history own = (live_sound world number (kept_by live at.base at.journal) at.held sound at.live).closed.done own known in
+        omega (arith, stands.ticks done.operation done.stands, ap (λ (d : Dot). d.tick) done.is)
+    | inr none ↦ omega arith
+  ]
+
+  -- a live clone that makes an operation does so in the model, and the running world stands for what that makes
+  pub makes_soundly : (number : ℕ) (live : CloneValue)
+      → slice_get running.clones number ≡ Some (states.Live live) → (deletes : List Tagged) (inserts : List Triple) (new : CloneValue) (entry : EntryValue)
+      → ((pair : Tagged) → Has deletes pair → Has live.local.pairs pair) → LocallyMakes live.local deletes inserts new.local entry
+      → MakesSoundly world number live.local deletes inserts (Did (next_dot live.local) (length running.messages + 1)) (stepped_sending running number new entry)
+  makes_soundly number live is deletes inserts new entry present makes =
+      let at : LiveAt world number live.local = live_at running world stands number live is in
+      let stored : Stored = kept_by live.local at.base at.journal in
+      let whole : IsSoundClone world.history stored = live_sound world number stored at.held sound at.live in
+      let tick : IsNextTick (known_of stored) live.local.path (next_dot live.local).tick = next_tick_of live.local (known_of stored) at.stands.known in
+      let covered : (pair : Tagged) → Has deletes pair → Knows (known_of stored) pair.dot = λ pair h. (at.stands.pairs.sound pair (present pair h)).covered in
+      let inserted : (pair : Tagged) → Has deletes pair → IsInserted world.history pair = λ pair h. (at.stands.pairs.sound pair (present pair h)).inserted in
+      let operation : Operation = made_by live.local at.base at.journal deletes inserts in
+      let is_next : IsNext world.history operation = made_is_next world.history stored (next_dot live.local).tick deletes inserts whole tick covered inserted in
+      let next : World = after_operation world number stored at.held operation in
+      record {
+        at = at;
+        next = next;
+        makes = record {
+          tick = (next_dot live.local).tick;
+          is_next = tick;
+          replies = ap (λ n. Did (next_dot live.local) (n + 1)) (pairs_count (MessageStandsFor world.history) running.messages world.messages stands.messages);
+          changes = refl;
+        };
+        sound = made_sound world number stored at.held sound at.live (next_dot live.local).tick deletes inserts tick covered inserted;
+        stands = record {
+          domain = stands.domain;
+          properties = stands.properties;
+          count = length-set running.clones number (states.Live new) ∙ stands.count;
+          clones = clones_stand_set next running.clones world.clones number (states.Live new) (Live (with_range stored (range_of (next_dot live.local))) at.held)
+              (stands.count ∙ sym sound.count)
+              (clones_still_stand running world next operation stands sound is_next refl refl refl) (
+                still_clone_of world next number live.local new.local makes.same refl refl at.is,
+                maker_stands world.history live.local at.base at.journal at.held deletes inserts new.local entry at.stands makes sound.lawful whole.closed is_next
+                    (journal_done world.history at.base at.journal whole.journal) (sound.held number stored at.held at.live),
+              );
+          messages = pairs_more (MessageStandsFor (operation ∷ world.history)) running.messages world.messages (CarriesEntry entry) (RangeOf (range_of (next_dot live.local)))
+              (messages_still_stand world.history operation running.messages world.messages stands.messages sound.messages is_next)
+              (made_entry world.history live.local at.base at.journal at.held deletes inserts new.local entry at.stands makes sound.lawful whole.closed is_next);
+          one_tick = one_tick_made world number stored at.held stands.one_tick at.live operation;
+          ticks = λ other h. elim h [
+            | inl same ↦ let P : Operation → Type 0 = λ o. o.dot.tick ≤ running.steps + 1 in subst P same (next_tick_within number live.local at)
+            | inr old ↦ omega (arith, stands.ticks other old)
+          ];
+        };
+      }
+
+  -- ---- add
+
+  -- a live clone adds a triple
+  pub add_follows : (number : ℕ) (triple : Triple) (live : CloneValue)
+      → slice_get running.clones number ≡ Some (states.Live live) → (new : CloneValue) (entry : EntryValue) → LocallyMakes live.local [] (triple ∷ []) new.local entry
+      → Follows world (Add number triple) (Did (next_dot live.local) (length running.messages + 1)) (stepped_sending running number new entry)
+  unfolding Step
+  add_follows number triple live is new entry makes =
+      let made : MakesSoundly world number live.local [] (triple ∷ []) (Did (next_dot live.local) (length running.messages + 1)) (stepped_sending running number new entry)
+      = makes_soundly number live is [] (triple ∷ []) new entry (λ pair h. absurd h) makes in
+      record {
+        next = made.next;
+        steps = live_does world (clone_at world number) (Did (next_dot live.local) (length running.messages + 1)) made.next _
+            (kept_by live.local made.at.base made.at.journal) made.at.held made.at.live made.makes;
+        sound = made.sound;
+        stands = made.stands;
+      }
+
+  -- a clone that isn't live adds nothing
+  pub add_missing : (number : ℕ) (triple : Triple) (state : RunningClone) (reply : Reply)
+      → slice_get running.clones number ≡ Some state → IsMissingReply state reply → Follows world (Add number triple) reply (stepped running)
+  unfolding Step
+  add_missing number triple state reply is missing =
+      staying_follows (Add number triple) reply
+      (missing_replies world number state (clone_at world number) reply _ missing (stands.clones number state is))
+
+  -- ---- remove
+
+  -- a live clone that has pairs of a triple removes it
+  pub remove_follows : (number : ℕ) (triple : Triple) (live : CloneValue)
+      → slice_get running.clones number ≡ Some (states.Live live) → (deletes : List Tagged) (new : CloneValue) (entry : EntryValue) → ArePairsOf triple live.local.pairs deletes → deletes ≢ []
+      → LocallyMakes live.local deletes [] new.local entry
+      → Follows world (Remove number triple) (Did (next_dot live.local) (length running.messages + 1)) (stepped_sending running number new entry)
+  unfolding Step
+  remove_follows number triple live is deletes new entry are some makes =
+      let reply : Reply = Did (next_dot live.local) (length running.messages + 1) in
+      let made : MakesSoundly world number live.local deletes [] reply (stepped_sending running number new entry)
+      = makes_soundly number live is deletes [] new entry (λ pair h. ((are.members pair).0 h).0) makes in
+      record {
+        next = made.next;
+        steps = live_does world (clone_at world number) reply made.next _ (kept_by live.local made.at.base made.at.journal) made.at.held made.at.live
+            (live.local.pairs, deletes, made.at.stands.pairs, are, deletes_all some made.makes);
+        sound = made.sound;
+        stands = made.stands;
+      }
+
+  -- a live clone that has none removes nothing
+  pub remove_nothing : (number : ℕ) (triple : Triple) (live : CloneValue)
+      → slice_get running.clones number ≡ Some (states.Live live) → ArePairsOf triple live.local.pairs [] → Follows world (Remove number triple) NoOperation (stepped running)
+  unfolding Step
+  remove_nothing number triple live is none =
+      let at : LiveAt world number live.local = live_at running world stands number live is in
+      staying_follows (Remove number triple) NoOperation
+      (live_does world (clone_at world number) NoOperation world _ (kept_by live.local at.base at.journal) at.held at.live
+      (live.local.pairs, [], at.stands.pairs, none, finds_none refl (refl, refl)))
+
+  -- a clone that isn't live removes nothing
+  pub remove_missing : (number : ℕ) (triple : Triple) (state : RunningClone) (reply : Reply)
+      → slice_get running.clones number ≡ Some state → IsMissingReply state reply → Follows world (Remove number triple) reply (stepped running)
+  unfolding Step
+  remove_missing number triple state reply is missing =
+      staying_follows (Remove number triple) reply
+      (missing_replies world number state (clone_at world number) reply _ missing (stands.clones number state is))
+
+  -- ---- deliver
+
+  -- no message of the number comes
+  pub deliver_nothing : (message number : ℕ)
+      → sent_message running message ≡ None → Follows world (Deliver message number) NoMessage (stepped running)
+  unfolding Step
+  deliver_nothing message number is =
+      let P : Option Message → Type 0 = λ o. MatchOption o (Answers world NoMessage NoMessage world) (λ sent. Takes world number sent (clone_at world number) NoMessage world) in
+      staying_follows (Deliver message number) NoMessage (subst P (sym (no_message running world stands message is)) (refl, refl))
+
+  -- a message comes to a clone that is absent or down
+  pub deliver_missing : (message number : ℕ) (what : MessageValue) (state : RunningClone) (reply : Reply)
+      → sent_message running message ≡ Some what → slice_get running.clones number ≡ Some state → IsAwayReply state reply
+      → Follows world (Deliver message number) reply (stepped running)
+  deliver_missing message number what state reply told is away =
+      let s : SentAs world what message = sent_as running world stands message what told in
+      taking_follows (stepped running) world world message number s.other (clone_at world number) reply s.at refl
+      (takes_away world number s.other state (clone_at world number) reply away (stands.clones number state is)) sound (stepped_stands running world stands)
+
+  -- the clones of a running world where one of them has changed, and those of a world with the same history
+  pub clones_set_stand : (number : ℕ) (new : RunningClone) (clone : Clone) (next : World)
+      → next.history ≡ world.history → next.domain ≡ world.domain → next.properties ≡ world.properties → CloneStandsFor world number new clone
+      → (other : ℕ) (state : RunningClone) → slice_get (set running.clones number new) other ≡ Some state
+      → CloneStandsFor next other state (get_or (set world.clones number clone) other Absent)
+  clones_set_stand number new clone next history domain properties now =
+      clones_stand_set next running.clones world.clones number new clone (stands.count ∙ sym sound.count)
+      (λ other state is. clone_stands_as world next other state (clone_at world other) history domain properties (stands.clones other state is))
+      (clone_stands_as world next number new clone history domain properties now)
+
+  -- a message comes to a clone that knows it
+  pub deliver_known : (message number : ℕ) (entry : EntryValue) (live : CloneValue)
+      → sent_message running message ≡ Some (CarriesEntry entry) → slice_get running.clones number ≡ Some (states.Live live) → IsKnownEntry live.local.ticks entry
+      → Follows world (Deliver message number) AlreadyKnown (stepped running)
+  deliver_known message number entry live sent is known =
+      let s : SentRange world entry message = sent_range running world stands message entry sent in
+      let at : LiveAt world number live.local = live_at running world stands number live is in
+      answer_follows running (stepped running) world world message number entry live AlreadyKnown s at
+      (knows_already ((known_alike world.history live.local.ticks (known_of (kept_by live.local at.base at.journal)) at.stands.known s.range entry s.entry_stands).0 known) (refl, refl))
+      sound (stepped_stands running world stands)
+
+  -- a running world where one clone is live as another, and nothing else has changed
+  pub changed_stands : (number : ℕ) (new : CloneValue) (stored : Stored) (held : List Range)
+      → IsCloneOf world number new.local → LocalStandsFor world.history new.local stored held → HasOneTickClone (Live stored held)
+      → StandsFor (stepped_with running number new) (with_clone world number (Live stored held))
+  changed_stands number new stored held of now one = record {
+    domain = stands.domain;
+    properties = stands.properties;
+    count = length-set running.clones number (states.Live new) ∙ stands.count;
+    clones = clones_set_stand number (states.Live new) (Live stored held) (with_clone world number (Live stored held)) refl refl refl (of, now);
+    messages = stands.messages;
+    one_tick = one_tick_changed world stands.one_tick number (Live stored held) one;
+    ticks = λ operation h. omega (arith, stands.ticks operation h);
+  }
+
+  -- a message comes to a clone that is ready for it
+  pub deliver_taken : (message number : ℕ) (entry : EntryValue) (live new : CloneValue) (ranges : List Range)
+      → sent_message running message ≡ Some (CarriesEntry entry) → slice_get running.clones number ≡ Some (states.Live live) → LocallyAccepts live.local entry new.local ranges
+      → Follows world (Deliver message number) (Took ranges) (stepped_with running number new)
+  deliver_taken message number entry live new ranges sent is locally =
+      let s : SentRange world entry message = sent_range running world stands message entry sent in
+      let at : LiveAt world number live.local = live_at running world stands number live is in
+      let stored : Stored = kept_by live.local at.base at.journal in
+      let whole : IsSoundClone world.history stored = live_sound world number stored at.held sound at.live in
+      let both : StandsDone world.history entry s.range =
+      record { stands = s.entry_stands; one = stands.one_tick.sent s.range s.stands; done = sound.messages (RangeOf s.range) s.stands } in
+      let ready : IsReady world.history (known_of stored) s.range = accepted_ready world.history live.local new.local stored at.held s.range entry ranges at.stands both locally in
+      let all : AllPairs (StandsDone world.history) live.local.held at.held =
+      stand_done world.history live.local.held at.held at.stands.held (stands.one_tick.held number stored at.held at.live) (sound.held number stored at.held at.live) in
+      let released : Released world.history (with_range stored s.range) at.held locally.taken new.local.held new.local.ticks new.local.pairs =
+      accepted_releases world.history live.local new.local stored at.held s.range entry ranges at.stands both locally all sound.lawful whole in
+      let after : Stored = record { path = live.local.path; base = at.base; journal = (at.journal ++ s.range ∷ []) ++ released.ranges } in
+      let next : World = with_clone world number (Live after released.rest) in
+      answer_follows running (stepped_with running number new) world next message number entry live (Took ranges) s at
+      (accepts (record {
+        ready = ready;
+        taken = released.ranges;
+        after = after;
+        left = released.rest;
+        releases = released.releases;
+        replies = ap Took (accepted_told world.history live.local new.local stored at.held s.range entry ranges at.stands both locally released);
+        changes = refl {a = next};
+      }))
+      (taken_sound world number stored at.held sound at.live s.range released.ranges after released.rest both.done ready released.releases)
+      (changed_stands number new after released.rest
+      (still_clone_of world world number live.local new.local locally.same refl refl at.is)
+      (accepted_stands world.history live.local new.local stored at.held s.range entry ranges at.stands both locally released)
+      (one_tick_taken world number stored at.held stands.one_tick at.live s.range released.ranges after released.rest both.one released.releases refl))
+
+  -- a message comes to a clone that holds one of its range already
+  pub deliver_held_already : (message number : ℕ) (entry : EntryValue) (live : CloneValue)
+      → sent_message running message ≡ Some (CarriesEntry entry) → slice_get running.clones number ≡ Some (states.Live live) → MustBeHeld live.local entry → Has (ranges_of live.local.held) entry.range
+      → Follows world (Deliver message number) Held (stepped running)
+  deliver_held_already message number entry live sent is must has =
+      let s : SentRange world entry message = sent_range running world stands message entry sent in
+      let at : LiveAt world number live.local = live_at running world stands number live is in
+      let positive : 1 ≤ s.range.first = (sound.messages (RangeOf s.range) s.stands).positive in
+      answer_follows running (stepped running) world world message number entry live Held s at
+      (holds_back
+      (must_be_held world live.local (kept_by live.local at.base at.journal) at.held s.range entry at.stands s.entry_stands positive must)
+      (holds_already ((held_alike world.history live.local.held at.held entry s.range at.stands.held s.entry_stands.same).0 has) (refl, refl)))
+      sound (stepped_stands running world stands)
+
+  -- a message comes to a clone that holds too many others back
+  pub deliver_full : (message number : ℕ) (entry : EntryValue) (live : CloneValue)
+      → sent_message running message ≡ Some (CarriesEntry entry) → slice_get running.clones number ≡ Some (states.Live live) → MustBeHeld live.local entry → IsFullFor live.local entry
+      → Follows world (Deliver message number) HeldFull (stepped running)
+  deliver_full message number entry live sent is must full =
+      let s : SentRange world entry message = sent_range running world stands message entry sent in
+      let at : LiveAt world number live.local = live_at running world stands number live is in
+      let positive : 1 ≤ s.range.first = (sound.messages (RangeOf s.range) s.stands).positive in
+      answer_follows running (stepped running) world world message number entry live HeldFull s at
+      (holds_back
+      (must_be_held world live.local (kept_by live.local at.base at.journal) at.held s.range entry at.stands s.entry_stands positive must)
+      (holds_too_many
+      (λ h. full.lacks ((held_alike world.history live.local.held at.held entry s.range at.stands.held s.entry_stands.same).1 h))
+      (omega (arith, full.full, pairs_count (EntryStandsFor world.history) live.local.held at.held at.stands.held))
+      (refl, refl)))
+      sound (stepped_stands running world stands)
+
+  -- a message comes to a clone that holds it back from now on
+  pub deliver_held : (message number : ℕ) (entry : EntryValue) (live new : CloneValue)
+      → sent_message running message ≡ Some (CarriesEntry entry) → slice_get running.clones number ≡ Some (states.Live live) → MustBeHeld live.local entry
+      → ¬ Has (ranges_of live.local.held) entry.range → length live.local.held < held_limit → new.local ≡ record live.local { held = live.local.held ++ entry ∷ [] }
+      → Follows world (Deliver message number) Held (stepped_with running number new)
+  deliver_held message number entry live new sent is must lacks few same =
+      let s : SentRange world entry message = sent_range running world stands message entry sent in
+      let at : LiveAt world number live.local = live_at running world stands number live is in
+      let stored : Stored = kept_by live.local at.base at.journal in
+      let done : IsDoneRange world.history s.range = sound.messages (RangeOf s.range) s.stands in
+      let held : List Range = at.held ++ s.range ∷ [] in
+      let holds : LocalClone = record live.local { held = live.local.held ++ entry ∷ [] } in
+      let of : IsCloneOf world number holds = record { id = at.is.id; domain = at.is.domain; properties = at.is.properties } in
+      let now : LocalStandsFor world.history holds stored held = record {
+        kept = record { path = refl; base = at.stands.kept.base; base_pairs = at.stands.kept.base_pairs; entries = at.stands.kept.entries };
+        held = pairs_more (EntryStandsFor world.history) live.local.held at.held entry s.range at.stands.held s.entry_stands;
+        known = at.stands.known;
+        pairs = at.stands.pairs;
+      } in
+      answer_follows running (stepped_with running number new) world (with_clone world number (Live stored held)) message number entry live Held s at
+      (holds_back
+      (must_be_held world live.local stored at.held s.range entry at.stands s.entry_stands done.positive must)
+      (holds_from_now
+      (λ h. lacks ((held_alike world.history live.local.held at.held entry s.range at.stands.held s.entry_stands.same).1 h))
+      (omega (arith, few, pairs_count (EntryStandsFor world.history) live.local.held at.held at.stands.held))
+      refl refl))
+      (holding_sound world number stored at.held sound at.live s.range done)
+      (changed_stands number new stored held
+      (subst (λ (c : LocalClone). IsCloneOf world number c) (sym same) of)
+      (subst (λ (c : LocalClone). LocalStandsFor world.history c stored held) (sym same) now)
+      (one_tick_holding world number stored at.held stands.one_tick at.live s.range (stands.one_tick.sent s.range s.stands)))
+
+  -- an entry that was sent is none of a clone's own path beyond what the clone knows
+  pub never_foreign : (message number : ℕ) (entry : EntryValue) (live : CloneValue)
+      → sent_message running message ≡ Some (CarriesEntry entry) → slice_get running.clones number ≡ Some (states.Live live) → ¬ IsForeign live.local entry
+  never_foreign message number entry live sent is foreign =
+      let s : SentRange world entry message = sent_range running world stands message entry sent in
+      let at : LiveAt world number live.local = live_at running world stands number live is in
+      let stored : Stored = kept_by live.local at.base at.journal in
+      let same : entry.range ≡ s.range = s.entry_stands.same in
+      let sent_whole : IsDoneRange world.history s.range = sound.messages (RangeOf s.range) s.stands in
+      let last : Dot = last_dot s.range in
+      let done : IsDone world.history last = sent_whole.done last (record { path = refl; above = sent_whole.some; below = omega arith }) in
+      let path : s.range.path ≡ live.local.path = sym (ap (λ (r : Range). r.path) same) ∙ foreign.own in
+      let known : Knows (known_of stored) done.operation.dot = (live_sound world number stored at.held sound at.live).own done.operation done.stands (ap (λ (d : Dot). d.path) done.is ∙ path) in
+      let again : Covers live.local.ticks last = (at.stands.known last).1 (subst (λ (d : Dot). Knows (known_of stored) d) done.is known) in
+      let within : s.range.last ≤ ticks_of live.local.ticks live.local.path = subst (λ (p : List ℕ). s.range.last ≤ ticks_of live.local.ticks p) path again.within in
+      let last_is : entry.range.last ≡ s.range.last = ap (λ (r : Range). r.last) same in
+      omega (arith, within, last_is, foreign.beyond)
+
+  -- ---- show
+
+  -- a live clone shows its pairs
+  pub show_follows : (number : ℕ) (live : CloneValue)
+      → slice_get running.clones number ≡ Some (states.Live live) → Follows world (Show number) (Shows live.local.pairs) (stepped running)
+  unfolding Step
+  show_follows number live is =
+      let at : LiveAt world number live.local = live_at running world stands number live is in
+      staying_follows (Show number) (Shows live.local.pairs)
+      (live_does world (clone_at world number) (Shows live.local.pairs) world _ (kept_by live.local at.base at.journal) at.held at.live
+      (live.local.pairs, at.stands.pairs, (refl, refl)))
+
+  -- a clone that isn't live shows no pairs
+  pub show_missing : (number : ℕ) (state : RunningClone) (reply : Reply)
+      → slice_get running.clones number ≡ Some state → IsMissingReply state reply → Follows world (Show number) reply (stepped running)
+  unfolding Step
+  show_missing number state reply is missing =
+      staying_follows (Show number) reply
+      (missing_replies world number state (clone_at world number) reply _ missing (stands.clones number state is))
+
+  -- ---- compare
+
+  -- two live clones compare
+  pub compare_follows : (number second : ℕ) (live other : CloneValue) (reply : Reply)
+      → slice_get running.clones number ≡ Some (states.Live live) → slice_get running.clones second ≡ Some (states.Live other) → LocallyCompares live.local other.local reply
+      → Follows world (Compare number second) reply (stepped running)
+  unfolding Step
+  compare_follows number second live other reply is was compares =
+      let a : LiveAt world number live.local = live_at running world stands number live is in
+      let b : LiveAt world second other.local = live_at running world stands second other was in
+      let one = within_alike world.history live.local other.local (kept_by live.local a.base a.journal) (kept_by other.local b.base b.journal) a.held b.held a.stands b.stands in
+      let two = within_alike world.history other.local live.local (kept_by other.local b.base b.journal) (kept_by live.local a.base a.journal) b.held a.held b.stands a.stands in
+      let stored : Stored = kept_by live.local a.base a.journal in
+      let kept : Stored = kept_by other.local b.base b.journal in
+      let found : Compares (known_of stored) (known_of kept) reply = elim compares [
+        | inl same ↦ same_dots (one.0 same.0) (two.0 same.1) same.2
+        | inr rest ↦ elim rest [
+          | inl less ↦ fewer_dots (one.0 less.0) (λ w. less.1 (two.1 w)) less.2
+          | inr rest ↦ elim rest [
+            | inl more ↦ more_dots (λ w. more.0 (one.1 w)) (two.0 more.1) more.2
+            | inr apart ↦ dots_apart (λ w. apart.0 (one.1 w)) (λ w. apart.1 (two.1 w)) apart.2
+          ]
+        ]
+      ] in
+      staying_follows (Compare number second) reply
+      (live_does world (clone_at world number) reply world _ stored a.held a.live
+      (live_does world (clone_at world second) reply world _ kept b.held b.live (found, refl)))
+
+  -- the first of two clones isn't live
+  pub compare_missing_first : (number second : ℕ) (state : RunningClone) (reply : Reply)
+      → slice_get running.clones number ≡ Some state → IsMissingReply state reply → Follows world (Compare number second) reply (stepped running)
+  unfolding Step
+  compare_missing_first number second state reply is missing =
+      staying_follows (Compare number second) reply
+      (missing_replies world number state (clone_at world number) reply _ missing (stands.clones number state is))
+
+  -- the second of two clones isn't live
+  pub compare_missing_second : (number second : ℕ) (live : CloneValue) (state : RunningClone) (reply : Reply)
+      → slice_get running.clones number ≡ Some (states.Live live) → slice_get running.clones second ≡ Some state → IsMissingReply state reply
+      → Follows world (Compare number second) reply (stepped running)
+  unfolding Step
+  compare_missing_second number second live state reply is was missing =
+      let a : LiveAt world number live.local = live_at running world stands number live is in
+      staying_follows (Compare number second) reply
+      (live_does world (clone_at world number) reply world _ (kept_by live.local a.base a.journal) a.held a.live
+      (missing_replies world second state (clone_at world second) reply _ missing (stands.clones second state was)))
