@@ -56,5 +56,5 @@ Releases history stored held (range ∷ taken) after left =
     × TakesFirst (IsReady history (known_of stored)) kept range rest × Releases history (with_range stored range) rest taken after left
 
 -- every dot that the first knows is known to the second
-abbrev pub IsWithin : List Range → List Range → Type 0
-IsWithin known other = (dot : Dot) → Knows known dot → Knows other dot
+abbrev pub AreKnownTo : List Range → List Range → Type 0
+AreKnownTo known other = (dot : Dot) → Knows known dot → Knows other dot

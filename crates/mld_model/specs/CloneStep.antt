@@ -11,7 +11,7 @@ use Rattle.mld_ops.specs.Tagged.{tagged_cmp}
 use Rattle.mld_ops.specs.History.{Operation, dot_at}
 use Rattle.mld_ops.specs.Effect.{range_of}
 use Rattle.mld_ops.specs.Meaning.{IsMeaning}
-use Rattle.mld_model.specs.Clone.{Clone, Absent, Asking, Empty, Down, Live, Stored, known_of, with_range, IsKnown, IsReady, IsHeldBack, IsWithin, Releases}
+use Rattle.mld_model.specs.Clone.{Clone, Absent, Asking, Empty, Down, Live, Stored, known_of, with_range, IsKnown, IsReady, IsHeldBack, AreKnownTo, Releases}
 use Rattle.mld_ops.specs.Held.{held_limit}
 use Rattle.mld_model.specs.World.{World, Message, RangeOf, JoinAsk, JoinGive, with_clone}
 use Rattle.mld_model.specs.Reply.{Reply, Did, NoOperation, Took, Held, HeldFull, AlreadyKnown, Shows, Same, Less, More, Apart, Sent, Answer, Joined, Deep, Ignored, IsAbsent, IsAsking, IsDown, IsLive}
@@ -95,11 +95,11 @@ pub data HoldsBack (world : World) (number : ℕ) (stored : Stored) (held : List
       → HoldsBack world number stored held range reply next
 
 -- a range that comes to a live clone: it is known, or it is ready and taken, or it is held back
-pub data Receives (world : World) (number : ℕ) (stored : Stored) (held : List Range) (range : Range) (reply : Reply) (next : World) : Type 0 where
-  knows_already : IsKnown (known_of stored) range → Answers world AlreadyKnown reply next → Receives world number stored held range reply next
-  accepts : Accepts world number stored held range reply next → Receives world number stored held range reply next
+pub data TakesRange (world : World) (number : ℕ) (stored : Stored) (held : List Range) (range : Range) (reply : Reply) (next : World) : Type 0 where
+  knows_already : IsKnown (known_of stored) range → Answers world AlreadyKnown reply next → TakesRange world number stored held range reply next
+  accepts : Accepts world number stored held range reply next → TakesRange world number stored held range reply next
   holds_back : IsHeldBack world.history (known_of stored) range → HoldsBack world number stored held range reply next
-      → Receives world number stored held range reply next
+      → TakesRange world number stored held range reply next
 
 -- the world after the clone of the number asked for a leaf: it waits for one, and a message that asks is sent
 abbrev pub after_asking : World → ℕ → World
@@ -127,30 +127,30 @@ after_fork world number stored held id =
     }
 
 -- a live clone is asked for a leaf by the clone of an id: it is that clone itself, or its leaf is too deep, or it forks
-pub data Gives (world : World) (number : ℕ) (stored : Stored) (held : List Range) (id : ℕ) (reply : Reply) (next : World) : Type 0 where
-  asked_itself : id ≡ number → Answers world Ignored reply next → Gives world number stored held id reply next
-  is_too_deep : id ≢ number → path_limit ≤ length stored.path → Answers world Deep reply next → Gives world number stored held id reply next
+pub data TakesAsk (world : World) (number : ℕ) (stored : Stored) (held : List Range) (id : ℕ) (reply : Reply) (next : World) : Type 0 where
+  asked_itself : id ≡ number → Answers world Ignored reply next → TakesAsk world number stored held id reply next
+  is_too_deep : id ≢ number → path_limit ≤ length stored.path → Answers world Deep reply next → TakesAsk world number stored held id reply next
   forks : id ≢ number → length stored.path < path_limit → reply ≡ Answer ((length world.messages + 1) ∷ []) → next ≡ after_fork world number stored held id
-      → Gives world number stored held id reply next
+      → TakesAsk world number stored held id reply next
 
 -- what a clone keeps that took a leaf with these dots: a base of them, and no journal
 abbrev pub joined_with : List ℕ → List Range → Stored
 joined_with path dots = record { path = path; base = dots; journal = [] }
 
 -- a leaf for the clone of an id comes to a clone that asks: it is that clone and lives from now on, or it isn't
-pub data Adopts (world : World) (number id : ℕ) (path : List ℕ) (dots : List Range) (reply : Reply) (next : World) : Type 0 where
-  becomes_live : id ≡ number → reply ≡ Joined path → next ≡ with_clone world number (Live (joined_with path dots) []) → Adopts world number id path dots reply next
-  leaves_it : id ≢ number → Answers world Ignored reply next → Adopts world number id path dots reply next
+pub data TakesLeaf (world : World) (number id : ℕ) (path : List ℕ) (dots : List Range) (reply : Reply) (next : World) : Type 0 where
+  becomes_live : id ≡ number → reply ≡ Joined path → next ≡ with_clone world number (Live (joined_with path dots) []) → TakesLeaf world number id path dots reply next
+  leaves_it : id ≢ number → Answers world Ignored reply next → TakesLeaf world number id path dots reply next
 
 -- a message comes to a clone that asks
 abbrev pub AskerTakes : World → ℕ → Message → Reply → World → Type 0
-AskerTakes world number (JoinGive id path dots) reply next = Adopts world number id path dots reply next
+AskerTakes world number (JoinGive id path dots) reply next = TakesLeaf world number id path dots reply next
 AskerTakes world number message reply next = Answers world Ignored reply next
 
 -- a message comes to a live clone; wants and snapshots are never sent yet
 abbrev pub LiveTakes : World → ℕ → Message → Stored → List Range → Reply → World → Type 0
-LiveTakes world number (RangeOf range) stored held reply next = Receives world number stored held range reply next
-LiveTakes world number (JoinAsk id) stored held reply next = Gives world number stored held id reply next
+LiveTakes world number (RangeOf range) stored held reply next = TakesRange world number stored held range reply next
+LiveTakes world number (JoinAsk id) stored held reply next = TakesAsk world number stored held id reply next
 LiveTakes world number (JoinGive id path dots) stored held reply next = Answers world Ignored reply next
 LiveTakes world number message stored held reply next = ⊥
 
@@ -167,10 +167,10 @@ Lists world clone reply next = IfLive world clone reply next (λ stored held.
 
 -- how two sets of dots compare
 pub data Compares (known other : List Range) (reply : Reply) : Type 0 where
-  same_dots : IsWithin known other → IsWithin other known → reply ≡ Same → Compares known other reply
-  fewer_dots : IsWithin known other → ¬ IsWithin other known → reply ≡ Less → Compares known other reply
-  more_dots : ¬ IsWithin known other → IsWithin other known → reply ≡ More → Compares known other reply
-  dots_apart : ¬ IsWithin known other → ¬ IsWithin other known → reply ≡ Apart → Compares known other reply
+  same_dots : AreKnownTo known other → AreKnownTo other known → reply ≡ Same → Compares known other reply
+  fewer_dots : AreKnownTo known other → ¬ AreKnownTo other known → reply ≡ Less → Compares known other reply
+  more_dots : ¬ AreKnownTo known other → AreKnownTo other known → reply ≡ More → Compares known other reply
+  dots_apart : ¬ AreKnownTo known other → ¬ AreKnownTo other known → reply ≡ Apart → Compares known other reply
 
 -- the dots of a live clone beside those of another
 abbrev pub ComparesWith : World → Stored → Clone → Reply → World → Type 0

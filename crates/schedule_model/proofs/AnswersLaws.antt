@@ -17,7 +17,7 @@ use Rattle.schedule_model.specs.declared.Command.TheVariants.{Add, Remove, Deliv
 use Rattle.mld_model.specs.Clone.{Clone, Absent, Asking, Empty, Down, Live, Stored, known_of, with_range}
 use Rattle.mld_model.specs.World.{World, Message, RangeOf, JoinAsk, JoinGive, message_at, clone_at}
 use Rattle.mld_model.specs.Reply.{Reply, Did, NoMessage}
-use Rattle.mld_model.specs.CloneStep.{Answers, Makes, Adds, ArePairsOf, Deletes, finds_none, deletes_all, Removes, holds_already, holds_too_many, holds_from_now, Receives, knows_already, accepts, holds_back, Joins, left_half, Gives, asked_itself, is_too_deep, forks, joined_with, Adopts, becomes_live, leaves_it, Takes, Lists, Compares, same_dots, fewer_dots, more_dots, dots_apart, ComparesWith, Weighs}
+use Rattle.mld_model.specs.CloneStep.{Answers, Makes, Adds, ArePairsOf, Deletes, finds_none, deletes_all, Removes, holds_already, holds_too_many, holds_from_now, TakesRange, knows_already, accepts, holds_back, Joins, left_half, TakesAsk, asked_itself, is_too_deep, forks, joined_with, TakesLeaf, becomes_live, leaves_it, Takes, Lists, Compares, same_dots, fewer_dots, more_dots, dots_apart, ComparesWith, Weighs}
 use Rattle.mld_model.proofs.StateLaws.{IsState, is_absent, is_asking, is_down, if_live}
 use Rattle.schedule_model.specs.Step.{Step}
 use Rattle.schedule_model.specs.Runs.{Stage, Waiting, SetUp, Running, Commands, Acts, says_nothing, commands, Runs}
@@ -125,7 +125,7 @@ module _ (world next : World) (dot : Dot) (message : ℕ) where
       (λ stored held live p. deletes_remembers number triple stored held p.0 p.1 (is ∙ live) p.2 p.3 p.4)
 
   -- a range that comes to a live clone is answered without a dot
-  receives_tell_none : (number : ℕ) (stored : Stored) (held : List Range) (range : Range) → ¬ Receives world number stored held range (Did dot message) next
+  receives_tell_none : (number : ℕ) (stored : Stored) (held : List Range) (range : Range) → ¬ TakesRange world number stored held range (Did dot message) next
   receives_tell_none number stored held range (knows_already known p) = cc (p.0)
   receives_tell_none number stored held range (accepts p) = cc (p.replies)
   receives_tell_none number stored held range (holds_back back (holds_already has p)) = cc (p.0)
@@ -133,13 +133,13 @@ module _ (world next : World) (dot : Dot) (message : ℕ) where
   receives_tell_none number stored held range (holds_back back (holds_from_now lacks few told is)) = cc told
 
   -- and so is a question for a leaf
-  gives_tell_none : (number : ℕ) (stored : Stored) (held : List Range) (id : ℕ) → ¬ Gives world number stored held id (Did dot message) next
+  gives_tell_none : (number : ℕ) (stored : Stored) (held : List Range) (id : ℕ) → ¬ TakesAsk world number stored held id (Did dot message) next
   gives_tell_none number stored held id (asked_itself own p) = cc (p.0)
   gives_tell_none number stored held id (is_too_deep differs deep p) = cc (p.0)
   gives_tell_none number stored held id (forks differs room told is) = cc told
 
   -- a leaf that comes to a clone that asks
-  adopts_tell_none : (number id : ℕ) (path : List ℕ) (dots : List Range) → ¬ Adopts world number id path dots (Did dot message) next
+  adopts_tell_none : (number id : ℕ) (path : List ℕ) (dots : List Range) → ¬ TakesLeaf world number id path dots (Did dot message) next
   adopts_tell_none number id path dots (becomes_live own told is) = cc told
   adopts_tell_none number id path dots (leaves_it differs p) = cc (p.0)
 
@@ -274,7 +274,7 @@ module _ (world next : World) (number : ℕ) (operation : Operation) (remembers 
 
   -- where a range comes to a live clone
   receives_keep : (taker : ℕ) (stored : Stored) (held : List Range) (range : Range) (reply : Reply) → clone_at world taker ≡ Live stored held
-      → Receives world taker stored held range reply next → Remembers next number operation
+      → TakesRange world taker stored held range reply next → Remembers next number operation
   receives_keep taker stored held range reply is (knows_already known p) = same_remembers p.1
   receives_keep taker stored held range reply is (accepts p) =
       grown_remembers taker stored p.after held p.left is (ap (λ (w : World). w.clones) p.changes) (λ dot known. releases_known world.history (with_range stored range) held p.taken p.after p.left p.releases dot (known_with-old stored range dot known)) (λ other stands. subst (λ (w : World). Has w.history other) (sym p.changes) stands)
@@ -309,14 +309,14 @@ module _ (world next : World) (number : ℕ) (operation : Operation) (remembers 
 
   -- where a live clone is asked for a leaf: one that forks knows what it knew
   gives_keep : (giver : ℕ) (stored : Stored) (held : List Range) (id : ℕ) (reply : Reply) → clone_at world giver ≡ Live stored held
-      → Gives world giver stored held id reply next → Remembers next number operation
+      → TakesAsk world giver stored held id reply next → Remembers next number operation
   gives_keep giver stored held id reply is (asked_itself own p) = same_remembers p.1
   gives_keep giver stored held id reply is (is_too_deep differs deep p) = same_remembers p.1
   gives_keep giver stored held id reply is (forks differs room told same) =
       grown_remembers giver stored (left_half stored) held held is (ap (λ (w : World). w.clones) same) (λ dot known. known) (λ other stands. subst (λ (w : World). Has w.history other) (sym same) stands)
 
   -- where a leaf comes to a clone that asks
-  adopts_keep : (taker id : ℕ) (path : List ℕ) (dots : List Range) (reply : Reply) → clone_at world taker ≡ Asking → Adopts world taker id path dots reply next
+  adopts_keep : (taker id : ℕ) (path : List ℕ) (dots : List Range) (reply : Reply) → clone_at world taker ≡ Asking → TakesLeaf world taker id path dots reply next
       → Remembers next number operation
   adopts_keep taker id path dots reply is (becomes_live own told same) =
       woken_remembers taker (Live (joined_with path dots) []) (λ stored. subst (λ (clone : Clone). ¬ Keeps clone stored) (sym is) (λ h. h)) (ap (λ (w : World). w.clones) same) (ap (λ (w : World). w.history) same)

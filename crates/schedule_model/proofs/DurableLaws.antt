@@ -11,11 +11,11 @@ use Rattle.schedule_model.specs.declared.Command.TheVariants.{Add, Remove, Deliv
 use Rattle.mld_model.specs.Clone.{Clone, Absent, Asking, Empty, Down, Live, Stored, known_of, with_range, Releases}
 use Rattle.mld_model.specs.World.{World, Message, RangeOf, JoinAsk, JoinGive, message_at, clone_count, clone_at}
 use Rattle.mld_model.specs.Reply.{Reply, Did, Took, Answer, Joined, NoMessage, Ignored, IsAbsent, IsDown}
-use Rattle.mld_model.specs.CloneStep.{Answers, Makes, Adds, Deletes, finds_none, deletes_all, Removes, Accepts, HoldsBack, holds_already, holds_too_many, holds_from_now, Receives, knows_already, accepts, holds_back, Joins, left_half, Gives, asked_itself, is_too_deep, forks, joined_with, Adopts, becomes_live, leaves_it, Takes}
+use Rattle.mld_model.specs.CloneStep.{Answers, Makes, Adds, Deletes, finds_none, deletes_all, Removes, Accepts, HoldsBack, holds_already, holds_too_many, holds_from_now, TakesRange, knows_already, accepts, holds_back, Joins, left_half, TakesAsk, asked_itself, is_too_deep, forks, joined_with, TakesLeaf, becomes_live, leaves_it, Takes}
 use Rattle.mld_model.proofs.StateLaws.{IsState, is_absent, is_asking, is_down, if_live}
 use Rattle.schedule_model.proofs.StepSoundLaws.{lists_same, weighs_same}
 use Rattle.mld_model.specs.Durable.{DurableStep, AppendsMade, AppendsTaken, kept_of, kept_after, history_after}
-use Rattle.schedule_model.specs.Step.{Step, clone_of}
+use Rattle.schedule_model.specs.Step.{Step, number_of_clone}
 use Rattle.schedule_model.specs.DurableSteps.{MakesDurably, taking_steps, giving_steps, joining_steps, message_steps, DurableSteps, LeadsDurably, DurableStepsLead, OneDurableList}
 
 -- ---- what durable steps lead to
@@ -163,14 +163,14 @@ module _ (world next : World) (number : ℕ) where
 
   -- so a range that comes to a live clone leads there by the appends of what is taken
   receives_lead : (stored : Stored) (held : List Range) (range : Range) (reply : Reply) → number < length world.clones → clone_at world number ≡ Live stored held
-      → Receives world number stored held range reply next → Leads world number (taking_steps reply) next
+      → TakesRange world number stored held range reply next → Leads world number (taking_steps reply) next
   receives_lead stored held range reply inside is (knows_already known p) = answered_leads taking_steps _ reply refl p
   receives_lead stored held range reply inside is (accepts p) = accepts_lead stored held range reply inside is p
   receives_lead stored held range reply inside is (holds_back back p) = holds_lead stored held range reply inside is p
 
   -- a live clone that is asked for a leaf leads there by the append of the fork, if it forks
   gives_lead : (stored : Stored) (held : List Range) (id : ℕ) (reply : Reply) → number < length world.clones → clone_at world number ≡ Live stored held
-      → Gives world number stored held id reply next → Leads world number (giving_steps reply) next
+      → TakesAsk world number stored held id reply next → Leads world number (giving_steps reply) next
   gives_lead stored held id reply inside is (asked_itself own p) = answered_leads giving_steps _ reply refl p
   gives_lead stored held id reply inside is (is_too_deep differs deep p) = answered_leads giving_steps _ reply refl p
   gives_lead stored held id reply inside is (forks differs room told same) =
@@ -179,7 +179,7 @@ module _ (world next : World) (number : ℕ) where
 
   -- one who asks and takes a leaf leads there by creating what it keeps
   adopts_lead : (id : ℕ) (path : List ℕ) (dots : List Range) (reply : Reply) → number < length world.clones → clone_at world number ≡ Asking
-      → Adopts world number id path dots reply next → Leads world number (joining_steps path dots reply) next
+      → TakesLeaf world number id path dots reply next → Leads world number (joining_steps path dots reply) next
   adopts_lead id path dots reply inside is (becomes_live own told same) =
       subst (λ (r : Reply). Leads world number (joining_steps path dots r) next) (sym told)
       (changed_leads (joining_steps path dots (Joined path)) Asking (Live (joined_with path dots) []) inside is (ap (λ (w : World). w.clones) same) refl (ap (λ (w : World). w.history) (sym same)))
@@ -228,7 +228,7 @@ module _ (world next : World) (number : ℕ) where
 
 -- steps of a command that lead there
 leads_durably : (world : World) (command : Command) (reply : Reply) (next : World) (steps : List DurableStep)
-    → DurableSteps world command reply next steps → Leads world (clone_of command) steps next → LeadsDurably world command reply next
+    → DurableSteps world command reply next steps → Leads world (number_of_clone command) steps next → LeadsDurably world command reply next
 leads_durably world command reply next steps are leads =
     record { steps = steps; are = are; kept = leads.kept; made = leads.made; others = leads.others }
 

@@ -15,7 +15,7 @@ use Rattle.schedule_model.specs.declared.Command.TheVariants.{Add, Remove, Deliv
 use Rattle.mld_model.specs.Clone.{Clone, Absent, Asking, Empty, Down, Live, Stored, known_of, with_range}
 use Rattle.mld_model.specs.World.{World, Message, RangeOf, JoinAsk, JoinGive, message_at, clone_at, with_clone}
 use Rattle.mld_model.specs.Reply.{Reply, Did, Took, Shows, NoMessage}
-use Rattle.mld_model.specs.CloneStep.{Answers, IsNextTick, after_operation, Makes, Adds, ArePairsOf, Deletes, finds_none, deletes_all, Removes, Accepts, HoldsBack, holds_already, holds_too_many, holds_from_now, Receives, knows_already, accepts, holds_back, Joins, Gives, asked_itself, is_too_deep, forks, Adopts, becomes_live, leaves_it, Takes, Lists, Compares, same_dots, fewer_dots, more_dots, dots_apart, ComparesWith, Weighs}
+use Rattle.mld_model.specs.CloneStep.{Answers, IsNextTick, after_operation, Makes, Adds, ArePairsOf, Deletes, finds_none, deletes_all, Removes, Accepts, HoldsBack, holds_already, holds_too_many, holds_from_now, TakesRange, knows_already, accepts, holds_back, Joins, TakesAsk, asked_itself, is_too_deep, forks, TakesLeaf, becomes_live, leaves_it, Takes, Lists, Compares, same_dots, fewer_dots, more_dots, dots_apart, ComparesWith, Weighs}
 use Rattle.mld_model.proofs.StateLaws.{AreSame, answers_once, once_if_live}
 use Rattle.schedule_model.specs.Step.{Step}
 use Rattle.mld_model.proofs.ReleaseLaws.{releases_once}
@@ -135,8 +135,8 @@ module _ (world : World) (number : ℕ) (reply other : Reply) (next after : Worl
   holds_once stored held range (holds_from_now lacks few told is) (holds_from_now too under said was) = (told ∙ sym said, is ∙ sym was)
 
   -- a range that comes to a live clone has one outcome: it is known, or it is ready, or it is neither
-  receives_once : (stored : Stored) (held : List Range) (range : Range) → Receives world number stored held range reply next
-      → Receives world number stored held range other after → AreSame reply next other after
+  receives_once : (stored : Stored) (held : List Range) (range : Range) → TakesRange world number stored held range reply next
+      → TakesRange world number stored held range other after → AreSame reply next other after
   receives_once stored held range (knows_already known p) (knows_already too q) = answers_once p q
   receives_once stored held range (knows_already known p) (accepts q) = absurd (q.ready.unknown known)
   receives_once stored held range (knows_already known p) (holds_back back q) = absurd (back.unknown known)
@@ -156,7 +156,7 @@ module _ (world : World) (number : ℕ) (reply other : Reply) (next after : Worl
   joins_once (Live stored held) p q = answers_once p q
 
   -- a clone that is asked for a leaf has one outcome: it asked itself, or its leaf is too deep, or it forks
-  gives_once : (stored : Stored) (held : List Range) (id : ℕ) → Gives world number stored held id reply next → Gives world number stored held id other after
+  gives_once : (stored : Stored) (held : List Range) (id : ℕ) → TakesAsk world number stored held id reply next → TakesAsk world number stored held id other after
       → AreSame reply next other after
   gives_once stored held id (asked_itself own p) (asked_itself too q) = answers_once p q
   gives_once stored held id (asked_itself own p) (is_too_deep differs deep q) = absurd (differs own)
@@ -169,7 +169,7 @@ module _ (world : World) (number : ℕ) (reply other : Reply) (next after : Worl
   gives_once stored held id (forks differs room told is) (forks too space said was) = (told ∙ sym said, is ∙ sym was)
 
   -- a leaf that comes to a clone that asks has one outcome: it is the clone that it was given to, or it isn't
-  adopts_once : (id : ℕ) (path : List ℕ) (dots : List Range) → Adopts world number id path dots reply next → Adopts world number id path dots other after
+  adopts_once : (id : ℕ) (path : List ℕ) (dots : List Range) → TakesLeaf world number id path dots reply next → TakesLeaf world number id path dots other after
       → AreSame reply next other after
   adopts_once id path dots (becomes_live own told is) (becomes_live too said was) = (told ∙ sym said, is ∙ sym was)
   adopts_once id path dots (becomes_live own told is) (leaves_it differs q) = absurd (differs own)

@@ -11,7 +11,7 @@ use Rattle.schedule_model.specs.declared.Command.TheVariants.{Add, Remove, Deliv
 use Rattle.mld_model.specs.Clone.{Clone, Absent, Asking, Empty, Down, Live, Stored, known_of}
 use Rattle.mld_model.specs.World.{World, Message, RangeOf, JoinAsk, JoinGive, message_at, clone_count, clone_at}
 use Rattle.mld_model.specs.Reply.{Reply, NoMessage}
-use Rattle.mld_model.specs.CloneStep.{Answers, Makes, Adds, ArePairsOf, Deletes, finds_none, deletes_all, Removes, holds_already, holds_too_many, holds_from_now, Receives, knows_already, accepts, holds_back, Joins, Gives, asked_itself, is_too_deep, forks, Adopts, becomes_live, leaves_it, Takes, Lists, ComparesWith, Weighs}
+use Rattle.mld_model.specs.CloneStep.{Answers, Makes, Adds, ArePairsOf, Deletes, finds_none, deletes_all, Removes, holds_already, holds_too_many, holds_from_now, TakesRange, knows_already, accepts, holds_back, Joins, TakesAsk, asked_itself, is_too_deep, forks, TakesLeaf, becomes_live, leaves_it, Takes, Lists, ComparesWith, Weighs}
 use Rattle.mld_model.proofs.StateLaws.{if_live}
 use Rattle.schedule_model.specs.Step.{Step}
 use Rattle.schedule_model.specs.Runs.{Stage, Waiting, SetUp, Running, IsWorldOf, Commands, Acts, says_nothing, sets_up, commands, Runs}
@@ -53,7 +53,7 @@ module _ (world next : World) (reply : Reply) (sound : IsSound world) where
 
   -- a range that comes to a live clone leads to a sound world
   receives_sound : (number : ℕ) (stored : Stored) (held : List Range) (range : Range) → clone_at world number ≡ Live stored held → Has world.messages (RangeOf range)
-      → Receives world number stored held range reply next → IsSound next
+      → TakesRange world number stored held range reply next → IsSound next
   receives_sound number stored held range is sent (knows_already known p) = same_sound world next sound p.1
   receives_sound number stored held range is sent (accepts p) =
       subst IsSound (sym p.changes) (taken_sound world number stored held sound is range p.taken p.after p.left (sound.messages (RangeOf range) sent) p.ready p.releases)
@@ -74,7 +74,7 @@ module _ (world next : World) (reply : Reply) (sound : IsSound world) where
 
   -- and so does a live clone that is asked for one
   gives_sound : (number : ℕ) (stored : Stored) (held : List Range) (id : ℕ) → clone_at world number ≡ Live stored held → Has world.messages (JoinAsk id)
-      → Gives world number stored held id reply next → IsSound next
+      → TakesAsk world number stored held id reply next → IsSound next
   gives_sound number stored held id is sent (asked_itself own p) = same_sound world next sound p.1
   gives_sound number stored held id is sent (is_too_deep differs deep p) = same_sound world next sound p.1
   gives_sound number stored held id is sent (forks differs room told same) =
@@ -82,7 +82,7 @@ module _ (world next : World) (reply : Reply) (sound : IsSound world) where
 
   -- and a leaf that comes to a clone that asks
   adopts_sound : (number place id : ℕ) (path : List ℕ) (dots : List Range) → clone_at world number ≡ Asking → slice_get world.messages place ≡ Some (JoinGive id path dots)
-      → Adopts world number id path dots reply next → IsSound next
+      → TakesLeaf world number id path dots reply next → IsSound next
   adopts_sound number place id path dots is sent (becomes_live own told same) =
       subst IsSound (sym same) (joined_sound world number place path dots sound is
       (subst (λ (k : ℕ). slice_get world.messages place ≡ Some (JoinGive k path dots)) own sent))

@@ -23,11 +23,11 @@ use Rattle.mld_ops.specs.Ready.{last_dot, IsKnownEntry}
 use Rattle.schedule_model.specs.declared.Command.{Command}
 use Rattle.schedule_model.specs.declared.Command.TheVariants.{Add, Remove, Deliver, Show, Compare}
 use Rattle.mld_model.specs.declared.CloneState.TheVariants as states
-use Rattle.mld_model.specs.Clone.{Clone, Absent, Asking, Empty, Down, Live, Stored, known_of, with_range, IsReady, IsHeldBack, IsWithin}
+use Rattle.mld_model.specs.Clone.{Clone, Absent, Asking, Empty, Down, Live, Stored, known_of, with_range, IsReady, IsHeldBack, AreKnownTo}
 use Rattle.mld_ops.specs.Held.{held_limit}
 use Rattle.mld_model.specs.World.{World, Message, RangeOf, numbered, message_at, clone_at, with_clone, founded, founded_clone, clone_count}
 use Rattle.schedule_model.specs.Step.{Step}
-use Rattle.mld_model.specs.CloneStep.{Answers, IfLive, ArePairsOf, finds_none, deletes_all, IsNextTick, Makes, after_operation, holds_already, holds_too_many, holds_from_now, Receives, knows_already, accepts, holds_back, Takes, Compares, same_dots, fewer_dots, more_dots, dots_apart}
+use Rattle.mld_model.specs.CloneStep.{Answers, IfLive, ArePairsOf, finds_none, deletes_all, IsNextTick, Makes, after_operation, holds_already, holds_too_many, holds_from_now, TakesRange, knows_already, accepts, holds_back, Takes, Compares, same_dots, fewer_dots, more_dots, dots_apart}
 use Rattle.mld_model.proofs.StateLaws.{live_does}
 use Rattle.mld_model.specs.Reply.{Reply, Did, NoOperation, Took, Held, HeldFull, AlreadyKnown, Shows, Same, Less, More, Apart, NoMessage}
 use Rattle.mld_model.specs.Sound.{IsDoneRange, IsSoundClone, IsSound}
@@ -202,7 +202,7 @@ takes_away world number what state clone reply away stands = absurd stands
 -- how a live clone's answer to an entry follows the model
 answer_follows : (running next : RunningWorld) (world after : World) (message number : ℕ) (entry : EntryValue) (live : CloneValue) (reply : Reply)
     → (s : SentRange world entry message) → (at : LiveAt world number live.local)
-    → Receives world number (kept_by live.local at.base at.journal) at.held s.range reply after → IsSound after → StandsFor next after
+    → TakesRange world number (kept_by live.local at.base at.journal) at.held s.range reply after → IsSound after → StandsFor next after
     → Follows world (Deliver message number) reply next
 answer_follows running next world after message number entry live reply s at receives sound stands =
     taking_follows next world after message number (RangeOf s.range) (Live (kept_by live.local at.base at.journal) at.held) reply s.at at.live receives sound stands
@@ -243,7 +243,7 @@ LocallyCompares live other reply =
     ⊎ (¬ LocallyWithin live other × ¬ LocallyWithin other live × (reply ≡ Apart))))
 
 within_alike : (history : List Operation) (live other : LocalClone) (stored kept : Stored) (held back : List Range) → LocalStandsFor history live stored held
-    → LocalStandsFor history other kept back → LocallyWithin live other ↔ IsWithin (known_of stored) (known_of kept)
+    → LocalStandsFor history other kept back → LocallyWithin live other ↔ AreKnownTo (known_of stored) (known_of kept)
 within_alike history live other stored kept held back a b = (
   λ local dot known. (b.known dot).0 (local dot ((a.known dot).1 known)),
   λ within dot covered. (b.known dot).1 (within dot ((a.known dot).0 covered)),

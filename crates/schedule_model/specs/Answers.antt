@@ -14,7 +14,7 @@ use Rattle.mld_model.specs.World.{World, clone_at}
 use Rattle.mld_model.specs.Sound.{Keeps}
 use Rattle.mld_model.specs.Reply.{Did}
 use Rattle.mld_model.specs.CloneStep.{ArePairsOf}
-use Rattle.schedule_model.specs.Step.{Step, clone_of}
+use Rattle.schedule_model.specs.Step.{Step, number_of_clone}
 use Rattle.schedule_model.specs.Schedule.{SpellsCommand}
 use Rattle.schedule_model.specs.Runs.{Stage, Waiting, Running, IsWorldOf, Runs}
 
@@ -26,14 +26,14 @@ pub record Remembers (world : World) (number : ℕ) (operation : Operation) : Ty
   pub stands : Has world.history operation
 
 -- the operation of the dot, with the triple as its one insert and no deletes
-pub record IsAddOf (triple : Triple) (dot : Dot) (operation : Operation) : Type 0 where
+pub record InsertsTriple (triple : Triple) (dot : Dot) (operation : Operation) : Type 0 where
   pub is : operation.dot ≡ dot
   pub inserts : operation.inserts ≡ triple ∷ []
   pub deletes : operation.deletes ≡ []
 
 -- the operation of the dot, with no inserts; its deletes, of which there are some, are the pairs of the triple in the
 -- meaning of what the clone knew before
-pub record IsRemoveOf (before : World) (number : ℕ) (triple : Triple) (dot : Dot) (operation : Operation) : Type 0 where
+pub record DeletesTriple (before : World) (number : ℕ) (triple : Triple) (dot : Dot) (operation : Operation) : Type 0 where
   pub is : operation.dot ≡ dot
   pub inserts : operation.inserts ≡ []
   pub some : operation.deletes ≢ []
@@ -47,12 +47,12 @@ pub record IsRemoveOf (before : World) (number : ℕ) (triple : Triple) (dot : D
 -- an operation with the triple as its one insert was put at the head of the history, and the clone of the number remembers it
 abbrev pub RemembersAdd : World → ℕ → Triple → Dot → World → Type 0
 RemembersAdd before number triple dot next =
-    (operation : Operation) × IsAddOf triple dot operation × (next.history ≡ operation ∷ before.history) × Remembers next number operation
+    (operation : Operation) × InsertsTriple triple dot operation × (next.history ≡ operation ∷ before.history) × Remembers next number operation
 
 -- and one that deletes the pairs of the triple
 abbrev pub RemembersRemove : World → ℕ → Triple → Dot → World → Type 0
 RemembersRemove before number triple dot next =
-    (operation : Operation) × IsRemoveOf before number triple dot operation × (next.history ≡ operation ∷ before.history) × Remembers next number operation
+    (operation : Operation) × DeletesTriple before number triple dot operation × (next.history ≡ operation ∷ before.history) × Remembers next number operation
 
 -- one of the lines is a command at the clone of the number, its answer tells of the dot, and the run that it stands in leads to
 -- the world
@@ -69,7 +69,7 @@ pub record IsAnswered (lines : List (List ℕ)) (number : ℕ) (dot : Dot) (worl
   pub founds : IsWorldOf stage before
   -- it spells a command at the clone
   pub command : Command
-  pub at : number ≡ clone_of command
+  pub at : number ≡ number_of_clone command
   pub spells : SpellsCommand line command
   -- whose step has this answer
   pub message : ℕ

@@ -8,7 +8,7 @@ use Rattle.mld_model.specs.CloneStep.{joined_with}
 use Rattle.mld_model.specs.World.{World, Message, RangeOf, Want, SnapshotOf, JoinAsk, JoinGive, message_at, clone_at, clone_count}
 use Rattle.mld_model.specs.Reply.{Reply, Did, Took, Answer, Joined}
 use Rattle.mld_model.specs.Durable.{DurableStep, AppendsMade, AppendsTaken, AppendsFork, Creates, kept_of, kept_after, history_after}
-use Rattle.schedule_model.specs.Step.{HasCloneNumbers, clone_of, Step}
+use Rattle.schedule_model.specs.Step.{HasCloneNumbers, number_of_clone, Step}
 
 -- one step: the entry of the operation that joined the history is appended
 pub record AppendsOperation (world next : World) (steps : List DurableStep) : Type 0 where
@@ -59,10 +59,10 @@ pub record LeadsDurably (world : World) (command : Command) (reply : Reply) (nex
   pub steps : List DurableStep
   pub are : DurableSteps world command reply next steps
   -- they give what the clone keeps then, and the history
-  pub kept : kept_after (kept_of (clone_at world (clone_of command))) steps ≡ kept_of (clone_at next (clone_of command))
+  pub kept : kept_after (kept_of (clone_at world (number_of_clone command))) steps ≡ kept_of (clone_at next (number_of_clone command))
   pub made : history_after world.history steps ≡ next.history
   -- what the other clones keep stays as it was
-  pub others : (other : ℕ) → other ≢ clone_of command → kept_of (clone_at next other) ≡ kept_of (clone_at world other)
+  pub others : (other : ℕ) → other ≢ number_of_clone command → kept_of (clone_at next other) ≡ kept_of (clone_at world other)
 
 -- each step of a world by a command whose clones there are has durable steps that lead to the next world
 abbrev pub DurableStepsLead : Type 0

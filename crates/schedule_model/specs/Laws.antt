@@ -8,10 +8,10 @@ use Rattle.mld_ops.specs.History.{Operation}
 use Rattle.mld_ops.specs.Meaning.{IsMeaning}
 use Rattle.schedule_model.specs.declared.Command.{Command}
 use Rattle.schedule_model.specs.declared.Command.TheVariants.{Add, Remove}
-use Rattle.mld_model.specs.Clone.{IsWithin}
+use Rattle.mld_model.specs.Clone.{AreKnownTo}
 use Rattle.mld_model.specs.World.{World, founded}
 use Rattle.mld_model.specs.Reply.{Reply, Did}
-use Rattle.schedule_model.specs.Step.{HasCloneNumbers, clone_of, Step}
+use Rattle.schedule_model.specs.Step.{HasCloneNumbers, number_of_clone, Step}
 use Rattle.mld_model.specs.Sound.{IsSound}
 use Rattle.schedule_model.specs.Schedule.{IsNothing, is_unbuilt, Setup, SpellsSetup, SpellsCommand}
 use Rattle.schedule_model.specs.Answers.{Remembers, RemembersAdd, RemembersRemove, Survives}
@@ -83,7 +83,7 @@ RunsAreSound = (lines : List (List ℕ)) (text : List ℕ) (stage : Stage) (worl
 -- clones that know the same dots have the same pairs
 abbrev pub SamePairs : Type 0
 SamePairs = (history : List Operation) (known other : List Range) (pairs others : List Tagged)
-    → IsWithin known other → IsWithin other known → IsMeaning history known pairs → IsMeaning history other others → pairs ≡ others
+    → AreKnownTo known other → AreKnownTo other known → IsMeaning history known pairs → IsMeaning history other others → pairs ≡ others
 
 -- the dot that an `add` tells of is that of an operation with the triple as its one insert and no deletes; the step put it at
 -- the head of the history, and its clone remembers it
@@ -101,7 +101,7 @@ RemoveRemembers = (world : World) (number : ℕ) (triple : Triple) (dot : Dot) (
 -- the command says of remembers it
 abbrev pub DidRemembers : Type 0
 DidRemembers = (world : World) (command : Command) (dot : Dot) (message : ℕ) (next : World)
-    → Step world command (Did dot message) next → Survives world next dot next (clone_of command)
+    → Step world command (Did dot message) next → Survives world next dot next (number_of_clone command)
 
 -- what a clone remembers before a step it remembers after it
 abbrev pub StepRemembers : Type 0

@@ -5,14 +5,14 @@ use Rattle.tree_clock.specs.declared.dots.Range.{Range}
 use Rattle.mld_ops.specs.declared.tagged.Tagged.{Tagged}
 use Rattle.mld_ops.specs.Meaning.{IsMeaning}
 use Rattle.schedule_model.specs.Answers.{IsAnswered, Survives}
-use Rattle.mld_model.specs.Clone.{Stored, Live, IsWithin, known_of}
+use Rattle.mld_model.specs.Clone.{Stored, Live, AreKnownTo, known_of}
 use Rattle.mld_model.specs.Sound.{Keeps, IsSound}
 use Rattle.mld_model.specs.World.{World, clone_at}
 
 -- clones that know the same dots have the same pairs, so they show the same
 abbrev pub ClonesAgree : World → Type 0
 ClonesAgree world = (number other : ℕ) (stored kept : Stored) (held waiting : List Range) → clone_at world number ≡ Live stored held → clone_at world other ≡ Live kept waiting
-    → IsWithin (known_of stored) (known_of kept) → IsWithin (known_of kept) (known_of stored)
+    → AreKnownTo (known_of stored) (known_of kept) → AreKnownTo (known_of kept) (known_of stored)
     → (pairs others : List Tagged) → IsMeaning world.history (known_of stored) pairs → IsMeaning world.history (known_of kept) others → pairs ≡ others
 
 -- the operation of each of the lines that was answered with a dot, on the way to this world, stands unchanged, and its clone

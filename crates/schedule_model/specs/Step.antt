@@ -16,13 +16,13 @@ HasCloneNumbers (Join number) = number < clone_count
 HasCloneNumbers (Compare number other) = (number < clone_count) × (other < clone_count)
 
 -- what a command says of: the clone that it is done at (the first of two)
-abbrev pub clone_of : Command → ℕ
-clone_of (Add number triple) = number
-clone_of (Remove number triple) = number
-clone_of (Deliver message number) = number
-clone_of (Show number) = number
-clone_of (Join number) = number
-clone_of (Compare number other) = number
+abbrev pub number_of_clone : Command → ℕ
+number_of_clone (Add number triple) = number
+number_of_clone (Remove number triple) = number
+number_of_clone (Deliver message number) = number
+number_of_clone (Show number) = number
+number_of_clone (Join number) = number
+number_of_clone (Compare number other) = number
 
 -- the step: the world before, the command, the reply, the world after
 unfoldable pub Step : World → Command → Reply → World → Type 0
