@@ -27,11 +27,7 @@ use Rattle.mld_model.proofs.OneTickLaws.{HasOneTickClone, one_tick_asking, one_t
 use Rattle.mld_model.proofs.StandsForLaws.{LiveAt, AskingAt, live_at, absent_at, asking_at, place_of_state, set_as_it_is, same_number}
 use Rattle.schedule_model.proofs.WorldLaws.{stepped, stepped_with, stepped_stands, sent_message, SentAs, sent_as, clones_set_stand, changed_stands, taking_follows}
 use Rattle.schedule_model.specs.WorldStep.{Follows}
-
--- a running world after one more step, with another state of a clone and one more message
-abbrev pub stepped_telling : RunningWorld → ℕ → RunningClone → MessageValue → RunningWorld
-stepped_telling running number state message =
-    record running { clones = set running.clones number state; messages = running.messages ++ message ∷ []; steps = running.steps + 1 }
+pub use Rattle.schedule_model.specs.WorldStep.{stepped_telling}
 
 -- in the model a clone that is down asks for none
 joins_down : (world : World) (number : ℕ) (device : NoDevice) (clone : Clone) → CloneStandsFor world number (states.Down device) clone → Joins world number clone IsDown world

@@ -1,5 +1,5 @@
 -- A running world that takes a step stands for what the model's step makes.
-use Rattle.std.proofs.Common.{◌≡◌, ◌≢◌, ℕ, zero, suc, ◌+◌, ◌<◌, ◌≤◌, List, [], ◌∷◌, ◌++◌, ◌⊎◌, ◌↔◌, inl, inr, refl, sym, ◌∙◌, ap, arith, subst, length, get_or, set, Option, Some, None, map, ltb}
+use Rattle.std.proofs.Common.{◌≡◌, ◌≢◌, ℕ, zero, suc, ◌+◌, ◌<◌, ◌≤◌, List, [], ◌∷◌, ◌++◌, ◌↔◌, inl, inr, refl, sym, ◌∙◌, ap, arith, subst, length, get_or, set, Option, Some, None, map, ltb}
 use Rattle.std.specs.Prelude.{slice_get, MatchOption}
 use Rattle.std.specs.List.{range_with_len}
 use Rattle.std.proofs.lemmas.Bool.{cases_lt, cases_Bool}
@@ -25,11 +25,11 @@ use Rattle.schedule_model.specs.declared.Command.TheVariants.{Add, Remove, Deliv
 use Rattle.mld_model.specs.declared.CloneState.TheVariants as states
 use Rattle.mld_model.specs.Clone.{Clone, Absent, Asking, Empty, Down, Live, Stored, known_of, with_range, IsReady, IsHeldBack, AreKnownTo}
 use Rattle.mld_ops.specs.Held.{held_limit}
-use Rattle.mld_model.specs.World.{World, Message, RangeOf, numbered, message_at, clone_at, with_clone, founded, founded_clone, clone_count}
+use Rattle.mld_model.specs.World.{World, Message, RangeOf, message_at, clone_at, with_clone, founded, founded_clone, clone_count}
 use Rattle.schedule_model.specs.Step.{Step}
 use Rattle.mld_model.specs.CloneStep.{Answers, IfLive, ArePairsOf, finds_none, deletes_all, IsNextTick, Makes, after_operation, holds_already, holds_too_many, holds_from_now, TakesRange, knows_already, accepts, holds_back, Takes, Compares, same_dots, fewer_dots, more_dots, dots_apart}
 use Rattle.mld_model.proofs.StateLaws.{live_does}
-use Rattle.mld_model.specs.Reply.{Reply, Did, NoOperation, Took, Held, HeldFull, AlreadyKnown, Shows, Same, Less, More, Apart, NoMessage}
+use Rattle.mld_model.specs.Reply.{Reply, Did, NoOperation, Took, Held, HeldFull, AlreadyKnown, Shows, NoMessage}
 use Rattle.mld_model.specs.Sound.{IsDoneRange, IsSoundClone, IsSound}
 use Rattle.mld_model.specs.Local.{LocalClone, CloneValue, next_dot, LocallyMakes, LocallyAccepts, MustBeHeld, IsFullFor, IsForeign}
 use Rattle.mld_ops.specs.Held.{ranges_of}
@@ -43,6 +43,7 @@ use Rattle.mld_model.proofs.StandsForLaws.{LiveAt, live_at, clone_stands_as, sti
 use Rattle.mld_model.proofs.FoundedLaws.{founded_one_tick}
 use Rattle.mld_model.proofs.OneTickLaws.{HasOneTickClone, one_tick_changed, one_tick_made, one_tick_taken, one_tick_holding}
 use Rattle.schedule_model.specs.WorldStep.{Follows, IsMissingReply, IsAwayReply}
+pub use Rattle.schedule_model.specs.WorldStep.{stepped, stepped_with, stepped_sending, sent_message, LocallyWithin, LocallyCompares}
 
 -- the clone of a world that was just founded stands for the founded clone
 founded_clone_stands : (domain : List ℕ) (properties : List (List ℕ)) (count number : ℕ)
@@ -90,22 +91,6 @@ founded_stands domain properties count = record {
   ticks = λ operation h. absurd h;
 }
 
--- a running world after one more step
-abbrev pub stepped : RunningWorld → RunningWorld
-stepped running = record running { steps = running.steps + 1 }
-
--- with another clone
-abbrev pub stepped_with : RunningWorld → ℕ → CloneValue → RunningWorld
-stepped_with running number clone = record running { clones = set running.clones number (states.Live clone); steps = running.steps + 1 }
-
--- with another clone and the message of one more entry
-abbrev pub stepped_sending : RunningWorld → ℕ → CloneValue → EntryValue → RunningWorld
-stepped_sending running number clone entry = record running {
-  clones = set running.clones number (states.Live clone);
-  messages = running.messages ++ CarriesEntry entry ∷ [];
-  steps = running.steps + 1;
-}
-
 -- where the running clone isn't live, the model's does nothing of what only a live clone does
 missing_replies : (world : World) (number : ℕ) (state : RunningClone) (clone : Clone) (reply : Reply) (does : Stored → List Range → Type 0)
     → IsMissingReply state reply → CloneStandsFor world number state clone → IfLive world clone reply world does
@@ -123,10 +108,6 @@ pub record MakesSoundly (world : World) (number : ℕ) (live : LocalClone) (dele
   pub makes : Makes world number (kept_by live at.base at.journal) at.held deletes inserts reply next
   pub sound : IsSound next
   pub stands : StandsFor running next
-
--- the message of a number, as it runs
-abbrev pub sent_message : RunningWorld → ℕ → Option MessageValue
-sent_message running number = numbered running.messages number
 
 -- the model's message of a number, and what stands for it
 pub record SentAs (world : World) (message : MessageValue) (number : ℕ) : Type 0 where
@@ -229,18 +210,6 @@ held_alike history entries ranges entry range all same = (
   λ h. subst (λ (r : Range). Has ranges r) same (subst (λ (rs : List Range). Has rs entry.range) (same_ranges history entries ranges all) h),
   λ h. subst (λ (rs : List Range). Has rs entry.range) (sym (same_ranges history entries ranges all)) (subst (λ (r : Range). Has ranges r) (sym same) h),
 )
-
--- the first clock's dots are all among the second's
-abbrev pub LocallyWithin : LocalClone → LocalClone → Type 0
-LocallyWithin live other = (dot : Dot) → Covers live.ticks dot → Covers other.ticks dot
-
--- how two clocks compare
-abbrev pub LocallyCompares : LocalClone → LocalClone → Reply → Type 0
-LocallyCompares live other reply =
-    (LocallyWithin live other × LocallyWithin other live × (reply ≡ Same))
-    ⊎ ((LocallyWithin live other × ¬ LocallyWithin other live × (reply ≡ Less))
-    ⊎ ((¬ LocallyWithin live other × LocallyWithin other live × (reply ≡ More))
-    ⊎ (¬ LocallyWithin live other × ¬ LocallyWithin other live × (reply ≡ Apart))))
 
 within_alike : (history : List Operation) (live other : LocalClone) (stored kept : Stored) (held back : List Range) → LocalStandsFor history live stored held
     → LocalStandsFor history other kept back → LocallyWithin live other ↔ AreKnownTo (known_of stored) (known_of kept)

@@ -1,12 +1,38 @@
 -- What a step of a running world has to do with the model.
-use Rattle.std.specs.Prelude.{◌≡◌}
+use Rattle.std.specs.Prelude.{◌≡◌, ℕ, ◌+◌, [], ◌∷◌, ◌++◌, ◌⊎◌, Option, slice_set}
+use Rattle.tree_clock.specs.declared.dots.Dot.{Dot}
+use Rattle.tree_clock.specs.Clock.{Covers}
+use Rattle.mld_ops.specs.Entry.{EntryValue}
+use Rattle.mld_ops.specs.Messages.{MessageValue, CarriesEntry}
 use Rattle.schedule_model.specs.declared.Command.{Command}
-use Rattle.mld_model.specs.World.{World}
-use Rattle.mld_model.specs.Reply.{Reply, IsAbsent, IsAsking, IsDown}
+use Rattle.mld_model.specs.World.{World, numbered}
+use Rattle.mld_model.specs.Reply.{Reply, Same, Less, More, Apart, IsAbsent, IsAsking, IsDown}
 use Rattle.schedule_model.specs.Step.{Step}
 use Rattle.mld_model.specs.Sound.{IsSound}
 use Rattle.mld_model.specs.declared.CloneState.TheVariants as states
+use Rattle.mld_model.specs.Local.{LocalClone, CloneValue}
 use Rattle.mld_model.specs.StandsFor.{RunningClone, RunningWorld, StandsFor}
+
+-- a running world after one more step
+abbrev pub stepped : RunningWorld → RunningWorld
+stepped running = record running { steps = running.steps + 1 }
+
+-- with another clone
+abbrev pub stepped_with : RunningWorld → ℕ → CloneValue → RunningWorld
+stepped_with running number clone = record running { clones = slice_set running.clones number (states.Live clone); steps = running.steps + 1 }
+
+-- with another state of a clone and one more message
+abbrev pub stepped_telling : RunningWorld → ℕ → RunningClone → MessageValue → RunningWorld
+stepped_telling running number state message =
+    record running { clones = slice_set running.clones number state; messages = running.messages ++ message ∷ []; steps = running.steps + 1 }
+
+-- with another clone and the message of one more entry
+abbrev pub stepped_sending : RunningWorld → ℕ → CloneValue → EntryValue → RunningWorld
+stepped_sending running number clone entry = stepped_telling running number (states.Live clone) (CarriesEntry entry)
+
+-- the message of a number, as it runs
+abbrev pub sent_message : RunningWorld → ℕ → Option MessageValue
+sent_message running number = numbered running.messages number
 
 -- there is a sound world that the model's step makes of the world with this reply, and the running world stands for it
 pub record Follows (world : World) (command : Command) (reply : Reply) (running : RunningWorld) : Type 0 where
@@ -27,3 +53,15 @@ abbrev pub IsAwayReply : RunningClone → Reply → Type 0
 IsAwayReply (states.Absent blank) reply = reply ≡ IsAbsent
 IsAwayReply (states.Down device) reply = reply ≡ IsDown
 IsAwayReply state reply = ⊥
+
+-- the first clock's dots are all among the second's
+abbrev pub LocallyWithin : LocalClone → LocalClone → Type 0
+LocallyWithin live other = (dot : Dot) → Covers live.ticks dot → Covers other.ticks dot
+
+-- how two clocks compare
+abbrev pub LocallyCompares : LocalClone → LocalClone → Reply → Type 0
+LocallyCompares live other reply =
+    (LocallyWithin live other × LocallyWithin other live × (reply ≡ Same))
+    ⊎ ((LocallyWithin live other × ¬ LocallyWithin other live × (reply ≡ Less))
+    ⊎ ((¬ LocallyWithin live other × LocallyWithin other live × (reply ≡ More))
+    ⊎ (¬ LocallyWithin live other × ¬ LocallyWithin other live × (reply ≡ Apart))))
