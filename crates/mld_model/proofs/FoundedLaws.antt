@@ -65,15 +65,6 @@ founded_keeps count number stored keeps = elim (cases_Bool (ltb number count)) [
       absurd (subst P e keeps)
 ]
 
-founded_at : (domain : List ℕ) (properties : List (List ℕ)) (count number : ℕ) (stored : Stored) → Keeps (clone_at (founded domain properties count) number) stored
-    → (number < count) × (record { path = founded_path count number; base = []; journal = [] } ≡ stored)
-founded_at domain properties count number stored keeps = elim (cases_lt number clone_count) [
-  | inl inside ↦ let P : Clone → Type 0 = λ c. Keeps c stored in
-      founded_keeps count number stored (subst P (get_or-map-range_with_len (founded_clone count) 0 clone_count number number Absent inside (omega arith)) keeps)
-  | inr past ↦ let P : Clone → Type 0 = λ c. Keeps c stored in
-      absurd (subst P (get_or_past (map (founded_clone count) (range_with_len 0 clone_count)) number Absent (omega (arith, past, length-map-range_with_len (founded_clone count) 0 clone_count))) keeps)
-]
-
 -- a clone that is live holds nothing back
 abbrev HoldsNothing : Clone → Type 0
 HoldsNothing (Live stored held) = held ≡ []
@@ -82,55 +73,66 @@ HoldsNothing clone = Unit {0}
 holds_nothing : (clone : Clone) (stored : Stored) (held : List Range) → HoldsNothing clone → clone ≡ Live stored held → held ≡ []
 holds_nothing clone stored held nothing is = subst HoldsNothing is nothing
 
--- and so it is with each clone of the founded world
-founded_holds : (domain : List ℕ) (properties : List (List ℕ)) (count number : ℕ) → HoldsNothing (clone_at (founded domain properties count) number)
-founded_holds domain properties count number = elim (cases_lt number clone_count) [
-  | inl inside ↦ subst HoldsNothing (sym (get_or-map-range_with_len (founded_clone count) 0 clone_count number number Absent inside (omega arith))) (elim (cases_Bool (ltb number count)) [
-    | inl below ↦ rw below refl
-    | inr above ↦ rw above tt
-  ])
-  | inr past ↦ subst HoldsNothing (sym (get_or_past (map (founded_clone count) (range_with_len 0 clone_count)) number Absent (omega (arith, past, length-map-range_with_len (founded_clone count) 0 clone_count)))) tt
-]
+-- the founded world
+module _ (domain : List ℕ) (properties : List (List ℕ)) (count : ℕ) where
+  founded_at : (number : ℕ) (stored : Stored) → Keeps (clone_at (founded domain properties count) number) stored
+      → (number < count) × (record { path = founded_path count number; base = []; journal = [] } ≡ stored)
+  founded_at number stored keeps = elim (cases_lt number clone_count) [
+    | inl inside ↦ let P : Clone → Type 0 = λ c. Keeps c stored in
+        founded_keeps count number stored (subst P (get_or-map-range_with_len (founded_clone count) 0 clone_count number number Absent inside (omega arith)) keeps)
+    | inr past ↦ let P : Clone → Type 0 = λ c. Keeps c stored in
+        absurd (subst P (get_or_past (map (founded_clone count) (range_with_len 0 clone_count)) number Absent (omega (arith, past, length-map-range_with_len (founded_clone count) 0 clone_count))) keeps)
+  ]
 
--- no message was sent in the founded world, so no leaf is given and open
-founded_gives_none : (domain : List ℕ) (properties : List (List ℕ)) (count place id : ℕ) (path : List ℕ) (dots : List Range) → ¬ IsOpenGive (founded domain properties count) place id path dots
-founded_gives_none domain properties count place id path dots opened = cc (opened.sent)
+  -- and so it is with each clone of the founded world
+  founded_holds : (number : ℕ) → HoldsNothing (clone_at (founded domain properties count) number)
+  founded_holds number = elim (cases_lt number clone_count) [
+    | inl inside ↦ subst HoldsNothing (sym (get_or-map-range_with_len (founded_clone count) 0 clone_count number number Absent inside (omega arith))) (elim (cases_Bool (ltb number count)) [
+      | inl below ↦ rw below refl
+      | inr above ↦ rw above tt
+    ])
+    | inr past ↦ subst HoldsNothing (sym (get_or_past (map (founded_clone count) (range_with_len 0 clone_count)) number Absent (omega (arith, past, length-map-range_with_len (founded_clone count) 0 clone_count)))) tt
+  ]
 
--- the founded world is sound
-pub founded_sound : (domain : List ℕ) (properties : List (List ℕ)) (count : ℕ) → IsSound (founded domain properties count)
-founded_sound domain properties count = record {
-  lawful = tt;
-  count = length-map-range_with_len (founded_clone count) 0 clone_count;
-  apart = λ one other first second differ one_keeps other_keeps.
-      let a = founded_at domain properties count one first one_keeps in
-      let b = founded_at domain properties count other second other_keeps in
-      let P : Stored → Type 0 = λ s. AreApart s.path second.path in
-      let Q : Stored → Type 0 = λ s. AreApart (founded_path count one) s.path in
-      subst P a.1 (subst Q b.1 (founded_apart count one other a.0 b.0 differ));
-  clones = λ number stored keeps.
-      let a = founded_at domain properties count number stored keeps in
-      let P : Stored → Type 0 = λ s. IsSoundClone [] s in
-      subst P a.1 (record {
-        closed = record { done = λ dot h. absurd h; causes = λ operation stands. absurd stands };
-        journal = record { done = λ dot h. absurd h; causes = λ operation stands. absurd stands };
-        own = λ operation stands. absurd stands;
-        above = λ operation stands. absurd stands;
-        below = λ operation stands. absurd stands;
-      });
-  held = λ number stored held live range h.
-      absurd (subst (λ (ranges : List Range). Has ranges range) (holds_nothing (clone_at (founded domain properties count) number) stored held (founded_holds domain properties count number) live) h);
-  gives_held = λ place id path dots number stored opened. absurd (founded_gives_none domain properties count place id path dots opened);
-  gives_apart = λ place id path dots second other leaf known differ opened. absurd (founded_gives_none domain properties count place id path dots opened);
-  gives = λ place id path dots opened. absurd (founded_gives_none domain properties count place id path dots opened);
-  messages = λ message sent. absurd sent;
-}
+  -- no message was sent in the founded world, so no leaf is given and open
+  founded_gives_none : (place id : ℕ) (path : List ℕ) (dots : List Range) → ¬ IsOpenGive (founded domain properties count) place id path dots
+  founded_gives_none place id path dots opened = cc (opened.sent)
 
--- and it has no ranges, so each has one tick
-pub founded_one_tick : (domain : List ℕ) (properties : List (List ℕ)) (count : ℕ) → HasOneTickRanges (founded domain properties count)
-founded_one_tick domain properties count = record {
-  journals = λ number stored keeps range h.
-      absurd (subst (λ (s : Stored). Has s.journal range) (sym (founded_at domain properties count number stored keeps).1) h);
-  held = λ number stored held live range h.
-      absurd (subst (λ (ranges : List Range). Has ranges range) (holds_nothing (clone_at (founded domain properties count) number) stored held (founded_holds domain properties count number) live) h);
-  sent = λ range h. absurd h;
-}
+  -- the founded world is sound
+  pub founded_sound : IsSound (founded domain properties count)
+  founded_sound = record {
+    lawful = tt;
+    count = length-map-range_with_len (founded_clone count) 0 clone_count;
+    apart = λ one other first second differ one_keeps other_keeps.
+        let a = founded_at one first one_keeps in
+        let b = founded_at other second other_keeps in
+        let P : Stored → Type 0 = λ s. AreApart s.path second.path in
+        let Q : Stored → Type 0 = λ s. AreApart (founded_path count one) s.path in
+        subst P a.1 (subst Q b.1 (founded_apart count one other a.0 b.0 differ));
+    clones = λ number stored keeps.
+        let a = founded_at number stored keeps in
+        let P : Stored → Type 0 = λ s. IsSoundClone [] s in
+        subst P a.1 (record {
+          closed = record { done = λ dot h. absurd h; causes = λ operation stands. absurd stands };
+          journal = record { done = λ dot h. absurd h; causes = λ operation stands. absurd stands };
+          own = λ operation stands. absurd stands;
+          above = λ operation stands. absurd stands;
+          below = λ operation stands. absurd stands;
+        });
+    held = λ number stored held live range h.
+        absurd (subst (λ (ranges : List Range). Has ranges range) (holds_nothing (clone_at (founded domain properties count) number) stored held (founded_holds number) live) h);
+    gives_held = λ place id path dots number stored opened. absurd (founded_gives_none place id path dots opened);
+    gives_apart = λ place id path dots second other leaf known differ opened. absurd (founded_gives_none place id path dots opened);
+    gives = λ place id path dots opened. absurd (founded_gives_none place id path dots opened);
+    messages = λ message sent. absurd sent;
+  }
+
+  -- and it has no ranges, so each has one tick
+  pub founded_one_tick : HasOneTickRanges (founded domain properties count)
+  founded_one_tick = record {
+    journals = λ number stored keeps range h.
+        absurd (subst (λ (s : Stored). Has s.journal range) (sym (founded_at number stored keeps).1) h);
+    held = λ number stored held live range h.
+        absurd (subst (λ (ranges : List Range). Has ranges range) (holds_nothing (clone_at (founded domain properties count) number) stored held (founded_holds number) live) h);
+    sent = λ range h. absurd h;
+  }

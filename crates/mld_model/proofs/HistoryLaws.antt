@@ -8,18 +8,20 @@ use Rattle.tree_clock.specs.Dot.{Knows}
 use Rattle.mld_ops.specs.History.{Operation, IsDone, IsClosed, IsNext, IsLawful}
 use Rattle.mld_ops.specs.HistoryLaws.{one_operation, before, causes_done, closed_with_unknown}
 
--- what is done stays done
-pub IsDone-more : (history : List Operation) (next : Operation) (dot : Dot) → IsDone history dot → IsDone (next ∷ history) dot
-IsDone-more history next dot done = record { operation = done.operation; stands = inr done.stands; is = done.is }
+-- a history, and an operation that comes next
+module _ (history : List Operation) (next : Operation) where
+  -- what is done stays done
+  pub IsDone-more : (dot : Dot) → IsDone history dot → IsDone (next ∷ history) dot
+  IsDone-more dot done = record { operation = done.operation; stands = inr done.stands; is = done.is }
 
--- a dot that is done isn't that of an operation which comes next
-pub done_not_fresh : (history : List Operation) (next : Operation) (dot : Dot) → IsNext history next → IsDone history dot → dot ≢ next.dot
-done_not_fresh history next dot is_next done same = is_next.fresh done.operation done.stands (done.is ∙ same)
+  -- a dot that is done isn't that of an operation which comes next
+  pub done_not_fresh : (dot : Dot) → IsNext history next → IsDone history dot → dot ≢ next.dot
+  done_not_fresh dot is_next done same = is_next.fresh done.operation done.stands (done.is ∙ same)
 
--- a closed set stays closed when an operation is made
-pub IsClosed-more : (history : List Operation) (next : Operation) (known : List Range) → IsNext history next → IsClosed history known → IsClosed (next ∷ history) known
-IsClosed-more history next known is_next closed =
-    closed_with_unknown history known next closed (λ k. done_not_fresh history next next.dot is_next (closed.done next.dot k) refl)
+  -- a closed set stays closed when an operation is made
+  pub IsClosed-more : (known : List Range) → IsNext history next → IsClosed history known → IsClosed (next ∷ history) known
+  IsClosed-more known is_next closed =
+      closed_with_unknown history known next closed (λ k. done_not_fresh next.dot is_next (closed.done next.dot k) refl)
 
 -- the causes of an operation are closed in the whole history
 pub causes_closed : (history : List Operation) (operation : Operation) → IsLawful history → Has history operation → IsClosed history operation.causes

@@ -48,30 +48,6 @@ made_is_next history stored tick deletes inserts sound is_next covered inserted 
   deletes_inserted = inserted;
 }
 
--- a clone that keeps what it kept stays sound when another makes an operation at a path apart from its own
-pub other_stays_sound : (history : List Operation) (next : Operation) (stored : Stored)
-    → IsNext history next → AreApart next.dot.path stored.path → IsSoundClone history stored → IsSoundClone (next ∷ history) stored
-other_stays_sound history next stored is_next apart sound = record {
-  closed = IsClosed-more history next (known_of stored) is_next sound.closed;
-  journal = journal_more history next stored.base stored.journal is_next sound.journal;
-  own = λ operation stands same. elim stands [
-    | inl is ↦ absurd (apart_differ next.dot.path stored.path apart (ap (λ (o : Operation). o.dot.path) is ∙ same))
-    | inr earlier ↦ sound.own operation earlier same
-  ];
-  above = λ operation stands goes_on. elim stands [
-    | inl is ↦ let P : Operation → Type 0 = λ o. IsProperPrefix o.dot.path stored.path in
-        let q : IsProperPrefix next.dot.path stored.path = subst P (sym is) goes_on in
-        absurd (apart.not_below (q.0, q.2))
-    | inr earlier ↦ sound.above operation earlier goes_on
-  ];
-  below = λ operation stands goes_on. elim stands [
-    | inl is ↦ let P : Operation → Type 0 = λ o. IsProperPrefix stored.path o.dot.path in
-        let q : IsProperPrefix stored.path next.dot.path = subst P (sym is) goes_on in
-        absurd (apart.not_above (q.0, q.2))
-    | inr earlier ↦ sound.below operation earlier goes_on
-  ];
-}
-
 -- a list of length 0 is empty
 pub empty_list : (xs : List ℕ) → length xs ≡ 0 → xs ≡ []
 empty_list [] h = refl
@@ -83,72 +59,91 @@ no_proper_prefix path (rest, some, same) =
     let e : length path ≡ length path + length rest = ap length same ∙ length-append path rest in
     some (empty_list rest (omega arith))
 
--- the clone that makes an operation stays sound
-pub maker_stays_sound : (history : List Operation) (next : Operation) (stored : Stored)
-    → next.dot.path ≡ stored.path → next.causes ≡ known_of stored
-    → IsLawful history → IsNext history next → IsSoundClone history stored
-    → IsSoundClone (next ∷ history) (with_range stored (range_of next.dot))
-maker_stays_sound history next stored path causes lawful is_next sound =
-    let range : Range = range_of next.dot in
-    let inside : IsIn range next.dot = range_of_has next.dot next.dot refl in
-    let ready : (dot : Dot) → Knows next.causes dot → Knows (known_of stored) dot = λ dot k. (let P : List Range → Type 0 = λ l. Knows l dot in subst P causes k) in
-    let closed : IsClosed (next ∷ history) (known_of stored ++ range ∷ []) =
-    closed_with_taken (next ∷ history) (known_of stored) next (is_next, lawful) (IsClosed-more history next (known_of stored) is_next sound.closed) (inl refl) ready in
-    record {
-      closed = (let P : List Range → Type 0 = IsClosed (next ∷ history) in subst P (sym (known_with stored range)) closed);
-      journal = journal_with (next ∷ history) stored.base stored.journal range
-          (journal_more history next stored.base stored.journal is_next sound.journal)
-          (own_may_follow history next (known_of stored) lawful is_next sound.closed ready) closed;
-      own = λ operation stands same. elim stands [
-        | inl is ↦ let P : Operation → Type 0 = λ o. IsIn range o.dot in known_with-new stored range operation.dot (subst P is inside)
-        | inr earlier ↦ known_with-old stored range operation.dot (sound.own operation earlier same)
-      ];
-      above = λ operation stands goes_on. elim stands [
-        | inl is ↦ let P : Operation → Type 0 = λ o. IsProperPrefix o.dot.path stored.path in
-            let Q : List ℕ → Type 0 = λ p. IsProperPrefix p stored.path in
-            absurd (no_proper_prefix stored.path (subst Q path (subst P (sym is) goes_on)))
-        | inr earlier ↦ known_with-old stored range operation.dot (sound.above operation earlier goes_on)
-      ];
-      below = λ operation stands goes_on. elim stands [
-        | inl is ↦ let P : Operation → Type 0 = λ o. IsProperPrefix stored.path o.dot.path in
-            let Q : List ℕ → Type 0 = λ p. IsProperPrefix stored.path p in
-            absurd (no_proper_prefix stored.path (subst Q path (subst P (sym is) goes_on)))
-        | inr earlier ↦ sound.below operation earlier goes_on
-      ];
-    }
+-- a history, and an operation that comes next
+module _ (history : List Operation) (next : Operation) where
+  -- a clone that keeps what it kept stays sound when another makes an operation at a path apart from its own
+  pub other_stays_sound : (stored : Stored) → IsNext history next → AreApart next.dot.path stored.path → IsSoundClone history stored → IsSoundClone (next ∷ history) stored
+  other_stays_sound stored is_next apart sound = record {
+    closed = IsClosed-more history next (known_of stored) is_next sound.closed;
+    journal = journal_more history next stored.base stored.journal is_next sound.journal;
+    own = λ operation stands same. elim stands [
+      | inl is ↦ absurd (apart_differ next.dot.path stored.path apart (ap (λ (o : Operation). o.dot.path) is ∙ same))
+      | inr earlier ↦ sound.own operation earlier same
+    ];
+    above = λ operation stands goes_on. elim stands [
+      | inl is ↦ let P : Operation → Type 0 = λ o. IsProperPrefix o.dot.path stored.path in
+          let q : IsProperPrefix next.dot.path stored.path = subst P (sym is) goes_on in
+          absurd (apart.not_below (q.0, q.2))
+      | inr earlier ↦ sound.above operation earlier goes_on
+    ];
+    below = λ operation stands goes_on. elim stands [
+      | inl is ↦ let P : Operation → Type 0 = λ o. IsProperPrefix stored.path o.dot.path in
+          let q : IsProperPrefix stored.path next.dot.path = subst P (sym is) goes_on in
+          absurd (apart.not_above (q.0, q.2))
+      | inr earlier ↦ sound.below operation earlier goes_on
+    ];
+  }
 
--- a range that is done stays done
-pub IsDoneRange-more : (history : List Operation) (next : Operation) (range : Range) → IsDoneRange history range → IsDoneRange (next ∷ history) range
-IsDoneRange-more history next range done = record {
-  positive = done.positive;
-  some = done.some;
-  done = λ dot inside. IsDone-more history next dot (done.done dot inside);
-}
+  -- the clone that makes an operation stays sound
+  pub maker_stays_sound : (stored : Stored) → next.dot.path ≡ stored.path → next.causes ≡ known_of stored → IsLawful history → IsNext history next
+      → IsSoundClone history stored → IsSoundClone (next ∷ history) (with_range stored (range_of next.dot))
+  maker_stays_sound stored path causes lawful is_next sound =
+      let range : Range = range_of next.dot in
+      let inside : IsIn range next.dot = range_of_has next.dot next.dot refl in
+      let ready : (dot : Dot) → Knows next.causes dot → Knows (known_of stored) dot = λ dot k. (let P : List Range → Type 0 = λ l. Knows l dot in subst P causes k) in
+      let closed : IsClosed (next ∷ history) (known_of stored ++ range ∷ []) =
+      closed_with_taken (next ∷ history) (known_of stored) next (is_next, lawful) (IsClosed-more history next (known_of stored) is_next sound.closed) (inl refl) ready in
+      record {
+        closed = (let P : List Range → Type 0 = IsClosed (next ∷ history) in subst P (sym (known_with stored range)) closed);
+        journal = journal_with (next ∷ history) stored.base stored.journal range (journal_more history next stored.base stored.journal is_next sound.journal) (own_may_follow history next (known_of stored) lawful is_next sound.closed ready) closed;
+        own = λ operation stands same. elim stands [
+          | inl is ↦ let P : Operation → Type 0 = λ o. IsIn range o.dot in known_with-new stored range operation.dot (subst P is inside)
+          | inr earlier ↦ known_with-old stored range operation.dot (sound.own operation earlier same)
+        ];
+        above = λ operation stands goes_on. elim stands [
+          | inl is ↦ let P : Operation → Type 0 = λ o. IsProperPrefix o.dot.path stored.path in
+              let Q : List ℕ → Type 0 = λ p. IsProperPrefix p stored.path in
+              absurd (no_proper_prefix stored.path (subst Q path (subst P (sym is) goes_on)))
+          | inr earlier ↦ known_with-old stored range operation.dot (sound.above operation earlier goes_on)
+        ];
+        below = λ operation stands goes_on. elim stands [
+          | inl is ↦ let P : Operation → Type 0 = λ o. IsProperPrefix stored.path o.dot.path in
+              let Q : List ℕ → Type 0 = λ p. IsProperPrefix stored.path p in
+              absurd (no_proper_prefix stored.path (subst Q path (subst P (sym is) goes_on)))
+          | inr earlier ↦ sound.below operation earlier goes_on
+        ];
+      }
 
--- what was sent stays as good when an operation is made
-pub IsSoundMessage-more : (history : List Operation) (next : Operation) (message : Message) → IsNext history next
-    → IsSoundMessage history message → IsSoundMessage (next ∷ history) message
-IsSoundMessage-more history next (RangeOf range) is_next sound = IsDoneRange-more history next range sound
-IsSoundMessage-more history next (Want dots) is_next sound = λ dot h. IsDone-more history next dot (sound dot h)
-IsSoundMessage-more history next (SnapshotOf dots) is_next sound = IsClosed-more history next dots is_next sound
-IsSoundMessage-more history next (JoinAsk id) is_next sound = sound
-IsSoundMessage-more history next (JoinGive id path dots) is_next sound = (sound.0, IsClosed-more history next dots is_next sound.1)
+  -- a range that is done stays done
+  pub IsDoneRange-more : (range : Range) → IsDoneRange history range → IsDoneRange (next ∷ history) range
+  IsDoneRange-more range done = record {
+    positive = done.positive;
+    some = done.some;
+    done = λ dot inside. IsDone-more history next dot (done.done dot inside);
+  }
 
--- and so does a leaf that is given and open, when an operation is made at a path apart from it
-IsSoundGive-more : (history : List Operation) (next : Operation) (path : List ℕ) (dots : List Range) → AreApart path next.dot.path
-    → IsSoundGive history path dots → IsSoundGive (next ∷ history) path dots
-IsSoundGive-more history next path dots apart give = record {
-  above = λ operation stands goes_on. elim stands [
-    | inl is ↦ let P : Operation → Type 0 = λ o. IsProperPrefix o.dot.path path in
-        let q : IsProperPrefix next.dot.path path = subst P (sym is) goes_on in
-        absurd (apart.not_above (q.0, q.2))
-    | inr earlier ↦ give.above operation earlier goes_on
-  ];
-  below = λ operation stands goes_on. elim stands [
-    | inl is ↦ let P : Operation → Type 0 = λ o. IsPrefix path o.dot.path in absurd (apart.not_below (subst P (sym is) goes_on))
-    | inr earlier ↦ give.below operation earlier goes_on
-  ];
-}
+  -- what was sent stays as good when an operation is made
+  pub IsSoundMessage-more : (message : Message) → IsNext history next → IsSoundMessage history message → IsSoundMessage (next ∷ history) message
+  IsSoundMessage-more (RangeOf range) is_next sound = IsDoneRange-more range sound
+  IsSoundMessage-more (Want dots) is_next sound = λ dot h. IsDone-more history next dot (sound dot h)
+  IsSoundMessage-more (SnapshotOf dots) is_next sound = IsClosed-more history next dots is_next sound
+  IsSoundMessage-more (JoinAsk id) is_next sound = sound
+  IsSoundMessage-more (JoinGive id path dots) is_next sound = (sound.0, IsClosed-more history next dots is_next sound.1)
+
+  -- and so does a leaf that is given and open, when an operation is made at a path apart from it
+  IsSoundGive-more : (path : List ℕ) (dots : List Range) → AreApart path next.dot.path → IsSoundGive history path dots → IsSoundGive (next ∷ history) path dots
+  IsSoundGive-more path dots apart give = record {
+    above = λ operation stands goes_on. elim stands [
+      | inl is ↦ let P : Operation → Type 0 = λ o. IsProperPrefix o.dot.path path in
+          let q : IsProperPrefix next.dot.path path = subst P (sym is) goes_on in
+          absurd (apart.not_above (q.0, q.2))
+      | inr earlier ↦ give.above operation earlier goes_on
+    ];
+    below = λ operation stands goes_on. elim stands [
+      | inl is ↦ let P : Operation → Type 0 = λ o. IsPrefix path o.dot.path in absurd (apart.not_below (subst P (sym is) goes_on))
+      | inr earlier ↦ give.below operation earlier goes_on
+    ];
+  }
 
 -- a clone that takes a ready range stays sound
 pub taker_stays_sound : (history : List Operation) (stored : Stored) (range : Range) → IsLawful history

@@ -35,33 +35,35 @@ pub record LiveAt (world : World) (number : ℕ) (running : LocalClone) : Type 0
   pub is : IsCloneOf world number running
   pub stands : LocalStandsFor world.history running (kept_by running base journal) held
 
-live_from : (world : World) (number : ℕ) (running : CloneValue) (clone : Clone) → clone_at world number ≡ clone
-    → CloneStandsFor world number (states.Live running) clone → LiveAt world number running.local
-live_from world number running (Live stored held) at stands =
-    let same : kept_by running.local stored.base stored.journal ≡ stored = λ i. record { path = stands.1.kept.path i; base = stored.base; journal = stored.journal } in
-    record {
-      base = stored.base;
-      journal = stored.journal;
-      held = held;
-      live = at ∙ ap (λ (s : Stored). Live s held) (sym same);
-      is = stands.0;
-      stands = subst (λ (s : Stored). LocalStandsFor world.history running.local s held) (sym same) stands.1;
-    }
-live_from world number running clone at stands = absurd stands
-
-absent_from : (world : World) (number : ℕ) (blank : NoDevice) (clone : Clone) → CloneStandsFor world number (states.Absent blank) clone → clone ≡ Absent
-absent_from world number blank Absent stands = refl
-absent_from world number blank clone stands = absurd stands
-
 -- one who asks, where the model's clone asks
 pub record AskingAt (world : World) (number : ℕ) (running : LocalAsker) : Type 0 where
   pub asking : clone_at world number ≡ Asking
   pub is : IsAskerOf world number running
 
-asking_from : (world : World) (number : ℕ) (running : LocalAsker) (clone : Clone) → clone_at world number ≡ clone
-    → CloneStandsFor world number (states.Asking running) clone → AskingAt world number running
-asking_from world number running Asking at stands = record { asking = at; is = stands }
-asking_from world number running clone at stands = absurd stands
+-- the clone of a number
+module _ (world : World) (number : ℕ) where
+  live_from : (running : CloneValue) (clone : Clone) → clone_at world number ≡ clone → CloneStandsFor world number (states.Live running) clone
+      → LiveAt world number running.local
+  live_from running (Live stored held) at stands =
+      let same : kept_by running.local stored.base stored.journal ≡ stored = λ i. record { path = stands.1.kept.path i; base = stored.base; journal = stored.journal } in
+      record {
+        base = stored.base;
+        journal = stored.journal;
+        held = held;
+        live = at ∙ ap (λ (s : Stored). Live s held) (sym same);
+        is = stands.0;
+        stands = subst (λ (s : Stored). LocalStandsFor world.history running.local s held) (sym same) stands.1;
+      }
+  live_from running clone at stands = absurd stands
+
+  absent_from : (blank : NoDevice) (clone : Clone) → CloneStandsFor world number (states.Absent blank) clone → clone ≡ Absent
+  absent_from blank Absent stands = refl
+  absent_from blank clone stands = absurd stands
+
+  asking_from : (running : LocalAsker) (clone : Clone) → clone_at world number ≡ clone → CloneStandsFor world number (states.Asking running) clone
+      → AskingAt world number running
+  asking_from running Asking at stands = record { asking = at; is = stands }
+  asking_from running clone at stands = absurd stands
 
 -- a running world that stands for a world
 module _ (running : RunningWorld) (world : World) (stands : StandsFor running world) where
@@ -164,27 +166,28 @@ clones_still_stand running world next operation stands sound is_next history dom
 
 -- ---- messages, one by one
 
-message_still_stands : (history : List Operation) (next : Operation) (message : MessageValue) (other : Message) → IsNext history next
-    → IsSoundMessage history other → MessageStandsFor history message other → MessageStandsFor (next ∷ history) message other
-message_still_stands history next (CarriesEntry entry) (RangeOf range) is_next sound stands = entry_still_stands history next entry range is_next sound stands
-message_still_stands history next (CarriesAsk id) (JoinAsk number) is_next sound stands = stands
-message_still_stands history next (CarriesGive give) (JoinGive number path dots) is_next sound stands = record {
-  id = stands.id;
-  leaf = stands.leaf;
-  snapshot = record {
-    known = stands.snapshot.known;
-    pairs = meaning_with_unknown history dots next give.snapshot.pairs stands.snapshot.pairs (λ k. done_not_fresh history next next.dot is_next (sound.1.done next.dot k) refl);
-  };
-}
-message_still_stands history next message other is_next sound stands = absurd stands
+-- a history, and an operation that comes next
+module _ (history : List Operation) (next : Operation) where
+  message_still_stands : (message : MessageValue) (other : Message) → IsNext history next → IsSoundMessage history other → MessageStandsFor history message other
+      → MessageStandsFor (next ∷ history) message other
+  message_still_stands (CarriesEntry entry) (RangeOf range) is_next sound stands = entry_still_stands history next entry range is_next sound stands
+  message_still_stands (CarriesAsk id) (JoinAsk number) is_next sound stands = stands
+  message_still_stands (CarriesGive give) (JoinGive number path dots) is_next sound stands = record {
+    id = stands.id;
+    leaf = stands.leaf;
+    snapshot = record {
+      known = stands.snapshot.known;
+      pairs = meaning_with_unknown history dots next give.snapshot.pairs stands.snapshot.pairs (λ k. done_not_fresh history next next.dot is_next (sound.1.done next.dot k) refl);
+    };
+  }
+  message_still_stands message other is_next sound stands = absurd stands
 
--- messages stand for the same messages in the longer history
-pub messages_still_stand : (history : List Operation) (next : Operation) (messages : List MessageValue) (others : List Message) → AllPairs (MessageStandsFor history) messages others
-    → ((message : Message) → Has others message → IsSoundMessage history message) → IsNext history next
-    → AllPairs (MessageStandsFor (next ∷ history)) messages others
-messages_still_stand history next messages others all sound is_next =
-    pairs_as (MessageStandsFor history) (MessageStandsFor (next ∷ history)) messages others all
-    (λ message other h stands. message_still_stands history next message other is_next (sound other h) stands)
+  -- messages stand for the same messages in the longer history
+  pub messages_still_stand : (messages : List MessageValue) (others : List Message) → AllPairs (MessageStandsFor history) messages others
+      → ((message : Message) → Has others message → IsSoundMessage history message) → IsNext history next → AllPairs (MessageStandsFor (next ∷ history)) messages others
+  messages_still_stand messages others all sound is_next =
+      pairs_as (MessageStandsFor history) (MessageStandsFor (next ∷ history)) messages others all
+      (λ message other h stands. message_still_stands message other is_next (sound other h) stands)
 
 -- a message that stands for one of the model is a good one: a leaf that is given comes with a good snapshot
 good_message : (history : List Operation) (message : MessageValue) (other : Message) → MessageStandsFor history message other → IsGoodMessage message

@@ -5,6 +5,7 @@ use Rattle.std.specs.Fmt.{decimal}
 use Rattle.std.proofs.Common.{refl, sym, ◌∙◌, subst, arith}
 use Rattle.std.proofs.lemmas.Bool.{false≢true, and_parts, ne_eqb, eq-eqb}
 use Rattle.std.proofs.lemmas.Fmt.{decimal_by_steps}
+use Rattle.schedule_model.specs.Characters.{space}
 pub use Rattle.schedule_model.specs.Lacking.{Lacks}
 
 -- two texts that lack it do so together
@@ -28,6 +29,10 @@ Lacks-from_test test byte fails (first ∷ rest) h =
 pub Lacks-decimal : (byte : ℕ) → ((digit : ℕ) → digit < 10 → 48 + digit ≢ byte) → (number : ℕ) → number < 2 ^ 64 → Lacks byte (decimal number)
 Lacks-decimal byte other = decimal_by_steps (λ n ds. Lacks byte ds) (λ n h. (other n h, tt))
     (λ n ds h k. Lacks-append byte ds _ k (other (n % 10) (omega arith), tt))
+
+-- so numbers are written without spaces
+pub no_space : (number : ℕ) → number < 2 ^ 64 → Lacks space (decimal number)
+no_space = Lacks-decimal space (λ digit h e. omega arith)
 
 -- as a test
 pub list_any-Lacks : (byte : ℕ) (text : List ℕ) → Lacks byte text → list_any (λ b. b == byte) text ≡ false

@@ -12,7 +12,7 @@ use Rattle.mld_model.specs.World.{clone_count}
 use Rattle.schedule_model.specs.declared.Command.{Command}
 use Rattle.schedule_model.specs.declared.Command.TheVariants.{Add, Remove, Deliver, Show, Compare, Join}
 use Rattle.schedule_model.specs.Schedule.{IsNothing, empty, comment, is_unbuilt, Setup, SpellsSetup, SpellsCommand}
-use Rattle.schedule_model.proofs.LackingLaws.{Lacks, Lacks-from_test, Lacks-decimal, one_split, apart}
+use Rattle.schedule_model.proofs.LackingLaws.{Lacks, Lacks-from_test, one_split, apart, no_space}
 use Rattle.rdf_terms.proofs.Complete.{one_spelled}
 use Rattle.schedule_model.specs.Step.{HasCloneNumbers}
 use Rattle.schedule_model.specs.Laws.{OneKind, OneSetup, OneCommand}
@@ -75,10 +75,6 @@ spells_numbers line (Show number) h = h.1
 spells_numbers line (Join number) h = h.1
 spells_numbers line (Compare number other) h = (h.1, h.2)
 
--- numbers are written without spaces
-no_space : (number : ℕ) → number < 2 ^ 64 → Lacks space (decimal number)
-no_space = Lacks-decimal space (λ digit h e. omega arith)
-
 -- a number and what stands behind the space after it
 one_number : (m n : ℕ) (x y : List ℕ) → m < 2 ^ 64 → n < 2 ^ 64 → decimal m ++ space ∷ x ≡ decimal n ++ space ∷ y → (m ≡ n) × (x ≡ y)
 one_number m n x y p q e =
@@ -138,7 +134,7 @@ one_kind line = record {
 }
 
 -- no name of a domain has a space
-domain_lacks : (domain : List ℕ) → IsTrue (is_domain domain) → Lacks space domain
+pub domain_lacks : (domain : List ℕ) → IsTrue (is_domain domain) → Lacks space domain
 unfolding is_domain
 domain_lacks domain h = Lacks-from_test is_domain_byte space refl domain (and_parts (nat_le 1 (length domain) && nat_le (length domain) domain_limit) (list_all is_domain_byte domain) h).1
 

@@ -45,51 +45,51 @@ use Rattle.mld_model.proofs.OneTickLaws.{HasOneTickClone, one_tick_changed, one_
 use Rattle.schedule_model.specs.WorldStep.{Follows, IsMissingReply, IsAwayReply}
 pub use Rattle.schedule_model.specs.WorldStep.{stepped, stepped_with, stepped_sending, sent_message, LocallyWithin, LocallyCompares}
 
--- the clone of a world that was just founded stands for the founded clone
-founded_clone_stands : (domain : List ℕ) (properties : List (List ℕ)) (count number : ℕ)
-    → CloneStandsFor (founded domain properties count) number (founded_local domain properties count number) (founded_clone count number)
-founded_clone_stands domain properties count number = elim (cases_Bool (ltb number count)) [
-  | inl below ↦ rw below (
-    record { id = refl; domain = refl; properties = refl },
-    record {
-      kept = record {
-        path = refl;
-        base = λ dot. ((λ c. absurd (omega (arith, c.positive, c.within))), λ k. absurd k);
-        base_pairs = record { ascending = tt; sound = λ pair h. absurd h; complete = λ pair k. absurd k.covered };
-        entries = tt;
-      };
-      held = tt;
-      known = λ dot. ((λ c. absurd (omega (arith, c.positive, c.within))), λ k. absurd k);
-      pairs = record { ascending = tt; sound = λ pair h. absurd h; complete = λ pair k. absurd k.covered };
-    },
-  )
-  | inr above ↦ rw above tt
-]
+-- the founded world
+module _ (domain : List ℕ) (properties : List (List ℕ)) (count : ℕ) where
+  -- the clone of a world that was just founded stands for the founded clone
+  founded_clone_stands : (number : ℕ) → CloneStandsFor (founded domain properties count) number (founded_local domain properties count number) (founded_clone count number)
+  founded_clone_stands number = elim (cases_Bool (ltb number count)) [
+    | inl below ↦ rw below (
+      record { id = refl; domain = refl; properties = refl },
+      record {
+        kept = record {
+          path = refl;
+          base = λ dot. ((λ c. absurd (omega (arith, c.positive, c.within))), λ k. absurd k);
+          base_pairs = record { ascending = tt; sound = λ pair h. absurd h; complete = λ pair k. absurd k.covered };
+          entries = tt;
+        };
+        held = tt;
+        known = λ dot. ((λ c. absurd (omega (arith, c.positive, c.within))), λ k. absurd k);
+        pairs = record { ascending = tt; sound = λ pair h. absurd h; complete = λ pair k. absurd k.covered };
+      },
+    )
+    | inr above ↦ rw above tt
+  ]
 
-founded_at : (domain : List ℕ) (properties : List (List ℕ)) (count number : ℕ) (state : RunningClone)
-    → slice_get (map (founded_local domain properties count) (range_with_len 0 clone_count)) number ≡ Some state
-    → CloneStandsFor (founded domain properties count) number state (clone_at (founded domain properties count) number)
-founded_at domain properties count number state is =
-    let running : List RunningClone = map (founded_local domain properties count) (range_with_len 0 clone_count) in
-    let inside : number < clone_count = omega (arith, slice_get_within running number state is, length-map-range_with_len (founded_local domain properties count) 0 clone_count) in
-    let same : founded_local domain properties count number ≡ state
-    = sym (get_or-map-range_with_len (founded_local domain properties count) 0 clone_count number number state inside (omega arith)) ∙ get_or_from_slice_get running number state state is in
-    subst (λ (r : RunningClone). CloneStandsFor (founded domain properties count) number r (clone_at (founded domain properties count) number)) same
-    (subst (λ (c : Clone). CloneStandsFor (founded domain properties count) number (founded_local domain properties count number) c)
-    (sym (get_or-map-range_with_len (founded_clone count) 0 clone_count number number Absent inside (omega arith)))
-    (founded_clone_stands domain properties count number))
+  founded_at : (number : ℕ) (state : RunningClone) → slice_get (map (founded_local domain properties count) (range_with_len 0 clone_count)) number ≡ Some state
+      → CloneStandsFor (founded domain properties count) number state (clone_at (founded domain properties count) number)
+  founded_at number state is =
+      let running : List RunningClone = map (founded_local domain properties count) (range_with_len 0 clone_count) in
+      let inside : number < clone_count = omega (arith, slice_get_within running number state is, length-map-range_with_len (founded_local domain properties count) 0 clone_count) in
+      let same : founded_local domain properties count number ≡ state
+      = sym (get_or-map-range_with_len (founded_local domain properties count) 0 clone_count number number state inside (omega arith)) ∙ get_or_from_slice_get running number state state is in
+      subst (λ (r : RunningClone). CloneStandsFor (founded domain properties count) number r (clone_at (founded domain properties count) number)) same
+      (subst (λ (c : Clone). CloneStandsFor (founded domain properties count) number (founded_local domain properties count number) c)
+      (sym (get_or-map-range_with_len (founded_clone count) 0 clone_count number number Absent inside (omega arith)))
+      (founded_clone_stands number))
 
--- the world that runs when it was just founded stands for the founded world
-pub founded_stands : (domain : List ℕ) (properties : List (List ℕ)) (count : ℕ) → StandsFor (founded_running domain properties count) (founded domain properties count)
-founded_stands domain properties count = record {
-  domain = refl;
-  properties = refl;
-  count = length-map-range_with_len (founded_local domain properties count) 0 clone_count;
-  clones = founded_at domain properties count;
-  messages = tt;
-  one_tick = founded_one_tick domain properties count;
-  ticks = λ operation h. absurd h;
-}
+  -- the world that runs when it was just founded stands for the founded world
+  pub founded_stands : StandsFor (founded_running domain properties count) (founded domain properties count)
+  founded_stands = record {
+    domain = refl;
+    properties = refl;
+    count = length-map-range_with_len (founded_local domain properties count) 0 clone_count;
+    clones = founded_at;
+    messages = tt;
+    one_tick = founded_one_tick domain properties count;
+    ticks = λ operation h. absurd h;
+  }
 
 -- where the running clone isn't live, the model's does nothing of what only a live clone does
 missing_replies : (world : World) (number : ℕ) (state : RunningClone) (clone : Clone) (reply : Reply) (does : Stored → List Range → Type 0)
