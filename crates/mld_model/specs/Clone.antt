@@ -1,6 +1,6 @@
 -- The model of a clone: its path and the dots that it knows, by its base and its journal. It has no content: the
 -- history says what the dots mean.
-use Rattle.std.specs.Prelude.{◌≡◌, ℕ, ◌-◌, List, [], ◌∷◌, ◌++◌, ◌⊎◌}
+use Rattle.std.specs.Prelude.{◌≡◌, ℕ, ◌-◌, List, [], ◌∷◌, ◌++◌, ◌⊎◌, Option, Some, None}
 use Rattle.tree_clock.specs.declared.dots.Dot.{Dot}
 use Rattle.tree_clock.specs.declared.dots.Range.{Range}
 use Rattle.tree_clock.specs.Dot.{IsIn, Knows}
@@ -22,6 +22,14 @@ pub data Clone : Type 0 where
   Empty : Clone
   Down : Stored → Clone
   Live : Stored → List Range → Clone
+
+-- what a clone keeps, if anything
+abbrev pub kept_of : Clone → Option Stored
+kept_of Absent = None
+kept_of Asking = None
+kept_of Empty = None
+kept_of (Down stored) = Some stored
+kept_of (Live stored held) = Some stored
 
 -- the dots that a clone knows: its base and the dots of its journal
 abbrev pub known_of : Stored → List Range

@@ -3,7 +3,7 @@ use Rattle.std.specs.Prelude.{List, [], ◌∷◌, Option, Some, None, take, ℕ
 use Rattle.tree_clock.specs.declared.dots.Range.{Range}
 use Rattle.mld_ops.specs.History.{Operation}
 use Rattle.mld_ops.specs.Effect.{range_of}
-use Rattle.mld_model.specs.Clone.{Clone, Absent, Asking, Empty, Down, Live, Stored, with_range}
+use Rattle.mld_model.specs.Clone.{Stored, with_range}
 use Rattle.mld_model.specs.CloneStep.{left_half}
 
 -- one durable step of a clone, on its device
@@ -18,14 +18,6 @@ pub data DurableStep : Type 0 where
   Creates : Stored → DurableStep
   -- what it keeps is swapped for something else
   Swaps : Stored → DurableStep
-
--- what a clone keeps, if anything
-abbrev pub kept_of : Clone → Option Stored
-kept_of Absent = None
-kept_of Asking = None
-kept_of Empty = None
-kept_of (Down stored) = Some stored
-kept_of (Live stored held) = Some stored
 
 -- what is kept after one durable step; where nothing is kept, there is nothing to append to
 abbrev pub kept_after_step : Option Stored → DurableStep → Option Stored

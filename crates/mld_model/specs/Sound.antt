@@ -1,21 +1,17 @@
 -- What every world that a schedule reaches keeps.
-use Rattle.std.specs.Prelude.{◌≡◌, ◌≢◌, ℕ, ◌<◌, ◌≤◌, List, [], ◌∷◌, ◌++◌, length, slice_get, Some}
+use Rattle.std.specs.Prelude.{◌≡◌, ◌≢◌, ℕ, ◌<◌, ◌≤◌, List, [], ◌∷◌, ◌++◌, length, slice_get, Some, MatchOption}
 use Rattle.tree_clock.specs.declared.dots.Dot.{Dot}
 use Rattle.tree_clock.specs.declared.dots.Range.{Range}
 use Rattle.tree_clock.specs.Lists.{Has}
 use Rattle.tree_clock.specs.Path.{IsPrefix, IsProperPrefix, AreApart}
 use Rattle.tree_clock.specs.Dot.{IsIn, Knows}
 use Rattle.mld_ops.specs.History.{Operation, IsDone, IsClosed, IsLawful}
-use Rattle.mld_model.specs.Clone.{Clone, Absent, Asking, Empty, Down, Live, Stored, known_of, IsReady}
+use Rattle.mld_model.specs.Clone.{Clone, Live, Stored, kept_of, known_of, IsReady}
 use Rattle.mld_model.specs.World.{World, Message, RangeOf, Want, SnapshotOf, JoinAsk, JoinGive, clone_at, clone_count}
 
--- the clone of the number keeps this: it holds the path as its leaf
+-- the clone keeps this: it holds the path as its leaf
 abbrev pub Keeps : Clone → Stored → Type 0
-Keeps Absent stored = ⊥
-Keeps Asking stored = ⊥
-Keeps Empty stored = ⊥
-Keeps (Down kept) stored = kept ≡ stored
-Keeps (Live kept held) stored = kept ≡ stored
+Keeps clone stored = MatchOption (kept_of clone) ⊥ (λ kept. kept ≡ stored)
 
 -- the range may follow in a journal where these dots are known: it has dots, with ticks of 1 or more, and it is ready
 pub record MayFollow (history : List Operation) (known : List Range) (range : Range) : Type 0 where

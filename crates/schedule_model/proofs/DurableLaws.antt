@@ -8,13 +8,13 @@ use Rattle.mld_ops.specs.declared.tagged.Tagged.{Tagged}
 use Rattle.mld_ops.specs.History.{Operation, dot_at}
 use Rattle.schedule_model.specs.declared.Command.{Command}
 use Rattle.schedule_model.specs.declared.Command.TheVariants.{Add, Remove, Deliver, Show, Compare, Join}
-use Rattle.mld_model.specs.Clone.{Clone, Absent, Asking, Empty, Down, Live, Stored, known_of, with_range, Releases}
+use Rattle.mld_model.specs.Clone.{Clone, Absent, Asking, Empty, Down, Live, Stored, known_of, with_range, Releases, kept_of}
 use Rattle.mld_model.specs.World.{World, Message, RangeOf, JoinAsk, JoinGive, message_at, clone_count, clone_at}
 use Rattle.mld_model.specs.Reply.{Reply, Did, Took, Answer, Joined, NoMessage, Ignored, IsAbsent, IsDown}
 use Rattle.mld_model.specs.CloneStep.{Answers, Makes, Adds, Deletes, finds_none, deletes_all, Removes, Accepts, HoldsBack, holds_already, holds_too_many, holds_from_now, TakesRange, knows_already, accepts, holds_back, Joins, left_half, TakesAsk, asked_itself, is_too_deep, forks, joined_with, TakesLeaf, becomes_live, leaves_it, Takes}
 use Rattle.mld_model.proofs.StateLaws.{IsState, is_absent, is_asking, is_down, if_live}
 use Rattle.schedule_model.proofs.StepSoundLaws.{lists_same, weighs_same}
-use Rattle.mld_model.specs.Durable.{DurableStep, AppendsMade, AppendsTaken, kept_of, kept_after, history_after}
+use Rattle.mld_model.specs.Durable.{DurableStep, AppendsMade, AppendsTaken, kept_after, history_after}
 use Rattle.schedule_model.specs.Step.{Step, number_of_clone}
 use Rattle.schedule_model.specs.DurableSteps.{MakesDurably, taking_steps, giving_steps, joining_steps, message_steps, DurableSteps, LeadsDurably, DurableStepsLead, OneDurableList}
 

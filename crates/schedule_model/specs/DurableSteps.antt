@@ -4,10 +4,11 @@ use Rattle.tree_clock.specs.declared.dots.Range.{Range}
 use Rattle.mld_ops.specs.History.{Operation}
 use Rattle.schedule_model.specs.declared.Command.{Command}
 use Rattle.schedule_model.specs.declared.Command.TheVariants.{Add, Remove, Deliver, Show, Compare, Join}
+use Rattle.mld_model.specs.Clone.{kept_of}
 use Rattle.mld_model.specs.CloneStep.{joined_with}
 use Rattle.mld_model.specs.World.{World, Message, RangeOf, Want, SnapshotOf, JoinAsk, JoinGive, message_at, clone_at, clone_count}
 use Rattle.mld_model.specs.Reply.{Reply, Did, Took, Answer, Joined}
-use Rattle.mld_model.specs.Durable.{DurableStep, AppendsMade, AppendsTaken, AppendsFork, Creates, kept_of, kept_after, history_after}
+use Rattle.mld_model.specs.Durable.{DurableStep, AppendsMade, AppendsTaken, AppendsFork, Creates, kept_after, history_after}
 use Rattle.schedule_model.specs.Step.{HasCloneNumbers, number_of_clone, Step}
 
 -- one step: the entry of the operation that joined the history is appended
