@@ -1,10 +1,33 @@
--- What only a live clone does: the states that a clone may be in are told apart here, and nowhere above.
+-- What a clone does by its state: the states are told apart here, and nowhere above.
 use Rattle.std.proofs.Common.{◌≡◌, List, refl, sym, ◌∙◌, subst}
 use Rattle.tree_clock.specs.declared.dots.Range.{Range}
 use Rattle.mld_model.specs.Clone.{Clone, Absent, Asking, Empty, Down, Live, Stored}
 use Rattle.mld_model.specs.World.{World}
 use Rattle.mld_model.specs.Reply.{Reply, IsAbsent, IsAsking, IsDown}
-use Rattle.mld_model.specs.CloneStep.{Answers, IfLive}
+use Rattle.mld_model.specs.CloneStep.{Answers, ByState, IfLive}
+
+-- what follows in each state of a clone follows whatever its state is
+pub by_state : (C : Type 0) (clone : Clone) (absent asking down : Type 0) (live : Stored → List Range → Type 0)
+    → (clone ≡ Absent → absent → C) → (clone ≡ Asking → asking → C) → (down → C)
+    → ((stored : Stored) (held : List Range) → clone ≡ Live stored held → live stored held → C)
+    → ByState clone absent asking down live → C
+by_state C Absent absent asking down live at_absent at_asking at_down at_live p = at_absent refl p
+by_state C Asking absent asking down live at_absent at_asking at_down at_live p = at_asking refl p
+by_state C Empty absent asking down live at_absent at_asking at_down at_live p = at_down p
+by_state C (Down stored) absent asking down live at_absent at_asking at_down at_live p = at_down p
+by_state C (Live stored held) absent asking down live at_absent at_asking at_down at_live p = at_live stored held refl p
+
+-- so does what follows of two facts by the state of one clone
+pub by_one_state : (C : Type 0) (clone : Clone) (absent asking down : Type 0) (live : Stored → List Range → Type 0)
+    (absent_too asking_too down_too : Type 0) (live_too : Stored → List Range → Type 0)
+    → (absent → absent_too → C) → (asking → asking_too → C) → (down → down_too → C)
+    → ((stored : Stored) (held : List Range) → live stored held → live_too stored held → C)
+    → ByState clone absent asking down live → ByState clone absent_too asking_too down_too live_too → C
+by_one_state C Absent absent asking down live absent_too asking_too down_too live_too at_absent at_asking at_down at_live p q = at_absent p q
+by_one_state C Asking absent asking down live absent_too asking_too down_too live_too at_absent at_asking at_down at_live p q = at_asking p q
+by_one_state C Empty absent asking down live absent_too asking_too down_too live_too at_absent at_asking at_down at_live p q = at_down p q
+by_one_state C (Down stored) absent asking down live absent_too asking_too down_too live_too at_absent at_asking at_down at_live p q = at_down p q
+by_one_state C (Live stored held) absent asking down live absent_too asking_too down_too live_too at_absent at_asking at_down at_live p q = at_live stored held p q
 
 -- the reply says the state of a clone that isn't live
 pub data IsState : Reply → Type 0 where
@@ -17,11 +40,8 @@ pub if_live : (C : Type 0) (world : World) (clone : Clone) (reply : Reply) (next
     → ((answer : Reply) → IsState answer → Answers world answer reply next → C)
     → ((stored : Stored) (held : List Range) → clone ≡ Live stored held → does stored held → C)
     → IfLive world clone reply next does → C
-if_live C world Absent reply next does state live p = state IsAbsent is_absent p
-if_live C world Asking reply next does state live p = state IsAsking is_asking p
-if_live C world Empty reply next does state live p = state IsDown is_down p
-if_live C world (Down stored) reply next does state live p = state IsDown is_down p
-if_live C world (Live stored held) reply next does state live p = live stored held refl p
+if_live C world clone reply next does state live =
+    by_state C clone _ _ _ does (λ is. state IsAbsent is_absent) (λ is. state IsAsking is_asking) (state IsDown is_down) live
 
 -- a live clone does it
 pub live_does : (world : World) (clone : Clone) (reply : Reply) (next : World) (does : Stored → List Range → Type 0)
@@ -41,8 +61,5 @@ answers_once p q = (p.0 ∙ sym q.0, p.1 ∙ sym q.1)
 pub once_if_live : (world : World) (clone : Clone) (reply other : Reply) (next after : World) (does too : Stored → List Range → Type 0)
     → ((stored : Stored) (held : List Range) → does stored held → too stored held → AreSame reply next other after)
     → IfLive world clone reply next does → IfLive world clone other after too → AreSame reply next other after
-once_if_live world Absent reply other next after does too live p q = answers_once p q
-once_if_live world Asking reply other next after does too live p q = answers_once p q
-once_if_live world Empty reply other next after does too live p q = answers_once p q
-once_if_live world (Down stored) reply other next after does too live p q = answers_once p q
-once_if_live world (Live stored held) reply other next after does too live p q = live stored held p q
+once_if_live world clone reply other next after does too live =
+    by_one_state (AreSame reply next other after) clone _ _ _ does _ _ _ too (λ p q. answers_once p q) (λ p q. answers_once p q) (λ p q. answers_once p q) live

@@ -14,11 +14,11 @@ use Rattle.mld_ops.specs.Meaning.{IsMeaning}
 use Rattle.mld_ops.specs.Effect.{range_of}
 use Rattle.mld_ops.specs.HistoryLaws.{range_of_has}
 use Rattle.schedule_model.specs.declared.Command.TheVariants.{Add, Remove, Deliver, Show, Compare, Join}
-use Rattle.mld_model.specs.Clone.{Clone, Absent, Asking, Empty, Down, Live, Stored, known_of, with_range}
+use Rattle.mld_model.specs.Clone.{Clone, Absent, Asking, Live, Stored, known_of, with_range}
 use Rattle.mld_model.specs.World.{World, Message, RangeOf, JoinAsk, JoinGive, message_at, clone_at}
-use Rattle.mld_model.specs.Reply.{Reply, Did, NoMessage}
-use Rattle.mld_model.specs.CloneStep.{Answers, Makes, Adds, ArePairsOf, Deletes, finds_none, deletes_all, Removes, holds_already, holds_too_many, holds_from_now, TakesRange, knows_already, accepts, holds_back, Joins, left_half, TakesAsk, asked_itself, is_too_deep, forks, joined_with, TakesLeaf, becomes_live, leaves_it, Takes, Lists, Compares, same_dots, fewer_dots, more_dots, dots_apart, ComparesWith, Weighs}
-use Rattle.mld_model.proofs.StateLaws.{IsState, is_absent, is_asking, is_down, if_live}
+use Rattle.mld_model.specs.Reply.{Reply, Did, NoMessage, IsAbsent, IsDown}
+use Rattle.mld_model.specs.CloneStep.{Answers, Makes, Adds, ArePairsOf, Deletes, finds_none, deletes_all, Removes, holds_already, holds_too_many, holds_from_now, TakesRange, knows_already, accepts, holds_back, Asks, Joins, left_half, TakesAsk, asked_itself, is_too_deep, forks, joined_with, TakesLeaf, becomes_live, leaves_it, AskerTakes, LiveTakes, Takes, Lists, Compares, same_dots, fewer_dots, more_dots, dots_apart, ComparesWith, Weighs}
+use Rattle.mld_model.proofs.StateLaws.{by_state, IsState, is_absent, is_asking, is_down, if_live}
 use Rattle.schedule_model.specs.Step.{Step}
 use Rattle.schedule_model.specs.Runs.{Stage, Waiting, SetUp, Running, Commands, Acts, says_nothing, commands, Runs}
 use Rattle.mld_model.specs.Sound.{Keeps}
@@ -143,17 +143,23 @@ module _ (world next : World) (dot : Dot) (message : ℕ) where
   adopts_tell_none number id path dots (becomes_live own told is) = cc told
   adopts_tell_none number id path dots (leaves_it differs p) = cc (p.0)
 
-  -- whatever comes to a clone
+  -- whatever comes to a clone that asks
+  asker_takes_tell_none : (number : ℕ) (sent : Message) → ¬ AskerTakes world number sent (Did dot message) next
+  asker_takes_tell_none number (JoinGive id path dots) p = adopts_tell_none number id path dots p
+  asker_takes_tell_none number sent p = cc (p.0)
+
+  -- to a live clone
+  live_takes_tell_none : (number : ℕ) (sent : Message) (stored : Stored) (held : List Range) → ¬ LiveTakes world number sent stored held (Did dot message) next
+  live_takes_tell_none number (RangeOf range) stored held p = receives_tell_none number stored held range p
+  live_takes_tell_none number (JoinAsk id) stored held p = gives_tell_none number stored held id p
+  live_takes_tell_none number (JoinGive id path dots) stored held p = cc (p.0)
+  live_takes_tell_none number sent stored held p = p
+
+  -- to any clone
   takes_tell_none : (number : ℕ) (sent : Message) (clone : Clone) → ¬ Takes world number sent clone (Did dot message) next
-  takes_tell_none number sent Absent p = cc (p.0)
-  takes_tell_none number (JoinGive id path dots) Asking p = adopts_tell_none number id path dots p
-  takes_tell_none number sent Asking p = cc (p.0)
-  takes_tell_none number sent Empty p = cc (p.0)
-  takes_tell_none number sent (Down stored) p = cc (p.0)
-  takes_tell_none number (RangeOf range) (Live stored held) p = receives_tell_none number stored held range p
-  takes_tell_none number (JoinAsk id) (Live stored held) p = gives_tell_none number stored held id p
-  takes_tell_none number (JoinGive id path dots) (Live stored held) p = cc (p.0)
-  takes_tell_none number sent clone p = p
+  takes_tell_none number sent clone =
+      by_state ⊥ clone _ _ _ _ (λ is. state_tells_none IsAbsent is_absent) (λ is. asker_takes_tell_none number sent) (state_tells_none IsDown is_down)
+      (λ stored held is. live_takes_tell_none number sent stored held)
 
   -- a `deliver`
   delivers_tell_none : (number : ℕ) (sent : Option Message)
@@ -168,11 +174,8 @@ module _ (world next : World) (dot : Dot) (message : ℕ) where
 
   -- a `join`
   joins_tell_none : (number : ℕ) (clone : Clone) → ¬ Joins world number clone (Did dot message) next
-  joins_tell_none number Absent p = cc (p.0)
-  joins_tell_none number Asking p = cc (p.0)
-  joins_tell_none number Empty p = cc (p.0)
-  joins_tell_none number (Down stored) p = cc (p.0)
-  joins_tell_none number (Live stored held) p = cc (p.0)
+  joins_tell_none number clone =
+      by_state ⊥ clone _ _ _ _ (λ is p. cc (p.0)) (λ is p. cc (p.0)) (state_tells_none IsDown is_down) (λ stored held is p. cc (p.0))
 
   compares_with_tell_none : (stored : Stored) (clone : Clone) → ¬ ComparesWith world stored clone (Did dot message) next
   compares_with_tell_none stored clone =
@@ -297,15 +300,17 @@ module _ (world next : World) (number : ℕ) (operation : Operation) (remembers 
     stands = subst (λ (operations : List Operation). Has operations operation) (sym history) remembers.stands;
   }
 
-  -- where a clone asks for a leaf
+  -- where a clone that keeps nothing asks for a leaf
+  asks_keep : (asker : ℕ) (clone : Clone) (reply : Reply) → clone_at world asker ≡ clone → ((stored : Stored) → ¬ Keeps clone stored)
+      → Asks world asker reply next → Remembers next number operation
+  asks_keep asker clone reply is none p =
+      woken_remembers asker Asking (λ stored. subst (λ (clone : Clone). ¬ Keeps clone stored) (sym is) (none stored)) (ap (λ (w : World). w.clones) p.1) (ap (λ (w : World). w.history) p.1)
+
+  -- where a clone is told to
   joins_keep : (asker : ℕ) (clone : Clone) (reply : Reply) → clone_at world asker ≡ clone → Joins world asker clone reply next → Remembers next number operation
-  joins_keep asker Absent reply is p =
-      woken_remembers asker Asking (λ stored. subst (λ (clone : Clone). ¬ Keeps clone stored) (sym is) (λ h. h)) (ap (λ (w : World). w.clones) p.1) (ap (λ (w : World). w.history) p.1)
-  joins_keep asker Asking reply is p =
-      woken_remembers asker Asking (λ stored. subst (λ (clone : Clone). ¬ Keeps clone stored) (sym is) (λ h. h)) (ap (λ (w : World). w.clones) p.1) (ap (λ (w : World). w.history) p.1)
-  joins_keep asker Empty reply is p = same_remembers p.1
-  joins_keep asker (Down stored) reply is p = same_remembers p.1
-  joins_keep asker (Live stored held) reply is p = same_remembers p.1
+  joins_keep asker clone reply is =
+      by_state (Remembers next number operation) clone _ _ _ _ (λ state. asks_keep asker Absent reply (is ∙ state) (λ stored h. h))
+      (λ state. asks_keep asker Asking reply (is ∙ state) (λ stored h. h)) (λ p. same_remembers p.1) (λ stored held live p. same_remembers p.1)
 
   -- where a live clone is asked for a leaf: one that forks knows what it knew
   gives_keep : (giver : ℕ) (stored : Stored) (held : List Range) (id : ℕ) (reply : Reply) → clone_at world giver ≡ Live stored held
@@ -322,22 +327,26 @@ module _ (world next : World) (number : ℕ) (operation : Operation) (remembers 
       woken_remembers taker (Live (joined_with path dots) []) (λ stored. subst (λ (clone : Clone). ¬ Keeps clone stored) (sym is) (λ h. h)) (ap (λ (w : World). w.clones) same) (ap (λ (w : World). w.history) same)
   adopts_keep taker id path dots reply is (leaves_it differs p) = same_remembers p.1
 
-  -- where a message comes to a clone
+  -- where a message comes to a clone that asks
+  asker_takes_keep : (taker : ℕ) (message : Message) (reply : Reply) → clone_at world taker ≡ Asking → AskerTakes world taker message reply next
+      → Remembers next number operation
+  asker_takes_keep taker (JoinGive id path dots) reply is p = adopts_keep taker id path dots reply is p
+  asker_takes_keep taker message reply is p = same_remembers p.1
+
+  -- to a live clone
+  live_takes_keep : (taker : ℕ) (message : Message) (stored : Stored) (held : List Range) (reply : Reply) → clone_at world taker ≡ Live stored held
+      → LiveTakes world taker message stored held reply next → Remembers next number operation
+  live_takes_keep taker (RangeOf range) stored held reply is p = receives_keep taker stored held range reply is p
+  live_takes_keep taker (JoinAsk id) stored held reply is p = gives_keep taker stored held id reply is p
+  live_takes_keep taker (JoinGive id path dots) stored held reply is p = same_remembers p.1
+  live_takes_keep taker message stored held reply is p = absurd p
+
+  -- to any clone
   takes_keep : (taker : ℕ) (message : Message) (clone : Clone) (reply : Reply) → clone_at world taker ≡ clone → Takes world taker message clone reply next
       → Remembers next number operation
-  takes_keep taker message Absent reply is p = same_remembers p.1
-  takes_keep taker (JoinGive id path dots) Asking reply is p =
-      adopts_keep taker id path dots reply is p
-  takes_keep taker message Asking reply is p = same_remembers p.1
-  takes_keep taker message Empty reply is p = same_remembers p.1
-  takes_keep taker message (Down stored) reply is p = same_remembers p.1
-  takes_keep taker (RangeOf range) (Live stored held) reply is p =
-      receives_keep taker stored held range reply is p
-  takes_keep taker (JoinAsk id) (Live stored held) reply is p =
-      gives_keep taker stored held id reply is p
-  takes_keep taker (JoinGive id path dots) (Live stored held) reply is p =
-      same_remembers p.1
-  takes_keep taker message clone reply is p = absurd p
+  takes_keep taker message clone reply is =
+      by_state (Remembers next number operation) clone _ _ _ _ (λ state p. same_remembers p.1) (λ asks. asker_takes_keep taker message reply (is ∙ asks))
+      (λ p. same_remembers p.1) (λ stored held live. live_takes_keep taker message stored held reply (is ∙ live))
 
   -- at a `deliver`
   delivers_keep : (taker : ℕ) (sent : Option Message) (reply : Reply)

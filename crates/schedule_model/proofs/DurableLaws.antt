@@ -8,11 +8,11 @@ use Rattle.mld_ops.specs.declared.tagged.Tagged.{Tagged}
 use Rattle.mld_ops.specs.History.{Operation, dot_at}
 use Rattle.schedule_model.specs.declared.Command.{Command}
 use Rattle.schedule_model.specs.declared.Command.TheVariants.{Add, Remove, Deliver, Show, Compare, Join}
-use Rattle.mld_model.specs.Clone.{Clone, Absent, Asking, Empty, Down, Live, Stored, known_of, with_range, Releases, kept_of}
+use Rattle.mld_model.specs.Clone.{Clone, Absent, Asking, Live, Stored, known_of, with_range, Releases, kept_of}
 use Rattle.mld_model.specs.World.{World, Message, RangeOf, JoinAsk, JoinGive, message_at, clone_count, clone_at}
 use Rattle.mld_model.specs.Reply.{Reply, Did, Took, Answer, Joined, NoMessage, Ignored, IsAbsent, IsDown}
-use Rattle.mld_model.specs.CloneStep.{Answers, Makes, Adds, Deletes, finds_none, deletes_all, Removes, Accepts, HoldsBack, holds_already, holds_too_many, holds_from_now, TakesRange, knows_already, accepts, holds_back, Joins, left_half, TakesAsk, asked_itself, is_too_deep, forks, joined_with, TakesLeaf, becomes_live, leaves_it, Takes}
-use Rattle.mld_model.proofs.StateLaws.{IsState, is_absent, is_asking, is_down, if_live}
+use Rattle.mld_model.specs.CloneStep.{Answers, Makes, Adds, Deletes, finds_none, deletes_all, Removes, Accepts, HoldsBack, holds_already, holds_too_many, holds_from_now, TakesRange, knows_already, accepts, holds_back, Asks, Joins, left_half, TakesAsk, asked_itself, is_too_deep, forks, joined_with, TakesLeaf, becomes_live, leaves_it, AskerTakes, LiveTakes, Takes}
+use Rattle.mld_model.proofs.StateLaws.{by_state, IsState, is_absent, is_asking, is_down, if_live}
 use Rattle.schedule_model.proofs.StepSoundLaws.{lists_same, weighs_same}
 use Rattle.mld_model.specs.Durable.{DurableStep, AppendsMade, AppendsTaken, kept_after, history_after}
 use Rattle.schedule_model.specs.Step.{Step, number_of_clone}
@@ -185,23 +185,32 @@ module _ (world next : World) (number : ℕ) where
       (changed_leads (joining_steps path dots (Joined path)) Asking (Live (joined_with path dots) []) inside is (ap (λ (w : World). w.clones) same) refl (ap (λ (w : World). w.history) (sym same)))
   adopts_lead id path dots reply inside is (leaves_it differs p) = answered_leads (joining_steps path dots) _ reply refl p
 
-  -- a message that comes to a clone leads there by its steps
+  -- a reply without steps that a message has from a clone
+  quiet_leads : (message : Message) (answer reply : Reply) → taking_steps answer ≡ [] → giving_steps answer ≡ []
+      → ((path : List ℕ) (dots : List Range) → joining_steps path dots answer ≡ []) → Answers world answer reply next → Leads world number (message_steps message reply) next
+  quiet_leads message answer reply takes gives joins = answered_leads (message_steps message) answer reply (quiet message answer takes gives joins)
+
+  -- a message that comes to a clone that asks leads there by its steps
+  asker_takes_lead : (message : Message) (reply : Reply) → number < length world.clones → clone_at world number ≡ Asking
+      → AskerTakes world number message reply next → Leads world number (message_steps message reply) next
+  asker_takes_lead (JoinGive id path dots) reply inside is p = adopts_lead id path dots reply inside is p
+  asker_takes_lead message reply inside is p = quiet_leads message Ignored reply refl refl (λ path dots. refl) p
+
+  -- and so does one that comes to a live clone
+  live_takes_lead : (message : Message) (stored : Stored) (held : List Range) (reply : Reply) → number < length world.clones → clone_at world number ≡ Live stored held
+      → LiveTakes world number message stored held reply next → Leads world number (message_steps message reply) next
+  live_takes_lead (RangeOf range) stored held reply inside is p = receives_lead stored held range reply inside is p
+  live_takes_lead (JoinAsk id) stored held reply inside is p = gives_lead stored held id reply inside is p
+  live_takes_lead (JoinGive id path dots) stored held reply inside is p = answered_leads (joining_steps path dots) Ignored reply refl p
+  live_takes_lead message stored held reply inside is p = absurd p
+
+  -- whatever the state of the clone is
   takes_lead : (message : Message) (clone : Clone) (reply : Reply) → number < length world.clones → clone_at world number ≡ clone
       → Takes world number message clone reply next → Leads world number (message_steps message reply) next
-  takes_lead message Absent reply inside is p =
-      answered_leads (message_steps message) IsAbsent reply (quiet message IsAbsent refl refl (λ path dots. refl)) p
-  takes_lead (JoinGive id path dots) Asking reply inside is p = adopts_lead id path dots reply inside is p
-  takes_lead message Asking reply inside is p =
-      answered_leads (message_steps message) Ignored reply (quiet message Ignored refl refl (λ path dots. refl)) p
-  takes_lead message Empty reply inside is p =
-      answered_leads (message_steps message) IsDown reply (quiet message IsDown refl refl (λ path dots. refl)) p
-  takes_lead message (Down stored) reply inside is p =
-      answered_leads (message_steps message) IsDown reply (quiet message IsDown refl refl (λ path dots. refl)) p
-  takes_lead (RangeOf range) (Live stored held) reply inside is p = receives_lead stored held range reply inside is p
-  takes_lead (JoinAsk id) (Live stored held) reply inside is p = gives_lead stored held id reply inside is p
-  takes_lead (JoinGive id path dots) (Live stored held) reply inside is p =
-      answered_leads (joining_steps path dots) Ignored reply refl p
-  takes_lead message clone reply inside is p = absurd p
+  takes_lead message clone reply inside is =
+      by_state (Leads world number (message_steps message reply) next) clone _ _ _ _
+      (λ state. quiet_leads message IsAbsent reply refl refl (λ path dots. refl)) (λ asks. asker_takes_lead message reply inside (is ∙ asks))
+      (quiet_leads message IsDown reply refl refl (λ path dots. refl)) (λ stored held live. live_takes_lead message stored held reply inside (is ∙ live))
 
   -- a `deliver` has durable steps that lead to the next world
   delivers_lead : (sent : Option Message) (reply : Reply) → number < length world.clones
@@ -213,16 +222,18 @@ module _ (world next : World) (number : ℕ) where
 
   -- ---- asking
 
-  -- a clone that asks for a leaf leads there by none
+  -- a clone that keeps nothing and asks for a leaf leads there by none
+  asks_lead : (clone : Clone) (reply : Reply) → number < length world.clones → clone_at world number ≡ clone → kept_of clone ≡ None → Asks world number reply next
+      → Leads world number [] next
+  asks_lead clone reply inside is none p =
+      changed_leads [] clone Asking inside is (ap (λ (w : World). w.clones) p.1) none (ap (λ (w : World). w.history) (sym p.1))
+
+  -- and so does a clone that is told to
   joins_lead : (clone : Clone) (reply : Reply) → number < length world.clones → clone_at world number ≡ clone → Joins world number clone reply next
       → Leads world number [] next
-  joins_lead Absent reply inside is p =
-      changed_leads [] Absent Asking inside is (ap (λ (w : World). w.clones) p.1) refl (ap (λ (w : World). w.history) (sym p.1))
-  joins_lead Asking reply inside is p =
-      changed_leads [] Asking Asking inside is (ap (λ (w : World). w.clones) p.1) refl (ap (λ (w : World). w.history) (sym p.1))
-  joins_lead Empty reply inside is p = same_leads p.1
-  joins_lead (Down stored) reply inside is p = same_leads p.1
-  joins_lead (Live stored held) reply inside is p = same_leads p.1
+  joins_lead clone reply inside is =
+      by_state (Leads world number [] next) clone _ _ _ _ (λ state. asks_lead Absent reply inside (is ∙ state) refl)
+      (λ state. asks_lead Asking reply inside (is ∙ state) refl) (λ p. same_leads p.1) (λ stored held live p. same_leads p.1)
 
 -- ---- the laws
 

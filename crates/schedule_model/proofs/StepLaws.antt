@@ -12,11 +12,11 @@ use Rattle.mld_ops.specs.TaggedLaws.{tagged_total, tagged_exact}
 use Rattle.mld_ops.specs.AscendingLaws.{same_ascending}
 use Rattle.mld_ops.specs.MeaningLaws.{one_meaning}
 use Rattle.schedule_model.specs.declared.Command.TheVariants.{Add, Remove, Deliver, Show, Compare, Join}
-use Rattle.mld_model.specs.Clone.{Clone, Absent, Asking, Empty, Down, Live, Stored, known_of, with_range}
+use Rattle.mld_model.specs.Clone.{Clone, Live, Stored, known_of, with_range}
 use Rattle.mld_model.specs.World.{World, Message, RangeOf, JoinAsk, JoinGive, message_at, clone_at, with_clone}
 use Rattle.mld_model.specs.Reply.{Reply, Did, Took, Shows, NoMessage}
-use Rattle.mld_model.specs.CloneStep.{Answers, IsNextTick, after_operation, Makes, Adds, ArePairsOf, Deletes, finds_none, deletes_all, Removes, Accepts, HoldsBack, holds_already, holds_too_many, holds_from_now, TakesRange, knows_already, accepts, holds_back, Joins, TakesAsk, asked_itself, is_too_deep, forks, TakesLeaf, becomes_live, leaves_it, Takes, Lists, Compares, same_dots, fewer_dots, more_dots, dots_apart, ComparesWith, Weighs}
-use Rattle.mld_model.proofs.StateLaws.{AreSame, answers_once, once_if_live}
+use Rattle.mld_model.specs.CloneStep.{Answers, IsNextTick, after_operation, Makes, Adds, ArePairsOf, Deletes, finds_none, deletes_all, Removes, Accepts, HoldsBack, holds_already, holds_too_many, holds_from_now, TakesRange, knows_already, accepts, holds_back, Joins, TakesAsk, asked_itself, is_too_deep, forks, TakesLeaf, becomes_live, leaves_it, AskerTakes, LiveTakes, Takes, Lists, Compares, same_dots, fewer_dots, more_dots, dots_apart, ComparesWith, Weighs}
+use Rattle.mld_model.proofs.StateLaws.{by_one_state, AreSame, answers_once, once_if_live}
 use Rattle.schedule_model.specs.Step.{Step}
 use Rattle.mld_model.proofs.ReleaseLaws.{releases_once}
 use Rattle.schedule_model.specs.Laws.{OneStep}
@@ -149,11 +149,9 @@ module _ (world : World) (number : ℕ) (reply other : Reply) (next after : Worl
 
   -- a clone that asks for a leaf has one outcome
   joins_once : (clone : Clone) → Joins world number clone reply next → Joins world number clone other after → AreSame reply next other after
-  joins_once Absent p q = answers_once p q
-  joins_once Asking p q = answers_once p q
-  joins_once Empty p q = answers_once p q
-  joins_once (Down stored) p q = answers_once p q
-  joins_once (Live stored held) p q = answers_once p q
+  joins_once clone =
+      by_one_state (AreSame reply next other after) clone _ _ _ _ _ _ _ _ (λ p q. answers_once p q) (λ p q. answers_once p q) (λ p q. answers_once p q)
+      (λ stored held p q. answers_once p q)
 
   -- a clone that is asked for a leaf has one outcome: it asked itself, or its leaf is too deep, or it forks
   gives_once : (stored : Stored) (held : List Range) (id : ℕ) → TakesAsk world number stored held id reply next → TakesAsk world number stored held id other after
@@ -176,18 +174,25 @@ module _ (world : World) (number : ℕ) (reply other : Reply) (next after : Worl
   adopts_once id path dots (leaves_it differs p) (becomes_live own told is) = absurd (differs own)
   adopts_once id path dots (leaves_it differs p) (leaves_it too q) = answers_once p q
 
-  -- a message that comes to a clone has one outcome
+  -- a message that comes to a clone that asks has one outcome
+  asker_takes_once : (message : Message) → AskerTakes world number message reply next → AskerTakes world number message other after → AreSame reply next other after
+  asker_takes_once (JoinGive id path dots) p q = adopts_once id path dots p q
+  asker_takes_once message p q = answers_once p q
+
+  -- and so has one that comes to a live clone
+  live_takes_once : (message : Message) (stored : Stored) (held : List Range) → LiveTakes world number message stored held reply next
+      → LiveTakes world number message stored held other after → AreSame reply next other after
+  live_takes_once (RangeOf range) stored held p q = receives_once stored held range p q
+  live_takes_once (JoinAsk id) stored held p q = gives_once stored held id p q
+  live_takes_once (JoinGive id path dots) stored held p q = answers_once p q
+  live_takes_once message stored held p q = absurd p
+
+  -- whatever the state of the clone is
   takes_once : (message : Message) (clone : Clone) → Takes world number message clone reply next → Takes world number message clone other after
       → AreSame reply next other after
-  takes_once message Absent p q = answers_once p q
-  takes_once (JoinGive id path dots) Asking p q = adopts_once id path dots p q
-  takes_once message Asking p q = answers_once p q
-  takes_once message Empty p q = answers_once p q
-  takes_once message (Down stored) p q = answers_once p q
-  takes_once (RangeOf range) (Live stored held) p q = receives_once stored held range p q
-  takes_once (JoinAsk id) (Live stored held) p q = gives_once stored held id p q
-  takes_once (JoinGive id path dots) (Live stored held) p q = answers_once p q
-  takes_once message clone p q = absurd p
+  takes_once message clone =
+      by_one_state (AreSame reply next other after) clone _ _ _ _ _ _ _ _ (λ p q. answers_once p q) (asker_takes_once message) (λ p q. answers_once p q)
+      (live_takes_once message)
 
   -- a `deliver` has one outcome
   delivers_once : (sent : Option Message) → MatchOption sent (Answers world NoMessage reply next) (λ message. Takes world number message (clone_at world number) reply next)

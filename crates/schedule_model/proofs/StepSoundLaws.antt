@@ -8,11 +8,11 @@ use Rattle.mld_ops.specs.declared.tagged.Tagged.{Tagged}
 use Rattle.mld_ops.specs.Meaning.{IsMeaning}
 use Rattle.mld_ops.specs.MeaningLaws.{one_meaning, same_known}
 use Rattle.schedule_model.specs.declared.Command.TheVariants.{Add, Remove, Deliver, Show, Compare, Join}
-use Rattle.mld_model.specs.Clone.{Clone, Absent, Asking, Empty, Down, Live, Stored, known_of}
+use Rattle.mld_model.specs.Clone.{Clone, Absent, Asking, Live, Stored, known_of}
 use Rattle.mld_model.specs.World.{World, Message, RangeOf, JoinAsk, JoinGive, message_at, clone_count, clone_at}
 use Rattle.mld_model.specs.Reply.{Reply, NoMessage}
-use Rattle.mld_model.specs.CloneStep.{Answers, Makes, Adds, ArePairsOf, Deletes, finds_none, deletes_all, Removes, holds_already, holds_too_many, holds_from_now, TakesRange, knows_already, accepts, holds_back, Joins, TakesAsk, asked_itself, is_too_deep, forks, TakesLeaf, becomes_live, leaves_it, Takes, Lists, ComparesWith, Weighs}
-use Rattle.mld_model.proofs.StateLaws.{if_live}
+use Rattle.mld_model.specs.CloneStep.{Answers, Makes, Adds, ArePairsOf, Deletes, finds_none, deletes_all, Removes, holds_already, holds_too_many, holds_from_now, TakesRange, knows_already, accepts, holds_back, Asks, Joins, TakesAsk, asked_itself, is_too_deep, forks, TakesLeaf, becomes_live, leaves_it, AskerTakes, LiveTakes, Takes, Lists, ComparesWith, Weighs}
+use Rattle.mld_model.proofs.StateLaws.{by_state, if_live}
 use Rattle.schedule_model.specs.Step.{Step}
 use Rattle.schedule_model.specs.Runs.{Stage, Waiting, SetUp, Running, IsWorldOf, Commands, Acts, says_nothing, sets_up, commands, Runs}
 use Rattle.mld_model.specs.Sound.{Keeps, IsSound}
@@ -62,15 +62,17 @@ module _ (world next : World) (reply : Reply) (sound : IsSound world) where
   receives_sound number stored held range is sent (holds_back back (holds_from_now lacks few told same)) =
       subst IsSound (sym same) (holding_sound world number stored held sound is range (sound.messages (RangeOf range) sent))
 
-  -- a clone that asks for a leaf leads to a sound world
+  -- a clone that holds no leaf and asks for one leads to a sound world
+  asks_sound : (number : ℕ) (clone : Clone) → number < clone_count → clone_at world number ≡ clone → ((stored : Stored) → ¬ Keeps clone stored)
+      → Asks world number reply next → IsSound next
+  asks_sound number clone small is none p =
+      subst IsSound (sym p.1) (asked_sound world number sound small (λ stored. subst (λ (c : Clone). ¬ Keeps c stored) (sym is) (none stored)))
+
+  -- and so does a clone that is told to
   joins_sound : (number : ℕ) (clone : Clone) → number < clone_count → clone_at world number ≡ clone → Joins world number clone reply next → IsSound next
-  joins_sound number Absent small is p =
-      subst IsSound (sym p.1) (asked_sound world number sound small (λ stored. subst (λ (c : Clone). ¬ Keeps c stored) (sym is) (λ h. h)))
-  joins_sound number Asking small is p =
-      subst IsSound (sym p.1) (asked_sound world number sound small (λ stored. subst (λ (c : Clone). ¬ Keeps c stored) (sym is) (λ h. h)))
-  joins_sound number Empty small is p = same_sound world next sound p.1
-  joins_sound number (Down stored) small is p = same_sound world next sound p.1
-  joins_sound number (Live stored held) small is p = same_sound world next sound p.1
+  joins_sound number clone small is =
+      by_state (IsSound next) clone _ _ _ _ (λ state. asks_sound number Absent small (is ∙ state) (λ stored h. h)) (λ state. asks_sound number Asking small (is ∙ state) (λ stored h. h))
+      (λ p. same_sound world next sound p.1) (λ stored held live p. same_sound world next sound p.1)
 
   -- and so does a live clone that is asked for one
   gives_sound : (number : ℕ) (stored : Stored) (held : List Range) (id : ℕ) → clone_at world number ≡ Live stored held → Has world.messages (JoinAsk id)
@@ -88,21 +90,26 @@ module _ (world next : World) (reply : Reply) (sound : IsSound world) where
       (subst (λ (k : ℕ). slice_get world.messages place ≡ Some (JoinGive k path dots)) own sent))
   adopts_sound number place id path dots is sent (leaves_it differs p) = same_sound world next sound p.1
 
-  -- and so does a message that comes to a clone
+  -- and so does a message that comes to a clone that asks
+  asker_takes_sound : (number : ℕ) (message : Message) → clone_at world number ≡ Asking → (sent : (place : ℕ) × (slice_get world.messages place ≡ Some message))
+      → AskerTakes world number message reply next → IsSound next
+  asker_takes_sound number (JoinGive id path dots) is sent p = adopts_sound number sent.0 id path dots is sent.1 p
+  asker_takes_sound number message is sent p = same_sound world next sound p.1
+
+  -- to a live clone
+  live_takes_sound : (number : ℕ) (message : Message) (stored : Stored) (held : List Range) → clone_at world number ≡ Live stored held
+      → (sent : (place : ℕ) × (slice_get world.messages place ≡ Some message)) → LiveTakes world number message stored held reply next → IsSound next
+  live_takes_sound number (RangeOf range) stored held is sent p = receives_sound number stored held range is (stands_at world.messages sent.0 (RangeOf range) sent.1) p
+  live_takes_sound number (JoinAsk id) stored held is sent p = gives_sound number stored held id is (stands_at world.messages sent.0 (JoinAsk id) sent.1) p
+  live_takes_sound number (JoinGive id path dots) stored held is sent p = same_sound world next sound p.1
+  live_takes_sound number message stored held is sent p = absurd p
+
+  -- to any clone
   takes_sound : (number : ℕ) (message : Message) (clone : Clone) → clone_at world number ≡ clone → (sent : (place : ℕ) × (slice_get world.messages place ≡ Some message))
       → Takes world number message clone reply next → IsSound next
-  takes_sound number message Absent is sent p = same_sound world next sound p.1
-  takes_sound number (JoinGive id path dots) Asking is sent p =
-      adopts_sound number sent.0 id path dots is sent.1 p
-  takes_sound number message Asking is sent p = same_sound world next sound p.1
-  takes_sound number message Empty is sent p = same_sound world next sound p.1
-  takes_sound number message (Down stored) is sent p = same_sound world next sound p.1
-  takes_sound number (RangeOf range) (Live stored held) is sent p =
-      receives_sound number stored held range is (stands_at world.messages sent.0 (RangeOf range) sent.1) p
-  takes_sound number (JoinAsk id) (Live stored held) is sent p =
-      gives_sound number stored held id is (stands_at world.messages sent.0 (JoinAsk id) sent.1) p
-  takes_sound number (JoinGive id path dots) (Live stored held) is sent p = same_sound world next sound p.1
-  takes_sound number message clone is sent p = absurd p
+  takes_sound number message clone is sent =
+      by_state (IsSound next) clone _ _ _ _ (λ state p. same_sound world next sound p.1) (λ asks. asker_takes_sound number message (is ∙ asks) sent)
+      (λ p. same_sound world next sound p.1) (λ stored held live. live_takes_sound number message stored held (is ∙ live) sent)
 
   -- a `deliver` leads to a sound world
   delivers_sound : (number : ℕ) (sent : Option Message) → ((message : Message) → sent ≡ Some message → (place : ℕ) × (slice_get world.messages place ≡ Some message))
