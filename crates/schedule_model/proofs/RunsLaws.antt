@@ -52,12 +52,10 @@ one_act stage line text other next after (commands p) (commands q) = commands_on
 
 -- what acts isn't outside the grammar
 acts_bad : (stage : Stage) (line text : List ℕ) (next : Stage) → Acts stage line text next → ¬ IsBad stage line
-acts_bad Waiting line text next (says_nothing h none is) bad = bad.0 h
-acts_bad Waiting line text next (sets_up p) bad = bad.2 p.setup p.spells
+acts_bad stage line text next (says_nothing h none is) bad = bad.0 h
+acts_bad stage line text next (sets_up p) bad = bad.2 p.setup p.spells
 acts_bad Waiting line text next (commands p) bad = absurd p.founds
-acts_bad (SetUp setup) line text next (says_nothing h none is) bad = bad.0 h
 acts_bad (SetUp setup) line text next (commands p) bad = bad.2 p.command p.spells
-acts_bad (Running world) line text next (says_nothing h none is) bad = bad.0 h
 acts_bad (Running world) line text next (commands p) bad = bad.2 p.command p.spells
 
 -- what acts is built
@@ -68,9 +66,7 @@ acts_unbuilt stage line text next (commands p) u = (one_kind line).unbuilt_comma
 
 -- what is outside the grammar isn't among the lines that will be built
 bad_unbuilt : (stage : Stage) (line : List ℕ) → IsBad stage line → ¬ IsUnbuilt stage line
-bad_unbuilt Waiting line bad u = bad.1 u
-bad_unbuilt (SetUp setup) line bad u = bad.1 u
-bad_unbuilt (Running world) line bad u = bad.1 u
+bad_unbuilt stage line bad u = bad.1 u
 
 -- each line has at most one of these outcomes at each stage
 pub one_outcome : OneOutcome

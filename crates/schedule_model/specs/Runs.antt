@@ -61,11 +61,15 @@ Runs stage (line ∷ lines) text next =
 abbrev pub IsUnbuilt : Stage → List ℕ → Type 0
 IsUnbuilt stage line = IsTrue (is_unbuilt line)
 
+-- the line spells none of what may come at this stage: a domain line while a schedule waits, and then a command
+abbrev pub SpellsNone : Stage → List ℕ → Type 0
+SpellsNone Waiting line = (setup : Setup) → ¬ SpellsSetup line setup
+SpellsNone (SetUp setup) line = (command : Command) → ¬ SpellsCommand line command
+SpellsNone (Running world) line = (command : Command) → ¬ SpellsCommand line command
+
 -- the line is outside the grammar at this stage, and isn't one that will be built
 abbrev pub IsBad : Stage → List ℕ → Type 0
-IsBad Waiting line = ¬ IsNothing line × ¬ IsTrue (is_unbuilt line) × ((setup : Setup) → ¬ SpellsSetup line setup)
-IsBad (SetUp setup) line = ¬ IsNothing line × ¬ IsTrue (is_unbuilt line) × ((command : Command) → ¬ SpellsCommand line command)
-IsBad (Running world) line = ¬ IsNothing line × ¬ IsTrue (is_unbuilt line) × ((command : Command) → ¬ SpellsCommand line command)
+IsBad stage line = ¬ IsNothing line × ¬ IsUnbuilt stage line × SpellsNone stage line
 
 -- the lines before a line, what they write and the stage that they lead to
 pub record RunsBefore (lines : List (List ℕ)) (number : ℕ) (text : List ℕ) (stage : Stage) : Type 0 where
