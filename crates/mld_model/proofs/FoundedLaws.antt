@@ -65,7 +65,7 @@ founded_keeps count number stored keeps = elim (cases_Bool (ltb number count)) [
       absurd (subst P e keeps)
 ]
 
--- a clone that is live holds nothing back
+-- where the clone is live, it holds nothing back
 abbrev HoldsNothing : Clone → Type 0
 HoldsNothing (Live stored held) = held ≡ []
 HoldsNothing clone = Unit {0}
@@ -84,7 +84,7 @@ module _ (domain : List ℕ) (properties : List (List ℕ)) (count : ℕ) where
         absurd (subst P (get_or_past (map (founded_clone count) (range_with_len 0 clone_count)) number Absent (omega (arith, past, length-map-range_with_len (founded_clone count) 0 clone_count))) keeps)
   ]
 
-  -- and so it is with each clone of the founded world
+  -- each clone of the founded world holds nothing back
   founded_holds : (number : ℕ) → HoldsNothing (clone_at (founded domain properties count) number)
   founded_holds number = elim (cases_lt number clone_count) [
     | inl inside ↦ subst HoldsNothing (sym (get_or-map-range_with_len (founded_clone count) 0 clone_count number number Absent inside (omega arith))) (elim (cases_Bool (ltb number count)) [

@@ -17,6 +17,8 @@ use Rattle.mld_model.specs.Sound.{Keeps, IsSoundClone, IsSoundMessage, IsOpenGiv
 use Rattle.mld_model.proofs.LeafLaws.{keeps_after, leaves_apart_with, live_keeps, leaf_apart, held_after, sent_at, given_before, open_before, gives_held_with}
 use Rattle.mld_model.proofs.SoundLaws.{live_sound}
 
+-- ---- asking
+
 -- a clone that asks holds no leaf, and all others hold what they held
 keeps_asking : (clones : List Clone) (number other : ℕ) (stored : Stored) → Keeps (get_or (set clones number Asking) other Absent) stored
     → Keeps (get_or clones other Absent) stored
@@ -71,6 +73,8 @@ asked_sound world number sound small none =
         | inr new ↦ elim new [ inl is ↦ subst (IsSoundMessage world.history) is small | inr none ↦ absurd none ]
       ];
     }
+
+-- ---- forking
 
 -- a path above a son is above its parent, or is the parent
 above_son : (path parent : List ℕ) (letter : ℕ) (rest : List ℕ) → rest ≢ [] → parent ++ letter ∷ [] ≡ path ++ rest → (path ≡ parent) ⊎ IsProperPrefix path parent
@@ -140,6 +144,7 @@ open_after_fork world number stored held asker place id path dots opened =
           inr (record { last = new.0; right = same.1; known = same.2 })
     ]
 
+-- a live clone of a sound world
 module _ (world : World) (number : ℕ) (stored : Stored) (held : List Range) (sound : IsSound world) (live : clone_at world number ≡ Live stored held) where
   -- forking a leaf for one who asked keeps a world sound
   pub forked_sound : (id : ℕ) → id < clone_count → IsSound (after_fork world number stored held id)
@@ -188,6 +193,8 @@ module _ (world : World) (number : ℕ) (stored : Stored) (held : List Range) (s
           | inr new ↦ elim new [ inl is ↦ subst (IsSoundMessage world.history) is (small, giver.closed) | inr none ↦ absurd none ]
         ];
       }
+
+-- ---- taking a leaf
 
 -- a clone that lives with a leaf that was given is sound
 joined_clone_sound : (history : List Operation) (path : List ℕ) (dots : List Range) → IsClosed history dots → IsSoundGive history path dots

@@ -97,9 +97,9 @@ module _ (world : World) (ones : HasOneTickRanges world) where
         | inr last ↦ elim last [ inl same ↦ absurd (none range same) | inr past ↦ absurd past ]
       ])
 
--- and a live clone of it, by the kind of step
+-- a live clone of such a world, by the kind of step
 module _ (world : World) (number : ℕ) (stored : Stored) (held : List Range) (ones : HasOneTickRanges world) (live : clone_at world number ≡ Live stored held) where
-  -- and so the journal of a live one, and what it holds back
+  -- each range of its journal has one tick
   pub live_journal_one : AreOneTick stored.journal
   live_journal_one = ones.journals number stored (subst (λ (c : Clone). Keeps c stored) (sym live) refl)
 
