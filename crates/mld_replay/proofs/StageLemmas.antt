@@ -43,6 +43,15 @@ set_up line read setup text is reads writes =
       stands = (refl, spelled_setup line (setup_of setup) spelled);
     }
 
+-- it says nothing, and still none has come
+pub still_waits : (line : List ℕ) (read : SetupLine) (so_far : Option Setup) → read ≡ lines.Other so_far → SetupIs line None read
+    → ActsWell Waiting line [] stages.Waiting
+still_waits line read so_far is reads = let P : SetupLine → Type 0 = λ r. SetupIs line None r in waits so_far (subst P is reads)
+  where
+    waits : (so_far : Option Setup) → SetupIs line None (lines.Other so_far) → ActsWell Waiting line [] stages.Waiting
+    waits None nothing = record { next = Waiting; acts = says_nothing nothing refl refl; stands = tt }
+    waits (Some setup) nothing = absurd nothing
+
 -- ---- a line behind the domain line
 
 -- it is a command
