@@ -3,5 +3,9 @@ pub mod LinesNumbers
 pub mod LinesCommands
 pub mod RepliesShown
 pub mod WorldLemmas
+pub mod ChangeLemmas
+pub mod DeliverLemmas
+pub mod JoinLemmas
+pub mod LookLemmas
 pub mod SummaryLemmas
 pub mod FoundingLemmas

@@ -3,7 +3,7 @@ use Rattle.std.proofs.Common.{◌≡◌, ◌<◌, ◌+◌, ℕ, List, [], ◌∷
 use Rattle.std.proofs.lemmas.List.{take_more}
 use Rattle.mld_model.specs.StandsFor.{RunningClone}
 use Rattle.net_world.specs.declared.summaries.CloneSummary.{CloneSummary}
-use Rattle.net_world.specs.Summaries.{Summarizes, SummarizesAll}
+use Rattle.net_world.specs.WorldSummary.{Summarizes, SummarizesAll}
 
 -- one more clone is told of
 summarizes_one : (clones : List RunningClone) (summaries : List CloneSummary) (clone : RunningClone) (summary : CloneSummary)

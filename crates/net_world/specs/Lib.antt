@@ -1,6 +1,13 @@
-pub mod Words
+pub mod Replies
+pub mod States
 pub mod Founding
-pub mod Reading
+pub mod ReadLines
 pub mod Worlds
-pub mod Summaries
+pub mod Parts
+pub mod Changes
+pub mod Delivering
+pub mod Asking
+pub mod Comparing
+pub mod Commands
+pub mod WorldSummary
 pub mod SummaryLaws

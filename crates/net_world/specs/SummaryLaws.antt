@@ -13,7 +13,7 @@ use Rattle.mld_model.specs.StandsFor.{RunningClone, RunningWorld, LocalStandsFor
 use Rattle.schedule_model.proofs.WorldLaws.{same_ranges}
 use Rattle.net_world.specs.declared.summaries.CloneSummary.{CloneSummary}
 use Rattle.net_world.specs.declared.summaries.Summary.{Summary}
-use Rattle.net_world.specs.Summaries.{TellsOfClone, TellsOfClones, Summarizes, SummarizesAll, Tells}
+use Rattle.net_world.specs.WorldSummary.{TellsOfClone, TellsOfClones, Summarizes, SummarizesAll, Tells}
 
 -- what is told of a clone that runs is told of the clone that it stands for
 clone_told : (world : World) (number : ℕ) (running : RunningClone) (clone : Clone) (summary : CloneSummary)

@@ -9,7 +9,7 @@ ghost use Rattle.mld_model.specs.World.{clone_count};
 ghost use Rattle.schedule_model.specs.Schedule.{IsSetup};
 ghost use Rattle.clone_core.specs.Joining.{Gives};
 ghost use Rattle.net_world.specs.Founding.{first_before, GivesLeaf};
-ghost use Rattle.net_world.specs.Reading.{setup_of};
+ghost use Rattle.net_world.specs.ReadLines.{setup_of};
 
 use crate::lines::Setup;
 use crate::states::{RunningClone, copy_properties, id_of, new_asker};

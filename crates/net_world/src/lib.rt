@@ -1,10 +1,17 @@
 //! The world of a schedule: its lines, its clones and every message ever sent.
 #![tactic(auto)]
 
+mod changes;
+mod commands;
+mod compare;
+mod deliver;
 mod faults;
 mod founding;
+mod join;
 mod lines;
+mod parts;
 mod replies;
+mod show;
 mod states;
 mod summaries;
 #[cfg(test)]

@@ -9,9 +9,8 @@ ghost use Rattle.rdf_terms.specs.declared.terms.Triple.{Triple};
 ghost use Rattle.schedule_model.specs.Schedule.{Setup as ModelSetup, IsNothing, is_unbuilt, unbuilt_words, is_word, first_word, SpellsSetup, SpellsCommand};
 ghost use Rattle.mld_model.specs.World.{clone_count};
 ghost use Rattle.schedule_model.specs.declared.Command.{Command};
-ghost use Rattle.net_world.specs.Reading.{setup_of, SetupIs, CommandIs, IsBadSetup, IsUnbuiltSetup, IsBadCommand, IsTripleOf, IsCloneAndTriple, IsAddOf, IsRemoveOf, IsDeliverOf, IsShowOf, IsCompareOf, IsJoinOf};
+ghost use Rattle.net_world.specs.ReadLines.{setup_of, SetupIs, CommandIs, IsBadSetup, IsUnbuiltSetup, IsBadCommand, IsTripleText, IsCloneAndTriple, IsAddRest, IsRemoveRest, IsDeliverRest, IsShowRest, IsCompareRest, IsJoinRest};
 
-use crate::faults::WorldFault;
 use iri_rules::{Text, is_domain};
 use mld_model::CLONE_COUNT;
 use rdf_terms::{Iri, Triple, TripleFault, read_triple};
@@ -51,19 +50,6 @@ pub enum LineRefusal {
     /// No memory was found.
     #[error("no memory")]
     NoMemory,
-}
-
-impl From<WorldFault> for LineRefusal {
-    ghost use Rattle.std.specs.Prelude.{◌≡◌};
-    ghost use Rattle.net_world.specs.declared.lines.LineRefusal.TheVariants.{NoMemory};
-
-    ghost from_gives = { λ _ refusal. refusal ≡ NoMemory };
-
-    fn from(fault: WorldFault) -> LineRefusal {
-        match fault {
-            WorldFault::NoMemory => LineRefusal::NoMemory,
-        }
-    }
 }
 
 impl From<AllocError> for LineRefusal {
@@ -224,7 +210,7 @@ fn domain_line(alloc: Global, line: &[u8]) -> Result<Option<Setup>, AllocError>
     let Some(domain) = read_domain(alloc, name)? else {
         return Ok(None);
     };
-    let Some(clones) = read_count(alloc, number)? else {
+    let Some(clones) = read_count(number) else {
         return Ok(None);
     };
     Ok(Some(Setup {
@@ -248,47 +234,56 @@ fn read_domain(alloc: Global, text: &[u8]) -> Result<Option<Text>, AllocError>
 }
 
 /// How many clones there are, 1 to `CLONE_COUNT`.
-fn read_count(alloc: Global, text: &[u8]) -> Result<Option<u8>, AllocError>
-    ensures { IfOk result (λ found. MatchOption found ((number : ℕ) → 1 ≤ number → number ≤ clone_count → text.now ≢ decimal number) (λ number. (1 ≤ number) × (number ≤ clone_count) × (text.now ≡ decimal number))) }
+fn read_count(text: &[u8]) -> Option<u8>
+    ensures { MatchOption result ((number : ℕ) → 1 ≤ number → number ≤ clone_count → text.now ≢ decimal number) (λ number. (1 ≤ number) × (number ≤ clone_count) × (text.now ≡ decimal number)) }
 {
-    let Some(number) = read_number(alloc, text)? else {
-        return Ok(None);
-    };
+    let number = read_number(text)?;
     let most = u64::from(CLONE_COUNT);
     if number < 1 || number > most {
-        return Ok(None);
+        return None;
     }
-    Ok(Some(number as u8))
+    Some(number as u8)
 }
 
 /// A number below 2^64 as `decimal` writes it: no sign, no leading zero.
-fn read_number(alloc: Global, text: &[u8]) -> Result<Option<u64>, AllocError>
-    ensures { IfOk result (λ found. MatchOption found ((number : ℕ) → number < 2 ^ 64 → text.now ≢ decimal number) (λ number. (number < 2 ^ 64) × (text.now ≡ decimal number))) }
+fn read_number(text: &[u8]) -> Option<u64>
+    ensures { MatchOption result ((number : ℕ) → number < 2 ^ 64 → text.now ≢ decimal number) (λ number. (number < 2 ^ 64) × (text.now ≡ decimal number)) }
 {
-    let Ok(text) = str::from_utf8(text) else {
-        return Ok(None);
-    };
-    let Ok(number) = text.parse::<u64>() else {
-        return Ok(None);
-    };
-    let written = number.to_string(alloc)?;
-    if written.as_str() != text {
-        return Ok(None);
+    if text.is_empty() {
+        return None;
     }
-    Ok(Some(number))
+    if text[0] == b'+' {
+        return None;
+    }
+    if has_needless_zero(text) {
+        return None;
+    }
+    let Ok(text) = str::from_utf8(text) else {
+        return None;
+    };
+    match text.parse::<u64>() {
+        Ok(number) => Some(number),
+        Err(_) => None,
+    }
+}
+
+/// A zero stands first, and more behind it.
+fn has_needless_zero(text: &[u8]) -> bool
+    requires { 0 < length text.now }
+    ensures { IsTrue result ↔ ((slice_index text.now 0 ≡ 48) × (1 < length text.now)) }
+{
+    text[0] == b'0' && text.len() > 1
 }
 
 /// The number of a clone, below `CLONE_COUNT`.
-fn read_clone(alloc: Global, text: &[u8]) -> Result<Option<u8>, AllocError>
-    ensures { IfOk result (λ found. MatchOption found ((number : ℕ) → number < clone_count → text.now ≢ decimal number) (λ number. (number < clone_count) × (text.now ≡ decimal number))) }
+fn read_clone(text: &[u8]) -> Option<u8>
+    ensures { MatchOption result ((number : ℕ) → number < clone_count → text.now ≢ decimal number) (λ number. (number < clone_count) × (text.now ≡ decimal number)) }
 {
-    let Some(number) = read_number(alloc, text)? else {
-        return Ok(None);
-    };
+    let number = read_number(text)?;
     if number >= u64::from(CLONE_COUNT) {
-        return Ok(None);
+        return None;
     }
-    Ok(Some(number as u8))
+    Some(number as u8)
 }
 
 /// The command of a line, where the line spells one.
@@ -302,23 +297,23 @@ fn command_of(alloc: Global, line: &[u8]) -> Result<Option<Command>, AllocError>
         return read_remove(alloc, rest);
     }
     if let Some(rest) = behind(line, b"deliver ") {
-        return read_deliver(alloc, rest);
+        return Ok(read_deliver(rest));
     }
     if let Some(rest) = behind(line, b"show ") {
-        return read_show(alloc, rest);
+        return Ok(read_show(rest));
     }
     if let Some(rest) = behind(line, b"compare ") {
-        return read_compare(alloc, rest);
+        return Ok(read_compare(rest));
     }
     if let Some(rest) = behind(line, b"join ") {
-        return read_join(alloc, rest);
+        return Ok(read_join(rest));
     }
     Ok(None)
 }
 
 /// What follows `add` and a space: a clone's number, a space, and a triple.
 fn read_add(alloc: Global, rest: &[u8]) -> Result<Option<Command>, AllocError>
-    ensures { IfOk result (λ found. MatchOption found ((command : Command) → ¬ IsAddOf rest.now command) (λ command. IsAddOf rest.now command)) }
+    ensures { IfOk result (λ found. MatchOption found ((command : Command) → ¬ IsAddRest rest.now command) (λ command. IsAddRest rest.now command)) }
 {
     let Some((number, triple)) = read_clone_and_triple(alloc, rest)? else {
         return Ok(None);
@@ -328,7 +323,7 @@ fn read_add(alloc: Global, rest: &[u8]) -> Result<Option<Command>, AllocError>
 
 /// What follows `remove` and a space: a clone's number, a space, and a triple.
 fn read_remove(alloc: Global, rest: &[u8]) -> Result<Option<Command>, AllocError>
-    ensures { IfOk result (λ found. MatchOption found ((command : Command) → ¬ IsRemoveOf rest.now command) (λ command. IsRemoveOf rest.now command)) }
+    ensures { IfOk result (λ found. MatchOption found ((command : Command) → ¬ IsRemoveRest rest.now command) (λ command. IsRemoveRest rest.now command)) }
 {
     let Some((number, triple)) = read_clone_and_triple(alloc, rest)? else {
         return Ok(None);
@@ -343,7 +338,7 @@ fn read_clone_and_triple(alloc: Global, rest: &[u8]) -> Result<Option<(u8, Tripl
     let Some((number, text)) = split_at_space(rest) else {
         return Ok(None);
     };
-    let Some(number) = read_clone(alloc, number)? else {
+    let Some(number) = read_clone(number) else {
         return Ok(None);
     };
     let Some(triple) = read_triple_bytes(alloc, text)? else {
@@ -354,7 +349,7 @@ fn read_clone_and_triple(alloc: Global, rest: &[u8]) -> Result<Option<(u8, Tripl
 
 /// The triple of a text, where the text is UTF-8 and spells one within the limits.
 fn read_triple_bytes(alloc: Global, text: &[u8]) -> Result<Option<Triple>, AllocError>
-    ensures { IfOk result (λ found. MatchOption found ((triple : Triple) → ¬ IsTripleOf text.now triple) (λ triple. IsTripleOf text.now triple)) }
+    ensures { IfOk result (λ found. MatchOption found ((triple : Triple) → ¬ IsTripleText text.now triple) (λ triple. IsTripleText text.now triple)) }
 {
     let Ok(text) = str::from_utf8(text) else {
         return Ok(None);
@@ -368,47 +363,35 @@ fn read_triple_bytes(alloc: Global, text: &[u8]) -> Result<Option<Triple>, Alloc
 }
 
 /// What follows `deliver` and a space: a message's number, a space, and a clone's number.
-fn read_deliver(alloc: Global, rest: &[u8]) -> Result<Option<Command>, AllocError>
-    ensures { IfOk result (λ found. MatchOption found ((command : Command) → ¬ IsDeliverOf rest.now command) (λ command. IsDeliverOf rest.now command)) }
+fn read_deliver(rest: &[u8]) -> Option<Command>
+    ensures { MatchOption result ((command : Command) → ¬ IsDeliverRest rest.now command) (λ command. IsDeliverRest rest.now command) }
 {
-    let Some((message, number)) = split_at_space(rest) else {
-        return Ok(None);
-    };
-    let Some(message) = read_number(alloc, message)? else {
-        return Ok(None);
-    };
-    let Some(number) = read_clone(alloc, number)? else {
-        return Ok(None);
-    };
-    Ok(Some(Command::Deliver(message, number)))
+    let (message, number) = split_at_space(rest)?;
+    let message = read_number(message)?;
+    let number = read_clone(number)?;
+    Some(Command::Deliver(message, number))
 }
 
 /// What follows `show` and a space: a clone's number.
-fn read_show(alloc: Global, rest: &[u8]) -> Result<Option<Command>, AllocError>
-    ensures { IfOk result (λ found. MatchOption found ((command : Command) → ¬ IsShowOf rest.now command) (λ command. IsShowOf rest.now command)) }
+fn read_show(rest: &[u8]) -> Option<Command>
+    ensures { MatchOption result ((command : Command) → ¬ IsShowRest rest.now command) (λ command. IsShowRest rest.now command) }
 {
-    Ok(read_clone(alloc, rest)?.map(Command::Show))
+    Some(Command::Show(read_clone(rest)?))
 }
 
 /// What follows `join` and a space: a clone's number.
-fn read_join(alloc: Global, rest: &[u8]) -> Result<Option<Command>, AllocError>
-    ensures { IfOk result (λ found. MatchOption found ((command : Command) → ¬ IsJoinOf rest.now command) (λ command. IsJoinOf rest.now command)) }
+fn read_join(rest: &[u8]) -> Option<Command>
+    ensures { MatchOption result ((command : Command) → ¬ IsJoinRest rest.now command) (λ command. IsJoinRest rest.now command) }
 {
-    Ok(read_clone(alloc, rest)?.map(Command::Join))
+    Some(Command::Join(read_clone(rest)?))
 }
 
 /// What follows `compare` and a space: two clones' numbers with a space between.
-fn read_compare(alloc: Global, rest: &[u8]) -> Result<Option<Command>, AllocError>
-    ensures { IfOk result (λ found. MatchOption found ((command : Command) → ¬ IsCompareOf rest.now command) (λ command. IsCompareOf rest.now command)) }
+fn read_compare(rest: &[u8]) -> Option<Command>
+    ensures { MatchOption result ((command : Command) → ¬ IsCompareRest rest.now command) (λ command. IsCompareRest rest.now command) }
 {
-    let Some((number, other)) = split_at_space(rest) else {
-        return Ok(None);
-    };
-    let Some(number) = read_clone(alloc, number)? else {
-        return Ok(None);
-    };
-    let Some(other) = read_clone(alloc, other)? else {
-        return Ok(None);
-    };
-    Ok(Some(Command::Compare(number, other)))
+    let (number, other) = split_at_space(rest)?;
+    let number = read_clone(number)?;
+    let other = read_clone(other)?;
+    Some(Command::Compare(number, other))
 }

@@ -1,40 +1,39 @@
-//! The text of replies: lines that end with LF, added at the end of an output.
-ghost use Rattle.std.specs.Prelude.{◌≡◌, ◌<◌, ◌^◌, ◌+◌, ◌++◌, ◌∷◌, [], OnOk};
+//! Replies, and their text: lines that end with LF, added at the end of an output.
+ghost use Rattle.std.specs.Prelude.{◌≡◌, ◌++◌, OnOk};
 ghost use Rattle.std.specs.List.{range_with_len};
-ghost use Rattle.schedule_model.specs.ReplyText.{reply_text, pair_line, spaced_range, spaced_message};
 ghost use Rattle.mld_model.specs.Reply.{Ready, Did, Took, Sent, Answer, Joined, Shows};
-ghost use Rattle.net_world.specs.Words.{reply_of};
+ghost use Rattle.schedule_model.specs.ReplyText.{reply_text, pair_line, spaced_range, spaced_message};
+ghost use Rattle.net_world.specs.Replies.{reply_value, TellsReply, numbers_between};
 
 use mld_ops::Tagged;
 use rdf_terms::write_triple;
 use std::alloc::{AllocError, Global};
-use tree_clock::{Dot, Path, Range};
+use tree_clock::{Dot, Path, Range, Ranges};
 
-/// The replies that are the same words each time.
-#[derive(Clone, Copy, Debug, PartialEq, Eq)]
-pub enum Word {
-    /// `none`: there was nothing to do.
+/// What a step answers.
+#[derive(Drop)]
+pub enum Reply<'a> {
+    /// `ready N`: so many clones are ready.
+    Ready(u8),
+    /// `did DOT mM`: the operation of the dot was made, and sent in the message of the number.
+    Did {
+        /// The dot.
+        dot: Dot,
+        /// The number of the message.
+        message: usize,
+    },
+    /// `none`: there was nothing to do, and no operation was made.
     NoOperation,
+    /// `took`, then each range: the ranges were taken, in this order.
+    Took(Ranges),
     /// `held`: the range is held back.
     Held,
-    /// `held full`: too many other ranges are held back.
+    /// `held full`: the range would be held back, and too many are.
     HeldFull,
     /// `known`: the range was known.
     Known,
-    /// `no message`: no message has the number.
-    NoMessage,
-    /// `ignored`: the clone takes no message of this kind.
-    Ignored,
-    /// `deep`: the leaf is too deep to be forked.
-    Deep,
-    /// `absent`: the clone is absent.
-    Absent,
-    /// `asking`: the clone asks for a leaf.
-    Asking,
-    /// `down`: the clone is stopped.
-    Down,
-    /// `live`: the clone is live.
-    Live,
+    /// `has K`, then a line of dot and triple for each pair: these are the pairs of the clone.
+    Shows(&'a [Tagged]),
     /// `same`: two clones know the same dots.
     Same,
     /// `less`: the first clone's dots are a proper part of the second's.
@@ -43,28 +42,74 @@ pub enum Word {
     More,
     /// `apart`: each clone knows a dot that the other lacks.
     Apart,
+    /// `sent mM`: who asks for a leaf has asked in the message of the number.
+    Sent(usize),
+    /// `answer`, then each number: what was asked for was sent in the messages of these numbers.
+    Answer {
+        /// The number of the first message.
+        first: usize,
+        /// The number after that of the last one.
+        end: usize,
+    },
+    /// `joined P`: the clone is live at the path.
+    Joined(Path),
+    /// `deep`: the leaf is too deep to be forked.
+    Deep,
+    /// `no message`: no message has the number.
+    NoMessage,
+    /// `ignored`: the clone takes no message of this kind.
+    Ignored,
+    /// `absent`: the clone is absent.
+    Absent,
+    /// `asking`: the clone asks for a leaf.
+    Asking,
+    /// `down`: the clone is stopped.
+    Down,
+    /// `live`: the clone is live.
+    Live,
 }
 
-/// A reply of words alone.
-pub fn push_word(out: &mut Vec<u8>, word: Word) -> Result<(), AllocError>
-    ensures { OnOk result (out.new.items ≡ out.old.items ++ reply_text (reply_of word)) }
+/// Adds the text of a reply that was found to an output.
+pub fn tell(
+    alloc: Global,
+    out: &mut Vec<u8>,
+    reply: Result<Reply<'_>, AllocError>,
+) -> Result<(), AllocError>
+    ensures { OnOk result (TellsReply reply.entry out.old.items out.new.items) }
 {
-    match word {
-        Word::NoOperation => out.extend_from_slice(b"none\n"),
-        Word::Held => out.extend_from_slice(b"held\n"),
-        Word::HeldFull => out.extend_from_slice(b"held full\n"),
-        Word::Known => out.extend_from_slice(b"known\n"),
-        Word::NoMessage => out.extend_from_slice(b"no message\n"),
-        Word::Ignored => out.extend_from_slice(b"ignored\n"),
-        Word::Deep => out.extend_from_slice(b"deep\n"),
-        Word::Absent => out.extend_from_slice(b"absent\n"),
-        Word::Asking => out.extend_from_slice(b"asking\n"),
-        Word::Down => out.extend_from_slice(b"down\n"),
-        Word::Live => out.extend_from_slice(b"live\n"),
-        Word::Same => out.extend_from_slice(b"same\n"),
-        Word::Less => out.extend_from_slice(b"less\n"),
-        Word::More => out.extend_from_slice(b"more\n"),
-        Word::Apart => out.extend_from_slice(b"apart\n"),
+    match reply {
+        Ok(reply) => push_reply(alloc, out, &reply),
+        Err(error) => Err(error),
+    }
+}
+
+/// Adds the text of a reply to an output.
+pub fn push_reply(alloc: Global, out: &mut Vec<u8>, reply: &Reply<'_>) -> Result<(), AllocError>
+    ensures { OnOk result (out.new.items ≡ out.old.items ++ reply_text (reply_value reply.now)) }
+{
+    match reply {
+        Reply::Ready(count) => push_ready(alloc, out, *count),
+        Reply::Did { dot, message } => push_did(alloc, out, dot, *message),
+        Reply::NoOperation => out.extend_from_slice(b"none\n"),
+        Reply::Took(ranges) => push_took(alloc, out, ranges.as_slice()),
+        Reply::Held => out.extend_from_slice(b"held\n"),
+        Reply::HeldFull => out.extend_from_slice(b"held full\n"),
+        Reply::Known => out.extend_from_slice(b"known\n"),
+        Reply::Shows(pairs) => push_pairs(alloc, out, pairs),
+        Reply::Same => out.extend_from_slice(b"same\n"),
+        Reply::Less => out.extend_from_slice(b"less\n"),
+        Reply::More => out.extend_from_slice(b"more\n"),
+        Reply::Apart => out.extend_from_slice(b"apart\n"),
+        Reply::Sent(message) => push_sent(alloc, out, *message),
+        Reply::Answer { first, end } => push_answered(alloc, out, *first, *end),
+        Reply::Joined(path) => push_joined(alloc, out, path),
+        Reply::Deep => out.extend_from_slice(b"deep\n"),
+        Reply::NoMessage => out.extend_from_slice(b"no message\n"),
+        Reply::Ignored => out.extend_from_slice(b"ignored\n"),
+        Reply::Absent => out.extend_from_slice(b"absent\n"),
+        Reply::Asking => out.extend_from_slice(b"asking\n"),
+        Reply::Down => out.extend_from_slice(b"down\n"),
+        Reply::Live => out.extend_from_slice(b"live\n"),
     }
 }
 
@@ -77,12 +122,7 @@ pub fn push_ready(alloc: Global, out: &mut Vec<u8>, count: u8) -> Result<(), All
 }
 
 /// `did DOT mM`.
-pub fn push_did(
-    alloc: Global,
-    out: &mut Vec<u8>,
-    dot: &Dot,
-    message: usize,
-) -> Result<(), AllocError>
+fn push_did(alloc: Global, out: &mut Vec<u8>, dot: &Dot, message: usize) -> Result<(), AllocError>
     ensures { OnOk result (out.new.items ≡ out.old.items ++ reply_text (Did dot.now message)) }
 {
     let line = format!(in alloc; "did {dot} m{message}\n")?;
@@ -90,7 +130,7 @@ pub fn push_did(
 }
 
 /// `sent mM`.
-pub fn push_sent(alloc: Global, out: &mut Vec<u8>, message: usize) -> Result<(), AllocError>
+fn push_sent(alloc: Global, out: &mut Vec<u8>, message: usize) -> Result<(), AllocError>
     ensures { OnOk result (out.new.items ≡ out.old.items ++ reply_text (Sent message)) }
 {
     let line = format!(in alloc; "sent m{message}\n")?;
@@ -98,26 +138,25 @@ pub fn push_sent(alloc: Global, out: &mut Vec<u8>, message: usize) -> Result<(),
 }
 
 /// `joined P`.
-pub fn push_joined(alloc: Global, out: &mut Vec<u8>, path: &Path) -> Result<(), AllocError>
+fn push_joined(alloc: Global, out: &mut Vec<u8>, path: &Path) -> Result<(), AllocError>
     ensures { OnOk result (out.new.items ≡ out.old.items ++ reply_text (Joined path.now)) }
 {
     let line = format!(in alloc; "joined {path}\n")?;
     out.extend_from_slice(line.as_bytes())
 }
 
-/// `answer`, then each number, from the first on.
-pub fn push_answered(
+/// `answer`, then each number, from the first on and before the end.
+fn push_answered(
     alloc: Global,
     out: &mut Vec<u8>,
     first: usize,
-    count: usize,
+    end: usize,
 ) -> Result<(), AllocError>
-    requires { first + count < 2 ^ 64 }
-    ensures { OnOk result (out.new.items ≡ out.old.items ++ reply_text (Answer (range_with_len first count))) }
+    ensures { OnOk result (out.new.items ≡ out.old.items ++ reply_text (Answer (numbers_between first end))) }
 {
     out.extend_from_slice(b"answer")?;
-    for index in 0..count {
-        push_message(alloc, out, first + index)?;
+    for number in first..end {
+        push_message(alloc, out, number)?;
     }
     out.push(b'\n')?;
     Ok(())
@@ -132,7 +171,7 @@ fn push_message(alloc: Global, out: &mut Vec<u8>, number: usize) -> Result<(), A
 }
 
 /// `took`, then each range.
-pub fn push_took(alloc: Global, out: &mut Vec<u8>, ranges: &[Range]) -> Result<(), AllocError>
+fn push_took(alloc: Global, out: &mut Vec<u8>, ranges: &[Range]) -> Result<(), AllocError>
     ensures { OnOk result (out.new.items ≡ out.old.items ++ reply_text (Took ranges.now)) }
 {
     out.extend_from_slice(b"took")?;
@@ -152,7 +191,7 @@ fn push_range(alloc: Global, out: &mut Vec<u8>, range: &Range) -> Result<(), All
 }
 
 /// `has K`, then a line of dot and triple for each pair.
-pub fn push_pairs(alloc: Global, out: &mut Vec<u8>, pairs: &[Tagged]) -> Result<(), AllocError>
+fn push_pairs(alloc: Global, out: &mut Vec<u8>, pairs: &[Tagged]) -> Result<(), AllocError>
     ensures { OnOk result (out.new.items ≡ out.old.items ++ reply_text (Shows pairs.now)) }
 {
     let head = format!(in alloc; "has {}\n", pairs.len())?;

@@ -1,9 +1,13 @@
 //! The states of a world's clones.
-ghost use Rattle.std.specs.Prelude.{◌≡◌, IsTrue, IfOk};
+ghost use Rattle.std.specs.Prelude.{◌≡◌, ◌<◌, length, IsTrue, IfOk, MatchResult};
 ghost use Rattle.iri_rules.specs.Domain.{is_domain};
 ghost use Rattle.mld_model.specs.StandsFor.{id_of};
+ghost use Rattle.mld_model.specs.declared.CloneState.TheVariants as kinds;
 ghost use Rattle.net_world.specs.Founding.{IsNewAsker};
+ghost use Rattle.net_world.specs.Replies.{reply_value};
+ghost use Rattle.net_world.specs.States.{HasState, IsMissingAt, reply_of_state};
 
+use crate::replies::Reply;
 use clone_core::{Asker, MldClone};
 use iri_rules::Text;
 use mld_model::{CloneState, NoDevice};
@@ -13,6 +17,29 @@ use uuid::Uuid;
 
 /// A clone of a world that runs, in its state.
 pub type RunningClone = CloneState<NoDevice, Asker, NoDevice, MldClone>;
+
+/// The reply that says the state of a clone.
+pub fn state_reply(state: &RunningClone) -> Reply<'static>
+    ensures { reply_value result ≡ reply_of_state state.now }
+{
+    match state {
+        CloneState::Absent(_) => Reply::Absent,
+        CloneState::Asking(_) => Reply::Asking,
+        CloneState::Down(_) => Reply::Down,
+        CloneState::Live(_) => Reply::Live,
+    }
+}
+
+/// Clone `number`, where it is live, or the reply that says its state.
+pub fn live_at<'a>(clones: &'a [RunningClone], number: u8) -> Result<&'a MldClone, Reply<'a>>
+    requires { number < length clones.now }
+    ensures { MatchResult result (λ clone. HasState clones.now number (kinds.Live clone.now)) (λ reply. IsMissingAt clones.now number (reply_value reply)) }
+{
+    match &clones[usize::from(number)] {
+        CloneState::Live(clone) => Ok(clone),
+        missing => Err(state_reply(missing)),
+    }
+}
 
 /// The id of a clone: the UUID whose number is the clone's.
 pub fn id_of(number: u8) -> Uuid

@@ -1,7 +1,7 @@
 //! What a run tells of the world that it ends with.
 ghost use Rattle.std.specs.Prelude.{◌≡◌, IfOk};
 ghost use Rattle.mld_ops.specs.Held.{ranges_of};
-ghost use Rattle.net_world.specs.Summaries.{IsBlank, IsSummaryOf, Summarizes, SummarizesAll};
+ghost use Rattle.net_world.specs.WorldSummary.{IsBlank, IsSummaryOf, Summarizes, SummarizesAll};
 ghost use Rattle.net_world.specs.declared.summaries.State.{State};
 
 use crate::states::RunningClone;

@@ -1,5 +1,5 @@
-//! Lines, a founded world and its steps, worked by hand.
-ghost use Rattle.std.specs.Prelude.{◌≡◌, ◌+◌, ◌<◌, IfOk};
+//! Lines, a founded world and its steps, worked by hand. Worlds stand in boxes, which are let go in one step, and work on loans.
+ghost use Rattle.std.specs.Prelude.{◌≡◌, ◌+◌, ◌<◌, IfOk, OnOk};
 ghost use Rattle.schedule_model.specs.Step.{HasCloneNumbers};
 ghost use Rattle.net_world.specs.Worlds.{IsStanding};
 
@@ -31,8 +31,7 @@ fn a_domain_line_is_read(rt: HostRuntime) -> Result<(), Fail> {
 }
 
 #[test]
-#[tactic(auto, unfolding(iri_rules::specs::Domain::is_domain))]
-fn lines_are_refused(rt: HostRuntime) {
+fn lines_before_the_domain_line_are_refused(rt: HostRuntime) {
     assert_eq!(rt;
         read_setup(rt.alloc(), b"show 0", None).err(),
         Some(LineRefusal::BadLine)
@@ -41,10 +40,22 @@ fn lines_are_refused(rt: HostRuntime) {
         read_setup(rt.alloc(), b"ask", None).err(),
         Some(LineRefusal::Unbuilt)
     );
-    assert_eq!(rt;
-        read_command(rt.alloc(), b"show 32", "d").err(),
-        Some(LineRefusal::BadLine)
-    );
+}
+
+#[test]
+#[tactic(auto, unfolding(iri_rules::specs::Domain::is_domain))]
+fn lines_of_no_command_are_refused(rt: HostRuntime) {
+    let bad = [
+        "show 32",
+        "show 07",
+        "show +7",
+        "show ",
+        "deliver 18446744073709551616 0",
+    ];
+    for line in bad {
+        let refusal = read_command(rt.alloc(), line.as_bytes(), "d").err();
+        assert_eq!(rt; refusal, Some(LineRefusal::BadLine));
+    }
     assert_eq!(rt;
         read_command(rt.alloc(), b"stop 0", "d").err(),
         Some(LineRefusal::Unbuilt)
@@ -54,8 +65,8 @@ fn lines_are_refused(rt: HostRuntime) {
 #[test]
 #[tactic(auto, unfolding(iri_rules::specs::Domain::is_domain))]
 fn a_command_is_read(rt: HostRuntime) -> Result<(), Fail> {
-    let command = read_command(rt.alloc(), b"deliver 7 31", "d")?;
-    assert!(rt; matches!(command, Some(Command::Deliver(7, 31))));
+    let command = read_command(rt.alloc(), b"deliver 18446744073709551615 31", "d")?;
+    assert!(rt; matches!(command, Some(Command::Deliver(18446744073709551615, 31))));
     assert!(rt; read_command(rt.alloc(), b"", "d")?.is_none());
     Ok(())
 }
@@ -64,157 +75,133 @@ fn a_command_is_read(rt: HostRuntime) -> Result<(), Fail> {
 fn a_founded_world_tells_of_its_clones(rt: HostRuntime) -> Result<(), Fail> {
     let world = two_clones(&rt, rt.alloc())?;
     assert_eq!(rt; world.domain(), "d.x");
-    let summary = world.summary(rt.alloc())?;
-    let paths = [
-        summary.clones.first().and_then(|clone| clone.path),
-        summary.clones.get(1).and_then(|clone| clone.path),
-        summary.clones.get(2).and_then(|clone| clone.path),
-    ];
+    let (paths, last) = told(&world, rt.alloc())?;
     let wanted = [
         Some(Path::root().child(false)),
         Some(Path::root().child(true)),
         None,
     ];
     assert_eq!(rt; paths, wanted);
-    assert!(rt;
-        summary
-            .clones
-            .get(31)
-            .is_some_and(|clone| clone.state == State::Absent)
-    );
+    assert_eq!(rt; last, Some(State::Absent));
+    Ok(())
+}
+
+/// The paths of the first three clones of a world, and the state of the last.
+fn told(world: &World, alloc: Global) -> Result<([Option<Path>; 3], Option<State>), Fail> {
+    let summary = world.summary(alloc)?;
+    let clones = &summary.clones;
+    let paths = [
+        clones.first().and_then(|clone| clone.path),
+        clones.get(1).and_then(|clone| clone.path),
+        clones.get(2).and_then(|clone| clone.path),
+    ];
+    Ok((paths, clones.get(31).map(|clone| clone.state)))
+}
+
+#[test]
+fn so_many_clones_are_ready(rt: HostRuntime) -> Result<(), Fail> {
     let mut text = Vec::new(rt.alloc());
     push_ready(rt.alloc(), &mut text, 2)?;
     assert!(rt; text.as_slice() == b"ready 2\n".as_slice());
     Ok(())
 }
 
-// A world of two clones.
+/// A world of two clones.
 #[tactic(auto, unfolding(iri_rules::specs::Domain::is_domain))]
-fn two_clones<R: Threads>(rt: &R, alloc: Global) -> Result<World, Fail>
-    ensures standing { IfOk result IsStanding }
-    ensures steps { IfOk result (λ world. world.steps ≡ 0) }
+fn two_clones<R: Threads>(rt: &R, alloc: Global) -> Result<Box<World>, Fail>
+    ensures standing { IfOk result (λ world. IsStanding world.value) }
+    ensures steps { IfOk result (λ world. world.value.steps ≡ 0) }
 {
     let setup = Setup {
         domain: Text::new(alloc, "d.x")?,
         clones: 2,
         props: Vec::new(alloc),
     };
-    Ok(World::found(rt, alloc, &setup)?)
+    let world = World::found(rt, alloc, &setup)?;
+    Ok(Box::new(alloc, world)?)
 }
 
-// Whether a command is answered by this text.
+/// Does a command, which is answered by this text.
 fn answers<R: Threads>(
     world: &mut World,
     rt: &R,
     alloc: Global,
     command: &Command,
-    wanted: &[u8],
-) -> Result<bool, Fail>
+    wanted: &str,
+) -> Result<(), Fail>
     requires few { world.old.steps < 100 }
     requires standing { IsStanding world.old }
     requires numbers { HasCloneNumbers command.now }
-    ensures standing { IfOk result (λ _. IsStanding world.new) }
-    ensures steps { IfOk result (λ _. world.new.steps ≡ world.old.steps + 1) }
+    ensures standing { OnOk result (IsStanding world.new) }
+    ensures steps { OnOk result (world.new.steps ≡ world.old.steps + 1) }
 {
     let mut text = Vec::new(alloc);
     world.step(rt, alloc, command, &mut text)?;
-    Ok(text.as_slice() == wanted)
+    if text.as_slice() != wanted.as_bytes() {
+        return Err(Fail::from("another answer"));
+    }
+    Ok(())
 }
 
-// The triple of a, p and b.
-fn triple(alloc: Global) -> Result<Triple, Fail> {
-    Ok(Triple {
+#[test]
+fn what_is_added_is_shown_and_taken(rt: HostRuntime) -> Result<(), Fail> {
+    let mut world = two_clones(&rt, rt.alloc())?;
+    adds(&mut world, &rt, rt.alloc())?;
+    takes(&mut world, &rt, rt.alloc())
+}
+
+/// Clone 0 adds a triple, and shows it.
+fn adds<R: Threads>(world: &mut World, rt: &R, alloc: Global) -> Result<(), Fail>
+    requires few { world.old.steps < 90 }
+    requires standing { IsStanding world.old }
+    ensures standing { OnOk result (IsStanding world.new) }
+    ensures steps { OnOk result (world.new.steps ≡ world.old.steps + 2) }
+{
+    let triple = Triple {
         s: Iri::new(alloc, "http://d/a")?,
         p: Iri::new(alloc, "http://d/#p")?,
         o: Term::Iri(Iri::new(alloc, "http://d/b")?),
-    })
-}
-
-// Clone 0 adds the triple.
-fn adds<R: Threads>(world: &mut World, rt: &R, alloc: Global, wanted: &[u8]) -> Result<bool, Fail>
-    requires few { world.old.steps < 100 }
-    requires standing { IsStanding world.old }
-    ensures standing { IfOk result (λ _. IsStanding world.new) }
-    ensures steps { IfOk result (λ _. world.new.steps ≡ world.old.steps + 1) }
-{
-    let add = Command::Add(0, triple(alloc)?);
-    answers(world, rt, alloc, &add, wanted)
-}
-
-#[test]
-fn what_is_added_is_sent_and_taken(rt: HostRuntime) -> Result<(), Fail> {
-    let mut world = two_clones(&rt, rt.alloc())?;
-    assert!(rt; adds(&mut world, &rt, rt.alloc(), b"did r0.1 m1\n")?);
-    assert!(rt;
-        answers(
-            &mut world,
-            &rt,
-            rt.alloc(),
-            &Command::Deliver(1, 1),
-            b"took r0.1-1\n"
-        )?
-    );
-    assert!(rt;
-        answers(
-            &mut world,
-            &rt,
-            rt.alloc(),
-            &Command::Deliver(1, 1),
-            b"known\n"
-        )?
-    );
-    assert!(rt;
-        answers(
-            &mut world,
-            &rt,
-            rt.alloc(),
-            &Command::Compare(0, 1),
-            b"same\n"
-        )?
-    );
-    Ok(())
-}
-
-#[test]
-fn what_is_added_is_shown(rt: HostRuntime) -> Result<(), Fail> {
-    let mut world = two_clones(&rt, rt.alloc())?;
-    assert!(rt; adds(&mut world, &rt, rt.alloc(), b"did r0.1 m1\n")?);
+    };
+    let add = Command::Add(0, triple);
+    answers(world, rt, alloc, &add, "did r0.1 m1\n")?;
     let shown = "has 1\nr0.1 <http://d/a> <http://d/#p> <http://d/b> .\n";
-    assert!(rt;
-        answers(
-            &mut world,
-            &rt,
-            rt.alloc(),
-            &Command::Show(0),
-            shown.as_bytes()
-        )?
-    );
-    Ok(())
+    answers(world, rt, alloc, &Command::Show(0), shown)
+}
+
+/// Clone 1 takes message 1 once, and then knows what clone 0 does.
+fn takes<R: Threads>(world: &mut World, rt: &R, alloc: Global) -> Result<(), Fail>
+    requires few { world.old.steps < 90 }
+    requires standing { IsStanding world.old }
+{
+    answers(world, rt, alloc, &Command::Deliver(1, 1), "took r0.1-1\n")?;
+    answers(world, rt, alloc, &Command::Deliver(1, 1), "known\n")?;
+    answers(world, rt, alloc, &Command::Compare(0, 1), "same\n")
 }
 
 #[test]
-fn a_step_joins(rt: HostRuntime) -> Result<(), Fail> {
+fn one_who_asks_joins(rt: HostRuntime) -> Result<(), Fail> {
     let mut world = two_clones(&rt, rt.alloc())?;
-    assert!(rt; answers(&mut world, &rt, rt.alloc(), &Command::Show(7), b"absent\n")?);
-    assert!(rt; answers(&mut world, &rt, rt.alloc(), &Command::Join(7), b"sent m1\n")?);
-    assert!(rt; answers(&mut world, &rt, rt.alloc(), &Command::Show(7), b"asking\n")?);
-    assert!(rt;
-        answers(
-            &mut world,
-            &rt,
-            rt.alloc(),
-            &Command::Deliver(1, 1),
-            b"answer m2\n"
-        )?
-    );
-    assert!(rt;
-        answers(
-            &mut world,
-            &rt,
-            rt.alloc(),
-            &Command::Deliver(2, 7),
-            b"joined r11\n"
-        )?
-    );
-    Ok(())
+    asks(&mut world, &rt, rt.alloc())?;
+    joins(&mut world, &rt, rt.alloc())
+}
+
+/// Clone 7, which is absent, asks for a leaf.
+fn asks<R: Threads>(world: &mut World, rt: &R, alloc: Global) -> Result<(), Fail>
+    requires few { world.old.steps < 90 }
+    requires standing { IsStanding world.old }
+    ensures standing { OnOk result (IsStanding world.new) }
+    ensures steps { OnOk result (world.new.steps ≡ world.old.steps + 3) }
+{
+    answers(world, rt, alloc, &Command::Show(7), "absent\n")?;
+    answers(world, rt, alloc, &Command::Join(7), "sent m1\n")?;
+    answers(world, rt, alloc, &Command::Show(7), "asking\n")
+}
+
+/// Clone 1 gives it the half of its own.
+fn joins<R: Threads>(world: &mut World, rt: &R, alloc: Global) -> Result<(), Fail>
+    requires few { world.old.steps < 90 }
+    requires standing { IsStanding world.old }
+{
+    answers(world, rt, alloc, &Command::Deliver(1, 1), "answer m2\n")?;
+    answers(world, rt, alloc, &Command::Deliver(2, 7), "joined r11\n")
 }

@@ -1,4 +1,4 @@
-use Rattle.net_world.specs.Reading.{setup_of}
+use Rattle.net_world.specs.ReadLines.{setup_of}
 use Rattle.net_world.proofs.FoundingLemmas.{first_made}
 use Rattle.net_world.proofs.founding.first_clone.Goals as goal
 use Rattle.std.proofs.Common.{◌∙◌}

@@ -1,5 +1,5 @@
 use Rattle.std.proofs.Common.{arith, rules}
-use Rattle.net_world.specs.Reading.{setup_of}
+use Rattle.net_world.specs.ReadLines.{setup_of}
 use Rattle.net_world.proofs.FoundingLemmas.{others_more, all_founded}
 use Rattle.net_world.proofs.founding.founded_clones.Goals as goal
 

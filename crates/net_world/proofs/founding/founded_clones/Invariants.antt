@@ -2,7 +2,7 @@ use Rattle.std.proofs.Common.{◌≡◌, ◌-◌, map}
 use Rattle.std.specs.List.{range_with_len}
 use Rattle.mld_model.specs.StandsFor.{founded_local}
 use Rattle.net_world.specs.Founding.{first_before}
-use Rattle.net_world.specs.Reading.{setup_of}
+use Rattle.net_world.specs.ReadLines.{setup_of}
 use Rattle.net_world.proofs.founding.founded_clones.Given as goal
 
 abbrev pub invariant-loop-number : goal.invariant-loop-number

@@ -1,6 +1,6 @@
 use Rattle.std.proofs.Common.{ℕ, List, subst, arith}
 use Rattle.net_world.specs.Founding.{IsNewAsker}
-use Rattle.net_world.specs.Reading.{setup_of}
+use Rattle.net_world.specs.ReadLines.{setup_of}
 use Rattle.net_world.proofs.FoundingLemmas.{leaf_for, gives_leaf, first_after, other_founded}
 use Rattle.net_world.proofs.founding.other_clone.Goals as goal
 

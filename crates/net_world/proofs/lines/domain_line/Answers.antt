@@ -16,8 +16,8 @@ returns-in_default-2 c =
     (record { rest = c.in-Some.rest.now; first = c.in-Some.ensures; cut = c.in-Some-split_at_space.ensures.0; spaceless = c.in-Some-split_at_space.ensures.1 })
     (rw c.in_default-2.is at c.in_ok-domain.ensures)
 
-pub returns-in_default-3 : goal.returns-in_default-3
-returns-in_default-3 c =
+pub returns-in_default-read_count : goal.returns-in_default-read_count
+returns-in_default-read_count c =
     setup_number c.args.line.now c.in-Some-split_at_space.name.now c.in-Some-split_at_space.rest.now c.in-Some-behind.number.now
     (record { rest = c.in-Some.rest.now; first = c.in-Some.ensures; cut = c.in-Some-split_at_space.ensures.0; spaceless = c.in-Some-split_at_space.ensures.1 })
-    c.in-Some-behind.ensures (rw c.in_default-3.is at c.in_ok-clones.ensures)
+    c.in-Some-behind.ensures c.in_default-read_count.ensures

@@ -4,10 +4,10 @@ use Rattle.net_world.proofs.lines.read_clone_and_triple.Goals as goal
 pub returns-in_default : goal.returns-in_default
 returns-in_default c = no_triple_split c.args.rest.now c.in_default.ensures
 
+pub returns-in_default-read_clone : goal.returns-in_default-read_clone
+returns-in_default-read_clone c =
+    no_triple_number c.args.rest.now c.in-Some.number.now c.in-Some.text.now c.in-Some.ensures.0 c.in-Some.ensures.1 c.in_default-read_clone.ensures
+
 pub returns-in_default-2 : goal.returns-in_default-2
 returns-in_default-2 c =
-    no_triple_number c.args.rest.now c.in-Some.number.now c.in-Some.text.now c.in-Some.ensures.0 c.in-Some.ensures.1 (rw c.in_default-2.is at c.in_ok-number.ensures)
-
-pub returns-in_default-3 : goal.returns-in_default-3
-returns-in_default-3 c =
-    no_triple_text c.args.rest.now c.in-Some.number.now c.in-Some.text.now c.in-Some.ensures.0 c.in-Some.ensures.1 (rw c.in_default-3.is at c.in_ok-triple.ensures)
+    no_triple_text c.args.rest.now c.in-Some.number.now c.in-Some.text.now c.in-Some.ensures.0 c.in-Some.ensures.1 (rw c.in_default-2.is at c.in_ok-triple.ensures)

@@ -1,13 +1,15 @@
 use Rattle.net_world.proofs.LinesCommands.{no_compare_split, no_compare_number, no_compare_other}
 use Rattle.net_world.proofs.lines.read_compare.Goals as goal
 
-pub returns-in_default : goal.returns-in_default
-returns-in_default c = no_compare_split c.args.rest.now c.in_default.ensures
+pub returns-in_err-number : goal.returns-in_err-number
+returns-in_err-number c = rw c.from_residual.ensures (no_compare_split c.args.rest.now c.in_err-number.ensures)
 
-pub returns-in_default-2 : goal.returns-in_default-2
-returns-in_default-2 c =
-    no_compare_number c.args.rest.now c.in-Some.number.now c.in-Some.other.now c.in-Some.ensures.0 c.in-Some.ensures.1 (rw c.in_default-2.is at c.in_ok-number.ensures)
+pub returns-in_err-number-2 : goal.returns-in_err-number-2
+returns-in_err-number-2 c =
+    rw c.from_residual-in_err-number-2.ensures
+    (no_compare_number c.args.rest.now c.in_ok-number.number.now c.in_ok-number.other.now c.in_ok-number.ensures.0 c.in_ok-number.ensures.1 c.in_err-number-2.ensures)
 
-pub returns-in_default-3 : goal.returns-in_default-3
-returns-in_default-3 c =
-    no_compare_other c.args.rest.now c.in-Some.number.now c.in-Some.other.now c.in-Some.ensures.0 c.in-Some.ensures.1 (rw c.in_default-3.is at c.in_ok-other.ensures)
+pub returns-in_err-other : goal.returns-in_err-other
+returns-in_err-other c =
+    rw c.from_residual-in_err-other.ensures
+    (no_compare_other c.args.rest.now c.in_ok-number.number.now c.in_ok-number.other.now c.in_ok-number.ensures.0 c.in_ok-number.ensures.1 c.in_err-other.ensures)

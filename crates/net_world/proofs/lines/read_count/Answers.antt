@@ -4,6 +4,5 @@ use Rattle.net_world.proofs.lines.read_count.Goals as goal
 
 pub returns-then-number-lt1 : goal.returns-then-number-lt1
 returns-then-number-lt1 c = λ number some most same.
-    let found = rw c.in-Some.is at c.in_ok-number.ensures in
-    let alike : c.in-Some.number ≡ number = one_number c.args.text.now c.in-Some.number number found.0 (omega arith) found.1 same in
+    let alike : c.in_ok-number.number ≡ number = one_number c.args.text.now c.in_ok-number.number number c.in_ok-number.ensures.0 (omega arith) c.in_ok-number.ensures.1 same in
     omega (arith, c.then-number-lt1.either, c.from-most.ensures)

@@ -1,13 +1,15 @@
 use Rattle.net_world.proofs.LinesCommands.{no_deliver_split, no_deliver_message, no_deliver_number}
 use Rattle.net_world.proofs.lines.read_deliver.Goals as goal
 
-pub returns-in_default : goal.returns-in_default
-returns-in_default c = no_deliver_split c.args.rest.now c.in_default.ensures
+pub returns-in_err-message : goal.returns-in_err-message
+returns-in_err-message c = rw c.from_residual.ensures (no_deliver_split c.args.rest.now c.in_err-message.ensures)
 
-pub returns-in_default-2 : goal.returns-in_default-2
-returns-in_default-2 c =
-    no_deliver_message c.args.rest.now c.in-Some.message.now c.in-Some.number.now c.in-Some.ensures.0 c.in-Some.ensures.1 (rw c.in_default-2.is at c.in_ok-message.ensures)
+pub returns-in_err-message-2 : goal.returns-in_err-message-2
+returns-in_err-message-2 c =
+    rw c.from_residual-in_err-message-2.ensures
+    (no_deliver_message c.args.rest.now c.in_ok-message.message.now c.in_ok-message.number.now c.in_ok-message.ensures.0 c.in_ok-message.ensures.1 c.in_err-message-2.ensures)
 
-pub returns-in_default-3 : goal.returns-in_default-3
-returns-in_default-3 c =
-    no_deliver_number c.args.rest.now c.in-Some.message.now c.in-Some.number.now c.in-Some.ensures.0 c.in-Some.ensures.1 (rw c.in_default-3.is at c.in_ok-number.ensures)
+pub returns-in_err-number : goal.returns-in_err-number
+returns-in_err-number c =
+    rw c.from_residual-in_err-number.ensures
+    (no_deliver_number c.args.rest.now c.in_ok-message.message.now c.in_ok-message.number.now c.in_ok-message.ensures.0 c.in_ok-message.ensures.1 c.in_err-number.ensures)

@@ -1,5 +1,5 @@
 use Rattle.std.proofs.Common.{ℕ, List, subst, sym}
-use Rattle.net_world.specs.Reading.{IsTripleOf}
+use Rattle.net_world.specs.ReadLines.{IsTripleText}
 use Rattle.net_world.proofs.LinesCommands.{no_triple}
 use Rattle.net_world.proofs.lines.read_triple_bytes.Goals as goal
 
@@ -7,4 +7,4 @@ pub returns-in-Err-TooLong : goal.returns-in-Err-TooLong
 returns-in-Err-TooLong c = λ triple spelled.
     let long = c.in-Err-TooLong.field-0-is in
     no_triple c.in-Ok.text.now c.in-Err-TooLong.field-0 c.in-Err-TooLong.ensures.refusals (λ e. cc) triple
-    (subst (λ (l : List ℕ). IsTripleOf l triple) (sym c.in-Ok.ensures.cases.0) spelled)
+    (subst (λ (l : List ℕ). IsTripleText l triple) (sym c.in-Ok.ensures.cases.0) spelled)

@@ -1,5 +1,5 @@
 use Rattle.std.proofs.Common.{rules}
-use Rattle.net_world.specs.Reading.{setup_of}
+use Rattle.net_world.specs.ReadLines.{setup_of}
 use Rattle.net_world.proofs.WorldLemmas.{founded_follows, founded_standing}
 use Rattle.net_world.proofs.worlds.World.found.Goals as goal
 

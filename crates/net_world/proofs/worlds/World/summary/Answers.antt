@@ -1,7 +1,7 @@
 use Rattle.std.proofs.Common.{List, subst, ap, ◌∙◌}
 use Rattle.std.proofs.lemmas.Result.{IfOk-weaker}
 use Rattle.mld_model.specs.StandsFor.{RunningClone, RunningWorld}
-use Rattle.net_world.specs.Summaries.{SummarizesAll}
+use Rattle.net_world.specs.WorldSummary.{SummarizesAll}
 use Rattle.net_world.specs.SummaryLaws.{world_told}
 use Rattle.net_world.proofs.worlds.World.summary.Goals as goal
 

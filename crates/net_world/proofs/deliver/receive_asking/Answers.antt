@@ -1,5 +1,5 @@
 use Rattle.std.proofs.Common.{refl, rules}
-use Rattle.net_world.proofs.worlds.adopt_at.Goals as goal
+use Rattle.net_world.proofs.deliver.receive_asking.Goals as goal
 
 pub returns-in-Joined : goal.returns-in-Joined
 returns-in-Joined g c =

@@ -1,8 +1,8 @@
 use Rattle.std.proofs.Common.{ap, rules, sym}
 use Rattle.schedule_model.specs.ReplyText.{reply_text}
-use Rattle.net_world.specs.Words.{reply_of}
+use Rattle.net_world.specs.Replies.{reply_value}
 use Rattle.net_world.proofs.RepliesShown.{word_pushed}
-use Rattle.net_world.proofs.replies.push_word.Goals as goal
+use Rattle.net_world.proofs.replies.push_reply.Goals as goal
 
 pub returns-in-NoOperation : goal.returns-in-NoOperation
 unfolding reply_text
@@ -14,7 +14,7 @@ returns-in-Known c = search rules
 
 pub returns-in-NoMessage : goal.returns-in-NoMessage
 unfolding reply_text
-returns-in-NoMessage c = word_pushed c.extend_from_slice-in-NoMessage.result c.args.out.now.items _ _ _ c.extend_from_slice-in-NoMessage.ensures.items (sym (ap (λ w. reply_text (reply_of w)) c.in-NoMessage.is))
+returns-in-NoMessage c = word_pushed c.extend_from_slice-in-NoMessage.result c.args.out.now.items _ _ _ c.extend_from_slice-in-NoMessage.ensures.items (sym (ap (λ w. reply_text (reply_value w)) c.in-NoMessage.is))
 
 pub returns-in-Absent : goal.returns-in-Absent
 unfolding reply_text
@@ -42,7 +42,7 @@ returns-in-Held c = search rules
 
 pub returns-in-HeldFull : goal.returns-in-HeldFull
 unfolding reply_text
-returns-in-HeldFull c = word_pushed c.extend_from_slice-in-HeldFull.result c.args.out.now.items _ _ _ c.extend_from_slice-in-HeldFull.ensures.items (sym (ap (λ w. reply_text (reply_of w)) c.in-HeldFull.is))
+returns-in-HeldFull c = word_pushed c.extend_from_slice-in-HeldFull.result c.args.out.now.items _ _ _ c.extend_from_slice-in-HeldFull.ensures.items (sym (ap (λ w. reply_text (reply_value w)) c.in-HeldFull.is))
 
 pub returns-in-Ignored : goal.returns-in-Ignored
 unfolding reply_text

@@ -46,7 +46,7 @@ abbrev pub IsBadCommand : List ℕ → Type 0
 IsBadCommand line = ¬ IsNothing line × ¬ IsTrue (is_unbuilt line) × ((command : Command) → ¬ SpellsCommand line command)
 
 -- the text of a triple within the limits
-pub record IsTripleOf (text : List ℕ) (triple : Triple) : Type 0 where
+pub record IsTripleText (text : List ℕ) (triple : Triple) : Type 0 where
   pub bytes : IsUtf8 text
   pub spelled : SpellsTriple text triple
   pub within : IsWithin triple
@@ -58,24 +58,24 @@ pub record IsCloneAndTriple (rest : List ℕ) (number : ℕ) (triple : Triple) :
   pub text : List ℕ
   pub whole : rest ≡ decimal number ++ space ∷ text
   pub clone : IsCloneNumber number
-  pub spelled : IsTripleOf text triple
+  pub spelled : IsTripleText text triple
 
-abbrev pub IsAddOf : List ℕ → Command → Type 0
-IsAddOf rest command = (number : ℕ) × (triple : Triple) × (command ≡ Add number triple) × IsCloneAndTriple rest number triple
+abbrev pub IsAddRest : List ℕ → Command → Type 0
+IsAddRest rest command = (number : ℕ) × (triple : Triple) × (command ≡ Add number triple) × IsCloneAndTriple rest number triple
 
-abbrev pub IsRemoveOf : List ℕ → Command → Type 0
-IsRemoveOf rest command = (number : ℕ) × (triple : Triple) × (command ≡ Remove number triple) × IsCloneAndTriple rest number triple
+abbrev pub IsRemoveRest : List ℕ → Command → Type 0
+IsRemoveRest rest command = (number : ℕ) × (triple : Triple) × (command ≡ Remove number triple) × IsCloneAndTriple rest number triple
 
-abbrev pub IsDeliverOf : List ℕ → Command → Type 0
-IsDeliverOf rest command = (message : ℕ) × (number : ℕ) × (command ≡ Deliver message number) × (rest ≡ decimal message ++ space ∷ decimal number)
+abbrev pub IsDeliverRest : List ℕ → Command → Type 0
+IsDeliverRest rest command = (message : ℕ) × (number : ℕ) × (command ≡ Deliver message number) × (rest ≡ decimal message ++ space ∷ decimal number)
     × (message < 2 ^ 64) × IsCloneNumber number
 
-abbrev pub IsShowOf : List ℕ → Command → Type 0
-IsShowOf rest command = (number : ℕ) × (command ≡ Show number) × (rest ≡ decimal number) × IsCloneNumber number
+abbrev pub IsShowRest : List ℕ → Command → Type 0
+IsShowRest rest command = (number : ℕ) × (command ≡ Show number) × (rest ≡ decimal number) × IsCloneNumber number
 
-abbrev pub IsCompareOf : List ℕ → Command → Type 0
-IsCompareOf rest command = (number : ℕ) × (other : ℕ) × (command ≡ Compare number other) × (rest ≡ decimal number ++ space ∷ decimal other)
+abbrev pub IsCompareRest : List ℕ → Command → Type 0
+IsCompareRest rest command = (number : ℕ) × (other : ℕ) × (command ≡ Compare number other) × (rest ≡ decimal number ++ space ∷ decimal other)
     × IsCloneNumber number × IsCloneNumber other
 
-abbrev pub IsJoinOf : List ℕ → Command → Type 0
-IsJoinOf rest command = (number : ℕ) × (command ≡ Join number) × (rest ≡ decimal number) × IsCloneNumber number
+abbrev pub IsJoinRest : List ℕ → Command → Type 0
+IsJoinRest rest command = (number : ℕ) × (command ≡ Join number) × (rest ≡ decimal number) × IsCloneNumber number

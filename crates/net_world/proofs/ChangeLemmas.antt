@@ -1,0 +1,67 @@
+-- What `add` and `remove` do is the model's step.
+use Rattle.std.proofs.Common.{◌≡◌, ℕ, ◌+◌, List, [], ◌∷◌, ◌++◌, true, false, refl, sym, ◌∙◌, ap, length, set}
+use Rattle.rdf_terms.specs.declared.terms.Triple.{Triple}
+use Rattle.tree_clock.specs.declared.dots.Dot.{Dot}
+use Rattle.mld_ops.specs.Entry.{EntryValue}
+use Rattle.mld_ops.specs.Ready.{last_dot}
+use Rattle.mld_ops.specs.Messages.{MessageValue, CarriesEntry}
+use Rattle.mld_model.specs.declared.CloneState.TheVariants as states
+use Rattle.mld_model.specs.Reply.{Reply, Did, NoOperation}
+use Rattle.mld_model.specs.Local.{LocalClone, CloneValue, next_dot}
+use Rattle.mld_model.specs.StandsFor.{RunningClone, RunningWorld}
+use Rattle.schedule_model.specs.declared.Command.{Command}
+use Rattle.schedule_model.specs.declared.Command.TheVariants.{Add, Remove}
+use Rattle.schedule_model.specs.WorldStep.{IsMissingReply}
+use Rattle.schedule_model.proofs.WorldLaws.{stepped_sending, add_follows, add_missing, remove_follows, remove_nothing, remove_missing}
+use Rattle.net_world.specs.declared.replies.Reply.{Reply as CodeReply}
+use Rattle.net_world.specs.declared.replies.Reply.TheVariants as replies
+use Rattle.net_world.specs.Changes.{SetsAs}
+use Rattle.net_world.specs.Replies.{reply_value}
+use Rattle.net_world.specs.States.{HasState}
+use Rattle.net_world.specs.Worlds.{Moves}
+use Rattle.net_world.proofs.WorldLemmas.{after_step, moved, written_again}
+
+-- the reply of an operation that was made, and the clones and messages after it
+made : (running : RunningWorld) (command : Command) (number : ℕ) (after : CloneValue) (entry : EntryValue) (next : Dot) (dot : Dot) (message : ℕ) (new : List RunningClone) (sent : List MessageValue)
+    → next ≡ last_dot entry.range → new ≡ set running.clones number (states.Live after) → sent ≡ running.messages ++ CarriesEntry entry ∷ [] → dot ≡ last_dot entry.range → message ≡ length running.messages + 1
+    → Moves running command (Did next (length running.messages + 1)) (stepped_sending running number after entry)
+    → Moves running command (Did dot message) (after_step running new sent)
+made running command number after entry next dot message new sent is clones sends same counted moves =
+    moved running command (Did next (length running.messages + 1)) (Did dot message) (set running.clones number (states.Live after)) new (running.messages ++ CarriesEntry entry ∷ []) sent
+    (λ i. Did ((is ∙ sym same) i) (sym counted i)) (sym clones) (sym sends) moves
+
+-- a live clone adds a triple
+pub added : (running : RunningWorld) (number : ℕ) (triple : Triple) (before after : CloneValue) (new : List RunningClone) (sent : List MessageValue) (reply : CodeReply)
+    → HasState running.clones number (states.Live before) → new ≡ set running.clones number (states.Live after)
+    → SetsAs before.local running.messages triple true after.local sent reply → Moves running (Add number triple) (reply_value reply) (after_step running new sent)
+added running number triple before after new sent (replies.Did dot message) at clones sets =
+    made running (Add number triple) number after sets.entry (next_dot before.local) dot message new sent (λ i. last_dot (sym sets.sets.range i)) clones sets.sends.0 sets.sends.1 sets.sends.2
+    (λ world stands sound. add_follows running world stands sound number triple before at after sets.entry sets.sets)
+added running number triple before after new sent replies.NoOperation at clones sets = absurd sets.0
+added running number triple before after new sent reply at clones sets = absurd sets.sends
+
+-- a live clone removes a triple, or has no pair of it
+pub removed : (running : RunningWorld) (number : ℕ) (triple : Triple) (before after : CloneValue) (new : List RunningClone) (sent : List MessageValue) (reply : CodeReply)
+    → HasState running.clones number (states.Live before) → new ≡ set running.clones number (states.Live after)
+    → SetsAs before.local running.messages triple false after.local sent reply → Moves running (Remove number triple) (reply_value reply) (after_step running new sent)
+removed running number triple before after new sent (replies.Did dot message) at clones sets =
+    made running (Remove number triple) number after sets.entry (next_dot before.local) dot message new sent (λ i. last_dot (sym sets.sets.makes.range i)) clones sets.sends.0 sets.sends.1 sets.sends.2
+    (λ world stands sound. remove_follows running world stands sound number triple before at sets.sets.deletes after sets.entry sets.sets.are sets.sets.some sets.sets.makes)
+removed running number triple before after new sent replies.NoOperation at clones sets =
+    moved running (Remove number triple) NoOperation NoOperation running.clones new running.messages sent refl
+    (sym (clones ∙ ap (λ (l : LocalClone). set running.clones number (states.Live (record { local = l }))) sets.0.1 ∙ written_again running.clones number (states.Live before) at)) (sym sets.1)
+    (λ world stands sound. remove_nothing running world stands sound number triple before at sets.0.0)
+removed running number triple before after new sent reply at clones sets = absurd sets.sends
+
+-- a clone that isn't live does neither
+pub not_added : (running : RunningWorld) (number : ℕ) (triple : Triple) (state : RunningClone) (new : List RunningClone) (reply : Reply) → HasState running.clones number state → new ≡ running.clones
+    → IsMissingReply state reply → Moves running (Add number triple) reply (after_step running new running.messages)
+not_added running number triple state new reply at same missing =
+    moved running (Add number triple) reply reply running.clones new running.messages running.messages refl (sym same) refl
+    (λ world stands sound. add_missing running world stands sound number triple state reply at missing)
+
+pub not_removed : (running : RunningWorld) (number : ℕ) (triple : Triple) (state : RunningClone) (new : List RunningClone) (reply : Reply) → HasState running.clones number state → new ≡ running.clones
+    → IsMissingReply state reply → Moves running (Remove number triple) reply (after_step running new running.messages)
+not_removed running number triple state new reply at same missing =
+    moved running (Remove number triple) reply reply running.clones new running.messages running.messages refl (sym same) refl
+    (λ world stands sound. remove_missing running world stands sound number triple state reply at missing)

@@ -1,0 +1,235 @@
+-- What `deliver` does is the model's step.
+use Rattle.std.proofs.Common.{◌≡◌, ◌≢◌, ℕ, zero, suc, ◌+◌, ◌-◌, ◌<◌, List, [], ◌∷◌, ◌++◌, inl, inr, refl, sym, ◌∙◌, ap, arith, subst, length, map, get_or, set, Some, None}
+use Rattle.std.specs.List.{range_with_len}
+use Rattle.mld_ops.specs.Entry.{EntryValue}
+use Rattle.mld_ops.specs.Messages.{GiveValue, MessageValue, CarriesEntry, CarriesWant, CarriesSnapshot, CarriesAsk, CarriesGive, give_value, message_value, snapshot_value, IsGoodMessage}
+use Rattle.mld_ops.specs.declared.messages.Give.{Give}
+use Rattle.mld_ops.specs.declared.messages.Message.{Message}
+use Rattle.mld_ops.specs.declared.messages.Message.TheVariants as kinds
+use Rattle.mld_model.specs.declared.CloneState.TheVariants as states
+use Rattle.mld_model.specs.World.{World, Message as ModelMessage}
+use Rattle.mld_model.specs.Reply as model
+use Rattle.mld_model.specs.Local.{LocalAsker, LocalClone, CloneValue}
+use Rattle.mld_model.specs.StandsFor.{RunningClone, RunningWorld, MessageStandsFor, StandsFor}
+use Rattle.mld_model.proofs.StandsForLaws.{good_sent}
+use Rattle.schedule_model.specs.declared.Command.TheVariants.{Deliver}
+use Rattle.schedule_model.specs.WorldStep.{Follows, IsAwayReply}
+use Rattle.schedule_model.proofs.WorldLaws.{stepped, stepped_with, sent_message, SentAs, sent_as, never_foreign, deliver_nothing, deliver_missing, deliver_known, deliver_taken, deliver_held, deliver_held_already, deliver_full}
+use Rattle.schedule_model.proofs.JoinLaws.{stepped_telling, deliver_ask_own, deliver_deep, deliver_ask, deliver_give_live, deliver_joined, deliver_asking}
+use Rattle.net_world.specs.declared.deliver.Received.{Received}
+use Rattle.net_world.specs.declared.deliver.Received.TheVariants as received
+use Rattle.net_world.specs.declared.replies.Reply.{Reply}
+use Rattle.net_world.specs.declared.replies.Reply.TheVariants as replies
+use Rattle.net_world.specs.declared.parts.Parts.{Parts}
+use Rattle.net_world.specs.Delivering.{nth_message, IsFitFor, ReceivesLive, ReceivesAsking, StaysAway, Becomes, ReceivesAt, IsAway, IsLive, Asks, SendsAnswers}
+use Rattle.net_world.specs.Parts.{running_of, HasStepLeft}
+use Rattle.net_world.specs.Replies.{reply_value, numbers_between}
+use Rattle.net_world.specs.States.{HasState, reply_of_state}
+use Rattle.net_world.specs.Worlds.{IsStanding, Moves}
+use Rattle.net_world.proofs.WorldLemmas.{after_step, moved, read_back, state_read, written_again}
+
+-- the message of a number, where it is one
+same_message : (running : RunningWorld) (number : ℕ) → nth_message running.messages number ≡ sent_message running number
+same_message running zero = refl
+same_message running (suc before) = refl
+
+-- the value of the message of a number
+pub value_at : (messages : List Message) (number : ℕ) (what : Message) → nth_message messages number ≡ Some what → nth_message (map message_value messages) number ≡ Some (message_value what)
+value_at messages zero what is = absurd (cc (is))
+value_at [] (suc before) what is = absurd (cc (is))
+value_at (first ∷ messages) (suc zero) what is = let same : first ≡ what = cc (is) in ap (λ (m : Message). Some (message_value m)) same
+value_at (first ∷ messages) (suc (suc before)) what is = value_at messages (suc before) what is
+
+-- and where there is none
+pub no_value_at : (messages : List Message) (number : ℕ) → nth_message messages number ≡ None → nth_message (map message_value messages) number ≡ None
+no_value_at messages zero none = refl
+no_value_at [] (suc before) none = refl
+no_value_at (first ∷ messages) (suc zero) none = absurd (cc (none))
+no_value_at (first ∷ messages) (suc (suc before)) none = no_value_at messages (suc before) none
+
+-- the snapshot of a message that was sent, where it has one, is good
+good_at : (running : RunningWorld) (number : ℕ) → IsStanding running → (what : MessageValue) → sent_message running number ≡ Some what → IsGoodMessage what
+good_at running zero standing what is = absurd (cc (is))
+good_at running (suc before) standing what is = good_sent running standing.world standing.stands standing.sound before what is
+
+-- each message of parts that stand for a sound world is fit for each clone
+pub is_fit : (parts : Parts) (message number : ℕ) (what : Message) → HasStepLeft parts → nth_message parts.messages.items message ≡ Some what → IsFitFor parts.clones.items number (message_value what)
+is_fit parts message number what left told =
+    let running : RunningWorld = running_of parts left.steps in
+    let is : sent_message running message ≡ Some (message_value what) = sym (same_message running message) ∙ value_at parts.messages.items message what told in
+    record {
+      own = λ live entry live_is same.
+          never_foreign running left.standing.world left.standing.stands left.standing.sound message number entry live (is ∙ ap (λ (m : MessageValue). Some m) same) live_is;
+      good = good_at running message left.standing (message_value what) is;
+    }
+
+-- the reply of a clone that neither is live nor asks is that of its state
+pub away_reply : (state : RunningClone) (reply : model.Reply) → reply ≡ reply_of_state state → ((live : CloneValue) → state ≢ states.Live live) → ((asker : LocalAsker) → state ≢ states.Asking asker)
+    → IsAwayReply state reply
+away_reply (states.Absent blank) reply is none quiet = is
+away_reply (states.Asking asker) reply is none quiet = absurd (quiet asker refl)
+away_reply (states.Down device) reply is none quiet = is
+away_reply (states.Live live) reply is none quiet = absurd (none live refl)
+
+-- what was read at a place, and written back, is read again, and then another state is written
+pub read_again : (clones : List RunningClone) (number first place : ℕ) (once again : RunningClone) → place ≡ number → number < length clones → once ≡ get_or clones first once
+    → again ≡ get_or (set clones first once) place again → HasState clones number again
+read_again clones number first place once again at inside was is =
+    state_read clones number place again again at inside (is ∙ ap (λ (cs : List RunningClone). get_or cs place again) (read_back clones first once was)) refl
+
+pub became_again : (clones : List RunningClone) (number first place : ℕ) (once new : RunningClone) → place ≡ number → once ≡ get_or clones first once
+    → set (set clones first once) place new ≡ set clones number new
+became_again clones number first place once new at was =
+    ap (λ (cs : List RunningClone). set cs place new) (read_back clones first once was) ∙ ap (λ (k : ℕ). set clones k new) at
+
+-- a live clone that is as it was
+unchanged : (clones new : List RunningClone) (number : ℕ) (before after : CloneValue) → Becomes clones new number (states.Live before) (states.Live after) → after.local ≡ before.local → new ≡ clones
+unchanged clones new number before after becomes same =
+    becomes.now ∙ ap (λ (l : LocalClone). set clones number (states.Live (record { local = l }))) same ∙ written_again clones number (states.Live before) becomes.was
+
+-- wants and snapshots are never sent yet
+never_sent : (running : RunningWorld) (world : World) → StandsFor running world → (number : ℕ) (what : MessageValue) → sent_message running number ≡ Some what
+    → ((other : ModelMessage) → ¬ MessageStandsFor world.history what other) → ⊥
+never_sent running world stands number what sent none = let s : SentAs world what number = sent_as running world stands number what sent in none s.other s.relates
+
+-- a message whose value gives a leaf is one that does
+gives_as : (what : Message) (leaf : GiveValue) → message_value what ≡ CarriesGive leaf → (give : Give) × (what ≡ kinds.JoinGive give) × (give_value give ≡ leaf)
+gives_as (kinds.JoinGive give) leaf same = (give, refl, cc (same))
+gives_as (kinds.Range entry) leaf same = absurd (cc (same))
+gives_as (kinds.Want clock) leaf same = absurd (cc (same))
+gives_as (kinds.Snapshot snapshot) leaf same = absurd (cc (same))
+gives_as (kinds.JoinAsk id) leaf same = absurd (cc (same))
+
+module _ (running : RunningWorld) (message number : ℕ) (new : List RunningClone) (sent : List MessageValue) where
+  -- the answer is the reply, and nothing is sent; or what it sends is sent, and the reply tells of that
+  abbrev pub Tells : Received → Reply → Type 0
+  Tells (received.Told told) reply = (reply ≡ told) × (sent ≡ running.messages)
+  Tells (received.Sends answers) reply = SendsAnswers running.messages answers sent reply
+
+  abbrev pub Ends : Reply → Type 0
+  Ends reply = Moves running (Deliver message number) (reply_value reply) (after_step running new sent)
+
+  -- an answer that leaves the clones as they were
+  calm : (told reply : Reply) → (reply ≡ told) × (sent ≡ running.messages) → new ≡ running.clones → Moves running (Deliver message number) (reply_value told) (stepped running) → Ends reply
+  calm told reply tells same moves =
+      moved running (Deliver message number) (reply_value told) (reply_value reply) running.clones new running.messages sent (ap reply_value (sym tells.0)) (sym same) (sym tells.1) moves
+
+  -- an answer by which one clone is another
+  moving : (told reply : Reply) (now : CloneValue) → (reply ≡ told) × (sent ≡ running.messages) → new ≡ set running.clones number (states.Live now)
+      → Moves running (Deliver message number) (reply_value told) (stepped_with running number now) → Ends reply
+  moving told reply now tells same moves =
+      moved running (Deliver message number) (reply_value told) (reply_value reply) (set running.clones number (states.Live now)) new running.messages sent (ap reply_value (sym tells.0)) (sym same) (sym tells.1) moves
+
+  -- an answer of one message
+  answering : (answers : List Message) (give : Give) (state : RunningClone) (reply : Reply) → answers ≡ kinds.JoinGive give ∷ [] → SendsAnswers running.messages answers sent reply
+      → new ≡ set running.clones number state
+      → Moves running (Deliver message number) (model.Answer ((length running.messages + 1) ∷ [])) (stepped_telling running number state (CarriesGive (give_value give))) → Ends reply
+  answering answers give state (replies.Answer first end) one sends same moves =
+      let counted : end ≡ length running.messages + 2 = sends.2 ∙ ap (λ (f : ℕ). f + length answers) sends.1 ∙ ap (λ (a : List Message). length running.messages + 1 + length a) one ∙ omega arith in
+      let few : end - first ≡ 1 = omega (arith, counted, sends.1) in
+      let numbers : (length running.messages + 1) ∷ [] ≡ numbers_between first end = ap (λ (f : ℕ). f ∷ []) (sym sends.1) ∙ ap (λ (n : ℕ). range_with_len first n) (sym few) in
+      moved running (Deliver message number) (model.Answer ((length running.messages + 1) ∷ [])) (model.Answer (numbers_between first end))
+      (set running.clones number state) new (running.messages ++ CarriesGive (give_value give) ∷ []) sent (ap (λ (n : List ℕ). model.Answer n) numbers) (sym same)
+      (sym (sends.0 ∙ ap (λ (a : List Message). running.messages ++ map message_value a) one)) moves
+  answering answers give state reply one sends same moves = absurd sends
+
+  -- a live clone answers an entry
+  entry_answered : (entry : EntryValue) (answer : Received) (reply : Reply) (before after : CloneValue) → sent_message running message ≡ Some (CarriesEntry entry)
+      → Becomes running.clones new number (states.Live before) (states.Live after) → ReceivesLive before.local (kinds.Range entry) after.local answer → Tells answer reply → Ends reply
+  entry_answered entry (received.Told replies.Known) reply before after is becomes h told =
+      calm replies.Known reply told (unchanged running.clones new number before after becomes h.1.1)
+      (λ world stands sound. deliver_known running world stands sound message number entry before is becomes.was h.1.0)
+  entry_answered entry (received.Told (replies.Took ranges)) reply before after is becomes h told =
+      moving (replies.Took ranges) reply after told becomes.now
+      (λ world stands sound. deliver_taken running world stands sound message number entry before after ranges is becomes.was h.1)
+  entry_answered entry (received.Told replies.Held) reply before after is becomes h told = elim h.1.1 [
+    | inl already ↦ calm replies.Held reply told (unchanged running.clones new number before after becomes already.1)
+        (λ world stands sound. deliver_held_already running world stands sound message number entry before is becomes.was h.1.0 already.0)
+    | inr holds ↦ moving replies.Held reply after told becomes.now
+        (λ world stands sound. deliver_held running world stands sound message number entry before after is becomes.was h.1.0 holds.0 holds.1 holds.2)
+  ]
+  entry_answered entry (received.Told replies.HeldFull) reply before after is becomes h told =
+      calm replies.HeldFull reply told (unchanged running.clones new number before after becomes h.1)
+      (λ world stands sound. deliver_full running world stands sound message number entry before is becomes.was h.0.1 h.0.2)
+  entry_answered entry (received.Told replies.Ignored) reply before after is becomes h told = absurd h.1
+  entry_answered entry (received.Told replies.Deep) reply before after is becomes h told = absurd h.0
+  entry_answered entry (received.Sends answers) reply before after is becomes h told = absurd h.1
+  entry_answered entry answer reply before after is becomes h told = absurd h
+
+  -- a live clone answers one who asks for a leaf
+  ask_answered : (id : List ℕ) (answer : Received) (reply : Reply) (before after : CloneValue) → sent_message running message ≡ Some (CarriesAsk id)
+      → Becomes running.clones new number (states.Live before) (states.Live after) → ReceivesLive before.local (kinds.JoinAsk id) after.local answer → Tells answer reply → Ends reply
+  ask_answered id (received.Told replies.Ignored) reply before after is becomes h told =
+      calm replies.Ignored reply told (unchanged running.clones new number before after becomes h.1)
+      (λ world stands sound. deliver_ask_own running world stands sound message number id before is becomes.was h.0)
+  ask_answered id (received.Sends answers) reply before after is becomes h told =
+      answering answers h.1.0 (states.Live after) reply h.1.1 told becomes.now
+      (λ world stands sound. deliver_ask running world stands sound message number id before after (give_value h.1.0) is becomes.was h.0 h.1.2)
+  ask_answered id (received.Told replies.Deep) reply before after is becomes h told =
+      calm replies.Deep reply told (unchanged running.clones new number before after becomes h.1)
+      (λ world stands sound. deliver_deep running world stands sound message number id before is becomes.was h.0.0 (omega (arith, h.0.1)))
+  ask_answered id (received.Told replies.HeldFull) reply before after is becomes h told = absurd h.0
+  ask_answered id answer reply before after is becomes h told = absurd h
+
+  -- a live clone takes no leaf
+  give_answered : (give : Give) (answer : Received) (reply : Reply) (before after : CloneValue) → sent_message running message ≡ Some (CarriesGive (give_value give))
+      → Becomes running.clones new number (states.Live before) (states.Live after) → ReceivesLive before.local (kinds.JoinGive give) after.local answer → Tells answer reply → Ends reply
+  give_answered give (received.Told replies.Ignored) reply before after is becomes h told =
+      calm replies.Ignored reply told (unchanged running.clones new number before after becomes h.1)
+      (λ world stands sound. deliver_give_live running world stands sound message number (give_value give) before is becomes.was)
+  give_answered give (received.Told (replies.Took ranges)) reply before after is becomes h told = absurd (cc (h.0))
+  give_answered give (received.Told replies.Held) reply before after is becomes h told = absurd (cc (h.0))
+  give_answered give (received.Told replies.Known) reply before after is becomes h told = absurd (cc (h.0))
+  give_answered give (received.Sends answers) reply before after is becomes h told = absurd (cc (h.0))
+  give_answered give (received.Told replies.HeldFull) reply before after is becomes h told = absurd h.0
+  give_answered give (received.Told replies.Deep) reply before after is becomes h told = absurd h.0
+  give_answered give answer reply before after is becomes h told = absurd h
+
+  -- a message of another kind was never sent
+  unsent : (what : MessageValue) (reply : Reply) → sent_message running message ≡ Some what → ((world : World) (other : ModelMessage) → ¬ MessageStandsFor world.history what other) → Ends reply
+  unsent what reply is none world stands sound = absurd (never_sent running world stands message what is (none world))
+
+  -- a live clone answers
+  live_answered : (what : Message) (answer : Received) (reply : Reply) (before after : CloneValue) → sent_message running message ≡ Some (message_value what)
+      → Becomes running.clones new number (states.Live before) (states.Live after) → ReceivesLive before.local what after.local answer → Tells answer reply → Ends reply
+  live_answered (kinds.Range entry) answer reply before after is becomes h told = entry_answered entry answer reply before after is becomes h told
+  live_answered (kinds.JoinAsk id) answer reply before after is becomes h told = ask_answered id answer reply before after is becomes h told
+  live_answered (kinds.JoinGive give) answer reply before after is becomes h told = give_answered give answer reply before after is becomes h told
+  live_answered (kinds.Want clock) answer reply before after is becomes h told = unsent (CarriesWant clock.ticks) reply is (λ world other stands. stands)
+  live_answered (kinds.Snapshot snapshot) answer reply before after is becomes h told = unsent (CarriesSnapshot (snapshot_value snapshot)) reply is (λ world other stands. stands)
+
+  -- one who asks answers
+  asker_answered : (what : Message) (answer : Received) (reply : Reply) (before after : RunningClone) → sent_message running message ≡ Some (message_value what)
+      → Becomes running.clones new number before after → ReceivesAsking before after what answer → Tells answer reply → Ends reply
+  asker_answered what (received.Told replies.Ignored) reply before after is becomes h told =
+      calm replies.Ignored reply told
+      (becomes.now ∙ ap (λ (c : RunningClone). set running.clones number c) h.same ∙ written_again running.clones number before becomes.was)
+      (λ world stands sound. deliver_asking running world stands sound message number (message_value what) h.asker is (becomes.was ∙ ap (λ (s : RunningClone). Some s) h.was)
+      (λ leaf same own.
+      let give = gives_as what leaf same in
+      h.none give.0 (record { is = give.1; own = ap (λ (g : GiveValue). g.id) give.2 ∙ own })))
+  asker_answered what (received.Told (replies.Joined path)) reply before after is becomes h told =
+      let there : h.give.path ≡ path = sym (h.at ∙ ap (λ (l : LocalClone). l.path) h.joins) in
+      moving (replies.Joined path) reply h.live told (becomes.now ∙ ap (λ (c : RunningClone). set running.clones number c) h.now)
+      (λ world stands sound. subst (λ (p : List ℕ). Follows world (Deliver message number) (model.Joined p) (stepped_with running number h.live)) there
+      (deliver_joined running world stands sound message number (give_value h.give) h.asker h.live
+      (is ∙ ap (λ (m : Message). Some (message_value m)) h.is.is) (becomes.was ∙ ap (λ (s : RunningClone). Some s) h.was) h.is.own h.joins))
+  asker_answered what answer reply before after is becomes h told = absurd h
+
+  -- a clone that is neither live nor asks answers by its state
+  away_answered : (what : Message) (answer : Received) (reply : Reply) (state : RunningClone) → sent_message running message ≡ Some (message_value what) → HasState running.clones number state
+      → StaysAway state answer → new ≡ running.clones → Tells answer reply → Ends reply
+  away_answered what (received.Told told) reply state is at away same tells =
+      calm told reply tells same (λ world stands sound. deliver_missing running world stands sound message number (message_value what) state (reply_value told) is at away)
+  away_answered what (received.Sends answers) reply state is at away same tells = absurd away
+
+  -- the clone of the number answers, whatever its state is
+  pub answered : (what : Message) (answer : Received) (reply : Reply) → nth_message running.messages message ≡ Some (message_value what) → ReceivesAt running.clones new number what answer
+      → Tells answer reply → Ends reply
+  answered what answer reply is (IsAway state at away same) tells = away_answered what answer reply state (sym (same_message running message) ∙ is) at away same tells
+  answered what answer reply is (IsLive before after becomes h) tells = live_answered what answer reply before after (sym (same_message running message) ∙ is) becomes h tells
+  answered what answer reply is (Asks before after becomes h) tells = asker_answered what answer reply before after (sym (same_message running message) ∙ is) becomes h tells
+
+  -- no message has the number
+  pub no_message : nth_message running.messages message ≡ None → Moves running (Deliver message number) model.NoMessage (stepped running)
+  no_message none world stands sound = deliver_nothing running world stands sound message number (sym (same_message running message) ∙ none)

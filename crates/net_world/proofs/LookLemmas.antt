@@ -1,0 +1,46 @@
+-- What `show` and `compare` do is the model's step.
+use Rattle.std.proofs.Common.{◌≡◌, ℕ, List, inl, inr, refl, sym}
+use Rattle.mld_ops.specs.declared.tagged.Tagged.{Tagged}
+use Rattle.mld_model.specs.declared.CloneState.TheVariants as states
+use Rattle.mld_model.specs.Reply.{Reply, Shows}
+use Rattle.mld_model.specs.Local.{LocalClone, CloneValue}
+use Rattle.mld_model.specs.StandsFor.{RunningWorld}
+use Rattle.schedule_model.specs.declared.Command.TheVariants.{Show, Compare}
+use Rattle.schedule_model.proofs.WorldLaws.{LocallyCompares, stepped, show_follows, show_missing, compare_follows, compare_missing_first, compare_missing_second}
+use Rattle.net_world.specs.declared.replies.Reply.{Reply as CodeReply}
+use Rattle.net_world.specs.declared.replies.Reply.TheVariants as replies
+use Rattle.net_world.specs.Comparing.{IsHowTheyCompare}
+use Rattle.net_world.specs.Replies.{reply_value}
+use Rattle.net_world.specs.States.{HasState, IsMissingAt}
+use Rattle.net_world.specs.Worlds.{Moves}
+use Rattle.net_world.proofs.WorldLemmas.{moved}
+
+pub shown : (running : RunningWorld) (number : ℕ) (live : CloneValue) (pairs : List Tagged) → HasState running.clones number (states.Live live) → pairs ≡ live.local.pairs
+    → Moves running (Show number) (Shows pairs) (stepped running)
+shown running number live pairs at are =
+    moved running (Show number) (Shows live.local.pairs) (Shows pairs) running.clones running.clones running.messages running.messages (λ i. Shows (sym are i)) refl refl
+    (λ world stands sound. show_follows running world stands sound number live at)
+
+pub not_shown : (running : RunningWorld) (number : ℕ) (reply : Reply) → IsMissingAt running.clones number reply → Moves running (Show number) reply (stepped running)
+not_shown running number reply missing world stands sound = show_missing running world stands sound number missing.state reply missing.at missing.is
+
+-- how two clones compare is the reply of the comparison
+compares_as : (live other : LocalClone) (reply : CodeReply) → IsHowTheyCompare live other reply → LocallyCompares live other (reply_value reply)
+compares_as live other replies.Same h = inl (h.0, h.1, refl)
+compares_as live other replies.Less h = inr (inl (h.0, h.1, refl))
+compares_as live other replies.More h = inr (inr (inl (h.0, h.1, refl)))
+compares_as live other replies.Apart h = inr (inr (inr (h.0, h.1, refl)))
+compares_as live other reply h = absurd h
+
+pub weighed : (running : RunningWorld) (number second : ℕ) (live other : CloneValue) (reply : CodeReply) → HasState running.clones number (states.Live live) → HasState running.clones second (states.Live other)
+    → IsHowTheyCompare live.local other.local reply → Moves running (Compare number second) (reply_value reply) (stepped running)
+weighed running number second live other reply is was compares world stands sound =
+    compare_follows running world stands sound number second live other (reply_value reply) is was (compares_as live.local other.local reply compares)
+
+pub first_missing : (running : RunningWorld) (number second : ℕ) (reply : Reply) → IsMissingAt running.clones number reply → Moves running (Compare number second) reply (stepped running)
+first_missing running number second reply missing world stands sound = compare_missing_first running world stands sound number second missing.state reply missing.at missing.is
+
+pub second_missing : (running : RunningWorld) (number second : ℕ) (live : CloneValue) (reply : Reply) → HasState running.clones number (states.Live live) → IsMissingAt running.clones second reply
+    → Moves running (Compare number second) reply (stepped running)
+second_missing running number second live reply is missing world stands sound =
+    compare_missing_second running world stands sound number second live missing.state reply is missing.at missing.is

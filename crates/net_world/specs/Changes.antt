@@ -1,0 +1,28 @@
+-- What a live clone does that is told to set a triple, by its reply.
+use Rattle.std.specs.Prelude.{◌≡◌, ◌+◌, List, [], ◌∷◌, ◌++◌, length, Bool}
+use Rattle.rdf_terms.specs.declared.terms.Triple.{Triple}
+use Rattle.mld_ops.specs.Entry.{EntryValue}
+use Rattle.mld_ops.specs.Messages.{MessageValue, CarriesEntry}
+use Rattle.mld_ops.specs.Ready.{last_dot}
+use Rattle.mld_model.specs.Local.{LocalClone}
+use Rattle.clone_core.specs.Calls.{Sets}
+use Rattle.clone_core.specs.declared.answers.Done.TheVariants as done
+use Rattle.net_world.specs.declared.replies.Reply.{Reply}
+use Rattle.net_world.specs.declared.replies.Reply.TheVariants as replies
+
+-- the entry is the next message, and the reply names its dot and its number
+abbrev pub SendsEntry : List MessageValue → EntryValue → List MessageValue → Reply → Type 0
+SendsEntry messages entry sent (replies.Did dot number) =
+    (sent ≡ messages ++ CarriesEntry entry ∷ []) × (dot ≡ last_dot entry.range) × (number ≡ length messages + 1)
+SendsEntry messages entry sent reply = ⊥
+
+-- the clone made an operation, and its entry was sent
+pub record MakesAndSends (old : LocalClone) (messages : List MessageValue) (triple : Triple) (present : Bool) (new : LocalClone) (sent : List MessageValue) (reply : Reply) : Type 0 where
+  pub entry : EntryValue
+  pub sets : Sets old triple present (done.Made entry) new
+  pub sends : SendsEntry messages entry sent reply
+
+-- there was nothing to do, or the clone made an operation
+abbrev pub SetsAs : LocalClone → List MessageValue → Triple → Bool → LocalClone → List MessageValue → Reply → Type 0
+SetsAs old messages triple present new sent replies.NoOperation = Sets old triple present done.Nothing new × (sent ≡ messages)
+SetsAs old messages triple present new sent reply = MakesAndSends old messages triple present new sent reply

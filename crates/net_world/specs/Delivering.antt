@@ -1,0 +1,93 @@
+-- What a clone does with a message that comes to it, by what it answers.
+use Rattle.std.specs.Prelude.{◌≡◌, ℕ, zero, suc, ◌+◌, List, ◌++◌, Option, None, slice_get, slice_set, length, map}
+use Rattle.mld_ops.specs.Entry.{EntryValue}
+use Rattle.mld_ops.specs.Messages.{MessageValue, CarriesEntry, give_value, message_value, IsGoodMessage}
+use Rattle.mld_ops.specs.declared.messages.Give.{Give}
+use Rattle.mld_ops.specs.declared.messages.Message.{Message}
+use Rattle.mld_model.specs.declared.CloneState.TheVariants as states
+use Rattle.mld_model.specs.Local.{LocalAsker, LocalClone, CloneValue, IsForeign, joined_clone}
+use Rattle.mld_model.specs.StandsFor.{RunningClone}
+use Rattle.schedule_model.specs.WorldStep.{IsAwayReply}
+use Rattle.clone_core.specs.Calls.{Receives, Refuses}
+use Rattle.clone_core.specs.Joining.{IsGiveFor, GivesNone}
+use Rattle.clone_core.specs.declared.answers.Got.TheVariants as got
+use Rattle.clone_core.specs.declared.faults.ReceiveFault.TheVariants as fault
+use Rattle.net_world.specs.declared.deliver.Received.{Received}
+use Rattle.net_world.specs.declared.deliver.Received.TheVariants as received
+use Rattle.net_world.specs.declared.replies.Reply.{Reply}
+use Rattle.net_world.specs.declared.replies.Reply.TheVariants as replies
+use Rattle.net_world.specs.Replies.{reply_value}
+use Rattle.net_world.specs.States.{HasState}
+
+-- the message of a number; the first has number 1
+abbrev pub nth_message : {T : Type 0} → List T → ℕ → Option T
+nth_message messages zero = None
+nth_message messages (suc before) = slice_get messages before
+
+-- the message, where it is an entry, says no more of the path of the clone of the number than that clone knows; and its snapshot, where
+-- it has one, is a good one
+pub record IsFitFor (clones : List RunningClone) (number : ℕ) (sent : MessageValue) : Type 0 where
+  pub own : (live : CloneValue) (entry : EntryValue) → HasState clones number (states.Live live) → sent ≡ CarriesEntry entry → ¬ IsForeign live.local entry
+  pub good : IsGoodMessage sent
+
+-- what a live clone does with a message
+abbrev pub ReceivesLive : LocalClone → Message → LocalClone → Received → Type 0
+ReceivesLive old sent new (received.Told (replies.Took ranges)) = Receives old sent (got.Took ranges) new
+ReceivesLive old sent new (received.Told replies.Held) = Receives old sent got.Held new
+ReceivesLive old sent new (received.Told replies.Known) = Receives old sent got.Known new
+ReceivesLive old sent new (received.Told replies.Ignored) = Receives old sent got.Ignored new
+ReceivesLive old sent new (received.Told replies.HeldFull) = Refuses old sent fault.HeldFull × (new ≡ old)
+ReceivesLive old sent new (received.Told replies.Deep) = Refuses old sent fault.Deep × (new ≡ old)
+ReceivesLive old sent new (received.Sends answers) = Receives old sent (got.Answer answers) new
+ReceivesLive old sent new other = ⊥
+
+-- the clone asks for a leaf
+abbrev pub IsAsking : RunningClone → Type 0
+IsAsking state = (asker : LocalAsker) × (state ≡ states.Asking asker)
+
+-- one who asks took the leaf that the message gives it, and lives at the path
+pub record LivesAt (old new : RunningClone) (sent : Message) (path : List ℕ) : Type 0 where
+  pub asker : LocalAsker
+  pub was : old ≡ states.Asking asker
+  pub give : Give
+  pub is : IsGiveFor asker sent give
+  pub live : CloneValue
+  pub joins : live.local ≡ joined_clone asker (give_value give)
+  pub now : new ≡ states.Live live
+  pub at : path ≡ live.local.path
+
+-- one who asks got no leaf by the message
+pub record PassesOver (old new : RunningClone) (sent : Message) : Type 0 where
+  pub asker : LocalAsker
+  pub was : old ≡ states.Asking asker
+  pub none : GivesNone asker sent
+  pub same : new ≡ old
+
+-- what one who asks does with a message
+abbrev pub ReceivesAsking : RunningClone → RunningClone → Message → Received → Type 0
+ReceivesAsking old new sent (received.Told (replies.Joined path)) = LivesAt old new sent path
+ReceivesAsking old new sent (received.Told replies.Ignored) = PassesOver old new sent
+ReceivesAsking old new sent other = ⊥
+
+-- a clone that is absent or down answers by its state
+abbrev pub StaysAway : RunningClone → Received → Type 0
+StaysAway state (received.Told reply) = IsAwayReply state (reply_value reply)
+StaysAway state (received.Sends answers) = ⊥
+
+-- the clone of the number was in one state, and is in another now
+pub record Becomes (old new : List RunningClone) (number : ℕ) (before after : RunningClone) : Type 0 where
+  pub was : HasState old number before
+  pub now : new ≡ slice_set old number after
+
+-- what the clone of the number does with a message, by its state
+pub data ReceivesAt (old new : List RunningClone) (number : ℕ) (sent : Message) (answer : Received) : Type 0 where
+  IsAway : (state : RunningClone) → HasState old number state → StaysAway state answer → new ≡ old → ReceivesAt old new number sent answer
+  IsLive : (before after : CloneValue) → Becomes old new number (states.Live before) (states.Live after) → ReceivesLive before.local sent after.local answer
+      → ReceivesAt old new number sent answer
+  Asks : (before after : RunningClone) → Becomes old new number before after → ReceivesAsking before after sent answer → ReceivesAt old new number sent answer
+
+-- the answers are the next messages, and the reply names their numbers
+abbrev pub SendsAnswers : List MessageValue → List Message → List MessageValue → Reply → Type 0
+SendsAnswers messages answers sent (replies.Answer first end) =
+    (sent ≡ messages ++ map message_value answers) × (first ≡ length messages + 1) × (end ≡ first + length answers)
+SendsAnswers messages answers sent reply = ⊥

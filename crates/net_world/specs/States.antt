@@ -1,0 +1,23 @@
+-- The states of a world's clones.
+use Rattle.std.specs.Prelude.{◌≡◌, ℕ, List, slice_get, Some}
+use Rattle.mld_model.specs.Reply.{Reply, IsAbsent, IsAsking, IsDown, IsLive}
+use Rattle.mld_model.specs.StandsFor.{RunningClone}
+use Rattle.mld_model.specs.declared.CloneState.TheVariants as states
+use Rattle.schedule_model.specs.WorldStep.{IsMissingReply}
+
+-- the clone of the number is in this state
+abbrev pub HasState : List RunningClone → ℕ → RunningClone → Type 0
+HasState clones number state = slice_get clones number ≡ Some state
+
+-- the reply that says the state of a clone
+abbrev pub reply_of_state : RunningClone → Reply
+reply_of_state (states.Absent blank) = IsAbsent
+reply_of_state (states.Asking asker) = IsAsking
+reply_of_state (states.Down device) = IsDown
+reply_of_state (states.Live live) = IsLive
+
+-- the clone of the number isn't live, and this is the reply that says its state
+pub record IsMissingAt (clones : List RunningClone) (number : ℕ) (reply : Reply) : Type 0 where
+  pub state : RunningClone
+  pub at : HasState clones number state
+  pub is : IsMissingReply state reply

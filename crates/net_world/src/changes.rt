@@ -1,0 +1,86 @@
+//! The commands `add` and `remove`.
+ghost use Rattle.std.specs.Prelude.{◌<◌, vec_len, map, true, false, IfOk};
+ghost use Rattle.tree_clock.specs.Limits.{tick_limit};
+ghost use Rattle.tree_clock.specs.Clock.{ticks_of};
+ghost use Rattle.mld_ops.specs.Messages.{message_value};
+ghost use Rattle.schedule_model.specs.declared.Command.TheVariants as commands;
+ghost use Rattle.net_world.specs.Changes.{SetsAs, SendsEntry};
+ghost use Rattle.net_world.specs.Parts.{HasStepLeft, KeepsDomain, Does};
+
+use crate::parts::{Parts, send};
+use crate::replies::Reply;
+use crate::states::state_reply;
+use clone_core::{Done, MldClone, UpdateFault};
+use mld_model::CloneState;
+use mld_ops::{Entry, Message};
+use rdf_terms::Triple;
+use std::alloc::{AllocError, Global};
+use tree_clock::Dot;
+
+/// Clone `number` inserts a triple.
+pub fn add(
+    alloc: Global,
+    parts: &mut Parts,
+    number: u8,
+    triple: &Triple,
+) -> Result<Reply<'static>, AllocError>
+    requires left { HasStepLeft parts.old }
+    requires number { number < vec_len parts.old.clones }
+    ensures keeps { KeepsDomain parts.old parts.new }
+    ensures done { IfOk result (Does parts.old (commands.Add number triple.now) parts.new) }
+{
+    match &mut parts.clones[usize::from(number)] {
+        CloneState::Live(clone) => set(alloc, clone, &mut parts.messages, triple, true),
+        missing => Ok(state_reply(missing)),
+    }
+}
+
+/// Clone `number` deletes the pairs of a triple.
+pub fn remove(
+    alloc: Global,
+    parts: &mut Parts,
+    number: u8,
+    triple: &Triple,
+) -> Result<Reply<'static>, AllocError>
+    requires left { HasStepLeft parts.old }
+    requires number { number < vec_len parts.old.clones }
+    ensures keeps { KeepsDomain parts.old parts.new }
+    ensures done { IfOk result (Does parts.old (commands.Remove number triple.now) parts.new) }
+{
+    match &mut parts.clones[usize::from(number)] {
+        CloneState::Live(clone) => set(alloc, clone, &mut parts.messages, triple, false),
+        missing => Ok(state_reply(missing)),
+    }
+}
+
+/// A live clone makes the operation that inserts a triple, or the one that deletes the pairs of it, and its entry is sent.
+fn set(
+    alloc: Global,
+    clone: &mut MldClone,
+    messages: &mut Vec<Message>,
+    triple: &Triple,
+    present: bool,
+) -> Result<Reply<'static>, AllocError>
+    requires { ticks_of clone.old.local.ticks clone.old.local.path < tick_limit }
+    ensures { IfOk result (SetsAs clone.old.local (map message_value messages.old.items) triple.now present clone.new.local (map message_value messages.new.items)) }
+{
+    match clone.set(alloc, triple, present) {
+        Ok(Done::Nothing) => Ok(Reply::NoOperation),
+        Ok(Done::Made(entry)) => send_entry(messages, entry),
+        Err(UpdateFault::NoMemory) => Err(AllocError),
+        Err(UpdateFault::TicksSpent) => unreachable!(),
+    }
+}
+
+/// Sends the entry of an operation that was made.
+fn send_entry(messages: &mut Vec<Message>, entry: Entry) -> Result<Reply<'static>, AllocError>
+    ensures { IfOk result (SendsEntry (map message_value messages.old.items) entry (map message_value messages.new.items)) }
+{
+    let range = entry.range();
+    let dot = Dot {
+        path: range.path,
+        tick: range.last,
+    };
+    let message = send(messages, Message::Range(entry))?;
+    Ok(Reply::Did { dot, message })
+}

@@ -1,0 +1,45 @@
+//! Commands: each has a function of its name in a file of its own, which gives its reply.
+ghost use Rattle.std.specs.Prelude.{◌≡◌, vec_len, OnOk};
+ghost use Rattle.mld_model.specs.Local.{IsNamed};
+ghost use Rattle.mld_model.specs.World.{clone_count};
+ghost use Rattle.schedule_model.specs.Step.{HasCloneNumbers};
+ghost use Rattle.net_world.specs.Commands.{Answered};
+ghost use Rattle.net_world.specs.Parts.{HasStepLeft, KeepsDomain};
+
+use crate::changes::{add, remove};
+use crate::compare::compare;
+use crate::deliver::deliver;
+use crate::join::join;
+use crate::parts::Parts;
+use crate::replies::tell;
+use crate::show::show;
+use schedule_model::Command;
+use std::alloc::{AllocError, Global};
+use std::thread::Threads;
+
+/// Does a command, and adds the text of its reply to the output.
+pub fn answer<R: Threads>(
+    rt: &R,
+    alloc: Global,
+    parts: &mut Parts,
+    command: &Command,
+    out: &mut Vec<u8>,
+) -> Result<(), AllocError>
+    requires left { HasStepLeft parts.old }
+    requires count { vec_len parts.old.clones ≡ clone_count }
+    requires named { IsNamed parts.old.domain parts.old.properties.items }
+    requires numbers { HasCloneNumbers command.now }
+    ensures keeps { KeepsDomain parts.old parts.new }
+    ensures done { OnOk result (Answered parts.old command.now parts.new out.old.items out.new.items) }
+{
+    match command {
+        Command::Add(number, triple) => tell(alloc, out, add(alloc, parts, *number, triple)),
+        Command::Remove(number, triple) => tell(alloc, out, remove(alloc, parts, *number, triple)),
+        Command::Deliver(message, number) => {
+            tell(alloc, out, deliver(rt, alloc, parts, *message, *number))
+        }
+        Command::Join(number) => tell(alloc, out, join(alloc, parts, *number)),
+        Command::Show(number) => tell(alloc, out, Ok(show(parts, *number))),
+        Command::Compare(number, other) => tell(alloc, out, Ok(compare(parts, *number, *other))),
+    }
+}

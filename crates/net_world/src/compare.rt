@@ -1,0 +1,38 @@
+//! The command `compare`.
+ghost use Rattle.std.specs.Prelude.{◌<◌, vec_len};
+ghost use Rattle.schedule_model.specs.declared.Command.TheVariants as commands;
+ghost use Rattle.net_world.specs.Comparing.{IsHowTheyCompare};
+ghost use Rattle.net_world.specs.Parts.{Does};
+
+use crate::parts::Parts;
+use crate::replies::Reply;
+use crate::states::live_at;
+use clone_core::{Covering, MldClone};
+
+/// How the dots compare that clones `number` and `other` know.
+pub fn compare<'a>(parts: &'a Parts, number: u8, other: u8) -> Reply<'a>
+    requires first { number < vec_len parts.now.clones }
+    requires second { other < vec_len parts.now.clones }
+    ensures { Does parts.now (commands.Compare number other) parts.now result }
+{
+    let first = match live_at(parts.clones.as_slice(), number) {
+        Ok(first) => first,
+        Err(missing) => return missing,
+    };
+    match live_at(parts.clones.as_slice(), other) {
+        Ok(second) => compared(first, second),
+        Err(missing) => missing,
+    }
+}
+
+/// How the dots compare that two live clones know.
+fn compared(first: &MldClone, second: &MldClone) -> Reply<'static>
+    ensures { IsHowTheyCompare first.now.local second.now.local result }
+{
+    match first.compare(second) {
+        Covering::Same => Reply::Same,
+        Covering::Less => Reply::Less,
+        Covering::More => Reply::More,
+        Covering::Apart => Reply::Apart,
+    }
+}

@@ -1,0 +1,19 @@
+//! The command `show`.
+ghost use Rattle.std.specs.Prelude.{◌<◌, vec_len};
+ghost use Rattle.schedule_model.specs.declared.Command.TheVariants as commands;
+ghost use Rattle.net_world.specs.Parts.{Does};
+
+use crate::parts::Parts;
+use crate::replies::Reply;
+use crate::states::live_at;
+
+/// The pairs of clone `number`.
+pub fn show<'a>(parts: &'a Parts, number: u8) -> Reply<'a>
+    requires { number < vec_len parts.now.clones }
+    ensures { Does parts.now (commands.Show number) parts.now result }
+{
+    match live_at(parts.clones.as_slice(), number) {
+        Ok(clone) => Reply::Shows(clone.pairs()),
+        Err(missing) => missing,
+    }
+}
