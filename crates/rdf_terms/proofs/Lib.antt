@@ -22,3 +22,4 @@ pub mod ReadLemmas
 pub mod Written
 pub mod Values
 pub mod OnePlace
+pub mod Texts

@@ -5,6 +5,7 @@ mod bodies;
 mod compare;
 mod escapes;
 mod faults;
+mod kept;
 mod laws;
 mod limits;
 mod order;
