@@ -15,6 +15,7 @@ pub mod Picking
 pub mod PickingLaws
 pub mod Ready
 pub mod Cut
+pub mod Applies
 pub mod Messages
 pub mod Held
 pub mod Properties

@@ -1,6 +1,7 @@
 //! Operations of shared triples: tagged triples, entries, and what a history means.
 #![tactic(auto)]
 
+mod cuts;
 mod entries;
 mod laws;
 mod limits;
@@ -16,6 +17,7 @@ mod tagged;
 #[cfg(test)]
 mod tests;
 
+pub use cuts::{Cut, Tags};
 pub use entries::Entry;
 pub use laws::{meaning_of_taken, net_of_one, one_meaning};
 pub use limits::HELD_LIMIT;
