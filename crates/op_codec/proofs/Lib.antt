@@ -14,3 +14,4 @@ pub mod PairTrips
 pub mod EntryTrips
 pub mod MessageTrips
 pub mod ReadWritten
+pub mod Shapes

@@ -43,7 +43,7 @@ abbrev behind_clock : List (List ℕ × ℕ) → ℕ → List ℕ → Reading Sn
 behind_clock ticks at rest = chain (read_pairs (Some ticks) at rest) (λ pairs end left. Found (snapshot_of ticks pairs) end left)
 
 -- a snapshot is read back
-snapshot_back : IsReadBack IsSnapshot snapshot_bytes read_snapshot
+pub snapshot_back : IsReadBack IsSnapshot snapshot_bytes read_snapshot
 unfolding read_snapshot
 snapshot_back snapshot place rest is =
     let middle = place + length (clock_bytes snapshot.ticks) in
@@ -53,7 +53,7 @@ snapshot_back snapshot place rest is =
     (pairs_back (Some snapshot.ticks) snapshot.pairs middle rest is.pairs (covered_test snapshot.ticks snapshot.pairs is.covered)))
 
 -- a snapshot was written so
-snapshot_one : IsOneSpelling IsSnapshot snapshot_bytes read_snapshot
+pub snapshot_one : IsOneSpelling IsSnapshot snapshot_bytes read_snapshot
 unfolding read_snapshot
 snapshot_one place bytes snapshot next rest b h = by (splits (read_clock place bytes) behind_clock snapshot next rest h)
   where

@@ -8,6 +8,7 @@ use Rattle.mld_ops.specs.Tagged.{tagged_cmp, insert_cmp}
 use Rattle.mld_ops.specs.declared.tagged.Tagged.{Tagged}
 use Rattle.rdf_terms.specs.Grammar.{SpellsTriple, IsWithin}
 use Rattle.rdf_terms.specs.Spelling.{triple_text}
+use Rattle.rdf_terms.specs.Written.{IsWrittenSo}
 use Rattle.rdf_terms.specs.declared.terms.Triple.{Triple}
 use Rattle.tree_clock.specs.Clock.{entry_cmp, Covers}
 use Rattle.tree_clock.specs.Letters.{IsLetter}
@@ -56,7 +57,7 @@ IsShortMessage (CarriesSnapshot snapshot) = IsShortSnapshot snapshot
 IsShortMessage (CarriesAsk id) = Unit {0}
 IsShortMessage (CarriesGive give) = IsShortSnapshot give.snapshot
 
--- ---- the values that the grammar has
+-- ---- what is known of values, whatever they are to each other
 
 -- a tick of four bytes
 abbrev pub IsTick : ℕ → Type 0
@@ -66,6 +67,27 @@ IsTick tick = tick < 2 ^ 32
 pub record IsPath (path : List ℕ) : Type 0 where
   pub letters : All IsLetter path
   pub count : length path ≤ path_limit
+
+-- a dot whose path and tick may be written; its tick may be 0
+pub record HasShape (dot : Dot) : Type 0 where
+  pub path : IsPath dot.path
+  pub tick : IsTick dot.tick
+
+-- the ticks of a path
+abbrev pub HaveShape : List ℕ × ℕ → Type 0
+HaveShape ticks = HasShape (record { path = ticks.0; tick = ticks.1 })
+
+-- a pair that may be written
+pub record HasPairShape (pair : Tagged) : Type 0 where
+  pub triple : IsWrittenSo pair.triple
+  pub dot : HasShape pair.dot
+
+-- an insert that may be written
+pub record HasInsertShape (insert : Triple × ℕ) : Type 0 where
+  pub triple : IsWrittenSo insert.0
+  pub tick : IsTick insert.1
+
+-- ---- the values that the grammar has
 
 -- a dot: a path and a tick from 1 on
 pub record IsDot (dot : Dot) : Type 0 where

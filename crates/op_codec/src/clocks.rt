@@ -1,12 +1,12 @@
 //! Ticks, dots and clocks as bytes.
 ghost use Rattle.std.specs.Prelude.{◌≡◌, ◌≤◌, ◌<◌, ◌-◌, ◌^◌, ◌++◌, ◌∷◌, [], true, length, drop, OnOk, OnErr, IfOk, MatchResult};
-ghost use Rattle.std.specs.List.{slice_get};
+ghost use Rattle.std.specs.List.{AllByRecursion, slice_get};
 ghost use Rattle.op_codec.specs.Agreement.{IsRead, IsRefused, TakesItem, MissesItem};
 ghost use Rattle.op_codec.specs.Clocks.{tick_bytes, read_any_tick, read_tick, dot_bytes, read_dot, read_ticks, last_path, clock_bytes, read_clock};
 ghost use Rattle.op_codec.specs.Kept.{KeepsStart};
 ghost use Rattle.op_codec.specs.Laws.{IsWritten};
 ghost use Rattle.op_codec.specs.Lists.{is_above, is_above_one, list_bytes};
-ghost use Rattle.op_codec.specs.Stored.{IsShort, IsStoredClock};
+ghost use Rattle.op_codec.specs.Stored.{IsShort, HasShape, HaveShape, IsStoredClock};
 ghost use Rattle.tree_clock.specs.Clock.{entry_cmp, IsClock};
 ghost use Rattle.tree_clock.specs.Path.{path_cmp};
 
@@ -29,7 +29,9 @@ pub(crate) fn append_tick(out: &mut Vec<u8>, tick: u32) -> Result<(), AllocError
 pub(crate) fn append_dot(out: &mut Vec<u8>, dot: &Dot) -> Result<(), AllocError>
     ensures ok { OnOk result (out.new.items ≡ out.old.items ++ dot_bytes dot.now) }
     ensures err { OnErr result (KeepsStart out.old.items out.new.items) }
+    ensures shape { OnOk result (HasShape dot.now) }
 {
+    let _count = dot.path.len();
     append_path(out, &dot.path)?;
     append_tick(out, dot.tick)
 }
@@ -78,6 +80,7 @@ fn append_ticks(out: &mut Vec<u8>, list: &[(Path, u32)]) -> Result<(), AllocErro
     requires { IsShort list.now }
     ensures ok { OnOk result (out.new.items ≡ out.old.items ++ clock_bytes list.now) }
     ensures err { OnErr result (KeepsStart out.old.items out.new.items) }
+    ensures shape { OnOk result (AllByRecursion HaveShape list.now) }
 {
     put_u32(out, list.len() as u32)?;
     for (path, tick) in list {
@@ -95,6 +98,7 @@ pub(crate) fn append_clock(out: &mut Vec<u8>, clock: &Clock) -> Result<(), Alloc
     requires { IsShort clock.now.ticks }
     ensures ok { OnOk result (out.new.items ≡ out.old.items ++ clock_bytes clock.now.ticks) }
     ensures err { OnErr result (KeepsStart out.old.items out.new.items) }
+    ensures stored { OnOk result (IsStoredClock clock.now.ticks) }
 {
     let list = clock.to_list(*out.allocator())?;
     append_ticks(out, &list)
@@ -107,6 +111,7 @@ pub fn write_clock(out: &mut Vec<u8>, clock: &Clock) -> Result<(), AllocError>
     requires { IsShort clock.now.ticks }
     ensures ok { OnOk result (out.new.items ≡ out.old.items ++ clock_bytes clock.now.ticks) }
     ensures err { OnErr result (out.new.items ≡ out.old.items) }
+    ensures stored { OnOk result (IsStoredClock clock.now.ticks) }
 {
     let start = out.len();
     let written = append_clock(out, clock);

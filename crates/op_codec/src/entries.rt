@@ -1,11 +1,12 @@
 //! Entries as bytes.
 ghost use Rattle.std.specs.Prelude.{◌≡◌, ◌≤◌, ◌++◌, ◌∷◌, [], length, drop, OnOk, OnErr, IfOk, MatchResult};
+ghost use Rattle.std.specs.List.{AllByRecursion};
 ghost use Rattle.op_codec.specs.Agreement.{IsRead, IsRefused, TakesItem, MissesItem};
 ghost use Rattle.op_codec.specs.Entries.{range_bytes, read_range, insert_bytes, read_insert, inserts_bytes, read_inserts, entry_bytes, read_entry};
 ghost use Rattle.op_codec.specs.Kept.{KeepsStart};
 ghost use Rattle.op_codec.specs.Laws.{IsWritten};
 ghost use Rattle.op_codec.specs.Lists.{is_above};
-ghost use Rattle.op_codec.specs.Stored.{IsShortTriple, AreShortInserts, IsShortEntry, IsStoredEntry};
+ghost use Rattle.op_codec.specs.Stored.{IsShortTriple, AreShortInserts, IsShortEntry, HasInsertShape, IsRange, IsStoredEntry};
 ghost use Rattle.mld_ops.specs.Tagged.{insert_cmp};
 
 use crate::clocks::{append_clock, append_tick, read_any_tick, read_clock};
@@ -25,7 +26,9 @@ use tree_clock::Range;
 fn append_range(out: &mut Vec<u8>, range: &Range) -> Result<(), AllocError>
     ensures ok { OnOk result (out.new.items ≡ out.old.items ++ range_bytes range.now) }
     ensures err { OnErr result (KeepsStart out.old.items out.new.items) }
+    ensures stored { OnOk result (IsRange range.now) }
 {
+    let _count = range.path.len();
     append_path(out, &range.path)?;
     append_tick(out, range.first)?;
     append_tick(out, range.last)
@@ -50,6 +53,7 @@ fn append_insert(out: &mut Vec<u8>, triple: &Triple, tick: u32) -> Result<(), Al
     requires { IsShortTriple triple.now }
     ensures ok { OnOk result (out.new.items ≡ out.old.items ++ insert_bytes (triple.now, tick)) }
     ensures err { OnErr result (KeepsStart out.old.items out.new.items) }
+    ensures shape { OnOk result (HasInsertShape (triple.now, tick)) }
 {
     append_stored(out, triple)?;
     append_tick(out, tick)
@@ -60,6 +64,7 @@ fn append_inserts(out: &mut Vec<u8>, inserts: &[(Triple, u32)]) -> Result<(), Al
     requires { AreShortInserts inserts.now }
     ensures ok { OnOk result (out.new.items ≡ out.old.items ++ inserts_bytes inserts.now) }
     ensures err { OnErr result (KeepsStart out.old.items out.new.items) }
+    ensures shape { OnOk result (AllByRecursion HasInsertShape inserts.now) }
 {
     put_u32(out, inserts.len() as u32)?;
     for (triple, tick) in inserts {
@@ -126,6 +131,7 @@ pub(crate) fn append_entry(out: &mut Vec<u8>, entry: &Entry) -> Result<(), Alloc
     requires { IsShortEntry entry.now }
     ensures ok { OnOk result (out.new.items ≡ out.old.items ++ entry_bytes entry.now) }
     ensures err { OnErr result (KeepsStart out.old.items out.new.items) }
+    ensures stored { OnOk result (IsStoredEntry entry.now) }
 {
     append_range(out, &entry.range())?;
     append_clock(out, entry.time())?;
@@ -133,13 +139,14 @@ pub(crate) fn append_entry(out: &mut Vec<u8>, entry: &Entry) -> Result<(), Alloc
     append_inserts(out, entry.inserts())
 }
 
-/// Appends an entry in bytes. Where memory runs out the buffer is as before.
+/// Appends an entry in bytes. Where memory runs out the buffer is as before. What is written is read as the entry.
 ///
 /// Each of its lists has fewer than 2^32 items, and the written form of each triple fewer than 2^32 bytes.
 pub fn write_entry(out: &mut Vec<u8>, entry: &Entry) -> Result<(), AllocError>
     requires { IsShortEntry entry.now }
     ensures ok { OnOk result (out.new.items ≡ out.old.items ++ entry_bytes entry.now) }
     ensures err { OnErr result (out.new.items ≡ out.old.items) }
+    ensures stored { OnOk result (IsStoredEntry entry.now) }
 {
     let start = out.len();
     let written = append_entry(out, entry);

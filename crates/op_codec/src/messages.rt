@@ -30,7 +30,7 @@ const ASK_KIND: u8 = 4;
 const GIVE_KIND: u8 = 5;
 
 /// Appends an id.
-fn append_id(out: &mut Vec<u8>, id: &Uuid) -> Result<(), AllocError>
+pub fn append_id(out: &mut Vec<u8>, id: &Uuid) -> Result<(), AllocError>
     ensures ok { OnOk result (out.new.items ≡ out.old.items ++ id.now) }
     ensures err { OnErr result (out.new.items ≡ out.old.items) }
 {
@@ -38,7 +38,7 @@ fn append_id(out: &mut Vec<u8>, id: &Uuid) -> Result<(), AllocError>
 }
 
 /// Reads an id.
-fn read_id(input: &[u8], at: usize) -> Result<(Uuid, usize), CodecFault>
+pub fn read_id(input: &[u8], at: usize) -> Result<(Uuid, usize), CodecFault>
     requires { at ≤ length input.now }
     ensures { MatchResult result
         (λ read. IsRead (read_piece id_size at (drop at input.now)) input.now read.0 read.1)
@@ -51,7 +51,7 @@ fn read_id(input: &[u8], at: usize) -> Result<(Uuid, usize), CodecFault>
 }
 
 /// Appends a snapshot.
-fn append_snapshot(out: &mut Vec<u8>, snapshot: &Snapshot) -> Result<(), AllocError>
+pub fn append_snapshot(out: &mut Vec<u8>, snapshot: &Snapshot) -> Result<(), AllocError>
     requires { IsShortSnapshot (snapshot_value snapshot.now) }
     ensures ok { OnOk result (out.new.items ≡ out.old.items ++ snapshot_bytes (snapshot_value snapshot.now)) }
     ensures err { OnErr result (KeepsStart out.old.items out.new.items) }
@@ -62,7 +62,7 @@ fn append_snapshot(out: &mut Vec<u8>, snapshot: &Snapshot) -> Result<(), AllocEr
 
 /// Reads a snapshot, whose clock covers its pairs.
 #[tactic(auto, unfolding(crate::specs::Messages::read_snapshot))]
-fn read_snapshot(alloc: Global, input: &[u8], at: usize) -> Result<(Snapshot, usize), CodecFault>
+pub fn read_snapshot(alloc: Global, input: &[u8], at: usize) -> Result<(Snapshot, usize), CodecFault>
     requires { at ≤ length input.now }
     ensures { MatchResult result
         (λ read. IsRead (read_snapshot at (drop at input.now)) input.now (snapshot_value read.0) read.1)

@@ -1,11 +1,12 @@
 //! Pairs and lists of pairs as bytes.
 ghost use Rattle.std.specs.Prelude.{◌≡◌, ◌≤◌, ◌++◌, ◌∷◌, [], None, length, drop, OnOk, OnErr, IfOk, MatchResult};
+ghost use Rattle.std.specs.List.{AllByRecursion};
 ghost use Rattle.op_codec.specs.Agreement.{IsRead, IsRefused, TakesItem, MissesItem};
 ghost use Rattle.op_codec.specs.Kept.{KeepsStart};
 ghost use Rattle.op_codec.specs.Laws.{IsWritten};
 ghost use Rattle.op_codec.specs.Lists.{is_above};
 ghost use Rattle.op_codec.specs.Pairs.{cover_of, is_covered, fits_pairs, pair_bytes, read_pair, pairs_bytes, read_pairs};
-ghost use Rattle.op_codec.specs.Stored.{IsShortTriple, AreShortPairs, ArePairs};
+ghost use Rattle.op_codec.specs.Stored.{IsShortTriple, AreShortPairs, HasPairShape, ArePairs};
 
 use crate::clocks::{append_dot, read_dot};
 use crate::faults::CodecFault;
@@ -22,6 +23,7 @@ fn append_pair(out: &mut Vec<u8>, pair: &Tagged) -> Result<(), AllocError>
     requires { IsShortTriple pair.now.triple }
     ensures ok { OnOk result (out.new.items ≡ out.old.items ++ pair_bytes pair.now) }
     ensures err { OnErr result (KeepsStart out.old.items out.new.items) }
+    ensures shape { OnOk result (HasPairShape pair.now) }
 {
     append_stored(out, &pair.triple)?;
     append_dot(out, &pair.dot)
@@ -32,6 +34,7 @@ pub(crate) fn append_pairs(out: &mut Vec<u8>, pairs: &[Tagged]) -> Result<(), Al
     requires { AreShortPairs pairs.now }
     ensures ok { OnOk result (out.new.items ≡ out.old.items ++ pairs_bytes pairs.now) }
     ensures err { OnErr result (KeepsStart out.old.items out.new.items) }
+    ensures shape { OnOk result (AllByRecursion HasPairShape pairs.now) }
 {
     put_u32(out, pairs.len() as u32)?;
     for pair in pairs {
@@ -47,6 +50,7 @@ pub fn write_tagged(out: &mut Vec<u8>, pairs: &[Tagged]) -> Result<(), AllocErro
     requires { AreShortPairs pairs.now }
     ensures ok { OnOk result (out.new.items ≡ out.old.items ++ pairs_bytes pairs.now) }
     ensures err { OnErr result (out.new.items ≡ out.old.items) }
+    ensures shape { OnOk result (AllByRecursion HasPairShape pairs.now) }
 {
     let start = out.len();
     let written = append_pairs(out, pairs);

@@ -5,6 +5,7 @@ ghost use Rattle.op_codec.specs.Stored.{IsShortTriple};
 ghost use Rattle.op_codec.specs.Triples.{stored_triple, read_stored};
 ghost use Rattle.rdf_terms.specs.Literal.{is_same};
 ghost use Rattle.rdf_terms.specs.Spelling.{triple_text};
+ghost use Rattle.rdf_terms.specs.Written.{IsWrittenSo};
 
 use crate::faults::CodecFault;
 use crate::fields::{pass_piece, read_u32};
@@ -12,12 +13,15 @@ use mld_bytes::put_bytes;
 use rdf_terms::{Triple, TripleFault, read_triple, write_triple};
 use std::alloc::{AllocError, Global};
 
-/// Appends a triple: the length of its written form, and that form. Where memory runs out the buffer is as before.
+/// Appends a triple: the length of its written form, and that form. Where memory runs out the buffer is as before. What
+/// every triple keeps is told beside it.
 pub fn append_stored(out: &mut Vec<u8>, triple: &Triple) -> Result<(), AllocError>
     requires { IsShortTriple triple.now }
     ensures ok { OnOk result (out.new.items ≡ out.old.items ++ stored_triple triple.now) }
     ensures err { OnErr result (out.new.items ≡ out.old.items) }
+    ensures written { IsWrittenSo triple.now }
 {
+    triple.kept();
     let mut text = Vec::new(*out.allocator());
     write_triple(&mut text, triple)?;
     put_bytes(out, &text)

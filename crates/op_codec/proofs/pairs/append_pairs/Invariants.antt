@@ -1,6 +1,8 @@
+use Rattle.op_codec.specs.Stored.{HasPairShape}
+use Rattle.op_codec.proofs.Shapes.{EachBelow}
 use Rattle.op_codec.specs.Pairs.{pair_bytes}
 use Rattle.op_codec.proofs.Appending.{HasItems}
 use Rattle.op_codec.proofs.pairs.append_pairs.Given as goal
 
 abbrev pub invariant-loop-pair : goal.invariant-loop-pair
-invariant-loop-pair l = HasItems pair_bytes l.pairs l.fn.out.items l.pair-index l.out.items
+invariant-loop-pair l = record { items : HasItems pair_bytes l.pairs l.fn.out.items l.pair-index l.out.items; shape : EachBelow HasPairShape l.pairs l.pair-index }
