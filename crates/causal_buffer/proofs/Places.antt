@@ -7,7 +7,7 @@ use Rattle.std.specs.List.Retain.{IsFiltered, ReturnsInTurn}
 use Rattle.tree_clock.specs.declared.dots.Range.{Range}
 use Rattle.mld_ops.specs.Entry.{EntryValue}
 use Rattle.mld_ops.specs.Picking.{DropsThose, HasNone, TakesFirst}
-use Rattle.causal_buffer.specs.Held.{IsHeldRange}
+use Rattle.causal_buffer.specs.HeldEntries.{IsHeldRange}
 
 -- ---- ranges that are held
 

@@ -1,7 +1,7 @@
 //! Entries that wait, in order of arrival.
 ghost use Rattle.std.specs.Prelude.{◌≡◌, ◌≢◌, ℕ, ◌<◌, ◌≤◌, ◌↔◌, ◌++◌, ◌∷◌, [], length, IsTrue, IsNone, IfOk, IfSome, IfNone, IsErrOf, OnOk, OnErr, Ok, MatchOption};
 ghost use Rattle.std.specs.List.{AllWithin, HoldsAt};
-ghost use Rattle.causal_buffer.specs.Held.{IsHeldRange, IsFullFor, IsAddedTo};
+ghost use Rattle.causal_buffer.specs.HeldEntries.{IsHeldRange, HasNoRoomFor, IsAddedTo};
 ghost use Rattle.mld_ops.specs.Held.{held_limit, ranges_of};
 ghost use Rattle.causal_buffer.specs.declared.faults.HeldFault.TheVariants as faults;
 ghost use Rattle.causal_buffer.specs.declared.held.Kept.TheVariants as kept;
@@ -95,7 +95,7 @@ impl Held {
     pub fn add(&mut self, alloc: Global, entry: &Entry) -> Result<Kept, HeldFault>
         ensures added { result ≡ Ok kept.Added → IsAddedTo self.old self.new entry.now }
         ensures already { (result ≡ Ok kept.Already) ↔ IsHeldRange self.old entry.now.range }
-        ensures full { IsErrOf result faults.Full ↔ IsFullFor self.old entry.now.range }
+        ensures full { IsErrOf result faults.Full ↔ HasNoRoomFor self.old entry.now.range }
         ensures unchanged { result ≢ Ok kept.Added → self.new ≡ self.old }
     {
         if is_held(&self.entries, &entry.range()) {

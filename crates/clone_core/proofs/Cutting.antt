@@ -4,14 +4,14 @@ use Rattle.std.specs.List.{AllByRecursion}
 use Rattle.std.specs.declared.cmp.Ordering.{Ordering}
 use Rattle.rdf_terms.specs.declared.terms.Triple.{Triple}
 use Rattle.tree_clock.specs.Lists.{Has, IsAscending}
-use Rattle.mld_ops.specs.AscendingLaws.{below_member, below_from_members, has_append, has_left, has_right, has_take_more}
+use Rattle.mld_ops.proofs.AscendingLaws.{below_member, below_from_members, has_append, has_left, has_right, has_take_more}
 use Rattle.mld_ops.specs.declared.tagged.Tagged.{Tagged}
 use Rattle.mld_ops.specs.History.{dot_at}
 use Rattle.mld_ops.specs.Cut.{IsSuperseded, IsCutOf}
 use Rattle.mld_ops.specs.Entry.{EntryValue, IsEntry}
 use Rattle.mld_ops.specs.Picking.{DropsThose}
 use Rattle.mld_ops.specs.Tagged.{tagged_cmp}
-use Rattle.clone_core.specs.Pairs.{IsInsertedWithin, IsOutdated, IsNoted}
+use Rattle.clone_core.specs.PairLists.{IsInsertedWithin, IsOutdated, IsNoted}
 
 module _ {X : Type 0} (P : X → Type 0) where
   -- what is left are the members that aren't of the kind

@@ -15,10 +15,10 @@ use Rattle.tree_clock.specs.declared.dots.Dot.{Dot}
 use Rattle.tree_clock.specs.Lists.{Has, IsAscending}
 use Rattle.tree_clock.specs.Dot.{IsIn}
 use Rattle.tree_clock.specs.Clock.{ticks_of, Covers, RaisesTo}
-use Rattle.tree_clock.specs.ClockLaws.{Covers-raised}
+use Rattle.tree_clock.proofs.ClockLaws.{Covers-raised}
 use Rattle.mld_ops.specs.declared.tagged.Tagged.{Tagged}
 use Rattle.mld_ops.specs.Tagged.{tagged_cmp}
-use Rattle.mld_ops.specs.AscendingLaws.{has_filter, ascending_filter}
+use Rattle.mld_ops.proofs.AscendingLaws.{has_filter, ascending_filter}
 use Rattle.mld_ops.specs.Entry.{IsEntry}
 use Rattle.mld_ops.specs.Effect.{range_of}
 use Rattle.mld_model.specs.CloneStep.{ArePairsOf}

@@ -9,8 +9,8 @@ use Rattle.tree_clock.specs.Limits.{path_limit}
 use Rattle.tree_clock.specs.Path.{zero_letter, one_letter}
 use Rattle.tree_clock.specs.Lists.{Has}
 use Rattle.mld_model.specs.Local.{LocalClone, LocalAsker, IsLocal, snapshot_of, joined_clone}
-use Rattle.clone_core.specs.LocalLaws.{local_ascends}
-use Rattle.clone_core.specs.Joining.{Gives, AreGood}
+use Rattle.clone_core.proofs.MakingLaws.{local_ascends}
+use Rattle.clone_core.specs.Joining.{LocallyGives, AreGood}
 
 -- the clone that begins with a copy of the snapshot at the given path is the one that joins
 pub joins_as : (asker : LocalAsker) (give : Give) (base : SnapshotValue) (id path : List ℕ) (new : LocalClone) → base ≡ snapshot_value give.snapshot
@@ -30,7 +30,7 @@ has_good clone local = record { ascending = local_ascends clone local; covered =
 -- the clone that keeps the left half of its path forked for who asks, where it gives the right half with a snapshot
 pub forks_as : (old : LocalClone) (id left right : List ℕ) (snapshot : Snapshot) (messages : List Message) → length old.path < path_limit
     → snapshot_value snapshot ≡ snapshot_of old → left ≡ old.path ++ zero_letter ∷ [] → right ≡ old.path ++ one_letter ∷ []
-    → messages ≡ message.JoinGive (record { id = id; path = right; snapshot = snapshot }) ∷ [] → Gives old id messages (record old { path = left })
+    → messages ≡ message.JoinGive (record { id = id; path = right; snapshot = snapshot }) ∷ [] → LocallyGives old id messages (record old { path = left })
 forks_as old id left right snapshot messages room have l r e = (
   record { id = id; path = right; snapshot = snapshot },
   e,
@@ -42,7 +42,7 @@ forks_as old id left right snapshot messages room have l r e = (
 )
 
 -- what a clone gives is good
-pub gives_good : (old new : LocalClone) (id : List ℕ) (messages : List Message) → IsLocal old → Gives old id messages new → AreGood messages
+pub gives_good : (old new : LocalClone) (id : List ℕ) (messages : List Message) → IsLocal old → LocallyGives old id messages new → AreGood messages
 gives_good old new id messages local gives sent has =
     let is : message.JoinGive gives.0 ≡ sent = only (message.JoinGive gives.0) sent (subst (λ (ms : List Message). Has ms sent) gives.1 has) in
     let have = ap (λ (give : GiveValue). give.snapshot) gives.2.right in

@@ -1,3 +1,5 @@
+pub mod PlanLaws
+pub mod MakingLaws
 pub mod Cutting
 pub mod Deleting
 pub mod Stepping

@@ -6,10 +6,10 @@ use Rattle.mld_ops.specs.declared.tagged.Tagged.{Tagged}
 use Rattle.mld_ops.specs.Cut.{IsCutOf}
 use Rattle.mld_ops.specs.Entry.{EntryValue, IsEntry}
 use Rattle.mld_model.specs.Local.{LocalClone, LeadsTo, IsLocal}
-use Rattle.clone_core.specs.LocalLaws.{own_ready, own_last, local_taken, taken_by}
+use Rattle.clone_core.proofs.MakingLaws.{own_ready, own_last, local_taken, taken_by}
 use Rattle.clone_core.specs.Making.{IsNextEntry}
 use Rattle.clone_core.specs.Plans.{entries_of, StepsCut}
-use Rattle.clone_core.specs.Steps.{StepValue}
+use Rattle.clone_core.specs.CloneSteps.{StepValue}
 
 -- the one step's entry leads to the raised clock
 pub made_leads : (ticks after : List (List ℕ × ℕ)) (old new : List Tagged) (dot : Dot) (step : StepValue) → IsNextEntry ticks dot step.entry

@@ -4,12 +4,12 @@ use Rattle.tree_clock.specs.declared.dots.Range.{Range}
 use Rattle.tree_clock.specs.Clock.{ticks_of, RaisesTo}
 use Rattle.mld_ops.specs.Entry.{EntryValue, IsEntry}
 use Rattle.mld_ops.specs.Picking.{HasNone, DropsThose, TakesFirst}
-use Rattle.mld_ops.specs.PickingLaws.{none_drops}
+use Rattle.mld_ops.proofs.PickingLaws.{none_drops}
 use Rattle.mld_ops.specs.Ready.{last_dot, IsKnownEntry, IsReadyEntry}
 use Rattle.mld_model.specs.Local.{LocallyReleases}
 use Rattle.mld_ops.specs.Held.{ranges_of}
 use Rattle.clone_core.specs.Plans.{entries_of, adds_of, StepsLead, IsPlanFrom, IsEmptyPlan, PlansEntry, PlansReleases, IsPlanOf, left_of}
-use Rattle.clone_core.specs.Steps.{StepValue}
+use Rattle.clone_core.specs.CloneSteps.{StepValue}
 use Rattle.clone_core.specs.declared.plans.Plan.{Plan}
 
 -- ---- one more step

@@ -4,7 +4,7 @@ use Rattle.mld_ops.specs.Cut.{IsCutOf}
 use Rattle.mld_ops.specs.Entry.{EntryValue}
 use Rattle.mld_ops.specs.declared.tagged.Tagged.{Tagged}
 use Rattle.clone_core.specs.Plans.{entries_of, StepsCut}
-use Rattle.clone_core.specs.Steps.{StepValue}
+use Rattle.clone_core.specs.CloneSteps.{StepValue}
 
 -- one more step makes its cut
 pub cut_more : (steps rest : List StepValue) (step : StepValue) (olds pairs middle : List Tagged) (starts : List StepValue)

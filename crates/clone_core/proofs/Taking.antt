@@ -3,7 +3,7 @@ use Rattle.std.proofs.Common.{◌≡◌, ◌≢◌, ◌∙◌, ℕ, ◌+◌, ◌
 use Rattle.std.proofs.lemmas.List.{take_all}
 use Rattle.tree_clock.specs.declared.dots.Range.{Range}
 use Rattle.tree_clock.specs.Lists.{Has}
-use Rattle.mld_ops.specs.AscendingLaws.{has_take_more, has_at}
+use Rattle.mld_ops.proofs.AscendingLaws.{has_take_more, has_at}
 use Rattle.mld_ops.specs.declared.tagged.Tagged.{Tagged}
 use Rattle.mld_ops.specs.Entry.{EntryValue}
 use Rattle.mld_ops.specs.Ready.{IsKnownEntry, IsReadyEntry}
@@ -11,13 +11,13 @@ use Rattle.causal_buffer.specs.declared.faults.HeldFault.{HeldFault}
 use Rattle.causal_buffer.specs.declared.faults.HeldFault.TheVariants as held
 use Rattle.causal_buffer.specs.declared.held.Kept.{Kept}
 use Rattle.causal_buffer.specs.declared.held.Kept.TheVariants as kept
-use Rattle.causal_buffer.specs.Held.{IsHeldRange, IsAddedTo, IsFullFor as IsHeldFull}
+use Rattle.causal_buffer.specs.HeldEntries.{IsHeldRange, IsAddedTo, HasNoRoomFor as IsHeldFull}
 use Rattle.mld_model.specs.Local.{LocalClone, IsLocal, LeadsTo, LocallyReleases, LocallyAccepts, LocallyHolds}
 use Rattle.mld_ops.specs.Held.{ranges_of}
-use Rattle.clone_core.specs.Calls.{LacksRange}
-use Rattle.clone_core.specs.LocalLaws.{local_taken, taken_by}
+use Rattle.clone_core.specs.CloneCalls.{LacksRange}
+use Rattle.clone_core.proofs.MakingLaws.{local_taken, taken_by}
 use Rattle.clone_core.specs.Plans.{entries_of, StepsCut, IsPlanOf, left_of}
-use Rattle.clone_core.specs.PlanLaws.{steps_lead, steps_entries}
+use Rattle.clone_core.proofs.PlanLaws.{steps_lead, steps_entries}
 use Rattle.clone_core.specs.Takes.{IsFullAt}
 use Rattle.clone_core.specs.declared.plans.Plan.{Plan}
 use Rattle.clone_core.proofs.Planning.{drops_shorter, first_shorter}

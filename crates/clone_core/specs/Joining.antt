@@ -28,8 +28,8 @@ AnswersGood (got.Answer messages) = AreGood messages
 AnswersGood other = Unit {0}
 
 -- the clone forked its leaf for the one of the id, and the one message gives the right half
-abbrev pub Gives : LocalClone → List ℕ → List Message → LocalClone → Type 0
-Gives old id messages new = (give : Give) × (messages ≡ message.JoinGive give ∷ []) × LocallyForks old id new (give_value give)
+abbrev pub LocallyGives : LocalClone → List ℕ → List Message → LocalClone → Type 0
+LocallyGives old id messages new = (give : Give) × (messages ≡ message.JoinGive give ∷ []) × LocallyForks old id new (give_value give)
 
 -- why who asked got no leaf: it is too deep to be forked, or memory ran out
 abbrev pub RefusesAsk : LocalClone → List ℕ → ReceiveFault → Type 0
@@ -51,10 +51,10 @@ GivesNone asker sent = (give : Give) → ¬ IsGiveFor asker sent give
 
 -- what became of a message that came to one who asks: it gave a leaf, and the clone lives at it; or it gave none, and the one who asks
 -- is as it was; or it gave one, but memory ran out, and the one who asks is as it was
-abbrev pub Adopts : LocalAsker → Message → Adopted → Type 0
-Adopts asker sent (adopted.Joined new) = (give : Give) × IsGiveFor asker sent give × (new.local ≡ joined_clone asker (give_value give))
-Adopts asker sent (adopted.Ignored same) = GivesNone asker sent × (same ≡ asker)
-Adopts asker sent (adopted.Refused same) = (give : Give) × IsGiveFor asker sent give × (same ≡ asker)
+abbrev pub LocallyAdopts : LocalAsker → Message → Adopted → Type 0
+LocallyAdopts asker sent (adopted.Joined new) = (give : Give) × IsGiveFor asker sent give × (new.local ≡ joined_clone asker (give_value give))
+LocallyAdopts asker sent (adopted.Ignored same) = GivesNone asker sent × (same ≡ asker)
+LocallyAdopts asker sent (adopted.Refused same) = (give : Give) × IsGiveFor asker sent give × (same ≡ asker)
 
 -- ---- the parts of joining
 

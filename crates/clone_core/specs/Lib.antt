@@ -1,11 +1,9 @@
-pub mod Calls
-pub mod Faults
+pub mod CloneCalls
+pub mod CloneFaults
 pub mod Joining
 pub mod Making
-pub mod Pairs
+pub mod PairLists
 pub mod Plans
-pub mod PlanLaws
-pub mod Steps
+pub mod CloneSteps
 pub mod Takes
 pub mod View
-pub mod LocalLaws

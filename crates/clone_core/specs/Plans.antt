@@ -7,7 +7,7 @@ use Rattle.mld_ops.specs.Ready.{last_dot, IsReadyEntry}
 use Rattle.mld_ops.specs.Cut.{IsCutOf}
 use Rattle.mld_model.specs.Local.{LocallyReleases}
 use Rattle.mld_ops.specs.Held.{ranges_of}
-use Rattle.clone_core.specs.Steps.{StepValue}
+use Rattle.clone_core.specs.CloneSteps.{StepValue}
 use Rattle.clone_core.specs.declared.plans.Plan.{Plan}
 
 -- the entries of steps

@@ -2,8 +2,8 @@
 use Rattle.mld_model.specs.Local.{LocalClone}
 use Rattle.clone_core.specs.declared.clones.MldClone.TheInside.{Inside}
 
-abbrev pub clone_of : Inside → LocalClone
-clone_of c = record {
+abbrev pub local_of : Inside → LocalClone
+local_of c = record {
   id = c.id;
   domain = c.domain;
   properties = c.properties.items;

@@ -49,7 +49,7 @@ impl Asker {
     ghost use Rattle.mld_ops.specs.declared.messages.Message.TheVariants as message;
     ghost use Rattle.mld_ops.specs.Messages.{message_value, IsGoodMessage};
     ghost use Rattle.mld_ops.specs.Properties.{AreKept};
-    ghost use Rattle.clone_core.specs.Joining.{IsGiveFor, GivesNone, Adopts};
+    ghost use Rattle.clone_core.specs.Joining.{IsGiveFor, GivesNone, LocallyAdopts};
 
     /// One who asks, who keeps these properties in order.
     pub fn new(id: Uuid, domain: Text, properties: Vec<Iri>) -> Asker
@@ -99,7 +99,7 @@ impl Asker {
     /// Becomes a clone by a message that gives it a leaf: its base is what the giver had. Other messages are ignored.
     pub fn receive<R: Threads>(self, _rt: &R, alloc: Global, message: &Message) -> Adopted
         requires { IsGoodMessage (message_value message.now) }
-        ensures { Adopts self message.now result }
+        ensures { LocallyAdopts self message.now result }
     {
         let Some(give) = self.given(message) else {
             return Adopted::Ignored(self);

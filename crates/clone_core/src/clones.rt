@@ -1,6 +1,6 @@
 //! The clone.
 ghost use Rattle.std.specs.Prelude.{◌≡◌, ◌≤◌, ◌+◌, IfOk, OnOk, OnErr, MatchOption, vec_len, vec_capacity};
-ghost use Rattle.clone_core.specs.Calls.{HasRange, LacksRange};
+ghost use Rattle.clone_core.specs.CloneCalls.{HasRange, LacksRange};
 ghost use Rattle.clone_core.specs.Plans.{left_of};
 
 use crate::answers::{Covering, Done, Got};
@@ -40,21 +40,21 @@ impl Model for MldClone {
 
     ghost Value = { CloneValue };
 
-    ghost use Rattle.clone_core.specs.View.{clone_of};
+    ghost use Rattle.clone_core.specs.View.{local_of};
 
-    ghost view = { λ c. record { local = clone_of c } };
+    ghost view = { λ c. record { local = local_of c } };
 
-    ghost invariant = { λ c. IsLocal (clone_of c) };
+    ghost invariant = { λ c. IsLocal (local_of c) };
 }
 
 impl MldClone {
     ghost use Rattle.std.specs.Prelude.{◌≡◌, ◌+◌, ◌<◌, ◌^◌, ◌↔◌, ◌∷◌, [], false, length, IsTrue, IfOk, IfErr, OnOk, OnErr, IsErrOf, MatchOption};
-    ghost use Rattle.clone_core.specs.Joining.{Gives, AreGood, AnswersGood, RefusesAsk};
+    ghost use Rattle.clone_core.specs.Joining.{LocallyGives, AreGood, AnswersGood, RefusesAsk};
     ghost use Rattle.iri_rules.specs.Domain.{is_domain};
     ghost use Rattle.rdf_terms.specs.Order.{iri_cmp};
     ghost use Rattle.mld_ops.specs.Messages.{snapshot_value, message_value, IsGoodSnapshot, IsGoodMessage};
     ghost use Rattle.mld_ops.specs.Properties.{AreKept};
-    ghost use Rattle.clone_core.specs.Calls.{Sets, Receives, ReceivesEntry, ReceivesAsk, Refuses, RemovesPairs, ComparesAs, HasRange, LacksRange};
+    ghost use Rattle.clone_core.specs.CloneCalls.{Sets, LocallyReceives, ReceivesEntry, ReceivesAsk, Refuses, RemovesPairs, ComparesAs, HasRange, LacksRange};
     ghost use Rattle.clone_core.specs.Making.{IsNextEntry};
     ghost use Rattle.clone_core.specs.Takes.{MakesEntry, IsFullAt, RefusesEntry};
     ghost use Rattle.mld_model.specs.Local.{IsLocal, IsNamed, blank_clone, joined_clone, snapshot_of, next_dot, LocallyMakes, LocallyAccepts, LocallyHolds, IsForeign};
@@ -300,7 +300,7 @@ impl MldClone {
         message: &Message,
     ) -> Result<Got, ReceiveFault>
         requires { IsGoodMessage (message_value message.now) }
-        ensures ok { IfOk result (λ got. Receives self.old.local message.now got self.new.local) }
+        ensures ok { IfOk result (λ got. LocallyReceives self.old.local message.now got self.new.local) }
         ensures good { IfOk result AnswersGood }
         ensures err { IfErr result (Refuses self.old.local message.now) }
         ensures unchanged { OnErr result (self.new ≡ self.old) }
@@ -332,7 +332,7 @@ impl MldClone {
     // clone has.
     fn give(&mut self, alloc: Global, id: &Uuid) -> Result<Messages, AllocError>
         requires { length self.old.local.path < path_limit }
-        ensures ok { IfOk result (λ messages. Gives self.old.local id.now messages self.new.local) }
+        ensures ok { IfOk result (λ messages. LocallyGives self.old.local id.now messages self.new.local) }
         ensures good { IfOk result (λ messages. AreGood messages) }
         ensures err { OnErr result (self.new ≡ self.old) }
     {

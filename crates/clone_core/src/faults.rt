@@ -60,7 +60,7 @@ impl From<AllocError> for ReceiveFault {
 }
 
 impl From<HeldFault> for ReceiveFault {
-    ghost use Rattle.clone_core.specs.Faults.{fault_of_held};
+    ghost use Rattle.clone_core.specs.CloneFaults.{fault_of_held};
     ghost use Rattle.std.specs.Prelude.{◌≡◌};
 
     ghost from_gives = { λ held fault. fault ≡ fault_of_held held };

@@ -1,6 +1,6 @@
 //! Changes of ascending lists of pairs that take no memory.
 ghost use Rattle.std.specs.Prelude.{◌≡◌, ◌+◌, ◌<◌, ◌≤◌, ◌↔◌, ◌⊎◌, IsTrue, IfOk, vec_len, vec_capacity};
-ghost use Rattle.clone_core.specs.Pairs.{IsInsertedWithin, IsOutdated};
+ghost use Rattle.clone_core.specs.PairLists.{IsInsertedWithin, IsOutdated};
 ghost use Rattle.mld_ops.specs.Tagged.{tagged_cmp};
 ghost use Rattle.mld_ops.specs.declared.tagged.Tagged.{Tagged};
 ghost use Rattle.tree_clock.specs.Lists.{Has, IsAscending};

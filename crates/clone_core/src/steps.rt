@@ -23,8 +23,8 @@ pub struct Step {
 
 impl Model for Step {
     ghost use Rattle.std.specs.Prelude.{vec_len};
-    ghost use Rattle.clone_core.specs.Pairs.{IsNoted};
-    ghost use Rattle.clone_core.specs.Steps.{StepValue};
+    ghost use Rattle.clone_core.specs.PairLists.{IsNoted};
+    ghost use Rattle.clone_core.specs.CloneSteps.{StepValue};
 
     ghost Value = { StepValue };
 

@@ -4,7 +4,7 @@ use Rattle.std.proofs.Math.Seq.{take-add, take-append-add}
 use Rattle.std.proofs.lemmas.List.{take_at, length-take-le, take-append-le, take-append-drop, drop-take}
 use Rattle.std.proofs.lemmas.Bool.{cases_lt}
 use Rattle.mld_io.specs.Disk.{written}
-use Rattle.disk_model.specs.Sides.{Grows}
+use Rattle.disk_model.specs.Sides.{ExtendsTo}
 
 -- lists that agree up to `low`, once the bytes from there up to `high` were copied, agree up to there
 pub copied_agrees : (low high : ℕ) (to from now : List ℕ) → low ≤ high → high ≤ length to → high ≤ length from → take low to ≡ take low from
@@ -61,20 +61,20 @@ written_front at size piece xs at_in in_xs =
     ∙ ap (λ l. l ++ piece ++ drop e (take size xs)) (sym (take-take at size xs at_in in_xs))
 
 -- a list that grew keeps its front
-pub grown_keeps : (k : ℕ) (old now : List ℕ) → Grows old now → k ≤ length old → take k now ≡ take k old
+pub grown_keeps : (k : ℕ) (old now : List ℕ) → ExtendsTo old now → k ≤ length old → take k now ≡ take k old
 grown_keeps k old now grows within = ap (take k) grows.now_is ∙ take-append-le k old grows.more within
 
 -- and its length
-pub grown_length : (old now : List ℕ) → Grows old now → length old ≤ length now
+pub grown_length : (old now : List ℕ) → ExtendsTo old now → length old ≤ length now
 grown_length old now grows = omega (arith, ap length grows.now_is, length-append old grows.more)
 
 -- so it does once it is written from a later place on
-pub written_keeps : (k at : ℕ) (piece old grown now : List ℕ) → Grows old grown → now ≡ written at piece grown → k ≤ at → at ≤ length old → take k now ≡ take k old
+pub written_keeps : (k at : ℕ) (piece old grown now : List ℕ) → ExtendsTo old grown → now ≡ written at piece grown → k ≤ at → at ≤ length old → take k now ≡ take k old
 written_keeps k at piece old grown now grows is below within =
     ap (take k) is ∙ written_before at k piece grown below (omega (arith, grown_length old grown grows)) ∙ grown_keeps k old grown grows (omega arith)
 
 -- what a write makes of the front of a list that grew for it
-pub grown_written : (at size : ℕ) (piece old grown now : List ℕ) → Grows old grown → now ≡ written at piece grown → at ≤ size → size ≤ length old
+pub grown_written : (at size : ℕ) (piece old grown now : List ℕ) → ExtendsTo old grown → now ≡ written at piece grown → at ≤ size → size ≤ length old
     → take (max size (at + length piece)) now ≡ written at piece (take size old)
 grown_written at size piece old grown now grows is at_in in_old =
     ap (take (max size (at + length piece))) is ∙ written_front at size piece grown at_in (omega (arith, grown_length old grown grows))

@@ -1,2 +1,3 @@
+pub mod SideStepLaws
 pub mod Copies
 pub mod Logs

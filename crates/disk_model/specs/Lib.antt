@@ -1,9 +1,8 @@
-pub mod Calls
-pub mod Memory
+pub mod CountedCalls
+pub mod BankSteps
 pub mod Pieces
 pub mod SideBytes
 pub mod Sides
-pub mod Steps
-pub mod StepLaws
+pub mod SideSteps
 pub mod Store
 pub mod StoreInside

@@ -2,7 +2,7 @@
 use Rattle.std.specs.Prelude.{◌≡◌, ◌≢◌, ℕ, ◌-◌, ◌/◌, List, [], ◌∷◌, length, take, replicate}
 use Rattle.std.proofs.Common.{ap, arith, get_or, length-append}
 use Rattle.std.proofs.lemmas.List.{length-take-le, length-replicate}
-use Rattle.disk_model.specs.Steps.{torn_piece}
+use Rattle.disk_model.specs.SideSteps.{torn_piece}
 
 -- what a torn piece holds is as long as the piece
 pub length-torn_piece : (piece : List ℕ) → length (torn_piece piece) ≡ length piece

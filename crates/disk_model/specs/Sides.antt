@@ -35,6 +35,6 @@ is_unsynced A sides = sides.a.unsynced
 is_unsynced B sides = sides.b.unsynced
 
 -- a list that keeps what it has, and may have more behind it
-pub record Grows (old now : List ℕ) : Type 0 where
+pub record ExtendsTo (old now : List ℕ) : Type 0 where
   pub more : List ℕ
   pub now_is : now ≡ old ++ more

@@ -6,7 +6,7 @@ use Rattle.mld_io.specs.declared.banks.Leave.{Leave}
 use Rattle.mld_io.specs.Disk.{Sides}
 use Rattle.disk_model.specs.declared.steps.Step.{Step}
 use Rattle.disk_model.specs.declared.steps.Step.TheVariants as step
-use Rattle.disk_model.specs.Steps.{unsynced}
+use Rattle.disk_model.specs.SideSteps.{unsynced}
 
 -- the sides at first, and the steps since, the newest first
 pub record StoreValue : Type 0 where

@@ -5,7 +5,7 @@ use Rattle.mld_io.specs.declared.banks.Side.TheVariants.{A, B}
 use Rattle.mld_io.specs.declared.banks.Leave.{Leave}
 use Rattle.mld_io.specs.Disk.{Sides}
 use Rattle.disk_model.specs.Sides.{sides_at, is_unsynced}
-use Rattle.disk_model.specs.Steps.{left_by, unsynced, AreInOrder, room_for}
+use Rattle.disk_model.specs.SideSteps.{left_by, unsynced, AreInOrder, room_for}
 use Rattle.disk_model.specs.declared.store.Store.TheInside.{Inside}
 
 -- the sides at first

@@ -2,9 +2,9 @@
 ghost use Rattle.std.specs.Prelude.{◌≡◌, ◌↔◌, ℕ, ◌+◌, ◌^◌, ◌<◌, ◌≤◌, ◌++◌, [], ◌∷◌, Option, None, Some, Ok, length, take, drop, IsTrue, IsOk, IfOk, OnOk, OnErr, IsErrOf, IsSome, refl};
 ghost use Rattle.mld_io.specs.Arm.{Meter, Unarmed, Caught, Metered, armed, revived};
 ghost use Rattle.mld_io.specs.Disk.{Log, Writes, Revives, Syncs, Wrote, bytes_of, grown, seen};
-ghost use Rattle.disk_model.specs.Calls.{armed_calls, revived_calls};
-ghost use Rattle.disk_model.specs.Memory.{BanksValue, ReadMoves, WriteMoves, SyncMoves, memory_log, read_of};
-ghost use Rattle.disk_model.specs.Steps.{left_by};
+ghost use Rattle.disk_model.specs.CountedCalls.{armed_calls, revived_calls};
+ghost use Rattle.disk_model.specs.BankSteps.{BanksValue, ReadMoves, WriteMoves, SyncMoves, memory_log, read_of};
+ghost use Rattle.disk_model.specs.SideSteps.{left_by};
 ghost use Rattle.disk_model.specs.Store.{cut};
 
 use crate::calls::Calls;
@@ -25,7 +25,7 @@ pub struct MemoryBanks {
 }
 
 impl Model for MemoryBanks {
-    ghost use Rattle.disk_model.specs.Memory.{BanksValue};
+    ghost use Rattle.disk_model.specs.BankSteps.{BanksValue};
 
     ghost Value = { BanksValue };
 

@@ -1,7 +1,7 @@
 //! Which calls of a bank in memory fail.
 ghost use Rattle.std.specs.Prelude.{◌≡◌, ◌≢◌, ◌↔◌, IsTrue, ◌++◌, [], ◌∷◌, OnOk, OnErr};
 ghost use Rattle.mld_io.specs.Arm.{Caught, Unarmed};
-ghost use Rattle.disk_model.specs.Calls.{CallsValue, Begins, Ends, counted_call, armed_calls, revived_calls};
+ghost use Rattle.disk_model.specs.CountedCalls.{CallsValue, BeginsCall, Ends, counted_call, armed_calls, revived_calls};
 
 use mld_io::IoFault;
 use std::alloc::{AllocError, Global};
@@ -30,7 +30,7 @@ pub struct Calls {
 }
 
 impl Model for Calls {
-    ghost use Rattle.disk_model.specs.Calls.{CallsValue, arm_of};
+    ghost use Rattle.disk_model.specs.CountedCalls.{CallsValue, arm_of};
 
     ghost Value = { CallsValue };
 
@@ -62,7 +62,7 @@ impl Calls {
 
     /// Begins a call, which is refused where one was caught, or where its number is to fail.
     pub fn begin(&mut self) -> Result<(), IoFault>
-        ensures { Begins self.old result self.new }
+        ensures { BeginsCall self.old result self.new }
     {
         if self.is_caught() {
             self.next = self.next.saturating_add(1);

@@ -1,8 +1,8 @@
 //! The bytes of each side: as reads give them, and as a crash would leave them.
 ghost use Rattle.std.specs.Prelude.{◌≡◌, ℕ, ◌+◌, ◌-◌, ◌/◌, ◌^◌, ◌<◌, ◌≤◌, List, true, false, [], not, ◌&&◌, ◌||◌, length, take, drop, vec_len, ◌++◌, IfOk, OnOk, OnErr};
 ghost use Rattle.mld_io.specs.Disk.{bytes_of, with_bytes, written};
-ghost use Rattle.disk_model.specs.Sides.{SideValue, SidesValue, Grows, bytes_at, sides_at, is_unsynced};
-ghost use Rattle.disk_model.specs.Steps.{torn_piece, write_left, same_side};
+ghost use Rattle.disk_model.specs.Sides.{SideValue, SidesValue, ExtendsTo, bytes_at, sides_at, is_unsynced};
+ghost use Rattle.disk_model.specs.SideSteps.{torn_piece, write_left, same_side};
 
 use mld_io::{Leave, Side};
 use std::alloc::{AllocError, Global};
@@ -153,7 +153,7 @@ impl SideBytes {
 
 /// Makes the list at least this long, and leaves what it has.
 fn grow(bytes: &mut Vec<u8>, size: usize) -> Result<(), AllocError>
-    ensures grows { Grows bytes.old.items bytes.new.items }
+    ensures grows { ExtendsTo bytes.old.items bytes.new.items }
     ensures ok { OnOk result (size ≤ vec_len bytes.new) }
 {
     if bytes.len() < size {

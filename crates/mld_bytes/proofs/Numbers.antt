@@ -6,7 +6,7 @@ use Rattle.std.proofs.lemmas.Nat.{div-mul-add, pow-add, be_bytes_4, from_be_byte
 use Rattle.std.specs.Int.{w32, w64, byte_at, bytes_high_first, from_be_bytes}
 use Rattle.byteorder.specs.Endian.{big_from, big_number}
 use Rattle.byteorder.specs.Numbers.{big_from-cons, big_from-lt, big_number-reads_back, length-bytes_high_first}
-use Rattle.mld_bytes.specs.Bytes.{number_bytes, number_in, piece_bytes, u32_bytes, u32_number, u64_bytes, IsAt, HasNone, IsPieceAt, HasNoPiece}
+use Rattle.mld_bytes.specs.Bytes.{number_bytes, number_in, piece_bytes, u32_bytes, u32_number, u64_bytes, IsAt, HasNoNumber, IsPieceAt, HasNoPiece}
 
 -- a power of 256 is above zero
 power_above : (n : ℕ) → zero < 256 ^ n
@@ -50,7 +50,7 @@ bytes_read (suc size) (x ∷ xs) l h =
     ap (bytes_high_first (suc size)) e ∙ (λ i. top i ∷ rest i)
 
 -- where too few bytes are left no number's bytes come first
-pub none_short : (size at : ℕ) (input : List ℕ) → at ≤ length input → length input - at < size → HasNone (number_bytes size) (drop at input)
+pub none_short : (size at : ℕ) (input : List ℕ) → at ≤ length input → length input - at < size → HasNoNumber (number_bytes size) (drop at input)
 none_short size at input l h n rest e =
     let whole : length (drop at input) ≡ length (bytes_high_first size n) + length rest = ap length e ∙ length-append (bytes_high_first size n) rest in
     let part = length-bytes_high_first size n in
@@ -180,6 +180,6 @@ none_behind size at start input l at_start h piece rest short e =
     omega arith
 
 -- where no length comes first no piece does
-pub none_without_length : (input : List ℕ) → HasNone u32_bytes input → HasNoPiece input
+pub none_without_length : (input : List ℕ) → HasNoNumber u32_bytes input → HasNoPiece input
 unfolding u32_bytes
 none_without_length input none piece rest short e = none (length piece) (piece ++ rest) e

@@ -38,8 +38,8 @@ pub record IsAt (bytes input : List ℕ) (at next : ℕ) : Type 0 where
   pub within : next ≤ length input
 
 -- the bytes of no number come first
-abbrev pub HasNone : (ℕ → List ℕ) → List ℕ → Type 0
-HasNone bytes_of input = (n : ℕ) (rest : List ℕ) → ¬ (input ≡ bytes_of n ++ rest)
+abbrev pub HasNoNumber : (ℕ → List ℕ) → List ℕ → Type 0
+HasNoNumber bytes_of input = (n : ℕ) (rest : List ℕ) → ¬ (input ≡ bytes_of n ++ rest)
 
 -- the bytes of a piece stand in the input at a place, the piece itself from a start to a stop
 pub record IsPieceAt (input : List ℕ) (at start stop : ℕ) : Type 0 where

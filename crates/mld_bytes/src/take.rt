@@ -1,6 +1,6 @@
 //! Numbers and pieces of bytes, taken from a place of an input. Nothing here takes memory.
 ghost use Rattle.std.specs.Prelude.{◌≡◌, ℕ, ◌+◌, ◌-◌, ◌<◌, ◌≤◌, ◌^◌, ◌↔◌, List, length, drop, take, IfOk, IfErr, IsErr};
-ghost use Rattle.mld_bytes.specs.Bytes.{u8_bytes, u32_bytes, u64_bytes, number_bytes, IsAt, HasNone, IsPieceAt, HasNoPiece};
+ghost use Rattle.mld_bytes.specs.Bytes.{u8_bytes, u32_bytes, u64_bytes, number_bytes, IsAt, HasNoNumber, IsPieceAt, HasNoPiece};
 
 use byteorder::{BigEndian, ByteOrder};
 use thiserror::Error;
@@ -16,7 +16,7 @@ pub fn take_u8(input: &[u8], at: usize) -> Result<(u8, usize), Short>
     ensures number { IfOk result (λ taken. IsAt (u8_bytes taken.0) input.now at taken.1) }
     ensures fits { IfOk result (λ taken. taken.0 < 2 ^ 8) }
     ensures short { IsErr result ↔ (length input.now < at + 1) }
-    ensures none { IfErr result (λ _. HasNone u8_bytes (drop at input.now)) }
+    ensures none { IfErr result (λ _. HasNoNumber u8_bytes (drop at input.now)) }
 {
     if input.len() == at {
         return Err(Short);
@@ -30,7 +30,7 @@ pub fn take_u32(input: &[u8], at: usize) -> Result<(u32, usize), Short>
     ensures number { IfOk result (λ taken. IsAt (u32_bytes taken.0) input.now at taken.1) }
     ensures fits { IfOk result (λ taken. taken.0 < 2 ^ 32) }
     ensures short { IsErr result ↔ (length input.now < at + 4) }
-    ensures none { IfErr result (λ _. HasNone u32_bytes (drop at input.now)) }
+    ensures none { IfErr result (λ _. HasNoNumber u32_bytes (drop at input.now)) }
 {
     if input.len() - at < 4 {
         return Err(Short);
@@ -44,7 +44,7 @@ pub fn take_u64(input: &[u8], at: usize) -> Result<(u64, usize), Short>
     ensures number { IfOk result (λ taken. IsAt (u64_bytes taken.0) input.now at taken.1) }
     ensures fits { IfOk result (λ taken. taken.0 < 2 ^ 64) }
     ensures short { IsErr result ↔ (length input.now < at + 8) }
-    ensures none { IfErr result (λ _. HasNone u64_bytes (drop at input.now)) }
+    ensures none { IfErr result (λ _. HasNoNumber u64_bytes (drop at input.now)) }
 {
     if input.len() - at < 8 {
         return Err(Short);
@@ -59,7 +59,7 @@ pub fn take_number(input: &[u8], at: usize, size: usize) -> Result<(u64, usize),
     ensures number { IfOk result (λ taken. IsAt (number_bytes size taken.0) input.now at taken.1) }
     ensures fits { IfOk result (λ taken. taken.0 < 256 ^ size) }
     ensures short { IsErr result ↔ (length input.now < at + size) }
-    ensures none { IfErr result (λ _. HasNone (number_bytes size) (drop at input.now)) }
+    ensures none { IfErr result (λ _. HasNoNumber (number_bytes size) (drop at input.now)) }
 {
     if input.len() - at < size {
         return Err(Short);

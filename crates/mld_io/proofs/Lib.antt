@@ -1,3 +1,6 @@
+pub mod LinesLaws
+pub mod DiskLaws
+pub mod ArmLaws
 pub mod Copies
 pub mod LineSteps
 pub mod Writes

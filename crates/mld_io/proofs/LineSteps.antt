@@ -2,8 +2,8 @@
 use Rattle.std.proofs.Common.{◌≡◌, ◌≢◌, ℕ, ◌+◌, ◌<◌, ◌≤◌, List, [], ◌∷◌, ◌++◌, length, Option, None, Some, Ok, Bool, true, false, refl, sym, ap, subst, ◌∙◌, arith, append-nil, append_assoc, length-append}
 use Rattle.std.proofs.lemmas.Bool.{false≢true}
 use Rattle.std.proofs.lemmas.List.Elements.{All-push, All-nil, All-head, All-tail}
-use Rattle.mld_io.specs.Lines.{line_feed, LinesValue, HasNoEnd, IsEnd, IsLine, IsTooLarge, IsCutShort, TakesAtMost, first_line, after_line, line_size}
-use Rattle.mld_io.specs.LinesLaws.{first_line-append, after_line-append, line_size-append, line_size_some}
+use Rattle.mld_io.specs.Lines.{line_break, LinesValue, HasNoEnd, IsEnd, IsLine, IsTooLarge, IsCutShort, TakesAtMost, first_line, after_line, line_size}
+use Rattle.mld_io.proofs.LinesLaws.{first_line-append, after_line-append, line_size-append, line_size_some}
 use Rattle.mld_io.specs.Reads.{TakesByte}
 
 -- this front of the bytes was taken, and it has no LF
@@ -15,14 +15,14 @@ pub record ReadSoFar (bytes front : List ℕ) (left : Option (List ℕ)) : Type 
 
 -- nothing was taken yet
 pub ReadSoFar-start : (bytes : List ℕ) (left : Option (List ℕ)) → left ≡ Some bytes → ReadSoFar bytes [] left
-ReadSoFar-start bytes left e = record { rest = bytes; front_of = refl; no_end = All-nil (λ b. b ≢ line_feed); left_is = e }
+ReadSoFar-start bytes left e = record { rest = bytes; front_of = refl; no_end = All-nil (λ b. b ≢ line_break); left_is = e }
 
 -- the next byte was taken, and is no LF
-pub ReadSoFar-push : (bytes front rest : List ℕ) (b : ℕ) (left : Option (List ℕ)) → HasNoEnd front → b ≢ line_feed → bytes ≡ front ++ b ∷ rest → left ≡ Some rest → ReadSoFar bytes (front ++ b ∷ []) left
+pub ReadSoFar-push : (bytes front rest : List ℕ) (b : ℕ) (left : Option (List ℕ)) → HasNoEnd front → b ≢ line_break → bytes ≡ front ++ b ∷ rest → left ≡ Some rest → ReadSoFar bytes (front ++ b ∷ []) left
 ReadSoFar-push bytes front rest b left no_end other e is = record {
   rest = rest;
   front_of = e ∙ sym (append_assoc front (b ∷ []) rest);
-  no_end = All-push (λ b. b ≢ line_feed) front b no_end other;
+  no_end = All-push (λ b. b ≢ line_break) front b no_end other;
   left_is = is;
 }
 
@@ -43,24 +43,24 @@ no_more_bytes bytes front before after so_far took =
     (so_far.front_of ∙ ap (λ r. front ++ r) took.0 ∙ append-nil front, took.1)
 
 -- there is an LF behind the front
-has_end : (front rest : List ℕ) → ¬ HasNoEnd (front ++ line_feed ∷ rest)
-has_end [] rest none = All-head (λ b. b ≢ line_feed) line_feed rest none refl
-has_end (b ∷ bs) rest none = has_end bs rest (All-tail (λ b. b ≢ line_feed) b (bs ++ line_feed ∷ rest) none)
+has_end : (front rest : List ℕ) → ¬ HasNoEnd (front ++ line_break ∷ rest)
+has_end [] rest none = All-head (λ b. b ≢ line_break) line_break rest none refl
+has_end (b ∷ bs) rest none = has_end bs rest (All-tail (λ b. b ≢ line_break) b (bs ++ line_break ∷ rest) none)
 
 -- an LF ends a line that fits
-pub IsLine-from_lf : (lines : LinesValue) (bytes front rest : List ℕ) (taken : ℕ) (ended : Bool) (left : Option (List ℕ)) → HasNoEnd front → bytes ≡ front ++ line_feed ∷ rest → left ≡ Some rest
+pub IsLine-from_lf : (lines : LinesValue) (bytes front rest : List ℕ) (taken : ℕ) (ended : Bool) (left : Option (List ℕ)) → HasNoEnd front → bytes ≡ front ++ line_break ∷ rest → left ≡ Some rest
     → length front ≤ lines.line → taken ≡ lines.taken + (length front + 1) → taken ≤ lines.all → ended ≡ false → IsLine lines bytes front taken ended left
 IsLine-from_lf lines bytes front rest taken ended left no_end e is in_line counted in_all goes_on =
-    let first : first_line bytes ≡ front = ap first_line e ∙ first_line-append front (line_feed ∷ rest) no_end ∙ append-nil front in
-    let size : line_size bytes ≡ length front + 1 = ap line_size e ∙ line_size-append front (line_feed ∷ rest) no_end in
-    let long : length bytes ≡ length front + length (line_feed ∷ rest) = ap length e ∙ length-append front (line_feed ∷ rest) in
+    let first : first_line bytes ≡ front = ap first_line e ∙ first_line-append front (line_break ∷ rest) no_end ∙ append-nil front in
+    let size : line_size bytes ≡ length front + 1 = ap line_size e ∙ line_size-append front (line_break ∷ rest) no_end in
+    let long : length bytes ≡ length front + length (line_break ∷ rest) = ap length e ∙ length-append front (line_break ∷ rest) in
     record {
       some = λ none. omega (arith, ap length none, long);
       fits = record { in_line = omega (arith, ap length first); in_all = omega arith };
       piece_is = sym first;
       taken_is = omega arith;
       ended_is = (λ yes. absurd (false≢true (sym goes_on ∙ yes)), λ none. absurd (has_end front rest (subst HasNoEnd e none)));
-      left_is = is ∙ ap (λ r. Some r) (sym (ap after_line e ∙ after_line-append front (line_feed ∷ rest) no_end));
+      left_is = is ∙ ap (λ r. Some r) (sym (ap after_line e ∙ after_line-append front (line_break ∷ rest) no_end));
     }
 
 -- the end of the input ends a line that fits
@@ -91,9 +91,9 @@ IsTooLarge-from_all lines bytes front rest b no_end e past =
     }
 
 -- a byte more that is no LF passes the limit of a line
-pub IsTooLarge-from_line : (lines : LinesValue) (bytes front rest : List ℕ) (b : ℕ) → HasNoEnd front → b ≢ line_feed → bytes ≡ front ++ b ∷ rest → lines.line < length front + 1 → IsTooLarge lines bytes
+pub IsTooLarge-from_line : (lines : LinesValue) (bytes front rest : List ℕ) (b : ℕ) → HasNoEnd front → b ≢ line_break → bytes ≡ front ++ b ∷ rest → lines.line < length front + 1 → IsTooLarge lines bytes
 IsTooLarge-from_line lines bytes front rest b no_end other e past =
-    let more : HasNoEnd (front ++ b ∷ []) = All-push (λ b. b ≢ line_feed) front b no_end other in
+    let more : HasNoEnd (front ++ b ∷ []) = All-push (λ b. b ≢ line_break) front b no_end other in
     let e' : bytes ≡ (front ++ b ∷ []) ++ rest = e ∙ sym (append_assoc front (b ∷ []) rest) in
     let first : length (first_line bytes) ≡ (length front + 1) + length (first_line rest) =
     ap length (ap first_line e' ∙ first_line-append (front ++ b ∷ []) rest more) ∙ simp length-append in

@@ -1,10 +1,7 @@
 pub mod Arm
-pub mod ArmLaws
 pub mod Disk
-pub mod DiskLaws
 pub mod Faults
 pub mod Lines
-pub mod LinesLaws
 pub mod Reads
 pub mod Memory
 pub mod Standard

@@ -4,8 +4,8 @@ use Rattle.mld_io.specs.declared.faults.LineFault.{LineFault}
 use Rattle.mld_io.specs.declared.faults.LineFault.TheVariants.{ReadFault, TooLarge, NoMemory}
 
 -- LF, the byte that ends a line
-abbrev pub line_feed : ℕ
-line_feed = 10
+abbrev pub line_break : ℕ
+line_break = 10
 
 -- a byte at the front of the first of these lines
 abbrev pub onto_first : ℕ → List (List ℕ) → List (List ℕ)
@@ -15,31 +15,35 @@ onto_first b (l ∷ ls) = (b ∷ l) ∷ ls
 -- the lines of an input: a line ends with LF, which is no part of it; the last may lack it
 abbrev pub lines_of : List ℕ → List (List ℕ)
 lines_of [] = []
-lines_of (b ∷ bs) = if b == line_feed then [] ∷ lines_of bs else onto_first b (lines_of bs)
+lines_of (b ∷ bs) = if b == line_break then [] ∷ lines_of bs else onto_first b (lines_of bs)
 
 -- the bytes before the first LF, or all of them
 abbrev pub first_line : List ℕ → List ℕ
 first_line [] = []
-first_line (b ∷ bs) = if b == line_feed then [] else b ∷ first_line bs
+first_line (b ∷ bs) = if b == line_break then [] else b ∷ first_line bs
 
 -- the bytes after the first LF, or none
 abbrev pub after_line : List ℕ → List ℕ
 after_line [] = []
-after_line (b ∷ bs) = if b == line_feed then bs else after_line bs
+after_line (b ∷ bs) = if b == line_break then bs else after_line bs
+
+-- the first of the lines, and then the lines of what follows it
+abbrev pub FirstOfLines : Type 0
+FirstOfLines = (bytes : List ℕ) → bytes ≢ [] → lines_of bytes ≡ first_line bytes ∷ lines_of (after_line bytes)
 
 -- how many bytes the first line takes, its LF included
 abbrev pub line_size : List ℕ → ℕ
 line_size [] = 0
-line_size (b ∷ bs) = if b == line_feed then 1 else 1 + line_size bs
+line_size (b ∷ bs) = if b == line_break then 1 else 1 + line_size bs
 
 -- none of these bytes is an LF
 abbrev pub HasNoEnd : List ℕ → Type 0
-HasNoEnd bytes = All (λ b. b ≢ line_feed) bytes
+HasNoEnd bytes = All (λ b. b ≢ line_break) bytes
 
 -- how many lines end within these bytes, which is how many of them are LFs
 abbrev pub ended_lines : List ℕ → ℕ
 ended_lines [] = 0
-ended_lines (b ∷ bs) = if b == line_feed then 1 + ended_lines bs else ended_lines bs
+ended_lines (b ∷ bs) = if b == line_break then 1 + ended_lines bs else ended_lines bs
 
 -- what a reader of lines is: the limit of a line, the limit of the input, the bytes taken so far, whether it is good, and
 -- whether the source has told its end

@@ -2,7 +2,7 @@
 ghost use Rattle.std.specs.Prelude.{◌≡◌, ℕ, ◌+◌, ◌-◌, ◌≤◌, List, length, true, false, None, Some, Ok, IsTrue, IfOk, IfSome, OnErr, is_ok};
 ghost use Rattle.mld_io.specs.Faults.{HasCause, HasLineCause};
 ghost use Rattle.mld_io.specs.Lines.{NextLine, Progresses, TakesAtMost};
-ghost use Rattle.mld_io.specs.LinesLaws.{FirstOfLines};
+ghost use Rattle.mld_io.specs.Lines.{FirstOfLines};
 ghost use Rattle.mld_io.specs.Reads.{TakesByte};
 
 use crate::faults::{Failed, LineFault};

@@ -7,7 +7,7 @@ use Rattle.std.proofs.lemmas.List.FromFn.{get_or-map-range_with_len, length-map-
 use Rattle.tree_clock.specs.declared.dots.Range.{Range}
 use Rattle.tree_clock.specs.Lists.{Has}
 use Rattle.tree_clock.specs.Path.{IsPrefix, AreApart, zero_letter, one_letter}
-use Rattle.tree_clock.specs.PathLaws.{apart_symmetric}
+use Rattle.tree_clock.proofs.PathLaws.{apart_symmetric}
 use Rattle.mld_model.specs.Clone.{Clone, Absent, Live, Stored}
 use Rattle.mld_model.specs.World.{clone_at, founded, founded_path, founded_clone, clone_count}
 use Rattle.mld_model.specs.StandsFor.{HasOneTickRanges}

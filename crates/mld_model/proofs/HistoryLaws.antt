@@ -6,7 +6,7 @@ use Rattle.tree_clock.specs.declared.dots.Range.{Range}
 use Rattle.tree_clock.specs.Lists.{Has}
 use Rattle.tree_clock.specs.Dot.{Knows}
 use Rattle.mld_ops.specs.History.{Operation, IsDone, IsClosed, IsNext, IsLawful}
-use Rattle.mld_ops.specs.HistoryLaws.{one_operation, before, causes_done, closed_with_unknown}
+use Rattle.mld_ops.proofs.OperationLaws.{one_operation, before, causes_done, closed_with_unknown}
 
 -- a history, and an operation that comes next
 module _ (history : List Operation) (next : Operation) where

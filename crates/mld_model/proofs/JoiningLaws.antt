@@ -6,10 +6,10 @@ use Rattle.std.proofs.lemmas.List.{get_or-set_same, get_or-set_other, get_or_pas
 use Rattle.tree_clock.specs.declared.dots.Range.{Range}
 use Rattle.tree_clock.specs.Lists.{Has}
 use Rattle.tree_clock.specs.Path.{IsPrefix, IsProperPrefix, AreApart, zero_letter, one_letter}
-use Rattle.tree_clock.specs.PathLaws.{apart_symmetric, apart_below, apart_from_son, sons_apart}
+use Rattle.tree_clock.proofs.PathLaws.{apart_symmetric, apart_below, apart_from_son, sons_apart}
 use Rattle.tree_clock.specs.Dot.{Knows}
 use Rattle.mld_ops.specs.History.{Operation, IsClosed}
-use Rattle.mld_ops.specs.AscendingLaws.{has_append}
+use Rattle.mld_ops.proofs.AscendingLaws.{has_append}
 use Rattle.mld_model.specs.Clone.{Clone, Absent, Asking, Live, Stored, known_of}
 use Rattle.mld_model.specs.World.{World, Message, JoinAsk, JoinGive, clone_at, clone_count, with_clone, message_at}
 use Rattle.mld_model.specs.CloneStep.{after_asking, left_half, after_fork, joined_with}

@@ -8,7 +8,7 @@ use Rattle.tree_clock.specs.Lists.{Has}
 use Rattle.tree_clock.specs.Dot.{Knows}
 use Rattle.mld_ops.specs.History.{Operation, IsDone, IsClosed, IsNext, IsLawful, dot_at}
 use Rattle.mld_ops.specs.Effect.{range_of}
-use Rattle.mld_ops.specs.HistoryLaws.{one_operation, range_of_has, knows_last}
+use Rattle.mld_ops.proofs.OperationLaws.{one_operation, range_of_has, knows_last}
 use Rattle.mld_ops.specs.Net.{IsTime}
 use Rattle.mld_ops.specs.Ready.{last_dot}
 use Rattle.mld_model.specs.Sound.{MayFollow, IsSoundJournal, IsDoneRange}

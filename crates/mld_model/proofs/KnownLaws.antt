@@ -3,7 +3,7 @@ use Rattle.std.proofs.Common.{◌≡◌, [], ◌∷◌, ◌++◌, ◌⊎◌, sym
 use Rattle.tree_clock.specs.declared.dots.Dot.{Dot}
 use Rattle.tree_clock.specs.declared.dots.Range.{Range}
 use Rattle.tree_clock.specs.Dot.{IsIn, Knows}
-use Rattle.mld_ops.specs.HistoryLaws.{knows_more, knows_still, knows_last}
+use Rattle.mld_ops.proofs.OperationLaws.{knows_more, knows_still, knows_last}
 use Rattle.mld_model.specs.Clone.{Stored, known_of, with_range}
 
 -- what a clone knows with one more range in its journal

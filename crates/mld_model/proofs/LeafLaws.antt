@@ -6,9 +6,9 @@ use Rattle.std.proofs.lemmas.List.{get_or-set_same, get_or-set_other, get_or_pas
 use Rattle.tree_clock.specs.declared.dots.Range.{Range}
 use Rattle.tree_clock.specs.Lists.{Has}
 use Rattle.tree_clock.specs.Path.{AreApart}
-use Rattle.tree_clock.specs.PathLaws.{apart_symmetric}
+use Rattle.tree_clock.proofs.PathLaws.{apart_symmetric}
 use Rattle.mld_ops.specs.History.{Operation}
-use Rattle.mld_ops.specs.HistoryLaws.{before}
+use Rattle.mld_ops.proofs.OperationLaws.{before}
 use Rattle.mld_model.specs.Clone.{Clone, Absent, Live, Stored}
 use Rattle.mld_model.specs.World.{World, Message, JoinGive, clone_at, with_clone}
 use Rattle.mld_model.specs.Sound.{Keeps, IsDoneRange, IsOpenGive, IsSound}

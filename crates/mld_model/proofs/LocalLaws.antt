@@ -8,18 +8,18 @@ use Rattle.tree_clock.specs.Lists.{Has}
 use Rattle.tree_clock.specs.Dot.{IsIn, Knows}
 use Rattle.tree_clock.specs.DotLaws.{Knows-append}
 use Rattle.tree_clock.specs.Clock.{ticks_of, Covers, RaisesTo}
-use Rattle.tree_clock.specs.ClockLaws.{Covers-raised}
+use Rattle.tree_clock.proofs.ClockLaws.{Covers-raised}
 use Rattle.mld_ops.specs.declared.tagged.Tagged.{Tagged}
 use Rattle.mld_ops.specs.Entry.{EntryValue}
 use Rattle.mld_ops.specs.History.{Operation, IsDone, IsClosed, IsNext, IsLawful, dot_at}
 use Rattle.mld_ops.specs.Effect.{range_of, IsEffect}
-use Rattle.mld_ops.specs.HistoryLaws.{same_dot, closed_with_unknown}
+use Rattle.mld_ops.proofs.OperationLaws.{same_dot, closed_with_unknown}
 use Rattle.mld_ops.specs.Meaning.{IsMeaning}
-use Rattle.mld_ops.specs.MeaningLaws.{meaning_with_unknown, meaning_of_taken}
+use Rattle.mld_ops.proofs.MeaningLaws.{meaning_with_unknown, meaning_of_taken}
 use Rattle.mld_ops.specs.Net.{IsNet}
-use Rattle.mld_ops.specs.NetLaws.{net_of_one, net_of_one_back, net_with_unknown}
-use Rattle.mld_ops.specs.Picking.{AllPairs}
-use Rattle.mld_ops.specs.PickingLaws.{pairs_as, pairs_more}
+use Rattle.mld_ops.proofs.NetLaws.{net_of_one, net_of_one_back, net_with_unknown}
+use Rattle.std.specs.List.{AllZip}
+use Rattle.mld_ops.proofs.PickingLaws.{pairs_as, pairs_more}
 use Rattle.mld_ops.specs.Ready.{last_dot, IsKnownEntry, IsReadyEntry}
 use Rattle.mld_ops.specs.Cut.{IsCutOf}
 use Rattle.mld_model.specs.Clone.{Stored, known_of, with_range, IsKnown, IsReady}
@@ -72,8 +72,8 @@ entry_still_stands history next entry range is_next done stands =
 
 -- and so do entries, one by one
 pub entries_still_stand : (history : List Operation) (next : Operation) (entries : List EntryValue) (ranges : List Range) → IsNext history next
-    → ((range : Range) → Has ranges range → IsDoneRange history range) → AllPairs (EntryStandsFor history) entries ranges
-    → AllPairs (EntryStandsFor (next ∷ history)) entries ranges
+    → ((range : Range) → Has ranges range → IsDoneRange history range) → AllZip (EntryStandsFor history) entries ranges
+    → AllZip (EntryStandsFor (next ∷ history)) entries ranges
 entries_still_stand history next entries ranges is_next done all =
     pairs_as (EntryStandsFor history) (EntryStandsFor (next ∷ history)) entries ranges all (λ entry range h stands. entry_still_stands history next entry range is_next (done range h) stands)
 
@@ -136,10 +136,10 @@ module _ (history : List Operation) (old : LocalClone) (base journal held : List
           path = makes.same.path;
           base = λ dot. subst (λ (ticks : List (List ℕ × ℕ)). Covers ticks dot ↔ Knows base dot) (sym makes.same.base) (still.kept.base dot);
           base_pairs = subst (λ (pairs : List Tagged). IsMeaning (operation ∷ history) base pairs) (sym makes.same.base_pairs) still.kept.base_pairs;
-          entries = subst (λ (entries : List EntryValue). AllPairs (EntryStandsFor (operation ∷ history)) entries (journal ++ range_of (next_dot old) ∷ [])) (sym makes.entries)
+          entries = subst (λ (entries : List EntryValue). AllZip (EntryStandsFor (operation ∷ history)) entries (journal ++ range_of (next_dot old) ∷ [])) (sym makes.entries)
               (pairs_more (EntryStandsFor (operation ∷ history)) old.entries journal entry (range_of (next_dot old)) still.kept.entries made_entry);
         };
-        held = subst (λ (entries : List EntryValue). AllPairs (EntryStandsFor (operation ∷ history)) entries held) (sym makes.held) still.held;
+        held = subst (λ (entries : List EntryValue). AllZip (EntryStandsFor (operation ∷ history)) entries held) (sym makes.held) still.held;
         known = λ dot. (
           λ c. elim ((covers_next old.ticks new.ticks old.path dot makes.clock).0 c) [
             | inl before ↦ known_with-old (kept_by old base journal) (range_of (next_dot old)) dot ((stands.known dot).0 before)

@@ -4,7 +4,7 @@ use Rattle.std.proofs.lemmas.Bool.{cases_eq, cases_lt}
 use Rattle.std.proofs.lemmas.List.{get_or-set_same, get_or-set_other, get_or_past, length-set}
 use Rattle.tree_clock.specs.declared.dots.Range.{Range}
 use Rattle.tree_clock.specs.Lists.{Has}
-use Rattle.mld_ops.specs.AscendingLaws.{has_append}
+use Rattle.mld_ops.proofs.AscendingLaws.{has_append}
 use Rattle.mld_ops.specs.History.{Operation}
 use Rattle.mld_ops.specs.Effect.{range_of}
 use Rattle.mld_model.specs.Clone.{Clone, Absent, Asking, Live, Stored, with_range, Releases}

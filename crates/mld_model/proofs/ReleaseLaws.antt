@@ -6,7 +6,7 @@ use Rattle.tree_clock.specs.Lists.{Has}
 use Rattle.tree_clock.specs.Dot.{Knows}
 use Rattle.mld_ops.specs.History.{Operation}
 use Rattle.mld_ops.specs.Picking.{TakesFirst}
-use Rattle.mld_ops.specs.PickingLaws.{drops_one, first_one, none_no_first, first_member, rest_members, kept_members}
+use Rattle.mld_ops.proofs.PickingLaws.{drops_one, first_one, none_no_first, first_member, rest_members, kept_members}
 use Rattle.mld_model.specs.Clone.{Stored, known_of, with_range, IsKnown, IsReady, Releases}
 use Rattle.mld_model.proofs.KnownLaws.{known_with-old}
 

@@ -9,8 +9,8 @@ use Rattle.mld_ops.specs.declared.tagged.Tagged.{Tagged}
 use Rattle.mld_ops.specs.Entry.{EntryValue}
 use Rattle.mld_ops.specs.History.{Operation, IsLawful}
 use Rattle.mld_ops.specs.Meaning.{IsMeaning}
-use Rattle.mld_ops.specs.Picking.{AllPairs}
-use Rattle.mld_ops.specs.PickingLaws.{first_is, pairs_none, pairs_drop, pairs_first, pairs_as}
+use Rattle.std.specs.List.{AllZip}
+use Rattle.mld_ops.proofs.PickingLaws.{first_is, pairs_none, pairs_drop, pairs_first, pairs_as}
 use Rattle.mld_ops.specs.Ready.{last_dot, IsKnownEntry, IsReadyEntry}
 use Rattle.mld_model.specs.Clone.{Stored, known_of, with_range, IsKnown, IsReady, Releases}
 use Rattle.mld_model.specs.Sound.{IsSoundClone, IsDoneRange}
@@ -29,15 +29,15 @@ pub record StandsDone (history : List Operation) (entry : EntryValue) (range : R
   pub done : IsDoneRange history range
 
 -- entries that stand for ranges of one tick which are done
-pub stand_done : (history : List Operation) (entries : List EntryValue) (ranges : List Range) → AllPairs (EntryStandsFor history) entries ranges
+pub stand_done : (history : List Operation) (entries : List EntryValue) (ranges : List Range) → AllZip (EntryStandsFor history) entries ranges
     → ((range : Range) → Has ranges range → range.first ≡ range.last) → ((range : Range) → Has ranges range → IsDoneRange history range)
-    → AllPairs (StandsDone history) entries ranges
+    → AllZip (StandsDone history) entries ranges
 stand_done history entries ranges all one done =
     pairs_as (EntryStandsFor history) (StandsDone history) entries ranges all (λ entry range h stands. record { stands = stands; one = one range h; done = done range h })
 
 -- and the other way
-pub done_stand : (history : List Operation) (entries : List EntryValue) (ranges : List Range) → AllPairs (StandsDone history) entries ranges
-    → AllPairs (EntryStandsFor history) entries ranges
+pub done_stand : (history : List Operation) (entries : List EntryValue) (ranges : List Range) → AllZip (StandsDone history) entries ranges
+    → AllZip (EntryStandsFor history) entries ranges
 done_stand history entries ranges all =
     pairs_as (StandsDone history) (EntryStandsFor history) entries ranges all (λ entry range h both. both.stands)
 
@@ -55,8 +55,8 @@ pub record Released (history : List Operation) (stored : Stored) (held : List Ra
   pub releases : Releases history stored held ranges (record { path = stored.path; base = stored.base; journal = stored.journal ++ ranges }) rest
   pub told : ranges_of taken ≡ ranges
   pub knows : KnowsAs history (stored.base ++ (stored.journal ++ ranges)) after pairs
-  pub entries : AllPairs (EntryStandsFor history) taken ranges
-  pub held_stand : AllPairs (EntryStandsFor history) left rest
+  pub entries : AllZip (EntryStandsFor history) taken ranges
+  pub held_stand : AllZip (EntryStandsFor history) left rest
 
 -- the same for a longer journal
 longer : (history : List Operation) (stored : Stored) (range : Range) (held : List Range) (taken left : List EntryValue) (after : List (List ℕ × ℕ)) (pairs : List Tagged)
@@ -72,7 +72,7 @@ longer history stored range held taken left after pairs released =
 -- a clone alone releases what the model's clone releases
 pub release_stands : (history : List Operation) (stored : Stored) (held : List Range) (entries taken left : List EntryValue)
     (now ticks after : List (List ℕ × ℕ)) (pairs new : List Tagged)
-    → IsLawful history → IsSoundClone history stored → AllPairs (StandsDone history) entries held
+    → IsLawful history → IsSoundClone history stored → AllZip (StandsDone history) entries held
     → ((dot : Dot) → Covers now dot ↔ Knows (known_of stored) dot) → KnowsAs history (known_of stored) ticks pairs
     → LocallyReleases now entries taken after left → LeadsTo ticks pairs taken after new
     → Released history stored held taken left after new
@@ -127,7 +127,7 @@ module _ (history : List Operation) (live new : LocalClone) (stored : Stored) (h
   accepted_ready = (ready_alike history live.ticks (known_of stored) stands.known range entry both.stands both.done.positive).0 accepts.ready
 
   -- the model's clone takes it and releases what the clone alone releases
-  pub accepted_releases : AllPairs (StandsDone history) live.held held → IsLawful history → IsSoundClone history stored
+  pub accepted_releases : AllZip (StandsDone history) live.held held → IsLawful history → IsSoundClone history stored
       → Released history (with_range stored range) held accepts.taken new.held new.ticks new.pairs
   accepted_releases all lawful sound =
       let before : range.first ≤ ticks_of live.ticks range.path + 1 = subst (λ (r : Range). r.first ≤ ticks_of live.ticks r.path + 1) both.stands.same accepts.ready.before in
@@ -158,8 +158,8 @@ module _ (history : List Operation) (live new : LocalClone) (stored : Stored) (h
             path = accepts.same.path ∙ stands.kept.path;
             base = λ dot. subst (λ (ticks : List (List ℕ × ℕ)). Covers ticks dot ↔ Knows stored.base dot) (sym accepts.same.base) (stands.kept.base dot);
             base_pairs = subst (λ (pairs : List Tagged). IsMeaning history stored.base pairs) (sym accepts.same.base_pairs) stands.kept.base_pairs;
-            entries = subst (λ (entries : List EntryValue). AllPairs (EntryStandsFor history) entries journal) (sym accepts.entries)
-                (subst (λ (rs : List Range). AllPairs (EntryStandsFor history) (live.entries ++ entry ∷ accepts.taken) rs) (sym flat)
+            entries = subst (λ (entries : List EntryValue). AllZip (EntryStandsFor history) entries journal) (sym accepts.entries)
+                (subst (λ (rs : List Range). AllZip (EntryStandsFor history) (live.entries ++ entry ∷ accepts.taken) rs) (sym flat)
                 (pairs_append (EntryStandsFor history) live.entries stored.journal (entry ∷ accepts.taken) (range ∷ released.ranges) stands.kept.entries (both.stands, released.entries)));
           };
           held = released.held_stand;

@@ -12,10 +12,10 @@ use Rattle.rdf_terms.specs.declared.terms.Triple.{Triple}
 use Rattle.mld_ops.specs.declared.tagged.Tagged.{Tagged}
 use Rattle.mld_ops.specs.History.{Operation, IsDone, IsInserted, IsClosed, IsNext, IsLawful, dot_at}
 use Rattle.mld_ops.specs.Effect.{range_of}
-use Rattle.mld_ops.specs.HistoryLaws.{same_dot, range_of_has, before, closed_with_taken, knows_more, knows_still, knows_last}
-use Rattle.mld_ops.specs.AscendingLaws.{has_append}
+use Rattle.mld_ops.proofs.OperationLaws.{same_dot, range_of_has, before, closed_with_taken, knows_more, knows_still, knows_last}
+use Rattle.mld_ops.proofs.AscendingLaws.{has_append}
 use Rattle.mld_ops.specs.Net.{IsTime}
-use Rattle.mld_ops.specs.PickingLaws.{first_is, first_member, rest_members, kept_members}
+use Rattle.mld_ops.proofs.PickingLaws.{first_is, first_member, rest_members, kept_members}
 use Rattle.mld_ops.specs.Ready.{last_dot}
 use Rattle.mld_model.specs.Clone.{Live, Stored, known_of, with_range, IsKnown, IsReady, Releases}
 use Rattle.mld_model.specs.World.{World, Message, RangeOf, Want, SnapshotOf, JoinAsk, JoinGive, clone_at, with_clone}

@@ -7,9 +7,9 @@ use Rattle.std.proofs.lemmas.List.{get_or-set_same, get_or-set_other, length-set
 use Rattle.tree_clock.specs.declared.dots.Range.{Range}
 use Rattle.tree_clock.specs.Lists.{Has}
 use Rattle.mld_ops.specs.History.{Operation, IsNext}
-use Rattle.mld_ops.specs.MeaningLaws.{meaning_with_unknown}
-use Rattle.mld_ops.specs.Picking.{AllPairs}
-use Rattle.mld_ops.specs.PickingLaws.{pairs_as}
+use Rattle.mld_ops.proofs.MeaningLaws.{meaning_with_unknown}
+use Rattle.std.specs.List.{AllZip}
+use Rattle.mld_ops.proofs.PickingLaws.{pairs_as}
 use Rattle.mld_ops.specs.Messages.{MessageValue, CarriesEntry, CarriesAsk, CarriesGive, IsGoodMessage}
 use Rattle.mld_model.specs.Clone.{Clone, Absent, Asking, Empty, Down, Live, Stored}
 use Rattle.mld_model.specs.World.{World, Message, RangeOf, JoinAsk, JoinGive, clone_at, clone_count}
@@ -183,8 +183,8 @@ module _ (history : List Operation) (next : Operation) where
   message_still_stands message other is_next sound stands = absurd stands
 
   -- messages stand for the same messages in the longer history
-  pub messages_still_stand : (messages : List MessageValue) (others : List Message) → AllPairs (MessageStandsFor history) messages others
-      → ((message : Message) → Has others message → IsSoundMessage history message) → IsNext history next → AllPairs (MessageStandsFor (next ∷ history)) messages others
+  pub messages_still_stand : (messages : List MessageValue) (others : List Message) → AllZip (MessageStandsFor history) messages others
+      → ((message : Message) → Has others message → IsSoundMessage history message) → IsNext history next → AllZip (MessageStandsFor (next ∷ history)) messages others
   messages_still_stand messages others all sound is_next =
       pairs_as (MessageStandsFor history) (MessageStandsFor (next ∷ history)) messages others all
       (λ message other h stands. message_still_stands message other is_next (sound other h) stands)

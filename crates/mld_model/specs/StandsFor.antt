@@ -13,7 +13,7 @@ use Rattle.mld_ops.specs.History.{Operation}
 use Rattle.mld_ops.specs.Meaning.{IsMeaning}
 use Rattle.mld_ops.specs.Messages.{SnapshotValue, GiveValue, MessageValue, CarriesEntry, CarriesAsk, CarriesGive}
 use Rattle.mld_ops.specs.Net.{IsNet}
-use Rattle.mld_ops.specs.Picking.{AllPairs}
+use Rattle.std.specs.List.{AllZip}
 use Rattle.mld_model.specs.declared.CloneState.{CloneState}
 use Rattle.mld_model.specs.declared.CloneState.TheVariants as states
 use Rattle.mld_model.specs.declared.NoDevice.{NoDevice}
@@ -63,13 +63,13 @@ pub record StoredStandsFor (history : List Operation) (running : LocalStored) (s
   pub path : running.path ≡ stored.path
   pub base : (dot : Dot) → Covers running.base dot ↔ Knows stored.base dot
   pub base_pairs : IsMeaning history stored.base running.base_pairs
-  pub entries : AllPairs (EntryStandsFor history) running.entries stored.journal
+  pub entries : AllZip (EntryStandsFor history) running.entries stored.journal
 
 -- a clone alone stands for what a live clone of the model keeps and holds back: what its device has stands for what is kept; its held
 -- entries stand for the ranges held back, in order; and its clock is that of the known dots, with their meaning as the pairs
 pub record LocalStandsFor (history : List Operation) (running : LocalClone) (stored : Stored) (ranges : List Range) : Type 0 where
   pub kept : StoredStandsFor history (stored_of running) stored
-  pub held : AllPairs (EntryStandsFor history) running.held ranges
+  pub held : AllZip (EntryStandsFor history) running.held ranges
   pub known : (dot : Dot) → Covers running.ticks dot ↔ Knows (known_of stored) dot
   pub pairs : IsMeaning history (known_of stored) running.pairs
 
@@ -124,7 +124,7 @@ pub record StandsFor (running : RunningWorld) (world : World) : Type 0 where
   pub properties : running.properties ≡ world.properties
   pub count : length running.clones ≡ clone_count
   pub clones : (number : ℕ) (state : RunningClone) → slice_get running.clones number ≡ Some state → CloneStandsFor world number state (clone_at world number)
-  pub messages : AllPairs (MessageStandsFor world.history) running.messages world.messages
+  pub messages : AllZip (MessageStandsFor world.history) running.messages world.messages
   -- only ranges of one tick are made yet
   pub one_tick : HasOneTickRanges world
   -- no tick is above the number of steps

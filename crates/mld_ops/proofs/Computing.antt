@@ -9,7 +9,7 @@ use Rattle.tree_clock.specs.Lists.{Has, IsAscending}
 use Rattle.tree_clock.specs.Dot.{Knows}
 use Rattle.mld_ops.specs.declared.tagged.Tagged.{Tagged}
 use Rattle.mld_ops.specs.Tagged.{tagged_cmp}
-use Rattle.mld_ops.specs.AscendingLaws.{has_take_more, has_at}
+use Rattle.mld_ops.proofs.AscendingLaws.{has_take_more, has_at}
 use Rattle.mld_ops.specs.Deleted.{IsDeleted, IsOf}
 use Rattle.mld_ops.specs.History.{Operation, IsInserted}
 use Rattle.mld_ops.specs.Meaning.{IsMeaning}

@@ -14,7 +14,7 @@ use Rattle.rdf_terms.specs.Order.{triple_cmp}
 use Rattle.rdf_terms.specs.OrderLaws.{triple_total, triple_exact}
 use Rattle.tree_clock.specs.Lists.{Has}
 use Rattle.mld_ops.specs.declared.tagged.Tagged.{Tagged}
-use Rattle.mld_ops.specs.HistoryLaws.{same_dot}
+use Rattle.mld_ops.proofs.OperationLaws.{same_dot}
 
 tied : (o : Ordering) → is_eq o ≡ true → o ≡ Equal
 tied Less h = absurd (false≢true h)

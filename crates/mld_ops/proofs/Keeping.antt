@@ -11,9 +11,9 @@ use Rattle.std.specs.declared.cmp.Ordering.{Ordering}
 use Rattle.std.specs.declared.cmp.Ordering.TheVariants.{Less, Equal, Greater}
 use Rattle.rdf_terms.specs.Order.{iri_cmp}
 use Rattle.tree_clock.specs.Lists.{Has, IsBelowAll, IsAscending}
-use Rattle.mld_ops.specs.AscendingLaws.{contains_from_has, has_at}
+use Rattle.mld_ops.proofs.AscendingLaws.{contains_from_has, has_at}
 use Rattle.mld_ops.specs.Properties.{AreKept}
-use Rattle.mld_ops.specs.PropertiesLaws.{iri_total, iri_exact}
+use Rattle.mld_ops.proofs.PropertiesLaws.{iri_total, iri_exact}
 
 has_from_contains : {X : Type 0} (xs : List X) (x : X) → Contains xs x → Has xs x
 has_from_contains xs x c = subst (λ y. Has xs y) c.2 (has_at xs c.0 x c.1)

@@ -1,3 +1,10 @@
+pub mod TaggedLaws
+pub mod PropertiesLaws
+pub mod PickingLaws
+pub mod OperationLaws
+pub mod NetLaws
+pub mod MeaningLaws
+pub mod AscendingLaws
 pub mod Searching
 pub mod Walking
 pub mod Equality

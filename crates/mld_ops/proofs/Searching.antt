@@ -8,8 +8,8 @@ use Rattle.std.specs.declared.cmp.Ordering.TheVariants.{Less, Equal, Greater}
 use Rattle.tree_clock.specs.Lists.{Has, IsAscending}
 use Rattle.mld_ops.specs.declared.tagged.Tagged.{Tagged}
 use Rattle.mld_ops.specs.Tagged.{tagged_cmp}
-use Rattle.mld_ops.specs.TaggedLaws.{tagged_total, tagged_exact}
-use Rattle.mld_ops.specs.AscendingLaws.{has_take_more, has_at, contains_from_has, not_below_itself, searchable, ascending_insert, has_insert, ascending_remove, has_remove}
+use Rattle.mld_ops.proofs.TaggedLaws.{tagged_total, tagged_exact}
+use Rattle.mld_ops.proofs.AscendingLaws.{has_take_more, has_at, contains_from_has, not_below_itself, searchable, ascending_insert, has_insert, ascending_remove, has_remove}
 
 -- a place that compares as equal has the pair
 pub found_at : (xs : List Tagged) (x : Tagged) (i : ℕ) → HoldsAt (λ y. tagged_cmp y x ≡ Equal) xs i → get_or xs i x ≡ x

@@ -9,7 +9,7 @@ use Rattle.std.specs.Ordering.{is_lt}
 use Rattle.std.specs.declared.cmp.Ordering.{Ordering}
 use Rattle.std.specs.declared.cmp.Ordering.TheVariants.{Less, Equal, Greater}
 use Rattle.tree_clock.specs.Lists.{IsAscending}
-use Rattle.mld_ops.specs.AscendingLaws.{ascending_from_adjacent, adjacent_from_ascending}
+use Rattle.mld_ops.proofs.AscendingLaws.{ascending_from_adjacent, adjacent_from_ascending}
 
 -- what holds of each element of two lists holds of each of both
 all_push : {X : Type 0} (P : X → Type 0) (xs : List X) (x : X) → AllByRecursion P xs → P x → AllByRecursion P (xs ++ x ∷ [])

@@ -1,16 +1,10 @@
 -- Lists of which some members are left out, or the first of a kind is taken out.
 use Rattle.std.specs.Prelude.{◌≡◌, List, [], ◌∷◌, ◌⊎◌}
-
--- two lists agree place by place
-abbrev pub AllPairs : {X Y : Type 0} → (X → Y → Type 0) → List X → List Y → Type 0
-AllPairs R [] [] = Unit {0}
-AllPairs R (x ∷ xs) (y ∷ ys) = R x y × AllPairs R xs ys
-AllPairs R xs ys = ⊥
+use Rattle.std.specs.List.{AllByRecursion}
 
 -- no member is of the kind
 abbrev pub HasNone : {X : Type 0} → (X → Type 0) → List X → Type 0
-HasNone P [] = Unit {0}
-HasNone P (x ∷ xs) = ¬ P x × HasNone P xs
+HasNone P xs = AllByRecursion (λ x. ¬ P x) xs
 
 -- the members that are of the kind are left out, and the others stay in order
 abbrev pub DropsThose : {X : Type 0} → (X → Type 0) → List X → List X → Type 0

@@ -4,9 +4,9 @@ use Rattle.std.proofs.Common.{◌≡◌, ◌↔◌, Bool, true, false, ℕ, zero
 use Rattle.std.proofs.lemmas.Bool.{cases_lt, false≢true}
 use Rattle.mld_io.specs.declared.faults.LineFault.{LineFault}
 use Rattle.mld_io.specs.declared.faults.LineFault.TheVariants as line_faults
-use Rattle.mld_io.specs.Lines.{LinesValue, NextLine, IsTooLarge, IsCutShort, HasNoEnd, line_feed, ended_lines, lines_of, first_line, after_line, line_size}
-use Rattle.mld_io.specs.LinesLaws.{first_of_lines_lem, first_line_ends, after_line_none, ended_lines-append, ended_lines_none, HasNoEnd-first_line}
-use Rattle.mld_replay.specs.Limits.{left_after, size_of_lines, BreaksLimits, IsTooLargeLine, line_limit, input_limit}
+use Rattle.mld_io.specs.Lines.{LinesValue, NextLine, IsTooLarge, IsCutShort, HasNoEnd, line_break, ended_lines, lines_of, first_line, after_line, line_size}
+use Rattle.mld_io.proofs.LinesLaws.{first_of_lines_lem, first_line_ends, after_line_none, ended_lines-append, ended_lines_none, HasNoEnd-first_line}
+use Rattle.mld_replay.specs.TooLarge.{left_after, size_of_lines, BreaksLimits, IsTooLargeLine, line_limit, input_limit}
 use Rattle.mld_replay.specs.Ran.{TakesLine, IfSomeLine, ReadsLines}
 use Rattle.mld_replay.specs.UnderWay.{IsLeft, KnowsEnd}
 
@@ -152,14 +152,14 @@ reads_more : (bytes : List ℕ) (left rest : Option (List ℕ)) (done : ℕ) (be
     → rest ≡ Some (after_line behind) → ReadsLines bytes rest (done + 1)
 reads_more bytes left rest done behind reads is has is_rest =
     let same : reads.rest ≡ behind = some_same reads.rest behind (sym reads.left_is ∙ is) in
-    let ends : behind ≡ first_line behind ++ line_feed ∷ after_line behind = first_line_ends behind has in
-    let first : ended_lines (first_line behind ++ line_feed ∷ []) ≡ ended_lines (first_line behind) + 1 = ended_lines-append (first_line behind) (line_feed ∷ []) in
+    let ends : behind ≡ first_line behind ++ line_break ∷ after_line behind = first_line_ends behind has in
+    let first : ended_lines (first_line behind ++ line_break ∷ []) ≡ ended_lines (first_line behind) + 1 = ended_lines-append (first_line behind) (line_break ∷ []) in
     record {
-      read = reads.read ++ (first_line behind ++ line_feed ∷ []);
+      read = reads.read ++ (first_line behind ++ line_break ∷ []);
       rest = after_line behind;
-      whole = reads.whole ∙ ap (λ (b : List ℕ). reads.read ++ b) (same ∙ ends ∙ sym (append_assoc (first_line behind) (line_feed ∷ []) (after_line behind)))
-          ∙ sym (append_assoc reads.read (first_line behind ++ line_feed ∷ []) (after_line behind));
-      ends = omega (arith, ended_lines-append reads.read (first_line behind ++ line_feed ∷ []), first, ended_lines_none (first_line behind) (HasNoEnd-first_line behind), reads.ends);
+      whole = reads.whole ∙ ap (λ (b : List ℕ). reads.read ++ b) (same ∙ ends ∙ sym (append_assoc (first_line behind) (line_break ∷ []) (after_line behind)))
+          ∙ sym (append_assoc reads.read (first_line behind ++ line_break ∷ []) (after_line behind));
+      ends = omega (arith, ended_lines-append reads.read (first_line behind ++ line_break ∷ []), first, ended_lines_none (first_line behind) (HasNoEnd-first_line behind), reads.ends);
       left_is = is_rest;
     }
   where

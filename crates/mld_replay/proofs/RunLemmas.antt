@@ -7,9 +7,9 @@ use Rattle.std.specs.Cmp.Lexicographic.{pointwise}
 use Rattle.tree_clock.specs.DotLaws.{path_eq-Decides}
 use Rattle.std.specs.Io.KnownBytes.{Appends}
 use Rattle.mld_io.specs.Lines.{lines_of, after_line, IsCutShort}
-use Rattle.mld_io.specs.LinesLaws.{first_of_lines_lem}
+use Rattle.mld_io.proofs.LinesLaws.{first_of_lines_lem}
 use Rattle.schedule_model.specs.Runs.{Stage, Waiting, Acts, Runs, bad_line, no_domain, IsBad, IsUnbuilt, RunsBefore, Outcome, Finished, BadLine, UnbuiltLine, Verdict}
-use Rattle.mld_replay.specs.Ran.{Finishes, StopsAtBad, StopsAtUnbuilt, StopsAtLarge, BreaksOff, ReadsLines, WritesFront, TakesLine, IfSomeLine, HasReadCause, HasWriteCause, Agrees}
+use Rattle.mld_replay.specs.Ran.{Finishes, StopsAtBad, StopsAtUnbuilt, StopsAtLarge, BreaksOff, ReadsLines, WritesFront, TakesLine, IfSomeLine, HasReadCause, HasWriteFaultCause, Agrees}
 use Rattle.mld_replay.specs.Stages.{StageStands, IsStandingStage, ActsWell, EndsWell, steps_of}
 use Rattle.mld_replay.specs.declared.stages.Stage.{Stage as RunningStage}
 use Rattle.mld_replay.specs.declared.stages.Stage.TheVariants as stages
@@ -21,7 +21,7 @@ use Rattle.net_world.specs.declared.lines.LineRefusal.{LineRefusal}
 use Rattle.net_world.specs.declared.lines.LineRefusal.TheVariants as refusals
 use Rattle.mld_replay.specs.Stops.{fault_of}
 use Rattle.mld_replay.specs.UnderWay.{IsLeft, IsUnderWay}
-use Rattle.mld_replay.specs.Limits.{BreaksLimits, IsTooLargeLine}
+use Rattle.mld_replay.specs.TooLarge.{BreaksLimits, IsTooLargeLine}
 use Rattle.mld_replay.proofs.LimitLemmas.{left_first, taken_left, taken_fit, all_fit, large_next}
 
 -- a run goes on by one line
@@ -319,7 +319,7 @@ large_number number at same = cc
 pub read_well : {T : Type 0} (before now : ℕ) (value : T) → HasReadCause {T = T} before now (Ok value) → now ≡ before
 read_well before now value cause = cause.quiet (λ same. absurd (cc (same)))
 
-pub wrote_well : {T : Type 0} (before now : ℕ) (value : T) → HasWriteCause {T = T} before now (Ok value) → now ≡ before
+pub wrote_well : {T : Type 0} (before now : ℕ) (value : T) → HasWriteFaultCause {T = T} before now (Ok value) → now ≡ before
 wrote_well before now value cause = cause.quiet (λ same. absurd (cc (same)))
 
 -- the fault of a bad line came from a stop at a bad line

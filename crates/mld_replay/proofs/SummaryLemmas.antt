@@ -6,7 +6,7 @@ use Rattle.std.proofs.Common.{◌≡◌, ◌≢◌, ◌∙◌, inl, inr, ap, Boo
 use Rattle.mld_io.specs.Lines.{lines_of}
 use Rattle.schedule_model.specs.Runs.{Stage, Waiting, SetUp, Running, Outcome, Verdict}
 use Rattle.net_world.specs.declared.summaries.Summary.{Summary}
-use Rattle.mld_replay.specs.Summaries.{TellsOf}
+use Rattle.mld_replay.specs.RunSummaries.{TellsOf}
 use Rattle.mld_replay.specs.Ran.{Finishes, StopsAtBad, StopsAtUnbuilt, StopsAtLarge, BreaksOff, Agrees, SummarizesStage, IfTold, EndsBy, tells}
 use Rattle.mld_replay.specs.Stages.{StageStands}
 use Rattle.mld_replay.specs.declared.stages.Stage.{Stage as RunningStage}

@@ -1,5 +1,5 @@
-pub mod Summaries
-pub mod Limits
+pub mod RunSummaries
+pub mod TooLarge
 pub mod Stages
 pub mod Ran
 pub mod UnderWay

@@ -3,7 +3,7 @@ use Rattle.std.specs.Prelude.{◌≡◌, ◌≢◌, ◌⊎◌, ℕ, ◌+◌, ◌
 use Rattle.std.specs.Io.KnownBytes.{Appends}
 use Rattle.mld_io.specs.Faults.{Rose}
 use Rattle.mld_io.specs.Lines.{lines_of, ended_lines, first_line, after_line, line_size, IsCutShort}
-use Rattle.mld_replay.specs.Limits.{left_after, BreaksLimits, IsTooLargeLine}
+use Rattle.mld_replay.specs.TooLarge.{left_after, BreaksLimits, IsTooLargeLine}
 use Rattle.mld_model.specs.World.{World}
 use Rattle.schedule_model.specs.Runs.{Stage, Waiting, Running, Runs, RunsBefore, Outcome, Finished, BadLine, UnbuiltLine, Verdict}
 use Rattle.schedule_model.specs.Promises.{KeepsPromises}
@@ -72,7 +72,7 @@ pub record HasReadCause {T : Type 0} (before now : ℕ) (result : Result T RunFa
   pub quiet : ¬ IsErrOf result faults.ReadFault → now ≡ before
 
 -- the count of the sink's faults rose where the fault is one of writing, and else it is what it was
-pub record HasWriteCause {T : Type 0} (before now : ℕ) (result : Result T RunFault) : Type 0 where
+pub record HasWriteFaultCause {T : Type 0} (before now : ℕ) (result : Result T RunFault) : Type 0 where
   pub failed : IsErrOf result faults.WriteFault → Rose before now
   pub quiet : ¬ IsErrOf result faults.WriteFault → now ≡ before
 

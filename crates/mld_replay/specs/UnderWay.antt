@@ -3,7 +3,7 @@ use Rattle.std.specs.Prelude.{◌≡◌, ℕ, ◌<◌, ◌≤◌, Bool, false, I
 use Rattle.std.specs.Io.KnownBytes.{Appends}
 use Rattle.mld_io.specs.Lines.{lines_of}
 use Rattle.schedule_model.specs.Runs.{Stage, Waiting, Runs}
-use Rattle.mld_replay.specs.Limits.{left_after, size_of_lines, IsTooLargeLine}
+use Rattle.mld_replay.specs.TooLarge.{left_after, size_of_lines, IsTooLargeLine}
 use Rattle.mld_replay.specs.Ran.{ReadsLines}
 use Rattle.mld_replay.specs.Stages.{StageStands, steps_of}
 use Rattle.mld_replay.specs.declared.stages.Stage.{Stage as RunningStage}

@@ -7,10 +7,10 @@ ghost use Rattle.mld_io.specs.Lines.{lines_of, HasNoEnd, IsCutShort};
 ghost use Rattle.schedule_model.specs.Runs.{Stage as ModelStage, Waiting, Outcome, Verdict, IsBad, IsUnbuilt};
 ghost use Rattle.tree_clock.specs.Limits.{tick_limit};
 ghost use Rattle.mld_replay.specs.Stops.{fault_of};
-ghost use Rattle.mld_replay.specs.Limits.{BreaksLimits, line_limit, input_limit};
-ghost use Rattle.mld_replay.specs.Summaries.{TellsOf};
+ghost use Rattle.mld_replay.specs.TooLarge.{BreaksLimits, line_limit, input_limit};
+ghost use Rattle.mld_replay.specs.RunSummaries.{TellsOf};
 ghost use Rattle.mld_replay.specs.Stages.{StageStands, IsStandingStage, steps_of, ActsWell, EndsWell};
-ghost use Rattle.mld_replay.specs.Ran.{status_of, tells, IsReplay, Finishes, StopsAtBad, StopsAtUnbuilt, StopsAtLarge, BreaksOff, WritesFront, SummarizesStage, EndsBy, Agrees, TakesLine, IfSomeLine, IsReadingFault, IsWritingFault, IsLineFault, IsEndFault, HasReadCause, HasWriteCause};
+ghost use Rattle.mld_replay.specs.Ran.{status_of, tells, IsReplay, Finishes, StopsAtBad, StopsAtUnbuilt, StopsAtLarge, BreaksOff, WritesFront, SummarizesStage, EndsBy, Agrees, TakesLine, IfSomeLine, IsReadingFault, IsWritingFault, IsLineFault, IsEndFault, HasReadCause, HasWriteFaultCause};
 
 use crate::limits::{INPUT_LIMIT, LINE_LIMIT};
 use crate::stages::{Stage, act, finish};
@@ -205,7 +205,7 @@ fn replay<R: Threads, S: Source, K: Sink>(
         → BreaksOff (StageStands stage.new) bytes (S.left source.new) (K.held sink.old) (K.held sink.new) }
     ensures front { (bytes : List ℕ) → S.left source.old ≡ Some bytes → WritesFront bytes (K.held sink.old) (K.held sink.new) }
     ensures read { HasReadCause (S.faults source.old) (S.faults source.new) result }
-    ensures write { HasWriteCause (K.faults sink.old) (K.faults sink.new) result }
+    ensures write { HasWriteFaultCause (K.faults sink.old) (K.faults sink.new) result }
 {
     let mut lines = Lines::new(alloc, LINE_LIMIT, INPUT_LIMIT)?;
     let mut done = 0;
@@ -252,7 +252,7 @@ fn write_reply<K: Sink>(sink: &mut K, reply: &[u8]) -> Result<(), RunFault>
     ensures ok { OnOk result (Appends (K.held sink.old) (K.held sink.new) reply.now) }
     ensures err { OnErr result ((n : ℕ) × Appends (K.held sink.old) (K.held sink.new) (take n reply.now)) }
     ensures fault { IfErr result IsWritingFault }
-    ensures cause { HasWriteCause (K.faults sink.old) (K.faults sink.new) result }
+    ensures cause { HasWriteFaultCause (K.faults sink.old) (K.faults sink.new) result }
 {
     write_all(sink, reply).map_err(|fault| match fault {
         WriteFault::Failed => RunFault::WriteFault,

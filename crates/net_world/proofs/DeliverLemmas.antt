@@ -22,7 +22,7 @@ use Rattle.net_world.specs.declared.replies.Reply.{Reply}
 use Rattle.net_world.specs.declared.replies.Reply.TheVariants as replies
 use Rattle.net_world.specs.declared.parts.Parts.{Parts}
 use Rattle.net_world.specs.Delivering.{nth_message, IsFitFor, ReceivesLive, ReceivesAsking, StaysAway, Becomes, ReceivesAt, IsAway, IsLive, Asks, SendsAnswers}
-use Rattle.net_world.specs.Parts.{running_of, HasStepLeft}
+use Rattle.net_world.specs.WorldParts.{running_of, HasStepLeft}
 use Rattle.net_world.specs.Replies.{reply_value, numbers_between}
 use Rattle.net_world.specs.States.{HasState, reply_of_state}
 use Rattle.net_world.specs.Worlds.{IsStanding, Moves}

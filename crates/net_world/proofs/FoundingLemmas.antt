@@ -11,9 +11,9 @@ use Rattle.mld_model.specs.StandsFor.{RunningClone, id_of, founded_local}
 use Rattle.mld_model.proofs.StandsForLaws.{same_number}
 use Rattle.mld_ops.specs.Messages.{GiveValue}
 use Rattle.mld_ops.specs.Properties.{AreKept}
-use Rattle.mld_ops.specs.PropertiesLaws.{kept_same}
+use Rattle.mld_ops.proofs.PropertiesLaws.{kept_same}
 use Rattle.mld_ops.specs.declared.messages.Message.{Message}
-use Rattle.clone_core.specs.Joining.{Gives}
+use Rattle.clone_core.specs.Joining.{LocallyGives}
 use Rattle.schedule_model.specs.Schedule.{Setup, IsSetup}
 use Rattle.net_world.specs.Founding.{leaf_before, first_before, IsNewAsker, GivesLeaf}
 use Rattle.tree_clock.specs.Limits.{path_limit}
@@ -47,7 +47,7 @@ leaf_for setup number = record { id = id_of number; path = leaf_before setup.cou
 
 -- the message of the answer gives it
 pub gives_leaf : (setup : Setup) (number : ℕ) (old new : LocalClone) (asker : LocalAsker) (messages : List Message) → old ≡ first_before setup number → asker.id ≡ id_of number
-    → Gives old asker.id messages new → GivesLeaf messages asker (leaf_for setup number)
+    → LocallyGives old asker.id messages new → GivesLeaf messages asker (leaf_for setup number)
 gives_leaf setup number old new asker messages at id gives = record {
   give = gives.0;
   one = gives.1;
@@ -63,7 +63,7 @@ leaf_after count number some below =
     replicate_more (min number count - 1) zero_letter ∙ ap (λ (n : ℕ). replicate n zero_letter) forks
 
 pub first_after : (setup : Setup) (number : ℕ) (old new : LocalClone) (id : List ℕ) (messages : List Message) → 1 ≤ number → number < setup.count → old ≡ first_before setup number
-    → Gives old id messages new → new ≡ first_before setup (number + 1)
+    → LocallyGives old id messages new → new ≡ first_before setup (number + 1)
 first_after setup number old new id messages some below at gives =
     gives.2.left ∙ (λ i. record (at i) { path = (at i).path ++ zero_letter ∷ [] })
     ∙ ap (λ (leaf : List ℕ). blank_clone (id_of 0) setup.domain setup.properties leaf) (leaf_after setup.count number some below)

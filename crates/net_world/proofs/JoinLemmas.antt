@@ -1,7 +1,7 @@
 -- What `join` does is the model's step.
 use Rattle.std.proofs.Common.{◌≡◌, ℕ, ◌+◌, List, [], ◌∷◌, ◌++◌, refl, sym, ◌∙◌, ap, length, set}
 use Rattle.mld_ops.specs.Messages.{MessageValue, CarriesAsk, message_value}
-use Rattle.mld_ops.specs.PropertiesLaws.{kept_same}
+use Rattle.mld_ops.proofs.PropertiesLaws.{kept_same}
 use Rattle.mld_ops.specs.declared.messages.Message.{Message}
 use Rattle.mld_ops.specs.declared.messages.Message.TheVariants as kinds
 use Rattle.mld_model.specs.declared.CloneState.TheVariants as states

@@ -9,7 +9,7 @@ use Rattle.std.specs.declared.result.Result.{Result}
 use Rattle.std.specs.declared.result.Result.TheVariants.{Ok, Err}
 use Rattle.std.proofs.lemmas.Bool.{and_parts}
 use Rattle.iri_rules.specs.Domain.{is_domain, is_domain_byte}
-use Rattle.rdf_terms.specs.Grammar.{IsWithin}
+use Rattle.rdf_terms.specs.Grammar.{IsTripleWithin}
 use Rattle.rdf_terms.specs.Building.{RefusesTriple}
 use Rattle.rdf_terms.proofs.Complete.{one_spelled}
 use Rattle.rdf_terms.specs.declared.terms.Triple.{Triple}
@@ -179,7 +179,7 @@ no_compare_other rest front behind e lacks none command h = none h.1 h.5 (number
 -- a fault of the triple, want of memory aside
 pub no_triple : (text : List ℕ) (fault : TripleFault) → RefusesTriple text fault → fault ≢ NoMemory → (triple : Triple) → ¬ IsTripleText text triple
 no_triple text (NotTriple place) h other triple t = h.unspelled triple t.spelled
-no_triple text TooLong h other triple t = h.2 (subst (λ (u : Triple). IsWithin u) (one_spelled text triple h.0 t.spelled h.1) t.within)
+no_triple text TooLong h other triple t = h.2 (subst (λ (u : Triple). IsTripleWithin u) (one_spelled text triple h.0 t.spelled h.1) t.within)
 no_triple text NoMemory h other triple t = other refl
 
 -- ---- domain lines

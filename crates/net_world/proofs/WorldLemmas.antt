@@ -18,7 +18,7 @@ use Rattle.schedule_model.specs.WorldStep.{Follows, IsMissingReply}
 use Rattle.schedule_model.proofs.WorldLaws.{founded_stands, stepped, next_tick_within}
 use Rattle.net_world.specs.declared.parts.Parts.{Parts}
 use Rattle.net_world.specs.Commands.{Answered}
-use Rattle.net_world.specs.Parts.{running_of, HasStepLeft}
+use Rattle.net_world.specs.WorldParts.{running_of, HasStepLeft}
 use Rattle.net_world.specs.Replies.{reply_value}
 use Rattle.net_world.specs.States.{HasState, reply_of_state}
 use Rattle.net_world.specs.Worlds.{IsStanding, Moves, Stepped}

@@ -5,7 +5,7 @@ use Rattle.mld_ops.specs.Entry.{EntryValue}
 use Rattle.mld_ops.specs.Messages.{MessageValue, CarriesEntry}
 use Rattle.mld_ops.specs.Ready.{last_dot}
 use Rattle.mld_model.specs.Local.{LocalClone}
-use Rattle.clone_core.specs.Calls.{Sets}
+use Rattle.clone_core.specs.CloneCalls.{Sets}
 use Rattle.clone_core.specs.declared.answers.Done.TheVariants as done
 use Rattle.net_world.specs.declared.replies.Reply.{Reply}
 use Rattle.net_world.specs.declared.replies.Reply.TheVariants as replies

@@ -4,7 +4,7 @@ use Rattle.schedule_model.specs.declared.Command.{Command}
 use Rattle.schedule_model.specs.ReplyText.{reply_text}
 use Rattle.net_world.specs.declared.parts.Parts.{Parts}
 use Rattle.net_world.specs.declared.replies.Reply.{Reply}
-use Rattle.net_world.specs.Parts.{Does}
+use Rattle.net_world.specs.WorldParts.{Does}
 use Rattle.net_world.specs.Replies.{reply_value}
 
 -- the command was done, and the text of its reply was added

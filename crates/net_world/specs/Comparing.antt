@@ -1,6 +1,6 @@
 -- How two live clones compare, by the reply.
 use Rattle.mld_model.specs.Local.{LocalClone}
-use Rattle.clone_core.specs.Calls.{ComparesAs}
+use Rattle.clone_core.specs.CloneCalls.{ComparesAs}
 use Rattle.clone_core.specs.declared.answers.Covering.TheVariants as covering
 use Rattle.net_world.specs.declared.replies.Reply.{Reply}
 use Rattle.net_world.specs.declared.replies.Reply.TheVariants as replies

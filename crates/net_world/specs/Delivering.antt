@@ -8,7 +8,7 @@ use Rattle.mld_model.specs.declared.CloneState.TheVariants as states
 use Rattle.mld_model.specs.Local.{LocalAsker, LocalClone, CloneValue, IsForeign, joined_clone}
 use Rattle.mld_model.specs.StandsFor.{RunningClone}
 use Rattle.schedule_model.specs.WorldStep.{IsAwayReply}
-use Rattle.clone_core.specs.Calls.{Receives, Refuses}
+use Rattle.clone_core.specs.CloneCalls.{LocallyReceives, Refuses}
 use Rattle.clone_core.specs.Joining.{IsGiveFor, GivesNone}
 use Rattle.clone_core.specs.declared.answers.Got.TheVariants as got
 use Rattle.clone_core.specs.declared.faults.ReceiveFault.TheVariants as fault
@@ -32,13 +32,13 @@ pub record IsFitFor (clones : List RunningClone) (number : ℕ) (sent : MessageV
 
 -- what a live clone does with a message
 abbrev pub ReceivesLive : LocalClone → Message → LocalClone → Received → Type 0
-ReceivesLive old sent new (received.Told (replies.Took ranges)) = Receives old sent (got.Took ranges) new
-ReceivesLive old sent new (received.Told replies.Held) = Receives old sent got.Held new
-ReceivesLive old sent new (received.Told replies.Known) = Receives old sent got.Known new
-ReceivesLive old sent new (received.Told replies.Ignored) = Receives old sent got.Ignored new
+ReceivesLive old sent new (received.Told (replies.Took ranges)) = LocallyReceives old sent (got.Took ranges) new
+ReceivesLive old sent new (received.Told replies.Held) = LocallyReceives old sent got.Held new
+ReceivesLive old sent new (received.Told replies.Known) = LocallyReceives old sent got.Known new
+ReceivesLive old sent new (received.Told replies.Ignored) = LocallyReceives old sent got.Ignored new
 ReceivesLive old sent new (received.Told replies.HeldFull) = Refuses old sent fault.HeldFull × (new ≡ old)
 ReceivesLive old sent new (received.Told replies.Deep) = Refuses old sent fault.Deep × (new ≡ old)
-ReceivesLive old sent new (received.Sends answers) = Receives old sent (got.Answer answers) new
+ReceivesLive old sent new (received.Sends answers) = LocallyReceives old sent (got.Answer answers) new
 ReceivesLive old sent new other = ⊥
 
 -- the clone asks for a leaf

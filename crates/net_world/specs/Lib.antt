@@ -3,7 +3,7 @@ pub mod States
 pub mod Founding
 pub mod ReadLines
 pub mod Worlds
-pub mod Parts
+pub mod WorldParts
 pub mod Changes
 pub mod Delivering
 pub mod Asking

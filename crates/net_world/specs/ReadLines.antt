@@ -3,7 +3,7 @@ use Rattle.std.specs.Prelude.{◌≡◌, ℕ, ◌<◌, ◌^◌, List, ◌∷◌,
 use Rattle.std.specs.Str.{IsUtf8}
 use Rattle.std.specs.Fmt.{decimal}
 use Rattle.rdf_terms.specs.declared.terms.Triple.{Triple}
-use Rattle.rdf_terms.specs.Grammar.{SpellsTriple, IsWithin}
+use Rattle.rdf_terms.specs.Grammar.{SpellsTriple, IsTripleWithin}
 use Rattle.schedule_model.specs.Characters.{space}
 use Rattle.schedule_model.specs.declared.Command.TheVariants.{Add, Remove, Deliver, Show, Compare, Join}
 use Rattle.schedule_model.specs.declared.Command.{Command}
@@ -49,7 +49,7 @@ IsBadCommand line = ¬ IsNothing line × ¬ IsTrue (is_unbuilt line) × ((comman
 pub record IsTripleText (text : List ℕ) (triple : Triple) : Type 0 where
   pub bytes : IsUtf8 text
   pub spelled : SpellsTriple text triple
-  pub within : IsWithin triple
+  pub within : IsTripleWithin triple
 
 -- what follows the first word of a command and its space
 

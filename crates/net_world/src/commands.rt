@@ -4,7 +4,7 @@ ghost use Rattle.mld_model.specs.Local.{IsNamed};
 ghost use Rattle.mld_model.specs.World.{clone_count};
 ghost use Rattle.schedule_model.specs.Step.{HasCloneNumbers};
 ghost use Rattle.net_world.specs.Commands.{Answered};
-ghost use Rattle.net_world.specs.Parts.{HasStepLeft, KeepsDomain};
+ghost use Rattle.net_world.specs.WorldParts.{HasStepLeft, KeepsDomain};
 
 use crate::changes::{add, remove};
 use crate::compare::compare;

@@ -2,7 +2,7 @@
 ghost use Rattle.std.specs.Prelude.{◌<◌, vec_len};
 ghost use Rattle.schedule_model.specs.declared.Command.TheVariants as commands;
 ghost use Rattle.net_world.specs.Comparing.{IsHowTheyCompare};
-ghost use Rattle.net_world.specs.Parts.{Does};
+ghost use Rattle.net_world.specs.WorldParts.{Does};
 
 use crate::parts::Parts;
 use crate::replies::Reply;

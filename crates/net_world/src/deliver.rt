@@ -6,7 +6,7 @@ ghost use Rattle.mld_ops.specs.declared.messages.Message.TheVariants as kinds;
 ghost use Rattle.mld_model.specs.Local.{IsForeign};
 ghost use Rattle.schedule_model.specs.declared.Command.TheVariants as commands;
 ghost use Rattle.net_world.specs.Delivering.{nth_message, IsFitFor, IsAsking, ReceivesAt, ReceivesLive, ReceivesAsking, SendsAnswers};
-ghost use Rattle.net_world.specs.Parts.{HasStepLeft, KeepsDomain, Does};
+ghost use Rattle.net_world.specs.WorldParts.{HasStepLeft, KeepsDomain, Does};
 
 use crate::parts::Parts;
 use crate::replies::Reply;

@@ -7,7 +7,7 @@ ghost use Rattle.mld_model.specs.Local.{joined_clone};
 ghost use Rattle.mld_model.specs.StandsFor.{founded_local};
 ghost use Rattle.mld_model.specs.World.{clone_count};
 ghost use Rattle.schedule_model.specs.Schedule.{IsSetup};
-ghost use Rattle.clone_core.specs.Joining.{Gives};
+ghost use Rattle.clone_core.specs.Joining.{LocallyGives};
 ghost use Rattle.net_world.specs.Founding.{first_before, GivesLeaf};
 ghost use Rattle.net_world.specs.ReadLines.{setup_of};
 
@@ -82,7 +82,7 @@ fn given_leaf<R: Threads>(
 ) -> Result<Messages, AllocError>
     requires other { asker.now.id ≢ first.old.local.id }
     requires room { length first.old.local.path < path_limit }
-    ensures { IfOk result (λ messages. Gives first.old.local asker.now.id messages first.new.local) }
+    ensures { IfOk result (λ messages. LocallyGives first.old.local asker.now.id messages first.new.local) }
 {
     match first.receive(rt, alloc, &asker.ask()) {
         Ok(Got::Answer(messages)) => Ok(messages),

@@ -5,7 +5,7 @@ ghost use Rattle.mld_ops.specs.Messages.{message_value};
 ghost use Rattle.mld_model.specs.Local.{IsNamed};
 ghost use Rattle.schedule_model.specs.declared.Command.TheVariants as commands;
 ghost use Rattle.net_world.specs.Asking.{AsksFirst, SendsQuestion};
-ghost use Rattle.net_world.specs.Parts.{HasStepLeft, KeepsDomain, Does};
+ghost use Rattle.net_world.specs.WorldParts.{HasStepLeft, KeepsDomain, Does};
 
 use crate::parts::{Parts, send};
 use crate::replies::Reply;

@@ -24,7 +24,7 @@ impl Model for World {
     ghost use Rattle.mld_model.specs.Local.{IsNamed};
     ghost use Rattle.mld_model.specs.StandsFor.{RunningWorld};
     ghost use Rattle.mld_model.specs.World.{clone_count};
-    ghost use Rattle.net_world.specs.Parts.{running_of};
+    ghost use Rattle.net_world.specs.WorldParts.{running_of};
 
     ghost Value = { RunningWorld };
 

@@ -4,8 +4,8 @@ use Rattle.std.proofs.lemmas.Grind.{flat_map-append}
 use Rattle.std.proofs.lemmas.List.{append-nil, take_all, take_more, take_at, take-take, length-append}
 use Rattle.std.specs.List.{flat_map}
 use Rattle.mld_bytes.specs.Bytes.{u32_bytes}
-use Rattle.op_codec.specs.Kept.{KeepsStart}
-use Rattle.op_codec.specs.Lists.{list_bytes}
+use Rattle.rdf_terms.specs.Kept.{KeepsStart}
+use Rattle.op_codec.specs.StoredLists.{list_bytes}
 
 -- what follows at a good end of what holds there
 pub on_ok : {T E P Q : Type 0} (result : Result T E) → (P → Q) → OnOk result P → OnOk result Q

@@ -7,9 +7,9 @@ use Rattle.std.specs.List.{AllByRecursion, slice_get}
 use Rattle.std.specs.Ordering.{is_lt}
 use Rattle.std.specs.declared.cmp.Ordering.{Ordering}
 use Rattle.std.specs.declared.cmp.Ordering.TheVariants.{Less, Equal, Greater}
-use Rattle.mld_ops.specs.AscendingLaws.{below_member, has_right, below_all_after}
+use Rattle.mld_ops.proofs.AscendingLaws.{below_member, has_right, below_all_after}
 use Rattle.tree_clock.specs.Clock.{ticks_of, entry_cmp, IsClock, RaisesTo}
-use Rattle.tree_clock.specs.ClockLaws.{ticks_of-head, ticks_of-tail, less_apart, by_order, clock_from_ticks}
+use Rattle.tree_clock.proofs.ClockLaws.{ticks_of-head, ticks_of-tail, less_apart, by_order, clock_from_ticks}
 use Rattle.tree_clock.specs.DotLaws.{path_total}
 use Rattle.tree_clock.specs.Lists.{IsAscending}
 use Rattle.tree_clock.specs.Path.{path_cmp}
@@ -18,7 +18,7 @@ use Rattle.op_codec.specs.declared.faults.CodecFault.{CodecFault}
 use Rattle.op_codec.specs.declared.faults.CodecFault.TheVariants.{NotInGrammar}
 use Rattle.op_codec.specs.Agreement.{IsRead, IsRefused, TakesItem, MissesItem}
 use Rattle.op_codec.specs.Clocks.{read_dot, read_ticks, path_of_ticks, last_path}
-use Rattle.op_codec.specs.Lists.{is_above, is_above_one}
+use Rattle.op_codec.specs.StoredLists.{is_above, is_above_one}
 use Rattle.op_codec.specs.Reading.{Reading, Found, chain}
 use Rattle.op_codec.proofs.ListLaws.{item_taken, item_unfit, item_refused, refused_later}
 

@@ -20,7 +20,7 @@ use Rattle.tree_clock.specs.declared.dots.Range.{Range}
 use Rattle.op_codec.specs.Entries.{is_ascending, is_in, is_entry, entry_at, read_range, read_inserts, read_entry}
 use Rattle.op_codec.specs.Agreement.{IsRead}
 use Rattle.op_codec.specs.Clocks.{read_clock}
-use Rattle.op_codec.specs.Pairs.{is_dot_of, read_pairs}
+use Rattle.op_codec.specs.PairBytes.{is_dot_of, read_pairs}
 use Rattle.op_codec.specs.Reading.{Found, Fault}
 use Rattle.op_codec.proofs.ClockReading.{less_from_test}
 

@@ -4,18 +4,18 @@ use Rattle.std.proofs.lemmas.Bool.{cases_Bool}
 use Rattle.std.specs.List.{AllByRecursion}
 use Rattle.mld_ops.specs.Entry.{EntryValue}
 use Rattle.mld_ops.specs.Tagged.{insert_cmp}
-use Rattle.mld_ops.specs.TaggedLaws.{insert_total}
+use Rattle.mld_ops.proofs.TaggedLaws.{insert_total}
 use Rattle.mld_ops.specs.declared.tagged.Tagged.{Tagged}
 use Rattle.rdf_terms.specs.declared.terms.Triple.{Triple}
 use Rattle.tree_clock.specs.declared.dots.Range.{Range}
 use Rattle.op_codec.specs.Clocks.{tick_bytes, read_any_tick, clock_bytes, read_clock}
 use Rattle.op_codec.specs.Entries.{range_bytes, read_range, insert_bytes, read_insert, inserts_bytes, read_inserts, entry_bytes, entry_at, is_entry, read_entry}
-use Rattle.op_codec.specs.Laws.{IsReadBack, IsWritten, IsOneSpelling}
-use Rattle.op_codec.specs.Lists.{is_above}
-use Rattle.op_codec.specs.Pairs.{pairs_bytes, read_pairs}
+use Rattle.op_codec.specs.CodecLaws.{IsReadBack, IsWritten, IsOneSpelling}
+use Rattle.op_codec.specs.StoredLists.{is_above}
+use Rattle.op_codec.specs.PairBytes.{pairs_bytes, read_pairs}
 use Rattle.op_codec.specs.Paths.{path_bytes, read_path}
 use Rattle.op_codec.specs.Reading.{Reading, Found, Fault, chain}
-use Rattle.op_codec.specs.Stored.{ArePairs, IsRange, IsInsert, AreInserts, IsStoredEntry}
+use Rattle.op_codec.specs.Stored.{ArePairs, IsRange, IsInsert, AreStoredInserts, IsStoredEntry}
 use Rattle.op_codec.specs.Triples.{stored_triple, read_stored}
 use Rattle.op_codec.proofs.EntryLaws.{entry_decided, entry_found}
 use Rattle.op_codec.proofs.FieldTrips.{any_tick_back, any_tick_one}
@@ -117,13 +117,13 @@ insert_one place bytes insert next rest b h =
         })
 
 -- a list of inserts is read back
-pub inserts_back : IsReadBack AreInserts inserts_bytes read_inserts
+pub inserts_back : IsReadBack AreStoredInserts inserts_bytes read_inserts
 unfolding inserts_bytes read_inserts
 inserts_back inserts place rest is =
     list_back IsInsert insert_bytes read_insert (is_above insert_cmp) insert_back inserts place rest is.count is.each (fitting_from_ascending insert_cmp [] inserts is.ascending)
 
 -- a list of inserts was written so
-pub inserts_one : IsOneSpelling AreInserts inserts_bytes read_inserts
+pub inserts_one : IsOneSpelling AreStoredInserts inserts_bytes read_inserts
 unfolding inserts_bytes read_inserts
 inserts_one place bytes inserts next rest b h =
     let w = list_one IsInsert insert_bytes read_insert (is_above insert_cmp) insert_one place bytes inserts next rest b h in

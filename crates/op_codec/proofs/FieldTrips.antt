@@ -6,7 +6,7 @@ use Rattle.std.proofs.lemmas.List.{take-append-drop, length-take-le}
 use Rattle.mld_bytes.proofs.Numbers.{length-u32_bytes, u32_bytes-number, u32_number-below}
 use Rattle.mld_bytes.specs.Bytes.{u32_bytes, u32_number}
 use Rattle.op_codec.specs.Clocks.{tick_bytes, read_any_tick, read_tick}
-use Rattle.op_codec.specs.Laws.{AreBytes, IsReadBack, IsWritten, IsOneSpelling}
+use Rattle.op_codec.specs.CodecLaws.{AreBytes, IsReadBack, IsWritten, IsOneSpelling}
 use Rattle.op_codec.specs.Reading.{Found, Fault, chain, read_piece, read_u32}
 use Rattle.op_codec.specs.Stored.{IsTick}
 use Rattle.op_codec.proofs.FieldLaws.{piece_enough, piece_short, u32_takes}

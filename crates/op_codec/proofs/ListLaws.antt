@@ -3,7 +3,7 @@ use Rattle.std.proofs.Common.{◌≡◌, ℕ, suc, ◌+◌, ◌-◌, ◌<◌, �
 use Rattle.op_codec.specs.declared.faults.CodecFault.{CodecFault}
 use Rattle.op_codec.specs.declared.faults.CodecFault.TheVariants.{NotInGrammar, NoMemory}
 use Rattle.op_codec.specs.Agreement.{IsRead, IsRefused, TakesItem, MissesItem}
-use Rattle.op_codec.specs.Lists.{read_items, read_list}
+use Rattle.op_codec.specs.StoredLists.{read_items, read_list}
 use Rattle.op_codec.specs.Reading.{Reading, chain, read_u32}
 
 -- what comes behind a fault doesn't matter

@@ -9,8 +9,8 @@ use Rattle.std.specs.declared.cmp.Ordering.{Ordering}
 use Rattle.mld_bytes.proofs.Numbers.{length-u32_bytes}
 use Rattle.mld_bytes.specs.Bytes.{u32_bytes}
 use Rattle.tree_clock.specs.Lists.{IsAscending}
-use Rattle.op_codec.specs.Laws.{AreBytes, IsReadBack, IsOneSpelling}
-use Rattle.op_codec.specs.Lists.{list_bytes, is_above, is_above_one, read_items, read_list}
+use Rattle.op_codec.specs.CodecLaws.{AreBytes, IsReadBack, IsOneSpelling}
+use Rattle.op_codec.specs.StoredLists.{list_bytes, is_above, is_above_one, read_items, read_list}
 use Rattle.op_codec.specs.Reading.{Reading, Found, Fault, read_u32}
 use Rattle.op_codec.specs.Stored.{IsShort}
 use Rattle.op_codec.proofs.ClockReading.{ascending_push, last_of_more}

@@ -8,9 +8,9 @@ use Rattle.tree_clock.specs.Clock.{Covers}
 use Rattle.tree_clock.specs.Lists.{Has}
 use Rattle.op_codec.specs.Clocks.{clock_bytes, read_clock}
 use Rattle.op_codec.specs.Entries.{entry_bytes, read_entry}
-use Rattle.op_codec.specs.Laws.{AreBytes, IsReadBack, IsWritten, IsOneSpelling}
-use Rattle.op_codec.specs.Messages.{id_size, snapshot_bytes, read_snapshot, give_bytes, read_give, message_bytes, read_carried, read_message}
-use Rattle.op_codec.specs.Pairs.{pairs_bytes, read_pairs}
+use Rattle.op_codec.specs.CodecLaws.{AreBytes, IsReadBack, IsWritten, IsOneSpelling}
+use Rattle.op_codec.specs.MessageBytes.{id_size, snapshot_bytes, read_snapshot, give_bytes, read_give, message_bytes, read_carried, read_message}
+use Rattle.op_codec.specs.PairBytes.{pairs_bytes, read_pairs}
 use Rattle.op_codec.specs.Paths.{path_bytes, read_path}
 use Rattle.op_codec.specs.Reading.{Reading, Found, Fault, chain, read_piece}
 use Rattle.op_codec.specs.Stored.{IsStoredClock, IsStoredEntry, IsSnapshot, IsId, IsGive, IsMessage}

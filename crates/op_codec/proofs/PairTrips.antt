@@ -8,22 +8,22 @@ use Rattle.std.specs.Str.{IsUtf8, is_utf8}
 use Rattle.mld_bytes.proofs.Numbers.{length-u32_bytes}
 use Rattle.mld_bytes.specs.Bytes.{u32_bytes}
 use Rattle.mld_ops.specs.Tagged.{tagged_cmp}
-use Rattle.mld_ops.specs.TaggedLaws.{tagged_total}
+use Rattle.mld_ops.proofs.TaggedLaws.{tagged_total}
 use Rattle.mld_ops.specs.declared.tagged.Tagged.{Tagged}
 use Rattle.rdf_terms.proofs.Sound.{read_spelled}
 use Rattle.rdf_terms.proofs.Values.{IsWithin-from_test}
 use Rattle.rdf_terms.specs.Building.{is_within}
-use Rattle.rdf_terms.specs.Grammar.{SpellsTriple, IsWithin}
+use Rattle.rdf_terms.specs.Grammar.{SpellsTriple, IsTripleWithin}
 use Rattle.rdf_terms.specs.Literal.{is_same}
-use Rattle.rdf_terms.specs.Reading.{Verdict, Spelled, Stopped, Before, Subject, run}
+use Rattle.rdf_terms.specs.TripleReading.{ReadingEnd, Spelled, Stopped, Before, Subject, run}
 use Rattle.rdf_terms.specs.Spelling.{triple_text}
 use Rattle.rdf_terms.specs.declared.terms.Triple.{Triple}
 use Rattle.tree_clock.specs.Clock.{entry_cmp}
 use Rattle.tree_clock.specs.declared.dots.Dot.{Dot}
 use Rattle.op_codec.specs.Clocks.{dot_bytes, read_dot, ticks_bytes, read_ticks, clock_bytes, read_clock}
-use Rattle.op_codec.specs.Laws.{AreBytes, IsReadBack, IsWritten, IsOneSpelling}
-use Rattle.op_codec.specs.Lists.{is_above}
-use Rattle.op_codec.specs.Pairs.{is_covered, fits_pairs, pair_bytes, read_pair, pairs_bytes, read_pairs}
+use Rattle.op_codec.specs.CodecLaws.{AreBytes, IsReadBack, IsWritten, IsOneSpelling}
+use Rattle.op_codec.specs.StoredLists.{is_above}
+use Rattle.op_codec.specs.PairBytes.{is_covered, fits_pairs, pair_bytes, read_pair, pairs_bytes, read_pairs}
 use Rattle.op_codec.specs.Reading.{Reading, Found, Fault, chain, read_u32, read_piece}
 use Rattle.op_codec.specs.Stored.{AreTicks, IsStoredClock, IsStoredTriple, IsPair, ArePairs}
 use Rattle.op_codec.specs.Triples.{stored_triple, written_triple, triple_of, found_at, read_stored}
@@ -89,7 +89,7 @@ triple_of_text t is = triple_written (triple_text t) t is.utf8 is.spelled is.wit
 record WasTriple (text : List ℕ) (t : Triple) : Type 0 where
   same : triple_text t ≡ text
   spelled : SpellsTriple text t
-  within : IsWithin t
+  within : IsTripleWithin t
   utf8 : IsUtf8 text
 
 -- a text's triple is written so
@@ -108,7 +108,7 @@ triple_was text t h =
     some u true e = (refl, cc)
     some u false e = absurd (none_some e)
 
-    by : IsUtf8 text → (verdict : Verdict) → run text (Before Subject) ≡ verdict → written_triple text (run text (Before Subject)) ≡ Some t → WasTriple text t
+    by : IsUtf8 text → (verdict : ReadingEnd) → run text (Before Subject) ≡ verdict → written_triple text (run text (Before Subject)) ≡ Some t → WasTriple text t
     by utf8 (Stopped left) e k = absurd (none_some (sym (ap (written_triple text) e) ∙ k))
     by utf8 (Spelled u) e k =
         let p = some u (is_within u && is_same (triple_text u) text) (sym (ap (written_triple text) e) ∙ k) in

@@ -14,7 +14,7 @@ use Rattle.tree_clock.specs.Limits.{path_limit}
 use Rattle.tree_clock.specs.Path.{letters, zero_letter}
 use Rattle.tree_clock.specs.declared.dots.Dot.{Dot}
 use Rattle.op_codec.specs.Clocks.{tick_bytes, read_tick, dot_bytes, read_dot}
-use Rattle.op_codec.specs.Laws.{AreBytes, IsReadBack, IsWritten, IsOneSpelling}
+use Rattle.op_codec.specs.CodecLaws.{AreBytes, IsReadBack, IsWritten, IsOneSpelling}
 use Rattle.op_codec.specs.Paths.{letter_bytes, spare_bits, is_path, path_bytes, read_path}
 use Rattle.op_codec.specs.Reading.{Found, chain}
 use Rattle.op_codec.specs.Stored.{IsPath, IsDot}

@@ -3,7 +3,7 @@ use Rattle.std.proofs.Common.{ℕ, ◌+◌, List, Result, Ok, Err, IfOk, MatchRe
 use Rattle.std.proofs.lemmas.List.{get_or-drop}
 use Rattle.op_codec.specs.declared.faults.CodecFault.{CodecFault}
 use Rattle.op_codec.specs.Agreement.{IsRead, IsRefused}
-use Rattle.op_codec.specs.Laws.{AreBytes, IsWritten, IsOneSpelling}
+use Rattle.op_codec.specs.CodecLaws.{AreBytes, IsWritten, IsOneSpelling}
 use Rattle.op_codec.specs.Reading.{Reading}
 
 -- what stands from a place of an input on are bytes

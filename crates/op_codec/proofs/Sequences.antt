@@ -2,7 +2,7 @@
 use Rattle.std.proofs.Common.{◌≡◌, ℕ, ◌+◌, List, ◌++◌, length, get_or, refl, sym, ap, ◌∙◌, inl, inr, append_assoc, arith}
 use Rattle.std.proofs.lemmas.Bool.{cases_lt}
 use Rattle.std.proofs.lemmas.List.{length-append, get_or-append-add, get_or_append_left, get_or_past}
-use Rattle.op_codec.specs.Laws.{AreBytes, IsReadBack, RefusesRightly}
+use Rattle.op_codec.specs.CodecLaws.{AreBytes, IsReadBack, RefusesRightly}
 use Rattle.op_codec.specs.Reading.{Reading, Found, Fault, chain}
 
 -- two things are read one behind the other

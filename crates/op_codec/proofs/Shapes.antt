@@ -11,7 +11,7 @@ use Rattle.rdf_terms.specs.declared.terms.Triple.{Triple}
 use Rattle.rdf_terms.specs.Written.{IsWrittenSo}
 use Rattle.tree_clock.specs.Clock.{IsClock, Covers}
 use Rattle.tree_clock.specs.Lists.{IsAscending}
-use Rattle.op_codec.specs.Stored.{IsShort, IsShortTriple, AreShortPairs, AreShortInserts, IsShortEntry, HaveShape, HasPairShape, HasInsertShape, IsRange, AreTicks, IsStoredClock, IsStoredTriple, IsPair, ArePairs, IsInsert, AreInserts, IsStoredEntry}
+use Rattle.op_codec.specs.Stored.{IsShort, IsShortTriple, AreShortPairs, AreShortInserts, IsShortEntry, HaveShape, HasPairShape, HasInsertShape, IsRange, AreTicks, IsStoredClock, IsStoredTriple, IsPair, ArePairs, IsInsert, AreStoredInserts, IsStoredEntry}
 
 -- each element below a place
 abbrev pub EachBelow : {X : Type 0} → (X → Type 0) → List X → ℕ → Type 0
@@ -68,7 +68,7 @@ pairs_stored ticks pairs short shape ascending covered = record {
 }
 
 -- inserts that may be written, in their order
-inserts_stored : (inserts : List (Triple × ℕ)) → AreShortInserts inserts → AllByRecursion HasInsertShape inserts → IsAscending insert_cmp inserts → AreInserts inserts
+inserts_stored : (inserts : List (Triple × ℕ)) → AreShortInserts inserts → AllByRecursion HasInsertShape inserts → IsAscending insert_cmp inserts → AreStoredInserts inserts
 inserts_stored inserts short shape ascending = record {
   count = short.count;
   each = each_both HasInsertShape (λ (insert : Triple × ℕ). IsShortTriple insert.0) IsInsert (λ insert s texts. record { triple = triple_stored insert.0 s.triple texts; tick = s.tick }) inserts shape

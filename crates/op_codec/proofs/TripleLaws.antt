@@ -10,9 +10,9 @@ use Rattle.rdf_terms.specs.declared.terms.Term.{Term}
 use Rattle.rdf_terms.specs.declared.terms.Term.TheVariants as terms
 use Rattle.rdf_terms.specs.declared.terms.Triple.{Triple}
 use Rattle.rdf_terms.specs.Building.{is_within, is_term_within}
-use Rattle.rdf_terms.specs.Grammar.{SpellsTriple, IsWithin, IsTermWithin}
+use Rattle.rdf_terms.specs.Grammar.{SpellsTriple, IsTripleWithin, IsTermWithin}
 use Rattle.rdf_terms.specs.Literal.{Typed, Tagged, is_same, lexical_limit}
-use Rattle.rdf_terms.specs.Reading.{Verdict, Spelled, Stopped, Before, Subject, run}
+use Rattle.rdf_terms.specs.TripleReading.{ReadingEnd, Spelled, Stopped, Before, Subject, run}
 use Rattle.rdf_terms.specs.Spelling.{triple_text}
 use Rattle.op_codec.specs.Triples.{written_triple, triple_of}
 
@@ -24,7 +24,7 @@ term_test (terms.Literal (Typed lexical datatype)) h =
 term_test (terms.Literal (Tagged lexical tag)) h = le-leb (length lexical) lexical_limit h
 
 -- the lengths of a triple decide its test
-within_test : (t : Triple) → IsWithin t → is_within t ≡ true
+within_test : (t : Triple) → IsTripleWithin t → is_within t ≡ true
 unfolding is_within
 within_test t h =
     and_from _ (is_term_within t.o) (and_from _ _ (le-leb (length t.s) _ h.subject) (le-leb (length t.p) _ h.predicate)) (term_test t.o h.object)
@@ -46,16 +46,16 @@ spelled_triple text t b u s e =
     rw (is_utf8-from_IsUtf8 text u, read, e)
 
 -- a text that spells a triple as it is written is that triple's
-pub triple_written : (text : List ℕ) (t : Triple) → IsUtf8 text → SpellsTriple text t → IsWithin t → is_same (triple_text t) text ≡ true → triple_of text ≡ Some t
+pub triple_written : (text : List ℕ) (t : Triple) → IsUtf8 text → SpellsTriple text t → IsTripleWithin t → is_same (triple_text t) text ≡ true → triple_of text ≡ Some t
 triple_written text t u s w e =
     spelled_triple text t true u s (and_from (is_within t) (is_same (triple_text t) text) (within_test t w) e)
 
 -- a text that spells a triple otherwise is no triple's
-pub otherwise_written : (text : List ℕ) (t : Triple) → IsUtf8 text → SpellsTriple text t → IsWithin t → is_same (triple_text t) text ≡ false → triple_of text ≡ None
+pub otherwise_written : (text : List ℕ) (t : Triple) → IsUtf8 text → SpellsTriple text t → IsTripleWithin t → is_same (triple_text t) text ≡ false → triple_of text ≡ None
 otherwise_written text t u s w e = spelled_triple text t false u s (rw (within_test t w) e)
 
 -- a text that spells a triple that is too long is no triple's
-pub too_long : (text : List ℕ) (t : Triple) → IsUtf8 text → SpellsTriple text t → ¬ IsWithin t → triple_of text ≡ None
+pub too_long : (text : List ℕ) (t : Triple) → IsUtf8 text → SpellsTriple text t → ¬ IsTripleWithin t → triple_of text ≡ None
 too_long text t u s n = elim (cases_Bool (is_within t)) [
   | inl e ↦ absurd (n (IsWithin-from_test t e))
   | inr e ↦ spelled_triple text t false u s (rw e)
@@ -69,6 +69,6 @@ not_spelled text n = elim (cases_Bool (is_utf8 text)) [
   | inr e ↦ rw e
 ]
   where
-    by : (verdict : Verdict) → run text (Before Subject) ≡ verdict → written_triple text verdict ≡ None
+    by : (verdict : ReadingEnd) → run text (Before Subject) ≡ verdict → written_triple text verdict ≡ None
     by (Spelled t) e = absurd (n t (read_spelled text t e))
     by (Stopped left) e = refl

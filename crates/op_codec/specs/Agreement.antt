@@ -3,7 +3,7 @@ use Rattle.std.specs.Prelude.{◌≡◌, ◌≤◌, ℕ, suc, Bool, List, Some, 
 use Rattle.op_codec.specs.declared.faults.CodecFault.{CodecFault}
 use Rattle.op_codec.specs.declared.faults.CodecFault.TheVariants.{NotInGrammar, NoMemory}
 use Rattle.rdf_terms.specs.declared.terms.Triple.{Triple}
-use Rattle.op_codec.specs.Lists.{read_items}
+use Rattle.op_codec.specs.StoredLists.{read_items}
 use Rattle.op_codec.specs.Reading.{Reading, Found, Fault}
 use Rattle.op_codec.specs.Triples.{triple_of}
 
@@ -28,7 +28,7 @@ MissesItem read_item fits input old place fault =
     (count : ℕ) → IsRefused (read_items read_item fits (suc count) old place (drop place input)) fault
 
 -- the text is this triple's written form, or it is that of none
-abbrev pub IsTripleOf : List ℕ → ℕ → Result Triple CodecFault → Type 0
-IsTripleOf text place (Ok triple) = triple_of text ≡ Some triple
-IsTripleOf text place (Err (NotInGrammar at)) = (triple_of text ≡ None) × (at ≡ place)
-IsTripleOf text place (Err NoMemory) = Unit {0}
+abbrev pub IsWrittenForm : List ℕ → ℕ → Result Triple CodecFault → Type 0
+IsWrittenForm text place (Ok triple) = triple_of text ≡ Some triple
+IsWrittenForm text place (Err (NotInGrammar at)) = (triple_of text ≡ None) × (at ≡ place)
+IsWrittenForm text place (Err NoMemory) = Unit {0}

@@ -5,7 +5,7 @@ use Rattle.std.specs.List.{slice_get}
 use Rattle.mld_bytes.specs.Bytes.{u32_bytes}
 use Rattle.tree_clock.specs.Clock.{entry_cmp}
 use Rattle.tree_clock.specs.declared.dots.Dot.{Dot}
-use Rattle.op_codec.specs.Lists.{list_bytes, is_above, read_list}
+use Rattle.op_codec.specs.StoredLists.{list_bytes, is_above, read_list}
 use Rattle.op_codec.specs.Paths.{path_bytes, read_path}
 use Rattle.op_codec.specs.Reading.{Reading, Found, Fault, chain, read_u32}
 

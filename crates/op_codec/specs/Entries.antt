@@ -13,8 +13,8 @@ use Rattle.tree_clock.specs.Clock.{ticks_of}
 use Rattle.tree_clock.specs.declared.dots.Dot.{Dot}
 use Rattle.tree_clock.specs.declared.dots.Range.{Range}
 use Rattle.op_codec.specs.Clocks.{tick_bytes, read_any_tick, clock_bytes, read_clock}
-use Rattle.op_codec.specs.Lists.{list_bytes, is_above, read_list}
-use Rattle.op_codec.specs.Pairs.{is_dot_of, pairs_bytes, read_pairs}
+use Rattle.op_codec.specs.StoredLists.{list_bytes, is_above, read_list}
+use Rattle.op_codec.specs.PairBytes.{is_dot_of, pairs_bytes, read_pairs}
 use Rattle.op_codec.specs.Paths.{path_bytes, read_path}
 use Rattle.op_codec.specs.Reading.{Reading, Found, Fault, chain}
 use Rattle.op_codec.specs.Triples.{stored_triple, read_stored}

@@ -1,12 +1,11 @@
 pub mod Reading
 pub mod Paths
-pub mod Lists
+pub mod StoredLists
 pub mod Clocks
 pub mod Triples
-pub mod Pairs
+pub mod PairBytes
 pub mod Entries
-pub mod Messages
+pub mod MessageBytes
 pub mod Agreement
 pub mod Stored
-pub mod Kept
-pub mod Laws
+pub mod CodecLaws

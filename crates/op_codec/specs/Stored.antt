@@ -6,7 +6,7 @@ use Rattle.mld_ops.specs.Entry.{EntryValue, IsEntry}
 use Rattle.mld_ops.specs.Messages.{SnapshotValue, GiveValue, MessageValue, CarriesEntry, CarriesWant, CarriesSnapshot, CarriesAsk, CarriesGive}
 use Rattle.mld_ops.specs.Tagged.{tagged_cmp, insert_cmp}
 use Rattle.mld_ops.specs.declared.tagged.Tagged.{Tagged}
-use Rattle.rdf_terms.specs.Grammar.{SpellsTriple, IsWithin}
+use Rattle.rdf_terms.specs.Grammar.{SpellsTriple, IsTripleWithin}
 use Rattle.rdf_terms.specs.Spelling.{triple_text}
 use Rattle.rdf_terms.specs.Written.{IsWrittenSo}
 use Rattle.rdf_terms.specs.declared.terms.Triple.{Triple}
@@ -16,7 +16,7 @@ use Rattle.tree_clock.specs.Limits.{path_limit}
 use Rattle.tree_clock.specs.Lists.{IsAscending}
 use Rattle.tree_clock.specs.declared.dots.Dot.{Dot}
 use Rattle.tree_clock.specs.declared.dots.Range.{Range}
-use Rattle.op_codec.specs.Messages.{id_size}
+use Rattle.op_codec.specs.MessageBytes.{id_size}
 
 -- ---- what a writer asks for: counts and lengths of four bytes
 
@@ -112,7 +112,7 @@ IsStoredClock ticks = IsList AreTicks (IsAscending entry_cmp) ticks
 -- a triple that its written form spells, within the limits
 pub record IsStoredTriple (triple : Triple) : Type 0 where
   pub spelled : SpellsTriple (triple_text triple) triple
-  pub within : IsWithin triple
+  pub within : IsTripleWithin triple
   pub utf8 : IsUtf8 (triple_text triple)
   pub short : IsShortTriple triple
 
@@ -131,8 +131,8 @@ pub record IsInsert (insert : Triple × ℕ) : Type 0 where
   pub tick : IsTick insert.1
 
 -- a list of inserts
-abbrev pub AreInserts : List (Triple × ℕ) → Type 0
-AreInserts inserts = IsList IsInsert (IsAscending insert_cmp) inserts
+abbrev pub AreStoredInserts : List (Triple × ℕ) → Type 0
+AreStoredInserts inserts = IsList IsInsert (IsAscending insert_cmp) inserts
 
 -- a range
 pub record IsRange (range : Range) : Type 0 where
@@ -145,7 +145,7 @@ pub record IsStoredEntry (entry : EntryValue) : Type 0 where
   pub range : IsRange entry.range
   pub time : IsStoredClock entry.time
   pub deletes : ArePairs entry.deletes
-  pub inserts : AreInserts entry.inserts
+  pub inserts : AreStoredInserts entry.inserts
   pub entry_kept : IsEntry entry
 
 -- a snapshot, whose clock covers its pairs

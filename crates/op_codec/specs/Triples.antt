@@ -5,7 +5,7 @@ use Rattle.mld_bytes.specs.Bytes.{piece_bytes}
 use Rattle.rdf_terms.specs.declared.terms.Triple.{Triple}
 use Rattle.rdf_terms.specs.Building.{is_within}
 use Rattle.rdf_terms.specs.Literal.{is_same}
-use Rattle.rdf_terms.specs.Reading.{Verdict, Spelled, Stopped, Before, Subject, run}
+use Rattle.rdf_terms.specs.TripleReading.{ReadingEnd, Spelled, Stopped, Before, Subject, run}
 use Rattle.rdf_terms.specs.Spelling.{triple_text}
 use Rattle.op_codec.specs.Reading.{Reading, Found, Fault, chain, read_u32, read_piece}
 
@@ -14,7 +14,7 @@ abbrev pub stored_triple : Triple → List ℕ
 stored_triple triple = piece_bytes (triple_text triple)
 
 -- the triple that a text spells, where it is within the limits and is written so
-abbrev pub written_triple : List ℕ → Verdict → Option Triple
+abbrev pub written_triple : List ℕ → ReadingEnd → Option Triple
 written_triple text (Spelled triple) = if is_within triple && is_same (triple_text triple) text then Some triple else None
 written_triple text (Stopped left) = None
 

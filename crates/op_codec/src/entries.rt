@@ -3,9 +3,9 @@ ghost use Rattle.std.specs.Prelude.{◌≡◌, ◌≤◌, ◌++◌, ◌∷◌, [
 ghost use Rattle.std.specs.List.{AllByRecursion};
 ghost use Rattle.op_codec.specs.Agreement.{IsRead, IsRefused, TakesItem, MissesItem};
 ghost use Rattle.op_codec.specs.Entries.{range_bytes, read_range, insert_bytes, read_insert, inserts_bytes, read_inserts, entry_bytes, read_entry};
-ghost use Rattle.op_codec.specs.Kept.{KeepsStart};
-ghost use Rattle.op_codec.specs.Laws.{IsWritten};
-ghost use Rattle.op_codec.specs.Lists.{is_above};
+ghost use Rattle.rdf_terms.specs.Kept.{KeepsStart};
+ghost use Rattle.op_codec.specs.CodecLaws.{IsWritten};
+ghost use Rattle.op_codec.specs.StoredLists.{is_above};
 ghost use Rattle.op_codec.specs.Stored.{IsShortTriple, AreShortInserts, IsShortEntry, HasInsertShape, IsRange, IsStoredEntry};
 ghost use Rattle.mld_ops.specs.Tagged.{insert_cmp};
 

@@ -8,9 +8,9 @@ ghost use Rattle.std.specs.Prelude.{None};
 ghost use Rattle.mld_ops.specs.Messages.{MessageValue, IsGoodMessage};
 ghost use Rattle.op_codec.specs.Clocks.{clock_bytes, read_clock};
 ghost use Rattle.op_codec.specs.Entries.{entry_bytes, read_entry};
-ghost use Rattle.op_codec.specs.Laws.{IsReadBack, IsOneSpelling, RefusesRightly};
-ghost use Rattle.op_codec.specs.Messages.{message_bytes, read_message};
-ghost use Rattle.op_codec.specs.Pairs.{pairs_bytes, read_pairs};
+ghost use Rattle.op_codec.specs.CodecLaws.{IsReadBack, IsOneSpelling, RefusesRightly};
+ghost use Rattle.op_codec.specs.MessageBytes.{message_bytes, read_message};
+ghost use Rattle.op_codec.specs.PairBytes.{pairs_bytes, read_pairs};
 ghost use Rattle.op_codec.specs.Stored.{IsStoredClock, ArePairs, IsStoredEntry, IsMessage};
 
 /// Clocks.

@@ -1,6 +1,6 @@
 //! Lists that are read item by item.
 ghost use Rattle.std.specs.Prelude.{◌≡◌, ◌++◌, ◌∷◌, [], OnOk};
-ghost use Rattle.op_codec.specs.Lists.{is_above};
+ghost use Rattle.op_codec.specs.StoredLists.{is_above};
 
 use std::alloc::AllocError;
 

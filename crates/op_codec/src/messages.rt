@@ -1,9 +1,9 @@
 //! Messages as bytes.
 ghost use Rattle.std.specs.Prelude.{◌≡◌, ◌≤◌, ◌++◌, ◌∷◌, length, drop, OnOk, OnErr, IfOk, MatchResult};
 ghost use Rattle.op_codec.specs.Agreement.{IsRead, IsRefused};
-ghost use Rattle.op_codec.specs.Kept.{KeepsStart};
-ghost use Rattle.op_codec.specs.Laws.{IsWritten};
-ghost use Rattle.op_codec.specs.Messages.{id_size, snapshot_bytes, read_snapshot, give_bytes, read_give, message_bytes, read_carried, read_message};
+ghost use Rattle.rdf_terms.specs.Kept.{KeepsStart};
+ghost use Rattle.op_codec.specs.CodecLaws.{IsWritten};
+ghost use Rattle.op_codec.specs.MessageBytes.{id_size, snapshot_bytes, read_snapshot, give_bytes, read_give, message_bytes, read_carried, read_message};
 ghost use Rattle.op_codec.specs.Reading.{read_piece};
 ghost use Rattle.op_codec.specs.Stored.{IsShortSnapshot, IsShortMessage, IsMessage};
 ghost use Rattle.mld_ops.specs.Messages.{snapshot_value, give_value, message_value};
@@ -61,7 +61,7 @@ pub fn append_snapshot(out: &mut Vec<u8>, snapshot: &Snapshot) -> Result<(), All
 }
 
 /// Reads a snapshot, whose clock covers its pairs.
-#[tactic(auto, unfolding(crate::specs::Messages::read_snapshot))]
+#[tactic(auto, unfolding(crate::specs::MessageBytes::read_snapshot))]
 pub fn read_snapshot(alloc: Global, input: &[u8], at: usize) -> Result<(Snapshot, usize), CodecFault>
     requires { at ≤ length input.now }
     ensures { MatchResult result
@@ -85,7 +85,7 @@ fn append_give(out: &mut Vec<u8>, give: &Give) -> Result<(), AllocError>
 }
 
 /// Reads a leaf that is given.
-#[tactic(auto, unfolding(crate::specs::Messages::read_give))]
+#[tactic(auto, unfolding(crate::specs::MessageBytes::read_give))]
 fn read_give(alloc: Global, input: &[u8], at: usize) -> Result<(Give, usize), CodecFault>
     requires { at ≤ length input.now }
     ensures { MatchResult result
@@ -99,7 +99,7 @@ fn read_give(alloc: Global, input: &[u8], at: usize) -> Result<(Give, usize), Co
 }
 
 /// Appends a message.
-#[tactic(auto, unfolding(crate::specs::Messages::message_bytes))]
+#[tactic(auto, unfolding(crate::specs::MessageBytes::message_bytes))]
 fn append_message(out: &mut Vec<u8>, message: &Message) -> Result<(), AllocError>
     requires { IsShortMessage (message_value message.now) }
     ensures ok { OnOk result (out.new.items ≡ out.old.items ++ message_bytes (message_value message.now)) }
@@ -146,7 +146,7 @@ pub fn write_message(out: &mut Vec<u8>, message: &Message) -> Result<(), AllocEr
 }
 
 /// Reads what a message of a kind carries. The message begins at a place before it.
-#[tactic(auto, unfolding(crate::specs::Messages::read_carried))]
+#[tactic(auto, unfolding(crate::specs::MessageBytes::read_carried))]
 fn read_carried(
     alloc: Global,
     input: &[u8],
@@ -186,7 +186,7 @@ fn read_carried(
 
 /// Reads a message from a place of an input, in bytes from its start and at most its length, and the place behind the
 /// message. Refused with `NotInGrammar` where no message is spelled there, with the place of what is wrong in the input.
-#[tactic(auto, unfolding(crate::specs::Messages::read_message))]
+#[tactic(auto, unfolding(crate::specs::MessageBytes::read_message))]
 pub fn read_message(alloc: Global, input: &[u8], at: usize) -> Result<(Message, usize), CodecFault>
     requires { at ≤ length input.now }
     ensures agrees { MatchResult result

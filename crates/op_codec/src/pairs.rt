@@ -2,10 +2,10 @@
 ghost use Rattle.std.specs.Prelude.{◌≡◌, ◌≤◌, ◌++◌, ◌∷◌, [], None, length, drop, OnOk, OnErr, IfOk, MatchResult};
 ghost use Rattle.std.specs.List.{AllByRecursion};
 ghost use Rattle.op_codec.specs.Agreement.{IsRead, IsRefused, TakesItem, MissesItem};
-ghost use Rattle.op_codec.specs.Kept.{KeepsStart};
-ghost use Rattle.op_codec.specs.Laws.{IsWritten};
-ghost use Rattle.op_codec.specs.Lists.{is_above};
-ghost use Rattle.op_codec.specs.Pairs.{cover_of, is_covered, fits_pairs, pair_bytes, read_pair, pairs_bytes, read_pairs};
+ghost use Rattle.rdf_terms.specs.Kept.{KeepsStart};
+ghost use Rattle.op_codec.specs.CodecLaws.{IsWritten};
+ghost use Rattle.op_codec.specs.StoredLists.{is_above};
+ghost use Rattle.op_codec.specs.PairBytes.{cover_of, is_covered, fits_pairs, pair_bytes, read_pair, pairs_bytes, read_pairs};
 ghost use Rattle.op_codec.specs.Stored.{IsShortTriple, AreShortPairs, HasPairShape, ArePairs};
 
 use crate::clocks::{append_dot, read_dot};
@@ -61,7 +61,7 @@ pub fn write_tagged(out: &mut Vec<u8>, pairs: &[Tagged]) -> Result<(), AllocErro
 }
 
 /// Reads a pair.
-#[tactic(auto, unfolding(crate::specs::Pairs::read_pair))]
+#[tactic(auto, unfolding(crate::specs::PairBytes::read_pair))]
 fn read_pair(alloc: Global, input: &[u8], at: usize) -> Result<(Tagged, usize), CodecFault>
     requires { at ≤ length input.now }
     ensures { MatchResult result

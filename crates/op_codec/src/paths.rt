@@ -1,7 +1,7 @@
 //! Paths as bytes.
 ghost use Rattle.std.specs.Prelude.{◌≡◌, ◌↔◌, ◌%◌, IsTrue, ◌≤◌, ◌<◌, ◌-◌, ◌*◌, ◌/◌, ◌^◌, ◌++◌, length, drop, OnOk, OnErr, MatchResult, if◌then◌else◌};
 ghost use Rattle.op_codec.specs.Agreement.{IsRead, IsRefused};
-ghost use Rattle.op_codec.specs.Kept.{KeepsStart};
+ghost use Rattle.rdf_terms.specs.Kept.{KeepsStart};
 ghost use Rattle.op_codec.specs.Paths.{letter_bytes, spare_bits, path_bytes, read_path};
 ghost use Rattle.tree_clock.specs.Letters.{number_of};
 ghost use Rattle.tree_clock.specs.Limits.{path_limit};

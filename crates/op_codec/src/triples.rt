@@ -1,6 +1,6 @@
 //! Triples as bytes.
 ghost use Rattle.std.specs.Prelude.{◌≡◌, ◌≤◌, ◌++◌, length, drop, OnOk, OnErr, IfOk, MatchResult};
-ghost use Rattle.op_codec.specs.Agreement.{IsRead, IsRefused, IsTripleOf};
+ghost use Rattle.op_codec.specs.Agreement.{IsRead, IsRefused, IsWrittenForm};
 ghost use Rattle.op_codec.specs.Stored.{IsShortTriple};
 ghost use Rattle.op_codec.specs.Triples.{stored_triple, read_stored};
 ghost use Rattle.rdf_terms.specs.Literal.{is_same};
@@ -38,7 +38,7 @@ fn is_written_so(alloc: Global, triple: &Triple, text: &[u8]) -> Result<bool, Al
 
 /// The triple whose written form a text is. The place is that of the text.
 fn triple_of(alloc: Global, text: &[u8], place: usize) -> Result<Triple, CodecFault>
-    ensures { IsTripleOf text.now place result }
+    ensures { IsWrittenForm text.now place result }
 {
     let fault = CodecFault::NotInGrammar { place };
     let Ok(spelling) = str::from_utf8(text) else {

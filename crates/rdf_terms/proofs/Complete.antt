@@ -12,7 +12,7 @@ use Rattle.rdf_terms.specs.declared.terms.Triple.{Triple}
 use Rattle.rdf_terms.specs.Escapes.{piece_value}
 use Rattle.rdf_terms.specs.Grammar.{is_blank, is_blanks, SpellsIri, SpellsLexical, SpellsDatatype, SpellsTag, SpellsLiteral, SpellsObject, Layout, SpellsTriple}
 use Rattle.rdf_terms.specs.Literal.{LiteralValue, Typed, Tagged, xsd_string, rdf_lang_string, is_same}
-use Rattle.rdf_terms.specs.Reading.{Slot, Subject, Predicate, Object, LexicalForm, Datatype, State, Before, Within, Between, Quoted, Hat, Tag, Closed, Ended, closed, step, Spelled, verdict, run, run_from}
+use Rattle.rdf_terms.specs.TripleReading.{Slot, Subject, Predicate, Object, LexicalForm, Datatype, State, Before, Within, Between, Quoted, Hat, Tag, Closed, Ended, closed, step, Spelled, verdict, run, run_from}
 use Rattle.rdf_terms.proofs.SpotLaws.{spot-from_is_iri}
 use Rattle.rdf_terms.proofs.Steps.{run_step}
 use Rattle.rdf_terms.proofs.Pieces.{iri_pieces_read, lexical_pieces_read}

@@ -13,8 +13,8 @@ use Rattle.rdf_terms.specs.declared.faults.TripleFault.TheVariants.{NotTriple}
 use Rattle.rdf_terms.specs.declared.spots.Spot.{Spot}
 use Rattle.rdf_terms.specs.declared.spots.Spot.TheVariants.{SchemeStart, Scheme, IriRest, Lexical}
 use Rattle.rdf_terms.specs.Escapes.{is_hexadecimal}
-use Rattle.rdf_terms.specs.Reading.{Slot, Part, State, Within, Between, Behind, Digits, step, verdict, with_digit, with_letter, within, after, may_hold, may_begin, Leads}
-use Rattle.rdf_terms.specs.Reads.{HasByte, HasDigit, HasNoDigit, HasLetter, HasNoLetter, IsEscape, StopsBehind}
+use Rattle.rdf_terms.specs.TripleReading.{Slot, Part, State, Within, Between, Behind, Digits, step, verdict, with_digit, with_letter, within, spot_behind, may_hold, may_begin, Leads}
+use Rattle.rdf_terms.specs.TripleReads.{HasByte, HasDigit, HasNoDigit, HasLetter, HasNoLetter, IsEscape, StopsBehind}
 use Rattle.rdf_terms.proofs.Stops.{leads_on, stops_here, stops_at_end, stops_later, byte_is}
 
 scalar_small : (code : ℕ) → scalar code ≡ true → code < 1114112
@@ -65,19 +65,19 @@ scalar_refused slot spot value code h = elim (cases_Bool (scalar code)) [
 ]
 
 -- the last digit, where the character may not stand here
-pub spot_refused : (slot : Slot) (spot : Spot) (value : List ℕ) (code : ℕ) → after spot code ≡ None → with_digit slot spot value zero code ≡ None
+pub spot_refused : (slot : Slot) (spot : Spot) (value : List ℕ) (code : ℕ) → spot_behind spot code ≡ None → with_digit slot spot value zero code ≡ None
 spot_refused slot spot value code h = elim (cases_Bool (scalar code)) [
   | inl e ↦ rw (e, h) refl
   | inr e ↦ no_scalar slot spot value code e
 ]
 
 -- the last digit
-pub last_leads : (slot : Slot) (spot next : Spot) (value : List ℕ) (code : ℕ) → IsScalar code → after spot code ≡ Some next → with_digit slot spot value zero code ≡ Some (Within slot next Between (value ++ encode code))
+pub last_leads : (slot : Slot) (spot next : Spot) (value : List ℕ) (code : ℕ) → IsScalar code → spot_behind spot code ≡ Some next → with_digit slot spot value zero code ≡ Some (Within slot next Between (value ++ encode code))
 last_leads slot spot next value code h e = rw (h, e) refl
 
 -- an escape whose last digit was read
 pub last_escape : (text : List ℕ) (place : ℕ) (spot : Spot) (code digit : ℕ) (escape : Escape) → HasDigit text place digit → escape.character ≡ code * 16 + digit → IsScalar escape.character
-    → after spot escape.character ≡ Some escape.spot → escape.next ≡ place + 1 → IsEscape text place spot (Digits 1 code) escape
+    → spot_behind spot escape.character ≡ Some escape.spot → escape.next ≡ place + 1 → IsEscape text place spot (Digits 1 code) escape
 last_escape text place spot code digit escape found e scalar goes next =
     let within : place < length text = found.1.within in
     record {

@@ -11,7 +11,7 @@ use Rattle.rdf_terms.specs.declared.spots.Spot.{Spot}
 use Rattle.rdf_terms.specs.declared.spots.Spot.TheVariants.{SchemeStart, Scheme, IriRest, Lexical}
 use Rattle.rdf_terms.specs.declared.terms.Triple.{Triple}
 use Rattle.rdf_terms.specs.Escapes.{Piece, Plain, Letter, Short, Long, NamesScalar, piece_text, piece_value, letter_value, code_with, code_of, is_hexadecimal, is_plain_byte, is_escape_letter, IsIriPiece, IsLexicalPiece}
-use Rattle.rdf_terms.specs.Reading.{Slot, Within, Part, Between, Behind, Digits, Spelled, Stopped, may_begin, after, after_plain, closes, closed, within, with_digit, with_letter, step, run, run_from, verdict}
+use Rattle.rdf_terms.specs.TripleReading.{Slot, Within, Part, Between, Behind, Digits, Spelled, Stopped, may_begin, spot_behind, after_plain, closes, closed, within, with_digit, with_letter, step, run, run_from, verdict}
 use Rattle.rdf_terms.proofs.SpotLaws.{spot_from, spot_from-append, spot_from-encode}
 
 -- where reading stops nothing is spelled
@@ -67,7 +67,7 @@ either : (spot : Spot) (b : Bool) (x y : Option Spot) → KeepsKind spot x → K
 either spot true x y h g = h
 either spot false x y h g = g
 
-keeps_kind : (spot : Spot) (code : ℕ) → KeepsKind spot (after spot code)
+keeps_kind : (spot : Spot) (code : ℕ) → KeepsKind spot (spot_behind spot code)
 keeps_kind SchemeStart code = either SchemeStart (is_letter code) (Some Scheme) None refl tt
 keeps_kind Scheme code =
     either Scheme (eqb code 58) (Some IriRest) (cond (is_scheme_byte code) (Some Scheme) None) refl (either Scheme (is_scheme_byte code) (Some Scheme) None refl tt)
@@ -75,12 +75,12 @@ keeps_kind IriRest code = either IriRest (is_excluded code) None (Some IriRest) 
 keeps_kind Lexical code = refl
 
 -- behind a character stands what is of the same kind
-kind_after : (spot next : Spot) (code : ℕ) → after spot code ≡ Some next → kind next ≡ kind spot
+kind_after : (spot next : Spot) (code : ℕ) → spot_behind spot code ≡ Some next → kind next ≡ kind spot
 kind_after spot next code e = subst (KeepsKind spot) e (keeps_kind spot code)
 
 -- a byte that stands for itself is a character, and a piece
 record IsPlainAt (spot next : Spot) (byte : ℕ) : Type 0 where
-  leads : after spot byte ≡ Some next
+  leads : spot_behind spot byte ≡ Some next
   allowed : IsPieceOf (kind spot) (Plain byte)
 
 none_some : {A : Type 0} {x : A} → None ≡ Some x → ⊥
@@ -264,7 +264,7 @@ module _ (slot : Slot) (k : Spot) (t : Triple) where
 
   -- behind a whole escape
   escaped_reads : (spot : Spot) (value begun rest : List ℕ) (code : ℕ) (found : Option Spot) → Reads rest → kind spot ≡ k → IsScalar code → IsEscape begun 0 code
-      → after spot code ≡ found → run_from (within slot (value ++ encode_utf8 code) found) rest ≡ Spelled t → ReadsPieces slot k spot value (begun ++ rest) t
+      → spot_behind spot code ≡ found → run_from (within slot (value ++ encode_utf8 code) found) rest ≡ Spelled t → ReadsPieces slot k spot value (begun ++ rest) t
   escaped_reads spot value begun rest code None f same s b e h = stopped_spelled h
   escaped_reads spot value begun rest code (Some next) f same s b e h =
       let w = whole_escape begun code b s in
@@ -277,7 +277,7 @@ module _ (slot : Slot) (k : Spot) (t : Triple) where
       → run_from (with_digit slot spot value left code) rest ≡ Spelled t → ReadsPieces slot k spot value (begun ++ rest) t
   digit_reads spot value begun rest zero code f same b h =
       elim (cases_Bool (scalar code)) [
-        | inl s ↦ let g = rw s at h in escaped_reads spot value begun rest code (after spot code) f same s b refl g
+        | inl s ↦ let g = rw s at h in escaped_reads spot value begun rest code (spot_behind spot code) f same s b refl g
         | inr s ↦ stopped_spelled (rw s at h)
       ]
   digit_reads spot value begun rest (suc left) code f same b h =

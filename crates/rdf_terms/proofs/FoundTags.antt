@@ -7,7 +7,7 @@ use Rattle.iri_rules.specs.Iri.{is_letter, is_digit}
 use Rattle.rdf_terms.specs.declared.terms.Term.TheVariants as terms
 use Rattle.rdf_terms.specs.declared.terms.Triple.{Triple}
 use Rattle.rdf_terms.specs.Literal.{Tagged, is_language_tag, is_primary, is_subtags}
-use Rattle.rdf_terms.specs.Reading.{Tag, Closed, Spelled, step, run, verdict}
+use Rattle.rdf_terms.specs.TripleReading.{Tag, Closed, Spelled, step, run, verdict}
 use Rattle.rdf_terms.proofs.FoundPieces.{stopped_spelled}
 
 -- what may follow of a tag, behind a `-` or in its first part

@@ -9,7 +9,7 @@ use Rattle.rdf_terms.specs.declared.terms.Term.{Term}
 use Rattle.rdf_terms.specs.declared.terms.Term.TheVariants as terms
 use Rattle.rdf_terms.specs.declared.terms.Triple.{Triple}
 use Rattle.rdf_terms.specs.Literal.{Typed, rdf_lang_string, is_same}
-use Rattle.rdf_terms.specs.Reading.{State, Before, Within, Quoted, Hat, Tag, Closed, Ended, Slot, Subject, Predicate, Object, LexicalForm, Datatype, Part, Between, Behind, Digits, Spelled, may_begin, closed, step, run, verdict}
+use Rattle.rdf_terms.specs.TripleReading.{State, Before, Within, Quoted, Hat, Tag, Closed, Ended, Slot, Subject, Predicate, Object, LexicalForm, Datatype, Part, Between, Behind, Digits, Spelled, may_begin, closed, step, run, verdict}
 use Rattle.rdf_terms.proofs.Steps.{run_step}
 use Rattle.rdf_terms.proofs.Opening.{IsOpen, IsOpenPart, IsOpenSlot}
 use Rattle.rdf_terms.proofs.Progress.{NextDigit, LastDigit, next_digit, last_digit, short_begins}

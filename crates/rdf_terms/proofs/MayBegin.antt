@@ -12,7 +12,7 @@ use Rattle.iri_rules.specs.Iri.{is_letter, is_scheme_byte, is_excluded}
 use Rattle.rdf_terms.specs.declared.spots.Spot.{Spot}
 use Rattle.rdf_terms.specs.declared.spots.Spot.TheVariants.{SchemeStart, Scheme, IriRest, Lexical}
 use Rattle.rdf_terms.specs.Escapes.{code_with, is_hexadecimal}
-use Rattle.rdf_terms.specs.Reading.{after, may_hold, may_begin}
+use Rattle.rdf_terms.specs.TripleReading.{spot_behind, may_hold, may_begin}
 
 -- codes above the surrogates are those of characters
 scalar_high : (x : ℕ) → 57344 ≤ x → x < 1114112 → scalar x ≡ true
@@ -66,7 +66,7 @@ small_block : (bound low size c : ℕ) → low ≤ c → c < low + size → boun
 small_block bound low size c le lt over under = and_from (ltb low 128) (ltb bound (low + (size - 1))) (lt-ltb low 128 (omega arith)) (lt-ltb bound (low + (size - 1)) (omega arith))
 
 -- a block of codes with a character's that may stand there
-holds : (spot next : Spot) (low size c : ℕ) → low ≤ c → c < low + size → scalar low ≡ true → after spot c ≡ Some next → may_hold spot low (low + (size - 1)) ≡ true
+holds : (spot next : Spot) (low size c : ℕ) → low ≤ c → c < low + size → scalar low ≡ true → spot_behind spot c ≡ Some next → may_hold spot low (low + (size - 1)) ≡ true
 holds SchemeStart next low size c le lt h e =
     elim (cases_Bool (is_letter c)) [
       | inl k ↦ let r = letter_range c k in small_block 64 low size c le lt r.0 r.1
@@ -116,7 +116,7 @@ below code (digit ∷ digits) h =
 
 -- what stands before the last digit of an escape may begin the code of a character that may stand there
 pub may_begin-from_code : (spot next : Spot) (code digit : ℕ) (digits : List ℕ) → length digits < 7 → IsTrue (list_all is_hexadecimal (digit ∷ digits))
-    → IsScalar (code_with code (digit ∷ digits)) → after spot (code_with code (digit ∷ digits)) ≡ Some next → may_begin spot (suc (length digits)) code ≡ true
+    → IsScalar (code_with code (digit ∷ digits)) → spot_behind spot (code_with code (digit ∷ digits)) ≡ Some next → may_begin spot (suc (length digits)) code ≡ true
 may_begin-from_code spot next code digit digits small hexadecimal h e =
     let c : ℕ = code_with code (digit ∷ digits) in
     let low = above code (digit ∷ digits) in

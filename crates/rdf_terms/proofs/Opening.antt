@@ -12,7 +12,7 @@ use Rattle.rdf_terms.specs.declared.terms.Term.TheVariants as terms
 use Rattle.rdf_terms.specs.Escapes.{is_hexadecimal, is_escape_letter, letter_value}
 use Rattle.rdf_terms.specs.Grammar.{is_blank}
 use Rattle.rdf_terms.specs.Literal.{Typed, Tagged, xsd_string, rdf_lang_string, is_same}
-use Rattle.rdf_terms.specs.Reading.{State, Before, Within, Quoted, Hat, Tag, Closed, Ended, Slot, Subject, Predicate, Object, LexicalForm, Datatype, Part, Between, Behind, Digits, after, after_plain, closes, may_begin, closed, within, with_digit, with_letter, step_within, step_before, step_closed, step_tag, step}
+use Rattle.rdf_terms.specs.TripleReading.{State, Before, Within, Quoted, Hat, Tag, Closed, Ended, Slot, Subject, Predicate, Object, LexicalForm, Datatype, Part, Between, Behind, Digits, spot_behind, after_plain, closes, may_begin, closed, within, with_digit, with_letter, step_within, step_before, step_closed, step_tag, step}
 use Rattle.rdf_terms.proofs.Progress.{short_begins, long_begins}
 
 -- ---- the states that are reached
@@ -66,7 +66,7 @@ open_within slot value None = tt
 open_within slot value (Some spot) = tt
 
 open_digit : (slot : Slot) (spot : Spot) (value : List ℕ) (digits code : ℕ) → IsOpenIf (with_digit slot spot value digits code)
-open_digit slot spot value zero code = either (scalar code) (within slot (value ++ encode_utf8 code) (after spot code)) None (open_within slot (value ++ encode_utf8 code) (after spot code)) tt
+open_digit slot spot value zero code = either (scalar code) (within slot (value ++ encode_utf8 code) (spot_behind spot code)) None (open_within slot (value ++ encode_utf8 code) (spot_behind spot code)) tt
 open_digit slot spot value (suc digits) code =
     cond_both (may_begin spot (suc digits) code) (Some (Within slot spot (Digits (suc digits) code) value)) None IsOpenIf (λ h. h) (λ h. tt)
 

@@ -9,7 +9,7 @@ use Rattle.iri_rules.specs.Iri.{is_letter, is_scheme_byte, is_excluded}
 use Rattle.rdf_terms.specs.declared.spots.Spot.{Spot}
 use Rattle.rdf_terms.specs.declared.spots.Spot.TheVariants.{SchemeStart, Scheme, IriRest, Lexical}
 use Rattle.rdf_terms.specs.Escapes.{Piece, Plain, Letter, Short, Long, NamesScalar, piece_text, piece_value, letter_value, code_with, code_of, is_hexadecimal, is_plain_byte, is_escape_letter, IsIriPiece, IsLexicalPiece}
-use Rattle.rdf_terms.specs.Reading.{Slot, Within, Between, Behind, Digits, may_begin, after, after_plain, closes, closed, step, run, run_from}
+use Rattle.rdf_terms.specs.TripleReading.{Slot, Within, Between, Behind, Digits, may_begin, spot_behind, after_plain, closes, closed, step, run, run_from}
 use Rattle.rdf_terms.proofs.SpotLaws.{spot_from, spot_from-append, spot_from-encode}
 use Rattle.rdf_terms.proofs.Steps.{run_step}
 use Rattle.rdf_terms.proofs.MayBegin.{none_some, may_begin-from_code}
@@ -22,7 +22,7 @@ some_inj h = cc
 
 module _ (slot : Slot) (spot next : Spot) (value rest : List ℕ) where
   -- the last digit of an escape
-  last_step : (code digit : ℕ) → is_hexadecimal digit ≡ true → IsScalar (16 * code + digit_value digit) → after spot (16 * code + digit_value digit) ≡ Some next
+  last_step : (code digit : ℕ) → is_hexadecimal digit ≡ true → IsScalar (16 * code + digit_value digit) → spot_behind spot (16 * code + digit_value digit) ≡ Some next
       → step (Within slot spot (Digits 1 code) value) digit ≡ Some (Within slot next Between (value ++ encode_utf8 (16 * code + digit_value digit)))
   unfolding step
   last_step code digit h g e = rw (h, g, e) refl
@@ -35,7 +35,7 @@ module _ (slot : Slot) (spot next : Spot) (value rest : List ℕ) where
 
   -- the digits of an escape
   digits_read : (code digit : ℕ) (digits : List ℕ) → length digits < 8 → list_all is_hexadecimal (digit ∷ digits) ≡ true
-      → IsScalar (code_with code (digit ∷ digits)) → after spot (code_with code (digit ∷ digits)) ≡ Some next
+      → IsScalar (code_with code (digit ∷ digits)) → spot_behind spot (code_with code (digit ∷ digits)) ≡ Some next
       → run (digit ∷ (digits ++ rest)) (Within slot spot (Digits (suc (length digits)) code) value)
       ≡ run rest (Within slot next Between (value ++ encode_utf8 (code_with code (digit ∷ digits))))
   digits_read code digit [] small h g e =
@@ -49,7 +49,7 @@ module _ (slot : Slot) (spot next : Spot) (value rest : List ℕ) where
       ∙ digits_read further other digits (omega arith) p.1 g e
 
   -- so many digits that name a character
-  named_read : (count : ℕ) (digits : List ℕ) → count < 8 → NamesScalar (suc count) digits → after spot (code_of digits) ≡ Some next
+  named_read : (count : ℕ) (digits : List ℕ) → count < 8 → NamesScalar (suc count) digits → spot_behind spot (code_of digits) ≡ Some next
       → run (digits ++ rest) (Within slot spot (Digits (suc count) 0) value) ≡ run rest (Within slot next Between (value ++ encode_utf8 (code_of digits)))
   named_read count [] small h e = let many = h.many in absurd (omega arith)
   named_read count (digit ∷ digits) small h e =
@@ -59,7 +59,7 @@ module _ (slot : Slot) (spot next : Spot) (value rest : List ℕ) where
       ∙ digits_read 0 digit digits (omega arith) h.hexadecimal h.scalar e
 
   -- an escape of four digits
-  short_read : (digits : List ℕ) → NamesScalar 4 digits → after spot (code_of digits) ≡ Some next
+  short_read : (digits : List ℕ) → NamesScalar 4 digits → spot_behind spot (code_of digits) ≡ Some next
       → run (piece_text (Short digits) ++ rest) (Within slot spot Between value) ≡ run rest (Within slot next Between (value ++ piece_value (Short digits)))
   unfolding step
   short_read digits h e =
@@ -68,7 +68,7 @@ module _ (slot : Slot) (spot next : Spot) (value rest : List ℕ) where
       ∙ named_read 3 digits (omega arith) h e
 
   -- an escape of eight digits
-  long_read : (digits : List ℕ) → NamesScalar 8 digits → after spot (code_of digits) ≡ Some next
+  long_read : (digits : List ℕ) → NamesScalar 8 digits → spot_behind spot (code_of digits) ≡ Some next
       → run (piece_text (Long digits) ++ rest) (Within slot spot Between value) ≡ run rest (Within slot next Between (value ++ piece_value (Long digits)))
   unfolding step
   long_read digits h e =
@@ -108,7 +108,7 @@ rest_open : (byte : ℕ) → is_excluded byte ≡ false → eqb byte 62 ≡ fals
 rest_open byte h = grind (arith, nat_tests)
 
 -- a byte that an IRI may have stands for itself
-plain_at : (spot next : Spot) (byte : ℕ) → IsIriSpot spot → after spot byte ≡ Some next → IsPlainAt spot next byte
+plain_at : (spot next : Spot) (byte : ℕ) → IsIriSpot spot → spot_behind spot byte ≡ Some next → IsPlainAt spot next byte
 plain_at SchemeStart next byte i e =
     elim (cases_Bool (is_letter byte)) [
       | inl h ↦ record { no_escape = letter_plain byte h; open_yet = refl; leads = e }
@@ -136,7 +136,7 @@ unfolding step
 plain_step slot spot next value byte h = rw (h.no_escape, h.open_yet, h.leads) refl
 
 -- what stands behind a character of an IRI is in the IRI
-iri_spot_after : (spot next : Spot) (code : ℕ) → IsIriSpot spot → after spot code ≡ Some next → IsIriSpot next
+iri_spot_after : (spot next : Spot) (code : ℕ) → IsIriSpot spot → spot_behind spot code ≡ Some next → IsIriSpot next
 iri_spot_after SchemeStart next code i e =
     elim (cases_Bool (is_letter code)) [
       | inl h ↦ subst IsIriSpot (some_inj (rw h at e)) tt
@@ -171,12 +171,12 @@ next_spot (Some next) further e = (next, refl)
 
 -- a character of an escape
 escaped_reads : (slot : Slot) (spot : Spot) (value : List ℕ) (piece : Piece) (code : ℕ) (further : List ℕ) → IsIriSpot spot → IsScalar code → piece_value piece ≡ encode_utf8 code
-    → ((next : Spot) (rest : List ℕ) → after spot code ≡ Some next → run (piece_text piece ++ rest) (Within slot spot Between value) ≡ run rest (Within slot next Between (value ++ piece_value piece)))
+    → ((next : Spot) (rest : List ℕ) → spot_behind spot code ≡ Some next → run (piece_text piece ++ rest) (Within slot spot Between value) ≡ run rest (Within slot next Between (value ++ piece_value piece)))
     → spot_from (Some spot) (piece_value piece ++ further) ≡ Some IriRest → Reads slot spot value piece further
 escaped_reads slot spot value piece code further i h is read e =
-    let whole : spot_from (after spot code) further ≡ Some IriRest =
+    let whole : spot_from (spot_behind spot code) further ≡ Some IriRest =
     ap (λ o. spot_from o further) (sym (ap (λ l. spot_from (Some spot) l) is ∙ spot_from-encode spot code h)) ∙ sym (spot_from-append (Some spot) (piece_value piece) further) ∙ e in
-    let n = next_spot (after spot code) further whole in
+    let n = next_spot (spot_behind spot code) further whole in
     record {
       next = n.0;
       iri = iri_spot_after spot n.0 code i n.1;
@@ -188,7 +188,7 @@ escaped_reads slot spot value piece code further i h is read e =
 iri_piece_reads : (slot : Slot) (spot : Spot) (value : List ℕ) (piece : Piece) (further : List ℕ) → IsIriSpot spot → IsIriPiece piece
     → spot_from (Some spot) (piece_value piece ++ further) ≡ Some IriRest → Reads slot spot value piece further
 iri_piece_reads slot spot value (Plain byte) further i h e =
-    let n = next_spot (after spot byte) further e in
+    let n = next_spot (spot_behind spot byte) further e in
     record {
       next = n.0;
       iri = iri_spot_after spot n.0 byte i n.1;

@@ -8,7 +8,7 @@ use Rattle.iri_rules.specs.Iri.{is_letter, is_scheme_byte, is_excluded}
 use Rattle.rdf_terms.specs.declared.spots.Spot.{Spot}
 use Rattle.rdf_terms.specs.declared.spots.Spot.TheVariants.{SchemeStart, Scheme, IriRest, Lexical}
 use Rattle.rdf_terms.specs.Escapes.{is_hexadecimal}
-use Rattle.rdf_terms.specs.Reading.{after, may_hold, may_begin}
+use Rattle.rdf_terms.specs.TripleReading.{spot_behind, may_hold, may_begin}
 
 -- a digit that may come next, with so many digits behind it
 pub record NextDigit (spot : Spot) (digits code : ℕ) : Type 0 where
@@ -22,7 +22,7 @@ pub record LastDigit (spot : Spot) (code : ℕ) : Type 0 where
   pub hexadecimal : is_hexadecimal digit ≡ true
   pub is_scalar : scalar (16 * code + digit_value digit) ≡ true
   pub next : Spot
-  pub leads : after spot (16 * code + digit_value digit) ≡ Some next
+  pub leads : spot_behind spot (16 * code + digit_value digit) ≡ Some next
 
 -- ---- scalars
 

@@ -11,7 +11,7 @@ use Rattle.rdf_terms.specs.declared.terms.Triple.{Triple}
 use Rattle.rdf_terms.specs.Escapes.{piece_text, piece_value}
 use Rattle.rdf_terms.specs.Grammar.{is_blank, is_blanks, SpellsIri, SpellsLexical, SpellsLiteral, SpellsObject, Layout, SpellsBy, SpellsTriple}
 use Rattle.rdf_terms.specs.Literal.{LiteralValue, Typed, Tagged, xsd_string, rdf_lang_string, is_same}
-use Rattle.rdf_terms.specs.Reading.{Slot, Subject, Predicate, Object, LexicalForm, Datatype, State, Before, Within, Between, Quoted, Hat, Tag, Closed, Ended, closed, step, Spelled, Stopped, verdict, run, run_from}
+use Rattle.rdf_terms.specs.TripleReading.{Slot, Subject, Predicate, Object, LexicalForm, Datatype, State, Before, Within, Between, Quoted, Hat, Tag, Closed, Ended, closed, step, Spelled, Stopped, verdict, run, run_from}
 use Rattle.rdf_terms.proofs.SpotLaws.{is_iri-from_spot}
 use Rattle.rdf_terms.proofs.Steps.{run_step}
 use Rattle.rdf_terms.proofs.FoundPieces.{ReadsPieces, pieces_found, stopped_spelled}

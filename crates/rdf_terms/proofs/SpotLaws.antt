@@ -9,20 +9,20 @@ use lib.Utf8.{encode, next}
 use Rattle.iri_rules.specs.Iri.{is_iri, ends_scheme, is_letter, is_scheme_byte, is_excluded}
 use Rattle.rdf_terms.specs.declared.spots.Spot.{Spot}
 use Rattle.rdf_terms.specs.declared.spots.Spot.TheVariants.{SchemeStart, Scheme, IriRest, Lexical}
-use Rattle.rdf_terms.specs.Reading.{after}
+use Rattle.rdf_terms.specs.TripleReading.{spot_behind}
 
 -- where the next character stands behind a value, byte by byte, from a spot if there is one
 abbrev pub spot_from : Option Spot → List ℕ → Option Spot
 spot_from None value = None
 spot_from (Some spot) [] = Some spot
-spot_from (Some spot) (byte ∷ bytes) = spot_from (after spot byte) bytes
+spot_from (Some spot) (byte ∷ bytes) = spot_from (spot_behind spot byte) bytes
 
 -- behind two values in a row
 pub spot_from-append : (spot : Option Spot) (a b : List ℕ) → spot_from spot (a ++ b) ≡ spot_from (spot_from spot a) b
 spot_from-append None [] b = refl
 spot_from-append None (x ∷ a) b = refl
 spot_from-append (Some spot) [] b = refl
-spot_from-append (Some spot) (x ∷ a) b = spot_from-append (after spot x) a b
+spot_from-append (Some spot) (x ∷ a) b = spot_from-append (spot_behind spot x) a b
 
 -- beyond ASCII: only the rest of an IRI and lexical forms go on
 abbrev beyond : Spot → Option Spot
@@ -31,7 +31,7 @@ beyond Scheme = None
 beyond IriRest = Some IriRest
 beyond Lexical = Some Lexical
 
-after_beyond : (spot : Spot) (code : ℕ) → 128 ≤ code → after spot code ≡ beyond spot
+after_beyond : (spot : Spot) (code : ℕ) → 128 ≤ code → spot_behind spot code ≡ beyond spot
 after_beyond SchemeStart code h = grind (arith, nat_tests)
 after_beyond Scheme code h = grind (arith, nat_tests)
 after_beyond IriRest code h = grind (arith, nat_tests)
@@ -87,9 +87,9 @@ spot_from-one None = refl
 spot_from-one (Some spot) = refl
 
 -- behind the bytes of a character is behind the character
-pub spot_from-encode : (spot : Spot) (code : ℕ) → IsScalar code → spot_from (Some spot) (encode code) ≡ after spot code
+pub spot_from-encode : (spot : Spot) (code : ℕ) → IsScalar code → spot_from (Some spot) (encode code) ≡ spot_behind spot code
 spot_from-encode spot code h = elim (cases_lt code 128) [
-  | inl small ↦ ap (spot_from (Some spot)) (encode_ascii code small) ∙ spot_from-one (after spot code)
+  | inl small ↦ ap (spot_from (Some spot)) (encode_ascii code small) ∙ spot_from-one (spot_behind spot code)
   | inr large ↦ let p = encode_beyond code large in ap (spot_from (Some spot)) p.2 ∙ all_beyond spot p.0 p.1 p.3 p.4 ∙ sym (after_beyond spot code large)
 ]
 
@@ -104,29 +104,29 @@ no_spot h = absurd (impossible h)
     impossible h = cc
 
 -- one byte at each spot
-rest_stops : (byte : ℕ) → is_excluded byte ≡ true → after IriRest byte ≡ None
+rest_stops : (byte : ℕ) → is_excluded byte ≡ true → spot_behind IriRest byte ≡ None
 rest_stops byte h = rw h refl
 
-rest_goes : (byte : ℕ) → is_excluded byte ≡ false → after IriRest byte ≡ Some IriRest
+rest_goes : (byte : ℕ) → is_excluded byte ≡ false → spot_behind IriRest byte ≡ Some IriRest
 rest_goes byte h = rw h refl
 
-scheme_colon : (byte : ℕ) → (byte == 58) ≡ true → after Scheme byte ≡ Some IriRest
+scheme_colon : (byte : ℕ) → (byte == 58) ≡ true → spot_behind Scheme byte ≡ Some IriRest
 scheme_colon byte h = rw h refl
 
-scheme_goes : (byte : ℕ) → (byte == 58) ≡ false → is_scheme_byte byte ≡ true → after Scheme byte ≡ Some Scheme
+scheme_goes : (byte : ℕ) → (byte == 58) ≡ false → is_scheme_byte byte ≡ true → spot_behind Scheme byte ≡ Some Scheme
 scheme_goes byte h g = rw (h, g) refl
 
-scheme_stops : (byte : ℕ) → (byte == 58) ≡ false → is_scheme_byte byte ≡ false → after Scheme byte ≡ None
+scheme_stops : (byte : ℕ) → (byte == 58) ≡ false → is_scheme_byte byte ≡ false → spot_behind Scheme byte ≡ None
 scheme_stops byte h g = rw (h, g) refl
 
-start_goes : (byte : ℕ) → is_letter byte ≡ true → after SchemeStart byte ≡ Some Scheme
+start_goes : (byte : ℕ) → is_letter byte ≡ true → spot_behind SchemeStart byte ≡ Some Scheme
 start_goes byte h = rw h refl
 
-start_stops : (byte : ℕ) → is_letter byte ≡ false → after SchemeStart byte ≡ None
+start_stops : (byte : ℕ) → is_letter byte ≡ false → spot_behind SchemeStart byte ≡ None
 start_stops byte h = rw h refl
 
 -- behind a byte that leads to a spot
-onward : (spot : Spot) (next : Option Spot) (byte : ℕ) (bytes : List ℕ) → after spot byte ≡ next → spot_from (Some spot) (byte ∷ bytes) ≡ spot_from next bytes
+onward : (spot : Spot) (next : Option Spot) (byte : ℕ) (bytes : List ℕ) → spot_behind spot byte ≡ next → spot_from (Some spot) (byte ∷ bytes) ≡ spot_from next bytes
 onward spot next byte bytes e = ap (λ (s : Option Spot). spot_from s bytes) e
 
 rest_clean : (value : List ℕ) → spot_from (Some IriRest) value ≡ Some IriRest → is_clean value ≡ true

@@ -1,6 +1,6 @@
 -- One byte more, and one state after another.
 use Rattle.std.proofs.Common.{◌≡◌, ℕ, suc, List, ◌∷◌, length, Some, None, ap}
-use Rattle.rdf_terms.specs.Reading.{State, Stopped, step, run, resume}
+use Rattle.rdf_terms.specs.TripleReading.{State, Stopped, step, run, resume}
 
 -- behind a byte that gave a state reading goes on there
 pub run_step : (state next : State) (byte : ℕ) (rest : List ℕ) → step state byte ≡ Some next → run (byte ∷ rest) state ≡ run rest next

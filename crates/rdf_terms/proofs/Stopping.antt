@@ -3,7 +3,7 @@ use Rattle.std.proofs.Common.{◌≡◌, ℕ, suc, ◌+◌, ◌-◌, ◌<◌, �
 use Rattle.std.proofs.Math.Seq.{take-append_seam, take-append-add}
 use Rattle.rdf_terms.specs.Building.{IsNoTriple}
 use Rattle.rdf_terms.specs.Places.{IsPlace, BeginsTriple}
-use Rattle.rdf_terms.specs.Reading.{State, Before, Within, Quoted, Hat, Tag, Closed, Ended, Subject, Spelled, Stopped, step, run, verdict}
+use Rattle.rdf_terms.specs.TripleReading.{State, Before, Within, Quoted, Hat, Tag, Closed, Ended, Subject, Spelled, Stopped, step, run, verdict}
 use Rattle.rdf_terms.proofs.Steps.{run_step, run_stop}
 use Rattle.rdf_terms.proofs.Opening.{IsOpen, open_step}
 use Rattle.rdf_terms.proofs.Live.{live}

@@ -10,8 +10,8 @@ use Rattle.iri_rules.specs.Iri.{is_iri, is_absolute, iri_limit}
 use Rattle.rdf_terms.specs.declared.terms.Term.{Term}
 use Rattle.rdf_terms.specs.declared.terms.Term.TheVariants as terms
 use Rattle.rdf_terms.specs.declared.terms.Triple.{Triple}
-use Rattle.rdf_terms.specs.Building.{IsSound}
-use Rattle.rdf_terms.specs.Grammar.{SpellsTriple, IsWithin, IsTermWithin}
+use Rattle.rdf_terms.specs.Building.{IsSoundTerm}
+use Rattle.rdf_terms.specs.Grammar.{SpellsTriple, IsTripleWithin, IsTermWithin}
 use Rattle.rdf_terms.specs.Literal.{Typed, Tagged, xsd_string, is_same, lexical_limit}
 use Rattle.rdf_terms.specs.Spelling.{iri_text, escaped, escaped_byte, datatype_text, literal_text, term_text, triple_text}
 use Rattle.rdf_terms.specs.Written.{IsWritable, IsWritableTerm, IsUtf8Literal, IsUtf8Term, IsWrittenSo}
@@ -111,18 +111,18 @@ absolute_parts : (iri : List ℕ) → IsTrue (is_absolute iri) → (length iri �
 absolute_parts iri h = let p = and_parts (leb (length iri) iri_limit) (is_iri iri) h in (leb-true (length iri) iri_limit p.0, p.1)
 
 -- a sound object is within the limits, and may be written
-object_within : (term : Term) → IsSound term → IsTermWithin term
+object_within : (term : Term) → IsSoundTerm term → IsTermWithin term
 object_within (terms.Iri iri) h = (absolute_parts iri h).0
 object_within (terms.Literal (Typed lexical datatype)) h = (leb-true (length lexical) lexical_limit h.0, (absolute_parts datatype h.1).0)
 object_within (terms.Literal (Tagged lexical tag)) h = leb-true (length lexical) lexical_limit h.0
 
-object_writable : (term : Term) → IsSound term → IsWritableTerm term
+object_writable : (term : Term) → IsSoundTerm term → IsWritableTerm term
 object_writable (terms.Iri iri) h = (absolute_parts iri h).1
 object_writable (terms.Literal (Typed lexical datatype)) h = ((absolute_parts datatype h.1).1, h.2)
 object_writable (terms.Literal (Tagged lexical tag)) h = (h.1, h.2)
 
 -- what is written for a triple of sound terms whose texts are UTF-8
-pub written_so : (t : Triple) → IsTrue (is_absolute t.s) → IsTrue (is_absolute t.p) → IsSound t.o → IsUtf8 t.s → IsUtf8 t.p → IsUtf8Term t.o → IsWrittenSo t
+pub written_so : (t : Triple) → IsTrue (is_absolute t.s) → IsTrue (is_absolute t.p) → IsSoundTerm t.o → IsUtf8 t.s → IsUtf8 t.p → IsUtf8Term t.o → IsWrittenSo t
 written_so t s p o us up uo =
     let subject = absolute_parts t.s s in
     let predicate = absolute_parts t.p p in

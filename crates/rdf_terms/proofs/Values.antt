@@ -8,10 +8,10 @@ use Rattle.rdf_terms.specs.declared.faults.TripleFault.TheVariants.{NotTriple, T
 use Rattle.rdf_terms.specs.declared.terms.Term.{Term}
 use Rattle.rdf_terms.specs.declared.terms.Term.TheVariants as terms
 use Rattle.rdf_terms.specs.declared.terms.Triple.{Triple}
-use Rattle.rdf_terms.specs.Building.{is_term_within, is_within, IsSound, IsSoundTriple, IsNoTriple, RefusesTriple}
-use Rattle.rdf_terms.specs.Grammar.{SpellsObject, SpellsTriple, IsWithin, IsTermWithin}
+use Rattle.rdf_terms.specs.Building.{is_term_within, is_within, IsSoundTerm, IsSoundTriple, IsNoTriple, RefusesTriple}
+use Rattle.rdf_terms.specs.Grammar.{SpellsObject, SpellsTriple, IsTripleWithin, IsTermWithin}
 use Rattle.rdf_terms.specs.Literal.{Typed, Tagged, xsd_string, rdf_lang_string, is_same, is_language_tag, lexical_limit}
-use Rattle.rdf_terms.specs.Reading.{run, Before, Subject, Spelled, StopsAt}
+use Rattle.rdf_terms.specs.TripleReading.{run, Before, Subject, Spelled, StopsAt}
 use Rattle.rdf_terms.proofs.Sound.{read_spelled}
 use Rattle.rdf_terms.proofs.Stopping.{stopped_exactly}
 use Rattle.rdf_terms.proofs.TagLemmas.{lower_tag, lower_lower}
@@ -30,14 +30,14 @@ within_term (terms.Literal (Typed lexical datatype)) h =
 within_term (terms.Literal (Tagged lexical tag)) h = le-leb (length lexical) lexical_limit h
 
 -- the test says what the lengths are
-pub IsWithin-from_test : (t : Triple) → is_within t ≡ true → IsWithin t
+pub IsWithin-from_test : (t : Triple) → is_within t ≡ true → IsTripleWithin t
 unfolding is_within
 IsWithin-from_test t h =
     let p = and_parts (leb (length t.s) iri_limit && leb (length t.p) iri_limit) (is_term_within t.o) h in
     let q = and_parts (leb (length t.s) iri_limit) (leb (length t.p) iri_limit) p.0 in
     record { subject = leb-true (length t.s) iri_limit q.0; predicate = leb-true (length t.p) iri_limit q.1; object = term_within t.o p.1 }
 
-test_from_IsWithin : (t : Triple) → IsWithin t → is_within t ≡ true
+test_from_IsWithin : (t : Triple) → IsTripleWithin t → is_within t ≡ true
 unfolding is_within
 test_from_IsWithin t h =
     and_from (leb (length t.s) iri_limit && leb (length t.p) iri_limit) (is_term_within t.o)
@@ -54,7 +54,7 @@ string_typed : IsTrue (not (is_same xsd_string rdf_lang_string))
 unfolding xsd_string rdf_lang_string
 string_typed = refl
 
-object_is_sound : (w : List ℕ) (o : Term) → SpellsObject w o → IsTermWithin o → IsSound o
+object_is_sound : (w : List ℕ) (o : Term) → SpellsObject w o → IsTermWithin o → IsSoundTerm o
 object_is_sound w (terms.Iri iri) s h = absolute iri h s.absolute
 object_is_sound w (terms.Literal (Typed lexical datatype)) s h =
     elim s.3 [
@@ -69,7 +69,7 @@ object_is_sound w (terms.Literal (Tagged lexical tag)) s h =
     lower written tag e = ap str_to_ascii_lowercase e ∙ lower_lower written ∙ sym e
 
 -- a triple that is spelled and within the lengths may be made
-sound_from_spelled : (text : List ℕ) (t : Triple) → SpellsTriple text t → IsWithin t → IsSoundTriple t
+sound_from_spelled : (text : List ℕ) (t : Triple) → SpellsTriple text t → IsTripleWithin t → IsSoundTriple t
 unfolding SpellsTriple
 sound_from_spelled text t s h =
     let b = s.1 in

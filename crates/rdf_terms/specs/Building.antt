@@ -6,7 +6,7 @@ use Rattle.rdf_terms.specs.declared.faults.TripleFault.TheVariants.{NotTriple, T
 use Rattle.rdf_terms.specs.declared.terms.Term.{Term}
 use Rattle.rdf_terms.specs.declared.terms.Term.TheVariants as terms
 use Rattle.rdf_terms.specs.declared.terms.Triple.{Triple}
-use Rattle.rdf_terms.specs.Grammar.{SpellsTriple, IsWithin}
+use Rattle.rdf_terms.specs.Grammar.{SpellsTriple, IsTripleWithin}
 use Rattle.rdf_terms.specs.Literal.{Typed, Tagged, IsLiteral, lexical_limit}
 use Rattle.rdf_terms.specs.Places.{IsPlace}
 
@@ -21,15 +21,15 @@ unfoldable pub is_within : Triple → Bool
 is_within triple = nat_le (length triple.s) iri_limit && nat_le (length triple.p) iri_limit && is_term_within triple.o
 
 -- a term whose value may be made
-abbrev pub IsSound : Term → Type 0
-IsSound (terms.Iri iri) = IsTrue (is_absolute iri)
-IsSound (terms.Literal literal) = IsLiteral literal
+abbrev pub IsSoundTerm : Term → Type 0
+IsSoundTerm (terms.Iri iri) = IsTrue (is_absolute iri)
+IsSoundTerm (terms.Literal literal) = IsLiteral literal
 
 -- a triple whose value may be made
 pub record IsSoundTriple (triple : Triple) : Type 0 where
   pub subject : IsTrue (is_absolute triple.s)
   pub predicate : IsTrue (is_absolute triple.p)
-  pub object : IsSound triple.o
+  pub object : IsSoundTerm triple.o
 
 -- the text spells no triple, and up to this place it begins one
 pub record IsNoTriple (text : List ℕ) (place : ℕ) : Type 0 where
@@ -39,5 +39,5 @@ pub record IsNoTriple (text : List ℕ) (place : ℕ) : Type 0 where
 -- when a text is refused as a triple, want of memory aside
 abbrev pub RefusesTriple : List ℕ → TripleFault → Type 0
 RefusesTriple text (NotTriple place) = IsNoTriple text place
-RefusesTriple text TooLong = (triple : Triple) × SpellsTriple text triple × (¬ IsWithin triple)
+RefusesTriple text TooLong = (triple : Triple) × SpellsTriple text triple × (¬ IsTripleWithin triple)
 RefusesTriple text NoMemory = Unit {0}

@@ -86,7 +86,7 @@ IsTermWithin (terms.Literal (Typed lexical datatype)) = (length lexical ≤ lexi
 IsTermWithin (terms.Literal (Tagged lexical tag)) = length lexical ≤ lexical_limit
 
 -- no IRI of the triple and no lexical form is too long
-pub record IsWithin (triple : Triple) : Type 0 where
+pub record IsTripleWithin (triple : Triple) : Type 0 where
   pub subject : length triple.s ≤ iri_limit
   pub predicate : length triple.p ≤ iri_limit
   pub object : IsTermWithin triple.o

@@ -5,13 +5,13 @@ pub mod Spelling
 pub mod Order
 pub mod OrderLaws
 pub mod Compare
-pub mod Faults
+pub mod TermFaults
 pub mod Kept
 pub mod Escapes
 pub mod Grammar
 pub mod Places
-pub mod Reading
-pub mod Reads
+pub mod TripleReading
+pub mod TripleReads
 pub mod Parts
 pub mod Building
 pub mod Written

@@ -5,7 +5,7 @@ use Rattle.iri_rules.specs.Iri.{is_iri}
 use Rattle.rdf_terms.specs.declared.terms.Term.{Term}
 use Rattle.rdf_terms.specs.declared.terms.Term.TheVariants as terms
 use Rattle.rdf_terms.specs.declared.terms.Triple.{Triple}
-use Rattle.rdf_terms.specs.Grammar.{SpellsTriple, IsWithin}
+use Rattle.rdf_terms.specs.Grammar.{SpellsTriple, IsTripleWithin}
 use Rattle.rdf_terms.specs.Spelling.{triple_text}
 use Rattle.rdf_terms.specs.Literal.{LiteralValue, Typed, Tagged, rdf_lang_string, is_same, is_language_tag}
 
@@ -34,5 +34,5 @@ IsUtf8Term (terms.Literal literal) = IsUtf8Literal literal
 -- what is written for a triple is a text that spells it, and no part of it is too long
 pub record IsWrittenSo (triple : Triple) : Type 0 where
   pub spelled : SpellsTriple (triple_text triple) triple
-  pub within : IsWithin triple
+  pub within : IsTripleWithin triple
   pub utf8 : IsUtf8 (triple_text triple)

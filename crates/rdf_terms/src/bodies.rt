@@ -2,7 +2,7 @@
 ghost use Rattle.std.specs.Prelude.{◌≡◌, ◌≤◌, [], MatchResult, length};
 ghost use Rattle.std.specs.Str.{IsCharBoundary};
 ghost use Rattle.std.specs.String.{string_bytes};
-ghost use Rattle.rdf_terms.specs.Reads.{PassesPlain, IsBody, StopsWithin};
+ghost use Rattle.rdf_terms.specs.TripleReads.{PassesPlain, IsBody, StopsWithin};
 
 use crate::escapes::read_escape;
 use crate::faults::TripleFault;

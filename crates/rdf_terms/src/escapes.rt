@@ -2,8 +2,8 @@
 ghost use Rattle.std.specs.Prelude.{◌≡◌, ◌≤◌, ◌<◌, ◌^◌, MatchOption, MatchResult, length, false, true};
 ghost use Rattle.std.specs.Bool.{OnTrue};
 ghost use Rattle.rdf_terms.specs.Escapes.{is_escape_letter, letter_value};
-ghost use Rattle.rdf_terms.specs.Reading.{Behind, Digits, may_begin};
-ghost use Rattle.rdf_terms.specs.Reads.{HasDigit, HasNoDigit, HasLetter, HasNoLetter, IsEscape, StopsBehind};
+ghost use Rattle.rdf_terms.specs.TripleReading.{Behind, Digits, may_begin};
+ghost use Rattle.rdf_terms.specs.TripleReads.{HasDigit, HasNoDigit, HasLetter, HasNoLetter, IsEscape, StopsBehind};
 
 use crate::faults::TripleFault;
 use crate::places::byte_at;

@@ -2,7 +2,7 @@
 ghost use Rattle.std.specs.Prelude.{IsTrue};
 ghost use Rattle.std.specs.Str.{IsUtf8};
 ghost use Rattle.iri_rules.specs.Iri.{is_absolute};
-ghost use Rattle.rdf_terms.specs.Building.{IsSound};
+ghost use Rattle.rdf_terms.specs.Building.{IsSoundTerm};
 ghost use Rattle.rdf_terms.specs.Literal.{IsLiteral};
 ghost use Rattle.rdf_terms.specs.Written.{IsUtf8Literal, IsUtf8Term, IsWrittenSo};
 
@@ -37,7 +37,7 @@ impl Literal {
 impl Term {
     /// What a term keeps.
     fn kept(&self)
-        ensures sound { IsSound self.now }
+        ensures sound { IsSoundTerm self.now }
         ensures utf8 { IsUtf8Term self.now }
     {
         match self {

@@ -5,8 +5,8 @@ ghost use Rattle.iri_rules.specs.Iri.{is_letter, is_digit};
 ghost use Rattle.rdf_terms.specs.declared.spots.Spot.TheVariants.{Lexical};
 ghost use Rattle.rdf_terms.specs.Grammar.{is_blank};
 ghost use Rattle.rdf_terms.specs.Parts.{object_value, triple_value};
-ghost use Rattle.rdf_terms.specs.Reading.{Slot, Subject, Object, LexicalForm, Within, Between, Before, Quoted, Hat, Tag, Closed, Spelled, run, StopsAt};
-ghost use Rattle.rdf_terms.specs.Reads.{HasByte, PassesBlanks, PassesMark, MissesMark, TakesIri, NeedsIri, IsIri, IsTagEnd, EndsTag, IsObject, StopsObject, ReadsEnd};
+ghost use Rattle.rdf_terms.specs.TripleReading.{Slot, Subject, Object, LexicalForm, Within, Between, Before, Quoted, Hat, Tag, Closed, Spelled, run, StopsAt};
+ghost use Rattle.rdf_terms.specs.TripleReads.{HasByte, PassesBlanks, PassesMark, MissesMark, TakesIri, NeedsIri, IsIri, IsTagEnd, EndsTag, IsObject, StopsObject, ReadsEnd};
 ghost use Rattle.rdf_terms.specs.declared.terms.Term.{Term};
 
 use crate::bodies::read_body;

@@ -2,7 +2,7 @@
 ghost use Rattle.std.specs.Prelude.{◌≡◌};
 ghost use lib.Utf8.{scalar};
 ghost use Rattle.rdf_terms.specs.Escapes.{is_plain_byte};
-ghost use Rattle.rdf_terms.specs.Reading.{after, after_plain, closes, may_hold};
+ghost use Rattle.rdf_terms.specs.TripleReading.{spot_behind, after_plain, closes, may_hold};
 
 use iri_rules::characters::{is_excluded, is_letter, is_scheme_character};
 
@@ -29,7 +29,7 @@ fn is_plain(byte: u8) -> bool
 impl Spot {
     /// Where the next character stands behind this one, if this one may stand here.
     pub fn after(self, character: char) -> Option<Spot>
-        ensures { result ≡ after self character }
+        ensures { result ≡ spot_behind self character }
     {
         match self {
             Spot::SchemeStart => is_letter(character).then_some(Spot::Scheme),

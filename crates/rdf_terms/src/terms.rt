@@ -28,7 +28,7 @@ impl Model for Iri {
 
 impl Iri {
     ghost use Rattle.std.specs.Prelude.{◌≡◌, ◌↔◌, IsTrue, IfOk, IfErr, IsErrOf, not};
-    ghost use Rattle.rdf_terms.specs.Faults.{MayRefuseIri};
+    ghost use Rattle.rdf_terms.specs.TermFaults.{MayRefuseIri};
     ghost use Rattle.iri_rules.specs.Iri.{is_absolute};
 
     /// The IRI of a text, refused with `BadIri` where the text is no absolute IRI of at most 2,048 bytes.
@@ -148,7 +148,7 @@ impl Model for Literal {
 impl Literal {
     ghost use Rattle.std.specs.Prelude.{◌≡◌, ◌↔◌, ◌<◌, ◌≤◌, IsTrue, IfOk, IfErr, IsErrOf, not, length};
     ghost use Rattle.std.specs.Str.{str_to_ascii_lowercase};
-    ghost use Rattle.rdf_terms.specs.Faults.{MayRefuseTyped, MayRefuseTagged};
+    ghost use Rattle.rdf_terms.specs.TermFaults.{MayRefuseTyped, MayRefuseTagged};
     ghost use Rattle.rdf_terms.specs.Literal.{Typed, Tagged, IsLiteral, is_same, rdf_lang_string, is_language_tag, lexical_limit};
 
     /// The literal of a lexical form and a datatype, refused with `BadType` where the datatype is rdf:langString,

@@ -1,8 +1,8 @@
 //! Triples of the parts that were read.
 ghost use Rattle.std.specs.Prelude.{◌≡◌, ℕ, List, IsTrue, IfOk, IfErr};
 ghost use Rattle.rdf_terms.specs.declared.terms.Triple.{Triple};
-ghost use Rattle.rdf_terms.specs.Building.{is_term_within, is_within, IsSound, IsSoundTriple, RefusesTriple};
-ghost use Rattle.rdf_terms.specs.Grammar.{SpellsTriple, IsWithin};
+ghost use Rattle.rdf_terms.specs.Building.{is_term_within, is_within, IsSoundTerm, IsSoundTriple, RefusesTriple};
+ghost use Rattle.rdf_terms.specs.Grammar.{SpellsTriple, IsTripleWithin};
 ghost use Rattle.rdf_terms.specs.Spelling.{triple_text};
 ghost use Rattle.rdf_terms.specs.Parts.{object_value, triple_value};
 
@@ -36,7 +36,7 @@ fn is_within(parts: &TripleParts) -> bool
 
 /// The object of its parts.
 fn build_object(object: ObjectParts) -> Term
-    requires { IsSound (object_value object) }
+    requires { IsSoundTerm (object_value object) }
     ensures { result ≡ object_value object }
 {
     match object {
@@ -67,7 +67,7 @@ fn build_triple(parts: TripleParts) -> Triple
 /// `TooLong` where it spells one with an IRI of more than 2,048 bytes or a lexical form of more than 1,048,576.
 pub fn read_triple(alloc: Global, text: &str) -> Result<Triple, TripleFault>
     ensures spelled { IfOk result (SpellsTriple text.now) }
-    ensures within { IfOk result IsWithin }
+    ensures within { IfOk result IsTripleWithin }
     ensures refusals { IfErr result (RefusesTriple text.now) }
 {
     let parts = read_parts(alloc, text)?;

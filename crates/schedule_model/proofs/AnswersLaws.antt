@@ -12,7 +12,7 @@ use Rattle.mld_ops.specs.declared.tagged.Tagged.{Tagged}
 use Rattle.mld_ops.specs.History.{Operation, dot_at}
 use Rattle.mld_ops.specs.Meaning.{IsMeaning}
 use Rattle.mld_ops.specs.Effect.{range_of}
-use Rattle.mld_ops.specs.HistoryLaws.{range_of_has}
+use Rattle.mld_ops.proofs.OperationLaws.{range_of_has}
 use Rattle.schedule_model.specs.declared.Command.TheVariants.{Add, Remove, Deliver, Show, Compare, Join}
 use Rattle.mld_model.specs.Clone.{Clone, Absent, Asking, Live, Stored, known_of, with_range}
 use Rattle.mld_model.specs.World.{World, Message, RangeOf, JoinAsk, JoinGive, message_at, clone_at}

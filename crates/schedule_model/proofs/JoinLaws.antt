@@ -9,7 +9,7 @@ use Rattle.tree_clock.specs.Lists.{Has}
 use Rattle.mld_ops.specs.Messages.{GiveValue, MessageValue, CarriesEntry, CarriesAsk, CarriesGive}
 use Rattle.mld_model.specs.declared.NoDevice.{NoDevice}
 use Rattle.mld_ops.specs.History.{Operation}
-use Rattle.mld_ops.specs.PickingLaws.{pairs_more}
+use Rattle.mld_ops.proofs.PickingLaws.{pairs_more}
 use Rattle.schedule_model.specs.declared.Command.TheVariants.{Deliver, Join}
 use Rattle.mld_model.specs.declared.CloneState.TheVariants as states
 use Rattle.mld_model.specs.Clone.{Clone, Absent, Asking, Empty, Down, Live, Stored, known_of}

@@ -8,9 +8,9 @@ use Rattle.tree_clock.specs.Lists.{Has}
 use Rattle.mld_ops.specs.declared.tagged.Tagged.{Tagged}
 use Rattle.mld_ops.specs.History.{dot_at}
 use Rattle.mld_ops.specs.Tagged.{tagged_cmp}
-use Rattle.mld_ops.specs.TaggedLaws.{tagged_total, tagged_exact}
-use Rattle.mld_ops.specs.AscendingLaws.{same_ascending}
-use Rattle.mld_ops.specs.MeaningLaws.{one_meaning}
+use Rattle.mld_ops.proofs.TaggedLaws.{tagged_total, tagged_exact}
+use Rattle.mld_ops.proofs.AscendingLaws.{same_ascending}
+use Rattle.mld_ops.proofs.MeaningLaws.{one_meaning}
 use Rattle.schedule_model.specs.declared.Command.TheVariants.{Add, Remove, Deliver, Show, Compare, Join}
 use Rattle.mld_model.specs.Clone.{Clone, Live, Stored, known_of, with_range}
 use Rattle.mld_model.specs.World.{World, Message, RangeOf, JoinAsk, JoinGive, message_at, clone_at, with_clone}

@@ -17,8 +17,8 @@ use Rattle.mld_ops.specs.Messages.{MessageValue, CarriesEntry}
 use Rattle.mld_ops.specs.Entry.{EntryValue}
 use Rattle.mld_ops.specs.History.{Operation, IsDone, IsInserted, IsNext, dot_at}
 use Rattle.mld_ops.specs.Effect.{range_of}
-use Rattle.mld_ops.specs.Picking.{AllPairs}
-use Rattle.mld_ops.specs.PickingLaws.{pairs_more}
+use Rattle.std.specs.List.{AllZip}
+use Rattle.mld_ops.proofs.PickingLaws.{pairs_more}
 use Rattle.mld_ops.specs.Ready.{last_dot, IsKnownEntry}
 use Rattle.schedule_model.specs.declared.Command.{Command}
 use Rattle.schedule_model.specs.declared.Command.TheVariants.{Add, Remove, Deliver, Show, Compare}
@@ -197,14 +197,14 @@ must_be_held world live stored held range entry stands entry_stands positive mus
 }
 
 -- the ranges of entries that stand for ranges are those
-pub same_ranges : (history : List Operation) (entries : List EntryValue) (ranges : List Range) → AllPairs (EntryStandsFor history) entries ranges → ranges_of entries ≡ ranges
+pub same_ranges : (history : List Operation) (entries : List EntryValue) (ranges : List Range) → AllZip (EntryStandsFor history) entries ranges → ranges_of entries ≡ ranges
 same_ranges history [] [] all = refl
 same_ranges history (entry ∷ entries) (range ∷ ranges) all = λ i. all.0.same i ∷ same_ranges history entries ranges all.1 i
 same_ranges history [] (range ∷ ranges) all = absurd all
 same_ranges history (entry ∷ entries) [] all = absurd all
 
 -- a range is held just where an entry of it is
-held_alike : (history : List Operation) (entries : List EntryValue) (ranges : List Range) (entry : EntryValue) (range : Range) → AllPairs (EntryStandsFor history) entries ranges
+held_alike : (history : List Operation) (entries : List EntryValue) (ranges : List Range) (entry : EntryValue) (range : Range) → AllZip (EntryStandsFor history) entries ranges
     → entry.range ≡ range → Has (ranges_of entries) entry.range ↔ Has ranges range
 held_alike history entries ranges entry range all same = (
   λ h. subst (λ (r : Range). Has ranges r) same (subst (λ (rs : List Range). Has rs entry.range) (same_ranges history entries ranges all) h),
@@ -417,7 +417,7 @@ module _ (running : RunningWorld) (world : World) (stands : StandsFor running wo
       let both : StandsDone world.history entry s.range =
       record { stands = s.entry_stands; one = stands.one_tick.sent s.range s.stands; done = sound.messages (RangeOf s.range) s.stands } in
       let ready : IsReady world.history (known_of stored) s.range = accepted_ready world.history live.local new.local stored at.held s.range entry ranges at.stands both locally in
-      let all : AllPairs (StandsDone world.history) live.local.held at.held =
+      let all : AllZip (StandsDone world.history) live.local.held at.held =
       stand_done world.history live.local.held at.held at.stands.held (stands.one_tick.held number stored at.held at.live) (sound.held number stored at.held at.live) in
       let released : Released world.history (with_range stored s.range) at.held locally.taken new.local.held new.local.ticks new.local.pairs =
       accepted_releases world.history live.local new.local stored at.held s.range entry ranges at.stands both locally all sound.lawful whole in

@@ -5,7 +5,7 @@ use Rattle.std.specs.List.{list_any}
 use Rattle.std.specs.Str.{IsUtf8}
 use Rattle.std.specs.Fmt.{decimal}
 use Rattle.iri_rules.specs.Domain.{is_domain}
-use Rattle.rdf_terms.specs.Grammar.{SpellsTriple, IsWithin}
+use Rattle.rdf_terms.specs.Grammar.{SpellsTriple, IsTripleWithin}
 use Rattle.schedule_model.specs.Characters.{space, hash_mark}
 use Rattle.mld_model.specs.Local.{IsNamed}
 use Rattle.mld_model.specs.World.{clone_count}
@@ -64,10 +64,10 @@ IsCloneNumber number = number < clone_count
 abbrev pub SpellsCommand : List ℕ → Command → Type 0
 SpellsCommand line (Add number triple) =
     (text : List ℕ) × (line ≡ codes "add " ++ (decimal number ++ space ∷ text)) × IsCloneNumber number
-    × IsUtf8 text × SpellsTriple text triple × IsWithin triple
+    × IsUtf8 text × SpellsTriple text triple × IsTripleWithin triple
 SpellsCommand line (Remove number triple) =
     (text : List ℕ) × (line ≡ codes "remove " ++ (decimal number ++ space ∷ text)) × IsCloneNumber number
-    × IsUtf8 text × SpellsTriple text triple × IsWithin triple
+    × IsUtf8 text × SpellsTriple text triple × IsTripleWithin triple
 SpellsCommand line (Deliver message number) =
     (line ≡ codes "deliver " ++ (decimal message ++ space ∷ decimal number)) × (message < 2 ^ 64) × IsCloneNumber number
 SpellsCommand line (Show number) = (line ≡ codes "show " ++ decimal number) × IsCloneNumber number

@@ -2,9 +2,9 @@
 use Rattle.std.proofs.Common.{◌≡◌, ◌≢◌, ℕ, ◌<◌, ◌≤◌, List, Option, Some, None, unwrap_or, IsSome, Bool, true, false, IsTrue, MatchBool, max, ◌↔◌, Result, Ok, Err, OnErr, refl, sym, ◌∙◌, ap, subst, arith}
 use Rattle.std.proofs.lemmas.Bool.{false≢true}
 use Rattle.tree_clock.specs.Clock.{ticks_of, Covers, RaisesTo}
-use Rattle.tree_clock.specs.ClockLaws.{by_order, less_apart, Covers-within}
+use Rattle.tree_clock.proofs.ClockLaws.{by_order, less_apart, Covers-within}
 use Rattle.tree_clock.specs.Lists.{Has}
-use Rattle.tree_clock.specs.Trees.{node_at, HasNode, ticks_at, listed, nodes, IsWithin, Exceeds, IsWithinBut, ExceedsBut, Grows, HasNodesOf, raised_node, RaisesNode}
+use Rattle.tree_clock.specs.Trees.{node_at, HasNode, ticks_at, listed, nodes, IsTreeWithin, Exceeds, IsWithinBut, ExceedsBut, Grows, HasNodesOf, raised_node, RaisesNode}
 use Rattle.tree_clock.specs.declared.dots.Dot.{Dot}
 use Rattle.tree_clock.specs.declared.trees.Tree.{Tree}
 use Rattle.tree_clock.proofs.TreeLemmas.{ticks_of-listed, listed-same, Has-nodes, HasNode-from_nodes, HasNode-from_ticks, HasNode-grown, ticks_at-grown}
@@ -86,7 +86,7 @@ on_err_always (Err e) p = p
 -- ---- comparisons
 
 -- a comparison of trees is one of the lists
-pub paths_listed : (r : Bool) (a b : Tree) → MatchBool r (IsWithin a b) (Exceeds a b) → MatchBool r ((path : List ℕ) → ticks_of (listed a) path ≤ ticks_of (listed b) path) ((path : List ℕ) × (ticks_of (listed b) path < ticks_of (listed a) path))
+pub paths_listed : (r : Bool) (a b : Tree) → MatchBool r (IsTreeWithin a b) (Exceeds a b) → MatchBool r ((path : List ℕ) → ticks_of (listed a) path ≤ ticks_of (listed b) path) ((path : List ℕ) × (ticks_of (listed b) path < ticks_of (listed a) path))
 paths_listed true a b h = λ path.
     let e = ticks_of-listed a path in let f = ticks_of-listed b path in let k = h path in omega arith
 paths_listed false a b h =

@@ -1,3 +1,5 @@
+pub mod PathLaws
+pub mod ClockLaws
 pub mod PathLemmas
 pub mod DotLemmas
 pub mod TreeLemmas

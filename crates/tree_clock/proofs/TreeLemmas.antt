@@ -7,11 +7,11 @@ use Rattle.std.proofs.lemmas.Bool.{cases_eq, ne_eqb, eq-eqb, false≢true}
 use Rattle.std.proofs.lemmas.Cmp.{nat_cmp_total}
 use Rattle.std.proofs.lemmas.List.{drop_more, append-nil}
 use Rattle.tree_clock.specs.Clock.{ticks_of, entry_cmp, IsClock}
-use Rattle.tree_clock.specs.ClockLaws.{ticks_of-tail, clock_from_ticks}
+use Rattle.tree_clock.proofs.ClockLaws.{ticks_of-tail, clock_from_ticks}
 use Rattle.tree_clock.specs.Lists.{Has, IsBelowAll, IsAscending}
 use Rattle.tree_clock.specs.Path.{path_cmp, zero_letter, one_letter}
 use Rattle.tree_clock.specs.declared.trees.Tree.{Tree, Leaf, Fork'}
-use Rattle.tree_clock.specs.Trees.{by_letter, node_at, HasNode, ticks_at, under, entry_of, listed, after, nodes, IsKept, Grows, HasNodesOf, RaisesNode}
+use Rattle.tree_clock.specs.Trees.{by_letter, node_at, HasNode, ticks_at, under, entry_of, listed, below_letter, nodes, IsKeptNode, Grows, HasNodesOf, RaisesNode}
 
 -- ---- paths
 
@@ -65,7 +65,7 @@ RaisesNode-one n {p} {q} {p'} {q'} left right right' path ticks h = record {
 pub ticks_at-grown : (old new : Tree) (path : List ℕ) → Grows old new → ticks_at new path ≡ ticks_at old path
 ticks_at-grown old new path h = by (node_at old path) (node_at new path) (h path)
   where
-    by : (a b : Option ℕ) → IsKept a b → unwrap_or b 0 ≡ unwrap_or a 0
+    by : (a b : Option ℕ) → IsKeptNode a b → unwrap_or b 0 ≡ unwrap_or a 0
     by None b k = k
     by (Some ticks) b k = ap (λ o. unwrap_or o 0) k
 
@@ -73,7 +73,7 @@ ticks_at-grown old new path h = by (node_at old path) (node_at new path) (h path
 pub HasNode-grown : (old new : Tree) (path : List ℕ) → Grows old new → HasNode old path → HasNode new path
 HasNode-grown old new path h = by (node_at old path) (node_at new path) (h path)
   where
-    by : (a b : Option ℕ) → IsKept a b → IsSome a → IsSome b
+    by : (a b : Option ℕ) → IsKeptNode a b → IsSome a → IsSome b
     by None b k n = absurd (false≢true n)
     by (Some ticks) b k n = subst (λ (o : Option ℕ). IsSome o) (sym k) n
 
@@ -296,12 +296,12 @@ Has-append (x ∷ xs) ys path =
     )
 
 -- a path is below a letter where it begins with it and the rest is there
-Has-after : (letter : ℕ) (paths : List (List ℕ)) (path : List ℕ) → Has paths path → Has (after letter paths) (letter ∷ path)
+Has-after : (letter : ℕ) (paths : List (List ℕ)) (path : List ℕ) → Has paths path → Has (below_letter letter paths) (letter ∷ path)
 Has-after letter [] path h = absurd h
 Has-after letter (p ∷ paths) path (inl e) = inl (ap (λ xs. letter ∷ xs) e)
 Has-after letter (p ∷ paths) path (inr h) = inr (Has-after letter paths path h)
 
-Has-from_after : (letter : ℕ) (paths : List (List ℕ)) (other : ℕ) (path : List ℕ) → Has (after letter paths) (other ∷ path) → (letter ≡ other) × Has paths path
+Has-from_after : (letter : ℕ) (paths : List (List ℕ)) (other : ℕ) (path : List ℕ) → Has (below_letter letter paths) (other ∷ path) → (letter ≡ other) × Has paths path
 Has-from_after letter [] other path h = absurd h
 Has-from_after letter (p ∷ paths) other path (inl e) = (let f : letter ≡ other = cc in f, inl (let f : p ≡ path = cc in f))
 Has-from_after letter (p ∷ paths) other path (inr h) = let k = Has-from_after letter paths other path h in (k.0, inr k.1)
@@ -314,8 +314,8 @@ Has-nodes (Fork' ticks p left q right) path h =
     at_letters
     (λ path. HasNode (Fork' ticks p left q right) path → Has (nodes (Fork' ticks p left q right)) path)
     (λ h. inl refl)
-    (λ rest h. inr ((Has-append (after zero_letter (nodes left)) (after one_letter (nodes right)) (zero_letter ∷ rest)).1 (inl (Has-after zero_letter (nodes left) rest (Has-nodes left rest h)))))
-    (λ rest h. inr ((Has-append (after zero_letter (nodes left)) (after one_letter (nodes right)) (one_letter ∷ rest)).1 (inr (Has-after one_letter (nodes right) rest (Has-nodes right rest h)))))
+    (λ rest h. inr ((Has-append (below_letter zero_letter (nodes left)) (below_letter one_letter (nodes right)) (zero_letter ∷ rest)).1 (inl (Has-after zero_letter (nodes left) rest (Has-nodes left rest h)))))
+    (λ rest h. inr ((Has-append (below_letter zero_letter (nodes left)) (below_letter one_letter (nodes right)) (one_letter ∷ rest)).1 (inr (Has-after one_letter (nodes right) rest (Has-nodes right rest h)))))
     (λ letter rest a b h. absurd (false≢true (subst (λ (o : Option ℕ). IsSome o) (by_letter-none letter (node_at left rest) (node_at right rest) None a b) h)))
     path h
 
@@ -331,7 +331,7 @@ HasNode-from_nodes (Fork' ticks p left q right) (letter ∷ path) (inr h) =
     subst (λ x. HasNode (Fork' ticks p left q right) (x ∷ path)) from.0 (HasNode-from_nodes left path from.1))
     (λ k. let from = Has-from_after one_letter (nodes right) letter path k in
     subst (λ x. HasNode (Fork' ticks p left q right) (x ∷ path)) from.0 (HasNode-from_nodes right path from.1))
-    ((Has-append (after zero_letter (nodes left)) (after one_letter (nodes right)) (letter ∷ path)).0 h)
+    ((Has-append (below_letter zero_letter (nodes left)) (below_letter one_letter (nodes right)) (letter ∷ path)).0 h)
 
 -- a path with ticks has a node
 pub HasNode-from_ticks : (tree : Tree) (path : List ℕ) → 1 ≤ ticks_at tree path → HasNode tree path

@@ -2,9 +2,7 @@ pub mod Limits
 pub mod Lists
 pub mod Path
 pub mod Letters
-pub mod PathLaws
 pub mod Trees
 pub mod Dot
 pub mod DotLaws
 pub mod Clock
-pub mod ClockLaws

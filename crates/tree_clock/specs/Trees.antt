@@ -52,18 +52,18 @@ listed (Leaf ticks) = entry_of [] ticks
 listed (Fork' ticks p left q right) = entry_of [] ticks ++ (under (zero_letter ∷ []) (listed left) ++ under (one_letter ∷ []) (listed right))
 
 -- the paths, each below the letter
-abbrev pub after : ℕ → List (List ℕ) → List (List ℕ)
-after letter [] = []
-after letter (path ∷ paths) = (letter ∷ path) ∷ after letter paths
+abbrev pub below_letter : ℕ → List (List ℕ) → List (List ℕ)
+below_letter letter [] = []
+below_letter letter (path ∷ paths) = (letter ∷ path) ∷ below_letter letter paths
 
 -- the paths of the nodes
 abbrev pub nodes : Tree → List (List ℕ)
 nodes (Leaf ticks) = [] ∷ []
-nodes (Fork' ticks p left q right) = [] ∷ (after zero_letter (nodes left) ++ after one_letter (nodes right))
+nodes (Fork' ticks p left q right) = [] ∷ (below_letter zero_letter (nodes left) ++ below_letter one_letter (nodes right))
 
 -- no path has more ticks in the first tree than in the second
-abbrev pub IsWithin : Tree → Tree → Type 0
-IsWithin tree other = (path : List ℕ) → ticks_at tree path ≤ ticks_at other path
+abbrev pub IsTreeWithin : Tree → Tree → Type 0
+IsTreeWithin tree other = (path : List ℕ) → ticks_at tree path ≤ ticks_at other path
 
 -- some path has more ticks in the first tree than in the second
 abbrev pub Exceeds : Tree → Tree → Type 0
@@ -78,13 +78,13 @@ abbrev pub ExceedsBut : List ℕ → Tree → Tree → Type 0
 ExceedsBut but tree other = (path : List ℕ) × (¬ (path ≡ but)) × (ticks_at other path < ticks_at tree path)
 
 -- a node that was there keeps its ticks, and a new one has none
-abbrev pub IsKept : Option ℕ → Option ℕ → Type 0
-IsKept None new = unwrap_or new 0 ≡ 0
-IsKept (Some ticks) new = new ≡ Some ticks
+abbrev pub IsKeptNode : Option ℕ → Option ℕ → Type 0
+IsKeptNode None new = unwrap_or new 0 ≡ 0
+IsKeptNode (Some ticks) new = new ≡ Some ticks
 
 -- the new tree has the nodes of the old one, and perhaps some with no ticks
 abbrev pub Grows : Tree → Tree → Type 0
-Grows old new = (path : List ℕ) → IsKept (node_at old path) (node_at new path)
+Grows old new = (path : List ℕ) → IsKeptNode (node_at old path) (node_at new path)
 
 -- the first tree has a node wherever the second has one
 abbrev pub HasNodesOf : Tree → Tree → Type 0

@@ -2,7 +2,7 @@
 ghost use Rattle.std.specs.Prelude.{◌≡◌, ℕ, ◌+◌, ◌-◌, ◌≤◌, ◌++◌, ◌∷◌, [], List, drop, length, max, IfOk, OnOk, IsOk, MatchBool, if◌then◌else◌};
 ghost use Rattle.tree_clock.specs.Limits.{path_limit};
 ghost use Rattle.tree_clock.specs.Path.{zero_letter, one_letter};
-ghost use Rattle.tree_clock.specs.Trees.{ticks_at, HasNode, IsEmpty, HasSons, height, under, entry_of, listed, nodes, IsWithin, Exceeds, IsWithinBut, ExceedsBut, Grows, HasNodesOf, node_at, raised_node, RaisesNode};
+ghost use Rattle.tree_clock.specs.Trees.{ticks_at, HasNode, IsEmpty, HasSons, height, under, entry_of, listed, nodes, IsTreeWithin, Exceeds, IsWithinBut, ExceedsBut, Grows, HasNodesOf, node_at, raised_node, RaisesNode};
 
 use crate::paths::Path;
 use std::alloc::{AllocError, Global};
@@ -62,7 +62,7 @@ impl Tree {
     #[cycle(leq)]
     pub fn leq<'a>(&self, other: &'a Tree, empty: &'a Tree) -> bool
         requires { IsEmpty empty.now }
-        ensures { MatchBool result (IsWithin self.now other.now) (Exceeds self.now other.now) }
+        ensures { MatchBool result (IsTreeWithin self.now other.now) (Exceeds self.now other.now) }
     {
         self.own() <= other.own() && self.sons_leq(other, empty)
     }

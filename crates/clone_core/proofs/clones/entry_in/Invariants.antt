@@ -1,5 +1,5 @@
 use Rattle.std.proofs.Common.{take}
-use Rattle.clone_core.specs.Calls.{LacksRange}
+use Rattle.clone_core.specs.CloneCalls.{LacksRange}
 use Rattle.clone_core.proofs.clones.entry_in.Given as goal
 
 abbrev pub invariant-loop-entry : goal.invariant-loop-entry

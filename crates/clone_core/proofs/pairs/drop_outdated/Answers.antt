@@ -1,6 +1,6 @@
 use Rattle.std.proofs.Common.{rules}
 use Rattle.mld_ops.specs.Tagged.{tagged_cmp}
-use Rattle.clone_core.specs.Pairs.{IsOutdated}
+use Rattle.clone_core.specs.PairLists.{IsOutdated}
 use Rattle.causal_buffer.proofs.Places.{drops_filtered}
 use Rattle.clone_core.proofs.Cutting.{drops_has, drops_ascends}
 use Rattle.clone_core.proofs.pairs.drop_outdated.Goals as goal

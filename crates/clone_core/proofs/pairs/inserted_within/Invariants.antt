@@ -2,7 +2,7 @@ use Rattle.std.proofs.Common.{◌↔◌, take}
 use Rattle.mld_ops.specs.Tagged.{tagged_cmp}
 use Rattle.mld_ops.specs.declared.tagged.Tagged.{Tagged}
 use Rattle.tree_clock.specs.Lists.{Has, IsAscending}
-use Rattle.clone_core.specs.Pairs.{IsInsertedWithin}
+use Rattle.clone_core.specs.PairLists.{IsInsertedWithin}
 use Rattle.clone_core.proofs.pairs.inserted_within.Given as goal
 
 abbrev pub invariant-loop-triple : goal.invariant-loop-triple

@@ -1,6 +1,6 @@
 use Rattle.std.proofs.Common.{List, refl, sym, subst, arith}
 use Rattle.mld_ops.specs.Entry.{EntryValue}
-use Rattle.mld_ops.specs.PickingLaws.{first_is}
+use Rattle.mld_ops.proofs.PickingLaws.{first_is}
 use Rattle.mld_ops.specs.Ready.{IsKnownEntry, IsReadyEntry}
 use Rattle.clone_core.specs.Plans.{PlansReleases}
 use Rattle.clone_core.proofs.Planning.{releasing_more, releasing_all, drops_shorter, first_shorter}

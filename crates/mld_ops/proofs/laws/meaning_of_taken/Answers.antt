@@ -1,4 +1,4 @@
-use Rattle.mld_ops.specs.MeaningLaws as laws
+use Rattle.mld_ops.proofs.MeaningLaws as laws
 use Rattle.mld_ops.proofs.laws.meaning_of_taken.Goals as goal
 
 pub returns-clause-unknown : goal.returns-clause-unknown

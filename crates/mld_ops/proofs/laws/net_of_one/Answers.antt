@@ -1,4 +1,4 @@
-use Rattle.mld_ops.specs.NetLaws as laws
+use Rattle.mld_ops.proofs.NetLaws as laws
 use Rattle.mld_ops.proofs.laws.net_of_one.Goals as goal
 
 pub returns-clause-one : goal.returns-clause-one

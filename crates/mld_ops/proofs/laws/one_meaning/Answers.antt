@@ -1,4 +1,4 @@
-use Rattle.mld_ops.specs.MeaningLaws as laws
+use Rattle.mld_ops.proofs.MeaningLaws as laws
 use Rattle.mld_ops.proofs.laws.one_meaning.Goals as goal
 
 pub returns-clause-one : goal.returns-clause-one

@@ -3,7 +3,7 @@ use Rattle.std.proofs.lemmas.Fn.{always_returns_same, dedup_same}
 use Rattle.std.proofs.lemmas.List.Sorted.{ranks_by}
 use Rattle.std.specs.Ordering.{is_lt}
 use Rattle.rdf_terms.specs.Order.{iri_cmp}
-use Rattle.mld_ops.specs.PropertiesLaws.{iri_total}
+use Rattle.mld_ops.proofs.PropertiesLaws.{iri_total}
 use Rattle.mld_ops.proofs.Keeping.{is_same_iri, keeps_sorted}
 use Rattle.mld_ops.proofs.properties.kept_properties.Goals as goal
 

@@ -1,5 +1,5 @@
 use Rattle.std.proofs.Common.{◌≡◌, ◌-◌, ◌≤◌, IsTrue}
-use Rattle.mld_replay.specs.Limits.{line_limit, input_limit}
+use Rattle.mld_replay.specs.TooLarge.{line_limit, input_limit}
 use Rattle.mld_replay.specs.UnderWay.{IsUnderWay, KnowsEnd}
 use Rattle.mld_replay.proofs.run.replay.Given as goal
 

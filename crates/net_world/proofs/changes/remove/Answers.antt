@@ -2,7 +2,7 @@ use Rattle.std.proofs.Common.{arith, ap, map, rules, set, ℕ}
 use Rattle.std.proofs.lemmas.Result.{IfOk-weaker}
 use Rattle.mld_ops.specs.Messages.{message_value}
 use Rattle.mld_model.specs.declared.CloneState.TheVariants as states
-use Rattle.net_world.specs.Parts.{running_of}
+use Rattle.net_world.specs.WorldParts.{running_of}
 use Rattle.net_world.specs.Replies.{reply_value}
 use Rattle.net_world.proofs.ChangeLemmas.{removed, not_removed}
 use Rattle.net_world.proofs.WorldLemmas.{has_next_tick, missing_reply, read_back, state_read}

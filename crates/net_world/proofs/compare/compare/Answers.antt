@@ -1,7 +1,7 @@
 use Rattle.std.proofs.Common.{List, subst}
 use Rattle.mld_model.specs.StandsFor.{RunningClone}
 use Rattle.mld_model.specs.declared.CloneState.TheVariants as states
-use Rattle.net_world.specs.Parts.{running_of}
+use Rattle.net_world.specs.WorldParts.{running_of}
 use Rattle.net_world.specs.Replies.{reply_value}
 use Rattle.net_world.specs.States.{HasState, IsMissingAt}
 use Rattle.net_world.proofs.LookLemmas.{weighed, first_missing, second_missing}

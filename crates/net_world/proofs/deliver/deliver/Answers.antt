@@ -5,7 +5,7 @@ use Rattle.mld_ops.specs.declared.messages.Message.{Message}
 use Rattle.net_world.specs.declared.deliver.Received.{Received}
 use Rattle.net_world.specs.declared.deliver.Received.TheVariants as received
 use Rattle.net_world.specs.Delivering.{nth_message, ReceivesAt}
-use Rattle.net_world.specs.Parts.{running_of}
+use Rattle.net_world.specs.WorldParts.{running_of}
 use Rattle.net_world.proofs.DeliverLemmas.{value_at, no_value_at, is_fit, answered, no_message}
 use Rattle.net_world.proofs.deliver.deliver.Goals as goal
 

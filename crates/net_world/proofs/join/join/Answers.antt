@@ -3,7 +3,7 @@ use Rattle.std.proofs.lemmas.Result.{IfOk-weaker}
 use Rattle.mld_ops.specs.Messages.{message_value}
 use Rattle.mld_model.specs.declared.CloneState.TheVariants as states
 use Rattle.net_world.specs.Asking.{AsksFirst}
-use Rattle.net_world.specs.Parts.{running_of}
+use Rattle.net_world.specs.WorldParts.{running_of}
 use Rattle.net_world.specs.Replies.{reply_value}
 use Rattle.net_world.proofs.JoinLemmas.{asks_again, asks_first, settled}
 use Rattle.net_world.proofs.WorldLemmas.{state_read}

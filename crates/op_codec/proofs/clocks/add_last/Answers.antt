@@ -1,7 +1,7 @@
 use Rattle.std.proofs.Common.{◌≡◌, ℕ, List, [], ◌∷◌, ◌++◌, true, ap, ◌∙◌}
 use Rattle.tree_clock.specs.Path.{path_cmp}
 use Rattle.op_codec.specs.Clocks.{last_path}
-use Rattle.op_codec.specs.Lists.{is_above_one}
+use Rattle.op_codec.specs.StoredLists.{is_above_one}
 use Rattle.op_codec.proofs.ClockReading.{raised_last}
 use Rattle.op_codec.proofs.clocks.add_last.Goals as goal
 

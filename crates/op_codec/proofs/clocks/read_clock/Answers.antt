@@ -2,7 +2,7 @@ use Rattle.std.proofs.Common.{drop, arith}
 use Rattle.std.proofs.lemmas.Result.{err_from_is_err_and}
 use Rattle.tree_clock.specs.Clock.{entry_cmp}
 use Rattle.op_codec.specs.Clocks.{read_ticks, clock_bytes, read_clock}
-use Rattle.op_codec.specs.Lists.{is_above, read_list}
+use Rattle.op_codec.specs.StoredLists.{is_above, read_list}
 use Rattle.op_codec.specs.Reading.{read_u32}
 use Rattle.op_codec.proofs.ListLaws.{under_way_missed, under_way_done, refused_later}
 use Rattle.op_codec.specs.Stored.{IsStoredClock}

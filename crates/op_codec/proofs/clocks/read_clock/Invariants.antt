@@ -2,7 +2,7 @@ use Rattle.std.proofs.Common.{◌≡◌, drop}
 use Rattle.tree_clock.specs.Clock.{entry_cmp}
 use Rattle.op_codec.proofs.ListLaws.{IsUnderWay}
 use Rattle.op_codec.specs.Clocks.{read_ticks, last_path}
-use Rattle.op_codec.specs.Lists.{is_above, read_list}
+use Rattle.op_codec.specs.StoredLists.{is_above, read_list}
 use Rattle.op_codec.proofs.clocks.read_clock.Given as goal
 
 abbrev pub invariant-loop-done : goal.invariant-loop-done

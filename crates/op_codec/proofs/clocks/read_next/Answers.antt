@@ -2,7 +2,7 @@ use Rattle.std.proofs.Common.{◌≡◌, ap, sym, ◌∙◌, true, false}
 use Rattle.std.proofs.lemmas.Result.{err_from_is_err_and}
 use Rattle.tree_clock.specs.Path.{path_cmp}
 use Rattle.op_codec.specs.Clocks.{last_path}
-use Rattle.op_codec.specs.Lists.{is_above_one}
+use Rattle.op_codec.specs.StoredLists.{is_above_one}
 use Rattle.op_codec.proofs.ClockReading.{ticks_taken, ticks_unfit, ticks_refused, last_path_push}
 use Rattle.op_codec.proofs.clocks.read_next.Goals as goal
 

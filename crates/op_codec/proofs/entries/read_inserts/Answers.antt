@@ -2,7 +2,7 @@ use Rattle.std.proofs.Common.{drop}
 use Rattle.std.proofs.lemmas.Result.{err_from_is_err_and}
 use Rattle.mld_ops.specs.Tagged.{insert_cmp}
 use Rattle.op_codec.specs.Entries.{read_insert, read_inserts}
-use Rattle.op_codec.specs.Lists.{is_above, read_list}
+use Rattle.op_codec.specs.StoredLists.{is_above, read_list}
 use Rattle.op_codec.specs.Reading.{read_u32}
 use Rattle.op_codec.proofs.ListLaws.{list_begins, under_way_more, under_way_missed, under_way_done, refused_later}
 use Rattle.op_codec.proofs.entries.read_inserts.Goals as goal

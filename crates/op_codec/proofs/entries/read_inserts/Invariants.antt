@@ -2,7 +2,7 @@ use Rattle.std.proofs.Common.{drop}
 use Rattle.op_codec.proofs.ListLaws.{IsUnderWay}
 use Rattle.mld_ops.specs.Tagged.{insert_cmp}
 use Rattle.op_codec.specs.Entries.{read_insert}
-use Rattle.op_codec.specs.Lists.{is_above, read_list}
+use Rattle.op_codec.specs.StoredLists.{is_above, read_list}
 use Rattle.op_codec.proofs.entries.read_inserts.Given as goal
 
 abbrev pub invariant-loop-done : goal.invariant-loop-done

@@ -3,7 +3,7 @@ use Rattle.std.proofs.lemmas.Result.{err_from_is_err_and}
 use Rattle.mld_ops.specs.Tagged.{insert_cmp}
 use Rattle.rdf_terms.specs.declared.terms.Triple.{Triple}
 use Rattle.op_codec.specs.Entries.{read_insert}
-use Rattle.op_codec.specs.Lists.{is_above}
+use Rattle.op_codec.specs.StoredLists.{is_above}
 use Rattle.op_codec.proofs.ListLaws.{item_taken, item_unfit, item_refused}
 use Rattle.op_codec.proofs.entries.read_next.Goals as goal
 

@@ -1,5 +1,5 @@
 use Rattle.std.proofs.Common.{None}
-use Rattle.op_codec.specs.Pairs.{pairs_bytes, read_pairs}
+use Rattle.op_codec.specs.PairBytes.{pairs_bytes, read_pairs}
 use Rattle.op_codec.specs.Stored.{ArePairs}
 use Rattle.op_codec.proofs.EntryTrips.{tagged_back, tagged_one}
 use Rattle.op_codec.proofs.Sequences.{refuses_rightly}

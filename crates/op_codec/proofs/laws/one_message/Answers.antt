@@ -1,4 +1,4 @@
-use Rattle.op_codec.specs.Messages.{message_bytes, read_message}
+use Rattle.op_codec.specs.MessageBytes.{message_bytes, read_message}
 use Rattle.op_codec.specs.Stored.{IsMessage}
 use Rattle.op_codec.proofs.MessageTrips.{message_back, message_one, good_message}
 use Rattle.op_codec.proofs.Sequences.{refuses_rightly}

@@ -1,7 +1,7 @@
 use Rattle.std.proofs.Common.{ℕ, MatchResult, sym, ap, subst, arith}
 use Rattle.mld_ops.specs.Messages.{MessageValue, message_value}
 use Rattle.op_codec.specs.Agreement.{IsRead, IsRefused}
-use Rattle.op_codec.specs.Messages.{message_bytes, read_carried, read_message}
+use Rattle.op_codec.specs.MessageBytes.{message_bytes, read_carried, read_message}
 use Rattle.op_codec.specs.Reading.{Reading, chain}
 use Rattle.op_codec.specs.Stored.{IsMessage}
 use Rattle.op_codec.proofs.MessageTrips.{message_one}

@@ -1,6 +1,6 @@
 use Rattle.op_codec.specs.Stored.{HasPairShape}
 use Rattle.op_codec.proofs.Shapes.{each_none, each_more, each_all}
-use Rattle.op_codec.specs.Pairs.{pair_bytes, pairs_bytes}
+use Rattle.op_codec.specs.PairBytes.{pair_bytes, pairs_bytes}
 use Rattle.op_codec.proofs.Appending.{count_appended, item_appended, all_appended, items_kept, at_err}
 use Rattle.op_codec.proofs.pairs.append_pairs.Goals as goal
 

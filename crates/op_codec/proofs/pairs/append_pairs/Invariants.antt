@@ -1,6 +1,6 @@
 use Rattle.op_codec.specs.Stored.{HasPairShape}
 use Rattle.op_codec.proofs.Shapes.{EachBelow}
-use Rattle.op_codec.specs.Pairs.{pair_bytes}
+use Rattle.op_codec.specs.PairBytes.{pair_bytes}
 use Rattle.op_codec.proofs.Appending.{HasItems}
 use Rattle.op_codec.proofs.pairs.append_pairs.Given as goal
 

@@ -1,7 +1,7 @@
 use Rattle.std.proofs.Common.{List, sym, ap, ◌∙◌}
 use Rattle.std.proofs.lemmas.Result.{err_from_is_err_and}
 use Rattle.mld_ops.specs.declared.tagged.Tagged.{Tagged}
-use Rattle.op_codec.specs.Pairs.{cover_of, fits_pairs, read_pair}
+use Rattle.op_codec.specs.PairBytes.{cover_of, fits_pairs, read_pair}
 use Rattle.op_codec.proofs.ListLaws.{item_taken, item_unfit, item_refused}
 use Rattle.op_codec.proofs.pairs.read_next.Goals as goal
 

@@ -1,7 +1,7 @@
 use Rattle.std.proofs.Common.{drop}
 use Rattle.std.proofs.lemmas.Result.{err_from_is_err_and}
-use Rattle.op_codec.specs.Lists.{read_list}
-use Rattle.op_codec.specs.Pairs.{cover_of, fits_pairs, read_pair, read_pairs}
+use Rattle.op_codec.specs.StoredLists.{read_list}
+use Rattle.op_codec.specs.PairBytes.{cover_of, fits_pairs, read_pair, read_pairs}
 use Rattle.op_codec.specs.Reading.{read_u32}
 use Rattle.op_codec.proofs.ListLaws.{list_begins, under_way_more, under_way_missed, under_way_done, refused_later}
 use Rattle.op_codec.proofs.pairs.read_pairs.Goals as goal

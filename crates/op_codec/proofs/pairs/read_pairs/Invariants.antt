@@ -1,7 +1,7 @@
 use Rattle.std.proofs.Common.{drop}
 use Rattle.op_codec.proofs.ListLaws.{IsUnderWay}
-use Rattle.op_codec.specs.Lists.{read_list}
-use Rattle.op_codec.specs.Pairs.{cover_of, fits_pairs, read_pair}
+use Rattle.op_codec.specs.StoredLists.{read_list}
+use Rattle.op_codec.specs.PairBytes.{cover_of, fits_pairs, read_pair}
 use Rattle.op_codec.proofs.pairs.read_pairs.Given as goal
 
 abbrev pub invariant-loop-done : goal.invariant-loop-done

@@ -1,5 +1,5 @@
 use Rattle.std.proofs.Common.{None, arith}
-use Rattle.op_codec.specs.Pairs.{pairs_bytes, read_pairs}
+use Rattle.op_codec.specs.PairBytes.{pairs_bytes, read_pairs}
 use Rattle.op_codec.specs.Stored.{ArePairs}
 use Rattle.op_codec.proofs.EntryTrips.{tagged_one}
 use Rattle.op_codec.proofs.ReadWritten.{written_if_ok}

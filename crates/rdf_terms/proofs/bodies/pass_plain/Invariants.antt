@@ -1,5 +1,5 @@
 use Rattle.std.proofs.Common.{ℕ, List, length, ◌≤◌, ◌-◌, ◌++◌, take, drop}
-use Rattle.rdf_terms.specs.Reading.{Slot, Within, Between, Leads}
+use Rattle.rdf_terms.specs.TripleReading.{Slot, Within, Between, Leads}
 use Rattle.rdf_terms.proofs.bodies.pass_plain.Given as goal
 
 -- what was passed leads to here

@@ -1,7 +1,7 @@
 use Rattle.std.proofs.Common.{length, ◌≤◌, ◌-◌}
 use Rattle.std.specs.Str.{IsCharBoundary}
 use Rattle.std.specs.String.{string_bytes}
-use Rattle.rdf_terms.specs.Reading.{Slot, Within, Between, Leads}
+use Rattle.rdf_terms.specs.TripleReading.{Slot, Within, Between, Leads}
 use Rattle.rdf_terms.proofs.bodies.read_pieces.Given as goal
 
 -- what was read leads to here, and the text may be cut here

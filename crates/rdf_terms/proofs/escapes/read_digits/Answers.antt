@@ -1,6 +1,6 @@
 use Rattle.std.proofs.Common.{◌≡◌, ℕ, List, suc, ◌+◌, ◌-◌, ◌*◌, ◌<◌, ◌≤◌, length, refl, sym, subst, ◌∙◌, arith}
 use Rattle.rdf_terms.specs.declared.faults.TripleFault.TheVariants.{NotTriple}
-use Rattle.rdf_terms.specs.Reading.{Slot, Within, Digits, Leads}
+use Rattle.rdf_terms.specs.TripleReading.{Slot, Within, Digits, Leads}
 use Rattle.rdf_terms.proofs.EscapeLemmas.{none_stops, more_stops, more_leads, stops_within, ends_within}
 use Rattle.rdf_terms.proofs.escapes.read_digits.Goals as goal
 

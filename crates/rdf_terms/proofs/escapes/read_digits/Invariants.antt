@@ -1,5 +1,5 @@
 use Rattle.std.proofs.Common.{ℕ, List, length, ◌≤◌, ◌<◌}
-use Rattle.rdf_terms.specs.Reading.{Slot, Within, Digits, Leads}
+use Rattle.rdf_terms.specs.TripleReading.{Slot, Within, Digits, Leads}
 use Rattle.rdf_terms.proofs.escapes.read_digits.Given as goal
 
 -- what was read leads to here, with a code that is not above U+10FFFF

@@ -1,7 +1,7 @@
 use Rattle.std.proofs.Common.{◌∙◌}
 use Rattle.std.proofs.lemmas.Result.{err_from_is_err_and}
 use Rattle.rdf_terms.specs.Parts.{object_value}
-use Rattle.rdf_terms.specs.Reading.{Subject, Predicate, Object, Before, Closed, Leads}
+use Rattle.rdf_terms.specs.TripleReading.{Subject, Predicate, Object, Before, Closed, Leads}
 use Rattle.rdf_terms.proofs.ReadLemmas.{subject_needs, predicate_needs, subject_skips, predicate_skips, object_skips}
 use Rattle.rdf_terms.proofs.Stops.{stops_later}
 use Rattle.rdf_terms.proofs.read.read_parts.Goals as goal

@@ -2,8 +2,8 @@ use Rattle.std.proofs.Common.{◌+◌, List, ℕ, [], false, subst, sym, arith}
 use Rattle.rdf_terms.specs.declared.terms.Term.TheVariants as terms
 use Rattle.rdf_terms.specs.Literal.{Typed, xsd_string}
 use Rattle.rdf_terms.specs.Parts.{object_value}
-use Rattle.rdf_terms.specs.Reading.{Quoted, Tag, Hat}
-use Rattle.rdf_terms.specs.Reads.{IsObject}
+use Rattle.rdf_terms.specs.TripleReading.{Quoted, Tag, Hat}
+use Rattle.rdf_terms.specs.TripleReads.{IsObject}
 use Rattle.rdf_terms.proofs.ReadLemmas.{object_ends, at_leads, hat_leads, quoted_other, boundary_behind_byte}
 use Rattle.rdf_terms.proofs.read.read_suffix.Goals as goal
 

@@ -1,6 +1,6 @@
 use Rattle.std.proofs.Common.{length, ◌≤◌}
-use Rattle.rdf_terms.specs.Reading.{State, Leads}
-use Rattle.rdf_terms.specs.Reads.{SkipsBlanks}
+use Rattle.rdf_terms.specs.TripleReading.{State, Leads}
+use Rattle.rdf_terms.specs.TripleReads.{SkipsBlanks}
 use Rattle.rdf_terms.proofs.read.skip_blanks.Given as goal
 
 -- the blanks that were passed change nothing

@@ -3,7 +3,7 @@ use Rattle.std.proofs.lemmas.Bool.{true≢false}
 use Rattle.std.specs.List.{remove}
 use Rattle.mld_ops.specs.Entry.{EntryValue}
 use Rattle.mld_ops.specs.Picking.{HasNone, TakesFirst}
-use Rattle.mld_ops.specs.PickingLaws.{none_no_first}
+use Rattle.mld_ops.proofs.PickingLaws.{none_no_first}
 use Rattle.mld_ops.specs.Ready.{IsReadyEntry}
 use Rattle.causal_buffer.proofs.Places.{none_within, takes_at}
 use Rattle.causal_buffer.proofs.held.Held.take_ready.Goals as goal

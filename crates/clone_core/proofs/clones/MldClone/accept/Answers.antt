@@ -5,19 +5,19 @@ use Rattle.mld_ops.specs.Tagged.{tagged_cmp}
 use Rattle.mld_ops.specs.Entry.{EntryValue}
 use Rattle.mld_ops.specs.Ready.{IsReadyEntry}
 use Rattle.mld_model.specs.Local.{CloneValue, LocallyAccepts}
-use Rattle.clone_core.specs.LocalLaws.{local_ascends}
+use Rattle.clone_core.proofs.MakingLaws.{local_ascends}
 use Rattle.clone_core.specs.Plans.{entries_of, StepsCut}
-use Rattle.clone_core.specs.View.{clone_of}
+use Rattle.clone_core.specs.View.{local_of}
 use Rattle.clone_core.proofs.Taking.{planned, planned_local, planned_accepts}
 use Rattle.clone_core.proofs.clones.MldClone.accept.Goals as goal
 
 pub take_steps-requires-clause-ascending : goal.take_steps-requires-clause-ascending
 take_steps-requires-clause-ascending c =
-    subst (λ (ps : List Tagged). IsAscending tagged_cmp ps) (sym c.grow.ensures.pairs) (local_ascends (clone_of c.self.inside) c.self.invariant)
+    subst (λ (ps : List Tagged). IsAscending tagged_cmp ps) (sym c.grow.ensures.pairs) (local_ascends (local_of c.self.inside) c.self.invariant)
 
 pub invariant_of-self-2 : goal.invariant_of-self-2
 invariant_of-self-2 c =
-    let old = clone_of c.self.inside in
+    let old = local_of c.self.inside in
     let plan = c.in_ok-clock.field-0 in
     let steps = plan.steps.items in
     let pairs = c.take_steps.new.pairs.items in
@@ -27,7 +27,7 @@ invariant_of-self-2 c =
 
 pub returns-clause-ok : goal.returns-clause-ok
 returns-clause-ok c =
-    let old = clone_of c.self.inside in
+    let old = local_of c.self.inside in
     let plan = c.in_ok-clock.field-0 in
     let steps = plan.steps.items in
     let pairs = c.take_steps.new.pairs.items in

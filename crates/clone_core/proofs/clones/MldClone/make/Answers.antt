@@ -5,21 +5,21 @@ use Rattle.mld_ops.specs.declared.tagged.Tagged.{Tagged}
 use Rattle.mld_ops.specs.Tagged.{tagged_cmp}
 use Rattle.mld_ops.specs.Entry.{EntryValue}
 use Rattle.mld_model.specs.Local.{CloneValue}
-use Rattle.clone_core.specs.LocalLaws.{local_ascends}
+use Rattle.clone_core.proofs.MakingLaws.{local_ascends}
 use Rattle.clone_core.specs.Making.{IsNextEntry}
 use Rattle.clone_core.specs.Plans.{entries_of, StepsCut}
-use Rattle.clone_core.specs.Steps.{StepValue}
-use Rattle.clone_core.specs.View.{clone_of}
+use Rattle.clone_core.specs.CloneSteps.{StepValue}
+use Rattle.clone_core.specs.View.{local_of}
 use Rattle.clone_core.proofs.OwnEntries.{made_local}
 use Rattle.clone_core.proofs.clones.MldClone.make.Goals as goal
 
 pub take_steps-requires-clause-ascending : goal.take_steps-requires-clause-ascending
 take_steps-requires-clause-ascending c =
-    subst (λ (ps : List Tagged). IsAscending tagged_cmp ps) (sym c.grow.ensures.pairs) (local_ascends (clone_of c.self.inside) c.self.invariant)
+    subst (λ (ps : List Tagged). IsAscending tagged_cmp ps) (sym c.grow.ensures.pairs) (local_ascends (local_of c.self.inside) c.self.invariant)
 
 pub invariant_of-self-2 : goal.invariant_of-self-2
 invariant_of-self-2 c =
-    let old = clone_of c.self.inside in
+    let old = local_of c.self.inside in
     let dot = c.args.dot.now in
     let step = c.in_ok-step.step in
     let steps = c.push_back.new.self.items in

@@ -2,7 +2,7 @@ use Rattle.std.proofs.Common.{◌↔◌, subst}
 use Rattle.tree_clock.specs.declared.dots.Range.{Range}
 use Rattle.tree_clock.specs.Lists.{Has}
 use Rattle.mld_ops.specs.declared.tagged.Tagged.{Tagged}
-use Rattle.clone_core.specs.Pairs.{IsInsertedWithin}
+use Rattle.clone_core.specs.PairLists.{IsInsertedWithin}
 use Rattle.clone_core.proofs.Cutting.{noted}
 use Rattle.clone_core.proofs.steps.Step.new.Goals as goal
 

@@ -1,6 +1,6 @@
 -- What reads give is what the log makes.
 use Rattle.std.proofs.Common.{refl, ◌∙◌, ap}
-use Rattle.disk_model.specs.Memory.{BanksValue, read_of}
+use Rattle.disk_model.specs.BankSteps.{BanksValue, read_of}
 use Rattle.disk_model.proofs.Logs.{read_by_log}
 use Rattle.disk_model.proofs.banks.MemoryBanks.bytes.Goals as goal
 

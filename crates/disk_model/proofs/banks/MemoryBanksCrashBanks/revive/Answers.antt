@@ -1,7 +1,7 @@
 -- A revival leaves what this way to crash leaves, which is one of the pairs that a crash may leave.
 use Rattle.std.proofs.Common.{Some, ap, ◌∙◌}
-use Rattle.disk_model.specs.Memory.{BanksValue, memory_log}
-use Rattle.disk_model.specs.Steps.{left_by}
+use Rattle.disk_model.specs.BankSteps.{BanksValue, memory_log}
+use Rattle.disk_model.specs.SideSteps.{left_by}
 use Rattle.disk_model.proofs.Logs.{cut_revives, cut_leaves}
 use Rattle.disk_model.proofs.banks.MemoryBanksCrashBanks.revive.Goals as goal
 

@@ -4,7 +4,7 @@ use Rattle.std.proofs.lemmas.List.{length-take-le}
 use Rattle.mld_io.specs.Disk.{written}
 use Rattle.mld_io.specs.declared.banks.Leave.TheVariants.{Lose, Keep, Torn}
 use Rattle.disk_model.specs.Sides.{SideValue}
-use Rattle.disk_model.specs.Steps.{torn_piece}
+use Rattle.disk_model.specs.SideSteps.{torn_piece}
 use Rattle.disk_model.specs.Pieces.{length-torn_piece}
 use Rattle.disk_model.proofs.Copies.{agrees_before, grown_keeps, grown_length, written_keeps, grown_written}
 use Rattle.disk_model.proofs.sides.SideBytes.write.Goals as goal

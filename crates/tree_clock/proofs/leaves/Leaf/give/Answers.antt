@@ -1,6 +1,6 @@
 use Rattle.std.proofs.Common.{◌∙◌, sym, subst}
 use Rattle.tree_clock.specs.Path.{AreApart, zero_letter, one_letter}
-use Rattle.tree_clock.specs.PathLaws.{apart_from_son}
+use Rattle.tree_clock.proofs.PathLaws.{apart_from_son}
 use Rattle.tree_clock.proofs.leaves.Leaf.give.Goals as goal
 
 pub returns-clause-keeps_apart : goal.returns-clause-keeps_apart

@@ -52,14 +52,14 @@ one_operation (o ∷ history) a b l (inr h) (inl y) e = absurd (l.0.fresh a h (e
 one_operation (o ∷ history) a b l (inr h) (inr k) e = one_operation history a b l.1 h k e
 
 -- what stands before an operation of a lawful history
-pub record Before (history : List Operation) (operation : Operation) : Type 0 where
+pub record StandsBefore (history : List Operation) (operation : Operation) : Type 0 where
   pub earlier : List Operation
   pub next : IsNext earlier operation
   pub lawful : IsLawful earlier
   pub stand : (other : Operation) → Has earlier other → Has history other
 
 -- each operation of a lawful history came next once
-pub before : (history : List Operation) (operation : Operation) → IsLawful history → Has history operation → Before history operation
+pub before : (history : List Operation) (operation : Operation) → IsLawful history → Has history operation → StandsBefore history operation
 before [] operation l h = absurd h
 before (o ∷ history) operation l (inl e) = record { earlier = history; next = subst (λ w. IsNext history w) e l.0; lawful = l.1; stand = λ other k. inr k }
 before (o ∷ history) operation l (inr h) =

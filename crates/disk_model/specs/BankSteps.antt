@@ -8,8 +8,8 @@ use Rattle.mld_io.specs.declared.faults.IoFault.TheVariants as io
 use Rattle.mld_io.specs.Arm.{Armed}
 use Rattle.mld_io.specs.Disk.{Log, bytes_of}
 use Rattle.disk_model.specs.declared.steps.Step.TheVariants as step
-use Rattle.disk_model.specs.Calls.{CallsValue, IsRefused, RefusesCall, CatchesCall, counted_call, lowered_call}
-use Rattle.disk_model.specs.Steps.{left_by, log_of}
+use Rattle.disk_model.specs.CountedCalls.{CallsValue, IsRefusedNext, RefusesCall, CatchesCall, counted_call, lowered_call}
+use Rattle.disk_model.specs.SideSteps.{left_by, log_of}
 use Rattle.disk_model.specs.Store.{StoreValue, with_step, synced}
 
 -- what it keeps, which of its calls fail, and what the next crash leaves of its unsynced writes
@@ -33,15 +33,15 @@ pub record IsRefusal (old now : BanksValue) : Type 0 where
   pub leave_is : now.leave ≡ old.leave
 
 -- a call read
-pub record IsRead (old now : BanksValue) : Type 0 where
-  pub allowed : ¬ IsRefused old.calls
+pub record WasRead (old now : BanksValue) : Type 0 where
+  pub allowed : ¬ IsRefusedNext old.calls
   pub calls_are : now.calls ≡ counted_call old.calls
   pub store_is : now.store ≡ old.store
   pub leave_is : now.leave ≡ old.leave
 
 -- a call did what makes this of the store, and lowered the arm
-pub record IsDone (store : StoreValue) (old now : BanksValue) : Type 0 where
-  pub allowed : ¬ IsRefused old.calls
+pub record WasDone (store : StoreValue) (old now : BanksValue) : Type 0 where
+  pub allowed : ¬ IsRefusedNext old.calls
   pub not_caught : old.calls.meter.arm ≢ Armed 0
   pub calls_are : now.calls ≡ lowered_call old.calls
   pub store_is : now.store ≡ store
@@ -49,25 +49,25 @@ pub record IsDone (store : StoreValue) (old now : BanksValue) : Type 0 where
 
 -- a call was caught, which made this of the store
 pub record IsCaught (store : StoreValue) (old now : BanksValue) : Type 0 where
-  pub allowed : ¬ IsRefused old.calls
+  pub allowed : ¬ IsRefusedNext old.calls
   pub calls : CatchesCall old.calls now.calls
   pub store_is : now.store ≡ store
   pub leave_is : now.leave ≡ old.leave
 
 -- what a call leaves that reads
 abbrev pub ReadMoves : {T : Type 0} → BanksValue → Result T IoFault → BanksValue → Type 0
-ReadMoves old (Ok answer) now = IsRead old now
+ReadMoves old (Ok answer) now = WasRead old now
 ReadMoves old (Err io.Failed) now = IsRefusal old now
 ReadMoves old (Err io.NoMemory) now = ⊥
 
 -- What a write leaves. One that is caught counts as issued, and isn't synced: the next crash may keep it, lose it or tear it.
 abbrev pub WriteMoves : Side → ℕ → List ℕ → BanksValue → Result ⊤ IoFault → BanksValue → Type 0
-WriteMoves side at piece old (Ok done) now = IsDone (with_step (step.Wrote side at piece) old.store) old now
+WriteMoves side at piece old (Ok done) now = WasDone (with_step (step.Wrote side at piece) old.store) old now
 WriteMoves side at piece old (Err io.Failed) now = IsRefusal old now ⊎ IsCaught (with_step (step.Wrote side at piece) old.store) old now
-WriteMoves side at piece old (Err io.NoMemory) now = (¬ IsRefused old.calls) × (now ≡ old)
+WriteMoves side at piece old (Err io.NoMemory) now = (¬ IsRefusedNext old.calls) × (now ≡ old)
 
 -- what a sync leaves; one that is caught does nothing
 abbrev pub SyncMoves : Side → BanksValue → Result ⊤ IoFault → BanksValue → Type 0
-SyncMoves side old (Ok done) now = IsDone (synced side old.store) old now
+SyncMoves side old (Ok done) now = WasDone (synced side old.store) old now
 SyncMoves side old (Err io.Failed) now = IsRefusal old now ⊎ IsCaught old.store old now
 SyncMoves side old (Err io.NoMemory) now = ⊥

@@ -5,7 +5,7 @@ use Rattle.mld_ops.specs.declared.tagged.Tagged.{Tagged}
 use Rattle.tree_clock.specs.Clock.{ticks_of}
 use Rattle.tree_clock.specs.declared.dots.Dot.{Dot}
 use Rattle.op_codec.specs.Clocks.{dot_bytes, read_dot}
-use Rattle.op_codec.specs.Lists.{list_bytes, is_above, read_list}
+use Rattle.op_codec.specs.StoredLists.{list_bytes, is_above, read_list}
 use Rattle.op_codec.specs.Reading.{Reading, Found, chain}
 use Rattle.op_codec.specs.Triples.{stored_triple, read_stored}
 

@@ -12,7 +12,7 @@ use Rattle.rdf_terms.specs.Escapes.{is_hexadecimal}
 use Rattle.rdf_terms.specs.Grammar.{is_blank}
 use Rattle.rdf_terms.specs.Literal.{Tagged, is_language_tag}
 use Rattle.rdf_terms.specs.Marks.{less, backslash}
-use Rattle.rdf_terms.specs.Reading.{Slot, LexicalForm, Part, Between, State, Before, Within, Tag, Closed, Spelled, after_plain, closes, closed, with_letter, step, step_before, run, run_from, Leads, StopsAt}
+use Rattle.rdf_terms.specs.TripleReading.{Slot, LexicalForm, Part, Between, State, Before, Within, Tag, Closed, Spelled, after_plain, closes, closed, with_letter, step, step_before, run, run_from, Leads, StopsAt}
 
 -- a byte stands at a place of a text
 pub record HasByte (text : List ℕ) (place byte : ℕ) : Type 0 where

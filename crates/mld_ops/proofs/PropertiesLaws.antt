@@ -8,7 +8,7 @@ use Rattle.rdf_terms.specs.Order.{iri_cmp}
 use Rattle.rdf_terms.specs.OrderLaws.{iri_text_injective}
 use Rattle.rdf_terms.specs.Spelling.{iri_text}
 use Rattle.tree_clock.specs.Lists.{IsAscending}
-use Rattle.mld_ops.specs.AscendingLaws.{same_ascending}
+use Rattle.mld_ops.proofs.AscendingLaws.{same_ascending}
 use Rattle.mld_ops.specs.Properties.{AreKept}
 
 -- the order of IRIs is total

@@ -10,7 +10,7 @@ abbrev pub IsHeldRange : List EntryValue → Range → Type 0
 IsHeldRange held range = Has (ranges_of held) range
 
 -- no entry has this range, and as many are held as may be
-pub record IsFullFor (held : List EntryValue) (range : Range) : Type 0 where
+pub record HasNoRoomFor (held : List EntryValue) (range : Range) : Type 0 where
   pub unheld : ¬ IsHeldRange held range
   pub full : length held ≡ held_limit
 

@@ -3,7 +3,7 @@ use Rattle.std.specs.Prelude.{ℕ, ◌==◌, List, ◌∷◌, ◌++◌, Some, if
 use Rattle.mld_ops.specs.Messages.{SnapshotValue, GiveValue, MessageValue, CarriesEntry, CarriesWant, CarriesSnapshot, CarriesAsk, CarriesGive}
 use Rattle.op_codec.specs.Clocks.{clock_bytes, read_clock}
 use Rattle.op_codec.specs.Entries.{entry_bytes, read_entry}
-use Rattle.op_codec.specs.Pairs.{pairs_bytes, read_pairs}
+use Rattle.op_codec.specs.PairBytes.{pairs_bytes, read_pairs}
 use Rattle.op_codec.specs.Paths.{path_bytes, read_path}
 use Rattle.op_codec.specs.Reading.{Reading, Found, Fault, chain, read_u8, read_piece}
 

@@ -21,8 +21,8 @@ pub record CallsValue : Type 0 where
   pub meter : Meter
 
 -- the next call is refused: one was caught, or its number is to fail
-abbrev pub IsRefused : CallsValue → Type 0
-IsRefused calls = (calls.meter.arm ≡ Caught) ⊎ Contains calls.fails calls.next
+abbrev pub IsRefusedNext : CallsValue → Type 0
+IsRefusedNext calls = (calls.meter.arm ≡ Caught) ⊎ Contains calls.fails calls.next
 
 -- the meter once a call was refused: a fault more, and a real one where none was caught
 abbrev pub refused_meter : ℕ → ℕ → Arm → Meter
@@ -40,16 +40,16 @@ refused_call calls = record calls { next = counted calls.next; meter = refused_m
 
 -- the next call was refused, and counted as a fault
 pub record RefusesCall (old now : CallsValue) : Type 0 where
-  pub refused : IsRefused old
+  pub refused : IsRefusedNext old
   pub now_is : now ≡ refused_call old
   pub later : old.meter.faults ≤ now.meter.faults
   pub real_later : old.meter.real_faults ≤ now.meter.real_faults
 
 -- a call was begun, or refused
-abbrev pub Begins : CallsValue → Result ⊤ IoFault → CallsValue → Type 0
-Begins old (Ok done) now = (¬ IsRefused old) × (now ≡ old)
-Begins old (Err io.Failed) now = RefusesCall old now
-Begins old (Err io.NoMemory) now = ⊥
+abbrev pub BeginsCall : CallsValue → Result ⊤ IoFault → CallsValue → Type 0
+BeginsCall old (Ok done) now = (¬ IsRefusedNext old) × (now ≡ old)
+BeginsCall old (Err io.Failed) now = RefusesCall old now
+BeginsCall old (Err io.NoMemory) now = ⊥
 
 -- the arm after one call that writes or syncs
 abbrev pub lowered : Arm → Arm

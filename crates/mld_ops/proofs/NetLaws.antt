@@ -11,7 +11,7 @@ use Rattle.mld_ops.specs.Tagged.{tagged_cmp, insert_cmp}
 use Rattle.mld_ops.specs.Entry.{EntryValue}
 use Rattle.mld_ops.specs.History.{Operation, dot_at, IsLawful}
 use Rattle.mld_ops.specs.Effect.{range_of, IsEffect}
-use Rattle.mld_ops.specs.HistoryLaws.{same_dot, in_range_of, range_of_has, one_operation, deletes_none_own}
+use Rattle.mld_ops.proofs.OperationLaws.{same_dot, in_range_of, range_of_has, one_operation, deletes_none_own}
 use Rattle.mld_ops.specs.Net.{IsNetInsert, IsNetDelete, IsTime, IsNet}
 
 module _ (history : List Operation) (range : Range) (operation : Operation) (outside : ¬ IsIn range operation.dot) where

@@ -1,7 +1,8 @@
 -- Laws of lists of which members are left out or taken out.
 use Rattle.std.proofs.Common.{◌≡◌, List, [], ◌∷◌, ◌++◌, ◌↔◌, inl, inr, refl, sym, ◌∙◌, ap, subst}
 use Rattle.tree_clock.specs.Lists.{Has}
-use Rattle.mld_ops.specs.Picking.{AllPairs, HasNone, DropsThose, TakesFirst}
+use Rattle.mld_ops.specs.Picking.{HasNone, DropsThose, TakesFirst}
+use Rattle.std.specs.List.{AllZip}
 
 module _ {X : Type 0} (P : X → Type 0) where
   -- what is left of a list once a kind is left out is one list
@@ -65,37 +66,37 @@ module _ {X : Type 0} (P : X → Type 0) where
 
 module _ {X Y : Type 0} (R : X → Y → Type 0) (P : X → Type 0) (Q : Y → Type 0) (alike : (x : X) (y : Y) → R x y → P x ↔ Q y) where
   -- none of the first list is of its kind just where none of the second is
-  pub pairs_none : (xs : List X) (ys : List Y) → AllPairs R xs ys → HasNone P xs → HasNone Q ys
+  pub pairs_none : (xs : List X) (ys : List Y) → AllZip R xs ys → HasNone P xs → HasNone Q ys
   pairs_none [] [] a n = tt
   pairs_none (x ∷ xs) (y ∷ ys) a n = (λ q. n.0 ((alike x y a.0).1 q), pairs_none xs ys a.1 n.1)
   pairs_none [] (y ∷ ys) a n = absurd a
   pairs_none (x ∷ xs) [] a n = absurd a
 
   -- what is left of both agrees
-  pub pairs_drop : (xs : List X) (ys : List Y) (rest : List X) → AllPairs R xs ys → DropsThose P xs rest
-      → (others : List Y) × DropsThose Q ys others × AllPairs R rest others
-  pairs_drop [] [] rest a d = ([], refl, subst (λ (zs : List X). AllPairs R zs []) (sym d) tt)
+  pub pairs_drop : (xs : List X) (ys : List Y) (rest : List X) → AllZip R xs ys → DropsThose P xs rest
+      → (others : List Y) × DropsThose Q ys others × AllZip R rest others
+  pairs_drop [] [] rest a d = ([], refl, subst (λ (zs : List X). AllZip R zs []) (sym d) tt)
   pairs_drop (x ∷ xs) (y ∷ ys) rest a (inl d) =
       let more = pairs_drop xs ys rest a.1 d.1 in (more.0, inl ((alike x y a.0).0 d.0, more.1), more.2)
   pairs_drop (x ∷ xs) (y ∷ ys) rest a (inr d) =
       let more = pairs_drop xs ys d.1 a.1 d.2 in (
         y ∷ more.0,
         inr (λ q. d.0 ((alike x y a.0).1 q), more.0, more.1, refl),
-        subst (λ (zs : List X). AllPairs R zs (y ∷ more.0)) (sym d.3) (a.0, more.2),
+        subst (λ (zs : List X). AllZip R zs (y ∷ more.0)) (sym d.3) (a.0, more.2),
       )
   pairs_drop [] (y ∷ ys) rest a d = absurd a
   pairs_drop (x ∷ xs) [] rest a d = absurd a
 
   -- the first ones agree, and what is left of both
-  pub pairs_first : (xs : List X) (ys : List Y) (first : X) (rest : List X) → AllPairs R xs ys → TakesFirst P xs first rest
-      → (other : Y) × (others : List Y) × TakesFirst Q ys other others × R first other × AllPairs R rest others
+  pub pairs_first : (xs : List X) (ys : List Y) (first : X) (rest : List X) → AllZip R xs ys → TakesFirst P xs first rest
+      → (other : Y) × (others : List Y) × TakesFirst Q ys other others × R first other × AllZip R rest others
   pairs_first [] [] first rest a t = absurd t
   pairs_first (x ∷ xs) (y ∷ ys) first rest a (inl t) = (
     y,
     ys,
     inl ((alike x y a.0).0 t.0, refl, refl),
     subst (λ (z : X). R z y) (sym t.1) a.0,
-    subst (λ (zs : List X). AllPairs R zs ys) (sym t.2) a.1,
+    subst (λ (zs : List X). AllZip R zs ys) (sym t.2) a.1,
   )
   pairs_first (x ∷ xs) (y ∷ ys) first rest a (inr t) =
       let more = pairs_first xs ys first t.1 a.1 t.2 in (
@@ -103,22 +104,22 @@ module _ {X Y : Type 0} (R : X → Y → Type 0) (P : X → Type 0) (Q : Y → T
         y ∷ more.1,
         inr (λ q. t.0 ((alike x y a.0).1 q), more.1, more.2, refl),
         more.3,
-        subst (λ (zs : List X). AllPairs R zs (y ∷ more.1)) (sym t.3) (a.0, more.4),
+        subst (λ (zs : List X). AllZip R zs (y ∷ more.1)) (sym t.3) (a.0, more.4),
       )
   pairs_first [] (y ∷ ys) first rest a t = absurd a
   pairs_first (x ∷ xs) [] first rest a t = absurd a
 
 -- two such lists with one more pair at the end
-pub pairs_more : {X Y : Type 0} (R : X → Y → Type 0) (xs : List X) (ys : List Y) (x : X) (y : Y) → AllPairs R xs ys → R x y
-    → AllPairs R (xs ++ x ∷ []) (ys ++ y ∷ [])
+pub pairs_more : {X Y : Type 0} (R : X → Y → Type 0) (xs : List X) (ys : List Y) (x : X) (y : Y) → AllZip R xs ys → R x y
+    → AllZip R (xs ++ x ∷ []) (ys ++ y ∷ [])
 pairs_more R [] [] x y a r = (r, tt)
 pairs_more R (z ∷ xs) (w ∷ ys) x y a r = (a.0, pairs_more R xs ys x y a.1 r)
 pairs_more R [] (w ∷ ys) x y a r = absurd a
 pairs_more R (z ∷ xs) [] x y a r = absurd a
 
 -- two such lists under a relation that follows from the first at each pair of members
-pub pairs_as : {X Y : Type 0} (R S : X → Y → Type 0) (xs : List X) (ys : List Y) → AllPairs R xs ys
-    → ((x : X) (y : Y) → Has ys y → R x y → S x y) → AllPairs S xs ys
+pub pairs_as : {X Y : Type 0} (R S : X → Y → Type 0) (xs : List X) (ys : List Y) → AllZip R xs ys
+    → ((x : X) (y : Y) → Has ys y → R x y → S x y) → AllZip S xs ys
 pairs_as R S [] [] a f = tt
 pairs_as R S (x ∷ xs) (y ∷ ys) a f = (f x y (inl refl) a.0, pairs_as R S xs ys a.1 (λ z w h r. f z w (inr h) r))
 pairs_as R S [] (y ∷ ys) a f = absurd a

@@ -7,11 +7,11 @@ use Rattle.tree_clock.specs.Lists.{Has, IsAscending}
 use Rattle.tree_clock.specs.Dot.{Knows}
 use Rattle.mld_ops.specs.declared.tagged.Tagged.{Tagged}
 use Rattle.mld_ops.specs.Tagged.{tagged_cmp}
-use Rattle.mld_ops.specs.TaggedLaws.{tagged_total, tagged_exact}
-use Rattle.mld_ops.specs.AscendingLaws.{same_ascending}
+use Rattle.mld_ops.proofs.TaggedLaws.{tagged_total, tagged_exact}
+use Rattle.mld_ops.proofs.AscendingLaws.{same_ascending}
 use Rattle.mld_ops.specs.History.{Operation, IsInserted, IsClosed, IsLawful}
 use Rattle.mld_ops.specs.Effect.{range_of, IsAfter}
-use Rattle.mld_ops.specs.HistoryLaws.{knows_taken, one_operation, deletes_causes, deletes_none_own}
+use Rattle.mld_ops.proofs.OperationLaws.{knows_taken, one_operation, deletes_causes, deletes_none_own}
 use Rattle.mld_ops.specs.Meaning.{IsKept, IsMeaning}
 
 -- a history has one meaning for one set of known dots

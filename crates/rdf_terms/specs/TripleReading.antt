@@ -19,17 +19,17 @@ use Rattle.rdf_terms.specs.Marks.{quote, dash, dot, colon, less, greater, at_sig
 -- ---- within a term
 
 -- where the next character stands, behind a character of this code
-abbrev pub after : Spot → ℕ → Option Spot
-after SchemeStart code = if is_letter code then Some Scheme else None
-after Scheme code = if code == colon then Some IriRest else (if is_scheme_byte code then Some Scheme else None)
-after IriRest code = if is_excluded code then None else Some IriRest
-after Lexical code = Some Lexical
+abbrev pub spot_behind : Spot → ℕ → Option Spot
+spot_behind SchemeStart code = if is_letter code then Some Scheme else None
+spot_behind Scheme code = if code == colon then Some IriRest else (if is_scheme_byte code then Some Scheme else None)
+spot_behind IriRest code = if is_excluded code then None else Some IriRest
+spot_behind Lexical code = Some Lexical
 
 -- the same behind a byte that stands for itself
 abbrev pub after_plain : Spot → ℕ → Option Spot
-after_plain SchemeStart byte = after SchemeStart byte
-after_plain Scheme byte = after Scheme byte
-after_plain IriRest byte = after IriRest byte
+after_plain SchemeStart byte = spot_behind SchemeStart byte
+after_plain Scheme byte = spot_behind Scheme byte
+after_plain IriRest byte = spot_behind IriRest byte
 after_plain Lexical byte = if is_plain_byte byte then Some Lexical else None
 
 -- the byte is the mark that closes the term
@@ -99,7 +99,7 @@ within slot value (Some spot) = Some (Within slot spot Between value)
 
 -- behind a digit of an escape, with so many to come
 abbrev pub with_digit : Slot → Spot → List ℕ → ℕ → ℕ → Option State
-with_digit slot spot value zero code = if scalar code then within slot (value ++ encode_utf8 code) (after spot code) else None
+with_digit slot spot value zero code = if scalar code then within slot (value ++ encode_utf8 code) (spot_behind spot code) else None
 with_digit slot spot value (suc digits) code =
     if may_begin spot (suc digits) code then Some (Within slot spot (Digits (suc digits) code) value) else None
 
@@ -163,27 +163,27 @@ step (Ended s p o) byte = if is_blank byte then Some (Ended s p o) else None
 -- ---- whole texts
 
 -- how reading ends: with a triple, or with so many bytes left
-pub data Verdict : Type 0 where
-  Spelled : Triple → Verdict
-  Stopped : ℕ → Verdict
+pub data ReadingEnd : Type 0 where
+  Spelled : Triple → ReadingEnd
+  Stopped : ℕ → ReadingEnd
 
 -- what was read, where the text ends
-unfoldable pub verdict : State → Verdict
+unfoldable pub verdict : State → ReadingEnd
 verdict (Ended s p o) = Spelled (record { s = s; p = p; o = o })
 verdict other = Stopped 0
 
 -- what the rest of a text makes of a state that a byte gave, if it gave one
-abbrev pub resume : (State → Verdict) → ℕ → Option State → Verdict
+abbrev pub resume : (State → ReadingEnd) → ℕ → Option State → ReadingEnd
 resume read left None = Stopped left
 resume read left (Some state) = read state
 
 -- how reading ends that goes on from this state
-unfoldable pub run : List ℕ → State → Verdict
+unfoldable pub run : List ℕ → State → ReadingEnd
 run [] state = verdict state
 run (byte ∷ bytes) state = resume (run bytes) (suc (length bytes)) (step state byte)
 
 -- how reading goes on behind a byte that gave this state, if it gave one
-abbrev pub run_from : Option State → List ℕ → Verdict
+abbrev pub run_from : Option State → List ℕ → ReadingEnd
 run_from found rest = resume (run rest) (suc (length rest)) found
 
 -- reading from one place of a text in one state is reading from another place in another

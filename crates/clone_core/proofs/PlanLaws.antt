@@ -6,7 +6,7 @@ use Rattle.mld_ops.specs.Cut.{IsCutOf}
 use Rattle.mld_ops.specs.Entry.{IsEntry}
 use Rattle.mld_model.specs.Local.{LeadsTo}
 use Rattle.clone_core.specs.Plans.{entries_of, StepsLead, StepsCut}
-use Rattle.clone_core.specs.Steps.{StepValue}
+use Rattle.clone_core.specs.CloneSteps.{StepValue}
 
 -- steps that lead from one clock to another, each of which makes its cut, lead to the pairs then
 pub steps_lead : (ticks : List (List ℕ × ℕ)) (old : List Tagged) (steps : List StepValue) (after : List (List ℕ × ℕ)) (new : List Tagged)

@@ -12,7 +12,7 @@ use Rattle.mld_ops.specs.Entry.{EntryValue}
 use Rattle.mld_ops.specs.Ready.{IsKnownEntry}
 use Rattle.mld_model.specs.CloneStep.{ArePairsOf}
 use Rattle.mld_model.specs.Local.{LocalClone, LocallyMakes, LocallyAccepts, MustBeHeld, LocallyHolds, IsForeign}
-use Rattle.clone_core.specs.Joining.{Gives, RefusesAsk}
+use Rattle.clone_core.specs.Joining.{LocallyGives, RefusesAsk}
 use Rattle.clone_core.specs.Takes.{RefusesEntry}
 use Rattle.clone_core.specs.declared.answers.Covering.{Covering}
 use Rattle.clone_core.specs.declared.answers.Covering.TheVariants as covering
@@ -50,14 +50,14 @@ ReceivesEntry old entry got.Ignored new = ⊥
 -- what became of an ask by an id: it was the clone's own and is ignored; or the leaf was forked, and one message gives its right half
 abbrev pub ReceivesAsk : LocalClone → List ℕ → Got → LocalClone → Type 0
 ReceivesAsk old id got.Ignored new = (id ≡ old.id) × (new ≡ old)
-ReceivesAsk old id (got.Answer messages) new = (id ≢ old.id) × Gives old id messages new
+ReceivesAsk old id (got.Answer messages) new = (id ≢ old.id) × LocallyGives old id messages new
 ReceivesAsk old id other new = ⊥
 
 -- what became of a message: an entry that isn't foreign was received, an ask for a leaf was, and messages of the other kinds are ignored
-abbrev pub Receives : LocalClone → Message → Got → LocalClone → Type 0
-Receives old (message.Range entry) answer new = ¬ IsForeign old entry × ReceivesEntry old entry answer new
-Receives old (message.JoinAsk id) answer new = ReceivesAsk old id answer new
-Receives old other answer new = (answer ≡ got.Ignored) × (new ≡ old)
+abbrev pub LocallyReceives : LocalClone → Message → Got → LocalClone → Type 0
+LocallyReceives old (message.Range entry) answer new = ¬ IsForeign old entry × ReceivesEntry old entry answer new
+LocallyReceives old (message.JoinAsk id) answer new = ReceivesAsk old id answer new
+LocallyReceives old other answer new = (answer ≡ got.Ignored) × (new ≡ old)
 
 -- why a message was refused: its entry was, or the ask for a leaf; or memory ran out
 abbrev pub Refuses : LocalClone → Message → ReceiveFault → Type 0
