@@ -5,16 +5,10 @@ mod answers;
 mod askers;
 mod clones;
 mod faults;
-#[cfg(test)]
-mod joining_tests;
 mod making;
 mod pairs;
 mod plans;
 mod steps;
-#[cfg(test)]
-mod test_clones;
-#[cfg(test)]
-mod tests;
 
 pub use answers::{Covering, Done, Got};
 pub use askers::{Adopted, Asker};

@@ -5,17 +5,11 @@ mod cuts;
 mod entries;
 mod laws;
 mod limits;
-#[cfg(test)]
-mod message_tests;
 mod messages;
 mod operations;
 mod pairs;
 mod properties;
-#[cfg(test)]
-mod property_tests;
 mod tagged;
-#[cfg(test)]
-mod tests;
 
 pub use cuts::{Cut, Tags};
 pub use entries::Entry;

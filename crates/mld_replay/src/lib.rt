@@ -4,7 +4,3 @@
 mod limits;
 pub mod run;
 mod stages;
-#[cfg(test)]
-mod summary_tests;
-#[cfg(test)]
-mod tests;

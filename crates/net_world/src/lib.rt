@@ -14,8 +14,6 @@ mod replies;
 mod show;
 mod states;
 mod summaries;
-#[cfg(test)]
-mod tests;
 mod worlds;
 
 pub use faults::WorldFault;

@@ -12,8 +12,6 @@ mod messages;
 mod pairs;
 mod paths;
 mod short;
-#[cfg(test)]
-mod tests;
 mod triples;
 
 pub use clocks::{read_clock, write_clock};

@@ -24,6 +24,3 @@ pub use order::{cmp_iris, cmp_terms, cmp_triples, order_is_total};
 pub use terms::{Iri, Literal, Term, Triple};
 pub use triples::read_triple;
 pub use write::write_triple;
-
-#[cfg(test)]
-mod tests;

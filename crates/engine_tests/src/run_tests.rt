@@ -1,6 +1,6 @@
 //! Bad lines, limits, faults and words: each with what the run writes and how it ends. What good schedules write is shown by
 //! the transcripts of `mld_schedules`.
-use crate::run::{Ran, RunFault, run};
+use mld_replay::run::{Ran, RunFault, run};
 use mld_io::{MemorySink, MemorySource, Source};
 use std::alloc::{AllocError, Global};
 use std::process::Abort;

@@ -1,5 +1,5 @@
 //! Worked examples, and each public call once.
-use super::*;
+use rdf_terms::*;
 use std::alloc::Global;
 use std::cmp::Ordering;
 use std::test::Fail;

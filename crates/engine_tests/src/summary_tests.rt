@@ -1,8 +1,8 @@
 //! Schedules worked by hand, each with what the run tells of the world that it ends with.
-use crate::run::RunFault;
-use crate::tests::{ran_by, with_comment};
+use crate::run_tests::{ran_by, with_comment};
 use mld_io::{MemorySink, MemorySource};
 use mld_ops::Tagged;
+use mld_replay::run::RunFault;
 use net_world::{CloneSummary, State, Summary};
 use rdf_terms::{Triple, read_triple};
 use std::alloc::{AllocError, Global};

@@ -1,8 +1,8 @@
 //! Clones worked by hand.
 ghost use Rattle.mld_ops.specs.Messages.{snapshot_value, message_value, IsGoodSnapshot, IsGoodMessage};
 
-use crate::test_clones::{domain, first, given, joined_from, set, triple};
-use crate::{Asker, Covering, Done, Got, MldClone, ReceiveFault};
+use crate::clones::{domain, first, given, joined_from, set, triple};
+use clone_core::{Asker, Covering, Done, Got, MldClone, ReceiveFault};
 use mld_ops::{Entry, Give, Message, Snapshot, Tagged};
 use rdf_terms::{Iri, Term};
 use std::alloc::{AllocError, Global};

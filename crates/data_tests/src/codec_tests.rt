@@ -1,4 +1,4 @@
-use super::*;
+use op_codec::*;
 use std::alloc::Global;
 use std::test::Fail;
 

@@ -1,4 +1,4 @@
-use crate::{Entry, Operation, Tagged, copy_pairs, has_pair, insert_pair, meaning, remove_pairs};
+use mld_ops::{Entry, Operation, Tagged, copy_pairs, has_pair, insert_pair, meaning, remove_pairs};
 use rdf_terms::{Iri, Term, Triple};
 use std::alloc::Global;
 use std::test::Fail;

@@ -2,8 +2,8 @@
 ghost use Rattle.std.specs.Prelude.{IfOk};
 ghost use Rattle.mld_ops.specs.Messages.{message_value, IsGoodMessage};
 
-use crate::test_clones::{ask, asker, first, given, joined, joined_from, set, triple};
-use crate::{Adopted, Asker, Covering, Done, Got, MldClone, ReceiveFault, UpdateFault};
+use crate::clones::{ask, asker, first, given, joined, joined_from, set, triple};
+use clone_core::{Adopted, Asker, Covering, Done, Got, MldClone, ReceiveFault, UpdateFault};
 use mld_ops::{Give, Message, Snapshot, Tagged};
 use rdf_terms::Term;
 use std::alloc::Global;

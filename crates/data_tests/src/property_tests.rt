@@ -1,4 +1,4 @@
-use crate::kept_properties;
+use mld_ops::kept_properties;
 use rdf_terms::Iri;
 use std::alloc::Global;
 use std::test::Fail;

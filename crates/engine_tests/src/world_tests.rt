@@ -3,7 +3,7 @@ ghost use Rattle.std.specs.Prelude.{◌≡◌, ◌+◌, ◌<◌, IfOk, OnOk};
 ghost use Rattle.schedule_model.specs.Step.{HasCloneNumbers};
 ghost use Rattle.net_world.specs.Worlds.{IsStanding};
 
-use crate::{
+use net_world::{
     Command, LineRefusal, Setup, SetupLine, State, World, push_ready, read_command, read_setup,
 };
 use iri_rules::Text;

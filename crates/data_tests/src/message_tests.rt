@@ -1,4 +1,4 @@
-use crate::{Entry, Give, Message, Messages, Snapshot, Tagged};
+use mld_ops::{Entry, Give, Message, Messages, Snapshot, Tagged};
 use rdf_terms::{Iri, Term, Triple};
 use std::alloc::Global;
 use std::test::Fail;

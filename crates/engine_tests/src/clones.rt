@@ -3,7 +3,7 @@ ghost use Rattle.std.specs.Prelude.{IfOk, IsTrue};
 ghost use Rattle.iri_rules.specs.Domain.{is_domain};
 ghost use Rattle.mld_ops.specs.Messages.{message_value, IsGoodMessage};
 
-use crate::{Adopted, Asker, Done, Got, MldClone};
+use clone_core::{Adopted, Asker, Done, Got, MldClone};
 use iri_rules::{Text, is_domain};
 use mld_ops::Message;
 use rdf_terms::{Iri, Term, Triple};
