@@ -17,8 +17,8 @@ use Rattle.schedule_model.proofs.RunsLaws.{one_verdict}
 use Rattle.schedule_model.proofs.PromisesLaws.{promises_kept}
 use Rattle.mld_replay.specs.declared.run.RunFault.{RunFault}
 use Rattle.mld_replay.specs.declared.run.RunFault.TheVariants as faults
-use Rattle.net_world.specs.declared.lines.LineRefusal.{LineRefusal}
-use Rattle.net_world.specs.declared.lines.LineRefusal.TheVariants as refusals
+use Rattle.mld_replay.specs.declared.stops.LineStop.{LineStop}
+use Rattle.mld_replay.specs.declared.stops.LineStop.TheVariants as stops
 use Rattle.mld_replay.specs.Stops.{fault_of}
 use Rattle.mld_replay.specs.UnderWay.{IsLeft, IsUnderWay}
 use Rattle.mld_replay.specs.TooLarge.{BreaksLimits, IsTooLargeLine}
@@ -323,24 +323,24 @@ pub wrote_well : {T : Type 0} (before now : ℕ) (value : T) → HasWriteFaultCa
 wrote_well before now value cause = cause.quiet (λ same. absurd (cc (same)))
 
 -- the fault of a bad line came from a stop at a bad line
-pub bad_fault : {T U : Type 0} (stop : LineRefusal) (number at : ℕ) (fault : RunFault) → fault ≡ fault_of stop number → ◌≡◌ {A = Result T RunFault} (Err fault) (Err (faults.BadLine at))
-    → (◌≡◌ {A = Result U LineRefusal} (Err stop) (Err refusals.BadLine)) × (at ≡ number)
+pub bad_fault : {T U : Type 0} (stop : LineStop) (number at : ℕ) (fault : RunFault) → fault ≡ fault_of stop number → ◌≡◌ {A = Result T RunFault} (Err fault) (Err (faults.BadLine at))
+    → (◌≡◌ {A = Result U LineStop} (Err stop) (Err stops.BadLine)) × (at ≡ number)
 bad_fault {U = U} stop number at fault is same = let fault_is : fault ≡ faults.BadLine at = cc in bad_stop stop number at (sym is ∙ fault_is)
   where
-    bad_stop : (stop : LineRefusal) (number at : ℕ) → fault_of stop number ≡ faults.BadLine at → (◌≡◌ {A = Result U LineRefusal} (Err stop) (Err refusals.BadLine)) × (at ≡ number)
-    bad_stop refusals.BadLine number at same = (refl, cc)
-    bad_stop refusals.Unbuilt number at same = absurd (cc)
-    bad_stop refusals.NoMemory number at same = absurd (cc)
+    bad_stop : (stop : LineStop) (number at : ℕ) → fault_of stop number ≡ faults.BadLine at → (◌≡◌ {A = Result U LineStop} (Err stop) (Err stops.BadLine)) × (at ≡ number)
+    bad_stop stops.BadLine number at same = (refl, cc)
+    bad_stop stops.Unbuilt number at same = absurd (cc)
+    bad_stop stops.NoMemory number at same = absurd (cc)
 
 -- and that of an unbuilt line from a stop at one
-pub unbuilt_fault : {T U : Type 0} (stop : LineRefusal) (number at : ℕ) (fault : RunFault) → fault ≡ fault_of stop number → ◌≡◌ {A = Result T RunFault} (Err fault) (Err (faults.Unbuilt at))
-    → (◌≡◌ {A = Result U LineRefusal} (Err stop) (Err refusals.Unbuilt)) × (at ≡ number)
+pub unbuilt_fault : {T U : Type 0} (stop : LineStop) (number at : ℕ) (fault : RunFault) → fault ≡ fault_of stop number → ◌≡◌ {A = Result T RunFault} (Err fault) (Err (faults.Unbuilt at))
+    → (◌≡◌ {A = Result U LineStop} (Err stop) (Err stops.Unbuilt)) × (at ≡ number)
 unbuilt_fault {U = U} stop number at fault is same = let fault_is : fault ≡ faults.Unbuilt at = cc in unbuilt_stop stop number at (sym is ∙ fault_is)
   where
-    unbuilt_stop : (stop : LineRefusal) (number at : ℕ) → fault_of stop number ≡ faults.Unbuilt at → (◌≡◌ {A = Result U LineRefusal} (Err stop) (Err refusals.Unbuilt)) × (at ≡ number)
-    unbuilt_stop refusals.BadLine number at same = absurd (cc)
-    unbuilt_stop refusals.Unbuilt number at same = (refl, cc)
-    unbuilt_stop refusals.NoMemory number at same = absurd (cc)
+    unbuilt_stop : (stop : LineStop) (number at : ℕ) → fault_of stop number ≡ faults.Unbuilt at → (◌≡◌ {A = Result U LineStop} (Err stop) (Err stops.Unbuilt)) × (at ≡ number)
+    unbuilt_stop stops.BadLine number at same = absurd (cc)
+    unbuilt_stop stops.Unbuilt number at same = (refl, cc)
+    unbuilt_stop stops.NoMemory number at same = absurd (cc)
 
 -- what holds of a line that was there
 pub of_line : (P : List ℕ → Type 0) (taken : Option (List ℕ)) (line : List ℕ) → taken ≡ Some line → IfSomeLine P taken → P line

@@ -15,7 +15,7 @@ use Rattle.net_world.specs.declared.lines.SetupLine.TheVariants as lines
 use Rattle.schedule_model.specs.Schedule.{Setup as ModelSetup, SpellsSetup, IsSetup}
 use Rattle.rdf_terms.specs.Order.{iri_cmp}
 use Rattle.tree_clock.specs.Lists.{IsAscending}
-use Rattle.net_world.specs.Reading.{setup_of, SetupIs, CommandIs}
+use Rattle.net_world.specs.ReadLines.{setup_of, SetupIs, CommandIs}
 use Rattle.net_world.specs.Worlds.{Stepped}
 use Rattle.mld_replay.specs.Stages.{StageStands, ActsWell, EndsWell}
 use Rattle.mld_replay.specs.declared.stages.Stage.{Stage as RunningStage}

@@ -7,7 +7,7 @@ use Rattle.mld_replay.specs.TooLarge.{left_after, BreaksLimits, IsTooLargeLine}
 use Rattle.mld_model.specs.World.{World}
 use Rattle.schedule_model.specs.Runs.{Stage, Waiting, Running, Runs, RunsBefore, Outcome, Finished, BadLine, UnbuiltLine, Verdict}
 use Rattle.schedule_model.specs.Promises.{KeepsPromises}
-use Rattle.net_world.specs.Summaries.{Tells}
+use Rattle.net_world.specs.WorldSummary.{Tells}
 use Rattle.net_world.specs.declared.summaries.Summary.{Summary}
 use Rattle.mld_replay.specs.declared.stages.Stage.{Stage as RunningStage}
 use Rattle.mld_replay.specs.declared.stages.Stage.TheVariants as stages

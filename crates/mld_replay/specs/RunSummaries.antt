@@ -2,7 +2,7 @@
 use Rattle.std.specs.Prelude.{Option, None, Some}
 use Rattle.schedule_model.specs.Runs.{Stage, Waiting, SetUp, Running}
 use Rattle.net_world.specs.declared.summaries.Summary.{Summary}
-use Rattle.net_world.specs.Summaries.{TellsOfClones}
+use Rattle.net_world.specs.WorldSummary.{TellsOfClones}
 
 -- what is told of the stage that a schedule leads to: nothing while no clone is founded, and then each clone of the world
 abbrev pub TellsOf : Option Summary → Stage → Type 0

@@ -6,7 +6,7 @@ use Rattle.mld_model.specs.StandsFor.{RunningWorld, StandsFor}
 use Rattle.schedule_model.specs.Runs.{Stage, Waiting, SetUp, Running, IsWorldOf, Acts}
 use Rattle.net_world.specs.declared.lines.Setup.{Setup}
 use Rattle.schedule_model.specs.Schedule.{IsSetup}
-use Rattle.net_world.specs.Reading.{setup_of}
+use Rattle.net_world.specs.ReadLines.{setup_of}
 use Rattle.mld_replay.specs.declared.stages.Stage.{Stage as RunningStage}
 use Rattle.mld_replay.specs.declared.stages.Stage.TheVariants as stages
 

@@ -1,12 +1,20 @@
--- Why a run ends at a line that was refused.
+-- Why a run ends at a line that was not done.
 use Rattle.std.specs.Prelude.{ℕ}
 use Rattle.net_world.specs.declared.lines.LineRefusal.{LineRefusal}
 use Rattle.net_world.specs.declared.lines.LineRefusal.TheVariants as refusals
+use Rattle.mld_replay.specs.declared.stops.LineStop.{LineStop}
+use Rattle.mld_replay.specs.declared.stops.LineStop.TheVariants as stops
 use Rattle.mld_replay.specs.declared.run.RunFault.{RunFault}
 use Rattle.mld_replay.specs.declared.run.RunFault.TheVariants as faults
 
+-- a line that isn't read isn't done
+abbrev pub stop_of : LineRefusal → LineStop
+stop_of refusals.BadLine = stops.BadLine
+stop_of refusals.Unbuilt = stops.Unbuilt
+stop_of refusals.NoMemory = stops.NoMemory
+
 -- the run ends at the line of the number
-abbrev pub fault_of : LineRefusal → ℕ → RunFault
-fault_of refusals.BadLine number = faults.BadLine number
-fault_of refusals.Unbuilt number = faults.Unbuilt number
-fault_of refusals.NoMemory number = faults.NoMemory
+abbrev pub fault_of : LineStop → ℕ → RunFault
+fault_of stops.BadLine number = faults.BadLine number
+fault_of stops.Unbuilt number = faults.Unbuilt number
+fault_of stops.NoMemory number = faults.NoMemory

@@ -4,3 +4,4 @@
 mod limits;
 pub mod run;
 mod stages;
+mod stops;

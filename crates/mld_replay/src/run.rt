@@ -14,8 +14,9 @@ ghost use Rattle.mld_replay.specs.Ran.{status_of, tells, IsReplay, Finishes, Sto
 
 use crate::limits::{INPUT_LIMIT, LINE_LIMIT};
 use crate::stages::{Stage, act, finish};
+use crate::stops::LineStop;
 use mld_io::{LineFault, Lines, Piece, Sink, Source, WriteFault, write_all};
-use net_world::{LineRefusal, Summary};
+use net_world::Summary;
 use std::alloc::{AllocError, Global};
 use std::fmt;
 use std::thread::Threads;
@@ -303,13 +304,13 @@ fn end_lines<R: Threads>(
 }
 
 /// Why the run ends at line `number`.
-fn fault_of(stop: LineRefusal, number: u64) -> RunFault
+fn fault_of(stop: LineStop, number: u64) -> RunFault
     ensures { result ≡ fault_of stop number }
 {
     match stop {
-        LineRefusal::BadLine => RunFault::BadLine(number),
-        LineRefusal::Unbuilt => RunFault::Unbuilt(number),
-        LineRefusal::NoMemory => RunFault::NoMemory,
+        LineStop::BadLine => RunFault::BadLine(number),
+        LineStop::Unbuilt => RunFault::Unbuilt(number),
+        LineStop::NoMemory => RunFault::NoMemory,
     }
 }
 

@@ -21,7 +21,7 @@ use Rattle.net_world.specs.declared.deliver.Received.TheVariants as received
 use Rattle.net_world.specs.declared.replies.Reply.{Reply}
 use Rattle.net_world.specs.declared.replies.Reply.TheVariants as replies
 use Rattle.net_world.specs.declared.parts.Parts.{Parts}
-use Rattle.net_world.specs.Delivering.{nth_message, IsFitFor, ReceivesLive, ReceivesAsking, StaysAway, Becomes, ReceivesAt, IsAway, IsLive, Asks, SendsAnswers}
+use Rattle.net_world.specs.Delivering.{nth_message, IsFitFor, ReceivesLive, ReceivesAsking, StaysAway, Becomes, ReceivesAt, WhereAway, WhereLive, WhereAsking, SendsAnswers}
 use Rattle.net_world.specs.WorldParts.{running_of, HasStepLeft}
 use Rattle.net_world.specs.Replies.{reply_value, numbers_between}
 use Rattle.net_world.specs.States.{HasState, reply_of_state}
@@ -226,9 +226,9 @@ module _ (running : RunningWorld) (message number : ℕ) (new : List RunningClon
   -- the clone of the number answers, whatever its state is
   pub answered : (what : Message) (answer : Received) (reply : Reply) → nth_message running.messages message ≡ Some (message_value what) → ReceivesAt running.clones new number what answer
       → Tells answer reply → Ends reply
-  answered what answer reply is (IsAway state at away same) tells = away_answered what answer reply state (sym (same_message running message) ∙ is) at away same tells
-  answered what answer reply is (IsLive before after becomes h) tells = live_answered what answer reply before after (sym (same_message running message) ∙ is) becomes h tells
-  answered what answer reply is (Asks before after becomes h) tells = asker_answered what answer reply before after (sym (same_message running message) ∙ is) becomes h tells
+  answered what answer reply is (WhereAway state at away same) tells = away_answered what answer reply state (sym (same_message running message) ∙ is) at away same tells
+  answered what answer reply is (WhereLive before after becomes h) tells = live_answered what answer reply before after (sym (same_message running message) ∙ is) becomes h tells
+  answered what answer reply is (WhereAsking before after becomes h) tells = asker_answered what answer reply before after (sym (same_message running message) ∙ is) becomes h tells
 
   -- no message has the number
   pub no_message : nth_message running.messages message ≡ None → Moves running (Deliver message number) model.NoMessage (stepped running)

@@ -81,10 +81,10 @@ pub record Becomes (old new : List RunningClone) (number : ℕ) (before after : 
 
 -- what the clone of the number does with a message, by its state
 pub data ReceivesAt (old new : List RunningClone) (number : ℕ) (sent : Message) (answer : Received) : Type 0 where
-  IsAway : (state : RunningClone) → HasState old number state → StaysAway state answer → new ≡ old → ReceivesAt old new number sent answer
-  IsLive : (before after : CloneValue) → Becomes old new number (states.Live before) (states.Live after) → ReceivesLive before.local sent after.local answer
+  WhereAway : (state : RunningClone) → HasState old number state → StaysAway state answer → new ≡ old → ReceivesAt old new number sent answer
+  WhereLive : (before after : CloneValue) → Becomes old new number (states.Live before) (states.Live after) → ReceivesLive before.local sent after.local answer
       → ReceivesAt old new number sent answer
-  Asks : (before after : RunningClone) → Becomes old new number before after → ReceivesAsking before after sent answer → ReceivesAt old new number sent answer
+  WhereAsking : (before after : RunningClone) → Becomes old new number before after → ReceivesAsking before after sent answer → ReceivesAt old new number sent answer
 
 -- the answers are the next messages, and the reply names their numbers
 abbrev pub SendsAnswers : List MessageValue → List Message → List MessageValue → Reply → Type 0

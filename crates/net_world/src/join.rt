@@ -5,7 +5,7 @@ ghost use Rattle.mld_ops.specs.Messages.{message_value};
 ghost use Rattle.mld_model.specs.Local.{IsNamed};
 ghost use Rattle.schedule_model.specs.declared.Command.TheVariants as commands;
 ghost use Rattle.net_world.specs.Asking.{AsksFirst, SendsQuestion};
-ghost use Rattle.net_world.specs.WorldParts.{HasStepLeft, KeepsDomain, Does};
+ghost use Rattle.net_world.specs.WorldParts.{KeepsDomain, Does};
 
 use crate::parts::{Parts, send};
 use crate::replies::Reply;
@@ -18,7 +18,6 @@ use std::alloc::{AllocError, Global};
 
 /// Clone `number`, which has no leaf yet, asks for one; it may ask again.
 pub fn join(alloc: Global, parts: &mut Parts, number: u8) -> Result<Reply<'static>, AllocError>
-    requires left { HasStepLeft parts.old }
     requires named { IsNamed parts.old.domain parts.old.properties.items }
     requires number { number < vec_len parts.old.clones }
     ensures keeps { KeepsDomain parts.old parts.new }

@@ -1,0 +1,57 @@
+//! Why a line was not done.
+use net_world::{LineRefusal, WorldFault};
+use std::alloc::AllocError;
+use thiserror::Error;
+
+/// Why a line was not done, or the lines could not be ended.
+#[derive(Clone, Copy, Debug, PartialEq, Eq, Error)]
+pub enum LineStop {
+    /// It is outside the grammar.
+    #[error("bad line")]
+    BadLine,
+    /// It isn't built yet.
+    #[error("unbuilt")]
+    Unbuilt,
+    /// No memory was found.
+    #[error("no memory")]
+    NoMemory,
+}
+
+impl From<LineRefusal> for LineStop {
+    ghost use Rattle.std.specs.Prelude.{◌≡◌};
+    ghost use Rattle.mld_replay.specs.Stops.{stop_of};
+
+    ghost from_gives = { λ refusal stop. stop ≡ stop_of refusal };
+
+    fn from(refusal: LineRefusal) -> LineStop {
+        match refusal {
+            LineRefusal::BadLine => LineStop::BadLine,
+            LineRefusal::Unbuilt => LineStop::Unbuilt,
+            LineRefusal::NoMemory => LineStop::NoMemory,
+        }
+    }
+}
+
+impl From<WorldFault> for LineStop {
+    ghost use Rattle.std.specs.Prelude.{◌≡◌};
+    ghost use Rattle.mld_replay.specs.declared.stops.LineStop.TheVariants.{NoMemory};
+
+    ghost from_gives = { λ _ stop. stop ≡ NoMemory };
+
+    fn from(fault: WorldFault) -> LineStop {
+        match fault {
+            WorldFault::NoMemory => LineStop::NoMemory,
+        }
+    }
+}
+
+impl From<AllocError> for LineStop {
+    ghost use Rattle.std.specs.Prelude.{◌≡◌};
+    ghost use Rattle.mld_replay.specs.declared.stops.LineStop.TheVariants.{NoMemory};
+
+    ghost from_gives = { λ _ stop. stop ≡ NoMemory };
+
+    fn from(_error: AllocError) -> LineStop {
+        LineStop::NoMemory
+    }
+}
