@@ -1,0 +1,10 @@
+pub mod Ticks
+pub mod FusedNets
+pub mod TakenRanges
+pub mod CutPairs
+pub mod Lists
+pub mod Orders
+pub mod Sifting
+pub mod Merging
+pub mod Staying
+pub mod Adding

@@ -1,0 +1,4 @@
+pub mod Fusion
+pub mod Cutting
+pub mod FusionPairs
+pub mod FusionLaws

@@ -1,0 +1,23 @@
+//! The laws of fused entries and of cuts, for all lawful histories. These functions do nothing: their clauses are the laws.
+ghost use Rattle.op_fusion.specs.FusionLaws.{OneFused, FusedNetsAreNet, FusedTimeIsSecond, TakenIsClosed, TakenIsMeaning, CutDropsPresent, CutIsApplied};
+
+/// What a fused entry is. Two entries have one. That of the net effects of two ranges which meet or overlap is the net
+/// effect of the range of both, and its time is the second's.
+pub fn fused_nets()
+    ensures one { OneFused }
+    ensures net { FusedNetsAreNet }
+    ensures time { FusedTimeIsSecond }
+{}
+
+/// What it means to take an entry: the net effect of a range that is ready over a closed set of dots. The set with the
+/// range is closed, and the cut of the meaning of the set is the meaning of the set with the range.
+pub fn taken_ranges()
+    ensures closed { TakenIsClosed }
+    ensures meaning { TakenIsMeaning }
+{}
+
+/// What a cut is: it drops present pairs alone, and pairs to which it is applied are those behind the entry.
+pub fn cut_pairs()
+    ensures drops { CutDropsPresent }
+    ensures applied { CutIsApplied }
+{}

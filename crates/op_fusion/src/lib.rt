@@ -1,0 +1,15 @@
+//! Entries of neighbouring ranges fused into one, and the cut that an entry makes in the pairs of one who takes it.
+#![tactic(auto)]
+
+mod cutting;
+mod faults;
+mod fusing;
+mod laws;
+mod pairs;
+#[cfg(test)]
+mod tests;
+
+pub use cutting::cut;
+pub use faults::FuseFault;
+pub use fusing::fuse;
+pub use laws::{cut_pairs, fused_nets, taken_ranges};
