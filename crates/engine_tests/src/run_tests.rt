@@ -1,7 +1,7 @@
 //! Bad lines, limits, faults and words: each with what the run writes and how it ends. What good schedules write is shown by
 //! the transcripts of `mld_schedules`.
-use mld_replay::run::{Ran, RunFault, run};
 use mld_io::{MemorySink, MemorySource, Source};
+use mld_replay::run::{Ran, RunFault, run};
 use std::alloc::{AllocError, Global};
 use std::process::Abort;
 use std::test::Fail;

@@ -3,10 +3,10 @@ ghost use Rattle.std.specs.Prelude.{◌≡◌, ◌+◌, ◌<◌, IfOk, OnOk};
 ghost use Rattle.schedule_model.specs.Step.{HasCloneNumbers};
 ghost use Rattle.net_world.specs.Worlds.{IsStanding};
 
+use iri_rules::Text;
 use net_world::{
     Command, LineRefusal, Setup, SetupLine, State, World, push_ready, read_command, read_setup,
 };
-use iri_rules::Text;
 use rdf_terms::{Iri, Term, Triple};
 use std::alloc::Global;
 use std::test::Fail;

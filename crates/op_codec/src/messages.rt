@@ -62,7 +62,11 @@ pub fn append_snapshot(out: &mut Vec<u8>, snapshot: &Snapshot) -> Result<(), All
 
 /// Reads a snapshot, whose clock covers its pairs.
 #[tactic(auto, unfolding(crate::specs::MessageBytes::read_snapshot))]
-pub fn read_snapshot(alloc: Global, input: &[u8], at: usize) -> Result<(Snapshot, usize), CodecFault>
+pub fn read_snapshot(
+    alloc: Global,
+    input: &[u8],
+    at: usize,
+) -> Result<(Snapshot, usize), CodecFault>
     requires { at ≤ length input.now }
     ensures { MatchResult result
         (λ read. IsRead (read_snapshot at (drop at input.now)) input.now (snapshot_value read.0) read.1)
