@@ -14,7 +14,8 @@ use Rattle.mld_ops.specs.Cut.{IsCutOf}
 use Rattle.mld_ops.specs.Entry.{EntryValue, IsEntry}
 use Rattle.mld_ops.specs.Ready.{last_dot, IsReadyEntry}
 use Rattle.mld_ops.specs.Held.{held_limit}
-use Rattle.mld_model.specs.Local.{LocalClone, LeadsTo, IsLocal, PairsAfter}
+use Rattle.mld_model.specs.Local.{LocalClone, LeadsTo, IsLocal}
+use Rattle.mld_ops.specs.Effect.{PairsAfter}
 use Rattle.clone_core.specs.Making.{IsNextEntry}
 
 -- ---- taking entries in order

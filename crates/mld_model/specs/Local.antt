@@ -13,7 +13,7 @@ use Rattle.mld_ops.specs.declared.tagged.Tagged.{Tagged}
 use Rattle.mld_ops.specs.Tagged.{tagged_cmp, insert_cmp}
 use Rattle.mld_ops.specs.Entry.{EntryValue}
 use Rattle.mld_ops.specs.Messages.{SnapshotValue, GiveValue}
-use Rattle.mld_ops.specs.Effect.{range_of}
+use Rattle.mld_ops.specs.Effect.{range_of, PairsAfter}
 use Rattle.mld_ops.specs.History.{dot_at}
 use Rattle.mld_ops.specs.Picking.{HasNone, DropsThose, TakesFirst}
 use Rattle.mld_ops.specs.Ready.{last_dot, IsKnownEntry, IsReadyEntry}
@@ -110,10 +110,6 @@ pub record IsSameClone (old new : LocalClone) : Type 0 where
 -- the dot of the clone's next operation
 abbrev pub next_dot : LocalClone → Dot
 next_dot clone = dot_at clone.path (ticks_of clone.ticks clone.path + 1)
-
--- the pairs behind an operation are those before it that it doesn't delete, and those that it inserts
-abbrev pub PairsAfter : List Tagged → List Tagged → (Tagged → Type 0) → List Tagged → Type 0
-PairsAfter old deletes inserts new = (pair : Tagged) → Has new pair ↔ ((Has old pair × ¬ Has deletes pair) ⊎ inserts pair)
 
 -- the clone makes an operation of these deletes and inserts, and the entry carries it
 pub record LocallyMakes (old : LocalClone) (deletes : List Tagged) (inserts : List Triple) (new : LocalClone) (entry : EntryValue) : Type 0 where

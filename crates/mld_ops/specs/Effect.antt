@@ -21,8 +21,11 @@ pub record IsEffect (operation : Operation) (entry : EntryValue) : Type 0 where
   pub inserts : (triple : Triple) (tick : ℕ) → Has entry.inserts (triple, tick) ↔ ((tick ≡ operation.dot.tick) × Has operation.inserts triple)
   pub time : (dot : Dot) → Covers entry.time dot ↔ (Knows operation.causes dot ⊎ (dot ≡ operation.dot))
 
--- the pairs behind an operation are those before it that it doesn't delete, and those that it inserts
+-- the pairs behind a change are those before it that it doesn't delete, and those that it inserts
+abbrev pub PairsAfter : List Tagged → List Tagged → (Tagged → Type 0) → List Tagged → Type 0
+PairsAfter before deletes inserts after = (pair : Tagged) → Has after pair ↔ ((Has before pair × ¬ Has deletes pair) ⊎ inserts pair)
+
+-- the pairs behind an operation
 abbrev pub IsAfter : Operation → List Tagged → List Tagged → Type 0
 IsAfter operation before after =
-    (pair : Tagged) → Has after pair
-    ↔ ((Has before pair × ¬ Has operation.deletes pair) ⊎ ((pair.dot ≡ operation.dot) × Has operation.inserts pair.triple))
+    PairsAfter before operation.deletes (λ pair. (pair.dot ≡ operation.dot) × Has operation.inserts pair.triple) after

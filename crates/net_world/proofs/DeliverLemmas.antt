@@ -21,7 +21,8 @@ use Rattle.net_world.specs.declared.deliver.Received.TheVariants as received
 use Rattle.net_world.specs.declared.replies.Reply.{Reply}
 use Rattle.net_world.specs.declared.replies.Reply.TheVariants as replies
 use Rattle.net_world.specs.declared.parts.Parts.{Parts}
-use Rattle.net_world.specs.Delivering.{nth_message, IsFitFor, ReceivesLive, ReceivesAsking, StaysAway, Becomes, ReceivesAt, WhereAway, WhereLive, WhereAsking, SendsAnswers}
+use Rattle.net_world.specs.Delivering.{IsFitFor, ReceivesLive, ReceivesAsking, StaysAway, Becomes, ReceivesAt, WhereAway, WhereLive, WhereAsking, SendsAnswers}
+use Rattle.mld_model.specs.World.{numbered}
 use Rattle.net_world.specs.WorldParts.{running_of, HasStepLeft}
 use Rattle.net_world.specs.Replies.{reply_value, numbers_between}
 use Rattle.net_world.specs.States.{HasState, reply_of_state}
@@ -29,19 +30,19 @@ use Rattle.net_world.specs.Worlds.{IsStanding, Moves}
 use Rattle.net_world.proofs.WorldLemmas.{after_step, moved, read_back, state_read, written_again}
 
 -- the message of a number, where it is one
-same_message : (running : RunningWorld) (number : ℕ) → nth_message running.messages number ≡ sent_message running number
+same_message : (running : RunningWorld) (number : ℕ) → numbered running.messages number ≡ sent_message running number
 same_message running zero = refl
 same_message running (suc before) = refl
 
 -- the value of the message of a number
-pub value_at : (messages : List Message) (number : ℕ) (what : Message) → nth_message messages number ≡ Some what → nth_message (map message_value messages) number ≡ Some (message_value what)
+pub value_at : (messages : List Message) (number : ℕ) (what : Message) → numbered messages number ≡ Some what → numbered (map message_value messages) number ≡ Some (message_value what)
 value_at messages zero what is = absurd (cc (is))
 value_at [] (suc before) what is = absurd (cc (is))
 value_at (first ∷ messages) (suc zero) what is = let same : first ≡ what = cc (is) in ap (λ (m : Message). Some (message_value m)) same
 value_at (first ∷ messages) (suc (suc before)) what is = value_at messages (suc before) what is
 
 -- and where there is none
-pub no_value_at : (messages : List Message) (number : ℕ) → nth_message messages number ≡ None → nth_message (map message_value messages) number ≡ None
+pub no_value_at : (messages : List Message) (number : ℕ) → numbered messages number ≡ None → numbered (map message_value messages) number ≡ None
 no_value_at messages zero none = refl
 no_value_at [] (suc before) none = refl
 no_value_at (first ∷ messages) (suc zero) none = absurd (cc (none))
@@ -53,7 +54,7 @@ good_at running zero standing what is = absurd (cc (is))
 good_at running (suc before) standing what is = good_sent running standing.world standing.stands standing.sound before what is
 
 -- each message of parts that stand for a sound world is fit for each clone
-pub is_fit : (parts : Parts) (message number : ℕ) (what : Message) → HasStepLeft parts → nth_message parts.messages.items message ≡ Some what → IsFitFor parts.clones.items number (message_value what)
+pub is_fit : (parts : Parts) (message number : ℕ) (what : Message) → HasStepLeft parts → numbered parts.messages.items message ≡ Some what → IsFitFor parts.clones.items number (message_value what)
 is_fit parts message number what left told =
     let running : RunningWorld = running_of parts left.steps in
     let is : sent_message running message ≡ Some (message_value what) = sym (same_message running message) ∙ value_at parts.messages.items message what told in
@@ -224,12 +225,12 @@ module _ (running : RunningWorld) (message number : ℕ) (new : List RunningClon
   away_answered what (received.Sends answers) reply state is at away same tells = absurd away
 
   -- the clone of the number answers, whatever its state is
-  pub answered : (what : Message) (answer : Received) (reply : Reply) → nth_message running.messages message ≡ Some (message_value what) → ReceivesAt running.clones new number what answer
+  pub answered : (what : Message) (answer : Received) (reply : Reply) → numbered running.messages message ≡ Some (message_value what) → ReceivesAt running.clones new number what answer
       → Tells answer reply → Ends reply
   answered what answer reply is (WhereAway state at away same) tells = away_answered what answer reply state (sym (same_message running message) ∙ is) at away same tells
   answered what answer reply is (WhereLive before after becomes h) tells = live_answered what answer reply before after (sym (same_message running message) ∙ is) becomes h tells
   answered what answer reply is (WhereAsking before after becomes h) tells = asker_answered what answer reply before after (sym (same_message running message) ∙ is) becomes h tells
 
   -- no message has the number
-  pub no_message : nth_message running.messages message ≡ None → Moves running (Deliver message number) model.NoMessage (stepped running)
+  pub no_message : numbered running.messages message ≡ None → Moves running (Deliver message number) model.NoMessage (stepped running)
   no_message none world stands sound = deliver_nothing running world stands sound message number (sym (same_message running message) ∙ none)

@@ -1,5 +1,5 @@
 -- What a clone does with a message that comes to it, by what it answers.
-use Rattle.std.specs.Prelude.{◌≡◌, ℕ, zero, suc, ◌+◌, List, ◌++◌, Option, None, slice_get, slice_set, length, map}
+use Rattle.std.specs.Prelude.{◌≡◌, ℕ, ◌+◌, List, ◌++◌, Option, None, slice_get, slice_set, length, map}
 use Rattle.mld_ops.specs.Entry.{EntryValue}
 use Rattle.mld_ops.specs.Messages.{MessageValue, CarriesEntry, give_value, message_value, IsGoodMessage}
 use Rattle.mld_ops.specs.declared.messages.Give.{Give}
@@ -7,6 +7,7 @@ use Rattle.mld_ops.specs.declared.messages.Message.{Message}
 use Rattle.mld_model.specs.declared.CloneState.TheVariants as states
 use Rattle.mld_model.specs.Local.{LocalAsker, LocalClone, CloneValue, IsForeign, joined_clone}
 use Rattle.mld_model.specs.StandsFor.{RunningClone}
+use Rattle.mld_model.specs.World.{numbered}
 use Rattle.schedule_model.specs.WorldStep.{IsAwayReply}
 use Rattle.clone_core.specs.CloneCalls.{LocallyReceives, Refuses}
 use Rattle.clone_core.specs.Joining.{IsGiveFor, GivesNone}
@@ -18,11 +19,6 @@ use Rattle.net_world.specs.declared.replies.Reply.{Reply}
 use Rattle.net_world.specs.declared.replies.Reply.TheVariants as replies
 use Rattle.net_world.specs.Replies.{reply_value}
 use Rattle.net_world.specs.States.{HasState}
-
--- the message of a number; the first has number 1
-abbrev pub nth_message : {T : Type 0} → List T → ℕ → Option T
-nth_message messages zero = None
-nth_message messages (suc before) = slice_get messages before
 
 -- the message, where it is an entry, says no more of the path of the clone of the number than that clone knows; and its snapshot, where
 -- it has one, is a good one

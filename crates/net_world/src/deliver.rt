@@ -5,7 +5,8 @@ ghost use Rattle.mld_ops.specs.Messages.{message_value, IsGoodMessage};
 ghost use Rattle.mld_ops.specs.declared.messages.Message.TheVariants as kinds;
 ghost use Rattle.mld_model.specs.Local.{IsForeign};
 ghost use Rattle.schedule_model.specs.declared.Command.TheVariants as commands;
-ghost use Rattle.net_world.specs.Delivering.{nth_message, IsFitFor, IsAsking, ReceivesAt, ReceivesLive, ReceivesAsking, SendsAnswers};
+ghost use Rattle.net_world.specs.Delivering.{IsFitFor, IsAsking, ReceivesAt, ReceivesLive, ReceivesAsking, SendsAnswers};
+ghost use Rattle.mld_model.specs.World.{numbered};
 ghost use Rattle.net_world.specs.WorldParts.{HasStepLeft, KeepsDomain, Does};
 
 use crate::parts::Parts;
@@ -52,7 +53,7 @@ pub fn deliver<R: Threads>(
 
 /// The message of a number; the first has number 1.
 fn message_at(messages: &[Message], number: u64) -> Option<&Message>
-    ensures { option_copied result ≡ nth_message messages.now number }
+    ensures { option_copied result ≡ numbered messages.now number }
 {
     let before = number.checked_sub(1)?;
     messages.get(usize::try_from(before).ok()?)

@@ -4,7 +4,8 @@ use Rattle.mld_ops.specs.Messages.{message_value}
 use Rattle.mld_ops.specs.declared.messages.Message.{Message}
 use Rattle.net_world.specs.declared.deliver.Received.{Received}
 use Rattle.net_world.specs.declared.deliver.Received.TheVariants as received
-use Rattle.net_world.specs.Delivering.{nth_message, ReceivesAt}
+use Rattle.net_world.specs.Delivering.{ReceivesAt}
+use Rattle.mld_model.specs.World.{numbered}
 use Rattle.net_world.specs.WorldParts.{running_of}
 use Rattle.net_world.proofs.DeliverLemmas.{value_at, no_value_at, is_fit, answered, no_message}
 use Rattle.net_world.proofs.deliver.deliver.Goals as goal
@@ -12,13 +13,13 @@ use Rattle.net_world.proofs.deliver.deliver.Goals as goal
 pub returns-in_default-clause-done : goal.returns-in_default-clause-done
 returns-in_default-clause-done g c = record {
   moves = λ steps. no_message (running_of c.args.parts.now steps) c.args.message c.args.number (running_of c.args.parts.now steps).clones (running_of c.args.parts.now steps).messages
-      (no_value_at c.args.parts.now.messages.items c.args.message (sym (c.in_default.ensures ∙ ap (λ (ms : List Message). nth_message ms c.args.message) c.as_slice.ensures.value)));
+      (no_value_at c.args.parts.now.messages.items c.args.message (sym (c.in_default.ensures ∙ ap (λ (ms : List Message). numbered ms c.args.message) c.as_slice.ensures.value)));
 }
 
 pub receive_at-requires-clause-fit : goal.receive_at-requires-clause-fit
 receive_at-requires-clause-fit g c =
     is_fit c.args.parts.now c.args.message c.args.number c.in-Some.message.now c.requires.left
-    (sym (c.in-Some.ensures ∙ ap (λ (ms : List Message). nth_message ms c.args.message) c.as_slice.ensures.value))
+    (sym (c.in-Some.ensures ∙ ap (λ (ms : List Message). numbered ms c.args.message) c.as_slice.ensures.value))
 
 pub returns-in-Ok-Told-clause-done : goal.returns-in-Ok-Told-clause-done
 returns-in-Ok-Told-clause-done g c =
@@ -27,7 +28,7 @@ returns-in-Ok-Told-clause-done g c =
       moves = λ steps. answered (running_of c.args.parts.now steps) c.args.message c.args.number c.receive_at.new.clones.items (map message_value c.args.parts.now.messages.items)
           c.in-Some.message.now (received.Told c.in-Ok-Told.reply) c.in-Ok-Told.reply
           (value_at c.args.parts.now.messages.items c.args.message c.in-Some.message.now
-          (sym (c.in-Some.ensures ∙ ap (λ (ms : List Message). nth_message ms c.args.message) c.as_slice.ensures.value)))
+          (sym (c.in-Some.ensures ∙ ap (λ (ms : List Message). numbered ms c.args.message) c.as_slice.ensures.value)))
           (subst P c.in-Ok-Told.field-0-is c.in-Ok-Told.ensures.ok) (refl, refl);
     }
 
@@ -38,7 +39,7 @@ returns-in-Ok-Sends-clause-done g c =
       moves = λ steps. answered (running_of c.args.parts.now steps) c.args.message c.args.number c.receive_at.new.clones.items (map message_value c.send_answers.new.messages.items)
           c.in-Some.message.now (received.Sends c.in-Ok-Sends.answers) reply
           (value_at c.args.parts.now.messages.items c.args.message c.in-Some.message.now
-          (sym (c.in-Some.ensures ∙ ap (λ (ms : List Message). nth_message ms c.args.message) c.as_slice.ensures.value)))
+          (sym (c.in-Some.ensures ∙ ap (λ (ms : List Message). numbered ms c.args.message) c.as_slice.ensures.value)))
           (subst P c.in-Ok-Sends.field-0-is c.in-Ok-Sends.ensures.ok) h;
     })
     c.send_answers.ensures
