@@ -1,4 +1,5 @@
--- The cut of an entry: what has to leave the pairs, and what has to come to them, where the entry is taken.
+-- The cut of an entry: what has to leave the pairs, and what has to come to them, where the entry is taken
+-- (optimised OR-Set).
 use Rattle.std.specs.Prelude.{ℕ, List, ◌⊎◌, ◌↔◌}
 use Rattle.tree_clock.specs.Lists.{Has, IsAscending}
 use Rattle.mld_ops.specs.declared.tagged.Tagged.{Tagged}

@@ -1,4 +1,5 @@
--- The fused entry of two entries of one path whose ranges meet: the net effect of both, made from the two entries alone.
+-- The fused entry of two entries of one path whose ranges meet: the net effect of both, made from the two entries alone (in the manner
+-- of m-ld's fused operations).
 use Rattle.std.specs.Prelude.{◌≡◌, ℕ, ◌+◌, ◌<◌, ◌≤◌, min, max, List, ◌⊎◌, ◌↔◌}
 use Rattle.rdf_terms.specs.declared.terms.Triple.{Triple}
 use Rattle.tree_clock.specs.declared.dots.Range.{Range}
