@@ -1,0 +1,11 @@
+-- What a side that is written anew has, with the place behind it.
+use Rattle.journal_store.specs.Heads.{head_value}
+use Rattle.journal_store.specs.WrittenRecords.{volume_of, HasVolume}
+use Rattle.journal_store.proofs.SettlingLaws.{settled_done}
+use Rattle.journal_store.proofs.appending.swap_at.Goals as goal
+
+pub returns-clause-done : goal.returns-clause-done
+returns-clause-done g c l e settled =
+    settled_done c.args.stop.now c.args.closed.now c.write_side-put.result c.settle.new.stop c.settle.new.closed c.settle.result
+    (λ end. HasVolume c.args.side (volume_of c.args.generation (head_value c.args.head.now) c.args.entries.now) end l (g.B.Banks.log c.write_side-put.new.banks)) c.settle.ensures
+    (c.write_side-put.ensures.done l e settled)

@@ -1,0 +1,64 @@
+-- A journal is swapped for another: what it keeps at each moment, and once it is done.
+use Rattle.std.proofs.Common.{◌≡◌, ◌∙◌, ◌+◌, ap, sym, subst, refl, Some}
+use Rattle.mld_io.specs.Disk.{LeavesMeanwhile, other_side, seen}
+use Rattle.mld_io.specs.declared.banks.Side.{Side}
+use Rattle.journal_store.specs.Calls.{swapped}
+use Rattle.journal_store.specs.Crashes.{LeavesEither}
+use Rattle.journal_store.specs.Heads.{head_value}
+use Rattle.journal_store.specs.Pairs.{Kept, Keeps}
+use Rattle.journal_store.specs.SideReadings.{Volume}
+use Rattle.journal_store.specs.Standing.{IsJournal}
+use Rattle.journal_store.specs.WrittenRecords.{volume_of, HasVolume, IsWritingTo}
+use Rattle.journal_store.proofs.JournalLaws.{journal_swapped, keeps_swapped, either_swapped, nothing_moves, kept_at, swapped_is}
+use Rattle.journal_store.proofs.journals.Journal.swap.Goals as goal
+
+pub returns-then-self-clause-moments : goal.returns-then-self-clause-moments
+returns-then-self-clause-moments g c l kept e k =
+    let told : g.B.Banks.log c.self.inside.banks ≡ Some l = ap (λ v. g.B.Banks.log v.banks) c.self.view_is ∙ e in
+    let stands = c.self.invariant.stands l told c.in_default.is in
+    nothing_moves l (g.B.Banks.log c.args.self.now.banks) (Keeps kept) (Keeps (swapped (head_value c.args.head.now) c.args.entries.now kept)) (other_side c.args.self.now.side) e stands.settled (kept_at _ _ kept k l e)
+
+pub returns-in_err-swap_at-clause-moments : goal.returns-in_err-swap_at-clause-moments
+returns-in_err-swap_at-clause-moments g c l kept e k =
+    let told : g.B.Banks.log c.self.inside.banks ≡ Some l = ap (λ v. g.B.Banks.log v.banks) c.self.view_is ∙ e in
+    let stands = c.self.invariant.stands l told c.in_default.is in
+    let volume : Volume = volume_of (c.self.inside.generation + 1) (head_value c.args.head.now) c.args.entries.now in
+    let reads = kept_at _ _ kept k l e in
+    subst (λ (s : Side). LeavesEither l (g.B.Banks.log c.swap_at.new.banks) (Keeps kept) (Keeps (swapped (head_value c.args.head.now) c.args.entries.now kept)) (other_side s)) (ap (λ v. v.side) c.self.view_is)
+    (subst (λ (after : Kept). LeavesEither l (g.B.Banks.log c.swap_at.new.banks) (Keeps kept) (Keeps after) (other_side c.self.inside.side))
+    (swapped_is c.self.inside.side c.self.inside.generation c.self.inside.stop l stands (head_value c.args.head.now) c.args.entries.now kept reads)
+    (either_swapped c.self.inside.side c.self.inside.generation c.self.inside.stop volume l (g.B.Banks.log c.swap_at.new.banks) stands refl
+    (subst (λ (s : Side). LeavesMeanwhile l (g.B.Banks.log c.swap_at.new.banks) (IsWritingTo s volume (seen l))) c.other_side-side.ensures (c.swap_at.ensures.moments l told stands.settled))
+    kept reads))
+
+pub invariant_of-self-2 : goal.invariant_of-self-2
+invariant_of-self-2 g c =
+    let volume : Volume = volume_of (c.self.inside.generation + 1) (head_value c.args.head.now) c.args.entries.now in
+    subst (λ (s : Side). IsJournal (g.B.Banks.log c.swap_at.new.banks) s (c.self.inside.generation + 1) c.swap_at.new.stop c.swap_at.new.closed) (sym c.other_side-side.ensures)
+    (journal_swapped c.self.inside.side c.self.inside.generation c.self.inside.stop c.swap_at.new.stop volume (g.B.Banks.log c.self.inside.banks) (g.B.Banks.log c.swap_at.new.banks) c.swap_at.new.closed
+    (λ l told. c.self.invariant.stands l told c.in_default.is) refl c.in_ok-swap_at.ensures.stored
+    (λ l told settled. subst (λ (s : Side). HasVolume s volume c.swap_at.new.stop l (g.B.Banks.log c.swap_at.new.banks)) c.other_side-side.ensures (c.in_ok-swap_at.ensures.done l told settled))
+    c.in_ok-swap_at.ensures.untold c.in_ok-swap_at.ensures.room)
+
+pub returns-clause-kept : goal.returns-clause-kept
+returns-clause-kept g c kept k =
+    let told : g.B.Banks.log c.self.inside.banks ≡ Some k.log = ap (λ v. g.B.Banks.log v.banks) c.self.view_is ∙ k.now_is in
+    let stands = c.self.invariant.stands k.log told c.in_default.is in
+    let volume : Volume = volume_of (c.self.inside.generation + 1) (head_value c.args.head.now) c.args.entries.now in
+    keeps_swapped c.self.inside.side c.self.inside.generation c.self.inside.stop c.swap_at.new.stop volume k.log (g.B.Banks.log c.swap_at.new.banks) (swapped (head_value c.args.head.now) c.args.entries.now kept) stands refl
+    c.in_ok-swap_at.ensures.stored
+    (subst (λ (s : Side). HasVolume s volume c.swap_at.new.stop k.log (g.B.Banks.log c.swap_at.new.banks)) c.other_side-side.ensures (c.in_ok-swap_at.ensures.done k.log told stands.settled))
+    (swapped_is c.self.inside.side c.self.inside.generation c.self.inside.stop k.log stands (head_value c.args.head.now) c.args.entries.now kept k.reads)
+
+pub returns-clause-moments : goal.returns-clause-moments
+returns-clause-moments g c l kept e k =
+    let told : g.B.Banks.log c.self.inside.banks ≡ Some l = ap (λ v. g.B.Banks.log v.banks) c.self.view_is ∙ e in
+    let stands = c.self.invariant.stands l told c.in_default.is in
+    let volume : Volume = volume_of (c.self.inside.generation + 1) (head_value c.args.head.now) c.args.entries.now in
+    let reads = kept_at _ _ kept k l e in
+    subst (λ (s : Side). LeavesEither l (g.B.Banks.log c.swap_at.new.banks) (Keeps kept) (Keeps (swapped (head_value c.args.head.now) c.args.entries.now kept)) (other_side s)) (ap (λ v. v.side) c.self.view_is)
+    (subst (λ (after : Kept). LeavesEither l (g.B.Banks.log c.swap_at.new.banks) (Keeps kept) (Keeps after) (other_side c.self.inside.side))
+    (swapped_is c.self.inside.side c.self.inside.generation c.self.inside.stop l stands (head_value c.args.head.now) c.args.entries.now kept reads)
+    (either_swapped c.self.inside.side c.self.inside.generation c.self.inside.stop volume l (g.B.Banks.log c.swap_at.new.banks) stands refl
+    (subst (λ (s : Side). LeavesMeanwhile l (g.B.Banks.log c.swap_at.new.banks) (IsWritingTo s volume (seen l))) c.other_side-side.ensures (c.swap_at.ensures.moments l told stands.settled))
+    kept reads))

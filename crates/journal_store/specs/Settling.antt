@@ -1,0 +1,36 @@
+-- What a journal keeps of calls on its device that were done or stopped.
+use Rattle.std.specs.Prelude.{◌≡◌, ◌⊎◌, ℕ, Option, None, Some, Result, Ok, Err}
+use Rattle.journal_store.specs.declared.device.Stop.{Stop}
+use Rattle.journal_store.specs.declared.device.Stop.TheVariants.{Before, Within}
+use Rattle.journal_store.specs.declared.faults.AppendFault.{AppendFault}
+use Rattle.journal_store.specs.declared.faults.AppendFault.TheVariants as append
+use Rattle.journal_store.specs.declared.faults.MakeFault.{MakeFault}
+use Rattle.journal_store.specs.declared.faults.MakeFault.TheVariants as make
+use Rattle.journal_store.specs.declared.faults.SwapFault.{SwapFault}
+use Rattle.journal_store.specs.declared.faults.SwapFault.TheVariants as swap
+use Rattle.journal_store.specs.declared.faults.Why.{Why}
+use Rattle.journal_store.specs.declared.faults.Why.TheVariants as why
+
+-- the place of a closed gate, why a journal is closed, and what a call answers, by how calls on the device ended
+abbrev pub Settles : {U : Type 0} → ℕ → Option Why → Result ℕ Stop → ℕ → Option Why → Result U Why → Type 0
+Settles {U = U} stop closed (Ok end) stop' closed' result = (stop' ≡ end) × (closed' ≡ closed) × ((u : U) × (result ≡ Ok u))
+Settles stop closed (Err Before) stop' closed' result = (stop' ≡ stop) × (closed' ≡ closed) × (result ≡ Err why.NoMemory)
+Settles stop closed (Err (Within reason)) stop' closed' result = (stop' ≡ stop) × (closed' ≡ Some reason) × (result ≡ Err reason)
+
+-- a call that was refused has closed the journal, or there was no memory for its first call and nothing has changed
+abbrev pub Closes : {B : Type 0} → B → B → ℕ → ℕ → Option Why → Why → Type 0
+Closes old new stop stop' closed reason = (closed ≡ Some reason) ⊎ ((reason ≡ why.NoMemory) × (new ≡ old) × (stop' ≡ stop) × (closed ≡ None))
+
+-- the faults that tell of it
+abbrev pub append_fault : Why → AppendFault
+append_fault why.Device = append.Device
+append_fault why.NoMemory = append.NoMemory
+
+abbrev pub swap_fault : Why → SwapFault
+swap_fault why.Device = swap.Device
+swap_fault why.NoMemory = swap.NoMemory
+
+abbrev pub make_fault : Stop → MakeFault
+make_fault Before = make.NoMemory
+make_fault (Within why.Device) = make.Device
+make_fault (Within why.NoMemory) = make.NoMemory

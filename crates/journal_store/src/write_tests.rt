@@ -1,0 +1,72 @@
+//! Tries of the calls that write.
+ghost use Rattle.std.specs.Prelude.{IfOk};
+ghost use Rattle.journal_store.specs.Heads.{head_value};
+ghost use Rattle.journal_store.specs.StoredVolumes.{IsGoodHead};
+
+use super::*;
+use disk_model::MemoryBanks;
+use iri_rules::{Text, is_domain};
+use mld_io::Side;
+use std::alloc::Global;
+use std::test::Fail;
+use tree_clock::{Clock, Path};
+use uuid::Uuid;
+
+/// A side of generation 1 that has a head of id 0 and domain `d`, and nothing else.
+const FIRST: &[u8] = b"\x01mld1\x00\x00\x00\x00\x00\x00\x00\x01\
+    \x00\x00\x00\x00\x00\x00\x00\x00\x00\x00\x00\x00\x00\x00\x00\x00\
+    \x00\x00\x00\x01d\x00\x00\x00\x00\x00\x00\x00\x00\x00\x00\x00\x00\x00\x00";
+
+/// The same of generation 2.
+const SECOND: &[u8] = b"\x01mld1\x00\x00\x00\x00\x00\x00\x00\x02\
+    \x00\x00\x00\x00\x00\x00\x00\x00\x00\x00\x00\x00\x00\x00\x00\x00\
+    \x00\x00\x00\x01d\x00\x00\x00\x00\x00\x00\x00\x00\x00\x00\x00\x00\x00\x00";
+
+/// That head.
+fn first_head(alloc: Global) -> Result<Box<Head>, Fail>
+    ensures { IfOk result (λ head. IsGoodHead (head_value head.value)) }
+{
+    let domain = Text::new(alloc, "d")?;
+    if !is_domain(domain.as_str()) {
+        return Err("no domain".into());
+    }
+    let head = Head {
+        id: Uuid::from_u128(0),
+        domain,
+        props: Vec::new(alloc),
+        path: Path::root(),
+        base: Clock::empty(alloc),
+        tagged: Vec::new(alloc),
+    };
+    Ok(Box::new(alloc, head)?)
+}
+
+/// Whether a swap for the same head is done on a journal, and puts just its bytes on side B.
+fn is_swapped(alloc: Global, mut journal: Journal<MemoryBanks>, head: &Head) -> bool
+    requires { IsGoodHead (head_value head.now) }
+{
+    let done = journal.swap(alloc, head, &[]).is_ok();
+    let banks = journal.into_banks();
+    done && banks.bytes(Side::A) == FIRST && banks.bytes(Side::B) == SECOND
+}
+
+/// Whether a journal is made on banks that keep nothing, and swapped.
+fn is_made(alloc: Global, head: &Head) -> bool
+    requires { IsGoodHead (head_value head.now) }
+{
+    let JournalMounted::Empty(blank) = Journal::mount(alloc, MemoryBanks::blank(alloc)) else {
+        return false;
+    };
+    match Journal::create(alloc, blank, head) {
+        Ok(journal) => is_swapped(alloc, journal, head),
+        Err(_refused) => false,
+    }
+}
+
+#[test]
+fn a_journal_is_made_and_swapped(rt: HostRuntime) -> Result<(), Fail> {
+    let alloc = rt.alloc();
+    let head = first_head(alloc)?;
+    assert!(rt; is_made(alloc, &head));
+    Ok(())
+}

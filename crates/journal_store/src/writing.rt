@@ -1,0 +1,179 @@
+//! The calls that write: a journal is made, appended to, and swapped for another.
+ghost use Rattle.std.specs.Prelude.{◌≡◌, ◌↔◌, ◌-◌, ◌^◌, ◌+◌, Option, Some, None, Result, Ok, Err, IsOk, IfOk, OnOk, MatchResult, IsErrOf};
+ghost use Rattle.mld_io.specs.Arm.{Metered};
+ghost use Rattle.mld_io.specs.Disk.{Log, seen, other_side};
+ghost use Rattle.op_codec.specs.Stored.{IsShortEntry};
+ghost use Rattle.journal_store.specs.Calls.{KeptBy, made, swapped, MayAppend, MayFork, StaysOrCloses, made_banks, FailsToMake};
+ghost use Rattle.journal_store.specs.Crashes.{LeavesEither};
+ghost use Rattle.journal_store.specs.Heads.{head_value};
+ghost use Rattle.journal_store.specs.Pairs.{Kept, Keeps, KeepsNone, with_entry, with_fork};
+ghost use Rattle.journal_store.specs.Standing.{KeepsNow};
+ghost use Rattle.journal_store.specs.StoredVolumes.{IsGoodHead, AreGoodEntries};
+ghost use Rattle.journal_store.specs.declared.faults.Why.{Why};
+
+use crate::appending::{append_at, swap_at, write_side};
+use crate::faults::{AppendFault, MakeFault, SwapFault, Why};
+use crate::head_writing::{FORK_BODY, entry_body};
+use crate::heads::Head;
+use crate::journals::{Blank, Journal};
+use mld_io::{Banks, Side};
+use mld_ops::Entry;
+use std::alloc::Global;
+
+/// The other side.
+fn other_side(side: Side) -> Side
+    ensures { result ≡ other_side side }
+{
+    match side {
+        Side::A => Side::B,
+        Side::B => Side::A,
+    }
+}
+
+impl<B: Banks> Journal<B> {
+    /// Makes a journal of generation 1 on side A, with a head and no entries, in six calls of the device. The properties
+    /// of the head and its pairs ascend, each pair has a dot of the base, and each list has fewer than 2^32 items.
+    ///
+    /// # Errors
+    ///
+    /// `Device` where the device failed, and `NoMemory`. The banks are given back.
+    pub fn create(alloc: Global, blank: Blank<B>, head: &Head) -> Result<Journal<B>, (MakeFault, B)>
+        requires { IsGoodHead (head_value head.now) }
+        ensures opened { IfOk result (λ journal. journal.closed ≡ None) }
+        ensures kept { (l : Log) → B.log blank ≡ Some l → IfOk result (λ journal. KeepsNow (made (head_value head.now)) (B.log journal.banks)) }
+        ensures side { IfOk result (λ journal. journal.side ≡ Side.A) }
+        ensures generation { IfOk result (λ journal. journal.generation ≡ 1) }
+        ensures moments { (l : Log) → B.log blank ≡ Some l
+            → LeavesEither l (B.log (made_banks result)) KeepsNone (Keeps (made (head_value head.now))) Side.A }
+        ensures untold { B.log blank ≡ None → B.log (made_banks result) ≡ None }
+        ensures meter { Metered 6 (B.meter blank) (B.meter (made_banks result)) (IsOk result) (FailsToMake result) }
+    {
+        let mut banks = blank.into_banks();
+        match write_side(alloc, &mut banks, Side::A, 1, head, &[]) {
+            Ok(stop) => Ok(Journal::new(banks, Side::A, 1, stop)),
+            Err(stopped) => Err((MakeFault::from(stopped), banks)),
+        }
+    }
+
+    /// Appends an entry, in four calls of the device. The entry is ready and not known behind those that are kept, and
+    /// each of its lists has fewer than 2^32 items.
+    ///
+    /// # Errors
+    ///
+    /// `Closed` where an earlier call on this journal answered `Device`, or `NoMemory` after a call of the device was
+    /// done. `Device` where the device failed, which closes the journal, and `NoMemory`.
+    pub fn append_entry(&mut self, alloc: Global, entry: &Entry) -> Result<(), AppendFault>
+        requires follows { (kept : Kept) → KeptBy (B.log self.old.banks) self.old.closed kept → MayAppend entry.now kept }
+        requires short { IsShortEntry entry.now }
+        ensures kept { (kept : Kept) → KeptBy (B.log self.old.banks) self.old.closed kept
+            → OnOk result (KeepsNow (with_entry entry.now kept) (B.log self.new.banks)) }
+        ensures moments { (l : Log) (kept : Kept) → B.log self.old.banks ≡ Some l → KeptBy (B.log self.old.banks) self.old.closed kept
+            → LeavesEither l (B.log self.new.banks) (Keeps kept) (Keeps (with_entry entry.now kept)) self.old.side }
+        ensures closed { (why : Why) → IsErrOf result (AppendFault.Closed why) ↔ (self.old.closed ≡ Some why) }
+        ensures unchanged { (why : Why) → IsErrOf result (AppendFault.Closed why) → self.new ≡ self.old }
+        ensures opened { OnOk result (self.new.closed ≡ None) }
+        ensures device { IsErrOf result AppendFault.Device → self.new.closed ≡ Some Why.Device }
+        ensures no_memory { IsErrOf result AppendFault.NoMemory → StaysOrCloses self.old self.new }
+        ensures side { self.new.side ≡ self.old.side }
+        ensures generation { self.new.generation ≡ self.old.generation }
+        ensures untold { B.log self.old.banks ≡ None → B.log self.new.banks ≡ None }
+        ensures meter { Metered 4 (B.meter self.old.banks) (B.meter self.new.banks) (IsOk result) (IsErrOf result AppendFault.Device) }
+    {
+        if let Some(why) = self.closed {
+            return Err(AppendFault::Closed { why });
+        }
+        let body = entry_body(alloc, entry)?;
+        append_at(
+            &mut self.banks,
+            self.side,
+            &mut self.stop,
+            &mut self.closed,
+            &body,
+        )?;
+        Ok(())
+    }
+
+    /// Appends a fork of the clone's leaf, in four calls of the device: the clone keeps the half of the letter `0`. The
+    /// path of the clone has fewer letters than a path may have. It takes no memory.
+    ///
+    /// # Errors
+    ///
+    /// As those of `append_entry`.
+    pub fn append_fork(&mut self) -> Result<(), AppendFault>
+        requires { (kept : Kept) → KeptBy (B.log self.old.banks) self.old.closed kept → MayFork kept }
+        ensures kept { (kept : Kept) → KeptBy (B.log self.old.banks) self.old.closed kept
+            → OnOk result (KeepsNow (with_fork kept) (B.log self.new.banks)) }
+        ensures moments { (l : Log) (kept : Kept) → B.log self.old.banks ≡ Some l → KeptBy (B.log self.old.banks) self.old.closed kept
+            → LeavesEither l (B.log self.new.banks) (Keeps kept) (Keeps (with_fork kept)) self.old.side }
+        ensures closed { (why : Why) → IsErrOf result (AppendFault.Closed why) ↔ (self.old.closed ≡ Some why) }
+        ensures unchanged { (why : Why) → IsErrOf result (AppendFault.Closed why) → self.new ≡ self.old }
+        ensures opened { OnOk result (self.new.closed ≡ None) }
+        ensures device { IsErrOf result AppendFault.Device → self.new.closed ≡ Some Why.Device }
+        ensures no_memory { IsErrOf result AppendFault.NoMemory → StaysOrCloses self.old self.new }
+        ensures side { self.new.side ≡ self.old.side }
+        ensures generation { self.new.generation ≡ self.old.generation }
+        ensures untold { B.log self.old.banks ≡ None → B.log self.new.banks ≡ None }
+        ensures meter { Metered 4 (B.meter self.old.banks) (B.meter self.new.banks) (IsOk result) (IsErrOf result AppendFault.Device) }
+    {
+        if let Some(why) = self.closed {
+            return Err(AppendFault::Closed { why });
+        }
+        append_at(
+            &mut self.banks,
+            self.side,
+            &mut self.stop,
+            &mut self.closed,
+            &FORK_BODY,
+        )?;
+        Ok(())
+    }
+
+    /// Swaps what is kept for a head and entries, on the other side and of the next generation, in six calls of the device.
+    /// The head is as that of `create`; each entry is ready and not known behind the head and the entries before it, and
+    /// has lists of fewer than 2^32 items.
+    ///
+    /// # Errors
+    ///
+    /// `GenerationsSpent` where the generation is 2^64 - 1; the others as those of `append_entry`.
+    pub fn swap(&mut self, alloc: Global, head: &Head, entries: &[Entry]) -> Result<(), SwapFault>
+        requires head { IsGoodHead (head_value head.now) }
+        requires entries { AreGoodEntries (head_value head.now).base.ticks entries.now }
+        ensures kept { (kept : Kept) → KeptBy (B.log self.old.banks) self.old.closed kept
+            → OnOk result (KeepsNow (swapped (head_value head.now) entries.now kept) (B.log self.new.banks)) }
+        ensures moments { (l : Log) (kept : Kept) → B.log self.old.banks ≡ Some l → KeptBy (B.log self.old.banks) self.old.closed kept
+            → LeavesEither l (B.log self.new.banks) (Keeps kept) (Keeps (swapped (head_value head.now) entries.now kept)) (other_side self.old.side) }
+        ensures closed { (why : Why) → IsErrOf result (SwapFault.Closed why) ↔ (self.old.closed ≡ Some why) }
+        ensures spent { IsErrOf result SwapFault.GenerationsSpent ↔ ((self.old.closed ≡ None) × (self.old.generation ≡ 2 ^ 64 - 1)) }
+        ensures unchanged { (why : Why) → IsErrOf result (SwapFault.Closed why) → self.new ≡ self.old }
+        ensures spent_unchanged { IsErrOf result SwapFault.GenerationsSpent → self.new ≡ self.old }
+        ensures opened { OnOk result (self.new.closed ≡ None) }
+        ensures device { IsErrOf result SwapFault.Device → self.new.closed ≡ Some Why.Device }
+        ensures no_memory { IsErrOf result SwapFault.NoMemory → StaysOrCloses self.old self.new }
+        ensures side { MatchResult result (λ _. self.new.side ≡ other_side self.old.side) (λ _. self.new.side ≡ self.old.side) }
+        ensures generation { MatchResult result (λ _. self.new.generation ≡ self.old.generation + 1) (λ _. self.new.generation ≡ self.old.generation) }
+        ensures untold { B.log self.old.banks ≡ None → B.log self.new.banks ≡ None }
+        ensures meter { Metered 6 (B.meter self.old.banks) (B.meter self.new.banks) (IsOk result) (IsErrOf result SwapFault.Device) }
+    {
+        if let Some(why) = self.closed {
+            return Err(SwapFault::Closed { why });
+        }
+        if self.generation == u64::MAX {
+            return Err(SwapFault::GenerationsSpent);
+        }
+        let side = other_side(self.side);
+        let generation = self.generation + 1;
+        swap_at(
+            alloc,
+            &mut self.banks,
+            side,
+            &mut self.stop,
+            &mut self.closed,
+            generation,
+            head,
+            entries,
+        )?;
+        self.side = side;
+        self.generation = generation;
+        Ok(())
+    }
+}
