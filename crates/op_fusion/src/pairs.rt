@@ -22,7 +22,7 @@ pub fn inserted_within(
 ) -> Result<Vec<Tagged>, AllocError>
     ensures ascending { IfOk result (λ pairs. IsAscending tagged_cmp pairs.items) }
     ensures members { IfOk result (λ pairs. (pair : Tagged) → Has pairs.items pair
-        ↔ IsInsertedWithin entry.now low high pair) }
+        ↔ InsertsWithin entry.now low high pair) }
     ensures entry { IsEntry entry.now }
 {
     let path = entry.range().path;
