@@ -1,0 +1,7 @@
+pub mod JoinedLaws
+pub mod Parting
+pub mod Placing
+pub mod Storing
+pub mod Halving
+pub mod Splitting
+pub mod Standing

@@ -1,0 +1,48 @@
+use Rattle.std.proofs.Common.{◌≡◌, ◌∙◌, ◌<◌, ◌+◌, sym, ap, subst, arith, [], length, set}
+use Rattle.std.specs.List.{insert}
+use Rattle.chunked_list.specs.Joined.{joined_chunks, chunk_at}
+use Rattle.chunked_list.specs.Room.{excess_of}
+use Rattle.chunked_list.specs.Stores.{AreSized}
+use Rattle.chunked_list.proofs.Splitting.{split_count, split_excess, split_sized, split_joined, spare_left}
+use Rattle.chunked_list.proofs.Storing.{count_bound, excess_at, room_split, no_split}
+use Rattle.chunked_list.proofs.stores.put_and_split.Goals as goal
+
+pub overflow_add-store : goal.overflow_add-store
+overflow_add-store g c = let b = count_bound c.args.store.now.chunks.items c.requires.is.sized in omega (arith, b, c.requires.is.count, c.requires.is.few)
+
+pub overflow_sub-store-in-Some : goal.overflow_sub-store-in-Some
+overflow_sub-store-in-Some g c =
+    let x = excess_at c.args.store.now.chunks.items c.args.place.chunk c.requires.chunk in
+    omega (arith, x, c.requires.full, c.requires.is.excess)
+
+pub returns-in-Some-clause-is : goal.returns-in-Some-clause-is
+returns-in-Some-clause-is g c =
+    let x = excess_at c.args.store.now.chunks.items c.args.place.chunk c.requires.chunk in
+    let i = c.insert_at.ensures.items in
+    let s = c.split_at.ensures.items in
+    let h = split_excess c.args.store.now.chunks.items c.insert_at.new.chunks.items c.split_at.new.chunks.items c.args.place.chunk c.args.place.at c.args.element c.requires.chunk c.requires.full i s in
+    let k = split_count c.args.store.now.chunks.items c.insert_at.new.chunks.items c.split_at.new.chunks.items c.args.place.chunk c.args.place.at c.args.element c.requires.chunk i s in
+    record {
+      sized = split_sized c.args.store.now.chunks.items c.insert_at.new.chunks.items c.split_at.new.chunks.items c.args.place.chunk c.args.place.at c.args.element c.requires.chunk c.requires.full i s c.requires.is.sized;
+      spare = spare_left c.args.store.now.spare.items c.pop.new.self.items c.in-Some.spare c.in-Some.ensures.items c.requires.is.spare;
+      excess = omega (arith, h, x, c.requires.full, c.requires.is.excess);
+      count = omega (arith, k, c.requires.is.count);
+      chunk_room = omega (arith, c.insert_at.ensures.len, c.insert_at.ensures.capacity, c.split_at.ensures.len, c.split_at.ensures.capacity, c.in-Some.ensures.cases, c.requires.is.chunk_room);
+      spare_room = omega (arith, c.insert_at.ensures.len, c.split_at.ensures.len, c.in-Some.ensures.cases, c.pop.ensures.capacity, c.requires.is.spare_room, c.requires.chunk);
+      few = omega (arith, c.insert_at.ensures.len, c.split_at.ensures.len, c.in-Some.ensures.cases, c.requires.is.few);
+    }
+
+pub returns-in-Some-clause-elements : goal.returns-in-Some-clause-elements
+returns-in-Some-clause-elements g c =
+    split_joined c.args.store.now.chunks.items c.insert_at.new.chunks.items c.split_at.new.chunks.items c.args.place.chunk c.args.place.at c.args.element c.requires.chunk c.insert_at.ensures.items c.split_at.ensures.items
+
+pub returns-in-Some-clause-room : goal.returns-in-Some-clause-room
+returns-in-Some-clause-room g c =
+    let x = excess_at c.args.store.now.chunks.items c.args.place.chunk c.requires.chunk in
+    let h = split_excess c.args.store.now.chunks.items c.insert_at.new.chunks.items c.split_at.new.chunks.items c.args.place.chunk c.args.place.at c.args.element c.requires.chunk c.requires.full c.insert_at.ensures.items c.split_at.ensures.items in
+    let p : 0 < length c.args.store.now.chunks.items = omega (arith, c.requires.chunk) in
+    let q : 0 < length c.split_at.new.chunks.items = omega (arith, c.insert_at.ensures.len, c.split_at.ensures.len) in
+    room_split _ _ c.args.store.now.chunks.items c.split_at.new.chunks.items p q (omega (arith, c.in-Some.ensures.cases)) h
+
+pub returns-in_default-clause-elements : goal.returns-in_default-clause-elements
+returns-in_default-clause-elements g c = absurd (no_split c.args.store.now.chunks.items c.args.place.chunk _ c.requires.chunk c.requires.full c.in_default.ensures.cases.0 c.requires.room)

@@ -1,0 +1,23 @@
+-- How many elements can come in without memory.
+use Rattle.std.specs.Prelude.{ℕ, ◌+◌, ◌-◌, ◌*◌, List, [], ◌∷◌, length, max}
+use Rattle.chunked_list.specs.ChunkLimits.{half_limit}
+
+-- by how many elements the chunks pass their halves, summed up
+abbrev pub excess_of : {X : Type 0} → List (List X) → ℕ
+excess_of [] = 0
+excess_of (chunk ∷ chunks) = (length chunk - half_limit) + excess_of chunks
+
+-- the excess, and a half where there is no chunk, since the first element needs one to spare
+abbrev pub load_of : {X : Type 0} → List (List X) → ℕ
+load_of [] = half_limit
+load_of (chunk ∷ chunks) = excess_of (chunk ∷ chunks)
+
+-- as many elements can come in, wherever they go: each takes one chunk to spare at most, and a chunk is split only once its
+-- excess comes to a half
+abbrev pub room_of : ℕ → ℕ → ℕ
+room_of spare load = max spare (half_limit * spare + (half_limit - 1) - load)
+
+-- what contracts see of a list in chunks
+pub record ChunkedValue (X : Type 0) : Type 0 where
+  pub elements : List X
+  pub room : ℕ

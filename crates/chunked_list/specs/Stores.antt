@@ -1,0 +1,32 @@
+-- What the parts of a list in chunks keep.
+use Rattle.std.specs.Prelude.{◌≡◌, ℕ, ◌+◌, ◌<◌, ◌≤◌, List, [], length, min, vec_len, vec_capacity}
+use Rattle.std.specs.List.{AllByRecursion}
+use Rattle.chunked_list.specs.declared.stores.Store.{Store}
+use Rattle.chunked_list.specs.Joined.{joined_chunks}
+use Rattle.chunked_list.specs.ChunkLimits.{chunk_limit, chunks_limit}
+use Rattle.chunked_list.specs.Room.{excess_of, load_of, room_of}
+
+-- a chunk of the list has an element, and is not full
+abbrev pub IsSized : {X : Type 0} → List X → Type 0
+IsSized chunk = (0 < length chunk) × (length chunk < chunk_limit)
+
+abbrev pub AreSized : {X : Type 0} → List (List X) → Type 0
+AreSized chunks = AllByRecursion IsSized chunks
+
+-- what a list in chunks keeps
+pub record IsStore {X : Type 0} (store : Store X) : Type 0 where
+  pub sized : AreSized store.chunks.items
+  pub spare : AllByRecursion (λ chunk. chunk ≡ []) store.spare.items
+  pub excess : store.excess ≡ excess_of store.chunks.items
+  pub count : store.count ≡ length (joined_chunks store.chunks.items)
+  pub chunk_room : vec_len store.chunks + vec_len store.spare ≤ vec_capacity store.chunks
+  pub spare_room : min 1 (vec_len store.chunks) + vec_len store.spare ≤ vec_capacity store.spare
+  pub few : vec_len store.chunks + vec_len store.spare ≤ chunks_limit
+
+-- its elements
+abbrev pub elements_in : {X : Type 0} → Store X → List X
+elements_in store = joined_chunks store.chunks.items
+
+-- how many elements can come in
+abbrev pub room_in : {X : Type 0} → Store X → ℕ
+room_in store = room_of (vec_len store.spare) (load_of store.chunks.items)

@@ -1,0 +1,144 @@
+//! Chunks of a list.
+ghost use Rattle.std.specs.Prelude.{◌≡◌, ℕ, ◌<◌, ◌≤◌, ◌+◌, ◌++◌, ◌∷◌, [], List, length, take, drop, IfOk, IsTrue, ◌↔◌, vec_len, vec_capacity, true, false};
+ghost use Rattle.std.specs.List.{insert, remove, slice_index_or};
+ghost use Rattle.std.specs.List.Sorted.{IsPartitionedBy, IsPartitionPoint};
+ghost use Rattle.chunked_list.specs.ChunkLimits.{chunk_limit, half_limit};
+ghost use Rattle.chunked_list.specs.Joined.{first_passes};
+
+use crate::bounds::Bound;
+use crate::limits::{CHUNK_LIMIT, HALF};
+use std::alloc::{AllocError, Global};
+use std::marker::Model;
+
+/// At most 128 elements, with room for as many. Contracts see it as a list.
+#[derive(Drop)]
+pub struct Chunk<T> {
+    elements: Vec<T>,
+}
+
+impl<T> Model for Chunk<T> {
+    ghost use Rattle.std.specs.Prelude.{List, ◌≤◌, vec_len, vec_capacity};
+    ghost use Rattle.chunked_list.specs.ChunkLimits.{chunk_limit};
+
+    ghost Value = { List T };
+
+    ghost view = { λ chunk. chunk.elements.items };
+
+    ghost invariant = { λ chunk. (vec_len chunk.elements ≤ chunk_limit) × (chunk_limit ≤ vec_capacity chunk.elements) };
+}
+
+impl<T: Drop> Chunk<T> {
+    /// No element.
+    pub(crate) fn new(alloc: Global) -> Result<Chunk<T>, AllocError>
+        ensures { IfOk result (λ chunk. chunk ≡ []) }
+    {
+        Ok(Chunk {
+            elements: Vec::with_capacity(alloc, CHUNK_LIMIT)?,
+        })
+    }
+
+    /// The number of elements.
+    pub fn len(&self) -> usize
+        ensures value { result ≡ length self.now }
+        ensures limit { length self.now ≤ chunk_limit }
+    {
+        self.elements.len()
+    }
+
+    /// Whether there is no element.
+    pub fn is_empty(&self) -> bool
+        ensures { IsTrue result ↔ (self.now ≡ []) }
+    {
+        self.elements.is_empty()
+    }
+
+    /// The elements, in order.
+    pub fn as_slice(&self) -> &[T]
+        ensures { result.now ≡ self.now }
+    {
+        self.elements.as_slice()
+    }
+
+    /// Adds an element at the end. It takes no memory.
+    pub(crate) fn push(&mut self, element: T)
+        requires { length self.old < chunk_limit }
+        ensures { self.new ≡ self.old ++ element ∷ [] }
+    {
+        self.elements.push_reserved(element);
+    }
+
+    /// Puts an element at a place. It takes no memory.
+    pub(crate) fn insert(&mut self, at: usize, element: T)
+        requires room { length self.old < chunk_limit }
+        requires place { at ≤ length self.old }
+        ensures { self.new ≡ insert self.old at element }
+    {
+        put_in(&mut self.elements, at, element);
+    }
+
+    /// Takes out the element at a place.
+    pub(crate) fn remove(&mut self, at: usize) -> T
+        requires { at < length self.old }
+        ensures rest { self.new ≡ remove self.old at }
+        ensures value { result ≡ slice_index_or self.old at result }
+    {
+        self.elements.remove(at)
+    }
+
+    /// Moves what is behind the first half to an empty chunk. It takes no memory.
+    pub(crate) fn split_into(&mut self, other: &mut Chunk<T>)
+        requires { other.old ≡ [] }
+        ensures front { self.new ≡ take half_limit self.old }
+        ensures back { other.new ≡ drop half_limit self.old }
+    {
+        move_tail(&mut self.elements, &mut other.elements);
+    }
+
+    /// Whether the first element is before the bound; not where there is none.
+    pub(crate) fn begins_before<B: Bound<T>>(&self, bound: &B) -> bool
+        ensures { result ≡ first_passes (B.before bound.now) self.now }
+    {
+        match self.elements.first() {
+            Some(element) => bound.is_before(element),
+            None => false,
+        }
+    }
+
+    /// How many elements are before the bound.
+    pub(crate) fn count_before<B: Bound<T>>(&self, bound: &B) -> usize
+        ensures bound { result ≤ length self.now }
+        ensures place { IsPartitionedBy (B.before bound.now) self.now →
+            IsPartitionPoint (λ x. B.before bound.now x ≡ true) (λ x. B.before bound.now x ≡ false) self.now result }
+    {
+        self.elements
+            .partition_point(|element| bound.is_before(element))
+    }
+}
+
+// Puts an element at a place where there is room.
+fn put_in<T: Drop>(elements: &mut Vec<T>, at: usize, element: T)
+    requires room { vec_len elements.old < vec_capacity elements.old }
+    requires place { at ≤ vec_len elements.old }
+    ensures items { elements.new.items ≡ insert elements.old.items at element }
+    ensures len { vec_len elements.new ≡ vec_len elements.old + 1 }
+    ensures capacity { vec_capacity elements.old ≤ vec_capacity elements.new }
+{
+    let _ = elements.insert(at, element);
+}
+
+// Moves what is behind the first half to an empty list with room.
+fn move_tail<T: Drop>(from: &mut Vec<T>, to: &mut Vec<T>)
+    requires empty { to.old.items ≡ [] }
+    requires room { vec_len from.old ≤ vec_capacity to.old }
+    ensures front { from.new.items ≡ take half_limit from.old.items }
+    ensures back { to.new.items ≡ drop half_limit from.old.items }
+    ensures room { vec_capacity from.new ≡ vec_capacity from.old }
+    ensures room_to { vec_capacity to.new ≡ vec_capacity to.old }
+{
+    while from.len() > HALF {
+        if let Some(element) = from.pop() {
+            to.push_reserved(element);
+        }
+    }
+    to.reverse();
+}

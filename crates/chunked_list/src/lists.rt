@@ -1,0 +1,131 @@
+//! Ascending lists in chunks.
+ghost use Rattle.std.specs.Prelude.{◌≡◌, ◌<◌, ◌≤◌, ◌+◌, ◌⊎◌, ◌↔◌, [], List, length, map, IsTrue, IfOk, OnOk};
+ghost use Rattle.std.specs.List.{filter};
+ghost use Rattle.std.specs.Option.{option_copied};
+ghost use Rattle.chunked_list.specs.Joined.{joined_chunks};
+ghost use Rattle.chunked_list.specs.Parted.{IsParted, IsFirstOf};
+ghost use Rattle.tree_clock.specs.Lists.{Has, IsAscending};
+
+use crate::bounds::{Bound, Order};
+use crate::chunks::Chunk;
+use crate::filters::filtered_in;
+use crate::places::find;
+use crate::searches::{has_element, insert_in, remove_from};
+use crate::stores::{Store, build, empty, make_room};
+use std::alloc::{AllocError, Global};
+use std::marker::Model;
+
+/// A list in chunks. Contracts see its elements, and how many more can come in without memory, wherever they go.
+#[derive(Drop)]
+pub struct Chunked<T> {
+    store: Store<T>,
+}
+
+impl<T> Model for Chunked<T> {
+    ghost use Rattle.chunked_list.specs.Room.{ChunkedValue};
+
+    ghost Value = { ChunkedValue T };
+
+    ghost use Rattle.chunked_list.specs.Stores.{IsStore, elements_in, room_in};
+
+    ghost view = { λ list. record { elements = elements_in list.store; room = room_in list.store } };
+
+    ghost invariant = { λ list. IsStore list.store };
+}
+
+impl<T: Drop> Chunked<T> {
+    /// The list with no element.
+    pub fn new(alloc: Global) -> Chunked<T>
+        ensures { result.elements ≡ [] }
+    {
+        Chunked {
+            store: empty(alloc),
+        }
+    }
+
+    /// A list of these elements, in this order.
+    pub fn from_vec(alloc: Global, list: Vec<T>) -> Result<Chunked<T>, AllocError>
+        ensures { IfOk result (λ made. made.elements ≡ list.items) }
+    {
+        Ok(Chunked {
+            store: build(alloc, list)?,
+        })
+    }
+
+    /// The number of elements.
+    pub fn len(&self) -> usize
+        ensures { result ≡ length self.now.elements }
+    {
+        self.store.count
+    }
+
+    /// Whether there is no element.
+    pub fn is_empty(&self) -> bool
+        ensures { IsTrue result ↔ (self.now.elements ≡ []) }
+    {
+        self.store.count == 0
+    }
+
+    /// The chunks, in order.
+    pub fn chunks(&self) -> &[Chunk<T>]
+        ensures { joined_chunks result.now ≡ self.now.elements }
+    {
+        self.store.chunks.as_slice()
+    }
+
+    /// The first element that isn't before the bound.
+    pub fn first_from<B: Bound<T>>(&self, bound: &B) -> Option<&T>
+        requires { IsParted (B.before bound.now) self.now.elements }
+        ensures { IsFirstOf (B.before bound.now) self.now.elements (option_copied result) }
+    {
+        let place = find(&self.store.chunks, bound)?;
+        Some(&self.store.chunks[place.chunk].as_slice()[place.at])
+    }
+
+    /// The elements that are before the bound, wherever they stand, in order.
+    pub fn filtered<B: Bound<T>>(&self, alloc: Global, bound: &B) -> Result<Vec<&T>, AllocError>
+        ensures { IfOk result (λ found. map (λ x. x.now) found.items ≡ filter (B.before bound.now) self.now.elements) }
+    {
+        filtered_in(alloc, &self.store.chunks, bound)
+    }
+
+    /// Whether an ascending list has the element.
+    pub fn contains<O: Order<T>>(&self, order: &O, element: &T) -> bool
+        requires { IsAscending (O.order order.now) self.now.elements }
+        ensures { IsTrue result ↔ Has self.now.elements element.now }
+    {
+        has_element(&self.store.chunks, order, element)
+    }
+
+    /// Makes room for so many elements more.
+    pub fn prepare(&mut self, alloc: Global, more: usize) -> Result<(), AllocError>
+        ensures elements { self.new.elements ≡ self.old.elements }
+        ensures room { self.old.room ≤ self.new.room }
+        ensures ok { OnOk result (more ≤ self.new.room) }
+    {
+        make_room(alloc, &mut self.store, more)
+    }
+
+    /// Puts an element into an ascending list, unless it is there. It takes no memory.
+    pub fn insert<O: Order<T>>(&mut self, order: &O, element: T)
+        requires room { 0 < self.old.room }
+        requires order { IsAscending (O.order order.now) self.old.elements }
+        ensures ascending { IsAscending (O.order order.now) self.new.elements }
+        ensures members { (other : T) → Has self.new.elements other
+            ↔ (Has self.old.elements other ⊎ (other ≡ element)) }
+        ensures room { self.old.room ≤ self.new.room + 1 }
+    {
+        insert_in(&mut self.store, order, element);
+    }
+
+    /// Takes an element out of an ascending list, if it is there. It takes no memory.
+    pub fn remove<O: Order<T>>(&mut self, order: &O, element: &T)
+        requires { IsAscending (O.order order.now) self.old.elements }
+        ensures ascending { IsAscending (O.order order.now) self.new.elements }
+        ensures members { (other : T) → Has self.new.elements other
+            ↔ (Has self.old.elements other × ¬ (other ≡ element.now)) }
+        ensures room { self.old.room ≤ self.new.room }
+    {
+        remove_from(&mut self.store, order, element);
+    }
+}

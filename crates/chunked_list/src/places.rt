@@ -1,0 +1,83 @@
+//! Places in a list of chunks.
+ghost use Rattle.std.specs.Prelude.{◌≡◌, ℕ, ◌<◌, ◌≤◌, ◌+◌, true, false, [], length, max, IfSome, IfNone};
+ghost use Rattle.chunked_list.specs.Joined.{joined_chunks, chunk_at, front_of, back_of};
+ghost use Rattle.chunked_list.specs.Parted.{IsParted, Divides, IsElement};
+ghost use Rattle.chunked_list.specs.Stores.{AreSized};
+ghost use Rattle.tree_clock.specs.Lists.{Has};
+
+use crate::bounds::Bound;
+use crate::chunks::Chunk;
+
+/// A place in a list of chunks: in front of an element of a chunk, or behind its last one.
+#[derive(Clone, Copy)]
+pub(crate) struct Place {
+    /// The number of the chunk.
+    pub(crate) chunk: usize,
+    /// How many elements of the chunk are in front.
+    pub(crate) at: usize,
+}
+
+/// The place behind the elements before the bound, at the end of a chunk rather than at the beginning of the next.
+pub(crate) fn locate<T: Drop, B: Bound<T>>(chunks: &[Chunk<T>], bound: &B) -> Place
+    requires sized { AreSized chunks.now }
+    requires parted { IsParted (B.before bound.now) (joined_chunks chunks.now) }
+    ensures chunk { result.chunk < max 1 (length chunks.now) }
+    ensures at { result.at ≤ length (chunk_at chunks.now result.chunk) }
+    ensures divides { Divides (B.before bound.now) chunks.now result.chunk result.at }
+{
+    let begun = chunks.partition_point(|chunk| chunk.begins_before(bound));
+    let chunk = begun.saturating_sub(1);
+    if chunk < chunks.len() {
+        let at = chunks[chunk].count_before(bound);
+        return Place { chunk, at };
+    }
+    Place { chunk, at: 0 }
+}
+
+/// The place of the first element that is not before the bound.
+pub(crate) fn find<T: Drop, B: Bound<T>>(chunks: &[Chunk<T>], bound: &B) -> Option<Place>
+    requires sized { AreSized chunks.now }
+    requires parted { IsParted (B.before bound.now) (joined_chunks chunks.now) }
+    ensures element { IfSome result (λ place. IsElement chunks.now place.chunk place.at) }
+    ensures divides { IfSome result (λ place. Divides (B.before bound.now) chunks.now place.chunk place.at) }
+    ensures none { IfNone result ((x : T) → Has (joined_chunks chunks.now) x → B.before bound.now x ≡ true) }
+{
+    next_of(chunks, locate(chunks, bound))
+}
+
+/// The same place at an element: at the beginning of the next chunk, where the place is at the end of one.
+pub(crate) fn next_of<T: Drop>(chunks: &[Chunk<T>], place: Place) -> Option<Place>
+    requires sized { AreSized chunks.now }
+    requires chunk { place.chunk < max 1 (length chunks.now) }
+    requires at { place.at ≤ length (chunk_at chunks.now place.chunk) }
+    ensures element { IfSome result (λ next. IsElement chunks.now next.chunk next.at) }
+    ensures front { IfSome result (λ next. front_of chunks.now next.chunk next.at ≡ front_of chunks.now place.chunk place.at) }
+    ensures back { IfSome result (λ next. back_of chunks.now next.chunk next.at ≡ back_of chunks.now place.chunk place.at) }
+    ensures none { IfNone result (joined_chunks chunks.now ≡ front_of chunks.now place.chunk place.at) }
+{
+    if place.chunk < chunks.len() && place.at < chunks[place.chunk].len() {
+        return Some(place);
+    }
+    let next = place.chunk + 1;
+    if next < chunks.len() {
+        return Some(Place { chunk: next, at: 0 });
+    }
+    None
+}
+
+/// The place behind all elements.
+pub(crate) fn end_of<T: Drop>(chunks: &[Chunk<T>]) -> Place
+    ensures chunk { result.chunk < max 1 (length chunks.now) }
+    ensures at { result.at ≤ length (chunk_at chunks.now result.chunk) }
+    ensures front { front_of chunks.now result.chunk result.at ≡ joined_chunks chunks.now }
+    ensures back { back_of chunks.now result.chunk result.at ≡ [] }
+{
+    if chunks.is_empty() {
+        return Place { chunk: 0, at: 0 };
+    }
+    let chunk = chunks.len() - 1;
+    Place {
+        chunk,
+        at: chunks[chunk].len(),
+    }
+}

@@ -1,0 +1,113 @@
+-- The first pair of an ascending list that isn't before a triple.
+use Rattle.std.proofs.Common.{◌≡◌, ◌∙◌, List, [], ◌∷◌, Bool, true, false, Option, None, Some, IsTrue, ◌↔◌, ◌⊎◌, refl, sym, subst, ap, inl, inr}
+use Rattle.std.proofs.lemmas.Bool.{cases_Bool, true≢false, false≢true}
+use Rattle.std.proofs.lemmas.Cmp.{tied_itself}
+use Rattle.std.specs.List.{AllByRecursion}
+use Rattle.std.specs.Ordering.{is_lt, is_eq, eq_by_cmp, ordering_then}
+use Rattle.std.specs.declared.cmp.Ordering.{Ordering}
+use Rattle.std.specs.declared.cmp.Ordering.TheVariants.{Less, Equal, Greater}
+use Rattle.rdf_terms.specs.declared.terms.Triple.{Triple}
+use Rattle.rdf_terms.specs.Order.{triple_cmp}
+use Rattle.rdf_terms.specs.OrderLaws.{triple_total, triple_exact}
+use Rattle.tree_clock.specs.declared.dots.Dot.{Dot}
+use Rattle.tree_clock.specs.Dot.{dot_cmp}
+use Rattle.tree_clock.specs.Lists.{Has, IsAscending}
+use Rattle.mld_ops.specs.declared.tagged.Tagged.{Tagged}
+use Rattle.mld_ops.specs.Tagged.{tagged_cmp}
+use Rattle.mld_ops.proofs.AscendingLaws.{below_member}
+use Rattle.chunked_list.specs.Parted.{IsParted, IsFirstOf}
+use Rattle.graph_index.specs.Matching.{HasTriple}
+
+-- whether a pair is before the pairs with the triple
+abbrev pub is_before : Triple → Tagged → Bool
+is_before triple pair = is_lt (triple_cmp pair.triple triple)
+
+lower : (o : Ordering) → is_lt o ≡ true → o ≡ Less
+lower Less h = refl
+lower Equal h = absurd (false≢true h)
+lower Greater h = absurd (false≢true h)
+
+then_cases : (o q : Ordering) → ordering_then o q ≡ Less → (o ≡ Less) ⊎ (o ≡ Equal)
+then_cases Less q h = inl refl
+then_cases Equal q h = inr refl
+then_cases Greater q h = cc
+
+not_itself : (triple : Triple) → is_lt (triple_cmp triple triple) ≡ true → ⊥
+not_itself triple h = false≢true (sym (ap is_lt (tied_itself triple_total triple)) ∙ h)
+
+-- a pair behind one that isn't before the triple isn't either
+not_before : (triple : Triple) (x y : Tagged) → tagged_cmp x y ≡ Less → is_before triple x ≡ false → is_before triple y ≡ false
+not_before triple x y l f = elim (cases_Bool (is_before triple y)) [
+  | inl t ↦ elim (then_cases (triple_cmp x.triple y.triple) (dot_cmp x.dot y.dot) l) [
+    | inl e ↦ absurd (true≢false (sym (ap is_lt (triple_total.trans x.triple y.triple triple e (lower (triple_cmp y.triple triple) t))) ∙ f))
+    | inr e ↦ absurd (true≢false (sym (ap (λ w. is_lt (triple_cmp w triple)) (triple_exact x.triple y.triple e) ∙ t) ∙ f))
+  ]
+  | inr e ↦ e
+]
+
+all_not : (triple : Triple) (x : Tagged) (ys : List Tagged) → ((y : Tagged) → Has ys y → tagged_cmp x y ≡ Less) → is_before triple x ≡ false → AllByRecursion (λ y. is_before triple y ≡ false) ys
+all_not triple x [] h f = tt
+all_not triple x (y ∷ ys) h f = (not_before triple x y (h y (inl refl)) f, all_not triple x ys (λ z k. h z (inr k)) f)
+
+pub parted_by_triple : (triple : Triple) (xs : List Tagged) → IsAscending tagged_cmp xs → IsParted (is_before triple) xs
+parted_by_triple triple [] a = tt
+parted_by_triple triple (x ∷ xs) a = (λ f. all_not triple x xs (λ y k. below_member tagged_cmp x xs y a.0 k) f, parted_by_triple triple xs a.1)
+
+-- the first one that isn't before the triple has it, where some pair does
+pub first_has : (triple : Triple) (xs : List Tagged) (first : Option Tagged) → IsAscending tagged_cmp xs → IsFirstOf (is_before triple) xs first
+    → HasTriple xs triple → (pair : Tagged) × (first ≡ Some pair) × (pair.triple ≡ triple)
+first_has triple [] first a f h = absurd h.1
+first_has triple (x ∷ xs) first a (inl f) h = elim h.1 [
+  | inl e ↦ absurd (not_itself triple (subst (λ (w : Tagged). is_before triple w ≡ true) e f.0))
+  | inr k ↦ first_has triple xs first a.1 f.1 (h.0, k)
+]
+first_has triple (x ∷ xs) first a (inr f) h = (
+  x,
+  f.1,
+  elim h.1 [
+    | inl e ↦ ap (λ (w : Tagged). w.triple) e
+    | inr k ↦ elim (then_cases (triple_cmp x.triple triple) (dot_cmp x.dot h.0) (below_member tagged_cmp x xs (record { triple = triple; dot = h.0 }) a.0 k)) [
+      | inl e ↦ absurd (true≢false (sym (ap is_lt e) ∙ f.0))
+      | inr e ↦ triple_exact x.triple triple e
+    ]
+  ],
+)
+
+-- a first one that has the triple is a member
+pub first_is_member : (triple : Triple) (xs : List Tagged) (pair : Tagged) → IsFirstOf (is_before triple) xs (Some pair) → Has xs pair
+first_is_member triple [] pair f = cc
+first_is_member triple (x ∷ xs) pair (inl f) = inr (first_is_member triple xs pair f.1)
+first_is_member triple (x ∷ xs) pair (inr f) = inl (some_same f.1)
+  where
+    some_same : {a b : Tagged} → Some a ≡ Some b → b ≡ a
+    some_same e = cc
+
+pub has_from_first : (triple : Triple) (xs : List Tagged) (pair : Tagged) → IsFirstOf (is_before triple) xs (Some pair) → pair.triple ≡ triple → HasTriple xs triple
+has_from_first triple xs pair f e = (pair.dot, subst (λ (t : Triple). Has xs (record { triple = t; dot = pair.dot })) e (first_is_member triple xs pair f))
+
+tied : (o : Ordering) → is_eq o ≡ true → o ≡ Equal
+tied Less h = absurd (false≢true h)
+tied Equal h = refl
+tied Greater h = absurd (false≢true h)
+
+pub first_some : (triple : Triple) (xs ys : List Tagged) (pair : Tagged) (b : Bool) → xs ≡ ys → IsAscending tagged_cmp xs → IsFirstOf (is_before triple) xs (Some pair)
+    → b ≡ eq_by_cmp triple_cmp pair.triple triple → IsTrue b ↔ HasTriple ys triple
+first_some triple xs ys pair b v a f e = (
+  λ h. subst (λ zs. HasTriple zs triple) v (has_from_first triple xs pair f (triple_exact pair.triple triple (tied (triple_cmp pair.triple triple) (sym e ∙ h)))),
+  λ h. let g = first_has triple xs (Some pair) a f (subst (λ zs. HasTriple zs triple) (sym v) h) in
+      e ∙ same pair g.0 g.1 g.2,
+)
+  where
+    same : (x y : Tagged) → Some x ≡ Some y → y.triple ≡ triple → eq_by_cmp triple_cmp x.triple triple ≡ true
+    same x y s t =
+        let q : x ≡ y = cc in
+        ap (λ w. is_eq (triple_cmp w triple)) (ap (λ (w : Tagged). w.triple) q ∙ t) ∙ ap is_eq (tied_itself triple_total triple)
+
+pub first_none : (triple : Triple) (xs ys : List Tagged) → xs ≡ ys → IsAscending tagged_cmp xs → IsFirstOf (is_before triple) xs None → IsTrue false ↔ HasTriple ys triple
+first_none triple xs ys v a f = (
+  λ h. absurd (false≢true h),
+  λ h. let g = first_has triple xs None a f (subst (λ zs. HasTriple zs triple) (sym v) h) in absurd (never g.0 g.1),
+)
+  where
+    never : (x : Tagged) → None ≡ Some x → ⊥
+    never x e = cc
