@@ -3,7 +3,6 @@ use Rattle.std.specs.Prelude.{◌≡◌, Option}
 use Rattle.mld_io.specs.Disk.{Log}
 use Rattle.journal_store.specs.Calls.{KeptBy}
 use Rattle.journal_store.specs.Pairs.{Kept}
-use Rattle.journal_store.specs.Standing.{JournalValue}
 use Rattle.journal_store.specs.declared.faults.Why.{Why}
 
 -- an open journal over banks that tell their log keeps just this

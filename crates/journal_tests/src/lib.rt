@@ -5,6 +5,8 @@
 #[cfg(test)]
 mod crash_tests;
 #[cfg(test)]
+mod failing_tests;
+#[cfg(test)]
 mod made;
 #[cfg(test)]
 mod writing_tests;
