@@ -1,5 +1,5 @@
 //! Schedules worked by hand, each with what the run tells of the world that it ends with.
-use crate::run_tests::{ran_by, with_comment};
+use crate::runs::{ran_by, with_comment};
 use mld_io::{MemorySink, MemorySource};
 use mld_ops::Tagged;
 use mld_replay::run::RunFault;

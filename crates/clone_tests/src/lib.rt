@@ -1,0 +1,9 @@
+//! Tests of clones, and of those who ask for a leaf, through their public calls.
+#![tactic(auto)]
+
+#[cfg(test)]
+mod alone;
+#[cfg(test)]
+mod clones;
+#[cfg(test)]
+mod joining;
