@@ -1,5 +1,5 @@
 //! A bank in memory.
-ghost use Rattle.std.specs.Prelude.{◌≡◌, ◌↔◌, ℕ, ◌+◌, ◌^◌, ◌<◌, ◌≤◌, ◌++◌, [], ◌∷◌, Option, None, Some, Ok, length, take, drop, IsTrue, IsOk, IfOk, OnOk, OnErr, IsErrOf, IsSome, refl};
+ghost use Rattle.std.specs.Prelude.{◌≡◌, ◌↔◌, ℕ, ◌+◌, ◌^◌, ◌<◌, ◌≤◌, ◌++◌, [], ◌∷◌, Option, None, Some, Ok, length, take, drop, IsTrue, IsOk, IfOk, OnOk, OnErr, IsErrOf, IsSome, refl, vec_len};
 ghost use Rattle.mld_io.specs.Arm.{Meter, Unarmed, Caught, Metered, armed, revived};
 ghost use Rattle.mld_io.specs.Disk.{Log, Writes, Revives, Syncs, Wrote, bytes_of, grown, seen};
 ghost use Rattle.disk_model.specs.CountedCalls.{armed_calls, revived_calls};
@@ -204,4 +204,15 @@ fn copy_from(bytes: &[u8], at: usize, out: &mut [u8])
     ensures { out.new ≡ take (length out.old) (drop at bytes.now) }
 {
     out.copy_from_slice(&bytes[at..at + out.len()]);
+}
+
+/// So many blank banks.
+pub fn blank_banks(alloc: Global, count: usize) -> Result<Vec<MemoryBanks>, AllocError>
+    ensures count { IfOk result (λ banks. vec_len banks ≡ count) }
+{
+    let mut banks = Vec::with_capacity(alloc, count)?;
+    for _ in 0..count {
+        banks.push_reserved(MemoryBanks::blank(alloc));
+    }
+    Ok(banks)
 }

@@ -9,4 +9,4 @@ mod store;
 #[cfg(test)]
 mod tests;
 
-pub use banks::MemoryBanks;
+pub use banks::{MemoryBanks, blank_banks};
