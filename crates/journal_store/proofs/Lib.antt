@@ -14,3 +14,4 @@ pub mod WrittenLaws
 pub mod ReadLaws
 pub mod JournalLaws
 pub mod SettlingLaws
+pub mod GoodLaws

@@ -14,7 +14,7 @@ use Rattle.journal_store.specs.Heads.{head_value}
 use Rattle.journal_store.specs.Pairs.{Kept, KeepsNone, Keeps, Damages, read_banks, kept_on}
 use Rattle.journal_store.specs.SideReadings.{IsClosed, IsOpen, IsDamaged, Volume, read_side}
 use Rattle.journal_store.specs.Standing.{EndsAt, IsBehind}
-use Rattle.journal_store.specs.StoredVolumes.{IsVolume}
+use Rattle.journal_store.specs.StoredVolumes.{IsGoodHead, AreGoodEntries, IsVolume}
 
 -- the bytes begin with an open gate
 abbrev pub BeginsOpen : List ℕ → Type 0
@@ -40,6 +40,11 @@ pub record IsFoundOn (found : Found) (bytes : List ℕ) : Type 0 where
 abbrev pub HasPlaceBehind : Option Found → Type 0
 HasPlaceBehind None = Unit {0}
 HasPlaceBehind (Some found) = found.stop + 1 < 2 ^ 64
+
+-- what was found may be written again
+abbrev pub MayBeWritten : Option Found → Type 0
+MayBeWritten None = Unit {0}
+MayBeWritten (Some found) = IsGoodHead (head_value found.head) × AreGoodEntries (head_value found.head).base.ticks found.entries.items
 
 -- the fault of a side's bytes
 abbrev pub fault_on : Side → CodecFault → MountFault

@@ -6,6 +6,7 @@ use Rattle.journal_store.specs.declared.mounting.JournalMounted.{JournalMounted}
 use Rattle.journal_store.specs.declared.mounting.JournalMounted.TheVariants.{Found, Empty, Refused}
 use Rattle.journal_store.specs.Heads.{head_value}
 use Rattle.journal_store.specs.Pairs.{PairReading, KeepsNone, Keeps, Damages}
+use Rattle.journal_store.specs.StoredVolumes.{IsGoodHead, AreGoodEntries}
 
 -- the banks, whatever a mount answered
 abbrev pub mounted_banks : {B : Type 0} → JournalMounted B → B
@@ -27,6 +28,12 @@ abbrev pub IsOpened : {B : Type 0} → JournalMounted B → Type 0
 IsOpened (Found journal head entries) = journal.closed ≡ None
 IsOpened (Empty blank) = Unit {0}
 IsOpened (Refused fault banks) = Unit {0}
+
+-- a head and entries that were found are such as may be written, so a swap may have them
+abbrev pub FindsGood : {B : Type 0} → JournalMounted B → Type 0
+FindsGood (Found journal head entries) = IsGoodHead (head_value head) × AreGoodEntries (head_value head).base.ticks entries.items
+FindsGood (Empty blank) = Unit {0}
+FindsGood (Refused fault banks) = Unit {0}
 
 -- the device didn't fail: both sides were synced
 abbrev pub BothSynced : {B : Type 0} → JournalMounted B → Type 0

@@ -3,7 +3,7 @@ ghost use Rattle.std.specs.Prelude.{◌≡◌, ◌≤◌, ◌+◌, ◌++◌, Som
 ghost use Rattle.mld_io.specs.Arm.{Metered};
 ghost use Rattle.mld_io.specs.Disk.{Log, Sides, bytes_of, seen};
 ghost use Rattle.journal_store.specs.Crashes.{LeavesNoMore};
-ghost use Rattle.journal_store.specs.Found.{HasPlaceBehind, ReadsSame, TellsSide, TellsBoth, IsQuiet, IsFailed};
+ghost use Rattle.journal_store.specs.Found.{HasPlaceBehind, MayBeWritten, ReadsSame, TellsSide, TellsBoth, IsQuiet, IsFailed};
 ghost use Rattle.journal_store.specs.Mounting.{IsSynced};
 
 use crate::faults::MountFault;
@@ -82,6 +82,7 @@ fn read_bytes<B: Banks>(alloc: Global, banks: &mut B, side: Side) -> Result<Vec<
 fn find_on<B: Banks>(alloc: Global, banks: &mut B, side: Side) -> Result<Option<Found>, MountFault>
     ensures tells { (l : Log) → B.log banks.old ≡ Some l → TellsSide side (bytes_of side (seen l)) result }
     ensures room { IfOk result HasPlaceBehind }
+    ensures good { IfOk result MayBeWritten }
     ensures log { B.log banks.new ≡ B.log banks.old }
     ensures meter { Metered 0 (B.meter banks.old) (B.meter banks.new) (IsQuiet result) (IsFailed result) }
 {
@@ -107,6 +108,7 @@ fn choose(a: Option<Found>, b: Option<Found>) -> Result<Option<Found>, MountFaul
     ensures tells { (sides : Sides) → TellsSide Side.A sides.a (Ok a) → TellsSide Side.B sides.b (Ok b) → TellsBoth sides result }
     ensures quiet { IsQuiet result }
     ensures room { HasPlaceBehind a → HasPlaceBehind b → IfOk result HasPlaceBehind }
+    ensures good { MayBeWritten a → MayBeWritten b → IfOk result MayBeWritten }
 {
     let Some(a) = a else {
         return Ok(b);
@@ -130,6 +132,7 @@ fn choose(a: Option<Found>, b: Option<Found>) -> Result<Option<Found>, MountFaul
 pub(crate) fn find<B: Banks>(alloc: Global, banks: &mut B) -> Result<Option<Found>, MountFault>
     ensures tells { (l : Log) → B.log banks.old ≡ Some l → TellsBoth (seen l) result }
     ensures room { IfOk result HasPlaceBehind }
+    ensures good { IfOk result MayBeWritten }
     ensures synced { (l : Log) → B.log banks.old ≡ Some l → IsSynced (IsQuiet result) l (B.log banks.new) }
     ensures moments { (l : Log) → B.log banks.old ≡ Some l → LeavesNoMore l (B.log banks.new) }
     ensures untold { B.log banks.old ≡ None → B.log banks.new ≡ None }

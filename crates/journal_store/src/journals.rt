@@ -97,6 +97,13 @@ impl<B: Banks> Journal<B> {
         }
     }
 
+    /// Why an earlier call closed the journal, if one did.
+    pub fn is_closed(&self) -> Option<Why>
+        ensures { result ≡ self.now.closed }
+    {
+        self.closed
+    }
+
     /// The banks. It takes no memory.
     pub fn into_banks(self) -> B
         ensures { result ≡ self.banks }

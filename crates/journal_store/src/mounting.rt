@@ -3,7 +3,7 @@ ghost use Rattle.std.specs.Prelude.{◌≡◌, Some, None};
 ghost use Rattle.mld_io.specs.Arm.{Metered};
 ghost use Rattle.mld_io.specs.Disk.{Log, seen};
 ghost use Rattle.journal_store.specs.Crashes.{LeavesNoMore};
-ghost use Rattle.journal_store.specs.Mounting.{mounted_banks, TellsPair, IsOpened, BothSynced, FailsToMount, IsSynced};
+ghost use Rattle.journal_store.specs.Mounting.{mounted_banks, TellsPair, IsOpened, FindsGood, BothSynced, FailsToMount, IsSynced};
 ghost use Rattle.journal_store.specs.Pairs.{read_banks};
 
 use crate::bank_reading::find;
@@ -30,6 +30,7 @@ impl<B: Banks> Journal<B> {
     pub fn mount(alloc: Global, banks: B) -> JournalMounted<B>
         ensures tells { (l : Log) → B.log banks ≡ Some l → TellsPair result (read_banks (seen l)) }
         ensures opened { IsOpened result }
+        ensures good { FindsGood result }
         ensures synced { (l : Log) → B.log banks ≡ Some l → IsSynced (BothSynced result) l (B.log (mounted_banks result)) }
         ensures moments { (l : Log) → B.log banks ≡ Some l → LeavesNoMore l (B.log (mounted_banks result)) }
         ensures untold { B.log banks ≡ None → B.log (mounted_banks result) ≡ None }

@@ -1,6 +1,6 @@
 //! The reading of a side's bytes.
 ghost use Rattle.std.specs.Prelude.{◌≡◌, ◌↔◌, Some, IsTrue, IfOk};
-ghost use Rattle.journal_store.specs.Found.{BeginsOpen, HasPlaceBehind, TellsVolume, TellsSide, IsQuiet, fault_on};
+ghost use Rattle.journal_store.specs.Found.{BeginsOpen, HasPlaceBehind, MayBeWritten, TellsVolume, TellsSide, IsQuiet, fault_on};
 
 use crate::faults::MountFault;
 use crate::head_reading::{Opening, read_head};
@@ -76,6 +76,7 @@ pub(crate) fn find_in(alloc: Global, side: Side, input: &[u8]) -> Result<Option<
     ensures tells { TellsSide side input.now result }
     ensures quiet { IsQuiet result }
     ensures room { IfOk result HasPlaceBehind }
+    ensures good { IfOk result MayBeWritten }
 {
     if !is_opened(input) {
         return Ok(None);
