@@ -25,8 +25,8 @@ use Rattle.mld_ops.specs.Cut.{IsCutOf}
 use Rattle.mld_model.specs.Clone.{Stored, known_of, with_range, IsKnown, IsReady}
 use Rattle.mld_model.specs.CloneStep.{IsNextTick}
 use Rattle.mld_model.specs.Sound.{IsDoneRange}
-use Rattle.mld_model.specs.Local.{LocalClone, next_dot, LocallyMakes}
-use Rattle.mld_model.specs.StandsFor.{EntryStandsFor, LocalStandsFor, SnapshotStandsFor}
+use Rattle.mld_model.specs.Local.{LocalClone, LocalStored, stored_of, next_dot, LocallyMakes}
+use Rattle.mld_model.specs.StandsFor.{EntryStandsFor, StoredStandsFor, LocalStandsFor, SnapshotStandsFor}
 use Rattle.mld_model.proofs.KnownLaws.{known_with, known_with-old, known_with-new, known_with-split}
 use Rattle.mld_model.proofs.HistoryLaws.{done_not_fresh}
 
@@ -81,18 +81,24 @@ entries_still_stand history next entries ranges is_next done all =
 base_known : (base journal : List Range) (dot : Dot) → Knows base dot → Knows (base ++ journal) dot
 base_known base journal dot h = (Knows-append base journal dot).1 (inl h)
 
+-- what a device has of a clone stands for the same in the longer history, if the base lacks the dot of the new operation
+pub stored_stands_longer : (history : List Operation) (next : Operation) (running : LocalStored) (stored : Stored) → IsNext history next
+    → ¬ Knows stored.base next.dot → ((range : Range) → Has stored.journal range → IsDoneRange history range)
+    → StoredStandsFor history running stored → StoredStandsFor (next ∷ history) running stored
+stored_stands_longer history next running stored is_next unknown journal_done stands = record {
+  path = stands.path;
+  base = stands.base;
+  base_pairs = meaning_with_unknown history stored.base next running.base_pairs stands.base_pairs unknown;
+  entries = entries_still_stand history next running.entries stored.journal is_next journal_done stands.entries;
+}
+
 -- a clone that doesn't know the dot of a new operation stands for the same clone in the longer history
 pub local_still_stands : (history : List Operation) (next : Operation) (running : LocalClone) (stored : Stored) (held : List Range) → IsNext history next
     → ¬ Knows (known_of stored) next.dot
     → ((range : Range) → Has stored.journal range → IsDoneRange history range) → ((range : Range) → Has held range → IsDoneRange history range)
     → LocalStandsFor history running stored held → LocalStandsFor (next ∷ history) running stored held
 local_still_stands history next running stored held is_next unknown journal_done held_done stands = record {
-  kept = record {
-    path = stands.kept.path;
-    base = stands.kept.base;
-    base_pairs = meaning_with_unknown history stored.base next running.base_pairs stands.kept.base_pairs (λ k. unknown (base_known stored.base stored.journal next.dot k));
-    entries = entries_still_stand history next running.entries stored.journal is_next journal_done stands.kept.entries;
-  };
+  kept = stored_stands_longer history next (stored_of running) stored is_next (λ k. unknown (base_known stored.base stored.journal next.dot k)) journal_done stands.kept;
   held = entries_still_stand history next running.held held is_next held_done stands.held;
   known = stands.known;
   pairs = meaning_with_unknown history (known_of stored) next running.pairs stands.pairs unknown;

@@ -7,7 +7,7 @@ use Rattle.tree_clock.specs.Lists.{Has}
 use Rattle.mld_ops.proofs.AscendingLaws.{has_append}
 use Rattle.mld_ops.specs.History.{Operation}
 use Rattle.mld_ops.specs.Effect.{range_of}
-use Rattle.mld_model.specs.Clone.{Clone, Absent, Asking, Live, Stored, with_range, Releases}
+use Rattle.mld_model.specs.Clone.{Clone, Absent, Asking, Down, Live, Stored, with_range, Releases}
 use Rattle.mld_model.specs.World.{World, Message, RangeOf, clone_at, with_clone}
 use Rattle.mld_model.specs.CloneStep.{after_operation, left_half, joined_with}
 use Rattle.mld_model.specs.Sound.{Keeps}
@@ -46,6 +46,16 @@ one_tick_asking = record { journal = λ kept keeps. absurd keeps; held = λ kept
   where
     none : (stored : Stored) (held : List Range) → ¬ (Asking ≡ Live stored held)
     none stored held same = cc
+
+-- and one that is down with such a journal
+pub one_tick_down : (stored : Stored) → AreOneTick stored.journal → HasOneTickClone (Down stored)
+one_tick_down stored journal_one = record {
+  journal = λ kept same. subst (λ (s : Stored). AreOneTick s.journal) same journal_one;
+  held = λ kept back same. absurd (none kept back same);
+}
+  where
+    none : (other : Stored) (held : List Range) → ¬ (Down stored ≡ Live other held)
+    none other held same = cc
 
 -- what is true of each clone is so once one of them is in another state, of which it is true
 clone_after : (P : Clone → Type 0) (clones : List Clone) (number other : ℕ) (now : Clone) → P Absent → P now → P (get_or clones other Absent)

@@ -1,10 +1,10 @@
 -- What a clone does by its state: the states are told apart here, and nowhere above.
-use Rattle.std.proofs.Common.{◌≡◌, List, refl, sym, ◌∙◌, subst}
+use Rattle.std.proofs.Common.{◌≡◌, ℕ, List, [], refl, sym, ◌∙◌, subst}
 use Rattle.tree_clock.specs.declared.dots.Range.{Range}
 use Rattle.mld_model.specs.Clone.{Clone, Absent, Asking, Empty, Down, Live, Stored}
-use Rattle.mld_model.specs.World.{World}
-use Rattle.mld_model.specs.Reply.{Reply, IsAbsent, IsAsking, IsDown}
-use Rattle.mld_model.specs.CloneStep.{Answers, ByState, IfLive}
+use Rattle.mld_model.specs.World.{World, with_clone}
+use Rattle.mld_model.specs.Reply.{Reply, IsAbsent, IsAsking, IsDown, IsLive, Opened}
+use Rattle.mld_model.specs.CloneStep.{Answers, ByState, IfLive, Reopens}
 
 -- what follows in each state of a clone follows whatever its state is
 pub by_state : (C : Type 0) (clone : Clone) (absent asking down : Type 0) (live : Stored → List Range → Type 0)
@@ -48,6 +48,25 @@ pub live_does : (world : World) (clone : Clone) (reply : Reply) (next : World) (
     (stored : Stored) (held : List Range) → clone ≡ Live stored held → does stored held → IfLive world clone reply next does
 live_does world clone reply next does stored held is p = subst (λ (c : Clone). IfLive world c reply next does) (sym is) p
 
+-- the reply says the state of a clone that isn't down
+pub data IsStanding : Reply → Type 0 where
+  stands_absent : IsStanding IsAbsent
+  stands_asking : IsStanding IsAsking
+  stands_live : IsStanding IsLive
+
+-- what holds where a clone that is told to open replies with its state and nothing changes, where it keeps nothing and asks, and where it
+-- is live with what it keeps, holds whatever its state is
+pub if_opens : (C : Type 0) (world : World) (number : ℕ) (clone : Clone) (reply : Reply) (next : World)
+    → ((answer : Reply) → IsStanding answer → Answers world answer reply next → C)
+    → (clone ≡ Empty → reply ≡ IsAsking → next ≡ with_clone world number Asking → C)
+    → ((stored : Stored) → clone ≡ Down stored → reply ≡ Opened → next ≡ with_clone world number (Live stored []) → C)
+    → Reopens world number clone reply next → C
+if_opens C world number Absent reply next state empty down p = state IsAbsent stands_absent p
+if_opens C world number Asking reply next state empty down p = state IsAsking stands_asking p
+if_opens C world number Empty reply next state empty down p = empty refl p.0 p.1
+if_opens C world number (Down stored) reply next state empty down p = down stored refl p.0 p.1
+if_opens C world number (Live stored held) reply next state empty down p = state IsLive stands_live p
+
 -- two outcomes are the same
 abbrev pub AreSame : Reply → World → Reply → World → Type 0
 AreSame reply next other after = (reply ≡ other) × (next ≡ after)
@@ -63,3 +82,12 @@ pub once_if_live : (world : World) (clone : Clone) (reply other : Reply) (next a
     → IfLive world clone reply next does → IfLive world clone other after too → AreSame reply next other after
 once_if_live world clone reply other next after does too live =
     by_one_state (AreSame reply next other after) clone _ _ _ does _ _ _ too (λ p q. answers_once p q) (λ p q. answers_once p q) (λ p q. answers_once p q) live
+
+-- a clone that is told to open has one outcome
+pub opens_once : (world : World) (number : ℕ) (clone : Clone) (reply other : Reply) (next after : World)
+    → Reopens world number clone reply next → Reopens world number clone other after → AreSame reply next other after
+opens_once world number Absent reply other next after p q = answers_once p q
+opens_once world number Asking reply other next after p q = answers_once p q
+opens_once world number Empty reply other next after p q = (p.0 ∙ sym q.0, p.1 ∙ sym q.1)
+opens_once world number (Down stored) reply other next after p q = (p.0 ∙ sym q.0, p.1 ∙ sym q.1)
+opens_once world number (Live stored held) reply other next after p q = answers_once p q

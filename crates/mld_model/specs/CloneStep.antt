@@ -14,7 +14,7 @@ use Rattle.mld_ops.specs.Meaning.{IsMeaning}
 use Rattle.mld_model.specs.Clone.{Clone, Absent, Asking, Empty, Down, Live, Stored, known_of, with_range, IsKnown, IsReady, IsHeldBack, AreKnownTo, Releases}
 use Rattle.mld_ops.specs.Held.{held_limit}
 use Rattle.mld_model.specs.World.{World, Message, RangeOf, JoinAsk, JoinGive, with_clone}
-use Rattle.mld_model.specs.Reply.{Reply, Did, NoOperation, Took, Held, HeldFull, AlreadyKnown, Shows, Same, Less, More, Apart, Sent, Answer, Joined, Deep, Ignored, IsAbsent, IsAsking, IsDown, IsLive}
+use Rattle.mld_model.specs.Reply.{Reply, Did, NoOperation, Took, Held, HeldFull, AlreadyKnown, Shows, Same, Less, More, Apart, Sent, Answer, Joined, Deep, Ignored, IsAbsent, IsAsking, IsDown, IsLive, Stopped, Opened}
 
 -- a reply that changes nothing
 abbrev pub Answers : World → Reply → Reply → World → Type 0
@@ -159,6 +159,19 @@ abbrev pub Takes : World → ℕ → Message → Clone → Reply → World → T
 Takes world number message clone reply next =
     ByState clone (Answers world IsAbsent reply next) (AskerTakes world number message reply next) (Answers world IsDown reply next)
     (λ stored held. LiveTakes world number message stored held reply next)
+
+-- a live clone stops: it keeps what its device has, and forgets what it holds back
+abbrev pub Stops : World → ℕ → Clone → Reply → World → Type 0
+Stops world number clone reply next =
+    IfLive world clone reply next (λ stored held. (reply ≡ Stopped) × (next ≡ with_clone world number (Down stored)))
+
+-- a clone that is down opens: it is live with what it keeps, and holds nothing back; where it keeps nothing, it asks for a leaf
+abbrev pub Reopens : World → ℕ → Clone → Reply → World → Type 0
+Reopens world number Absent reply next = Answers world IsAbsent reply next
+Reopens world number Asking reply next = Answers world IsAsking reply next
+Reopens world number Empty reply next = (reply ≡ IsAsking) × (next ≡ with_clone world number Asking)
+Reopens world number (Down stored) reply next = (reply ≡ Opened) × (next ≡ with_clone world number (Live stored []))
+Reopens world number (Live stored held) reply next = Answers world IsLive reply next
 
 -- the pairs of a clone: the meaning of the dots that it knows
 abbrev pub Lists : World → Clone → Reply → World → Type 0

@@ -44,3 +44,7 @@ pub data Reply : Type 0 where
   IsAsking : Reply
   IsDown : Reply
   IsLive : Reply
+  -- a live clone was stopped
+  Stopped : Reply
+  -- a clone that was down is live
+  Opened : Reply

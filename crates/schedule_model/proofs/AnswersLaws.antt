@@ -13,16 +13,17 @@ use Rattle.mld_ops.specs.History.{Operation, dot_at}
 use Rattle.mld_ops.specs.Meaning.{IsMeaning}
 use Rattle.mld_ops.specs.Effect.{range_of}
 use Rattle.mld_ops.proofs.OperationLaws.{range_of_has}
-use Rattle.schedule_model.specs.declared.Command.TheVariants.{Add, Remove, Deliver, Show, Compare, Join}
-use Rattle.mld_model.specs.Clone.{Clone, Absent, Asking, Live, Stored, known_of, with_range}
-use Rattle.mld_model.specs.World.{World, Message, RangeOf, JoinAsk, JoinGive, message_at, clone_at}
+use Rattle.schedule_model.specs.declared.Command.TheVariants.{Add, Remove, Deliver, Show, Compare, Join, Stop, Open}
+use Rattle.mld_model.specs.Clone.{Clone, Absent, Asking, Down, Live, Stored, kept_of, known_of, with_range}
+use Rattle.mld_model.specs.World.{World, Message, RangeOf, JoinAsk, JoinGive, message_at, clone_at, with_clone}
 use Rattle.mld_model.specs.Reply.{Reply, Did, NoMessage, IsAbsent, IsDown}
-use Rattle.mld_model.specs.CloneStep.{Answers, Makes, Adds, ArePairsOf, Deletes, finds_none, deletes_all, Removes, holds_already, holds_too_many, holds_from_now, TakesRange, knows_already, accepts, holds_back, Asks, Joins, left_half, TakesAsk, asked_itself, is_too_deep, forks, joined_with, TakesLeaf, becomes_live, leaves_it, AskerTakes, LiveTakes, Takes, Lists, Compares, same_dots, fewer_dots, more_dots, dots_apart, ComparesWith, Weighs}
-use Rattle.mld_model.proofs.StateLaws.{by_state, IsState, is_absent, is_asking, is_down, if_live}
+use Rattle.mld_model.specs.CloneStep.{Answers, Makes, Adds, ArePairsOf, Deletes, finds_none, deletes_all, Removes, holds_already, holds_too_many, holds_from_now, TakesRange, knows_already, accepts, holds_back, Asks, Joins, left_half, TakesAsk, asked_itself, is_too_deep, forks, joined_with, TakesLeaf, becomes_live, leaves_it, AskerTakes, LiveTakes, Takes, Stops, Reopens, Lists, Compares, same_dots, fewer_dots, more_dots, dots_apart, ComparesWith, Weighs}
+use Rattle.mld_model.proofs.StateLaws.{by_state, IsState, is_absent, is_asking, is_down, if_live, IsStanding, stands_absent, stands_asking, stands_live, if_opens}
 use Rattle.schedule_model.specs.Step.{Step}
 use Rattle.schedule_model.specs.Runs.{Stage, Waiting, SetUp, Running, Commands, Acts, says_nothing, commands, Runs}
 use Rattle.mld_model.specs.Sound.{Keeps}
 use Rattle.mld_model.proofs.LeafLaws.{place_of_clone}
+use Rattle.mld_model.proofs.StoredLaws.{kept_then}
 use Rattle.mld_model.proofs.ReleaseLaws.{releases_known}
 use Rattle.mld_model.proofs.KnownLaws.{known_with-old, known_with-new}
 use Rattle.schedule_model.proofs.StepSoundLaws.{lists_same, weighs_same}
@@ -79,6 +80,12 @@ module _ (world next : World) (dot : Dot) (message : ℕ) where
   state_tells_none answer is_absent p = cc (p.0)
   state_tells_none answer is_asking p = cc (p.0)
   state_tells_none answer is_down p = cc (p.0)
+
+  -- and neither does that of a clone which is told to open
+  standing_tells_none : (answer : Reply) → IsStanding answer → ¬ Answers world answer (Did dot message) next
+  standing_tells_none answer stands_absent p = cc (p.0)
+  standing_tells_none answer stands_asking p = cc (p.0)
+  standing_tells_none answer stands_live p = cc (p.0)
 
   -- an `add` that tells of a dot made an operation, and its clone remembers it
   adds_remembers : (number : ℕ) (triple : Triple) (clone : Clone) → clone_at world number ≡ clone → Adds world number triple clone (Did dot message) next
@@ -177,6 +184,17 @@ module _ (world next : World) (dot : Dot) (message : ℕ) where
   joins_tell_none number clone =
       by_state ⊥ clone _ _ _ _ (λ is p. cc (p.0)) (λ is p. cc (p.0)) (state_tells_none IsDown is_down) (λ stored held is p. cc (p.0))
 
+  -- a `stop`
+  stops_tell_none : (number : ℕ) (clone : Clone) → ¬ Stops world number clone (Did dot message) next
+  stops_tell_none number clone =
+      if_live ⊥ world clone (Did dot message) next _ (λ answer state. state_tells_none answer state) (λ stored held live p. cc (p.0))
+
+  -- an `open`
+  opens_tell_none : (number : ℕ) (clone : Clone) → ¬ Reopens world number clone (Did dot message) next
+  opens_tell_none number clone =
+      if_opens ⊥ world number clone (Did dot message) next (λ answer state. standing_tells_none answer state)
+      (λ empty told same. cc told) (λ stored down told same. cc told)
+
   compares_with_tell_none : (stored : Stored) (clone : Clone) → ¬ ComparesWith world stored clone (Did dot message) next
   compares_with_tell_none stored clone =
       if_live ⊥ world clone (Did dot message) next _ (λ answer state. state_tells_none answer state)
@@ -210,6 +228,8 @@ did_remembers world (Remove number triple) dot message next p =
 did_remembers world (Deliver sent number) dot message next p = absurd (delivers_tell_none world next dot message number (message_at world sent) p)
 did_remembers world (Show number) dot message next p = absurd (lists_tell_none world next dot message (clone_at world number) p)
 did_remembers world (Join number) dot message next p = absurd (joins_tell_none world next dot message number (clone_at world number) p)
+did_remembers world (Stop number) dot message next p = absurd (stops_tell_none world next dot message number (clone_at world number) p)
+did_remembers world (Open number) dot message next p = absurd (opens_tell_none world next dot message number (clone_at world number) p)
 did_remembers world (Compare number other) dot message next p = absurd (weighs_tell_none world next dot message (clone_at world number) (clone_at world other) p)
 
 -- ---- the steps behind it
@@ -312,6 +332,29 @@ module _ (world next : World) (number : ℕ) (operation : Operation) (remembers 
       by_state (Remembers next number operation) clone _ _ _ _ (λ state. asks_keep asker Absent reply (is ∙ state) (λ stored h. h))
       (λ state. asks_keep asker Asking reply (is ∙ state) (λ stored h. h)) (λ p. same_remembers p.1) (λ stored held live p. same_remembers p.1)
 
+  -- a world where one clone is in another state and keeps what it kept, and whose history is the same, remembers what it did
+  kept_remembers : (changer : ℕ) (now : Clone) → kept_of now ≡ kept_of (clone_at world changer) → next ≡ with_clone world changer now
+      → Remembers next number operation
+  kept_remembers changer now same is = subst (λ (w : World). Remembers w number operation) (sym is) (record {
+    stored = remembers.stored;
+    keeps = kept_then world.clones changer now same number remembers.stored remembers.keeps;
+    known = remembers.known;
+    stands = remembers.stands;
+  })
+
+  -- where a clone is told to stop
+  stops_keep : (stopper : ℕ) (clone : Clone) (reply : Reply) → clone_at world stopper ≡ clone → Stops world stopper clone reply next → Remembers next number operation
+  stops_keep stopper clone reply is =
+      if_live (Remembers next number operation) world clone reply next _ (λ answer state p. same_remembers p.1)
+      (λ stored held live p. kept_remembers stopper (Down stored) (ap kept_of (sym (is ∙ live))) p.1)
+
+  -- where a clone is told to open
+  opens_keep : (opener : ℕ) (clone : Clone) (reply : Reply) → clone_at world opener ≡ clone → Reopens world opener clone reply next → Remembers next number operation
+  opens_keep opener clone reply is =
+      if_opens (Remembers next number operation) world opener clone reply next (λ answer state p. same_remembers p.1)
+      (λ empty told same. kept_remembers opener Asking (ap kept_of (sym (is ∙ empty))) same)
+      (λ stored down told same. kept_remembers opener (Live stored []) (ap kept_of (sym (is ∙ down))) same)
+
   -- where a live clone is asked for a leaf: one that forks knows what it knew
   gives_keep : (giver : ℕ) (stored : Stored) (held : List Range) (id : ℕ) (reply : Reply) → clone_at world giver ≡ Live stored held
       → TakesAsk world giver stored held id reply next → Remembers next number operation
@@ -368,6 +411,10 @@ step_remembers world number operation (Show shower) reply next remembers p =
     same_remembers world next number operation remembers (lists_same world (clone_at world shower) reply next p)
 step_remembers world number operation (Join asker) reply next remembers p =
     joins_keep world next number operation remembers asker (clone_at world asker) reply refl p
+step_remembers world number operation (Stop stopper) reply next remembers p =
+    stops_keep world next number operation remembers stopper (clone_at world stopper) reply refl p
+step_remembers world number operation (Open opener) reply next remembers p =
+    opens_keep world next number operation remembers opener (clone_at world opener) reply refl p
 step_remembers world number operation (Compare one other) reply next remembers p =
     same_remembers world next number operation remembers (weighs_same world (clone_at world one) (clone_at world other) reply next p)
 

@@ -7,12 +7,12 @@ use Rattle.tree_clock.specs.declared.dots.Range.{Range}
 use Rattle.mld_ops.specs.declared.tagged.Tagged.{Tagged}
 use Rattle.mld_ops.specs.History.{Operation, dot_at}
 use Rattle.schedule_model.specs.declared.Command.{Command}
-use Rattle.schedule_model.specs.declared.Command.TheVariants.{Add, Remove, Deliver, Show, Compare, Join}
-use Rattle.mld_model.specs.Clone.{Clone, Absent, Asking, Live, Stored, known_of, with_range, Releases, kept_of}
+use Rattle.schedule_model.specs.declared.Command.TheVariants.{Add, Remove, Deliver, Show, Compare, Join, Stop, Open}
+use Rattle.mld_model.specs.Clone.{Clone, Absent, Asking, Empty, Down, Live, Stored, known_of, with_range, Releases, kept_of}
 use Rattle.mld_model.specs.World.{World, Message, RangeOf, JoinAsk, JoinGive, message_at, clone_count, clone_at}
 use Rattle.mld_model.specs.Reply.{Reply, Did, Took, Answer, Joined, NoMessage, Ignored, IsAbsent, IsDown}
-use Rattle.mld_model.specs.CloneStep.{Answers, Makes, Adds, Deletes, finds_none, deletes_all, Removes, Accepts, HoldsBack, holds_already, holds_too_many, holds_from_now, TakesRange, knows_already, accepts, holds_back, Asks, Joins, left_half, TakesAsk, asked_itself, is_too_deep, forks, joined_with, TakesLeaf, becomes_live, leaves_it, AskerTakes, LiveTakes, Takes}
-use Rattle.mld_model.proofs.StateLaws.{by_state, IsState, is_absent, is_asking, is_down, if_live}
+use Rattle.mld_model.specs.CloneStep.{Answers, Makes, Adds, Deletes, finds_none, deletes_all, Removes, Accepts, HoldsBack, holds_already, holds_too_many, holds_from_now, TakesRange, knows_already, accepts, holds_back, Asks, Joins, left_half, TakesAsk, asked_itself, is_too_deep, forks, joined_with, TakesLeaf, becomes_live, leaves_it, AskerTakes, LiveTakes, Takes, Stops, Reopens}
+use Rattle.mld_model.proofs.StateLaws.{by_state, IsState, is_absent, is_asking, is_down, if_live, if_opens}
 use Rattle.schedule_model.proofs.StepSoundLaws.{lists_same, weighs_same}
 use Rattle.mld_model.specs.Durable.{DurableStep, AppendsMade, AppendsTaken, kept_after, history_after}
 use Rattle.schedule_model.specs.Step.{Step, number_of_clone}
@@ -235,6 +235,23 @@ module _ (world next : World) (number : ℕ) where
       by_state (Leads world number [] next) clone _ _ _ _ (λ state. asks_lead Absent reply inside (is ∙ state) refl)
       (λ state. asks_lead Asking reply inside (is ∙ state) refl) (λ p. same_leads p.1) (λ stored held live p. same_leads p.1)
 
+  -- ---- stopping and opening
+
+  -- a clone that is told to stop leads there by none: it keeps what it kept
+  stops_lead : (clone : Clone) (reply : Reply) → number < length world.clones → clone_at world number ≡ clone → Stops world number clone reply next
+      → Leads world number [] next
+  stops_lead clone reply inside is =
+      if_live (Leads world number [] next) world clone reply next _ (λ answer state p. same_leads p.1)
+      (λ stored held live p. changed_leads [] (Live stored held) (Down stored) inside (is ∙ live) (ap (λ (w : World). w.clones) p.1) refl (ap (λ (w : World). w.history) (sym p.1)))
+
+  -- and so does one that is told to open
+  opens_lead : (clone : Clone) (reply : Reply) → number < length world.clones → clone_at world number ≡ clone → Reopens world number clone reply next
+      → Leads world number [] next
+  opens_lead clone reply inside is =
+      if_opens (Leads world number [] next) world number clone reply next (λ answer state p. same_leads p.1)
+      (λ empty told same. changed_leads [] Empty Asking inside (is ∙ empty) (ap (λ (w : World). w.clones) same) refl (ap (λ (w : World). w.history) (sym same)))
+      (λ stored down told same. changed_leads [] (Down stored) (Live stored []) inside (is ∙ down) (ap (λ (w : World). w.clones) same) refl (ap (λ (w : World). w.history) (sym same)))
+
 -- ---- the laws
 
 -- steps of a command that lead there
@@ -263,6 +280,10 @@ durable_steps_lead world (Show number) reply next small count p =
     leads_durably world (Show number) reply next [] refl (same_leads world next number (lists_same world (clone_at world number) reply next p))
 durable_steps_lead world (Join number) reply next small count p =
     leads_durably world (Join number) reply next [] refl (joins_lead world next number (clone_at world number) reply (place_of world number small count) refl p)
+durable_steps_lead world (Stop number) reply next small count p =
+    leads_durably world (Stop number) reply next [] refl (stops_lead world next number (clone_at world number) reply (place_of world number small count) refl p)
+durable_steps_lead world (Open number) reply next small count p =
+    leads_durably world (Open number) reply next [] refl (opens_lead world next number (clone_at world number) reply (place_of world number small count) refl p)
 durable_steps_lead world (Compare number other) reply next small count p =
     leads_durably world (Compare number other) reply next [] refl (same_leads world next number (weighs_same world (clone_at world number) (clone_at world other) reply next p))
 
@@ -291,4 +312,6 @@ one_durable_list world (Remove number triple) reply next steps other p q = makes
 one_durable_list world (Deliver message number) reply next steps other p q = delivers_once (message_at world message) reply steps other p q
 one_durable_list world (Show number) reply next steps other p q = p ∙ sym q
 one_durable_list world (Join number) reply next steps other p q = p ∙ sym q
+one_durable_list world (Stop number) reply next steps other p q = p ∙ sym q
+one_durable_list world (Open number) reply next steps other p q = p ∙ sym q
 one_durable_list world (Compare number second) reply next steps other p q = p ∙ sym q

@@ -1,6 +1,8 @@
 pub mod LackingLaws
 pub mod WorldLaws
 pub mod JoinLaws
+pub mod ChangesLaws
+pub mod StopLaws
 pub mod ScheduleLaws
 pub mod StepLaws
 pub mod RunsLaws

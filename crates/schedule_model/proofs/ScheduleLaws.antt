@@ -10,7 +10,7 @@ use Rattle.rdf_terms.specs.Grammar.{SpellsTriple}
 use Rattle.schedule_model.specs.Characters.{space, hash_mark}
 use Rattle.mld_model.specs.World.{clone_count}
 use Rattle.schedule_model.specs.declared.Command.{Command}
-use Rattle.schedule_model.specs.declared.Command.TheVariants.{Add, Remove, Deliver, Show, Compare, Join}
+use Rattle.schedule_model.specs.declared.Command.TheVariants.{Add, Remove, Deliver, Show, Compare, Join, Stop, Open}
 use Rattle.schedule_model.specs.Schedule.{IsNothing, empty, comment, is_unbuilt, Setup, SpellsSetup, SpellsCommand}
 use Rattle.schedule_model.proofs.LackingLaws.{Lacks, Lacks-from_test, one_split, apart, no_space}
 use Rattle.rdf_terms.proofs.Complete.{one_spelled}
@@ -31,13 +31,15 @@ nothing_apart h e other = elim (nothing_begins h) [
   | inr some ↦ apart some.1 e other
 ]
 
--- the first byte of a command: `a`, `r`, `d`, `s`, `j` or `c`
+-- the first byte of a command: `a`, `r`, `d`, `s`, `j`, `o` or `c`
 begins : Command → ℕ
 begins (Add number triple) = 97
 begins (Remove number triple) = 114
 begins (Deliver message number) = 100
 begins (Show number) = 115
 begins (Join number) = 106
+begins (Stop number) = 115
+begins (Open number) = 111
 begins (Compare number other) = 99
 
 -- a command begins with that byte
@@ -48,6 +50,8 @@ command_begins line (Remove number triple) h = (_, h.1)
 command_begins line (Deliver message number) h = (_, h.0)
 command_begins line (Show number) h = (_, h.0)
 command_begins line (Join number) h = (_, h.0)
+command_begins line (Stop number) h = (_, h.0)
+command_begins line (Open number) h = (_, h.0)
 command_begins line (Compare number other) h = (_, h.0)
 
 -- no command begins with `#`
@@ -58,6 +62,8 @@ begins_apart (Remove number triple) = refl
 begins_apart (Deliver message number) = refl
 begins_apart (Show number) = refl
 begins_apart (Join number) = refl
+begins_apart (Stop number) = refl
+begins_apart (Open number) = refl
 begins_apart (Compare number other) = refl
 
 -- ---- numbers
@@ -73,6 +79,8 @@ spells_numbers line (Remove number triple) h = h.2
 spells_numbers line (Deliver message number) h = h.2
 spells_numbers line (Show number) h = h.1
 spells_numbers line (Join number) h = h.1
+spells_numbers line (Stop number) h = h.1
+spells_numbers line (Open number) h = h.1
 spells_numbers line (Compare number other) h = (h.1, h.2)
 
 -- a number and what stands behind the space after it
@@ -109,6 +117,8 @@ unbuilt_command line (Remove number triple) u h = false≢true (subst (λ (l : L
 unbuilt_command line (Deliver message number) u h = false≢true (subst (λ (l : List ℕ). is_unbuilt l ≡ true) h.0 u)
 unbuilt_command line (Show number) u h = false≢true (subst (λ (l : List ℕ). is_unbuilt l ≡ true) h.0 u)
 unbuilt_command line (Join number) u h = false≢true (subst (λ (l : List ℕ). is_unbuilt l ≡ true) h.0 u)
+unbuilt_command line (Stop number) u h = false≢true (subst (λ (l : List ℕ). is_unbuilt l ≡ true) h.0 u)
+unbuilt_command line (Open number) u h = false≢true (subst (λ (l : List ℕ). is_unbuilt l ≡ true) h.0 u)
 unbuilt_command line (Compare number other) u h = false≢true (subst (λ (l : List ℕ). is_unbuilt l ≡ true) h.0 u)
 
 -- ---- domain lines and commands
@@ -120,6 +130,8 @@ setup_command line setup (Remove number triple) p q = apart p.whole q.1 refl
 setup_command line setup (Deliver message number) p q = apart (ap (drop 1) p.whole) (ap (drop 1) q.0) refl
 setup_command line setup (Show number) p q = apart p.whole q.0 refl
 setup_command line setup (Join number) p q = apart p.whole q.0 refl
+setup_command line setup (Stop number) p q = apart p.whole q.0 refl
+setup_command line setup (Open number) p q = apart p.whole q.0 refl
 setup_command line setup (Compare number other) p q = apart p.whole q.0 refl
 
 -- each line is of at most one kind
@@ -166,6 +178,12 @@ one_command line (Show number) (Show other) p q =
     ap Show (decimal_injective number other (small p.1) (small q.1) (ap (drop 5) (sym p.0 ∙ q.0)))
 one_command line (Join number) (Join other) p q =
     ap Join (decimal_injective number other (small p.1) (small q.1) (ap (drop 5) (sym p.0 ∙ q.0)))
+one_command line (Stop number) (Stop other) p q =
+    ap Stop (decimal_injective number other (small p.1) (small q.1) (ap (drop 5) (sym p.0 ∙ q.0)))
+one_command line (Open number) (Open other) p q =
+    ap Open (decimal_injective number other (small p.1) (small q.1) (ap (drop 5) (sym p.0 ∙ q.0)))
+one_command line (Show number) (Stop other) p q = absurd (apart (ap (drop 1) p.0) (ap (drop 1) q.0) refl)
+one_command line (Stop number) (Show other) p q = absurd (apart (ap (drop 1) p.0) (ap (drop 1) q.0) refl)
 one_command line (Compare number with) (Compare other second) p q =
     let parts = one_number number other (decimal with) (decimal second) (small p.1) (small q.1) (ap (drop 8) (sym p.0 ∙ q.0)) in
     let same = decimal_injective with second (small p.2) (small q.2) parts.1 in

@@ -11,12 +11,12 @@ use Rattle.mld_ops.specs.Tagged.{tagged_cmp}
 use Rattle.mld_ops.proofs.TaggedLaws.{tagged_total, tagged_exact}
 use Rattle.mld_ops.proofs.AscendingLaws.{same_ascending}
 use Rattle.mld_ops.proofs.MeaningLaws.{one_meaning}
-use Rattle.schedule_model.specs.declared.Command.TheVariants.{Add, Remove, Deliver, Show, Compare, Join}
+use Rattle.schedule_model.specs.declared.Command.TheVariants.{Add, Remove, Deliver, Show, Compare, Join, Stop, Open}
 use Rattle.mld_model.specs.Clone.{Clone, Live, Stored, known_of, with_range}
 use Rattle.mld_model.specs.World.{World, Message, RangeOf, JoinAsk, JoinGive, message_at, clone_at, with_clone}
 use Rattle.mld_model.specs.Reply.{Reply, Did, Took, Shows, NoMessage}
-use Rattle.mld_model.specs.CloneStep.{Answers, IsNextTick, after_operation, Makes, Adds, ArePairsOf, Deletes, finds_none, deletes_all, Removes, Accepts, HoldsBack, holds_already, holds_too_many, holds_from_now, TakesRange, knows_already, accepts, holds_back, Joins, TakesAsk, asked_itself, is_too_deep, forks, TakesLeaf, becomes_live, leaves_it, AskerTakes, LiveTakes, Takes, Lists, Compares, same_dots, fewer_dots, more_dots, dots_apart, ComparesWith, Weighs}
-use Rattle.mld_model.proofs.StateLaws.{by_one_state, AreSame, answers_once, once_if_live}
+use Rattle.mld_model.specs.CloneStep.{Answers, IsNextTick, after_operation, Makes, Adds, ArePairsOf, Deletes, finds_none, deletes_all, Removes, Accepts, HoldsBack, holds_already, holds_too_many, holds_from_now, TakesRange, knows_already, accepts, holds_back, Joins, TakesAsk, asked_itself, is_too_deep, forks, TakesLeaf, becomes_live, leaves_it, AskerTakes, LiveTakes, Takes, Stops, Lists, Compares, same_dots, fewer_dots, more_dots, dots_apart, ComparesWith, Weighs}
+use Rattle.mld_model.proofs.StateLaws.{by_one_state, AreSame, answers_once, once_if_live, opens_once}
 use Rattle.schedule_model.specs.Step.{Step}
 use Rattle.mld_model.proofs.ReleaseLaws.{releases_once}
 use Rattle.schedule_model.specs.Laws.{OneStep}
@@ -194,6 +194,11 @@ module _ (world : World) (number : ℕ) (reply other : Reply) (next after : Worl
       by_one_state (AreSame reply next other after) clone _ _ _ _ _ _ _ _ (λ p q. answers_once p q) (asker_takes_once message) (λ p q. answers_once p q)
       (live_takes_once message)
 
+  -- a clone that is told to stop has one outcome
+  stops_once : (clone : Clone) → Stops world number clone reply next → Stops world number clone other after → AreSame reply next other after
+  stops_once clone =
+      once_if_live world clone reply other next after _ _ (λ stored held p q. (p.0 ∙ sym q.0, p.1 ∙ sym q.1))
+
   -- a `deliver` has one outcome
   delivers_once : (sent : Option Message) → MatchOption sent (Answers world NoMessage reply next) (λ message. Takes world number message (clone_at world number) reply next)
       → MatchOption sent (Answers world NoMessage other after) (λ message. Takes world number message (clone_at world number) other after) → AreSame reply next other after
@@ -208,5 +213,7 @@ one_step world (Remove number triple) reply other next after p q = removes_once 
 one_step world (Deliver message number) reply other next after p q = delivers_once world number reply other next after (message_at world message) p q
 one_step world (Show number) reply other next after p q = lists_once world (clone_at world number) reply other next after p q
 one_step world (Join number) reply other next after p q = joins_once world number reply other next after (clone_at world number) p q
+one_step world (Stop number) reply other next after p q = stops_once world number reply other next after (clone_at world number) p q
+one_step world (Open number) reply other next after p q = opens_once world number (clone_at world number) reply other next after p q
 one_step world (Compare number second) reply other next after p q =
     weighs_once world (clone_at world number) (clone_at world second) reply other next after p q

@@ -7,17 +7,18 @@ use Rattle.tree_clock.specs.Lists.{Has}
 use Rattle.mld_ops.specs.declared.tagged.Tagged.{Tagged}
 use Rattle.mld_ops.specs.Meaning.{IsMeaning}
 use Rattle.mld_ops.proofs.MeaningLaws.{one_meaning, same_known}
-use Rattle.schedule_model.specs.declared.Command.TheVariants.{Add, Remove, Deliver, Show, Compare, Join}
+use Rattle.schedule_model.specs.declared.Command.TheVariants.{Add, Remove, Deliver, Show, Compare, Join, Stop, Open}
 use Rattle.mld_model.specs.Clone.{Clone, Absent, Asking, Live, Stored, known_of}
 use Rattle.mld_model.specs.World.{World, Message, RangeOf, JoinAsk, JoinGive, message_at, clone_count, clone_at}
 use Rattle.mld_model.specs.Reply.{Reply, NoMessage}
-use Rattle.mld_model.specs.CloneStep.{Answers, Makes, Adds, ArePairsOf, Deletes, finds_none, deletes_all, Removes, holds_already, holds_too_many, holds_from_now, TakesRange, knows_already, accepts, holds_back, Asks, Joins, TakesAsk, asked_itself, is_too_deep, forks, TakesLeaf, becomes_live, leaves_it, AskerTakes, LiveTakes, Takes, Lists, ComparesWith, Weighs}
-use Rattle.mld_model.proofs.StateLaws.{by_state, if_live}
+use Rattle.mld_model.specs.CloneStep.{Answers, Makes, Adds, ArePairsOf, Deletes, finds_none, deletes_all, Removes, holds_already, holds_too_many, holds_from_now, TakesRange, knows_already, accepts, holds_back, Asks, Joins, TakesAsk, asked_itself, is_too_deep, forks, TakesLeaf, becomes_live, leaves_it, AskerTakes, LiveTakes, Takes, Stops, Reopens, Lists, ComparesWith, Weighs}
+use Rattle.mld_model.proofs.StateLaws.{by_state, if_live, if_opens}
 use Rattle.schedule_model.specs.Step.{Step}
 use Rattle.schedule_model.specs.Runs.{Stage, Waiting, SetUp, Running, IsWorldOf, Commands, Acts, says_nothing, sets_up, commands, Runs}
 use Rattle.mld_model.specs.Sound.{Keeps, IsSound}
 use Rattle.mld_model.proofs.LeafLaws.{apart_differ}
 use Rattle.mld_model.proofs.SoundLaws.{made_sound, taken_sound, holding_sound}
+use Rattle.mld_model.proofs.StoredLaws.{stopped_sound, opened_sound, opened_empty_sound}
 use Rattle.mld_model.proofs.JoiningLaws.{asked_sound, forked_sound, stands_at, joined_sound, place_of_message}
 use Rattle.schedule_model.proofs.ScheduleLaws.{spells_numbers}
 use Rattle.mld_model.proofs.FoundedLaws.{founded_sound}
@@ -118,6 +119,19 @@ module _ (world next : World) (reply : Reply) (sound : IsSound world) where
   delivers_sound number (Some message) has p =
       takes_sound number message (clone_at world number) refl (has message refl) p
 
+  -- a clone that is told to stop leads to a sound world
+  stops_sound : (number : ℕ) (clone : Clone) → clone_at world number ≡ clone → Stops world number clone reply next → IsSound next
+  stops_sound number clone is =
+      if_live (IsSound next) world clone reply next _ (λ answer state p. same_sound world next sound p.1)
+      (λ stored held live p. subst IsSound (sym p.1) (stopped_sound world number sound stored held (is ∙ live)))
+
+  -- and so does one that is told to open
+  opens_sound : (number : ℕ) (clone : Clone) → clone_at world number ≡ clone → Reopens world number clone reply next → IsSound next
+  opens_sound number clone is =
+      if_opens (IsSound next) world number clone reply next (λ answer state p. same_sound world next sound p.1)
+      (λ empty told same. subst IsSound (sym same) (opened_empty_sound world number sound (is ∙ empty)))
+      (λ stored down told same. subst IsSound (sym same) (opened_sound world number sound stored (is ∙ down)))
+
 -- a `show` leaves the world as it was
 pub lists_same : (world : World) (clone : Clone) (reply : Reply) (next : World) → Lists world clone reply next → next ≡ world
 lists_same world clone reply next = if_live (next ≡ world) world clone reply next _ (λ answer state p. p.1) (λ stored held live p. p.2.1)
@@ -139,6 +153,8 @@ step_sound world (Remove number triple) reply next small sound p = removes_sound
 step_sound world (Deliver message number) reply next small sound p = delivers_sound world next reply sound number (message_at world message) (place_of_message world message) p
 step_sound world (Show number) reply next small sound p = same_sound world next sound (lists_same world (clone_at world number) reply next p)
 step_sound world (Join number) reply next small sound p = joins_sound world next reply sound number (clone_at world number) small refl p
+step_sound world (Stop number) reply next small sound p = stops_sound world next reply sound number (clone_at world number) refl p
+step_sound world (Open number) reply next small sound p = opens_sound world next reply sound number (clone_at world number) refl p
 step_sound world (Compare number other) reply next small sound p =
     same_sound world next sound (weighs_same world (clone_at world number) (clone_at world other) reply next p)
 

@@ -43,7 +43,7 @@ use Rattle.mld_model.proofs.StandsForLaws.{LiveAt, live_at, clone_stands_as, sti
 use Rattle.mld_model.proofs.FoundedLaws.{founded_one_tick}
 use Rattle.mld_model.proofs.OneTickLaws.{HasOneTickClone, one_tick_changed, one_tick_made, one_tick_taken, one_tick_holding}
 use Rattle.schedule_model.specs.WorldStep.{Follows, IsMissingReply, IsAwayReply}
-pub use Rattle.schedule_model.specs.WorldStep.{stepped, stepped_with, stepped_sending, sent_message, LocallyWithin, LocallyCompares}
+pub use Rattle.schedule_model.specs.WorldStep.{stepped, stepped_with, stepped_into, stepped_sending, sent_message, LocallyWithin, LocallyCompares}
 
 -- the founded world
 module _ (domain : List ℕ) (properties : List (List ℕ)) (count : ℕ) where
@@ -92,7 +92,7 @@ module _ (domain : List ℕ) (properties : List (List ℕ)) (count : ℕ) where
   }
 
 -- where the running clone isn't live, the model's does nothing of what only a live clone does
-missing_replies : (world : World) (number : ℕ) (state : RunningClone) (clone : Clone) (reply : Reply) (does : Stored → List Range → Type 0)
+pub missing_replies : (world : World) (number : ℕ) (state : RunningClone) (clone : Clone) (reply : Reply) (does : Stored → List Range → Type 0)
     → IsMissingReply state reply → CloneStandsFor world number state clone → IfLive world clone reply world does
 missing_replies world number (states.Absent blank) Absent reply does is stands = (is, refl)
 missing_replies world number (states.Asking asker) Asking reply does is stands = (is, refl)
@@ -223,7 +223,7 @@ module _ (running : RunningWorld) (world : World) (stands : StandsFor running wo
   -- ---- a clone that isn't live
 
   -- a step that changes nothing follows the model
-  staying_follows : (command : Command) (reply : Reply)
+  pub staying_follows : (command : Command) (reply : Reply)
       → Step world command reply world → Follows world command reply (stepped running)
   staying_follows command reply steps =
       record { next = world; steps = steps; sound = sound; stands = stepped_stands running world stands }
@@ -391,19 +391,24 @@ module _ (running : RunningWorld) (world : World) (stands : StandsFor running wo
       (knows_already ((known_alike world.history live.local.ticks (known_of (kept_by live.local at.base at.journal)) at.stands.known s.range entry s.entry_stands).0 known) (refl, refl))
       sound (stepped_stands running world stands)
 
+  -- a running world where one clone is in another state, and nothing else has changed
+  pub into_stands : (number : ℕ) (state : RunningClone) (clone : Clone) → CloneStandsFor world number state clone → HasOneTickClone clone
+      → StandsFor (stepped_into running number state) (with_clone world number clone)
+  into_stands number state clone now one = record {
+    domain = stands.domain;
+    properties = stands.properties;
+    count = length-set running.clones number state ∙ stands.count;
+    clones = clones_set_stand number state clone (with_clone world number clone) refl refl refl now;
+    messages = stands.messages;
+    one_tick = one_tick_changed world stands.one_tick number clone one;
+    ticks = λ operation h. omega (arith, stands.ticks operation h);
+  }
+
   -- a running world where one clone is live as another, and nothing else has changed
   pub changed_stands : (number : ℕ) (new : CloneValue) (stored : Stored) (held : List Range)
       → IsCloneOf world number new.local → LocalStandsFor world.history new.local stored held → HasOneTickClone (Live stored held)
       → StandsFor (stepped_with running number new) (with_clone world number (Live stored held))
-  changed_stands number new stored held of now one = record {
-    domain = stands.domain;
-    properties = stands.properties;
-    count = length-set running.clones number (states.Live new) ∙ stands.count;
-    clones = clones_set_stand number (states.Live new) (Live stored held) (with_clone world number (Live stored held)) refl refl refl (of, now);
-    messages = stands.messages;
-    one_tick = one_tick_changed world stands.one_tick number (Live stored held) one;
-    ticks = λ operation h. omega (arith, stands.ticks operation h);
-  }
+  changed_stands number new stored held of now one = into_stands number (states.Live new) (Live stored held) (of, now) one
 
   -- a message comes to a clone that is ready for it
   pub deliver_taken : (message number : ℕ) (entry : EntryValue) (live new : CloneValue) (ranges : List Range)

@@ -3,7 +3,7 @@ use Rattle.std.specs.Prelude.{◌≡◌, ◌≢◌, ℕ, List, [], ◌∷◌, ma
 use Rattle.tree_clock.specs.declared.dots.Range.{Range}
 use Rattle.mld_ops.specs.History.{Operation}
 use Rattle.schedule_model.specs.declared.Command.{Command}
-use Rattle.schedule_model.specs.declared.Command.TheVariants.{Add, Remove, Deliver, Show, Compare, Join}
+use Rattle.schedule_model.specs.declared.Command.TheVariants.{Add, Remove, Deliver, Show, Compare, Join, Stop, Open}
 use Rattle.mld_model.specs.Clone.{kept_of}
 use Rattle.mld_model.specs.CloneStep.{joined_with}
 use Rattle.mld_model.specs.World.{World, Message, RangeOf, Want, SnapshotOf, JoinAsk, JoinGive, message_at, clone_at, clone_count}
@@ -53,6 +53,8 @@ DurableSteps world (Deliver message number) reply next steps =
     MatchOption (message_at world message) (steps ≡ []) (λ sent. steps ≡ message_steps sent reply)
 DurableSteps world (Show number) reply next steps = steps ≡ []
 DurableSteps world (Join number) reply next steps = steps ≡ []
+DurableSteps world (Stop number) reply next steps = steps ≡ []
+DurableSteps world (Open number) reply next steps = steps ≡ []
 DurableSteps world (Compare number other) reply next steps = steps ≡ []
 
 -- the step of the world has durable steps, and all of them together lead to the next world

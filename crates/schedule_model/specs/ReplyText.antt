@@ -7,7 +7,7 @@ use Rattle.tree_clock.specs.declared.dots.Range.{Range}
 use Rattle.tree_clock.specs.Path.{path_text}
 use Rattle.tree_clock.specs.Dot.{dot_text, range_text}
 use Rattle.mld_ops.specs.declared.tagged.Tagged.{Tagged}
-use Rattle.mld_model.specs.Reply.{Reply, Ready, Did, NoOperation, Took, Held, HeldFull, AlreadyKnown, Shows, Same, Less, More, Apart, Sent, Answer, Joined, Deep, NoMessage, Ignored, IsAbsent, IsAsking, IsDown, IsLive}
+use Rattle.mld_model.specs.Reply.{Reply, Ready, Did, NoOperation, Took, Held, HeldFull, AlreadyKnown, Shows, Same, Less, More, Apart, Sent, Answer, Joined, Deep, NoMessage, Ignored, IsAbsent, IsAsking, IsDown, IsLive, Stopped, Opened}
 use Rattle.schedule_model.specs.Characters.{space, line_end}
 
 -- the line of a pair
@@ -46,3 +46,5 @@ reply_text IsAbsent = codes "absent\n"
 reply_text IsAsking = codes "asking\n"
 reply_text IsDown = codes "down\n"
 reply_text IsLive = codes "live\n"
+reply_text Stopped = codes "stopped\n"
+reply_text Opened = codes "opened\n"

@@ -6,7 +6,7 @@ use Rattle.mld_ops.specs.Entry.{EntryValue}
 use Rattle.mld_ops.specs.Messages.{MessageValue, CarriesEntry}
 use Rattle.schedule_model.specs.declared.Command.{Command}
 use Rattle.mld_model.specs.World.{World, numbered}
-use Rattle.mld_model.specs.Reply.{Reply, Same, Less, More, Apart, IsAbsent, IsAsking, IsDown}
+use Rattle.mld_model.specs.Reply.{Reply, Same, Less, More, Apart, IsAbsent, IsAsking, IsDown, IsLive}
 use Rattle.schedule_model.specs.Step.{Step}
 use Rattle.mld_model.specs.Sound.{IsSound}
 use Rattle.mld_model.specs.declared.CloneState.TheVariants as states
@@ -20,6 +20,10 @@ stepped running = record running { steps = running.steps + 1 }
 -- with another clone
 abbrev pub stepped_with : RunningWorld → ℕ → CloneValue → RunningWorld
 stepped_with running number clone = record running { clones = slice_set running.clones number (states.Live clone); steps = running.steps + 1 }
+
+-- with another state of a clone
+abbrev pub stepped_into : RunningWorld → ℕ → RunningClone → RunningWorld
+stepped_into running number state = record running { clones = slice_set running.clones number state; steps = running.steps + 1 }
 
 -- with another state of a clone and one more message
 abbrev pub stepped_telling : RunningWorld → ℕ → RunningClone → MessageValue → RunningWorld
@@ -47,6 +51,13 @@ IsMissingReply (states.Absent blank) reply = reply ≡ IsAbsent
 IsMissingReply (states.Asking asker) reply = reply ≡ IsAsking
 IsMissingReply (states.Down device) reply = reply ≡ IsDown
 IsMissingReply (states.Live live) reply = ⊥
+
+-- the reply of a clone that is asked to open and isn't down, which is its state
+abbrev pub IsStandingReply : RunningClone → Reply → Type 0
+IsStandingReply (states.Absent blank) reply = reply ≡ IsAbsent
+IsStandingReply (states.Asking asker) reply = reply ≡ IsAsking
+IsStandingReply (states.Down device) reply = ⊥
+IsStandingReply (states.Live live) reply = reply ≡ IsLive
 
 -- the reply of a clone that takes no message at all, which is its state: it is absent or down
 abbrev pub IsAwayReply : RunningClone → Reply → Type 0

@@ -1,0 +1,208 @@
+-- What a step changes: of the clones the command's own alone, neither the domain nor the properties, and of the history nothing but that
+-- an operation may have joined it.
+use Rattle.std.specs.Prelude.{◌≡◌, ◌≢◌, ℕ, List, [], ◌∷◌, ◌++◌, Option, Some, None, MatchOption}
+use Rattle.std.proofs.Common.{refl, sym, ◌∙◌, ap, subst}
+use Rattle.std.proofs.lemmas.List.{get_or-set_other}
+use Rattle.rdf_terms.specs.declared.terms.Triple.{Triple}
+use Rattle.tree_clock.specs.declared.dots.Range.{Range}
+use Rattle.tree_clock.specs.Lists.{Has}
+use Rattle.tree_clock.specs.Dot.{Knows}
+use Rattle.mld_ops.specs.declared.tagged.Tagged.{Tagged}
+use Rattle.mld_ops.specs.History.{Operation, IsInserted, IsNext, dot_at}
+use Rattle.mld_ops.specs.Meaning.{IsMeaning}
+use Rattle.schedule_model.specs.declared.Command.{Command}
+use Rattle.schedule_model.specs.declared.Command.TheVariants.{Add, Remove, Deliver, Show, Compare, Join, Stop, Open}
+use Rattle.mld_model.specs.Clone.{Clone, Absent, Asking, Down, Live, Stored, known_of}
+use Rattle.mld_model.specs.World.{World, Message, RangeOf, JoinAsk, JoinGive, message_at, clone_at, with_clone}
+use Rattle.mld_model.specs.Local.{LocalStored}
+use Rattle.mld_model.specs.Reply.{Reply, NoMessage}
+use Rattle.mld_model.specs.Sound.{Keeps, IsSoundClone, IsSound}
+use Rattle.mld_model.specs.StandsFor.{StoredStandsFor}
+use Rattle.mld_model.specs.CloneStep.{Answers, Makes, Adds, ArePairsOf, Deletes, finds_none, deletes_all, Removes, holds_already, holds_too_many, holds_from_now, TakesRange, knows_already, accepts, holds_back, Asks, Joins, left_half, TakesAsk, asked_itself, is_too_deep, forks, joined_with, TakesLeaf, becomes_live, leaves_it, AskerTakes, LiveTakes, Takes, Stops, Reopens}
+use Rattle.mld_model.proofs.StateLaws.{by_state, if_live, if_opens}
+use Rattle.mld_model.proofs.SoundLaws.{made_is_next, live_sound}
+use Rattle.mld_model.proofs.StoredLaws.{stored_still_stands}
+use Rattle.schedule_model.specs.Step.{Step, number_of_clone}
+use Rattle.schedule_model.proofs.StepSoundLaws.{lists_same, weighs_same}
+
+-- a history after a step: it is the same, or an operation has joined it that may come next
+data Grows (history after : List Operation) : Type 0 where
+  stays : after ≡ history → Grows history after
+  grows_by : (operation : Operation) → IsNext history operation → after ≡ operation ∷ history → Grows history after
+
+-- what a step at the clone of the number changes
+record Changes (world next : World) (number : ℕ) : Type 0 where
+  domain : next.domain ≡ world.domain
+  properties : next.properties ≡ world.properties
+  others : (other : ℕ) → other ≢ number → clone_at next other ≡ clone_at world other
+  grows : IsSound world → Grows world.history next.history
+
+-- the clone of the number makes a step from the world to the next one
+module _ (world next : World) (number : ℕ) where
+  -- a world that is left as it was
+  same_changes : next ≡ world → Changes world next number
+  same_changes same = record {
+    domain = ap (λ (w : World). w.domain) same;
+    properties = ap (λ (w : World). w.properties) same;
+    others = λ other differs. ap (λ (w : World). clone_at w other) same;
+    grows = λ sound. stays (ap (λ (w : World). w.history) same);
+  }
+
+  -- one clone is in another state, and other messages were sent
+  clone_changes : (now : Clone) (messages : List Message) → next ≡ record (with_clone world number now) { messages = messages } → Changes world next number
+  clone_changes now messages same = record {
+    domain = ap (λ (w : World). w.domain) same;
+    properties = ap (λ (w : World). w.properties) same;
+    others = λ other differs. ap (λ (w : World). clone_at w other) same ∙ get_or-set_other world.clones number other now Absent differs;
+    grows = λ sound. stays (ap (λ (w : World). w.history) same);
+  }
+
+  -- ---- local changes
+
+  -- an operation is made, whose deletes are pairs that the clone knows
+  makes_changes : (stored : Stored) (held : List Range) (deletes : List Tagged) (inserts : List Triple) (reply : Reply) → clone_at world number ≡ Live stored held
+      → ((pair : Tagged) → Has deletes pair → Knows (known_of stored) pair.dot) → ((pair : Tagged) → Has deletes pair → IsInserted world.history pair)
+      → Makes world number stored held deletes inserts reply next → Changes world next number
+  makes_changes stored held deletes inserts reply is covered inserted p =
+      let operation : Operation = record { dot = dot_at stored.path p.tick; causes = known_of stored; deletes = deletes; inserts = inserts } in
+      record {
+        domain = ap (λ (w : World). w.domain) p.changes;
+        properties = ap (λ (w : World). w.properties) p.changes;
+        others = λ other differs. ap (λ (w : World). clone_at w other) p.changes ∙ get_or-set_other world.clones number other _ Absent differs;
+        grows = λ sound. grows_by operation
+            (made_is_next world.history stored p.tick deletes inserts (live_sound world number stored held sound is) p.is_next covered inserted)
+            (ap (λ (w : World). w.history) p.changes);
+      }
+
+  -- an `add`
+  adds_change : (triple : Triple) (clone : Clone) (reply : Reply) → clone_at world number ≡ clone → Adds world number triple clone reply next → Changes world next number
+  adds_change triple clone reply is =
+      if_live (Changes world next number) world clone reply next _ (λ answer state p. same_changes p.1)
+      (λ stored held live. makes_changes stored held [] (triple ∷ []) reply (is ∙ live) (λ pair h. absurd h) (λ pair h. absurd h))
+
+  -- pairs of the clone are deleted
+  deletes_change : (stored : Stored) (held : List Range) (triple : Triple) (pairs deletes : List Tagged) (reply : Reply) → clone_at world number ≡ Live stored held
+      → IsMeaning world.history (known_of stored) pairs → ArePairsOf triple pairs deletes → Deletes world number stored held deletes reply next → Changes world next number
+  deletes_change stored held triple pairs deletes reply is meant are (finds_none none p) = same_changes p.1
+  deletes_change stored held triple pairs deletes reply is meant are (deletes_all some p) =
+      makes_changes stored held deletes [] reply is
+      (λ pair h. (meant.sound pair ((are.members pair).0 h).0).covered) (λ pair h. (meant.sound pair ((are.members pair).0 h).0).inserted) p
+
+  -- a `remove`
+  removes_change : (triple : Triple) (clone : Clone) (reply : Reply) → clone_at world number ≡ clone → Removes world number triple clone reply next
+      → Changes world next number
+  removes_change triple clone reply is =
+      if_live (Changes world next number) world clone reply next _ (λ answer state p. same_changes p.1)
+      (λ stored held live p. deletes_change stored held triple p.0 p.1 reply (is ∙ live) p.2 p.3 p.4)
+
+  -- ---- messages
+
+  -- a range comes to a live clone
+  receives_change : (stored : Stored) (held : List Range) (range : Range) (reply : Reply) → TakesRange world number stored held range reply next → Changes world next number
+  receives_change stored held range reply (knows_already known p) = same_changes p.1
+  receives_change stored held range reply (accepts p) = clone_changes (Live p.after p.left) world.messages p.changes
+  receives_change stored held range reply (holds_back back (holds_already has p)) = same_changes p.1
+  receives_change stored held range reply (holds_back back (holds_too_many lacks full p)) = same_changes p.1
+  receives_change stored held range reply (holds_back back (holds_from_now lacks few told same)) =
+      clone_changes (Live stored (held ++ range ∷ [])) world.messages same
+
+  -- a live clone is asked for a leaf
+  gives_change : (stored : Stored) (held : List Range) (id : ℕ) (reply : Reply) → TakesAsk world number stored held id reply next → Changes world next number
+  gives_change stored held id reply (asked_itself own p) = same_changes p.1
+  gives_change stored held id reply (is_too_deep differs deep p) = same_changes p.1
+  gives_change stored held id reply (forks differs room told same) = clone_changes (Live (left_half stored) held) _ same
+
+  -- a leaf comes to a clone that asks
+  adopts_change : (id : ℕ) (path : List ℕ) (dots : List Range) (reply : Reply) → TakesLeaf world number id path dots reply next → Changes world next number
+  adopts_change id path dots reply (becomes_live own told same) = clone_changes (Live (joined_with path dots) []) world.messages same
+  adopts_change id path dots reply (leaves_it differs p) = same_changes p.1
+
+  -- whatever comes to a clone that asks
+  asker_takes_change : (message : Message) (reply : Reply) → AskerTakes world number message reply next → Changes world next number
+  asker_takes_change (JoinGive id path dots) reply p = adopts_change id path dots reply p
+  asker_takes_change message reply p = same_changes p.1
+
+  -- to a live clone
+  live_takes_change : (message : Message) (stored : Stored) (held : List Range) (reply : Reply) → LiveTakes world number message stored held reply next
+      → Changes world next number
+  live_takes_change (RangeOf range) stored held reply p = receives_change stored held range reply p
+  live_takes_change (JoinAsk id) stored held reply p = gives_change stored held id reply p
+  live_takes_change (JoinGive id path dots) stored held reply p = same_changes p.1
+  live_takes_change message stored held reply p = absurd p
+
+  -- to any clone
+  takes_change : (message : Message) (clone : Clone) (reply : Reply) → Takes world number message clone reply next → Changes world next number
+  takes_change message clone reply =
+      by_state (Changes world next number) clone _ _ _ _ (λ is p. same_changes p.1) (λ is. asker_takes_change message reply)
+      (λ p. same_changes p.1) (λ stored held is. live_takes_change message stored held reply)
+
+  -- a `deliver`
+  delivers_change : (sent : Option Message) (reply : Reply)
+      → MatchOption sent (Answers world NoMessage reply next) (λ message. Takes world number message (clone_at world number) reply next) → Changes world next number
+  delivers_change None reply p = same_changes p.1
+  delivers_change (Some message) reply p = takes_change message (clone_at world number) reply p
+
+  -- ---- states
+
+  -- the question for a leaf
+  asks_change : (reply : Reply) → Asks world number reply next → Changes world next number
+  asks_change reply p = clone_changes Asking (world.messages ++ JoinAsk number ∷ []) p.1
+
+  -- a `join`
+  joins_change : (clone : Clone) (reply : Reply) → Joins world number clone reply next → Changes world next number
+  joins_change clone reply =
+      by_state (Changes world next number) clone _ _ _ _ (λ is. asks_change reply) (λ is. asks_change reply) (λ p. same_changes p.1) (λ stored held is p. same_changes p.1)
+
+  -- a `stop`
+  stops_change : (clone : Clone) (reply : Reply) → Stops world number clone reply next → Changes world next number
+  stops_change clone reply =
+      if_live (Changes world next number) world clone reply next _ (λ answer state p. same_changes p.1)
+      (λ stored held live p. clone_changes (Down stored) world.messages p.1)
+
+  -- an `open`
+  opens_change : (clone : Clone) (reply : Reply) → Reopens world number clone reply next → Changes world next number
+  opens_change clone reply =
+      if_opens (Changes world next number) world number clone reply next (λ answer state p. same_changes p.1)
+      (λ empty told same. clone_changes Asking world.messages same)
+      (λ stored down told same. clone_changes (Live stored []) world.messages same)
+
+-- each step
+step_changes : (world : World) (command : Command) (reply : Reply) (next : World) → Step world command reply next → Changes world next (number_of_clone command)
+unfolding Step
+step_changes world (Add number triple) reply next p = adds_change world next number triple (clone_at world number) reply refl p
+step_changes world (Remove number triple) reply next p = removes_change world next number triple (clone_at world number) reply refl p
+step_changes world (Deliver message number) reply next p = delivers_change world next number (message_at world message) reply p
+step_changes world (Show number) reply next p = same_changes world next number (lists_same world (clone_at world number) reply next p)
+step_changes world (Join number) reply next p = joins_change world next number (clone_at world number) reply p
+step_changes world (Stop number) reply next p = stops_change world next number (clone_at world number) reply p
+step_changes world (Open number) reply next p = opens_change world next number (clone_at world number) reply p
+step_changes world (Compare number other) reply next p =
+    same_changes world next number (weighs_same world (clone_at world number) (clone_at world other) reply next p)
+
+-- ---- the laws
+
+-- a step changes neither the domain nor the properties
+pub step_keeps_domain : (world : World) (command : Command) (reply : Reply) (next : World) → Step world command reply next
+    → (next.domain ≡ world.domain) × (next.properties ≡ world.properties)
+step_keeps_domain world command reply next steps =
+    let changes : Changes world next (number_of_clone command) = step_changes world command reply next steps in
+    (changes.domain, changes.properties)
+
+-- a step changes no clone but the one that its command says of
+pub step_keeps_others : (world : World) (command : Command) (reply : Reply) (next : World) → Step world command reply next
+    → (number : ℕ) → number ≢ number_of_clone command → clone_at next number ≡ clone_at world number
+step_keeps_others world command reply next steps = (step_changes world command reply next steps).others
+
+-- what a device has still stands for what is kept in such a history
+grown_stands : (history after : List Operation) (running : LocalStored) (stored : Stored) → Grows history after → IsSoundClone history stored
+    → StoredStandsFor history running stored → StoredStandsFor after running stored
+grown_stands history after running stored (stays same) whole stands = subst (λ (h : List Operation). StoredStandsFor h running stored) (sym same) stands
+grown_stands history after running stored (grows_by operation is_next same) whole stands =
+    subst (λ (h : List Operation). StoredStandsFor h running stored) (sym same) (stored_still_stands history operation running stored is_next whole stands)
+
+-- a step leaves what a device has of a clone standing for what is kept, if it is the same clone that keeps it
+pub kept_still_stands : (world : World) (command : Command) (reply : Reply) (next : World) → IsSound world → Step world command reply next
+    → (number : ℕ) (stored : Stored) → Keeps (clone_at world number) stored → (running : LocalStored)
+    → StoredStandsFor world.history running stored → StoredStandsFor next.history running stored
+kept_still_stands world command reply next sound steps number stored keeps running =
+    grown_stands world.history next.history running stored ((step_changes world command reply next steps).grows sound) (sound.clones number stored keeps)
