@@ -10,7 +10,10 @@ use Rattle.tree_clock.specs.Path.{zero_letter, one_letter}
 use Rattle.tree_clock.specs.Lists.{Has}
 use Rattle.mld_model.specs.Local.{LocalClone, LocalAsker, IsLocal, snapshot_of, joined_clone}
 use Rattle.clone_core.proofs.MakingLaws.{local_ascends}
-use Rattle.clone_core.specs.Joining.{LocallyGives, AreGood}
+use Rattle.clone_core.specs.Banked.{BankedAsker}
+use Rattle.clone_core.specs.Joining.{LocallyGives, AreGood, IsGiveFor, LocallyAdopts, TakesGive}
+use Rattle.clone_core.specs.declared.askers.Adopted.{Adopted}
+use Rattle.clone_core.specs.declared.askers.Adopted.TheVariants as adopted
 
 -- the clone that begins with a copy of the snapshot at the given path is the one that joins
 pub joins_as : (asker : LocalAsker) (give : Give) (base : SnapshotValue) (id path : List ℕ) (new : LocalClone) → base ≡ snapshot_value give.snapshot
@@ -47,3 +50,25 @@ gives_good old new id messages local gives sent has =
     let is : message.JoinGive gives.0 ≡ sent = only (message.JoinGive gives.0) sent (subst (λ (ms : List Message). Has ms sent) gives.1 has) in
     let have = ap (λ (give : GiveValue). give.snapshot) gives.2.right in
     subst (λ (one : Message). IsGoodMessage (message_value one)) is (subst (λ (s : SnapshotValue). IsGoodSnapshot s) (sym have) (has_good old local))
+
+-- a fork changes nothing that a clone keeps to
+pub forked_local : (old : LocalClone) (left : List ℕ) → IsLocal old → IsLocal (record old { path = left })
+forked_local old left local = record {
+  named = local.named;
+  base = local.base;
+  base_pairs = local.base_pairs;
+  base_covered = local.base_covered;
+  leads = local.leads;
+  covered = local.covered;
+  held = local.held;
+}
+
+-- one who asks took what the message gave it
+pub adopts_as : {B : Type 0} (old : BankedAsker B) (sent : Message) (give : Give) (result : Adopted B) → IsGiveFor old.asker sent give → TakesGive old give result → LocallyAdopts old sent result
+adopts_as old sent give (adopted.Joined new) is h = (give, is, h.0, h.1, h.2)
+adopts_as old sent give (adopted.Ignored same) is h = absurd h
+adopts_as old sent give (adopted.Refused fault banks) is h = (give, is)
+
+-- what a good message gives may be taken
+pub gives_taken : (asker : LocalAsker) (sent : Message) (give : Give) → IsGiveFor asker sent give → IsGoodMessage (message_value sent) → IsGoodSnapshot (snapshot_value give.snapshot)
+gives_taken asker sent give is good = subst (λ (m : Message). IsGoodMessage (message_value m)) is.is good

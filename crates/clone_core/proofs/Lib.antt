@@ -7,3 +7,9 @@ pub mod Planning
 pub mod OwnEntries
 pub mod Taking
 pub mod Joining
+pub mod AppendLaws
+pub mod StopLaws
+pub mod Appended
+pub mod Begun
+pub mod Removing
+pub mod Mounting

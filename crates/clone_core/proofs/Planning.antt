@@ -11,6 +11,9 @@ use Rattle.mld_ops.specs.Held.{ranges_of}
 use Rattle.clone_core.specs.Plans.{entries_of, adds_of, StepsLead, IsPlanFrom, IsEmptyPlan, PlansEntry, PlansReleases, IsPlanOf, left_of}
 use Rattle.clone_core.specs.CloneSteps.{StepValue}
 use Rattle.clone_core.specs.declared.plans.Plan.{Plan}
+use Rattle.journal_store.specs.StoredVolumes.{AreGoodEntries}
+use Rattle.clone_core.specs.Appending.{AreReadyEntries}
+use Rattle.clone_core.proofs.AppendLaws.{good_ready, ready_rest}
 
 -- ---- one more step
 
@@ -130,16 +133,55 @@ releasing_all start begun plan held kept r d n = record {
       (r.releases [] plan.clock.ticks kept (d, n, refl));
 }
 
+-- ---- a loop that takes entries
+
+-- what it has done so far: the plan leads from the clock, and what it took stands in front of the rest, which is ready
+pub record IsPlanning (ticks : List (List ℕ × ℕ)) (all : List EntryValue) (plan : Plan) (rest : List EntryValue) : Type 0 where
+  pub leads : IsPlanFrom ticks plan
+  pub entries : entries_of plan.steps.items ++ rest ≡ all
+  pub ready : AreReadyEntries plan.clock.ticks rest
+
+-- an empty plan leads nowhere
+pub empty_from : (ticks : List (List ℕ × ℕ)) (empty : Plan) → IsEmptyPlan ticks empty → IsPlanFrom ticks empty
+empty_from ticks empty e = record {
+  leads = subst (λ (ss : List StepValue). StepsLead ticks ss empty.clock.ticks) (sym e.steps) e.clock;
+  adds = e.adds ∙ ap adds_of (sym e.steps);
+  ranges = e.ranges ∙ ap (λ (ss : List StepValue). ranges_of (entries_of ss)) (sym e.steps);
+}
+
+-- nothing yet
+pub planning_none : (ticks : List (List ℕ × ℕ)) (all rest : List EntryValue) (empty : Plan) → IsEmptyPlan ticks empty → rest ≡ all → AreGoodEntries ticks all → IsPlanning ticks all empty rest
+planning_none ticks all rest empty e same good = record {
+  leads = empty_from ticks empty e;
+  entries = ap (λ (ss : List StepValue). entries_of ss ++ rest) e.steps ∙ same;
+  ready = subst (λ ts. AreReadyEntries ts rest) (sym e.clock) (subst (λ (es : List EntryValue). AreReadyEntries ticks es) (sym same) (good_ready ticks all good));
+}
+
+-- the next entry is ready
+pub planning_ready : (ticks : List (List ℕ × ℕ)) (all held rest : List EntryValue) (plan : Plan) (entry : EntryValue) → IsPlanning ticks all plan held → held ≡ entry ∷ rest
+    → IsReadyEntry plan.clock.ticks entry
+planning_ready ticks all held rest plan entry p e = (subst (λ (es : List EntryValue). AreReadyEntries plan.clock.ticks es) e p.ready).0
+
+-- one more entry
+pub planning_more : (ticks : List (List ℕ × ℕ)) (all held rest : List EntryValue) (plan next : Plan) (entry : EntryValue) → IsPlanning ticks all plan held → held ≡ entry ∷ rest
+    → PlansEntry plan entry next → IsPlanning ticks all next rest
+planning_more ticks all held rest plan next entry p e more = record {
+  leads = more.leads ticks p.leads;
+  entries = ap (λ (es : List EntryValue). es ++ rest) more.entries ∙ append_assoc (entries_of plan.steps.items) (entry ∷ []) rest
+      ∙ ap (λ (es : List EntryValue). entries_of plan.steps.items ++ es) (sym e) ∙ p.entries;
+  ready = ready_rest plan.clock.ticks next.clock.ticks entry rest (subst (λ (es : List EntryValue). AreReadyEntries plan.clock.ticks es) e p.ready) more.clock;
+}
+
+-- all were taken
+pub planning_all : (ticks : List (List ℕ × ℕ)) (all rest : List EntryValue) (plan : Plan) → IsPlanning ticks all plan rest → rest ≡ [] → entries_of plan.steps.items ≡ all
+planning_all ticks all rest plan p none = sym (append-nil (entries_of plan.steps.items)) ∙ ap (λ (es : List EntryValue). entries_of plan.steps.items ++ es) (sym none) ∙ p.entries
+
 -- ---- the whole plan
 
 pub plan_from : (ticks : List (List ℕ × ℕ)) (held : List EntryValue) (entry : EntryValue) (empty one plan : Plan)
     → IsEmptyPlan ticks empty → PlansEntry empty entry one → PlansReleases one held plan (left_of plan.left held) → IsPlanOf ticks held entry plan
 plan_from ticks held entry empty one plan e p r = record {
-  leads = r.leads ticks (p.leads ticks (record {
-    leads = subst (λ (ss : List StepValue). StepsLead ticks ss empty.clock.ticks) (sym e.steps) e.clock;
-    adds = e.adds ∙ ap adds_of (sym e.steps);
-    ranges = e.ranges ∙ ap (λ (ss : List StepValue). ranges_of (entries_of ss)) (sym e.steps);
-  }));
+  leads = r.leads ticks (p.leads ticks (empty_from ticks empty e));
   taken = r.taken;
   entries = r.entries ∙ ap (λ (es : List EntryValue). es ++ r.taken) (p.entries ∙ ap (λ (ss : List StepValue). entries_of ss ++ entry ∷ []) e.steps);
   raised = one.clock.ticks;

@@ -1,5 +1,5 @@
 -- A clone takes an entry that is ready, or holds one back.
-use Rattle.std.proofs.Common.{◌≡◌, ◌≢◌, ◌∙◌, ℕ, ◌+◌, ◌<◌, ◌≤◌, List, [], ◌∷◌, ◌++◌, length, get_or, take, ◌↔◌, Result, Ok, Err, IsErrOf, refl, sym, ap, subst, inl, inr, arith}
+use Rattle.std.proofs.Common.{◌≡◌, ◌≢◌, ◌∙◌, ℕ, suc, ◌+◌, ◌<◌, ◌≤◌, List, [], ◌∷◌, ◌++◌, length, get_or, take, ◌↔◌, Result, Ok, Err, IsErrOf, refl, sym, ap, subst, inl, inr, arith}
 use Rattle.std.proofs.lemmas.List.{take_all}
 use Rattle.tree_clock.specs.declared.dots.Range.{Range}
 use Rattle.tree_clock.specs.Lists.{Has}
@@ -18,6 +18,7 @@ use Rattle.clone_core.specs.CloneCalls.{LacksRange}
 use Rattle.clone_core.proofs.MakingLaws.{local_taken, taken_by}
 use Rattle.clone_core.specs.Plans.{entries_of, StepsCut, IsPlanOf, left_of}
 use Rattle.clone_core.proofs.PlanLaws.{steps_lead, steps_entries}
+use Rattle.clone_core.specs.CloneSteps.{StepValue}
 use Rattle.clone_core.specs.Takes.{IsFullAt}
 use Rattle.clone_core.specs.declared.plans.Plan.{Plan}
 use Rattle.clone_core.proofs.Planning.{drops_shorter, first_shorter}
@@ -128,3 +129,8 @@ lacks_all entries range i past lacks = subst (λ (es : List EntryValue). LacksRa
 -- the entry at a place is one of the list
 pub has_item : (entries : List EntryValue) (i : ℕ) (entry : EntryValue) → i < length entries → entry ≡ get_or entries i entry → Has entries entry
 has_item entries i entry l e = subst (λ (w : EntryValue). Has entries w) (sym e) (has_at entries i entry l)
+
+-- a range is told for each step
+pub ranges_length : (steps : List StepValue) → length (ranges_of (entries_of steps)) ≡ length steps
+ranges_length [] = refl
+ranges_length (step ∷ steps) = ap (λ n. suc n) (ranges_length steps)

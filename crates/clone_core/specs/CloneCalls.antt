@@ -59,10 +59,12 @@ LocallyReceives old (message.Range entry) answer new = ¬ IsForeign old entry ×
 LocallyReceives old (message.JoinAsk id) answer new = ReceivesAsk old id answer new
 LocallyReceives old other answer new = (answer ≡ got.Ignored) × (new ≡ old)
 
--- why a message was refused: its entry was, or the ask for a leaf; or memory ran out
+-- why a message was refused: its entry was, or the ask for a leaf; or the clone is closed, the device failed, or memory ran out
 abbrev pub Refuses : LocalClone → Message → ReceiveFault → Type 0
 Refuses old (message.Range entry) refused = RefusesEntry old entry refused
 Refuses old (message.JoinAsk id) refused = RefusesAsk old id refused
+Refuses old other (fault.Closed why) = Unit {0}
+Refuses old other fault.Device = Unit {0}
 Refuses old other fault.NoMemory = Unit {0}
 Refuses old other refused = ⊥
 

@@ -1,10 +1,24 @@
--- The faults of a clone, after those of what it holds.
+-- The faults of a clone, after those of what it holds and of its banks.
 use Rattle.causal_buffer.specs.declared.faults.HeldFault.{HeldFault}
 use Rattle.causal_buffer.specs.declared.faults.HeldFault.TheVariants as held
+use Rattle.journal_store.specs.declared.faults.Why.{Why}
+use Rattle.journal_store.specs.declared.faults.Why.TheVariants as why
 use Rattle.clone_core.specs.declared.faults.ReceiveFault.{ReceiveFault}
 use Rattle.clone_core.specs.declared.faults.ReceiveFault.TheVariants as fault
+use Rattle.clone_core.specs.declared.faults.UpdateFault.{UpdateFault}
+use Rattle.clone_core.specs.declared.faults.UpdateFault.TheVariants as update
 
 -- why a message is refused whose entry can't be held
 abbrev pub fault_of_held : HeldFault → ReceiveFault
 fault_of_held held.Full = fault.HeldFull
 fault_of_held held.NoMemory = fault.NoMemory
+
+-- why an update is refused whose append was not done
+abbrev pub update_fault_of : Why → UpdateFault
+update_fault_of why.Device = update.Device
+update_fault_of why.NoMemory = update.NoMemory
+
+-- why a message is refused whose append was not done
+abbrev pub receive_fault_of : Why → ReceiveFault
+receive_fault_of why.Device = fault.Device
+receive_fault_of why.NoMemory = fault.NoMemory

@@ -1,9 +1,15 @@
+pub mod Appending
+pub mod Banked
+pub mod Beginning
 pub mod CloneCalls
 pub mod CloneFaults
+pub mod Closing
 pub mod Joining
 pub mod Making
+pub mod Opening
 pub mod PairLists
 pub mod Plans
 pub mod CloneSteps
+pub mod Stopping
 pub mod Takes
 pub mod View

@@ -1,5 +1,6 @@
 -- The plan of a delivery: which entries are taken, in which order, and what is known before each.
-use Rattle.std.specs.Prelude.{◌≡◌, ℕ, ◌+◌, List, [], ◌∷◌, ◌++◌, Option, None, Some, map}
+use Rattle.std.specs.Prelude.{◌≡◌, ℕ, ◌+◌, ◌-◌, List, [], ◌∷◌, ◌++◌, Option, None, Some, map}
+use Rattle.tree_clock.specs.declared.dots.Dot.{Dot}
 use Rattle.tree_clock.specs.Clock.{ticks_of, RaisesTo}
 use Rattle.mld_ops.specs.declared.tagged.Tagged.{Tagged}
 use Rattle.mld_ops.specs.Entry.{EntryValue, IsEntry}
@@ -73,3 +74,11 @@ pub record IsPlanOf (ticks : List (List ℕ × ℕ)) (held : List EntryValue) (e
   pub raised : List (List ℕ × ℕ)
   pub clock : RaisesTo ticks raised (last_dot entry.range)
   pub releases : LocallyReleases raised held taken plan.clock.ticks (left_of plan.left held)
+
+-- the one step of a clone's own entry at its next dot
+pub record IsOwnStep (dot : Dot) (entry : EntryValue) (steps : List StepValue) : Type 0 where
+  pub step : StepValue
+  pub one : steps ≡ step ∷ []
+  pub same : step.entry ≡ entry
+  pub is_entry : IsEntry step.entry
+  pub known : step.known ≡ dot.tick - 1

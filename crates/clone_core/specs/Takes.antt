@@ -6,6 +6,8 @@ use Rattle.mld_ops.specs.Cut.{IsCutOf}
 use Rattle.causal_buffer.specs.declared.faults.HeldFault.{HeldFault}
 use Rattle.causal_buffer.specs.declared.faults.HeldFault.TheVariants as held
 use Rattle.mld_model.specs.Local.{LocalClone, IsSameClone, MustBeHeld, IsFullFor, IsForeign, next_dot}
+use Rattle.clone_core.specs.declared.answers.Done.{Done}
+use Rattle.clone_core.specs.declared.answers.Done.TheVariants as done
 use Rattle.clone_core.specs.declared.faults.ReceiveFault.{ReceiveFault}
 use Rattle.clone_core.specs.declared.faults.ReceiveFault.TheVariants as fault
 
@@ -17,16 +19,23 @@ pub record MakesEntry (old : LocalClone) (entry : EntryValue) (new : LocalClone)
   pub clock : RaisesTo old.ticks new.ticks (next_dot old)
   pub pairs : IsCutOf entry (ticks_of old.ticks old.path) old.pairs new.pairs
 
+-- the clone took the entry at its next dot, and hands out a copy of it
+abbrev pub MakesDone : LocalClone → EntryValue → LocalClone → Done → Type 0
+MakesDone old entry new done.Nothing = ⊥
+MakesDone old entry new (done.Made made) = (made ≡ entry) × MakesEntry old entry new
+
 -- an entry isn't held: too many others are, or memory ran out
 abbrev pub IsFullAt : LocalClone → EntryValue → HeldFault → Type 0
 IsFullAt clone entry held.Full = IsFullFor clone entry
 IsFullAt clone entry held.NoMemory = Unit {0}
 
 -- why an entry was refused: it is foreign, and the fault names its last tick and the clone's own; or it would be
--- held where too many are; or memory ran out
+-- held where too many are; or the clone is closed, the device failed, or memory ran out, of which the clone says more
 abbrev pub RefusesEntry : LocalClone → EntryValue → ReceiveFault → Type 0
 RefusesEntry old entry (fault.ForeignTick said own) =
     IsForeign old entry × (said ≡ entry.range.last) × (own ≡ ticks_of old.ticks old.path)
 RefusesEntry old entry fault.HeldFull = ¬ IsForeign old entry × MustBeHeld old entry × IsFullFor old entry
 RefusesEntry old entry fault.Deep = ⊥
+RefusesEntry old entry (fault.Closed why) = Unit {0}
+RefusesEntry old entry fault.Device = Unit {0}
 RefusesEntry old entry fault.NoMemory = Unit {0}

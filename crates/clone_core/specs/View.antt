@@ -2,7 +2,7 @@
 use Rattle.mld_model.specs.Local.{LocalClone}
 use Rattle.clone_core.specs.declared.clones.MldClone.TheInside.{Inside}
 
-abbrev pub local_of : Inside → LocalClone
+abbrev pub local_of : {B : Type 0} → Inside B → LocalClone
 local_of c = record {
   id = c.id;
   domain = c.domain;
@@ -10,7 +10,7 @@ local_of c = record {
   path = c.leaf;
   base = c.base.ticks;
   base_pairs = c.base_pairs.items;
-  entries = c.journal.items;
+  entries = c.entries.items;
   held = c.held;
   ticks = c.clock.ticks;
   pairs = c.pairs.items;

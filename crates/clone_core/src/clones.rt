@@ -1,28 +1,31 @@
 //! The clone.
-ghost use Rattle.std.specs.Prelude.{◌≡◌, ◌≤◌, ◌+◌, IfOk, OnOk, OnErr, MatchOption, vec_len, vec_capacity};
+ghost use Rattle.std.specs.Prelude.{◌≡◌, MatchOption};
 ghost use Rattle.clone_core.specs.CloneCalls.{HasRange, LacksRange};
 ghost use Rattle.clone_core.specs.Plans.{left_of};
 
 use crate::answers::{Covering, Done, Got};
+use crate::appending::{append_fork, append_steps, create};
 use crate::faults::{ReceiveFault, UpdateFault};
 use crate::making::{deletion, insertion, pairs_of};
-use crate::plans::{Plan, plan_of};
-use crate::steps::{Step, take_steps};
+use crate::mounts::Replayed;
+use crate::preparing::{prepare_own, prepare_plan};
+use crate::steps::take_steps;
 use causal_buffer::{Held, HeldFault, is_known, is_ready};
 use iri_rules::Text;
+use journal_store::{Blank, Head, Journal, MakeFault, Why};
+use mld_io::{Banks, CrashBanks, Leave};
 use mld_ops::{Entry, Give, Message, Messages, Snapshot, Tagged, copy_pairs, kept_properties};
 use rdf_terms::{Iri, Triple};
 use std::alloc::{AllocError, Global};
-use std::collections::VecDeque;
 use std::marker::Model;
 use std::thread::Threads;
 use tree_clock::{Clock, Dot, Leaf, PATH_LIMIT, Path, Range, TICK_LIMIT};
 use uuid::Uuid;
 
-/// A clone: its id, domain, single-valued properties and leaf; the clock and the pairs of its base; its clock, its journal, the entries
-/// that it holds back, and its pairs, ascending.
+/// A clone on its banks: its id, domain, single-valued properties and leaf; the clock and the pairs of its base; its clock, the entries
+/// of its journal, those that it holds back, and its pairs, ascending; the journal on its banks; and whether an earlier call closed it.
 #[derive(Drop)]
-pub struct MldClone {
+pub struct MldClone<B: Banks> {
     id: Uuid,
     domain: Text,
     properties: Vec<Iri>,
@@ -30,25 +33,36 @@ pub struct MldClone {
     base: Clock,
     base_pairs: Vec<Tagged>,
     clock: Clock,
-    journal: Vec<Entry>,
+    entries: Vec<Entry>,
     held: Held,
     pairs: Vec<Tagged>,
+    journal: Journal<B>,
+    closed: Option<Why>,
 }
 
-impl Model for MldClone {
-    ghost use Rattle.mld_model.specs.Local.{CloneValue, IsLocal};
-
-    ghost Value = { CloneValue };
-
+impl<B: Banks> Model for MldClone<B> {
+    ghost use Rattle.mld_model.specs.Local.{IsLocal};
+    ghost use Rattle.clone_core.specs.Banked.{BankedClone, IsOnBanks};
     ghost use Rattle.clone_core.specs.View.{local_of};
 
-    ghost view = { λ c. record { local = local_of c } };
+    ghost Value = { BankedClone B };
 
-    ghost invariant = { λ c. IsLocal (local_of c) };
+    ghost view = { λ c. record { local = local_of c; generation = c.journal.generation; closed = c.closed; banks = c.journal.banks } };
+
+    ghost invariant = { λ c. IsLocal (local_of c)
+        × IsOnBanks (B.log c.journal.banks) c.journal.closed c.closed c.journal.side c.journal.generation (local_of c) };
 }
 
-impl MldClone {
-    ghost use Rattle.std.specs.Prelude.{◌≡◌, ◌+◌, ◌<◌, ◌^◌, ◌↔◌, ◌∷◌, [], false, length, IsTrue, IfOk, IfErr, OnOk, OnErr, IsErrOf, MatchOption};
+impl<B: Banks> MldClone<B> {
+    ghost use Rattle.std.specs.Prelude.{◌≡◌, ◌≢◌, ◌<◌, ◌↔◌, ◌∷◌, [], ℕ, true, false, length, None, Some, IsTrue, IfOk, IfErr, IsOk, OnOk, OnErr, IsErrOf, MatchOption};
+    ghost use Rattle.mld_io.specs.Arm.{Metered};
+    ghost use Rattle.mld_io.specs.Disk.{Log};
+    ghost use Rattle.journal_store.specs.declared.faults.Why.{Why};
+    ghost use Rattle.journal_store.specs.Heads.{head_value};
+    ghost use Rattle.clone_core.specs.Appending.{BeginsJournal};
+    ghost use Rattle.clone_core.specs.Banked.{IsOnBanks, KeepsClone};
+    ghost use Rattle.clone_core.specs.Beginning.{begun_clone, found_clone};
+    ghost use Rattle.clone_core.specs.Closing.{Shuts, StaysOrShuts, StaysOpen, LeavesUpdate, LeavesReceive, append_calls, create_calls, UpdateCalls, ReceiveCalls, banks_of_made, FailsToFound};
     ghost use Rattle.clone_core.specs.Joining.{LocallyGives, AreGood, AnswersGood, RefusesAsk};
     ghost use Rattle.iri_rules.specs.Domain.{is_domain};
     ghost use Rattle.rdf_terms.specs.Order.{iri_cmp};
@@ -56,7 +70,8 @@ impl MldClone {
     ghost use Rattle.mld_ops.specs.Properties.{AreKept};
     ghost use Rattle.clone_core.specs.CloneCalls.{Sets, LocallyReceives, ReceivesEntry, ReceivesAsk, Refuses, RemovesPairs, ComparesAs, HasRange, LacksRange};
     ghost use Rattle.clone_core.specs.Making.{IsNextEntry};
-    ghost use Rattle.clone_core.specs.Takes.{MakesEntry, IsFullAt, RefusesEntry};
+    ghost use Rattle.clone_core.specs.Stopping.{StopsUpdate, StopsReceive, StopsTaking};
+    ghost use Rattle.clone_core.specs.Takes.{MakesDone, IsFullAt, RefusesEntry};
     ghost use Rattle.mld_model.specs.Local.{IsLocal, IsNamed, blank_clone, joined_clone, snapshot_of, next_dot, LocallyMakes, LocallyAccepts, LocallyHolds, IsForeign};
     ghost use Rattle.mld_ops.specs.Ready.{IsReadyEntry};
     ghost use Rattle.mld_ops.specs.Tagged.{tagged_cmp};
@@ -64,55 +79,105 @@ impl MldClone {
     ghost use Rattle.tree_clock.specs.Limits.{path_limit, tick_limit};
     ghost use Rattle.tree_clock.specs.Lists.{IsAscending};
 
-    /// The first clone of a domain, at the root path, which keeps these properties in order. It knows nothing.
-    pub fn genesis(alloc: Global, id: Uuid, domain: Text, properties: Vec<Iri>) -> MldClone
-        requires { IsTrue (is_domain domain) }
-        ensures kept { AreKept properties.items result.local.properties }
-        ensures blank { result.local ≡ blank_clone id domain result.local.properties [] }
-    {
-        MldClone {
-            id,
-            domain,
-            properties: kept_properties(properties),
-            leaf: Leaf::genesis(),
-            base: Clock::empty(alloc),
-            base_pairs: Vec::new(alloc),
-            clock: Clock::empty(alloc),
-            journal: Vec::new(alloc),
-            held: Held::empty(alloc),
-            pairs: Vec::new(alloc),
-        }
-    }
-
-    // A clone that has this leaf and begins with what a snapshot has, of which it takes two copies.
-    pub(crate) fn with_snapshot(
+    /// The first clone of a domain, at the root path, which keeps these properties in order. It knows nothing. Its banks keep it from
+    /// then on, by one create.
+    ///
+    /// # Errors
+    ///
+    /// `Device` where the device failed, and `NoMemory`. The banks are given back.
+    pub fn genesis(
         alloc: Global,
-        leaf: Leaf,
+        blank: Blank<B>,
         id: Uuid,
         domain: Text,
         properties: Vec<Iri>,
-        base: Snapshot,
-        copy: Snapshot,
-    ) -> MldClone
-        requires named { IsNamed domain properties.items }
-        requires copies { snapshot_value copy ≡ snapshot_value base }
-        requires clock { IsClock base.clock.ticks }
-        requires good { IsGoodSnapshot (snapshot_value base) }
-        ensures { result.local ≡ joined_clone
-            (record { id = id; domain = domain; properties = properties.items })
-            (record { id = id; path = leaf; snapshot = snapshot_value base }) }
+    ) -> Result<MldClone<B>, (MakeFault, B)>
+        requires { IsTrue (is_domain domain) }
+        ensures kept { IfOk result (λ clone. AreKept properties.items clone.local.properties) }
+        ensures blank { IfOk result (λ clone. clone.local ≡ blank_clone id domain clone.local.properties []) }
+        ensures opened { IfOk result (λ clone. clone.closed ≡ None) }
+        ensures generation { IfOk result (λ clone. clone.generation ≡ 1) }
+        ensures meter { Metered create_calls (B.meter blank) (B.meter (banks_of_made result)) (IsOk result) (FailsToFound result) }
     {
+        let head = Head {
+            id,
+            domain,
+            props: kept_properties(properties),
+            path: Path::root(),
+            base: Clock::empty(alloc),
+            tagged: Vec::new(alloc),
+        };
+        let journal = create(alloc, blank, &head)?;
+        let clock = Clock::empty(alloc);
+        Ok(MldClone::beginning(
+            alloc,
+            head,
+            Leaf::genesis(),
+            clock,
+            Vec::new(alloc),
+            journal,
+        ))
+    }
+
+    // An open clone that begins with what a head has, of whose base the clock and the pairs are copies, at this leaf, with no entries.
+    pub(crate) fn beginning(
+        alloc: Global,
+        head: Head,
+        leaf: Leaf,
+        clock: Clock,
+        pairs: Vec<Tagged>,
+        journal: Journal<B>,
+    ) -> MldClone<B>
+        requires named { IsNamed head.domain head.props.items }
+        requires base_clock { IsClock head.base.ticks }
+        requires base { IsGoodSnapshot (head_value head).base }
+        requires path { leaf ≡ head.path }
+        requires clock { clock.ticks ≡ head.base.ticks }
+        requires pairs { pairs.items ≡ head.tagged.items }
+        requires begins { BeginsJournal (head_value head) journal (B.log journal.banks) }
+        ensures { result ≡ record { local = begun_clone (head_value head); generation = 1; closed = None; banks = journal.banks } }
+    {
+        let replayed = Replayed {
+            clock,
+            entries: Vec::new(alloc),
+            pairs,
+        };
+        MldClone::found(alloc, head, leaf, replayed, journal)
+    }
+
+    // An open clone that has what a head and the entries of its journal lead to, at this leaf, and holds nothing back.
+    pub(crate) fn found(
+        alloc: Global,
+        head: Head,
+        leaf: Leaf,
+        replayed: Replayed,
+        journal: Journal<B>,
+    ) -> MldClone<B>
+        requires local { IsLocal (found_clone (head_value head) leaf replayed) }
+        requires banks { IsOnBanks (B.log journal.banks) journal.closed None journal.side journal.generation (found_clone (head_value head) leaf replayed) }
+        ensures { result ≡ record { local = found_clone (head_value head) leaf replayed; generation = journal.generation; closed = None; banks = journal.banks } }
+    {
+        let Head {
+            id,
+            domain,
+            props,
+            path: _,
+            base,
+            tagged,
+        } = head;
         MldClone {
             id,
             domain,
-            properties,
+            properties: props,
             leaf,
-            base: base.clock,
-            base_pairs: base.tagged,
-            clock: copy.clock,
-            journal: Vec::new(alloc),
+            base,
+            base_pairs: tagged,
+            clock: replayed.clock,
+            entries: replayed.entries,
             held: Held::empty(alloc),
-            pairs: copy.tagged,
+            pairs: replayed.pairs,
+            journal,
+            closed: None,
         }
     }
 
@@ -164,7 +229,7 @@ impl MldClone {
     pub fn journal(&self) -> &[Entry]
         ensures { result.now ≡ self.now.local.entries }
     {
-        self.journal.as_slice()
+        self.entries.as_slice()
     }
 
     /// The entries that the clone holds back, in order of arrival.
@@ -204,8 +269,23 @@ impl MldClone {
         entry_in(self.journal(), range)
     }
 
+    /// Why an earlier call closed the clone, if one did: its device failed, or there was no memory behind a call of the device.
+    pub fn is_closed(&self) -> Option<Why>
+        ensures { result ≡ self.now.closed }
+    {
+        self.closed
+    }
+
+    /// The banks of the clone, which stops. What it holds back is forgotten. It takes no memory.
+    pub fn stop(self) -> B
+        ensures banks { result ≡ self.banks }
+        ensures kept { self.closed ≡ None → (log : Log) → B.log result ≡ Some log → KeepsClone self.local self.generation log }
+    {
+        self.journal.into_banks()
+    }
+
     /// How the dots that this clone knows compare with those of another.
-    pub fn compare(&self, other: &MldClone) -> Covering
+    pub fn compare(&self, other: &MldClone<B>) -> Covering
         ensures { ComparesAs self.now.local.ticks other.now.local.ticks result }
     {
         match (self.clock.leq(&other.clock), other.clock.leq(&self.clock)) {
@@ -216,8 +296,14 @@ impl MldClone {
         }
     }
 
-    /// Makes the operation that inserts a triple, or the one that deletes all its pairs, where there are any. After a refusal the clone is
-    /// as it was.
+    /// Makes the operation that inserts a triple, or the one that deletes all its pairs, where there are any. Its entry is appended to the
+    /// journal on the banks before it is handed out.
+    ///
+    /// # Errors
+    ///
+    /// In this order: `Closed` where an earlier call closed the clone; `TicksSpent` where its path has no tick left; `Device` where the
+    /// device failed, which closes the clone. `NoMemory` leaves it as it was, or closes it where a call of the device was done. After the
+    /// others it is as it was.
     pub fn set(
         &mut self,
         alloc: Global,
@@ -225,10 +311,16 @@ impl MldClone {
         present: bool,
     ) -> Result<Done, UpdateFault>
         ensures ok { IfOk result (λ done. Sets self.old.local triple.now present done self.new.local) }
+        ensures opened { OnOk result (StaysOpen self.old self.new) }
+        ensures closed { (why : Why) → IsErrOf result (UpdateFault.Closed why) ↔ (self.old.closed ≡ Some why) }
         ensures spent { IsErrOf result UpdateFault.TicksSpent
-            ↔ (ticks_of self.old.local.ticks self.old.local.path ≡ tick_limit) }
-        ensures unchanged { OnErr result (self.new ≡ self.old) }
+            ↔ ((self.old.closed ≡ None) × (ticks_of self.old.local.ticks self.old.local.path ≡ tick_limit)) }
+        ensures left { IfErr result (LeavesUpdate self.old self.new) }
+        ensures meter { (calls : ℕ) × UpdateCalls result calls × Metered calls (B.meter self.old.banks) (B.meter self.new.banks) (IsOk result) (IsErrOf result UpdateFault.Device) }
     {
+        if let Some(why) = self.closed {
+            return Err(UpdateFault::Closed { why });
+        }
         let path = self.path();
         let tick = self.known().ticks(&path);
         if tick == TICK_LIMIT {
@@ -239,60 +331,76 @@ impl MldClone {
             tick: tick + 1,
         };
         if present {
-            Ok(Done::Made(self.insert(alloc, &dot, triple)?))
+            self.insert(alloc, &dot, triple)
         } else {
-            Ok(self.remove(alloc, &dot, triple)?)
+            self.remove(alloc, &dot, triple)
         }
     }
 
     // Makes the operation at the next dot that inserts a triple.
-    fn insert(&mut self, alloc: Global, dot: &Dot, triple: &Triple) -> Result<Entry, AllocError>
-        requires { dot.now ≡ next_dot self.old.local }
-        ensures ok { IfOk result (λ entry. LocallyMakes self.old.local [] (triple.now ∷ []) self.new.local entry) }
-        ensures err { OnErr result (self.new ≡ self.old) }
+    fn insert(&mut self, alloc: Global, dot: &Dot, triple: &Triple) -> Result<Done, UpdateFault>
+        requires opened { self.old.closed ≡ None }
+        requires dot { dot.now ≡ next_dot self.old.local }
+        ensures ok { IfOk result (λ done. Sets self.old.local triple.now true done self.new.local) }
+        ensures opened { OnOk result (StaysOpen self.old self.new) }
+        ensures err { IfErr result (StopsUpdate self.old self.new) }
+        ensures meter { (calls : ℕ) × UpdateCalls result calls × Metered calls (B.meter self.old.banks) (B.meter self.new.banks) (IsOk result) (IsErrOf result UpdateFault.Device) }
     {
         let entry = insertion(alloc, self.known(), dot, triple)?;
-        let made = entry.copy_in(alloc)?;
-        self.make(alloc, dot, entry)?;
-        Ok(made)
+        self.make(alloc, dot, entry)
     }
 
     // Makes the operation at the next dot that deletes the pairs of a triple, if there are any.
-    fn remove(&mut self, alloc: Global, dot: &Dot, triple: &Triple) -> Result<Done, AllocError>
-        requires { dot.now ≡ next_dot self.old.local }
+    fn remove(&mut self, alloc: Global, dot: &Dot, triple: &Triple) -> Result<Done, UpdateFault>
+        requires opened { self.old.closed ≡ None }
+        requires dot { dot.now ≡ next_dot self.old.local }
         ensures ok { IfOk result (λ done. Sets self.old.local triple.now false done self.new.local) }
-        ensures err { OnErr result (self.new ≡ self.old) }
+        ensures opened { OnOk result (StaysOpen self.old self.new) }
+        ensures err { IfErr result (StopsUpdate self.old self.new) }
+        ensures meter { (calls : ℕ) × UpdateCalls result calls × Metered calls (B.meter self.old.banks) (B.meter self.new.banks) (IsOk result) (IsErrOf result UpdateFault.Device) }
     {
         let deletes = pairs_of(alloc, self.pairs(), triple)?;
         if deletes.is_empty() {
             return Ok(Done::Nothing);
         }
         let entry = deletion(alloc, self.known(), dot, deletes)?;
+        self.make(alloc, dot, entry)
+    }
+
+    // Takes the entry of an operation of the clone's own, once all room is made and the entry is appended, and hands out a copy.
+    fn make(&mut self, alloc: Global, dot: &Dot, entry: Entry) -> Result<Done, UpdateFault>
+        requires opened { self.old.closed ≡ None }
+        requires dot { dot.now ≡ next_dot self.old.local }
+        requires next { IsNextEntry self.old.local.ticks dot.now entry }
+        ensures ok { IfOk result (MakesDone self.old.local entry self.new.local) }
+        ensures opened { OnOk result (StaysOpen self.old self.new) }
+        ensures err { IfErr result (StopsUpdate self.old self.new) }
+        ensures meter { Metered append_calls (B.meter self.old.banks) (B.meter self.new.banks) (IsOk result) (IsErrOf result UpdateFault.Device) }
+    {
         let made = entry.copy_in(alloc)?;
-        self.make(alloc, dot, entry)?;
+        let steps = prepare_own(
+            alloc,
+            &mut self.clock,
+            &mut self.entries,
+            &mut self.pairs,
+            dot,
+            entry,
+        )?;
+        append_steps(alloc, &mut self.journal, &mut self.closed, &steps)?;
+        self.clock.raise(dot);
+        take_steps(&mut self.entries, &mut self.pairs, steps);
         Ok(Done::Made(made))
     }
 
-    // Takes the entry of an operation of the clone's own.
-    fn make(&mut self, alloc: Global, dot: &Dot, entry: Entry) -> Result<(), AllocError>
-        requires dot { dot.now ≡ next_dot self.old.local }
-        requires next { IsNextEntry self.old.local.ticks dot.now entry }
-        ensures ok { OnOk result (MakesEntry self.old.local entry self.new.local) }
-        ensures err { OnErr result (self.new ≡ self.old) }
-    {
-        let step = Step::new(alloc, entry, dot.tick - 1)?;
-        let adds = step.adds();
-        let mut steps = VecDeque::new(alloc);
-        steps.push_back(step)?;
-        grow(&mut self.journal, &mut self.pairs, 1, adds)?;
-        self.clock.reserve(&dot.path)?;
-        self.clock.raise(dot);
-        take_steps(&mut self.journal, &mut self.pairs, steps);
-        Ok(())
-    }
-
     /// Takes an entry that is ready, and then those held back that this releases; or holds it back. Forks the leaf for who asks for one.
-    /// Messages of other kinds are ignored. A snapshot in the message is one that may be taken. After a refusal the clone is as it was.
+    /// Messages of other kinds are ignored. A snapshot in the message is one that may be taken. Each entry that is taken is appended to
+    /// the journal on the banks, in order, and so is a fork, before anything is handed out.
+    ///
+    /// # Errors
+    ///
+    /// In this order: `Closed` where an earlier call closed the clone; `ForeignTick`; `HeldFull`; `Deep`; `Device` where the device
+    /// failed, which closes the clone: the appends that were done stand on the banks. `NoMemory` leaves it as it was, or closes it where
+    /// a call of the device was done. After the others it is as it was.
     pub fn receive<R: Threads>(
         &mut self,
         _rt: &R,
@@ -302,9 +410,15 @@ impl MldClone {
         requires { IsGoodMessage (message_value message.now) }
         ensures ok { IfOk result (λ got. LocallyReceives self.old.local message.now got self.new.local) }
         ensures good { IfOk result AnswersGood }
+        ensures opened { OnOk result (StaysOpen self.old self.new) }
+        ensures closed { (why : Why) → IsErrOf result (ReceiveFault.Closed why) ↔ (self.old.closed ≡ Some why) }
         ensures err { IfErr result (Refuses self.old.local message.now) }
-        ensures unchanged { OnErr result (self.new ≡ self.old) }
+        ensures left { IfErr result (LeavesReceive self.old self.new) }
+        ensures meter { (calls : ℕ) × ReceiveCalls result calls × Metered calls (B.meter self.old.banks) (B.meter self.new.banks) (IsOk result) (IsErrOf result ReceiveFault.Device) }
     {
+        if let Some(why) = self.closed {
+            return Err(ReceiveFault::Closed { why });
+        }
         match message {
             Message::Range(entry) => self.receive_entry(alloc, entry),
             Message::JoinAsk(id) => self.receive_ask(alloc, id),
@@ -314,10 +428,13 @@ impl MldClone {
 
     // Forks the leaf for who asks by an id, unless that is the clone's own.
     fn receive_ask(&mut self, alloc: Global, id: &Uuid) -> Result<Got, ReceiveFault>
+        requires { self.old.closed ≡ None }
         ensures ok { IfOk result (λ got. ReceivesAsk self.old.local id.now got self.new.local) }
         ensures good { IfOk result AnswersGood }
+        ensures opened { OnOk result (StaysOpen self.old self.new) }
         ensures err { IfErr result (RefusesAsk self.old.local id.now) }
-        ensures unchanged { OnErr result (self.new ≡ self.old) }
+        ensures left { IfErr result (StopsReceive self.old self.new) }
+        ensures meter { (calls : ℕ) × ReceiveCalls result calls × Metered calls (B.meter self.old.banks) (B.meter self.new.banks) (IsOk result) (IsErrOf result ReceiveFault.Device) }
     {
         if *id == self.id {
             return Ok(Got::Ignored);
@@ -325,26 +442,31 @@ impl MldClone {
         if self.path().len() == PATH_LIMIT {
             return Err(ReceiveFault::Deep);
         }
-        Ok(Got::Answer(self.give(alloc, id)?))
+        self.give(alloc, id)
     }
 
-    // Forks the leaf, which is not too deep, for who asks by an id: it keeps the left half, and the right one is given with all that the
-    // clone has.
-    fn give(&mut self, alloc: Global, id: &Uuid) -> Result<Messages, AllocError>
-        requires { length self.old.local.path < path_limit }
-        ensures ok { IfOk result (λ messages. LocallyGives self.old.local id.now messages self.new.local) }
-        ensures good { IfOk result (λ messages. AreGood messages) }
-        ensures err { OnErr result (self.new ≡ self.old) }
+    // Forks the leaf, which is not too deep, for who asks by another id: it keeps the left half, and the right one is given with all that
+    // the clone has.
+    fn give(&mut self, alloc: Global, id: &Uuid) -> Result<Got, ReceiveFault>
+        requires opened { self.old.closed ≡ None }
+        requires other { id.now ≢ self.old.local.id }
+        requires room { length self.old.local.path < path_limit }
+        ensures ok { IfOk result (λ got. ReceivesAsk self.old.local id.now got self.new.local) }
+        ensures good { IfOk result AnswersGood }
+        ensures opened { OnOk result (StaysOpen self.old self.new) }
+        ensures err { IfErr result (StopsTaking self.old self.new) }
+        ensures meter { (calls : ℕ) × ReceiveCalls result calls × Metered calls (B.meter self.old.banks) (B.meter self.new.banks) (IsOk result) (IsErrOf result ReceiveFault.Device) }
     {
         let snapshot = self.snapshot(alloc)?;
         let mut messages = Vec::with_capacity(alloc, 1)?;
+        append_fork(&mut self.journal, &mut self.closed)?;
         let right = self.leaf.give().unwrap();
         messages.push_reserved(Message::JoinGive(Give {
             id: *id,
             path: right.path(),
             snapshot,
         }));
-        Ok(Messages::from_vec(messages))
+        Ok(Got::Answer(Messages::from_vec(messages)))
     }
 
     // A copy of what the clone knows and has.
@@ -359,9 +481,13 @@ impl MldClone {
 
     // Takes an entry, or holds it back.
     fn receive_entry(&mut self, alloc: Global, entry: &Entry) -> Result<Got, ReceiveFault>
+        requires { self.old.closed ≡ None }
         ensures ok { IfOk result (λ got. ¬ IsForeign self.old.local entry.now × ReceivesEntry self.old.local entry.now got self.new.local) }
+        ensures good { IfOk result AnswersGood }
+        ensures opened { OnOk result (StaysOpen self.old self.new) }
         ensures err { IfErr result (RefusesEntry self.old.local entry.now) }
-        ensures unchanged { OnErr result (self.new ≡ self.old) }
+        ensures left { IfErr result (StopsReceive self.old self.new) }
+        ensures meter { (calls : ℕ) × ReceiveCalls result calls × Metered calls (B.meter self.old.banks) (B.meter self.new.banks) (IsOk result) (IsErrOf result ReceiveFault.Device) }
     {
         let path = self.path();
         let range = entry.range();
@@ -374,7 +500,7 @@ impl MldClone {
             return Ok(Got::Known);
         }
         if is_ready(self.known(), entry) {
-            return Ok(self.accept(alloc, entry)?);
+            return self.accept(alloc, entry);
         }
         self.hold(alloc, entry)?;
         Ok(Got::Held)
@@ -385,29 +511,50 @@ impl MldClone {
         ensures ok { OnOk result (LocallyHolds self.old.local entry.now self.new.local) }
         ensures full { IfErr result (IsFullAt self.old.local entry.now) }
         ensures err { OnErr result (self.new ≡ self.old) }
+        ensures same { self.new ≡ record self.old { local = self.new.local } }
     {
         self.held.add(alloc, entry)?;
         Ok(())
     }
 
     // Takes an entry that is ready, and then those held back that this releases.
-    fn accept(&mut self, alloc: Global, entry: &Entry) -> Result<Got, AllocError>
-        requires { IsReadyEntry self.old.local.ticks entry.now }
+    fn accept(&mut self, alloc: Global, entry: &Entry) -> Result<Got, ReceiveFault>
+        requires opened { self.old.closed ≡ None }
+        requires ready { IsReadyEntry self.old.local.ticks entry.now }
         ensures ok { IfOk result (λ got. ReceivesEntry self.old.local entry.now got self.new.local) }
-        ensures err { OnErr result (self.new ≡ self.old) }
+        ensures good { IfOk result AnswersGood }
+        ensures opened { OnOk result (StaysOpen self.old self.new) }
+        ensures err { IfErr result (StopsTaking self.old self.new) }
+        ensures meter { (calls : ℕ) × ReceiveCalls result calls × Metered calls (B.meter self.old.banks) (B.meter self.new.banks) (IsOk result) (IsErrOf result ReceiveFault.Device) }
     {
-        let Plan {
-            clock,
-            left,
-            steps,
-            adds,
-            ranges,
-        } = plan_of(alloc, &self.clock, &self.held, entry)?;
-        grow(&mut self.journal, &mut self.pairs, steps.len(), adds)?;
-        take_steps(&mut self.journal, &mut self.pairs, steps);
-        self.clock = clock;
-        replace_held(&mut self.held, left);
-        Ok(Got::Took(ranges))
+        let plan = prepare_plan(
+            alloc,
+            &self.clock,
+            &self.held,
+            &mut self.entries,
+            &mut self.pairs,
+            entry,
+        )?;
+        append_steps(alloc, &mut self.journal, &mut self.closed, &plan.steps)?;
+        take_steps(&mut self.entries, &mut self.pairs, plan.steps);
+        self.clock = plan.clock;
+        replace_held(&mut self.held, plan.left);
+        Ok(Got::Took(plan.ranges))
+    }
+}
+
+impl<B: CrashBanks> MldClone<B> {
+    ghost use Rattle.std.specs.Prelude.{◌≡◌};
+    ghost use Rattle.mld_io.specs.Arm.{armed};
+
+    /// Has so many calls of the banks that write or sync done, and catches the next one. It calls no device and takes no
+    /// memory.
+    pub fn arm(&mut self, calls: u32, leave: Leave)
+        ensures log { B.log self.new.banks ≡ B.log self.old.banks }
+        ensures meter { B.meter self.new.banks ≡ armed calls (B.meter self.old.banks) }
+        ensures same { self.new ≡ record self.old { banks = self.new.banks } }
+    {
+        self.journal.arm(calls, leave);
     }
 }
 
@@ -421,23 +568,6 @@ fn entry_in<'a>(entries: &'a [Entry], range: &Range) -> Option<&'a Entry>
         }
     }
     None
-}
-
-// Makes room for entries and pairs.
-fn grow(
-    journal: &mut Vec<Entry>,
-    pairs: &mut Vec<Tagged>,
-    entries: usize,
-    adds: usize,
-) -> Result<(), AllocError>
-    ensures journal { journal.new.items ≡ journal.old.items }
-    ensures pairs { pairs.new.items ≡ pairs.old.items }
-    ensures entries { OnOk result (vec_len journal.new + entries ≤ vec_capacity journal.new) }
-    ensures adds { OnOk result (vec_len pairs.new + adds ≤ vec_capacity pairs.new) }
-{
-    journal.reserve(entries)?;
-    pairs.reserve(adds)?;
-    Ok(())
 }
 
 // Puts another list in place of what is held, if there is one.

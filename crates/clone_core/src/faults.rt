@@ -1,14 +1,24 @@
 //! Why a clone refuses.
 use causal_buffer::HeldFault;
+use journal_store::Why;
 use std::alloc::AllocError;
 use thiserror::Error;
 
 /// Why an update was refused.
 #[derive(Clone, Copy, Debug, PartialEq, Eq, Error)]
 pub enum UpdateFault {
+    /// An earlier call closed the clone.
+    #[error("the clone is closed")]
+    Closed {
+        /// Why it did.
+        why: Why,
+    },
     /// The clone's path has no tick left.
     #[error("no tick is left")]
     TicksSpent,
+    /// The device failed, which closes the clone.
+    #[error("the device failed")]
+    Device,
     /// Memory ran out.
     #[error("out of memory")]
     NoMemory,
@@ -17,6 +27,12 @@ pub enum UpdateFault {
 /// Why a message was refused.
 #[derive(Clone, Copy, Debug, PartialEq, Eq, Error)]
 pub enum ReceiveFault {
+    /// An earlier call closed the clone.
+    #[error("the clone is closed")]
+    Closed {
+        /// Why it did.
+        why: Why,
+    },
     /// The entry is of the clone's own path, and goes beyond the ticks that the clone has used: another one has used its
     /// leaf.
     #[error("another one has used the leaf: tick {said} of {own}")]
@@ -32,6 +48,9 @@ pub enum ReceiveFault {
     /// The leaf that was asked for can't be forked, since its path has as many letters as it may.
     #[error("the leaf is too deep to be forked")]
     Deep,
+    /// The device failed, which closes the clone.
+    #[error("the device failed")]
+    Device,
     /// Memory ran out.
     #[error("out of memory")]
     NoMemory,
@@ -56,6 +75,34 @@ impl From<AllocError> for ReceiveFault {
 
     fn from(_error: AllocError) -> ReceiveFault {
         ReceiveFault::NoMemory
+    }
+}
+
+impl From<Why> for UpdateFault {
+    ghost use Rattle.clone_core.specs.CloneFaults.{update_fault_of};
+    ghost use Rattle.std.specs.Prelude.{◌≡◌};
+
+    ghost from_gives = { λ why fault. fault ≡ update_fault_of why };
+
+    fn from(why: Why) -> UpdateFault {
+        match why {
+            Why::Device => UpdateFault::Device,
+            Why::NoMemory => UpdateFault::NoMemory,
+        }
+    }
+}
+
+impl From<Why> for ReceiveFault {
+    ghost use Rattle.clone_core.specs.CloneFaults.{receive_fault_of};
+    ghost use Rattle.std.specs.Prelude.{◌≡◌};
+
+    ghost from_gives = { λ why fault. fault ≡ receive_fault_of why };
+
+    fn from(why: Why) -> ReceiveFault {
+        match why {
+            Why::Device => ReceiveFault::Device,
+            Why::NoMemory => ReceiveFault::NoMemory,
+        }
     }
 }
 

@@ -1,16 +1,20 @@
-//! One clone, in memory: its journal, its clock, its pairs and what it holds back.
+//! One clone on its banks: its journal, its clock, its pairs and what it holds back.
 #![tactic(auto)]
 
 mod answers;
+mod appending;
 mod askers;
 mod clones;
 mod faults;
 mod making;
+mod mounts;
 mod pairs;
 mod plans;
+mod preparing;
 mod steps;
 
 pub use answers::{Covering, Done, Got};
 pub use askers::{Adopted, Asker};
 pub use clones::MldClone;
 pub use faults::{ReceiveFault, UpdateFault};
+pub use mounts::Mounted;

@@ -1,7 +1,9 @@
 //! The plan of a delivery, which is made before anything changes.
 ghost use Rattle.std.specs.Prelude.{◌≡◌, None, IfOk, OnOk};
-ghost use Rattle.clone_core.specs.Plans.{left_of, IsEmptyPlan, IsPlanOf, PlansEntry, PlansReleases};
+ghost use Rattle.clone_core.specs.Plans.{left_of, entries_of, IsEmptyPlan, IsPlanFrom, IsPlanOf, PlansEntry, PlansReleases};
+ghost use Rattle.journal_store.specs.StoredVolumes.{AreGoodEntries};
 ghost use Rattle.mld_ops.specs.Ready.{IsReadyEntry};
+ghost use Rattle.tree_clock.specs.Clock.{IsClock};
 
 use crate::steps::Step;
 use causal_buffer::Held;
@@ -18,7 +20,7 @@ pub struct Plan {
     /// What is held back then, where that changes.
     pub left: Option<Held>,
     /// The entries that are taken, in order.
-    pub steps: VecDeque<Step>,
+    pub steps: Vec<Step>,
     /// The number of pairs that they add.
     pub adds: usize,
     /// Their ranges.
@@ -36,14 +38,34 @@ pub fn plan_of(alloc: Global, clock: &Clock, held: &Held, entry: &Entry) -> Resu
     Ok(plan)
 }
 
+/// The plan to take entries one after another, each of which is ready once those before it are taken.
+pub(crate) fn plan_of_entries(
+    alloc: Global,
+    clock: &Clock,
+    entries: Vec<Entry>,
+) -> Result<Plan, AllocError>
+    requires { AreGoodEntries clock.now.ticks entries.items }
+    ensures clock { IfOk result (λ _. IsClock clock.now.ticks) }
+    ensures leads { IfOk result (IsPlanFrom clock.now.ticks) }
+    ensures entries { IfOk result (λ plan. entries_of plan.steps.items ≡ entries.items) }
+{
+    let mut plan = empty_plan(alloc, clock)?;
+    let mut rest = VecDeque::from_vec(entries);
+    while let Some(entry) = rest.pop_front() {
+        take(alloc, &mut plan, entry)?;
+    }
+    Ok(plan)
+}
+
 // The plan to take nothing.
 fn empty_plan(alloc: Global, clock: &Clock) -> Result<Plan, AllocError>
-    ensures { IfOk result (λ plan. IsEmptyPlan clock.now.ticks plan) }
+    ensures clock { IfOk result (λ _. IsClock clock.now.ticks) }
+    ensures empty { IfOk result (λ plan. IsEmptyPlan clock.now.ticks plan) }
 {
     Ok(Plan {
         clock: clock.copy_in(alloc)?,
         left: None,
-        steps: VecDeque::new(alloc),
+        steps: Vec::new(alloc),
         adds: 0,
         ranges: Ranges::new(alloc),
     })
@@ -59,7 +81,7 @@ fn take(alloc: Global, plan: &mut Plan, entry: Entry) -> Result<(), AllocError>
     let step = Step::new(alloc, entry, known)?;
     plan.adds = plan.adds.checked_add(step.adds()).ok_or(AllocError)?;
     plan.ranges.push(range)?;
-    plan.steps.push_back(step)?;
+    plan.steps.push(step)?;
     plan.clock.reserve(&range.path)?;
     plan.clock.raise(&Dot {
         path: range.path,

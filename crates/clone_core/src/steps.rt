@@ -56,6 +56,13 @@ impl Step {
         })
     }
 
+    /// The entry.
+    pub(crate) fn entry(&self) -> &Entry
+        ensures { result.now ≡ self.now.entry }
+    {
+        &self.entry
+    }
+
     /// How many pairs it adds.
     pub fn adds(&self) -> usize
         ensures adds { result ≡ self.now.adds }
@@ -87,14 +94,14 @@ impl Step {
 }
 
 /// Makes the cut of each step in turn, and puts its entry behind the journal. There is room for all.
-pub fn take_steps(journal: &mut Vec<Entry>, pairs: &mut Vec<Tagged>, steps: VecDeque<Step>)
+pub fn take_steps(journal: &mut Vec<Entry>, pairs: &mut Vec<Tagged>, steps: Vec<Step>)
     requires ascending { IsAscending tagged_cmp pairs.old.items }
     requires entries { vec_len journal.old + length steps.items ≤ vec_capacity journal.old }
     requires room { vec_len pairs.old + adds_of steps.items ≤ vec_capacity pairs.old }
     ensures journal { journal.new.items ≡ journal.old.items ++ entries_of steps.items }
     ensures pairs { StepsCut pairs.old.items steps.items pairs.new.items }
 {
-    let mut steps = steps;
+    let mut steps = VecDeque::from_vec(steps);
     while let Some(step) = steps.pop_front() {
         journal.push_reserved(step.cut(pairs));
     }

@@ -1,8 +1,10 @@
 //! Clones worked by hand.
 ghost use Rattle.mld_ops.specs.Messages.{snapshot_value, message_value, IsGoodSnapshot, IsGoodMessage};
 
-use crate::clones::{domain, first, given, joined_from, set, triple};
-use clone_core::{Asker, Covering, Done, Got, MldClone, ReceiveFault};
+use crate::clones::{
+    TestAsker, TestClone, blank, domain, first, founded, given, joined_from, set, triple,
+};
+use clone_core::{Asker, Covering, Done, Got, ReceiveFault};
 use mld_ops::{Entry, Give, Message, Snapshot, Tagged};
 use rdf_terms::{Iri, Term};
 use std::alloc::{AllocError, Global};
@@ -31,7 +33,7 @@ fn range(one: bool, first: u32, last: u32) -> Range {
 }
 
 // The clone a at r0, or b at r1, which knows nothing.
-fn clone_at<R: Threads>(rt: &R, alloc: Global, one: bool) -> Result<Box<MldClone>, Fail> {
+fn clone_at<R: Threads>(rt: &R, alloc: Global, one: bool) -> Result<Box<TestClone>, Fail> {
     let mut clone = first(alloc)?;
     if one {
         return joined_from(&mut clone, rt, alloc);
@@ -46,7 +48,7 @@ fn adding<R: Threads>(
     alloc: Global,
     one: bool,
     objects: &[&str],
-) -> Result<Box<MldClone>, Fail> {
+) -> Result<Box<TestClone>, Fail> {
     let mut clone = clone_at(rt, alloc, one)?;
     for object in objects {
         set(&mut clone, alloc, object, true)?;
@@ -79,7 +81,7 @@ fn word_of(got: Result<Got, ReceiveFault>) -> Word {
 }
 
 // What a clone answers to an entry.
-fn answer<R: Threads>(clone: &mut MldClone, rt: &R, alloc: Global, entry: Entry) -> Word {
+fn answer<R: Threads>(clone: &mut TestClone, rt: &R, alloc: Global, entry: Entry) -> Word {
     word_of(clone.receive(rt, alloc, &Message::Range(entry)))
 }
 
@@ -95,7 +97,7 @@ fn sent<R: Threads>(rt: &R, alloc: Global) -> Result<Vec<Entry>, Fail> {
 
 // What a clone answers to these entries in this order.
 fn answers_to<R: Threads>(
-    clone: &mut MldClone,
+    clone: &mut TestClone,
     rt: &R,
     alloc: Global,
     entries: &[Entry],
@@ -118,7 +120,7 @@ fn answers<R: Threads>(rt: &R, alloc: Global, order: &[usize]) -> Result<Vec<Wor
 }
 
 // The clone b once they came in this order.
-fn after<R: Threads>(rt: &R, alloc: Global, order: &[usize]) -> Result<Box<MldClone>, Fail> {
+fn after<R: Threads>(rt: &R, alloc: Global, order: &[usize]) -> Result<Box<TestClone>, Fail> {
     let entries = sent(rt, alloc)?;
     let mut b = clone_at(rt, alloc, true)?;
     answers_to(&mut b, rt, alloc, &entries, order)?;
@@ -126,7 +128,7 @@ fn after<R: Threads>(rt: &R, alloc: Global, order: &[usize]) -> Result<Box<MldCl
 }
 
 // How many entries a clone holds back, how many ticks of a it knows, and how many entries it took.
-fn state(clone: &MldClone) -> (usize, u32, usize) {
+fn state(clone: &TestClone) -> (usize, u32, usize) {
     (
         clone.held().len(),
         clone.known().ticks(&son(false)),
@@ -187,7 +189,7 @@ fn what_is_released_adds_its_pairs(rt: HostRuntime) -> Result<(), Fail> {
 
 // Whether a clone takes just these ranges at an entry.
 fn takes_ranges<R: Threads>(
-    clone: &mut MldClone,
+    clone: &mut TestClone,
     rt: &R,
     alloc: Global,
     entry: Entry,
@@ -225,7 +227,7 @@ fn an_update_that_changes_nothing_makes_no_operation(rt: HostRuntime) -> Result<
 }
 
 // The range of a removal of t, and how many pairs it deletes.
-fn removal(clone: &mut MldClone, alloc: Global) -> Result<(Range, usize), Fail> {
+fn removal(clone: &mut TestClone, alloc: Global) -> Result<(Range, usize), Fail> {
     match set(clone, alloc, T, false)? {
         Done::Made(entry) => Ok((entry.range(), entry.deletes().len())),
         Done::Nothing => Err("nothing was made".into()),
@@ -262,7 +264,7 @@ fn clones_are_compared_by_their_dots(rt: HostRuntime) -> Result<(), Fail> {
 }
 
 // Whether the entry of a's second operation is found by its range alone.
-fn finds_second(clone: &MldClone) -> bool {
+fn finds_second(clone: &TestClone) -> bool {
     let second = range(false, 2, 2);
     matches!(clone.entry_of(&second), Some(entry) if entry.range() == second)
         && clone.entry_of(&range(false, 1, 2)).is_none()
@@ -286,14 +288,14 @@ fn iris(alloc: Global, texts: &[&str]) -> Result<Vec<Iri>, Fail> {
 }
 
 // The first clone of a domain, with the id 7 and these single-valued properties.
-fn genesis(alloc: Global, properties: &[&str]) -> Result<Box<MldClone>, Fail> {
+fn genesis(alloc: Global, properties: &[&str]) -> Result<Box<TestClone>, Fail> {
     let properties = iris(alloc, properties)?;
-    let clone = MldClone::genesis(alloc, Uuid::from_u128(7), domain(alloc)?, properties);
-    Ok(Box::new(alloc, clone)?)
+    let id = Uuid::from_u128(7);
+    founded(alloc, id, domain(alloc)?, properties)
 }
 
 // Whether this is the first clone with one property, which knows nothing.
-fn is_first(clone: &MldClone) -> bool {
+fn is_first(clone: &TestClone) -> bool {
     clone.id() == Uuid::from_u128(7)
         && clone.domain() == "example.org"
         && clone.properties().len() == 1
@@ -329,9 +331,14 @@ fn a_clone_keeps_its_properties_in_order(rt: HostRuntime) -> Result<(), Fail> {
 }
 
 // Who asks, with these single-valued properties.
-fn asker_of(alloc: Global, properties: &[&str]) -> Result<Box<Asker>, Fail> {
+fn asker_of(alloc: Global, properties: &[&str]) -> Result<Box<TestAsker>, Fail> {
     let properties = iris(alloc, properties)?;
-    let asker = Asker::new(Uuid::from_u128(7), domain(alloc)?, properties);
+    let asker = Asker::new(
+        blank(alloc)?,
+        Uuid::from_u128(7),
+        domain(alloc)?,
+        properties,
+    );
     Ok(Box::new(alloc, asker)?)
 }
 
@@ -428,7 +435,7 @@ fn a_foreign_use_of_the_leaf_is_told(rt: HostRuntime) -> Result<(), Fail> {
 }
 
 // Gives a clone b's operations from the second on, as many as may be held.
-fn fill<R: Threads>(clone: &mut MldClone, rt: &R, alloc: Global) -> Result<(), Fail> {
+fn fill<R: Threads>(clone: &mut TestClone, rt: &R, alloc: Global) -> Result<(), Fail> {
     for i in 0..4_096 {
         answer(clone, rt, alloc, bare(alloc, 0, i + 2)?);
     }
@@ -465,7 +472,7 @@ fn inserting(alloc: Global, last: u32, object: &str, tick: u32) -> Result<Entry,
 }
 
 // The clone b that knows a's first operation, and then takes three.
-fn knowing_in_part<R: Threads>(rt: &R, alloc: Global) -> Result<Box<MldClone>, Fail> {
+fn knowing_in_part<R: Threads>(rt: &R, alloc: Global) -> Result<Box<TestClone>, Fail> {
     let mut b = clone_at(rt, alloc, true)?;
     answer(&mut b, rt, alloc, inserting(alloc, 1, T, 1)?);
     answer(&mut b, rt, alloc, inserting(alloc, 3, U, 2)?);
@@ -473,7 +480,7 @@ fn knowing_in_part<R: Threads>(rt: &R, alloc: Global) -> Result<Box<MldClone>, F
 }
 
 // Whether the clone knows three operations of a, and has the second one's pair alone.
-fn is_cut(clone: &MldClone) -> bool {
+fn is_cut(clone: &TestClone) -> bool {
     let pairs = clone.pairs();
     clone.known().ticks(&son(false)) == 3 && pairs.len() == 1 && is_pair(&pairs[0], U, 2)
 }

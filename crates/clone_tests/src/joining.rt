@@ -2,8 +2,10 @@
 ghost use Rattle.std.specs.Prelude.{IfOk};
 ghost use Rattle.mld_ops.specs.Messages.{message_value, IsGoodMessage};
 
-use crate::clones::{ask, asker, first, given, joined, joined_from, set, triple};
-use clone_core::{Adopted, Asker, Covering, Done, Got, MldClone, ReceiveFault, UpdateFault};
+use crate::clones::{
+    TestAsker, TestClone, ask, asker, first, given, joined, joined_from, set, triple,
+};
+use clone_core::{Adopted, Covering, Done, Got, ReceiveFault, UpdateFault};
 use mld_ops::{Give, Message, Snapshot, Tagged};
 use rdf_terms::Term;
 use std::alloc::Global;
@@ -13,7 +15,7 @@ use tree_clock::{Clock, Dot, Path};
 use uuid::Uuid;
 
 // The clone 1 at the root: it added t and u, and removed t.
-fn giver(alloc: Global) -> Result<Box<MldClone>, Fail> {
+fn giver(alloc: Global) -> Result<Box<TestClone>, Fail> {
     let mut clone = first(alloc)?;
     set(&mut clone, alloc, "http://example.org/t", true)?;
     set(&mut clone, alloc, "http://example.org/u", true)?;
@@ -52,7 +54,7 @@ fn is_answer(got: &Got) -> bool {
 }
 
 // Whether a clone answers an ask with its right half.
-fn gives_right_half<R: Threads>(clone: &mut MldClone, rt: &R, alloc: Global) -> bool {
+fn gives_right_half<R: Threads>(clone: &mut TestClone, rt: &R, alloc: Global) -> bool {
     match clone.receive(rt, alloc, &ask(2)) {
         Ok(got) => is_answer(&got),
         Err(_) => false,
@@ -60,7 +62,7 @@ fn gives_right_half<R: Threads>(clone: &mut MldClone, rt: &R, alloc: Global) -> 
 }
 
 // Whether the clone 1 keeps the left half, and all that it had.
-fn keeps_left_half(one: &MldClone) -> bool {
+fn keeps_left_half(one: &TestClone) -> bool {
     one.path() == Path::root().child(false) && one.journal().len() == 3 && has_only_u(one.pairs())
 }
 
@@ -73,7 +75,7 @@ fn a_clone_that_is_asked_gives_its_right_half(rt: HostRuntime) -> Result<(), Fai
 }
 
 // Whether the clone 2 begins at r1 with what the clone 1 has.
-fn begins(two: &MldClone) -> bool {
+fn begins(two: &TestClone) -> bool {
     two.id() == Uuid::from_u128(2)
         && two.path() == Path::root().child(true)
         && two.base().ticks(&Path::root()) == 3
@@ -92,7 +94,7 @@ fn who_asked_begins_with_what_the_giver_has(rt: HostRuntime) -> Result<(), Fail>
 }
 
 // Whether a clone takes the entry of an update.
-fn takes<R: Threads>(clone: &mut MldClone, rt: &R, alloc: Global, done: Done) -> bool {
+fn takes<R: Threads>(clone: &mut TestClone, rt: &R, alloc: Global, done: Done) -> bool {
     match done {
         Done::Made(entry) => {
             matches!(
@@ -115,7 +117,7 @@ fn a_clone_that_joined_works_on(rt: HostRuntime) -> Result<(), Fail> {
 }
 
 // Whether a live clone ignores the message.
-fn ignores<R: Threads>(clone: &mut MldClone, rt: &R, alloc: Global, message: &Message) -> bool
+fn ignores<R: Threads>(clone: &mut TestClone, rt: &R, alloc: Global, message: &Message) -> bool
     requires { IsGoodMessage (message_value message.now) }
 {
     matches!(clone.receive(rt, alloc, message), Ok(Got::Ignored))
@@ -140,13 +142,13 @@ fn an_ask_of_its_own_is_ignored(rt: HostRuntime) -> Result<(), Fail> {
 }
 
 // Whether one who asks ignores the message and is as before.
-fn asks_on<R: Threads>(asker: Box<Asker>, rt: &R, alloc: Global, message: &Message) -> bool
+fn asks_on<R: Threads>(asker: Box<TestAsker>, rt: &R, alloc: Global, message: &Message) -> bool
     requires { IsGoodMessage (message_value message.now) }
 {
     let id = asker.id();
     match Box::into_inner(asker).receive(rt, alloc, message) {
         Adopted::Ignored(same) => same.id() == id,
-        Adopted::Joined(_) | Adopted::Refused(_) => false,
+        Adopted::Joined(_) | Adopted::Refused(_, _) => false,
     }
 }
 
@@ -159,14 +161,14 @@ fn a_leaf_for_another_one_is_ignored(rt: HostRuntime) -> Result<(), Fail> {
 }
 
 // Whether one who asks ignores its own question.
-fn asks_itself<R: Threads>(asker: Box<Asker>, rt: &R, alloc: Global) -> bool {
+fn asks_itself<R: Threads>(asker: Box<TestAsker>, rt: &R, alloc: Global) -> bool {
     let message = asker.ask();
     matches!(&message, Message::JoinAsk(id) if *id == asker.id())
         && asks_on(asker, rt, alloc, &message)
 }
 
 // Whether this is the one of the id 2.
-fn is_second(asker: &Asker) -> bool {
+fn is_second(asker: &TestAsker) -> bool {
     asker.id() == Uuid::from_u128(2)
         && asker.domain() == "example.org"
         && asker.properties().is_empty()
@@ -181,14 +183,14 @@ fn who_asks_tells_its_parts(rt: HostRuntime) -> Result<(), Fail> {
 }
 
 // Asks a clone so many times.
-fn fork<R: Threads>(clone: &mut MldClone, rt: &R, alloc: Global, times: u8) {
+fn fork<R: Threads>(clone: &mut TestClone, rt: &R, alloc: Global, times: u8) {
     for _ in 0..times {
         let _answer = clone.receive(rt, alloc, &ask(2));
     }
 }
 
 // Whether the clone's leaf is too deep.
-fn is_deep<R: Threads>(clone: &mut MldClone, rt: &R, alloc: Global) -> bool {
+fn is_deep<R: Threads>(clone: &mut TestClone, rt: &R, alloc: Global) -> bool {
     matches!(clone.receive(rt, alloc, &ask(2)), Err(ReceiveFault::Deep))
 }
 
@@ -243,7 +245,7 @@ fn given_at(alloc: Global, tick: u32) -> Result<Box<Message>, Fail>
 }
 
 // Whether a clone refuses an insert since its ticks are spent.
-fn is_spent(clone: &mut MldClone, alloc: Global) -> Result<bool, Fail> {
+fn is_spent(clone: &mut TestClone, alloc: Global) -> Result<bool, Fail> {
     let triple = triple(alloc, "http://example.org/t")?;
     match clone.set(alloc, &triple, true) {
         Err(UpdateFault::TicksSpent) => Ok(true),
@@ -252,7 +254,7 @@ fn is_spent(clone: &mut MldClone, alloc: Global) -> Result<bool, Fail> {
 }
 
 // Whether the clone knows the last tick of the root, and made the operation there.
-fn made_last(clone: &MldClone) -> bool {
+fn made_last(clone: &TestClone) -> bool {
     clone.known().ticks(&Path::root()) == 4_294_967_295 && clone.journal().len() == 1
 }
 

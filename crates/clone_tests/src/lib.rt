@@ -7,3 +7,5 @@ mod alone;
 mod clones;
 #[cfg(test)]
 mod joining;
+#[cfg(test)]
+mod stopping;

@@ -20,9 +20,9 @@ returns c =
     let raised : RaisesTo ticks after (last_dot c.range-range.result) = subst (λ ts. RaisesTo ts after (last_dot c.range-range.result)) c.reserve.ensures.ticks c.raise.ensures.raised in
     let known : step.known ≡ ticks_of ticks step.entry.range.path = c.in_ok-step.ensures.known ∙ c.ticks-known.ensures.value ∙ ap (λ (r : Range). ticks_of ticks r.path) range in
     let adds : c.in_ok-plan.field-0 ≡ old.adds + step.adds = search rules in
-    let steps : c.push_back.new.self.items ≡ old.steps.items ++ step ∷ [] = c.in_ok-push_back.ensures.items in
+    let steps : c.push-2.new.self.items ≡ old.steps.items ++ step ∷ [] = c.in_ok-push-2.ensures.items in
     let ranges : c.push.new.self ≡ old.ranges ++ step.entry.range ∷ [] = c.in_ok-push.ensures.ok ∙ ap (λ (r : Range). old.ranges ++ r ∷ []) range in
-    let new : Plan = record { clock = c.raise.new.self; left = old.left; steps = c.push_back.new.self; adds = c.in_ok-plan.field-0; ranges = c.push.new.self } in
+    let new : Plan = record { clock = c.raise.new.self; left = old.left; steps = c.push-2.new.self; adds = c.in_ok-plan.field-0; ranges = c.push.new.self } in
     subst (λ (e : EntryValue). PlansEntry old e new) same
     (plans_more old new step
     (subst (λ (e : EntryValue). IsEntry e) (sym same) c.range-range.ensures.entry)

@@ -1,0 +1,210 @@
+-- Laws of what banks keep of a clone whose journal is appended to.
+use Rattle.std.proofs.Common.{◌≡◌, ◌∙◌, ℕ, ◌<◌, max, List, [], ◌∷◌, ◌++◌, length, Option, None, Some, Bool, true, false, refl, sym, ap, subst, inl, inr}
+use Rattle.std.proofs.lemmas.Bool.{cases_Bool}
+use Rattle.std.proofs.lemmas.Slice.Eq.{bytes_eq-Decides}
+use Rattle.std.specs.Cmp.Lexicographic.{pointwise}
+use Rattle.std.specs.Prelude.{nat_eq}
+use Rattle.mld_io.specs.Disk.{Log}
+use Rattle.mld_io.specs.declared.banks.Side.{Side}
+use Rattle.mld_ops.specs.declared.tagged.Tagged.{Tagged}
+use Rattle.mld_ops.specs.Entry.{EntryValue}
+use Rattle.mld_ops.specs.Ready.{last_dot, IsReadyEntry}
+use Rattle.mld_model.specs.Local.{LocalClone, LeadsTo, IsLocal}
+use Rattle.tree_clock.specs.Clock.{ticks_of, RaisesTo}
+use Rattle.tree_clock.specs.Limits.{path_limit}
+use Rattle.tree_clock.specs.Path.{zero_letter}
+use Rattle.tree_clock.specs.declared.dots.Dot.{Dot}
+use Rattle.tree_clock.proofs.ClockLaws.{same_test, apart_test}
+use Rattle.journal_store.proofs.Mounted.{told_before}
+use Rattle.journal_store.proofs.Ready.{ready_same}
+use Rattle.journal_store.proofs.RecordReading.{known_more}
+use Rattle.journal_store.specs.Calls.{KeptBy, MayAppend, MayFork}
+use Rattle.journal_store.specs.Pairs.{Kept, Keeps, with_entry, with_fork}
+use Rattle.journal_store.specs.Records.{raised_to, known_after}
+use Rattle.journal_store.specs.Standing.{JournalValue, KeepsJust, KeepsNow}
+use Rattle.journal_store.specs.StoredVolumes.{AreGoodEntries}
+use Rattle.journal_store.specs.declared.faults.Why.{Why}
+use Rattle.journal_store.specs.declared.faults.Why.TheVariants as why
+use Rattle.clone_core.specs.Appending.{KeepsIfTold, with_entries, AreReadyEntries, MayAppendAll, MayForkNow, LeavesStopped}
+use Rattle.clone_core.specs.Banked.{head_of, kept_as, IsOnBanks}
+use Rattle.clone_core.specs.CloneSteps.{StepValue}
+use Rattle.clone_core.specs.Making.{IsNextEntry}
+use Rattle.clone_core.specs.Plans.{entries_of, StepsLead, IsOwnStep}
+use Rattle.clone_core.proofs.MakingLaws.{own_ready}
+use Rattle.clone_core.proofs.StopLaws.{none_some}
+
+-- ---- ticks that are the same at each path
+
+abbrev pub SameTicks : List (List ℕ × ℕ) → List (List ℕ × ℕ) → Type 0
+SameTicks ticks other = (path : List ℕ) → ticks_of ticks path ≡ ticks_of other path
+
+-- ticks that are raised as the journal does are those of the clock that was raised
+raised_ticks : (ticks next other : List (List ℕ × ℕ)) (dot : Dot) → SameTicks other ticks → RaisesTo ticks next dot → SameTicks (raised_to other dot) next
+raised_ticks ticks next other dot same raised path = elim (cases_Bool (pointwise nat_eq dot.path path)) [
+  | inl s ↦
+      let e : dot.path ≡ path = (bytes_eq-Decides dot.path path).0 s in
+      let own : max (ticks_of other dot.path) dot.tick ≡ ticks_of next dot.path = ap (λ n. max n dot.tick) (same dot.path) ∙ sym raised.at in
+      rw s (own ∙ ap (ticks_of next) e)
+  | inr f ↦
+      let apart : ¬ (path ≡ dot.path) = λ e. let t = (bytes_eq-Decides dot.path path).1 (sym e) in let c : false ≡ true = sym f ∙ t in cc in
+      rw f (same path ∙ sym (raised.others path apart))
+]
+
+-- entries are ready one after another by what ticks each path has
+pub ready_entries_same : (ticks other : List (List ℕ × ℕ)) (entries : List EntryValue) → SameTicks ticks other → AreReadyEntries ticks entries → AreReadyEntries other entries
+ready_entries_same ticks other [] same ready = tt
+ready_entries_same ticks other (entry ∷ entries) same ready =
+    (ready_same ticks other entry same ready.0, ready_entries_same (raised_to ticks (last_dot entry.range)) (raised_to other (last_dot entry.range)) entries again ready.1)
+  where
+    again : SameTicks (raised_to ticks (last_dot entry.range)) (raised_to other (last_dot entry.range))
+    again = raised_ticks other (raised_to other (last_dot entry.range)) ticks (last_dot entry.range) same (record {
+      at = rw (same_test entry.range.path) refl;
+      others = λ path apart. rw (apart_test entry.range.path path (λ e. apart (sym e))) refl;
+    })
+
+-- what is known behind a journal is what the entries lead to
+pub known_leads : (ticks other : List (List ℕ × ℕ)) (pairs : List Tagged) (entries : List EntryValue) (after : List (List ℕ × ℕ)) (new : List Tagged)
+    → SameTicks other ticks → LeadsTo ticks pairs entries after new → SameTicks (known_after other entries) after
+known_leads ticks other pairs [] after new same leads path = same path ∙ ap (λ ts. ticks_of ts path) (sym leads.0)
+known_leads ticks other pairs (entry ∷ entries) after new same leads path =
+    known_leads leads.0 (raised_to other (last_dot entry.range)) leads.1 entries after new (raised_ticks ticks leads.0 other (last_dot entry.range) same leads.3) leads.5 path
+
+-- the entries of steps are ready one after another
+pub steps_ready : (ticks other : List (List ℕ × ℕ)) (steps : List StepValue) (after : List (List ℕ × ℕ)) → SameTicks ticks other → StepsLead ticks steps after → AreReadyEntries other (entries_of steps)
+steps_ready ticks other [] after same leads = tt
+steps_ready ticks other (step ∷ steps) after same leads = (
+  ready_same ticks other step.entry same leads.2,
+  steps_ready leads.0 (raised_to other (last_dot step.entry.range)) steps after
+      (λ path. sym (raised_ticks ticks leads.0 other (last_dot step.entry.range) (λ p. sym (same p)) leads.4 path))
+      leads.5,
+)
+
+-- entries that a journal keeps are ready one after another
+pub good_ready : (ticks : List (List ℕ × ℕ)) (entries : List EntryValue) → AreGoodEntries ticks entries → AreReadyEntries ticks entries
+good_ready ticks [] good = tt
+good_ready ticks (entry ∷ entries) good = (good.0, good_ready (raised_to ticks (last_dot entry.range)) entries good.2)
+
+-- the first of entries that are ready was taken
+pub ready_rest : (ticks next : List (List ℕ × ℕ)) (entry : EntryValue) (entries : List EntryValue) → AreReadyEntries ticks (entry ∷ entries) → RaisesTo ticks next (last_dot entry.range) → AreReadyEntries next entries
+ready_rest ticks next entry entries ready raised =
+    ready_entries_same (raised_to ticks (last_dot entry.range)) next entries (raised_ticks ticks next ticks (last_dot entry.range) (λ path. refl) raised) ready.1
+
+-- ---- what banks keep
+
+same_log : (now : Option Log) (a b : Log) → now ≡ Some a → now ≡ Some b → a ≡ b
+same_log now a b x y = cc
+
+-- a call that keeps something else where banks tell their log
+pub keeps_next : (before now : Option Log) (closed : Option Why) (kept next : Kept) → closed ≡ None → (before ≡ None → now ≡ None)
+    → KeepsIfTold kept before → (KeptBy before closed kept → KeepsNow next now) → KeepsIfTold next now
+keeps_next before now closed kept next is_open untold keeps told log e =
+    told_before before now log untold e (λ old is.
+    let just = keeps old is in
+    let news = told (record { log = old; now_is = is; opened = is_open; reads = just.reads }) in
+    subst (λ (l : Log). KeepsJust next l) (same_log now news.log log news.now_is e) news.keeps)
+
+-- what is kept is one thing
+kept_same : (a b : Kept) → Keeps a ≡ Keeps b → a ≡ b
+kept_same a b e = cc
+
+pub kept_is : (now : Option Log) (closed : Option Why) (kept other : Kept) → KeepsIfTold kept now → KeptBy now closed other → other ≡ kept
+kept_is now closed kept other keeps by = kept_same other kept (sym by.reads ∙ (keeps by.log by.now_is).reads)
+
+-- the first entry that may be appended
+pub may_append : (now : Option Log) (closed : Option Why) (entry : EntryValue) (entries : List EntryValue) → MayAppendAll now (entry ∷ entries)
+    → (kept : Kept) → KeptBy now closed kept → MayAppend entry kept
+may_append now closed entry entries may kept by =
+    subst (λ (k : Kept). MayAppend entry k) (sym (kept_is now closed may.kept kept may.keeps by)) may.ready.0
+
+-- and a fork
+pub may_fork : (now : Option Log) (closed : Option Why) → MayForkNow now → (kept : Kept) → KeptBy now closed kept → MayFork kept
+may_fork now closed may kept by = subst (λ (k : Kept). MayFork k) (sym (kept_is now closed may.kept kept may.keeps by)) may.room
+
+-- those behind it may be appended once it is
+pub may_rest : (before now : Option Log) (entry : EntryValue) (entries : List EntryValue) → MayAppendAll before (entry ∷ entries)
+    → ((kept : Kept) → KeepsIfTold kept before → KeepsIfTold (with_entry entry kept) now) → MayAppendAll now entries
+may_rest before now entry entries may keeps = record {
+  kept = with_entry entry may.kept;
+  keeps = keeps may.kept may.keeps;
+  ready = subst (λ (ts : List (List ℕ × ℕ)). AreReadyEntries ts entries) (sym (known_more may.kept.head.base.ticks may.kept.entries entry)) may.ready.1;
+}
+
+-- a clone's banks may have the entries of steps behind what they keep
+pub steps_may : (now : Option Log) (journal closed : Option Why) (side : Side) (generation : ℕ) (clone : LocalClone) (steps : List StepValue) (after : List (List ℕ × ℕ))
+    → IsLocal clone → IsOnBanks now journal closed side generation clone → closed ≡ None → StepsLead clone.ticks steps after → MayAppendAll now (entries_of steps)
+steps_may now journal closed side generation clone steps after local banks is_open leads = record {
+  kept = kept_as side generation clone;
+  keeps = λ log e. banks.keeps log e is_open;
+  ready = steps_ready clone.ticks (known_after clone.base clone.entries) steps after
+      (λ path. sym (known_leads clone.base clone.base clone.base_pairs clone.entries clone.ticks clone.pairs (λ p. refl) local.leads path)) leads;
+}
+
+-- and that of the one step of its own entry
+pub own_may : (now : Option Log) (journal closed : Option Why) (side : Side) (generation : ℕ) (clone : LocalClone) (dot : Dot) (entry : EntryValue) (steps : List StepValue)
+    → IsLocal clone → IsOnBanks now journal closed side generation clone → closed ≡ None → IsNextEntry clone.ticks dot entry → IsOwnStep dot entry steps
+    → MayAppendAll now (entries_of steps)
+own_may now journal closed side generation clone dot entry steps local banks is_open next own =
+    subst (λ (ss : List StepValue). MayAppendAll now (entries_of ss)) (sym own.one) (record {
+      kept = kept_as side generation clone;
+      keeps = λ log e. banks.keeps log e is_open;
+      ready = (
+        ready_same clone.ticks (known_after clone.base clone.entries) own.step.entry
+            (λ path. sym (known_leads clone.base clone.base clone.base_pairs clone.entries clone.ticks clone.pairs (λ p. refl) local.leads path))
+            (own_ready clone.ticks dot own.step.entry (subst (λ (e : EntryValue). IsNextEntry clone.ticks dot e) (sym own.same) next)),
+        tt,
+      );
+    })
+
+-- and a fork, where the path has room
+pub fork_may : (now : Option Log) (journal closed : Option Why) (side : Side) (generation : ℕ) (clone : LocalClone)
+    → IsOnBanks now journal closed side generation clone → closed ≡ None → length clone.path < path_limit → MayForkNow now
+fork_may now journal closed side generation clone banks is_open room = record {
+  kept = kept_as side generation clone;
+  keeps = λ log e. banks.keeps log e is_open;
+  room = room;
+}
+
+-- ---- clones on their banks
+
+-- a clone that is closed has nothing to keep
+pub shut_on_banks : (now : Option Log) (journal closed : Option Why) (reason : Why) (side : Side) (generation : ℕ) (clone : LocalClone) → closed ≡ Some reason
+    → IsOnBanks now journal closed side generation clone
+shut_on_banks now journal closed reason side generation clone shut = record {
+  opened = λ is_open. absurd (none_some (sym is_open ∙ shut));
+  keeps = λ log e is_open. absurd (none_some (sym is_open ∙ shut));
+}
+
+-- what banks keep, of which something is known
+pub open_on_banks : (now : Option Log) (journal closed : Option Why) (side : Side) (generation : ℕ) (clone : LocalClone) (kept : Kept) → journal ≡ None
+    → KeepsIfTold kept now → kept ≡ kept_as side generation clone → IsOnBanks now journal closed side generation clone
+open_on_banks now journal closed side generation clone kept is_open keeps is = record {
+  opened = λ c. is_open;
+  keeps = λ log e c. subst (λ (k : Kept). KeepsJust k log) is (keeps log e);
+}
+
+module _ (now : Option Log) (journal closed : Option Why) (was side : Side) (had generation : ℕ) (clone : LocalClone) (at : side ≡ was) (of : generation ≡ had) (is_open : journal ≡ None) where
+  -- a fork was appended
+  pub forked_on_banks : (left : List ℕ) → left ≡ clone.path ++ zero_letter ∷ [] → KeepsIfTold (with_fork (kept_as was had clone)) now
+      → IsOnBanks now journal closed side generation (record clone { path = left })
+  forked_on_banks left is keeps =
+      let same : with_fork (kept_as was had clone) ≡ kept_as side generation (record clone { path = left }) =
+      λ i. kept_as (sym at i) (sym of i) (record clone { path = sym is i }) in
+      open_on_banks now journal closed side generation (record clone { path = left }) (with_fork (kept_as was had clone)) is_open keeps same
+
+  -- entries were appended
+  pub taken_on_banks : (entries : List EntryValue) (new : LocalClone) → head_of new ≡ head_of clone → new.entries ≡ clone.entries ++ entries
+      → KeepsIfTold (with_entries entries (kept_as was had clone)) now → IsOnBanks now journal closed side generation new
+  taken_on_banks entries new head is keeps =
+      let same : with_entries entries (kept_as was had clone) ≡ kept_as side generation new =
+      λ i. record { side = sym at i; generation = sym of i; head = sym head i; entries = sym is i } in
+      open_on_banks now journal closed side generation new (with_entries entries (kept_as was had clone)) is_open keeps same
+
+-- an append was refused
+pub stopped_on_banks : {B : Type 0} (log : B → Option Log) (was now : JournalValue B) (closed : Option Why) (told : Why) (clone : LocalClone)
+    → IsOnBanks (log was.banks) was.closed None was.side was.generation clone → LeavesStopped false was now closed told
+    → IsOnBanks (log now.banks) now.closed closed now.side now.generation clone
+stopped_on_banks log was now closed why.Device clone banks h = shut_on_banks (log now.banks) now.closed closed why.Device now.side now.generation clone h
+stopped_on_banks log was now closed why.NoMemory clone banks (inr h) = shut_on_banks (log now.banks) now.closed closed why.NoMemory now.side now.generation clone h
+stopped_on_banks log was now closed why.NoMemory clone banks (inl h) =
+    subst (λ (c : Option Why). IsOnBanks (log now.banks) now.closed c now.side now.generation clone) (sym h.2)
+    (subst (λ (j : JournalValue _). IsOnBanks (log j.banks) j.closed None j.side j.generation clone) (sym h.1) banks)

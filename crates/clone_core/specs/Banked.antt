@@ -1,0 +1,46 @@
+-- Clones on banks: what contracts see of them, and what their banks keep.
+use Rattle.std.specs.Prelude.{◌≡◌, ℕ, Option, Some, None}
+use Rattle.mld_io.specs.Disk.{Log}
+use Rattle.mld_io.specs.declared.banks.Side.{Side}
+use Rattle.journal_store.specs.Heads.{HeadValue}
+use Rattle.journal_store.specs.Pairs.{Kept}
+use Rattle.journal_store.specs.Standing.{KeepsJust}
+use Rattle.journal_store.specs.declared.faults.Why.{Why}
+use Rattle.mld_model.specs.Local.{LocalAsker, LocalClone}
+
+-- a clone on banks: what it has in memory, the generation of what its banks keep, whether an earlier call closed it, and why, and
+-- the banks
+pub record BankedClone (B : Type 0) : Type 0 where
+  pub local : LocalClone
+  pub generation : ℕ
+  pub closed : Option Why
+  pub banks : B
+
+-- one who asks for a leaf, and the banks that keep nothing yet
+pub record BankedAsker (B : Type 0) : Type 0 where
+  pub asker : LocalAsker
+  pub banks : B
+
+-- what banks have in front of the entries of a clone
+abbrev pub head_of : LocalClone → HeadValue
+head_of clone = record {
+  id = clone.id;
+  domain = clone.domain;
+  props = clone.properties;
+  path = clone.path;
+  base = record { ticks = clone.base; pairs = clone.base_pairs };
+}
+
+-- what banks keep of a clone, where this side counts and has this generation
+abbrev pub kept_as : Side → ℕ → LocalClone → Kept
+kept_as side generation clone = record { side = side; generation = generation; head = head_of clone; entries = clone.entries }
+
+-- banks keep the clone at this generation, and a crash now leaves them so
+abbrev pub KeepsClone : LocalClone → ℕ → Log → Type 0
+KeepsClone clone generation log = (side : Side) × KeepsJust (kept_as side generation clone) log
+
+-- what is known of the banks of a clone with this journal: where the clone isn't closed, nor is the journal, and the banks keep
+-- the clone where they tell their log
+pub record IsOnBanks (now : Option Log) (journal closed : Option Why) (side : Side) (generation : ℕ) (clone : LocalClone) : Type 0 where
+  pub opened : closed ≡ None → journal ≡ None
+  pub keeps : (log : Log) → now ≡ Some log → closed ≡ None → KeepsJust (kept_as side generation clone) log

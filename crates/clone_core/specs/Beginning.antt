@@ -1,0 +1,42 @@
+-- The clone of a head and of what the entries behind it lead to.
+use Rattle.std.specs.Prelude.{ℕ, List, []}
+use Rattle.tree_clock.specs.Clock.{Covers}
+use Rattle.tree_clock.specs.Lists.{Has}
+use Rattle.mld_ops.specs.declared.tagged.Tagged.{Tagged}
+use Rattle.journal_store.specs.Heads.{HeadValue}
+use Rattle.mld_model.specs.Local.{LocalClone}
+use Rattle.clone_core.specs.declared.mounts.Replayed.{Replayed}
+
+-- the clone at a path with a head, what was replayed behind it, and nothing held back
+abbrev pub found_clone : HeadValue → List ℕ → Replayed → LocalClone
+found_clone head path replayed = record {
+  id = head.id;
+  domain = head.domain;
+  properties = head.props;
+  path = path;
+  base = head.base.ticks;
+  base_pairs = head.base.pairs;
+  entries = replayed.entries.items;
+  held = [];
+  ticks = replayed.clock.ticks;
+  pairs = replayed.pairs.items;
+}
+
+-- the clone of a head with no entries
+abbrev pub begun_clone : HeadValue → LocalClone
+begun_clone head = record {
+  id = head.id;
+  domain = head.domain;
+  properties = head.props;
+  path = head.path;
+  base = head.base.ticks;
+  base_pairs = head.base.pairs;
+  entries = [];
+  held = [];
+  ticks = head.base.ticks;
+  pairs = head.base.pairs;
+}
+
+-- ticks cover the dots of pairs
+abbrev pub AreCovered : List (List ℕ × ℕ) → List Tagged → Type 0
+AreCovered ticks pairs = (pair : Tagged) → Has pairs pair → Covers ticks pair.dot
