@@ -1,10 +1,13 @@
 -- What `add` and `remove` do is the model's step.
-use Rattle.std.proofs.Common.{◌≡◌, ℕ, ◌+◌, List, [], ◌∷◌, ◌++◌, true, false, refl, sym, ◌∙◌, ap, length, set}
+use Rattle.std.proofs.Common.{◌≡◌, ℕ, ◌+◌, List, [], ◌∷◌, ◌++◌, true, false, Option, None, Result, Ok, Err, IfOk, OnOk, refl, sym, ◌∙◌, ap, subst, length, map, set}
+use Rattle.mld_io.specs.Arm.{Meter}
+use Rattle.mld_io.specs.Disk.{Log}
 use Rattle.rdf_terms.specs.declared.terms.Triple.{Triple}
 use Rattle.tree_clock.specs.declared.dots.Dot.{Dot}
 use Rattle.mld_ops.specs.Entry.{EntryValue}
 use Rattle.mld_ops.specs.Ready.{last_dot}
-use Rattle.mld_ops.specs.Messages.{MessageValue, CarriesEntry}
+use Rattle.mld_ops.specs.Messages.{MessageValue, CarriesEntry, message_value}
+use Rattle.mld_ops.specs.declared.messages.Message.{Message}
 use Rattle.mld_model.specs.declared.CloneState.TheVariants as states
 use Rattle.mld_model.specs.Reply.{Reply, Did, NoOperation}
 use Rattle.mld_model.specs.Local.{LocalClone, CloneValue, next_dot}
@@ -13,13 +16,20 @@ use Rattle.schedule_model.specs.declared.Command.{Command}
 use Rattle.schedule_model.specs.declared.Command.TheVariants.{Add, Remove}
 use Rattle.schedule_model.specs.WorldStep.{IsMissingReply}
 use Rattle.schedule_model.proofs.WorldLaws.{stepped_sending, add_follows, add_missing, remove_follows, remove_nothing, remove_missing}
+use Rattle.clone_core.specs.Banked.{BankedClone}
+use Rattle.net_world.specs.declared.faults.WorldFault.{WorldFault}
+use Rattle.net_world.specs.declared.parts.Parts.{Parts}
 use Rattle.net_world.specs.declared.replies.Reply.{Reply as CodeReply}
 use Rattle.net_world.specs.declared.replies.Reply.TheVariants as replies
 use Rattle.net_world.specs.Changes.{SetsAs}
 use Rattle.net_world.specs.Replies.{reply_value}
-use Rattle.net_world.specs.States.{HasState}
+use Rattle.net_world.specs.States.{HasState, Becomes}
+use Rattle.net_world.specs.WorldBanks.{BankedState, in_memory, memory_of}
+use Rattle.net_world.specs.WorldParts.{running_of, Does}
 use Rattle.net_world.specs.Worlds.{Moves}
-use Rattle.net_world.proofs.WorldLemmas.{after_step, moved, written_again}
+use Rattle.net_world.proofs.Places.{set_again}
+use Rattle.net_world.proofs.BankLemmas.{memory_at, memory_becomes}
+use Rattle.net_world.proofs.WorldLemmas.{after_step, moved, does_carried, does_still}
 
 -- the reply of an operation that was made, and the clones and messages after it
 made : (running : RunningWorld) (command : Command) (number : ℕ) (after : CloneValue) (entry : EntryValue) (next : Dot) (dot : Dot) (message : ℕ) (new : List RunningClone) (sent : List MessageValue)
@@ -49,7 +59,7 @@ removed running number triple before after new sent (replies.Did dot message) at
     (λ world stands sound. remove_follows running world stands sound number triple before at sets.sets.deletes after sets.entry sets.sets.are sets.sets.some sets.sets.makes)
 removed running number triple before after new sent replies.NoOperation at clones sets =
     moved running (Remove number triple) NoOperation NoOperation running.clones new running.messages sent refl
-    (sym (clones ∙ ap (λ (l : LocalClone). set running.clones number (states.Live (record { local = l }))) sets.0.1 ∙ written_again running.clones number (states.Live before) at)) (sym sets.1)
+    (sym (clones ∙ ap (λ (l : LocalClone). set running.clones number (states.Live (record { local = l }))) sets.0.1 ∙ set_again running.clones number (states.Live before) at)) (sym sets.1)
     (λ world stands sound. remove_nothing running world stands sound number triple before at sets.0.0)
 removed running number triple before after new sent reply at clones sets = absurd sets.sends
 
@@ -65,3 +75,49 @@ pub not_removed : (running : RunningWorld) (number : ℕ) (triple : Triple) (sta
 not_removed running number triple state new reply at same missing =
     moved running (Remove number triple) reply reply running.clones new running.messages running.messages refl (sym same) refl
     (λ world stands sound. remove_missing running world stands sound number triple state reply at missing)
+
+-- ---- with banks
+
+module _ {B : Type 0} (log : B → Option Log) (meter : B → Meter) (old new : Parts B) (domain : new.domain ≡ old.domain) (properties : new.properties ≡ old.properties) (number : ℕ) (triple : Triple) where
+  -- a live clone was told to add a triple
+  pub add_done : (before after : BankedClone B) (r : Result CodeReply WorldFault) → Becomes old.clones.items new.clones.items number (states.Live before) (states.Live after)
+      → IfOk r (SetsAs before.local (map message_value old.messages.items) triple true after.local (map message_value new.messages.items)) → OnOk r (after.closed ≡ None)
+      → IfOk r (Does log old (Add number triple) new)
+  add_done before after (Err fault) becomes sets opened = tt
+  add_done before after (Ok reply) becomes sets opened =
+      does_carried log meter old new domain properties (Add number triple) reply
+      (λ steps. added (memory_of (running_of old steps)) number triple (record { local = before.local }) (record { local = after.local })
+      (map in_memory new.clones.items) (map message_value new.messages.items) reply
+      (memory_at old.clones.items number (states.Live before) becomes.was)
+      (memory_becomes old.clones.items new.clones.items number (states.Live before) (states.Live after) becomes).now sets)
+      tt (record { state = states.Live after; now = becomes.now; carried = opened })
+
+  -- or to remove it
+  pub remove_done : (before after : BankedClone B) (r : Result CodeReply WorldFault) → Becomes old.clones.items new.clones.items number (states.Live before) (states.Live after)
+      → IfOk r (SetsAs before.local (map message_value old.messages.items) triple false after.local (map message_value new.messages.items)) → OnOk r (after.closed ≡ None)
+      → IfOk r (Does log old (Remove number triple) new)
+  remove_done before after (Err fault) becomes sets opened = tt
+  remove_done before after (Ok reply) becomes sets opened =
+      does_carried log meter old new domain properties (Remove number triple) reply
+      (λ steps. removed (memory_of (running_of old steps)) number triple (record { local = before.local }) (record { local = after.local })
+      (map in_memory new.clones.items) (map message_value new.messages.items) reply
+      (memory_at old.clones.items number (states.Live before) becomes.was)
+      (memory_becomes old.clones.items new.clones.items number (states.Live before) (states.Live after) becomes).now sets)
+      tt (record { state = states.Live after; now = becomes.now; carried = opened })
+
+  -- a clone that isn't live did neither
+  pub add_missing_done : (state : BankedState B) (reply : CodeReply) → HasState old.clones.items number state → new.clones.items ≡ old.clones.items → new.messages.items ≡ old.messages.items
+      → IsMissingReply (in_memory state) (reply_value reply) → Does log old (Add number triple) new reply
+  add_missing_done state reply at same sent missing =
+      does_still log meter old new domain properties (Add number triple) reply
+      (λ steps. subst (λ (m : List Message). Moves (memory_of (running_of old steps)) (Add number triple) (reply_value reply) (after_step (memory_of (running_of old steps)) (map in_memory new.clones.items) (map message_value m))) (sym sent)
+      (not_added (memory_of (running_of old steps)) number triple (in_memory state) (map in_memory new.clones.items) (reply_value reply) (memory_at old.clones.items number state at)
+      (ap (λ (l : List (BankedState B)). map in_memory l) same) missing)) tt same
+
+  pub remove_missing_done : (state : BankedState B) (reply : CodeReply) → HasState old.clones.items number state → new.clones.items ≡ old.clones.items → new.messages.items ≡ old.messages.items
+      → IsMissingReply (in_memory state) (reply_value reply) → Does log old (Remove number triple) new reply
+  remove_missing_done state reply at same sent missing =
+      does_still log meter old new domain properties (Remove number triple) reply
+      (λ steps. subst (λ (m : List Message). Moves (memory_of (running_of old steps)) (Remove number triple) (reply_value reply) (after_step (memory_of (running_of old steps)) (map in_memory new.clones.items) (map message_value m))) (sym sent)
+      (not_removed (memory_of (running_of old steps)) number triple (in_memory state) (map in_memory new.clones.items) (reply_value reply) (memory_at old.clones.items number state at)
+      (ap (λ (l : List (BankedState B)). map in_memory l) same) missing)) tt same

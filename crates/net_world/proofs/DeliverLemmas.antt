@@ -1,5 +1,5 @@
 -- What `deliver` does is the model's step.
-use Rattle.std.proofs.Common.{◌≡◌, ◌≢◌, ℕ, zero, suc, ◌+◌, ◌-◌, ◌<◌, List, [], ◌∷◌, ◌++◌, inl, inr, refl, sym, ◌∙◌, ap, arith, subst, length, map, get_or, set, Some, None}
+use Rattle.std.proofs.Common.{◌≡◌, ◌≢◌, ℕ, zero, suc, ◌+◌, ◌-◌, List, [], ◌∷◌, ◌++◌, inl, inr, refl, sym, ◌∙◌, ap, arith, subst, length, map, set, Some, None, Option, Result, Ok, IfOk, IfErr, OnOk}
 use Rattle.std.specs.List.{range_with_len}
 use Rattle.mld_ops.specs.Entry.{EntryValue}
 use Rattle.mld_ops.specs.Messages.{GiveValue, MessageValue, CarriesEntry, CarriesWant, CarriesSnapshot, CarriesAsk, CarriesGive, give_value, message_value, snapshot_value, IsGoodMessage}
@@ -9,25 +9,40 @@ use Rattle.mld_ops.specs.declared.messages.Message.TheVariants as kinds
 use Rattle.mld_model.specs.declared.CloneState.TheVariants as states
 use Rattle.mld_model.specs.World.{World, Message as ModelMessage}
 use Rattle.mld_model.specs.Reply as model
-use Rattle.mld_model.specs.Local.{LocalAsker, LocalClone, CloneValue}
+use Rattle.mld_model.specs.Local.{LocalClone, CloneValue}
+use Rattle.mld_model.specs.Sound.{IsSound}
 use Rattle.mld_model.specs.StandsFor.{RunningClone, RunningWorld, MessageStandsFor, StandsFor}
 use Rattle.mld_model.proofs.StandsForLaws.{good_sent}
 use Rattle.schedule_model.specs.declared.Command.TheVariants.{Deliver}
 use Rattle.schedule_model.specs.WorldStep.{Follows, IsAwayReply}
 use Rattle.schedule_model.proofs.WorldLaws.{stepped, stepped_with, sent_message, SentAs, sent_as, never_foreign, deliver_nothing, deliver_missing, deliver_known, deliver_taken, deliver_held, deliver_held_already, deliver_full}
 use Rattle.schedule_model.proofs.JoinLaws.{stepped_telling, deliver_ask_own, deliver_deep, deliver_ask, deliver_give_live, deliver_joined, deliver_asking}
+use Rattle.mld_io.specs.Arm.{Meter, Metered, Unarmed}
+use Rattle.mld_io.specs.Disk.{Log}
+use Rattle.mld_io.specs.Faults.{Rose}
+use Rattle.journal_store.specs.declared.faults.MakeFault.{MakeFault}
+use Rattle.journal_store.specs.declared.faults.MakeFault.TheVariants as make
+use Rattle.clone_core.specs.Banked.{BankedAsker, BankedClone}
+use Rattle.clone_core.specs.Joining.{LocallyAdopts, banks_of_adopted, adopting_calls, AdoptsWhole, FailsToAdopt}
+use Rattle.clone_core.specs.declared.askers.Adopted.{Adopted}
+use Rattle.clone_core.specs.declared.askers.Adopted.TheVariants as adopted
+use Rattle.net_world.specs.declared.faults.WorldFault.{WorldFault}
+use Rattle.net_world.specs.WorldFaults.{fault_of_made}
 use Rattle.net_world.specs.declared.deliver.Received.{Received}
 use Rattle.net_world.specs.declared.deliver.Received.TheVariants as received
 use Rattle.net_world.specs.declared.replies.Reply.{Reply}
 use Rattle.net_world.specs.declared.replies.Reply.TheVariants as replies
 use Rattle.net_world.specs.declared.parts.Parts.{Parts}
-use Rattle.net_world.specs.Delivering.{IsFitFor, ReceivesLive, ReceivesAsking, StaysAway, Becomes, ReceivesAt, WhereAway, WhereLive, WhereAsking, SendsAnswers}
+use Rattle.net_world.specs.Delivering.{IsFitFor, ReceivesLive, ReceivesAsking, StaysAway, IsToldOf, ReceivesAt, WhereAway, WhereLive, WhereAsking, SendsAnswers}
 use Rattle.mld_model.specs.World.{numbered}
-use Rattle.net_world.specs.WorldParts.{running_of, HasStepLeft}
+use Rattle.net_world.specs.WorldParts.{running_of, HasStepLeft, Does}
 use Rattle.net_world.specs.Replies.{reply_value, numbers_between}
-use Rattle.net_world.specs.States.{HasState, reply_of_state}
-use Rattle.net_world.specs.Worlds.{IsStanding, Moves}
-use Rattle.net_world.proofs.WorldLemmas.{after_step, moved, read_back, state_read, written_again}
+use Rattle.net_world.specs.States.{HasState, Becomes, reply_of_state}
+use Rattle.net_world.specs.WorldBanks.{BankedState, in_memory, banks_of_state, memory_of, GoesOn, FailsAt, IsCarried, IsCarriedAt}
+use Rattle.net_world.specs.Worlds.{Moves}
+use Rattle.net_world.proofs.Places.{set_again}
+use Rattle.net_world.proofs.BankLemmas.{memory_at, memory_becomes, goes_on, rose_unarmed}
+use Rattle.net_world.proofs.WorldLemmas.{after_step, moved, is_open, does_carried, does_still}
 
 -- the message of a number, where it is one
 same_message : (running : RunningWorld) (number : ℕ) → numbered running.messages number ≡ sent_message running number
@@ -49,44 +64,46 @@ no_value_at (first ∷ messages) (suc zero) none = absurd (cc (none))
 no_value_at (first ∷ messages) (suc (suc before)) none = no_value_at messages (suc before) none
 
 -- the snapshot of a message that was sent, where it has one, is good
-good_at : (running : RunningWorld) (number : ℕ) → IsStanding running → (what : MessageValue) → sent_message running number ≡ Some what → IsGoodMessage what
-good_at running zero standing what is = absurd (cc (is))
-good_at running (suc before) standing what is = good_sent running standing.world standing.stands standing.sound before what is
+good_at : (running : RunningWorld) (world : World) → StandsFor running world → IsSound world → (number : ℕ) (what : MessageValue) → sent_message running number ≡ Some what → IsGoodMessage what
+good_at running world stands sound zero what is = absurd (cc (is))
+good_at running world stands sound (suc before) what is = good_sent running world stands sound before what is
 
 -- each message of parts that stand for a sound world is fit for each clone
-pub is_fit : (parts : Parts) (message number : ℕ) (what : Message) → HasStepLeft parts → numbered parts.messages.items message ≡ Some what → IsFitFor parts.clones.items number (message_value what)
-is_fit parts message number what left told =
-    let running : RunningWorld = running_of parts left.steps in
+pub is_fit : {B : Type 0} (log : B → Option Log) (parts : Parts B) (message number : ℕ) (what : Message) → HasStepLeft log parts → numbered parts.messages.items message ≡ Some what
+    → IsFitFor parts.clones.items number (message_value what)
+is_fit log parts message number what left told =
+    let running : RunningWorld = memory_of (running_of parts left.steps) in
+    let world : World = left.standing.world in
+    let stands : StandsFor running world = left.standing.stands.memory in
     let is : sent_message running message ≡ Some (message_value what) = sym (same_message running message) ∙ value_at parts.messages.items message what told in
     record {
       own = λ live entry live_is same.
-          never_foreign running left.standing.world left.standing.stands left.standing.sound message number entry live (is ∙ ap (λ (m : MessageValue). Some m) same) live_is;
-      good = good_at running message left.standing (message_value what) is;
+          never_foreign running world stands left.standing.sound message number entry (record { local = live.local })
+          (is ∙ ap (λ (m : MessageValue). Some m) same) (memory_at parts.clones.items number (states.Live live) live_is);
+      opened = λ live live_is. is_open log parts number live left live_is;
+      good = good_at running world stands left.standing.sound message (message_value what) is;
     }
 
 -- the reply of a clone that neither is live nor asks is that of its state
-pub away_reply : (state : RunningClone) (reply : model.Reply) → reply ≡ reply_of_state state → ((live : CloneValue) → state ≢ states.Live live) → ((asker : LocalAsker) → state ≢ states.Asking asker)
-    → IsAwayReply state reply
-away_reply (states.Absent blank) reply is none quiet = is
-away_reply (states.Asking asker) reply is none quiet = absurd (quiet asker refl)
-away_reply (states.Down device) reply is none quiet = is
+pub away_reply : {B : Type 0} (state : BankedState B) (reply : model.Reply) → reply ≡ reply_of_state (in_memory state) → ((live : BankedClone B) → state ≢ states.Live live)
+    → ((asking : BankedAsker B) → state ≢ states.Asking asking) → IsAwayReply (in_memory state) reply
+away_reply (states.Absent banks) reply is none quiet = is
+away_reply (states.Asking asking) reply is none quiet = absurd (quiet asking refl)
+away_reply (states.Down banks) reply is none quiet = is
 away_reply (states.Live live) reply is none quiet = absurd (none live refl)
 
--- what was read at a place, and written back, is read again, and then another state is written
-pub read_again : (clones : List RunningClone) (number first place : ℕ) (once again : RunningClone) → place ≡ number → number < length clones → once ≡ get_or clones first once
-    → again ≡ get_or (set clones first once) place again → HasState clones number again
-read_again clones number first place once again at inside was is =
-    state_read clones number place again again at inside (is ∙ ap (λ (cs : List RunningClone). get_or cs place again) (read_back clones first once was)) refl
-
-pub became_again : (clones : List RunningClone) (number first place : ℕ) (once new : RunningClone) → place ≡ number → once ≡ get_or clones first once
-    → set (set clones first once) place new ≡ set clones number new
-became_again clones number first place once new at was =
-    ap (λ (cs : List RunningClone). set cs place new) (read_back clones first once was) ∙ ap (λ (k : ℕ). set clones k new) at
+-- such a clone may be carried
+pub away_carried : {B : Type 0} (clones : List (BankedState B)) (number : ℕ) (state : BankedState B) → HasState clones number state → ((live : BankedClone B) → state ≢ states.Live live)
+    → IsCarried clones number state
+away_carried clones number (states.Absent banks) at none = tt
+away_carried clones number (states.Asking asking) at none = tt
+away_carried clones number (states.Down banks) at none = at
+away_carried clones number (states.Live live) at none = absurd (none live refl)
 
 -- a live clone that is as it was
 unchanged : (clones new : List RunningClone) (number : ℕ) (before after : CloneValue) → Becomes clones new number (states.Live before) (states.Live after) → after.local ≡ before.local → new ≡ clones
 unchanged clones new number before after becomes same =
-    becomes.now ∙ ap (λ (l : LocalClone). set clones number (states.Live (record { local = l }))) same ∙ written_again clones number (states.Live before) becomes.was
+    becomes.now ∙ ap (λ (l : LocalClone). set clones number (states.Live (record { local = l }))) same ∙ set_again clones number (states.Live before) becomes.was
 
 -- wants and snapshots are never sent yet
 never_sent : (running : RunningWorld) (world : World) → StandsFor running world → (number : ℕ) (what : MessageValue) → sent_message running number ≡ Some what
@@ -204,7 +221,7 @@ module _ (running : RunningWorld) (message number : ℕ) (new : List RunningClon
       → Becomes running.clones new number before after → ReceivesAsking before after what answer → Tells answer reply → Ends reply
   asker_answered what (received.Told replies.Ignored) reply before after is becomes h told =
       calm replies.Ignored reply told
-      (becomes.now ∙ ap (λ (c : RunningClone). set running.clones number c) h.same ∙ written_again running.clones number before becomes.was)
+      (becomes.now ∙ ap (λ (c : RunningClone). set running.clones number c) h.same ∙ set_again running.clones number before becomes.was)
       (λ world stands sound. deliver_asking running world stands sound message number (message_value what) h.asker is (becomes.was ∙ ap (λ (s : RunningClone). Some s) h.was)
       (λ leaf same own.
       let give = gives_as what leaf same in
@@ -234,3 +251,102 @@ module _ (running : RunningWorld) (message number : ℕ) (new : List RunningClon
   -- no message has the number
   pub no_message : numbered running.messages message ≡ None → Moves running (Deliver message number) model.NoMessage (stepped running)
   no_message none world stands sound = deliver_nothing running world stands sound message number (sym (same_message running message) ∙ none)
+
+-- ---- with banks
+
+-- the message came to a clone, which told its answer, or sent it
+module _ {B : Type 0} (log : B → Option Log) (meter : B → Meter) (old new : Parts B) (domain : new.domain ≡ old.domain) (properties : new.properties ≡ old.properties) (message number : ℕ) where
+  pub deliver_done : (what : Message) (answer : Received) (reply : Reply) → numbered old.messages.items message ≡ Some what
+      → ReceivesAt (map in_memory old.clones.items) (map in_memory new.clones.items) number what answer
+      → ((steps : ℕ) → Tells (memory_of (running_of old steps)) message number (map in_memory new.clones.items) (map message_value new.messages.items) answer reply)
+      → IsCarriedAt old.clones.items new.clones.items number → Does log old (Deliver message number) new reply
+  deliver_done what answer reply is received tells carried =
+      does_carried log meter old new domain properties (Deliver message number) reply
+      (λ steps. answered (memory_of (running_of old steps)) message number (map in_memory new.clones.items) (map message_value new.messages.items) what answer reply
+      (value_at old.messages.items message what is) received (tells steps))
+      tt carried
+
+  -- there is no such message
+  pub deliver_none : new.clones.items ≡ old.clones.items → new.messages.items ≡ old.messages.items → numbered old.messages.items message ≡ None → Does log old (Deliver message number) new replies.NoMessage
+  deliver_none same sent none =
+      does_still log meter old new domain properties (Deliver message number) replies.NoMessage
+      (λ steps. moved (memory_of (running_of old steps)) (Deliver message number) model.NoMessage model.NoMessage (map in_memory old.clones.items) (map in_memory new.clones.items)
+      (map message_value old.messages.items) (map message_value new.messages.items) refl
+      (ap (λ (l : List (BankedState B)). map in_memory l) (sym same)) (ap (λ (m : List Message). map message_value m) (sym sent))
+      (no_message (memory_of (running_of old steps)) message number (map in_memory old.clones.items) (map message_value old.messages.items) (no_value_at old.messages.items message none)))
+      tt same
+
+-- one who asks took the message
+module _ {B : Type 0} (meter : B → Meter) (old new : List (BankedState B)) (number : ℕ) (asking : BankedAsker B) (sent : Message) where
+  -- its banks
+  adopted_banks : (what : Adopted B) (told : BankedState B × Result Received WorldFault) → IsToldOf number what told → banks_of_state told.0 ≡ banks_of_adopted what
+  adopted_banks (adopted.Joined clone) told is = ap banks_of_state is.0
+  adopted_banks (adopted.Ignored same) told is = ap banks_of_state is.0
+  adopted_banks (adopted.Refused fault banks) told is = ap banks_of_state is.0
+
+  -- it was in one state, and is in another
+  pub asking_becomes : (told : BankedState B × Result Received WorldFault) → HasState old number (states.Asking asking) → new ≡ set old number told.0 → Becomes old new number (states.Asking asking) told.0
+  asking_becomes told at now = record { was = at; now = now }
+
+  -- what it does is what one who asks does
+  pub asking_received : (what : Adopted B) (told : BankedState B × Result Received WorldFault) → HasState old number (states.Asking asking) → new ≡ set old number told.0
+      → LocallyAdopts asking sent what → IsToldOf number what told → IfOk told.1 (ReceivesAt (map in_memory old) (map in_memory new) number sent)
+  asking_received (adopted.Joined clone) told at now adopts is =
+      let r : Result Received WorldFault = Ok (received.Told (replies.Joined clone.local.path)) in
+      subst (λ (x : Result Received WorldFault). IfOk x (ReceivesAt (map in_memory old) (map in_memory new) number sent)) (sym is.1)
+      (WhereAsking (states.Asking asking.asker) (states.Live (record { local = clone.local }))
+      (memory_becomes old new number (states.Asking asking) (states.Live clone) (record { was = at; now = now ∙ ap (λ (s : BankedState B). set old number s) is.0 }))
+      (record {
+        asker = asking.asker;
+        was = refl;
+        give = adopts.0;
+        is = adopts.1;
+        live = record { local = clone.local };
+        joins = adopts.2;
+        now = refl;
+        at = refl;
+      }))
+  asking_received (adopted.Ignored same) told at now adopts is =
+      subst (λ (x : Result Received WorldFault). IfOk x (ReceivesAt (map in_memory old) (map in_memory new) number sent)) (sym is.1)
+      (WhereAsking (states.Asking asking.asker) (states.Asking same.asker)
+      (memory_becomes old new number (states.Asking asking) (states.Asking same) (record { was = at; now = now ∙ ap (λ (s : BankedState B). set old number s) is.0 }))
+      (record { asker = asking.asker; was = refl; none = adopts.0; same = ap (λ (a : BankedAsker B). states.Asking a.asker) adopts.1 }))
+  asking_received (adopted.Refused fault banks) told at now adopts is =
+      subst (λ (x : Result Received WorldFault). IfOk x (ReceivesAt (map in_memory old) (map in_memory new) number sent)) (sym is.1) tt
+
+  -- and it may be carried
+  pub asking_carried : (what : Adopted B) (told : BankedState B × Result Received WorldFault) → HasState old number (states.Asking asking) → new ≡ set old number told.0
+      → LocallyAdopts asking sent what → IsToldOf number what told → OnOk told.1 (IsCarriedAt old new number)
+  asking_carried (adopted.Joined clone) told at now adopts is =
+      subst (λ (x : Result Received WorldFault). OnOk x (IsCarriedAt old new number)) (sym is.1)
+      (record { state = states.Live clone; now = now ∙ ap (λ (s : BankedState B). set old number s) is.0; carried = adopts.3 })
+  asking_carried (adopted.Ignored same) told at now adopts is =
+      subst (λ (x : Result Received WorldFault). OnOk x (IsCarriedAt old new number)) (sym is.1)
+      (record { state = states.Asking same; now = now ∙ ap (λ (s : BankedState B). set old number s) is.0; carried = tt })
+  asking_carried (adopted.Refused fault banks) told at now adopts is =
+      subst (λ (x : Result Received WorldFault). OnOk x (IsCarriedAt old new number)) (sym is.1) tt
+
+  -- its meter
+  pub asking_on : (what : Adopted B) (told : BankedState B × Result Received WorldFault) → IsToldOf number what told
+      → Metered (adopting_calls what) (meter asking.banks) (meter (banks_of_adopted what)) (AdoptsWhole what) (FailsToAdopt what) → GoesOn (meter asking.banks) (meter (banks_of_state told.0))
+  asking_on what told is metered =
+      subst (λ (b : B). GoesOn (meter asking.banks) (meter b)) (sym (adopted_banks what told is))
+      (goes_on (adopting_calls what) (meter asking.banks) (meter (banks_of_adopted what)) (AdoptsWhole what) (FailsToAdopt what) metered)
+
+  -- why it refused
+  refused_fails : (fault : MakeFault) (before now : Meter) → (fault ≡ make.Device → before.arm ≡ Unarmed → Rose before.real_faults now.real_faults) → FailsAt number before now (fault_of_made number fault)
+  refused_fails make.Device before now rose = (refl, rose refl)
+  refused_fails make.NoMemory before now rose = tt
+
+  pub asking_fails : (what : Adopted B) (told : BankedState B × Result Received WorldFault) → IsToldOf number what told
+      → Metered (adopting_calls what) (meter asking.banks) (meter (banks_of_adopted what)) (AdoptsWhole what) (FailsToAdopt what)
+      → IfErr told.1 (FailsAt number (meter asking.banks) (meter (banks_of_state told.0)))
+  asking_fails (adopted.Joined clone) told is metered =
+      subst (λ (x : Result Received WorldFault). IfErr x (FailsAt number (meter asking.banks) (meter (banks_of_state told.0)))) (sym is.1) tt
+  asking_fails (adopted.Ignored same) told is metered =
+      subst (λ (x : Result Received WorldFault). IfErr x (FailsAt number (meter asking.banks) (meter (banks_of_state told.0)))) (sym is.1) tt
+  asking_fails (adopted.Refused fault banks) told is metered =
+      subst (λ (x : Result Received WorldFault). IfErr x (FailsAt number (meter asking.banks) (meter (banks_of_state told.0)))) (sym is.1)
+      (subst (λ (b : B). FailsAt number (meter asking.banks) (meter b) (fault_of_made number fault)) (sym (adopted_banks (adopted.Refused fault banks) told is))
+      (refused_fails fault (meter asking.banks) (meter banks)
+      (rose_unarmed (adopting_calls (adopted.Refused fault banks)) (meter asking.banks) (meter banks) (AdoptsWhole (adopted.Refused fault banks)) (FailsToAdopt (adopted.Refused fault banks)) metered)))

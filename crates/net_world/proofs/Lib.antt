@@ -7,5 +7,10 @@ pub mod ChangeLemmas
 pub mod DeliverLemmas
 pub mod JoinLemmas
 pub mod LookLemmas
+pub mod StopLemmas
 pub mod SummaryLemmas
 pub mod FoundingLemmas
+pub mod Places
+pub mod BankLemmas
+pub mod FaultLemmas
+pub mod EndLemmas

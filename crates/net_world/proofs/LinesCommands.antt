@@ -18,10 +18,10 @@ use Rattle.rdf_terms.specs.declared.faults.TripleFault.TheVariants.{NotTriple, T
 use Rattle.schedule_model.specs.Characters.{space}
 use Rattle.mld_model.specs.World.{clone_count}
 use Rattle.schedule_model.specs.declared.Command.{Command}
-use Rattle.schedule_model.specs.declared.Command.TheVariants.{Add, Remove, Deliver, Show, Compare, Join}
+use Rattle.schedule_model.specs.declared.Command.TheVariants.{Add, Remove, Deliver, Show, Compare, Join, Stop, Open}
 use Rattle.schedule_model.proofs.LackingLaws.{Lacks, Lacks-from_test, one_split, apart}
 use Rattle.schedule_model.specs.Schedule.{Setup, SpellsSetup, SpellsCommand}
-use Rattle.net_world.specs.ReadLines.{IsTripleText, IsCloneAndTriple, IsAddRest, IsRemoveRest, IsDeliverRest, IsShowRest, IsCompareRest, IsJoinRest}
+use Rattle.net_world.specs.ReadLines.{IsTripleText, IsCloneAndTriple, IsAddRest, IsRemoveRest, IsDeliverRest, IsShowRest, IsCompareRest, IsJoinRest, IsStopRest, IsOpenRest}
 use Rattle.net_world.proofs.LinesText.{has_space}
 use Rattle.net_world.proofs.LinesNumbers.{small, number_first}
 
@@ -52,6 +52,8 @@ add_back line rest e (Deliver message number) h = absurd (apart e h.0 refl)
 add_back line rest e (Show number) h = absurd (apart e h.0 refl)
 add_back line rest e (Compare number other) h = absurd (apart e h.0 refl)
 add_back line rest e (Join number) h = absurd (apart e h.0 refl)
+add_back line rest e (Stop number) h = absurd (apart e h.0 refl)
+add_back line rest e (Open number) h = absurd (apart e h.0 refl)
 
 pub add_behind : (line rest : List ℕ) → line ≡ codes "add " ++ rest → (command : Command) → IsAddRest rest command ↔ SpellsCommand line command
 add_behind line rest e command = (add_there line rest e command, add_back line rest e command)
@@ -68,6 +70,8 @@ remove_back line rest e (Deliver message number) h = absurd (apart e h.0 refl)
 remove_back line rest e (Show number) h = absurd (apart e h.0 refl)
 remove_back line rest e (Compare number other) h = absurd (apart e h.0 refl)
 remove_back line rest e (Join number) h = absurd (apart e h.0 refl)
+remove_back line rest e (Stop number) h = absurd (apart e h.0 refl)
+remove_back line rest e (Open number) h = absurd (apart e h.0 refl)
 
 pub remove_behind : (line rest : List ℕ) → line ≡ codes "remove " ++ rest → (command : Command) → IsRemoveRest rest command ↔ SpellsCommand line command
 remove_behind line rest e command = (remove_there line rest e command, remove_back line rest e command)
@@ -83,6 +87,8 @@ deliver_back line rest e (Deliver message number) h = (message, number, refl, ap
 deliver_back line rest e (Show number) h = absurd (apart e h.0 refl)
 deliver_back line rest e (Compare number other) h = absurd (apart e h.0 refl)
 deliver_back line rest e (Join number) h = absurd (apart e h.0 refl)
+deliver_back line rest e (Stop number) h = absurd (apart e h.0 refl)
+deliver_back line rest e (Open number) h = absurd (apart e h.0 refl)
 
 pub deliver_behind : (line rest : List ℕ) → line ≡ codes "deliver " ++ rest → (command : Command) → IsDeliverRest rest command ↔ SpellsCommand line command
 deliver_behind line rest e command = (deliver_there line rest e command, deliver_back line rest e command)
@@ -98,6 +104,8 @@ show_back line rest e (Deliver message number) h = absurd (apart e h.0 refl)
 show_back line rest e (Show number) h = (number, refl, ap (drop 5) (sym e ∙ h.0), h.1)
 show_back line rest e (Compare number other) h = absurd (apart e h.0 refl)
 show_back line rest e (Join number) h = absurd (apart e h.0 refl)
+show_back line rest e (Stop number) h = absurd (apart (ap (drop 1) e) (ap (drop 1) h.0) refl)
+show_back line rest e (Open number) h = absurd (apart e h.0 refl)
 
 pub show_behind : (line rest : List ℕ) → line ≡ codes "show " ++ rest → (command : Command) → IsShowRest rest command ↔ SpellsCommand line command
 show_behind line rest e command = (show_there line rest e command, show_back line rest e command)
@@ -113,6 +121,8 @@ compare_back line rest e (Deliver message number) h = absurd (apart e h.0 refl)
 compare_back line rest e (Show number) h = absurd (apart e h.0 refl)
 compare_back line rest e (Compare number other) h = (number, other, refl, ap (drop 8) (sym e ∙ h.0), h.1, h.2)
 compare_back line rest e (Join number) h = absurd (apart e h.0 refl)
+compare_back line rest e (Stop number) h = absurd (apart e h.0 refl)
+compare_back line rest e (Open number) h = absurd (apart e h.0 refl)
 
 pub compare_behind : (line rest : List ℕ) → line ≡ codes "compare " ++ rest → (command : Command) → IsCompareRest rest command ↔ SpellsCommand line command
 compare_behind line rest e command = (compare_there line rest e command, compare_back line rest e command)
@@ -128,9 +138,45 @@ join_back line rest e (Deliver message number) h = absurd (apart e h.0 refl)
 join_back line rest e (Show number) h = absurd (apart e h.0 refl)
 join_back line rest e (Compare number other) h = absurd (apart e h.0 refl)
 join_back line rest e (Join number) h = (number, refl, ap (drop 5) (sym e ∙ h.0), h.1)
+join_back line rest e (Stop number) h = absurd (apart e h.0 refl)
+join_back line rest e (Open number) h = absurd (apart e h.0 refl)
 
 pub join_behind : (line rest : List ℕ) → line ≡ codes "join " ++ rest → (command : Command) → IsJoinRest rest command ↔ SpellsCommand line command
 join_behind line rest e command = (join_there line rest e command, join_back line rest e command)
+
+stop_there : (line rest : List ℕ) → line ≡ codes "stop " ++ rest → (command : Command) → IsStopRest rest command → SpellsCommand line command
+stop_there line rest e command h =
+    subst (λ (k : Command). SpellsCommand line k) (sym h.1) (e ∙ ap (λ (r : List ℕ). codes "stop " ++ r) h.2, h.3)
+
+stop_back : (line rest : List ℕ) → line ≡ codes "stop " ++ rest → (command : Command) → SpellsCommand line command → IsStopRest rest command
+stop_back line rest e (Add number triple) h = absurd (apart e h.1 refl)
+stop_back line rest e (Remove number triple) h = absurd (apart e h.1 refl)
+stop_back line rest e (Deliver message number) h = absurd (apart e h.0 refl)
+stop_back line rest e (Show number) h = absurd (apart (ap (drop 1) e) (ap (drop 1) h.0) refl)
+stop_back line rest e (Compare number other) h = absurd (apart e h.0 refl)
+stop_back line rest e (Join number) h = absurd (apart e h.0 refl)
+stop_back line rest e (Stop number) h = (number, refl, ap (drop 5) (sym e ∙ h.0), h.1)
+stop_back line rest e (Open number) h = absurd (apart e h.0 refl)
+
+pub stop_behind : (line rest : List ℕ) → line ≡ codes "stop " ++ rest → (command : Command) → IsStopRest rest command ↔ SpellsCommand line command
+stop_behind line rest e command = (stop_there line rest e command, stop_back line rest e command)
+
+open_there : (line rest : List ℕ) → line ≡ codes "open " ++ rest → (command : Command) → IsOpenRest rest command → SpellsCommand line command
+open_there line rest e command h =
+    subst (λ (k : Command). SpellsCommand line k) (sym h.1) (e ∙ ap (λ (r : List ℕ). codes "open " ++ r) h.2, h.3)
+
+open_back : (line rest : List ℕ) → line ≡ codes "open " ++ rest → (command : Command) → SpellsCommand line command → IsOpenRest rest command
+open_back line rest e (Add number triple) h = absurd (apart e h.1 refl)
+open_back line rest e (Remove number triple) h = absurd (apart e h.1 refl)
+open_back line rest e (Deliver message number) h = absurd (apart e h.0 refl)
+open_back line rest e (Show number) h = absurd (apart e h.0 refl)
+open_back line rest e (Compare number other) h = absurd (apart e h.0 refl)
+open_back line rest e (Join number) h = absurd (apart e h.0 refl)
+open_back line rest e (Stop number) h = absurd (apart e h.0 refl)
+open_back line rest e (Open number) h = (number, refl, ap (drop 5) (sym e ∙ h.0), h.1)
+
+pub open_behind : (line rest : List ℕ) → line ≡ codes "open " ++ rest → (command : Command) → IsOpenRest rest command ↔ SpellsCommand line command
+open_behind line rest e command = (open_there line rest e command, open_back line rest e command)
 
 -- ---- the parts of a command
 

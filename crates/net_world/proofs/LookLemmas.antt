@@ -1,19 +1,27 @@
 -- What `show` and `compare` do is the model's step.
-use Rattle.std.proofs.Common.{◌≡◌, ℕ, List, inl, inr, refl, sym}
+use Rattle.std.proofs.Common.{◌≡◌, ℕ, List, Option, Bor, inl, inr, refl, sym, map}
+use Rattle.mld_io.specs.Arm.{Meter}
+use Rattle.mld_io.specs.Disk.{Log}
 use Rattle.mld_ops.specs.declared.tagged.Tagged.{Tagged}
 use Rattle.mld_model.specs.declared.CloneState.TheVariants as states
 use Rattle.mld_model.specs.Reply.{Reply, Shows}
 use Rattle.mld_model.specs.Local.{LocalClone, CloneValue}
 use Rattle.mld_model.specs.StandsFor.{RunningWorld}
+use Rattle.schedule_model.specs.declared.Command.{Command}
 use Rattle.schedule_model.specs.declared.Command.TheVariants.{Show, Compare}
 use Rattle.schedule_model.proofs.WorldLaws.{LocallyCompares, stepped, show_follows, show_missing, compare_follows, compare_missing_first, compare_missing_second}
+use Rattle.clone_core.specs.Banked.{BankedClone}
+use Rattle.net_world.specs.declared.parts.Parts.{Parts}
 use Rattle.net_world.specs.declared.replies.Reply.{Reply as CodeReply}
 use Rattle.net_world.specs.declared.replies.Reply.TheVariants as replies
 use Rattle.net_world.specs.Comparing.{IsHowTheyCompare}
 use Rattle.net_world.specs.Replies.{reply_value}
 use Rattle.net_world.specs.States.{HasState, IsMissingAt}
+use Rattle.net_world.specs.WorldBanks.{in_memory, memory_of}
+use Rattle.net_world.specs.WorldParts.{running_of, Does}
 use Rattle.net_world.specs.Worlds.{Moves}
-use Rattle.net_world.proofs.WorldLemmas.{moved}
+use Rattle.net_world.proofs.BankLemmas.{memory_at, StaysShut}
+use Rattle.net_world.proofs.WorldLemmas.{moved, does_still}
 
 pub shown : (running : RunningWorld) (number : ℕ) (live : CloneValue) (pairs : List Tagged) → HasState running.clones number (states.Live live) → pairs ≡ live.local.pairs
     → Moves running (Show number) (Shows pairs) (stepped running)
@@ -44,3 +52,36 @@ pub second_missing : (running : RunningWorld) (number second : ℕ) (live : Clon
     → Moves running (Compare number second) reply (stepped running)
 second_missing running number second live reply is missing world stands sound =
     compare_missing_second running world stands sound number second live missing.state reply is missing.at missing.is
+
+-- ---- with banks
+
+module _ {B : Type 0} (log : B → Option Log) (meter : B → Meter) (parts : Parts B) where
+  -- nothing changes
+  looks : (command : Command) (reply : CodeReply) → StaysShut command → ((steps : ℕ) → Moves (memory_of (running_of parts steps)) command (reply_value reply) (stepped (memory_of (running_of parts steps))))
+      → Does log parts command parts reply
+  looks command reply shut moves = does_still log meter parts parts refl refl command reply moves shut refl
+
+  pub show_done : (number : ℕ) (live : BankedClone B) (pairs : Bor (List Tagged)) → HasState parts.clones.items number (states.Live live) → pairs.now ≡ live.local.pairs → Does log parts (Show number) parts (replies.Shows pairs)
+  show_done number live pairs at are =
+      looks (Show number) (replies.Shows pairs) tt
+      (λ steps. shown (memory_of (running_of parts steps)) number (record { local = live.local }) pairs.now (memory_at parts.clones.items number (states.Live live) at) are)
+
+  pub show_missing_done : (number : ℕ) (reply : CodeReply) → IsMissingAt (map in_memory parts.clones.items) number (reply_value reply) → Does log parts (Show number) parts reply
+  show_missing_done number reply missing = looks (Show number) reply tt (λ steps. not_shown (memory_of (running_of parts steps)) number (reply_value reply) missing)
+
+  pub compare_done : (number second : ℕ) (live other : BankedClone B) (reply : CodeReply) → HasState parts.clones.items number (states.Live live) → HasState parts.clones.items second (states.Live other)
+      → IsHowTheyCompare live.local other.local reply → Does log parts (Compare number second) parts reply
+  compare_done number second live other reply is was compares =
+      looks (Compare number second) reply tt
+      (λ steps. weighed (memory_of (running_of parts steps)) number second (record { local = live.local }) (record { local = other.local }) reply
+      (memory_at parts.clones.items number (states.Live live) is) (memory_at parts.clones.items second (states.Live other) was) compares)
+
+  pub compare_first_missing_done : (number second : ℕ) (reply : CodeReply) → IsMissingAt (map in_memory parts.clones.items) number (reply_value reply) → Does log parts (Compare number second) parts reply
+  compare_first_missing_done number second reply missing =
+      looks (Compare number second) reply tt (λ steps. first_missing (memory_of (running_of parts steps)) number second (reply_value reply) missing)
+
+  pub compare_second_missing_done : (number second : ℕ) (live : BankedClone B) (reply : CodeReply) → HasState parts.clones.items number (states.Live live)
+      → IsMissingAt (map in_memory parts.clones.items) second (reply_value reply) → Does log parts (Compare number second) parts reply
+  compare_second_missing_done number second live reply is missing =
+      looks (Compare number second) reply tt
+      (λ steps. second_missing (memory_of (running_of parts steps)) number second (record { local = live.local }) (reply_value reply) (memory_at parts.clones.items number (states.Live live) is) missing)

@@ -1,27 +1,35 @@
 -- What commands do with the parts of a running world is the model's step.
-use Rattle.std.proofs.Common.{◌≡◌, ◌≢◌, ℕ, ◌+◌, ◌<◌, List, refl, sym, ◌∙◌, ap, arith, subst, length, get_or, set, Some}
-use Rattle.std.proofs.lemmas.List.{set-get_or}
-use Rattle.std.proofs.lemmas.Option.{get_or_from_slice_get, slice_get_read}
+use Rattle.std.proofs.Common.{◌≡◌, ◌≢◌, ℕ, ◌+◌, ◌<◌, List, Option, None, refl, sym, ◌∙◌, ap, arith, subst, length, map, set}
+use Rattle.std.proofs.lemmas.List.{length-map, length-set}
+use Rattle.mld_io.specs.Arm.{Meter}
+use Rattle.mld_io.specs.Disk.{Log}
 use Rattle.tree_clock.specs.Limits.{tick_limit}
 use Rattle.tree_clock.specs.Clock.{ticks_of}
-use Rattle.mld_ops.specs.Messages.{MessageValue}
+use Rattle.mld_ops.specs.Messages.{MessageValue, message_value}
 use Rattle.mld_model.specs.declared.CloneState.TheVariants as states
 use Rattle.mld_model.specs.Reply.{Reply}
-use Rattle.mld_model.specs.Local.{CloneValue}
-use Rattle.mld_model.proofs.FoundedLaws.{founded_sound}
+use Rattle.mld_model.specs.Sound.{IsSound}
 use Rattle.mld_model.specs.StandsFor.{RunningClone, RunningWorld, StandsFor, founded_running}
+use Rattle.mld_model.specs.World.{World}
 use Rattle.mld_model.proofs.StandsForLaws.{live_at}
 use Rattle.schedule_model.specs.declared.Command.{Command}
 use Rattle.schedule_model.specs.Schedule.{Setup}
 use Rattle.schedule_model.specs.Runs.{founded_by}
+use Rattle.schedule_model.specs.Step.{Step, number_of_clone}
 use Rattle.schedule_model.specs.WorldStep.{Follows, IsMissingReply}
-use Rattle.schedule_model.proofs.WorldLaws.{founded_stands, stepped, next_tick_within}
+use Rattle.schedule_model.proofs.WorldLaws.{founded_stands, next_tick_within}
+use Rattle.clone_core.specs.Banked.{BankedClone}
+use Rattle.net_world.specs.declared.faults.WorldFault.{WorldFault}
+use Rattle.net_world.specs.declared.faults.WorldFault.TheVariants as faults
 use Rattle.net_world.specs.declared.parts.Parts.{Parts}
+use Rattle.net_world.specs.declared.replies.Reply.{Reply as CodeReply}
 use Rattle.net_world.specs.Commands.{Answered}
-use Rattle.net_world.specs.WorldParts.{running_of, HasStepLeft}
+use Rattle.net_world.specs.WorldParts.{running_of, HasStepLeft, KeepsDomain, HasFaultCause, Does}
 use Rattle.net_world.specs.Replies.{reply_value}
-use Rattle.net_world.specs.States.{HasState, reply_of_state}
-use Rattle.net_world.specs.Worlds.{IsStanding, Moves, Stepped}
+use Rattle.net_world.specs.States.{HasState, Becomes, reply_of_state}
+use Rattle.net_world.specs.WorldBanks.{BankedState, BankedWorld, in_memory, banks_of_state, memory_of, banks_of, IsBacked, StandsOnBanks, GoesOn, MetersGoOn, HasFailed, IsCarriedAt}
+use Rattle.net_world.specs.Worlds.{IsStanding, Moves, FollowsOnBanks, Stepped}
+use Rattle.net_world.proofs.BankLemmas.{memory_at, meters_same, meters_set, StaysShut, moves_at, moves_still, moves_carried}
 
 -- ---- the world
 
@@ -29,29 +37,49 @@ use Rattle.net_world.specs.Worlds.{IsStanding, Moves, Stepped}
 pub founded_follows : (setup : Setup) (running : RunningWorld) → running ≡ founded_running setup.domain setup.properties setup.count → StandsFor running (founded_by setup)
 founded_follows setup running is = subst (λ (r : RunningWorld). StandsFor r (founded_by setup)) (sym is) (founded_stands setup.domain setup.properties setup.count)
 
--- which is sound
-pub founded_standing : (setup : Setup) (running : RunningWorld) → running ≡ founded_running setup.domain setup.properties setup.count → IsStanding running
-founded_standing setup running is =
-    record { world = founded_by setup; stands = founded_follows setup running is; sound = founded_sound setup.domain setup.properties setup.count }
-
 -- after a step it stands for a sound world again
-pub standing_after : (old : RunningWorld) (command : Command) (new : RunningWorld) (before after : List ℕ) → IsStanding old → Stepped old command new before after → IsStanding new
-standing_after old command new before after standing stepped =
-    let follows : Follows standing.world command stepped.reply new = stepped.follows standing.world standing.stands standing.sound in
+pub standing_after : {B : Type 0} (log : B → Option Log) (old : BankedWorld B) (command : Command) (new : BankedWorld B) (before after : List ℕ) → IsStanding log old
+    → Stepped log old command new before after → IsStanding log new
+standing_after log old command new before after standing made =
+    let follows : FollowsOnBanks log standing.world command made.reply new = made.follows standing.world standing.stands standing.sound in
     record { world = follows.next; stands = follows.stands; sound = follows.sound }
 
 -- a command that was answered is a step of each running world that has the parts
-pub step_answered : (old : Parts) (command : Command) (new : Parts) (before after : List ℕ) (running : RunningWorld) (steps : ℕ) → running_of old steps ≡ running
-    → Answered old command new before after → Stepped running command (running_of new (steps + 1)) before after
-step_answered old command new before after running steps is answered =
-    let P : RunningWorld → Type 0 = λ r. Stepped r command (running_of new (steps + 1)) before after in
+pub step_answered : {B : Type 0} (log : B → Option Log) (old : Parts B) (command : Command) (new : Parts B) (before after : List ℕ) (running : BankedWorld B) (steps : ℕ)
+    → running_of old steps ≡ running → Answered log old command new before after → Stepped log running command (running_of new (steps + 1)) before after
+step_answered {B = B} log old command new before after running steps is answered =
+    let P : BankedWorld B → Type 0 = λ r. Stepped log r command (running_of new (steps + 1)) before after in
     subst P is (record { reply = reply_value answered.reply; text = answered.told; follows = answered.done.moves steps })
 
+-- its banks went on as those of the parts
+pub step_meters : {B : Type 0} (meter : B → Meter) (old new : Parts B) (running : BankedWorld B) (steps : ℕ) → running_of old steps ≡ running → KeepsDomain meter old new
+    → MetersGoOn meter (banks_of running) (map banks_of_state new.clones.items)
+step_meters {B = B} meter old new running steps is keeps =
+    subst (λ (w : BankedWorld B). MetersGoOn meter (banks_of w) (map banks_of_state new.clones.items)) is keeps.meters
+
+-- and a device that failed is that of the clone that the fault names
+pub step_device : {B : Type 0} (meter : B → Meter) (old new : Parts B) (running : BankedWorld B) (steps : ℕ) → running_of old steps ≡ running → (fault : WorldFault)
+    → HasFaultCause meter old new fault → (clone : ℕ) → fault ≡ faults.Device clone → HasFailed meter clone (banks_of running) (map banks_of_state new.clones.items)
+step_device {B = B} meter old new running steps is fault cause clone same =
+    subst (λ (w : BankedWorld B). HasFailed meter clone (banks_of w) (map banks_of_state new.clones.items)) is (subst (λ (f : WorldFault). HasFaultCause meter old new f) same cause)
+
 -- a clone of parts that stand for a sound world with a step left has a tick left
-pub has_next_tick : (parts : Parts) (number : ℕ) (live : CloneValue) → HasStepLeft parts → HasState parts.clones.items number (states.Live live) → ticks_of live.local.ticks live.local.path < tick_limit
-has_next_tick parts number live left at =
-    let running : RunningWorld = running_of parts left.steps in
-    omega (arith, next_tick_within running left.standing.world left.standing.stands left.standing.sound number live.local (live_at running left.standing.world left.standing.stands number live at), left.few)
+pub has_next_tick : {B : Type 0} (log : B → Option Log) (parts : Parts B) (number : ℕ) (live : BankedClone B) → HasStepLeft log parts
+    → HasState parts.clones.items number (states.Live live) → ticks_of live.local.ticks live.local.path < tick_limit
+has_next_tick log parts number live left at =
+    let running : RunningWorld = memory_of (running_of parts left.steps) in
+    let stands : StandsFor running left.standing.world = left.standing.stands.memory in
+    omega (
+      arith,
+      next_tick_within running left.standing.world stands left.standing.sound number live.local
+          (live_at running left.standing.world stands number (record { local = live.local }) (memory_at parts.clones.items number (states.Live live) at)),
+      left.few,
+    )
+
+-- and is open
+pub is_open : {B : Type 0} (log : B → Option Log) (parts : Parts B) (number : ℕ) (live : BankedClone B) → HasStepLeft log parts → HasState parts.clones.items number (states.Live live)
+    → live.closed ≡ None
+is_open log parts number live left at = left.standing.stands.backed number (states.Live live) at
 
 -- ---- steps
 
@@ -67,26 +95,89 @@ moved running command told reply clones new messages sent same are were moves wo
     let Q : RunningWorld → Type 0 = λ n. Follows world command reply n in
     subst Q (λ i. after_step running (are i) (were i)) (subst P same (moves world stands sound))
 
--- ---- reading a clone
+-- ---- parts that moved
 
--- the state that was read at a place
-pub state_read : (clones : List RunningClone) (number place : ℕ) (read state : RunningClone) → place ≡ number → number < length clones → read ≡ get_or clones place read → read ≡ state
-    → HasState clones number state
-state_read clones number place read state at inside is same =
-    slice_get_read clones (length clones) number read refl inside (is ∙ ap (λ (k : ℕ). get_or clones k read) at) ∙ ap (λ (s : RunningClone). Some s) same
+module _ {B : Type 0} (log : B → Option Log) (meter : B → Meter) (old new : Parts B) (domain : new.domain ≡ old.domain) (properties : new.properties ≡ old.properties) where
+  -- what the parts are in memory after a step that keeps the domain
+  in_memory_after : (steps : ℕ) → after_step (memory_of (running_of old steps)) (map in_memory new.clones.items) (map message_value new.messages.items) ≡ memory_of (running_of new (steps + 1))
+  in_memory_after steps = λ i. record {
+    domain = sym domain i;
+    properties = (sym properties i).items;
+    clones = map in_memory new.clones.items;
+    messages = map message_value new.messages.items;
+    steps = steps + 1;
+  }
 
--- what was read is written back
-pub read_back : (clones : List RunningClone) (place : ℕ) (read : RunningClone) → read ≡ get_or clones place read → set clones place read ≡ clones
-read_back clones place read is = ap (λ (s : RunningClone). set clones place s) is ∙ set-get_or clones place read
+  parts_moved : (command : Command) (reply : Reply) (steps : ℕ)
+      → Moves (memory_of (running_of old steps)) command reply (after_step (memory_of (running_of old steps)) (map in_memory new.clones.items) (map message_value new.messages.items))
+      → Moves (memory_of (running_of old steps)) command reply (memory_of (running_of new (steps + 1)))
+  parts_moved command reply steps moves world stands sound =
+      subst (λ (r : RunningWorld). Follows world command reply r) (in_memory_after steps) (moves world stands sound)
 
--- a state that is known is written in its place again
-pub written_again : (clones : List RunningClone) (number : ℕ) (state : RunningClone) → HasState clones number state → set clones number state ≡ clones
-written_again clones number state at =
-    ap (λ (s : RunningClone). set clones number s) (sym (get_or_from_slice_get clones number state state at)) ∙ set-get_or clones number state
+  -- the clone that the command says of is in another state, which may be carried
+  pub does_carried : (command : Command) (reply : CodeReply)
+      → ((steps : ℕ) → Moves (memory_of (running_of old steps)) command (reply_value reply)
+      (after_step (memory_of (running_of old steps)) (map in_memory new.clones.items) (map message_value new.messages.items)))
+      → StaysShut command → IsCarriedAt old.clones.items new.clones.items (number_of_clone command) → Does log old command new reply
+  does_carried command reply moves shut carried = record {
+    moves = λ steps. moves_carried log (running_of old steps) (running_of new (steps + 1)) command (reply_value reply) (parts_moved command (reply_value reply) steps (moves steps)) shut carried;
+  }
+
+  -- each clone is in the state in which it was
+  pub does_still : (command : Command) (reply : CodeReply)
+      → ((steps : ℕ) → Moves (memory_of (running_of old steps)) command (reply_value reply)
+      (after_step (memory_of (running_of old steps)) (map in_memory new.clones.items) (map message_value new.messages.items)))
+      → StaysShut command → new.clones.items ≡ old.clones.items → Does log old command new reply
+  does_still command reply moves shut same = record {
+    moves = λ steps. moves_still log (running_of old steps) (running_of new (steps + 1)) command (reply_value reply) (parts_moved command (reply_value reply) steps (moves steps)) same shut;
+  }
+
+  -- the clone that the command says of is in another state, of which more is known
+  pub does_at : (command : Command) (reply : CodeReply) (after : BankedState B)
+      → ((steps : ℕ) (world : World) → StandsOnBanks log (running_of old steps) world → IsSound world → Follows world command (reply_value reply)
+      (after_step (memory_of (running_of old steps)) (map in_memory new.clones.items) (map message_value new.messages.items)))
+      → new.clones.items ≡ set old.clones.items (number_of_clone command) after
+      → ((steps : ℕ) (world next : World) → StandsOnBanks log (running_of old steps) world → IsSound world → Step world command (reply_value reply) next → IsBacked log next (number_of_clone command) after)
+      → Does log old command new reply
+  does_at command reply after follows same backs = record {
+    moves = λ steps. moves_at log (running_of old steps) (running_of new (steps + 1)) command (reply_value reply) after
+        (λ world stands sound. subst (λ (r : RunningWorld). Follows world command (reply_value reply) r) (in_memory_after steps) (follows steps world stands sound)) same (backs steps);
+  }
+
+  -- ---- what each command keeps
+
+  -- where one clone is in another state, or was used
+  pub keeps_set : (number : ℕ) (before after : BankedState B) → Becomes old.clones.items new.clones.items number before after
+      → GoesOn (meter (banks_of_state before)) (meter (banks_of_state after)) → KeepsDomain meter old new
+  keeps_set number before after becomes on = record {
+    domain = domain;
+    properties = properties;
+    count = ap (λ (l : List (BankedState B)). length l) becomes.now ∙ length-set old.clones.items number after;
+    meters = meters_set meter old.clones.items new.clones.items number before after becomes on;
+  }
+
+  -- where it is known how the banks went on
+  pub keeps_meters : MetersGoOn meter (map banks_of_state old.clones.items) (map banks_of_state new.clones.items) → KeepsDomain meter old new
+  keeps_meters meters = record {
+    domain = domain;
+    properties = properties;
+    count = sym (length-map new.clones.items banks_of_state) ∙ meters.count ∙ length-map old.clones.items banks_of_state;
+    meters = meters;
+  }
+
+  -- where no clone is
+  pub keeps_still : new.clones.items ≡ old.clones.items → KeepsDomain meter old new
+  keeps_still same = record {
+    domain = domain;
+    properties = properties;
+    count = ap (λ (l : List (BankedState B)). length l) same;
+    meters = subst (λ (l : List (BankedState B)). MetersGoOn meter (map banks_of_state old.clones.items) (map banks_of_state l)) (sym same) (meters_same meter old.clones.items);
+  }
 
 -- the reply of a clone that isn't live is that of its state
-pub missing_reply : (state : RunningClone) (reply : Reply) → reply ≡ reply_of_state state → ((live : CloneValue) → state ≢ states.Live live) → IsMissingReply state reply
-missing_reply (states.Absent blank) reply is none = is
-missing_reply (states.Asking asker) reply is none = is
-missing_reply (states.Down device) reply is none = is
+pub missing_reply : {B : Type 0} (state : BankedState B) (reply : Reply) → reply ≡ reply_of_state (in_memory state) → ((live : BankedClone B) → state ≢ states.Live live)
+    → IsMissingReply (in_memory state) reply
+missing_reply (states.Absent banks) reply is none = is
+missing_reply (states.Asking asking) reply is none = is
+missing_reply (states.Down banks) reply is none = is
 missing_reply (states.Live live) reply is none = absurd (none live refl)

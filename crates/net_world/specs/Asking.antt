@@ -4,18 +4,21 @@ use Rattle.mld_ops.specs.Messages.{MessageValue, message_value}
 use Rattle.mld_ops.specs.declared.messages.Message.{Message}
 use Rattle.mld_ops.specs.declared.messages.Message.TheVariants as kinds
 use Rattle.mld_model.specs.declared.CloneState.TheVariants as states
-use Rattle.mld_model.specs.Local.{LocalAsker}
-use Rattle.mld_model.specs.StandsFor.{RunningClone}
+use Rattle.clone_core.specs.Banked.{BankedAsker}
 use Rattle.net_world.specs.declared.replies.Reply.{Reply}
 use Rattle.net_world.specs.declared.replies.Reply.TheVariants as replies
 use Rattle.net_world.specs.Founding.{IsNewAsker}
+use Rattle.net_world.specs.States.{Becomes}
+use Rattle.net_world.specs.WorldBanks.{BankedState}
 
--- one who wasn't there asks from now on, by this message
-pub record AsksFirst (domain : List ℕ) (properties : List (List ℕ)) (number : ℕ) (new : RunningClone) (question : Message) : Type 0 where
-  pub asker : LocalAsker
-  pub begins : IsNewAsker domain properties number asker
-  pub now : new ≡ states.Asking asker
-  pub is : question ≡ kinds.JoinAsk asker.id
+-- one who wasn't there asks from now on, on the banks that it had, by this message
+pub record AsksFirst {B : Type 0} (domain : List ℕ) (properties : List (List ℕ)) (number : ℕ) (old new : List (BankedState B)) (question : Message) : Type 0 where
+  pub blank : B
+  pub asking : BankedAsker B
+  pub becomes : Becomes old new number (states.Absent blank) (states.Asking asking)
+  pub banks : asking.banks ≡ blank
+  pub begins : IsNewAsker domain properties number asking.asker
+  pub is : question ≡ kinds.JoinAsk asking.asker.id
 
 -- the question is the next message, and the reply names its number
 abbrev pub SendsQuestion : List MessageValue → Message → List MessageValue → Reply → Type 0

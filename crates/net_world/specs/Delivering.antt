@@ -1,5 +1,5 @@
 -- What a clone does with a message that comes to it, by what it answers.
-use Rattle.std.specs.Prelude.{◌≡◌, ℕ, ◌+◌, List, ◌++◌, Option, None, slice_get, slice_set, length, map}
+use Rattle.std.specs.Prelude.{◌≡◌, ℕ, ◌+◌, List, ◌++◌, None, length, map, Result, Ok, Err}
 use Rattle.mld_ops.specs.Entry.{EntryValue}
 use Rattle.mld_ops.specs.Messages.{MessageValue, CarriesEntry, give_value, message_value, IsGoodMessage}
 use Rattle.mld_ops.specs.declared.messages.Give.{Give}
@@ -7,23 +7,29 @@ use Rattle.mld_ops.specs.declared.messages.Message.{Message}
 use Rattle.mld_model.specs.declared.CloneState.TheVariants as states
 use Rattle.mld_model.specs.Local.{LocalAsker, LocalClone, CloneValue, IsForeign, joined_clone}
 use Rattle.mld_model.specs.StandsFor.{RunningClone}
-use Rattle.mld_model.specs.World.{numbered}
 use Rattle.schedule_model.specs.WorldStep.{IsAwayReply}
+use Rattle.clone_core.specs.Banked.{BankedClone}
 use Rattle.clone_core.specs.CloneCalls.{LocallyReceives, Refuses}
 use Rattle.clone_core.specs.Joining.{IsGiveFor, GivesNone}
+use Rattle.clone_core.specs.declared.askers.Adopted.{Adopted}
+use Rattle.clone_core.specs.declared.askers.Adopted.TheVariants as adopted
 use Rattle.clone_core.specs.declared.answers.Got.TheVariants as got
 use Rattle.clone_core.specs.declared.faults.ReceiveFault.TheVariants as fault
 use Rattle.net_world.specs.declared.deliver.Received.{Received}
 use Rattle.net_world.specs.declared.deliver.Received.TheVariants as received
+use Rattle.net_world.specs.declared.faults.WorldFault.{WorldFault}
 use Rattle.net_world.specs.declared.replies.Reply.{Reply}
 use Rattle.net_world.specs.declared.replies.Reply.TheVariants as replies
 use Rattle.net_world.specs.Replies.{reply_value}
-use Rattle.net_world.specs.States.{HasState}
+use Rattle.net_world.specs.States.{HasState, Becomes}
+use Rattle.net_world.specs.WorldFaults.{fault_of_made}
+use Rattle.net_world.specs.WorldBanks.{BankedState}
 
--- the message, where it is an entry, says no more of the path of the clone of the number than that clone knows; and its snapshot, where
--- it has one, is a good one
-pub record IsFitFor (clones : List RunningClone) (number : ℕ) (sent : MessageValue) : Type 0 where
-  pub own : (live : CloneValue) (entry : EntryValue) → HasState clones number (states.Live live) → sent ≡ CarriesEntry entry → ¬ IsForeign live.local entry
+-- the message, where it is an entry, says no more of the path of the clone of the number than that clone knows, and that clone is open;
+-- and the message's snapshot, where it has one, is a good one
+pub record IsFitFor {B : Type 0} (clones : List (BankedState B)) (number : ℕ) (sent : MessageValue) : Type 0 where
+  pub own : (live : BankedClone B) (entry : EntryValue) → HasState clones number (states.Live live) → sent ≡ CarriesEntry entry → ¬ IsForeign live.local entry
+  pub opened : (live : BankedClone B) → HasState clones number (states.Live live) → live.closed ≡ None
   pub good : IsGoodMessage sent
 
 -- what a live clone does with a message
@@ -36,10 +42,6 @@ ReceivesLive old sent new (received.Told replies.HeldFull) = Refuses old sent fa
 ReceivesLive old sent new (received.Told replies.Deep) = Refuses old sent fault.Deep × (new ≡ old)
 ReceivesLive old sent new (received.Sends answers) = LocallyReceives old sent (got.Answer answers) new
 ReceivesLive old sent new other = ⊥
-
--- the clone asks for a leaf
-abbrev pub IsAsking : RunningClone → Type 0
-IsAsking state = (asker : LocalAsker) × (state ≡ states.Asking asker)
 
 -- one who asks took the leaf that the message gives it, and lives at the path
 pub record LivesAt (old new : RunningClone) (sent : Message) (path : List ℕ) : Type 0 where
@@ -65,15 +67,16 @@ ReceivesAsking old new sent (received.Told (replies.Joined path)) = LivesAt old 
 ReceivesAsking old new sent (received.Told replies.Ignored) = PassesOver old new sent
 ReceivesAsking old new sent other = ⊥
 
+-- what one who asked is now, and its answer: by what became of the message
+abbrev pub IsToldOf : {B : Type 0} → ℕ → Adopted B → BankedState B × Result Received WorldFault → Type 0
+IsToldOf number (adopted.Joined clone) told = (told.0 ≡ states.Live clone) × (told.1 ≡ Ok (received.Told (replies.Joined clone.local.path)))
+IsToldOf number (adopted.Ignored asking) told = (told.0 ≡ states.Asking asking) × (told.1 ≡ Ok (received.Told replies.Ignored))
+IsToldOf number (adopted.Refused fault banks) told = (told.0 ≡ states.Down banks) × (told.1 ≡ Err (fault_of_made number fault))
+
 -- a clone that is absent or down answers by its state
 abbrev pub StaysAway : RunningClone → Received → Type 0
 StaysAway state (received.Told reply) = IsAwayReply state (reply_value reply)
 StaysAway state (received.Sends answers) = ⊥
-
--- the clone of the number was in one state, and is in another now
-pub record Becomes (old new : List RunningClone) (number : ℕ) (before after : RunningClone) : Type 0 where
-  pub was : HasState old number before
-  pub now : new ≡ slice_set old number after
 
 -- what the clone of the number does with a message, by its state
 pub data ReceivesAt (old new : List RunningClone) (number : ℕ) (sent : Message) (answer : Received) : Type 0 where

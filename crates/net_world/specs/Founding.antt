@@ -1,22 +1,27 @@
 -- How a world is founded: the first clone forks its leaf for the others, one after another.
-use Rattle.std.specs.Prelude.{◌≡◌, ℕ, ◌-◌, List, [], ◌∷◌, min, replicate}
-use Rattle.tree_clock.specs.Path.{zero_letter}
+use Rattle.std.specs.Prelude.{◌≡◌, ◌≢◌, ◌⊎◌, ◌<◌, ℕ, List, [], ◌∷◌, None, Result, Ok, Err, OnOk, IfErr, map, length, slice_get, Some}
+use Rattle.std.specs.List.{range_with_len}
+use Rattle.mld_io.specs.Arm.{Meter}
+use Rattle.tree_clock.specs.Limits.{path_limit}
+use Rattle.journal_store.specs.declared.faults.MakeFault.{MakeFault}
 use Rattle.mld_ops.specs.Messages.{GiveValue, give_value, IsGoodSnapshot}
 use Rattle.mld_ops.specs.Properties.{AreKept}
 use Rattle.mld_ops.specs.declared.messages.Give.{Give}
 use Rattle.mld_ops.specs.declared.messages.Message.{Message}
 use Rattle.mld_ops.specs.declared.messages.Message.TheVariants as kinds
-use Rattle.mld_model.specs.Local.{LocalAsker, LocalClone, blank_clone}
-use Rattle.mld_model.specs.StandsFor.{id_of}
+use Rattle.mld_model.specs.Local.{LocalAsker, LocallyForks, joined_clone}
+use Rattle.mld_model.specs.StandsFor.{id_of, founded_local}
+use Rattle.mld_model.specs.World.{clone_count}
+use Rattle.mld_model.specs.declared.CloneState.TheVariants as states
+use Rattle.clone_core.specs.Banked.{BankedAsker, BankedClone}
+use Rattle.clone_core.specs.Closing.{banks_of_made}
 use Rattle.schedule_model.specs.Schedule.{Setup}
-
--- the leaf that the first clone has before it forks for the clone of the number
-abbrev pub leaf_before : ℕ → ℕ → List ℕ
-leaf_before count number = replicate (min number count - 1) zero_letter
-
--- the first clone before it forks for the clone of the number
-abbrev pub first_before : Setup → ℕ → LocalClone
-first_before setup number = blank_clone (id_of 0) setup.domain setup.properties (leaf_before setup.count number)
+use Rattle.tree_clock.specs.Lists.{Has}
+use Rattle.net_world.specs.declared.faults.WorldFault.{WorldFault}
+use Rattle.net_world.specs.declared.faults.WorldFault.TheVariants as faults
+use Rattle.net_world.specs.States.{HasState, Becomes}
+use Rattle.net_world.specs.WorldBanks.{BankedState, in_memory, banks_of_state, GoesOn, MetersGoOn, HasFailed, FailsAt}
+use Rattle.net_world.specs.WorldFaults.{fault_of_made}
 
 -- one who asks begins with the id of its number, this domain, and these properties as they are kept
 pub record IsNewAsker (domain : List ℕ) (properties : List (List ℕ)) (number : ℕ) (asker : LocalAsker) : Type 0 where
@@ -31,3 +36,81 @@ pub record GivesLeaf (messages : List Message) (asker : LocalAsker) (leaf : Give
   pub is : give_value give ≡ leaf
   pub own : leaf.id ≡ asker.id
   pub good : IsGoodSnapshot leaf.snapshot
+
+-- a clone that was just founded: it is open where it is live, and absent else
+abbrev pub IsOpenState : {B : Type 0} → BankedState B → Type 0
+IsOpenState (states.Absent banks) = Unit {0}
+IsOpenState (states.Asking asking) = ⊥
+IsOpenState (states.Down banks) = ⊥
+IsOpenState (states.Live clone) = clone.closed ≡ None
+
+-- the clones of the founded world: what they have in memory, each open on its banks
+pub record AreFounded {B : Type 0} (setup : Setup) (clones : List (BankedState B)) : Type 0 where
+  pub memory : map in_memory clones ≡ map (founded_local setup.domain setup.properties setup.count) (range_with_len 0 clone_count)
+  pub opened : (state : BankedState B) → Has clones state → IsOpenState state
+
+-- why no clones were founded: memory ran out, and no banks are given back; or the banks of a clone had a real fault, and all are
+-- given back, in order
+abbrev pub RefusesFounding : {B : Type 0} → (B → Meter) → List B → WorldFault → List B → Type 0
+RefusesFounding meter blanks faults.NoMemory banks = banks ≡ []
+RefusesFounding meter blanks (faults.Device clone) banks = MetersGoOn meter blanks banks × HasFailed meter clone blanks banks
+
+-- ---- the parts of founding
+
+-- a clone while the clones below this number are founded: it is as in the world of so many clones
+pub record IsFoundedTo {B : Type 0} (setup : Setup) (number place : ℕ) (state : BankedState B) : Type 0 where
+  pub memory : in_memory state ≡ founded_local setup.domain setup.properties number place
+  pub opened : IsOpenState state
+
+-- so are all clones, one by one
+pub record AreFoundedTo {B : Type 0} (setup : Setup) (number : ℕ) (clones : List (BankedState B)) : Type 0 where
+  pub count : length clones ≡ clone_count
+  pub each : (place : ℕ) (state : BankedState B) → HasState clones place state → IsFoundedTo setup number place state
+
+-- the clone of the number is absent
+abbrev pub IsAbsentAt : {B : Type 0} → List (BankedState B) → ℕ → Type 0
+IsAbsentAt {B = B} clones number = (banks : B) × HasState clones number (states.Absent banks)
+
+-- what the first clone's place holds once that clone was made, or was not
+pub record IsMadeFirst {B U : Type 0} (made : Result (BankedClone B) (MakeFault × B)) (told : BankedState B × Result U WorldFault) : Type 0 where
+  pub banks : banks_of_state told.0 ≡ banks_of_made made
+  pub ok : OnOk told.1 ((clone : BankedClone B) × (made ≡ Ok clone) × (told.0 ≡ states.Live clone))
+  pub err : IfErr told.1 (λ fault. (refused : MakeFault × B) × (made ≡ Err refused) × (fault ≡ fault_of_made 0 refused.0))
+
+-- the clone is open, isn't the one who asks, and its leaf may be forked
+pub record MayGive {B : Type 0} (asker : LocalAsker) (first : BankedClone B) : Type 0 where
+  pub opened : first.closed ≡ None
+  pub other : asker.id ≢ first.local.id
+  pub room : length first.local.path < path_limit
+
+-- one who asked lives at the leaf, open
+pub record LivesAtLeaf {B : Type 0} (asker : LocalAsker) (leaf : GiveValue) (state : BankedState B) : Type 0 where
+  pub clone : BankedClone B
+  pub is : state ≡ states.Live clone
+  pub opened : clone.closed ≡ None
+  pub local : clone.local ≡ joined_clone asker leaf
+
+-- a clone forked its leaf for one who asked, which lives at the right half, and both are open
+pub record TakesHalf {B : Type 0} (asker : LocalAsker) (was now : BankedClone B) (state : BankedState B) : Type 0 where
+  pub leaf : GiveValue
+  pub forks : LocallyForks was.local asker.id now.local leaf
+  pub opened : now.closed ≡ None
+  pub lives : LivesAtLeaf asker leaf state
+
+-- what became of one who asked the first clone, and of that clone: the leaf was given and taken, or the banks of one of them failed
+pub record JoinsBy {B U : Type 0} (meter : B → Meter) (number : ℕ) (asking : BankedAsker B) (was now : BankedClone B) (told : BankedState B × Result U WorldFault) : Type 0 where
+  pub giver : GoesOn (meter was.banks) (meter now.banks)
+  pub taker : GoesOn (meter asking.banks) (meter (banks_of_state told.0))
+  pub ok : OnOk told.1 (TakesHalf asking.asker was now told.0)
+  pub err : IfErr told.1 (λ fault. FailsAt 0 (meter was.banks) (meter now.banks) fault ⊎ FailsAt number (meter asking.banks) (meter (banks_of_state told.0)) fault)
+
+-- the first of the clones may give a leaf to the one who asks
+abbrev pub HasGiver : {B : Type 0} → LocalAsker → List (BankedState B) → Type 0
+HasGiver {B = B} asker clones = (first : BankedClone B) × HasState clones 0 (states.Live first) × MayGive asker first
+
+-- what became of one who asked the first of the clones, where no other one changed
+pub record JoinsFirst {B U : Type 0} (meter : B → Meter) (number : ℕ) (asking : BankedAsker B) (old new : List (BankedState B)) (told : BankedState B × Result U WorldFault) : Type 0 where
+  pub was : BankedClone B
+  pub now : BankedClone B
+  pub becomes : Becomes old new 0 (states.Live was) (states.Live now)
+  pub joins : JoinsBy meter number asking was now told

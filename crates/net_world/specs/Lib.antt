@@ -11,3 +11,8 @@ pub mod Comparing
 pub mod Commands
 pub mod WorldSummary
 pub mod SummaryLaws
+pub mod WorldBanks
+pub mod WorldFaults
+pub mod StoppedClones
+pub mod OpeningBanks
+pub mod WorldEnds

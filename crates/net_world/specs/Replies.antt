@@ -1,9 +1,10 @@
 -- What a reply is in the model, and how it is told.
 use Rattle.std.specs.Prelude.{◌≡◌, ℕ, ◌-◌, List, ◌++◌, Result, Ok, Err}
-use Rattle.std.specs.declared.alloc.AllocError.{AllocError}
+use Rattle.net_world.specs.declared.faults.WorldFault.{WorldFault}
 use Rattle.std.specs.List.{range_with_len}
 use Rattle.mld_model.specs.Reply as model
 use Rattle.schedule_model.specs.ReplyText.{reply_text}
+use Rattle.net_world.specs.declared.faults.WorldFault.TheVariants as faults
 use Rattle.net_world.specs.declared.replies.Reply.{Reply}
 use Rattle.net_world.specs.declared.replies.Reply.TheVariants as replies
 
@@ -35,8 +36,15 @@ reply_value replies.Absent = model.IsAbsent
 reply_value replies.Asking = model.IsAsking
 reply_value replies.Down = model.IsDown
 reply_value replies.Live = model.IsLive
+reply_value replies.Stopped = model.Stopped
+reply_value replies.Opened = model.Opened
 
 -- a reply was found, and its text was added
-abbrev pub TellsReply : Result Reply AllocError → List ℕ → List ℕ → Type 0
+abbrev pub TellsReply : Result Reply WorldFault → List ℕ → List ℕ → Type 0
 TellsReply (Ok reply) before after = after ≡ before ++ reply_text (reply_value reply)
 TellsReply (Err error) before after = ⊥
+
+-- no reply was found, and this is the fault; or there is no memory for its text
+abbrev pub FailsToTell : Result Reply WorldFault → WorldFault → Type 0
+FailsToTell (Ok reply) fault = fault ≡ faults.NoMemory
+FailsToTell (Err refused) fault = fault ≡ refused

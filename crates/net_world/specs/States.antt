@@ -1,13 +1,18 @@
 -- The states of a world's clones.
-use Rattle.std.specs.Prelude.{◌≡◌, ℕ, List, slice_get, Some}
+use Rattle.std.specs.Prelude.{◌≡◌, ℕ, List, slice_get, slice_set, Some}
 use Rattle.mld_model.specs.Reply.{Reply, IsAbsent, IsAsking, IsDown, IsLive}
 use Rattle.mld_model.specs.StandsFor.{RunningClone}
 use Rattle.mld_model.specs.declared.CloneState.TheVariants as states
 use Rattle.schedule_model.specs.WorldStep.{IsMissingReply}
 
 -- the clone of the number is in this state
-abbrev pub HasState : List RunningClone → ℕ → RunningClone → Type 0
+abbrev pub HasState : {X : Type 0} → List X → ℕ → X → Type 0
 HasState clones number state = slice_get clones number ≡ Some state
+
+-- the clone of the number was in one state, and is in another now; the others are as they were
+pub record Becomes {X : Type 0} (old new : List X) (number : ℕ) (before after : X) : Type 0 where
+  pub was : HasState old number before
+  pub now : new ≡ slice_set old number after
 
 -- the reply that says the state of a clone
 abbrev pub reply_of_state : RunningClone → Reply

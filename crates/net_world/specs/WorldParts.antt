@@ -1,16 +1,19 @@
 -- What a command makes of the parts of a running world.
-use Rattle.std.specs.Prelude.{◌≡◌, ℕ, ◌+◌, ◌<◌, map, length}
+use Rattle.std.specs.Prelude.{◌≡◌, ℕ, ◌+◌, ◌<◌, map, length, Option}
+use Rattle.mld_io.specs.Arm.{Meter}
+use Rattle.mld_io.specs.Disk.{Log}
 use Rattle.tree_clock.specs.Limits.{tick_limit}
 use Rattle.mld_ops.specs.Messages.{message_value}
-use Rattle.mld_model.specs.StandsFor.{RunningWorld}
 use Rattle.schedule_model.specs.declared.Command.{Command}
+use Rattle.net_world.specs.declared.faults.WorldFault.{WorldFault}
 use Rattle.net_world.specs.declared.parts.Parts.{Parts}
 use Rattle.net_world.specs.declared.replies.Reply.{Reply}
 use Rattle.net_world.specs.Replies.{reply_value}
-use Rattle.net_world.specs.Worlds.{IsStanding, Moves}
+use Rattle.net_world.specs.WorldBanks.{BankedWorld, banks_of_state, MetersGoOn, FailsAmong}
+use Rattle.net_world.specs.Worlds.{IsStanding, MovesOnBanks}
 
 -- the running world that has these parts, after so many steps
-abbrev pub running_of : Parts → ℕ → RunningWorld
+abbrev pub running_of : {B : Type 0} → Parts B → ℕ → BankedWorld B
 running_of parts steps = record {
   domain = parts.domain;
   properties = parts.properties.items;
@@ -20,17 +23,22 @@ running_of parts steps = record {
 }
 
 -- the parts stand for a sound world after so many steps that one more may be made
-pub record HasStepLeft (parts : Parts) : Type 0 where
+pub record HasStepLeft {B : Type 0} (log : B → Option Log) (parts : Parts B) : Type 0 where
   pub steps : ℕ
   pub few : steps < tick_limit
-  pub standing : IsStanding (running_of parts steps)
+  pub standing : IsStanding log (running_of parts steps)
 
--- what each command leaves as it was: the domain, and how many clones there are
-pub record KeepsDomain (old new : Parts) : Type 0 where
+-- what each command leaves as it was: the domain, how many clones there are, and each real fault of their banks
+pub record KeepsDomain {B : Type 0} (meter : B → Meter) (old new : Parts B) : Type 0 where
   pub domain : new.domain ≡ old.domain
   pub properties : new.properties ≡ old.properties
   pub count : length new.clones.items ≡ length old.clones.items
+  pub meters : MetersGoOn meter (map banks_of_state old.clones.items) (map banks_of_state new.clones.items)
+
+-- why a command was not done: the banks of a clone had a real fault, or memory ran out
+abbrev pub HasFaultCause : {B : Type 0} → (B → Meter) → Parts B → Parts B → WorldFault → Type 0
+HasFaultCause meter old new fault = FailsAmong meter old.clones.items new.clones.items fault
 
 -- the command was done, and this is its reply: it is the model's step with that reply, after any number of steps
-pub record Does (old : Parts) (command : Command) (new : Parts) (reply : Reply) : Type 0 where
-  pub moves : (steps : ℕ) → Moves (running_of old steps) command (reply_value reply) (running_of new (steps + 1))
+pub record Does {B : Type 0} (log : B → Option Log) (old : Parts B) (command : Command) (new : Parts B) (reply : Reply) : Type 0 where
+  pub moves : (steps : ℕ) → MovesOnBanks log (running_of old steps) command (reply_value reply) (running_of new (steps + 1))

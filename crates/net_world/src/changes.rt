@@ -1,16 +1,19 @@
 //! The commands `add` and `remove`.
-ghost use Rattle.std.specs.Prelude.{◌<◌, vec_len, map, true, false, IfOk};
+ghost use Rattle.std.specs.Prelude.{◌≡◌, ◌<◌, vec_len, map, None, true, false, IfOk, IfErr, OnOk};
 ghost use Rattle.tree_clock.specs.Limits.{tick_limit};
 ghost use Rattle.tree_clock.specs.Clock.{ticks_of};
 ghost use Rattle.mld_ops.specs.Messages.{message_value};
 ghost use Rattle.schedule_model.specs.declared.Command.TheVariants as commands;
 ghost use Rattle.net_world.specs.Changes.{SetsAs, SendsEntry};
-ghost use Rattle.net_world.specs.WorldParts.{HasStepLeft, KeepsDomain, Does};
+ghost use Rattle.net_world.specs.WorldParts.{HasStepLeft, KeepsDomain, HasFaultCause, Does};
+ghost use Rattle.net_world.specs.WorldBanks.{GoesOn, FailsAt};
 
+use crate::faults::WorldFault;
 use crate::parts::{Parts, send};
 use crate::replies::Reply;
 use crate::states::state_reply;
 use clone_core::{Done, MldClone, UpdateFault};
+use mld_io::{Banks, CrashBanks};
 use mld_model::CloneState;
 use mld_ops::{Entry, Message};
 use rdf_terms::Triple;
@@ -18,56 +21,65 @@ use std::alloc::{AllocError, Global};
 use tree_clock::Dot;
 
 /// Clone `number` inserts a triple.
-pub fn add(
+pub fn add<B: CrashBanks>(
     alloc: Global,
-    parts: &mut Parts,
+    parts: &mut Parts<B>,
     number: u8,
     triple: &Triple,
-) -> Result<Reply<'static>, AllocError>
-    requires left { HasStepLeft parts.old }
+) -> Result<Reply<'static>, WorldFault>
+    requires left { HasStepLeft B.log parts.old }
     requires number { number < vec_len parts.old.clones }
-    ensures keeps { KeepsDomain parts.old parts.new }
-    ensures done { IfOk result (Does parts.old (commands.Add number triple.now) parts.new) }
+    ensures keeps { KeepsDomain B.meter parts.old parts.new }
+    ensures done { IfOk result (Does B.log parts.old (commands.Add number triple.now) parts.new) }
+    ensures cause { IfErr result (HasFaultCause B.meter parts.old parts.new) }
 {
     match &mut parts.clones[usize::from(number)] {
-        CloneState::Live(clone) => set(alloc, clone, &mut parts.messages, triple, true),
+        CloneState::Live(clone) => set(alloc, number, clone, &mut parts.messages, triple, true),
         missing => Ok(state_reply(missing)),
     }
 }
 
 /// Clone `number` deletes the pairs of a triple.
-pub fn remove(
+pub fn remove<B: CrashBanks>(
     alloc: Global,
-    parts: &mut Parts,
+    parts: &mut Parts<B>,
     number: u8,
     triple: &Triple,
-) -> Result<Reply<'static>, AllocError>
-    requires left { HasStepLeft parts.old }
+) -> Result<Reply<'static>, WorldFault>
+    requires left { HasStepLeft B.log parts.old }
     requires number { number < vec_len parts.old.clones }
-    ensures keeps { KeepsDomain parts.old parts.new }
-    ensures done { IfOk result (Does parts.old (commands.Remove number triple.now) parts.new) }
+    ensures keeps { KeepsDomain B.meter parts.old parts.new }
+    ensures done { IfOk result (Does B.log parts.old (commands.Remove number triple.now) parts.new) }
+    ensures cause { IfErr result (HasFaultCause B.meter parts.old parts.new) }
 {
     match &mut parts.clones[usize::from(number)] {
-        CloneState::Live(clone) => set(alloc, clone, &mut parts.messages, triple, false),
+        CloneState::Live(clone) => set(alloc, number, clone, &mut parts.messages, triple, false),
         missing => Ok(state_reply(missing)),
     }
 }
 
 /// A live clone makes the operation that inserts a triple, or the one that deletes the pairs of it, and its entry is sent.
-fn set(
+fn set<B: CrashBanks>(
     alloc: Global,
-    clone: &mut MldClone,
+    number: u8,
+    clone: &mut MldClone<B>,
     messages: &mut Vec<Message>,
     triple: &Triple,
     present: bool,
-) -> Result<Reply<'static>, AllocError>
-    requires { ticks_of clone.old.local.ticks clone.old.local.path < tick_limit }
-    ensures { IfOk result (SetsAs clone.old.local (map message_value messages.old.items) triple.now present clone.new.local (map message_value messages.new.items)) }
+) -> Result<Reply<'static>, WorldFault>
+    requires opened { clone.old.closed ≡ None }
+    requires ticks { ticks_of clone.old.local.ticks clone.old.local.path < tick_limit }
+    ensures opened { OnOk result (clone.new.closed ≡ None) }
+    ensures meter { GoesOn (B.meter clone.old.banks) (B.meter clone.new.banks) }
+    ensures cause { IfErr result (FailsAt number (B.meter clone.old.banks) (B.meter clone.new.banks)) }
+    ensures done { IfOk result (SetsAs clone.old.local (map message_value messages.old.items) triple.now present clone.new.local (map message_value messages.new.items)) }
 {
     match clone.set(alloc, triple, present) {
         Ok(Done::Nothing) => Ok(Reply::NoOperation),
-        Ok(Done::Made(entry)) => send_entry(messages, entry),
-        Err(UpdateFault::NoMemory) => Err(AllocError),
+        Ok(Done::Made(entry)) => Ok(send_entry(messages, entry)?),
+        Err(UpdateFault::NoMemory) => Err(WorldFault::NoMemory),
+        Err(UpdateFault::Device) => Err(WorldFault::Device { clone: number }),
+        Err(UpdateFault::Closed { .. }) => unreachable!(),
         Err(UpdateFault::TicksSpent) => unreachable!(),
     }
 }

@@ -1,36 +1,41 @@
 //! Commands: each has a function of its name in a file of its own, which gives its reply.
-ghost use Rattle.std.specs.Prelude.{◌≡◌, vec_len, OnOk};
+ghost use Rattle.std.specs.Prelude.{◌≡◌, vec_len, IfErr, OnOk};
 ghost use Rattle.mld_model.specs.Local.{IsNamed};
 ghost use Rattle.mld_model.specs.World.{clone_count};
 ghost use Rattle.schedule_model.specs.Step.{HasCloneNumbers};
 ghost use Rattle.net_world.specs.Commands.{Answered};
-ghost use Rattle.net_world.specs.WorldParts.{HasStepLeft, KeepsDomain};
+ghost use Rattle.net_world.specs.WorldParts.{HasStepLeft, HasFaultCause, KeepsDomain};
 
 use crate::changes::{add, remove};
 use crate::compare::compare;
 use crate::deliver::deliver;
+use crate::faults::WorldFault;
 use crate::join::join;
+use crate::opening::open;
 use crate::parts::Parts;
 use crate::replies::tell;
 use crate::show::show;
+use crate::stopping::stop;
+use mld_io::{Banks, CrashBanks};
 use schedule_model::Command;
-use std::alloc::{AllocError, Global};
+use std::alloc::Global;
 use std::thread::Threads;
 
 /// Does a command, and adds the text of its reply to the output.
-pub fn answer<R: Threads>(
+pub fn answer<R: Threads, B: CrashBanks>(
     rt: &R,
     alloc: Global,
-    parts: &mut Parts,
+    parts: &mut Parts<B>,
     command: &Command,
     out: &mut Vec<u8>,
-) -> Result<(), AllocError>
-    requires left { HasStepLeft parts.old }
+) -> Result<(), WorldFault>
+    requires left { HasStepLeft B.log parts.old }
     requires count { vec_len parts.old.clones ≡ clone_count }
     requires named { IsNamed parts.old.domain parts.old.properties.items }
     requires numbers { HasCloneNumbers command.now }
-    ensures keeps { KeepsDomain parts.old parts.new }
-    ensures done { OnOk result (Answered parts.old command.now parts.new out.old.items out.new.items) }
+    ensures keeps { KeepsDomain B.meter parts.old parts.new }
+    ensures done { OnOk result (Answered B.log parts.old command.now parts.new out.old.items out.new.items) }
+    ensures cause { IfErr result (HasFaultCause B.meter parts.old parts.new) }
 {
     match command {
         Command::Add(number, triple) => tell(alloc, out, add(alloc, parts, *number, triple)),
@@ -39,6 +44,8 @@ pub fn answer<R: Threads>(
             tell(alloc, out, deliver(rt, alloc, parts, *message, *number))
         }
         Command::Join(number) => tell(alloc, out, join(alloc, parts, *number)),
+        Command::Stop(number) => tell(alloc, out, Ok(stop(parts, *number))),
+        Command::Open(number) => tell(alloc, out, open(alloc, parts, *number)),
         Command::Show(number) => tell(alloc, out, Ok(show(parts, *number))),
         Command::Compare(number, other) => tell(alloc, out, Ok(compare(parts, *number, *other))),
     }

@@ -8,12 +8,13 @@ use crate::parts::Parts;
 use crate::replies::Reply;
 use crate::states::live_at;
 use clone_core::{Covering, MldClone};
+use mld_io::{Banks, CrashBanks};
 
 /// How the dots compare that clones `number` and `other` know.
-pub fn compare<'a>(parts: &'a Parts, number: u8, other: u8) -> Reply<'a>
+pub fn compare<'a, B: CrashBanks>(parts: &'a Parts<B>, number: u8, other: u8) -> Reply<'a>
     requires first { number < vec_len parts.now.clones }
     requires second { other < vec_len parts.now.clones }
-    ensures { Does parts.now (commands.Compare number other) parts.now result }
+    ensures { Does B.log parts.now (commands.Compare number other) parts.now result }
 {
     let first = match live_at(parts.clones.as_slice(), number) {
         Ok(first) => first,
@@ -26,7 +27,7 @@ pub fn compare<'a>(parts: &'a Parts, number: u8, other: u8) -> Reply<'a>
 }
 
 /// How the dots compare that two live clones know.
-fn compared(first: &MldClone, second: &MldClone) -> Reply<'static>
+fn compared<B: CrashBanks>(first: &MldClone<B>, second: &MldClone<B>) -> Reply<'static>
     ensures { IsHowTheyCompare first.now.local second.now.local result }
 {
     match first.compare(second) {

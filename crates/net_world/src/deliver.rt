@@ -1,22 +1,28 @@
 //! The command `deliver`.
-ghost use Rattle.std.specs.Prelude.{◌≡◌, ◌<◌, vec_len, map, option_copied, IfOk};
+ghost use Rattle.std.specs.Prelude.{◌≡◌, ◌<◌, None, vec_len, map, option_copied, IfOk, IfErr, OnOk};
 ghost use Rattle.mld_ops.specs.Entry.{EntryValue};
 ghost use Rattle.mld_ops.specs.Messages.{message_value, IsGoodMessage};
-ghost use Rattle.mld_ops.specs.declared.messages.Message.TheVariants as kinds;
+ghost use Rattle.mld_ops.specs.declared.messages.Message.TheVariants as messages;
+ghost use Rattle.mld_model.specs.declared.CloneState.TheVariants as kinds;
 ghost use Rattle.mld_model.specs.Local.{IsForeign};
 ghost use Rattle.schedule_model.specs.declared.Command.TheVariants as commands;
-ghost use Rattle.net_world.specs.Delivering.{IsFitFor, IsAsking, ReceivesAt, ReceivesLive, ReceivesAsking, SendsAnswers};
+ghost use Rattle.clone_core.specs.Banked.{BankedAsker};
+ghost use Rattle.net_world.specs.Delivering.{IsFitFor, ReceivesAt, ReceivesLive, IsToldOf, SendsAnswers};
+ghost use Rattle.net_world.specs.States.{HasState};
+ghost use Rattle.net_world.specs.WorldBanks.{in_memory, banks_of_state, MetersGoOn, GoesOn, FailsAt, FailsAmong, IsCarriedAt};
 ghost use Rattle.mld_model.specs.World.{numbered};
-ghost use Rattle.net_world.specs.WorldParts.{HasStepLeft, KeepsDomain, Does};
+ghost use Rattle.net_world.specs.declared.faults.WorldFault.TheVariants.{NoMemory};
+ghost use Rattle.net_world.specs.WorldParts.{HasStepLeft, KeepsDomain, HasFaultCause, Does};
 
+use crate::faults::{WorldFault, made_fault};
 use crate::parts::Parts;
 use crate::replies::Reply;
-use crate::states::{RunningClone, state_reply};
+use crate::states::{RunningClone, put_state, state_reply, take_state};
 use clone_core::{Adopted, Got, MldClone, ReceiveFault};
-use mld_model::{CloneState, NoDevice};
+use mld_io::{Banks, CrashBanks};
+use mld_model::CloneState;
 use mld_ops::{Message, Messages};
-use std::alloc::{AllocError, Global};
-use std::mem;
+use std::alloc::Global;
 use std::thread::Threads;
 
 /// What a clone does with a message.
@@ -29,17 +35,18 @@ enum Received {
 }
 
 /// Message `message` comes to clone `number`.
-pub fn deliver<R: Threads>(
+pub fn deliver<R: Threads, B: CrashBanks>(
     rt: &R,
     alloc: Global,
-    parts: &mut Parts,
+    parts: &mut Parts<B>,
     message: u64,
     number: u8,
-) -> Result<Reply<'static>, AllocError>
-    requires left { HasStepLeft parts.old }
+) -> Result<Reply<'static>, WorldFault>
+    requires left { HasStepLeft B.log parts.old }
     requires number { number < vec_len parts.old.clones }
-    ensures keeps { KeepsDomain parts.old parts.new }
-    ensures done { IfOk result (Does parts.old (commands.Deliver message number) parts.new) }
+    ensures keeps { KeepsDomain B.meter parts.old parts.new }
+    ensures done { IfOk result (Does B.log parts.old (commands.Deliver message number) parts.new) }
+    ensures cause { IfErr result (HasFaultCause B.meter parts.old parts.new) }
 {
     let Some(message) = message_at(parts.messages.as_slice(), message) else {
         return Ok(Reply::NoMessage);
@@ -60,40 +67,42 @@ fn message_at(messages: &[Message], number: u64) -> Option<&Message>
 }
 
 /// Clone `number` receives a message.
-fn receive_at<R: Threads>(
+fn receive_at<R: Threads, B: CrashBanks>(
     rt: &R,
     alloc: Global,
-    clones: &mut Vec<RunningClone>,
+    clones: &mut Vec<RunningClone<B>>,
     number: u8,
     message: &Message,
-) -> Result<Received, AllocError>
+) -> Result<Received, WorldFault>
     requires number { number < vec_len clones.old }
     requires fit { IsFitFor clones.old.items number (message_value message.now) }
-    ensures count { vec_len clones.new ≡ vec_len clones.old }
-    ensures ok { IfOk result (ReceivesAt clones.old.items clones.new.items number message.now) }
+    ensures ok { IfOk result (ReceivesAt (map in_memory clones.old.items) (map in_memory clones.new.items) number message.now) }
+    ensures carried { OnOk result (IsCarriedAt clones.old.items clones.new.items number) }
+    ensures meters { MetersGoOn B.meter (map banks_of_state clones.old.items) (map banks_of_state clones.new.items) }
+    ensures cause { IfErr result (FailsAmong B.meter clones.old.items clones.new.items) }
 {
     match &mut clones[usize::from(number)] {
-        CloneState::Live(clone) => receive_live(rt, alloc, clone, message),
-        CloneState::Asking(_) => receive_asking(
-            rt,
-            alloc,
-            &mut clones[usize::from(number)],
-            message,
-        ),
+        CloneState::Live(clone) => receive_live(rt, alloc, number, clone, message),
+        CloneState::Asking(_) => receive_asking(rt, alloc, clones, number, message),
         away => Ok(Received::Told(state_reply(away))),
     }
 }
 
 /// A live clone receives a message.
-fn receive_live<R: Threads>(
+fn receive_live<R: Threads, B: CrashBanks>(
     rt: &R,
     alloc: Global,
-    clone: &mut MldClone,
+    number: u8,
+    clone: &mut MldClone<B>,
     message: &Message,
-) -> Result<Received, AllocError>
-    requires own { (entry : EntryValue) → message.now ≡ kinds.Range entry → ¬ IsForeign clone.old.local entry }
+) -> Result<Received, WorldFault>
+    requires own { (entry : EntryValue) → message.now ≡ messages.Range entry → ¬ IsForeign clone.old.local entry }
+    requires opened { clone.old.closed ≡ None }
     requires good { IsGoodMessage (message_value message.now) }
-    ensures { IfOk result (ReceivesLive clone.old.local message.now clone.new.local) }
+    ensures ok { IfOk result (ReceivesLive clone.old.local message.now clone.new.local) }
+    ensures opened { OnOk result (clone.new.closed ≡ None) }
+    ensures meter { GoesOn (B.meter clone.old.banks) (B.meter clone.new.banks) }
+    ensures cause { IfErr result (FailsAt number (B.meter clone.old.banks) (B.meter clone.new.banks)) }
 {
     match clone.receive(rt, alloc, message) {
         Ok(Got::Took(ranges)) => Ok(Received::Told(Reply::Took(ranges))),
@@ -103,36 +112,58 @@ fn receive_live<R: Threads>(
         Ok(Got::Answer(answers)) => Ok(Received::Sends(answers)),
         Err(ReceiveFault::HeldFull) => Ok(Received::Told(Reply::HeldFull)),
         Err(ReceiveFault::Deep) => Ok(Received::Told(Reply::Deep)),
-        Err(ReceiveFault::NoMemory) => Err(AllocError),
+        Err(ReceiveFault::NoMemory) => Err(WorldFault::NoMemory),
+        Err(ReceiveFault::Device) => Err(WorldFault::Device { clone: number }),
+        Err(ReceiveFault::Closed { .. }) => unreachable!(),
         Err(ReceiveFault::ForeignTick { .. }) => unreachable!(),
     }
 }
 
-/// One who asks for a leaf receives a message.
-fn receive_asking<R: Threads>(
+/// Clone `number`, which asks for a leaf, receives a message.
+fn receive_asking<R: Threads, B: CrashBanks>(
     rt: &R,
     alloc: Global,
-    state: &mut RunningClone,
+    clones: &mut Vec<RunningClone<B>>,
+    number: u8,
     message: &Message,
-) -> Result<Received, AllocError>
-    requires asking { IsAsking state.old }
+) -> Result<Received, WorldFault>
+    requires asks { (asking : BankedAsker B) × HasState clones.old.items number (kinds.Asking asking) }
     requires good { IsGoodMessage (message_value message.now) }
-    ensures { IfOk result (ReceivesAsking state.old state.new message.now) }
+    ensures ok { IfOk result (ReceivesAt (map in_memory clones.old.items) (map in_memory clones.new.items) number message.now) }
+    ensures carried { OnOk result (IsCarriedAt clones.old.items clones.new.items number) }
+    ensures meters { MetersGoOn B.meter (map banks_of_state clones.old.items) (map banks_of_state clones.new.items) }
+    ensures cause { IfErr result (FailsAmong B.meter clones.old.items clones.new.items) }
 {
-    let CloneState::Asking(asker) = mem::replace(state, CloneState::Absent(NoDevice)) else {
+    let CloneState::Asking(asker) = take_state(clones, number) else {
         unreachable!()
     };
-    match asker.receive(rt, alloc, message) {
+    let (state, received) = told_of(number, asker.receive(rt, alloc, message));
+    put_state(clones, number, state);
+    received
+}
+
+/// What one who asked is now, and its answer.
+fn told_of<B: CrashBanks>(
+    number: u8,
+    adopted: Adopted<B>,
+) -> (RunningClone<B>, Result<Received, WorldFault>)
+    ensures { IsToldOf number adopted result }
+{
+    match adopted {
         Adopted::Joined(clone) => {
             let path = clone.path();
-            *state = CloneState::Live(clone);
-            Ok(Received::Told(Reply::Joined(path)))
+            (
+                CloneState::Live(clone),
+                Ok(Received::Told(Reply::Joined(path))),
+            )
         }
-        Adopted::Ignored(asker) => {
-            *state = CloneState::Asking(asker);
-            Ok(Received::Told(Reply::Ignored))
+        Adopted::Ignored(asker) => (
+            CloneState::Asking(asker),
+            Ok(Received::Told(Reply::Ignored)),
+        ),
+        Adopted::Refused(fault, banks) => {
+            (CloneState::Down(banks), Err(made_fault(number, fault)))
         }
-        Adopted::Refused(_) => Err(AllocError),
     }
 }
 
@@ -140,8 +171,9 @@ fn receive_asking<R: Threads>(
 fn send_answers(
     messages: &mut Vec<Message>,
     answers: Messages,
-) -> Result<Reply<'static>, AllocError>
-    ensures { IfOk result (SendsAnswers (map message_value messages.old.items) answers (map message_value messages.new.items)) }
+) -> Result<Reply<'static>, WorldFault>
+    ensures sent { IfOk result (SendsAnswers (map message_value messages.old.items) answers (map message_value messages.new.items)) }
+    ensures memory { IfErr result (λ fault. fault ≡ NoMemory) }
 {
     let first = messages.len() + 1;
     let end = first + answers.len();

@@ -1,110 +1,241 @@
 //! Founding: the first clone is made at the root, and each other one asks it for a leaf, gets one, and lives at it.
-ghost use Rattle.std.specs.Prelude.{◌≡◌, ◌≢◌, ◌+◌, ◌<◌, ◌≤◌, length, map, IfOk, OnOk};
-ghost use Rattle.std.specs.List.{range_with_len};
-ghost use Rattle.tree_clock.specs.Limits.{path_limit};
+ghost use Rattle.std.specs.Prelude.{◌≡◌, ◌+◌, ◌<◌, ◌≤◌, [], None, insert, map, slice_set, vec_len, vec_capacity, IfOk, IfErr, OnOk};
 ghost use Rattle.mld_ops.specs.Messages.{GiveValue};
-ghost use Rattle.mld_model.specs.Local.{joined_clone};
-ghost use Rattle.mld_model.specs.StandsFor.{founded_local};
 ghost use Rattle.mld_model.specs.World.{clone_count};
+ghost use Rattle.mld_model.specs.declared.CloneState.TheVariants as kinds;
 ghost use Rattle.schedule_model.specs.Schedule.{IsSetup};
-ghost use Rattle.clone_core.specs.Joining.{LocallyGives};
-ghost use Rattle.net_world.specs.Founding.{first_before, GivesLeaf};
+ghost use Rattle.clone_core.specs.Joining.{LocallyGives, AreGood};
+ghost use Rattle.net_world.specs.Founding.{GivesLeaf, AreFounded, AreFoundedTo, RefusesFounding, IsAbsentAt, IsMadeFirst, MayGive, LivesAtLeaf, JoinsBy, HasGiver, JoinsFirst};
 ghost use Rattle.net_world.specs.ReadLines.{setup_of};
+ghost use Rattle.net_world.specs.States.{HasState};
+ghost use Rattle.net_world.specs.WorldBanks.{BankedState, banks_of_state, GoesOn, MetersGoOn, FailsAt, FailsAmong};
 
+use crate::faults::{WorldFault, made_fault};
 use crate::lines::Setup;
-use crate::states::{RunningClone, copy_properties, id_of, new_asker};
+use crate::states::{RunningClone, copy_named, id_of, new_asker, put_state, take_state};
+use crate::stopping::stop_all;
 use clone_core::{Adopted, Asker, Got, MldClone, ReceiveFault};
-use mld_model::{CLONE_COUNT, CloneState, NoDevice};
+use journal_store::{Blank, MakeFault};
+use mld_io::{Banks, CrashBanks};
+use mld_model::CloneState;
 use mld_ops::Messages;
 use std::alloc::{AllocError, Global};
 use std::thread::Threads;
 
-/// The clones of the founded world, absent ones with them.
-pub fn founded_clones<R: Threads>(
+/// The clones of the founded world, absent ones with them, each on banks of its own. Where the device of a clone fails, all banks are
+/// given back, in order; where memory runs out, none are.
+pub fn found_clones<R: Threads, B: CrashBanks>(
     rt: &R,
     alloc: Global,
     setup: &Setup,
-) -> Result<Vec<RunningClone>, AllocError>
-    requires { IsSetup (setup_of setup.now) }
-    ensures { IfOk result (λ clones. clones.items ≡ map (founded_local setup.now.domain setup.now.props.items setup.now.clones) (range_with_len 0 clone_count)) }
+    blanks: Vec<Blank<B>>,
+) -> Result<Vec<RunningClone<B>>, (WorldFault, Vec<B>)>
+    requires setup { IsSetup (setup_of setup.now) }
+    requires count { vec_len blanks ≡ clone_count }
+    ensures ok { IfOk result (λ clones. AreFounded (setup_of setup.now) clones.items) }
+    ensures meters { IfOk result (λ clones. MetersGoOn B.meter blanks.items (map banks_of_state clones.items)) }
+    ensures err { IfErr result (λ refused. RefusesFounding B.meter blanks.items refused.0 refused.1.items) }
 {
-    let mut first = first_clone(alloc, setup)?;
-    let mut others = Vec::new(alloc);
-    for number in 1..CLONE_COUNT {
-        others.push(other_clone(rt, alloc, setup, &mut first, number)?)?;
+    let Ok((mut clones, mut back)) = absent_clones(alloc, blanks) else {
+        return Err((WorldFault::NoMemory, Vec::new(alloc)));
+    };
+    match found_each(rt, alloc, setup, &mut clones) {
+        Ok(()) => Ok(clones),
+        Err(WorldFault::NoMemory) => Err((WorldFault::NoMemory, Vec::new(alloc))),
+        Err(WorldFault::Device { clone }) => {
+            stop_all(clones, &mut back);
+            Err((WorldFault::Device { clone }, back))
+        }
     }
-    let mut clones = Vec::new(alloc);
-    clones.push(CloneState::Live(first))?;
-    clones.append(&mut others)?;
-    Ok(clones)
 }
 
-/// The first clone, which has the whole leaf.
-fn first_clone(alloc: Global, setup: &Setup) -> Result<MldClone, AllocError>
-    requires { IsSetup (setup_of setup.now) }
-    ensures { IfOk result (λ clone. clone.local ≡ first_before (setup_of setup.now) 1) }
+/// Absent clones on these banks, and room for the banks, should they be given back.
+fn absent_clones<B: CrashBanks>(
+    alloc: Global,
+    blanks: Vec<Blank<B>>,
+) -> Result<(Vec<RunningClone<B>>, Vec<B>), AllocError>
+    ensures clones { IfOk result (λ made. made.0.items ≡ map (λ banks. kinds.Absent banks) blanks.items) }
+    ensures back { IfOk result (λ made. made.1.items ≡ []) }
+    ensures room { IfOk result (λ made. vec_len blanks ≤ vec_capacity made.1) }
 {
-    let domain = setup.domain.copy_in(alloc)?;
-    let properties = copy_properties(alloc, setup.props.as_slice())?;
-    Ok(MldClone::genesis(alloc, id_of(0), domain, properties))
+    let back = Vec::with_capacity(alloc, blanks.len())?;
+    let mut clones = Vec::with_capacity(alloc, blanks.len())?;
+    for blank in blanks {
+        clones.push_reserved(CloneState::Absent(blank));
+    }
+    Ok((clones, back))
 }
 
-/// The clone of a number that isn't the first, where the world has one of it: it asks the first one for a leaf, and takes what
-/// that gives.
-fn other_clone<R: Threads>(
+/// Founds as many of the absent clones as the setup says, one after another.
+fn found_each<R: Threads, B: CrashBanks>(
     rt: &R,
     alloc: Global,
     setup: &Setup,
-    first: &mut MldClone,
+    clones: &mut Vec<RunningClone<B>>,
+) -> Result<(), WorldFault>
+    requires setup { IsSetup (setup_of setup.now) }
+    requires absent { AreFoundedTo (setup_of setup.now) 0 clones.old.items }
+    ensures ok { OnOk result (AreFoundedTo (setup_of setup.now) setup.now.clones clones.new.items) }
+    ensures meters { MetersGoOn B.meter (map banks_of_state clones.old.items) (map banks_of_state clones.new.items) }
+    ensures err { IfErr result (FailsAmong B.meter clones.old.items clones.new.items) }
+{
+    found_first(alloc, setup, clones)?;
+    for number in 1..setup.clones {
+        found_other(rt, alloc, setup, clones, number)?;
+    }
+    Ok(())
+}
+
+/// The first clone has the whole leaf.
+fn found_first<B: CrashBanks>(
+    alloc: Global,
+    setup: &Setup,
+    clones: &mut Vec<RunningClone<B>>,
+) -> Result<(), WorldFault>
+    requires setup { IsSetup (setup_of setup.now) }
+    requires absent { AreFoundedTo (setup_of setup.now) 0 clones.old.items }
+    ensures ok { OnOk result (AreFoundedTo (setup_of setup.now) 1 clones.new.items) }
+    ensures meters { MetersGoOn B.meter (map banks_of_state clones.old.items) (map banks_of_state clones.new.items) }
+    ensures err { IfErr result (FailsAmong B.meter clones.old.items clones.new.items) }
+{
+    let named = copy_named(alloc, &setup.domain, setup.props.as_slice())?;
+    let blank = take_blank(clones, 0);
+    let genesis = MldClone::genesis(alloc, blank, id_of(0), named.domain, named.properties);
+    let (state, done) = first_of(genesis);
+    put_state(clones, 0, state);
+    done
+}
+
+/// Takes the banks of clone `number` out, which is absent: a state has to come back (`put_state`).
+fn take_blank<B: CrashBanks>(clones: &mut Vec<RunningClone<B>>, number: u8) -> Blank<B>
+    requires { IsAbsentAt clones.old.items number }
+    ensures was { HasState clones.old.items number (kinds.Absent result) }
+    ensures back { (state : BankedState B) → insert clones.new.items number state ≡ slice_set clones.old.items number state }
+    ensures len { vec_len clones.new + 1 ≡ vec_len clones.old }
+    ensures room { vec_len clones.new < vec_capacity clones.new }
+{
+    let CloneState::Absent(blank) = take_state(clones, number) else {
+        unreachable!()
+    };
+    blank
+}
+
+/// What is in the place of the first clone once that was made, or was not.
+fn first_of<B: CrashBanks>(
+    made: Result<MldClone<B>, (MakeFault, B)>,
+) -> (RunningClone<B>, Result<(), WorldFault>)
+    ensures { IsMadeFirst made result }
+{
+    match made {
+        Ok(clone) => (CloneState::Live(clone), Ok(())),
+        Err((fault, banks)) => (CloneState::Down(banks), Err(made_fault(0, fault))),
+    }
+}
+
+/// A clone that isn't the first asks the first one for a leaf, and takes what that gives.
+fn found_other<R: Threads, B: CrashBanks>(
+    rt: &R,
+    alloc: Global,
+    setup: &Setup,
+    clones: &mut Vec<RunningClone<B>>,
     number: u8,
-) -> Result<RunningClone, AllocError>
+) -> Result<(), WorldFault>
     requires setup { IsSetup (setup_of setup.now) }
     requires some { 1 ≤ number }
-    requires below { number < clone_count }
-    requires first { first.old.local ≡ first_before (setup_of setup.now) number }
-    ensures first { OnOk result (first.new.local ≡ first_before (setup_of setup.now) (number + 1)) }
-    ensures clone { IfOk result (λ clone. clone ≡ founded_local setup.now.domain setup.now.props.items setup.now.clones number) }
+    requires below { number < setup.now.clones }
+    requires founded { AreFoundedTo (setup_of setup.now) number clones.old.items }
+    ensures ok { OnOk result (AreFoundedTo (setup_of setup.now) (number + 1) clones.new.items) }
+    ensures meters { MetersGoOn B.meter (map banks_of_state clones.old.items) (map banks_of_state clones.new.items) }
+    ensures err { IfErr result (FailsAmong B.meter clones.old.items clones.new.items) }
 {
-    if number >= setup.clones {
-        return Ok(CloneState::Absent(NoDevice));
+    let named = copy_named(alloc, &setup.domain, setup.props.as_slice())?;
+    let blank = take_blank(clones, number);
+    let asker = new_asker(blank, named, number);
+    let (state, done) = join_first(rt, alloc, clones, number, asker);
+    put_state(clones, number, state);
+    done
+}
+
+/// What becomes of one who asks the first clone for a leaf.
+fn join_first<R: Threads, B: CrashBanks>(
+    rt: &R,
+    alloc: Global,
+    clones: &mut Vec<RunningClone<B>>,
+    number: u8,
+    asker: Asker<B>,
+) -> (RunningClone<B>, Result<(), WorldFault>)
+    requires { HasGiver asker.asker clones.old.items }
+    ensures joins { JoinsFirst B.meter number asker clones.old.items clones.new.items result }
+    ensures len { vec_len clones.new ≡ vec_len clones.old }
+    ensures capacity { vec_capacity clones.new ≡ vec_capacity clones.old }
+{
+    let CloneState::Live(first) = &mut clones[0] else {
+        unreachable!()
+    };
+    join(rt, alloc, first, number, asker)
+}
+
+/// What becomes of one who asks a clone for a leaf.
+fn join<R: Threads, B: CrashBanks>(
+    rt: &R,
+    alloc: Global,
+    first: &mut MldClone<B>,
+    number: u8,
+    asker: Asker<B>,
+) -> (RunningClone<B>, Result<(), WorldFault>)
+    requires { MayGive asker.asker first.old }
+    ensures { JoinsBy B.meter number asker first.old first.new result }
+{
+    match given_leaf(rt, alloc, first, &asker) {
+        Ok(answer) => taken_leaf(rt, alloc, number, asker, &answer),
+        Err(fault) => (CloneState::Asking(asker), Err(fault)),
     }
-    let asker = new_asker(alloc, &setup.domain, setup.props.as_slice(), number)?;
-    let answer = given_leaf(rt, alloc, first, &asker)?;
-    Ok(CloneState::Live(taken_leaf(rt, alloc, asker, &answer)?))
 }
 
 /// What the first clone answers to the question of one who asks: a leaf, and all that it has.
-fn given_leaf<R: Threads>(
+fn given_leaf<R: Threads, B: CrashBanks>(
     rt: &R,
     alloc: Global,
-    first: &mut MldClone,
-    asker: &Asker,
-) -> Result<Messages, AllocError>
-    requires other { asker.now.id ≢ first.old.local.id }
-    requires room { length first.old.local.path < path_limit }
-    ensures { IfOk result (λ messages. LocallyGives first.old.local asker.now.id messages first.new.local) }
+    first: &mut MldClone<B>,
+    asker: &Asker<B>,
+) -> Result<Messages, WorldFault>
+    requires { MayGive asker.now.asker first.old }
+    ensures gives { IfOk result (λ messages. LocallyGives first.old.local asker.now.asker.id messages first.new.local) }
+    ensures good { IfOk result (λ messages. AreGood messages) }
+    ensures opened { OnOk result (first.new.closed ≡ None) }
+    ensures meter { GoesOn (B.meter first.old.banks) (B.meter first.new.banks) }
+    ensures err { IfErr result (FailsAt 0 (B.meter first.old.banks) (B.meter first.new.banks)) }
 {
     match first.receive(rt, alloc, &asker.ask()) {
         Ok(Got::Answer(messages)) => Ok(messages),
         Ok(_) => unreachable!(),
-        Err(ReceiveFault::NoMemory) => Err(AllocError),
-        Err(_) => unreachable!(),
+        Err(ReceiveFault::NoMemory) => Err(WorldFault::NoMemory),
+        Err(ReceiveFault::Device) => Err(WorldFault::Device { clone: 0 }),
+        Err(ReceiveFault::Closed { .. }) => unreachable!(),
+        Err(ReceiveFault::ForeignTick { .. }) => unreachable!(),
+        Err(ReceiveFault::HeldFull) => unreachable!(),
+        Err(ReceiveFault::Deep) => unreachable!(),
     }
 }
 
 /// The clone of one who asked and takes the leaf that the one message gives.
-fn taken_leaf<R: Threads>(
+fn taken_leaf<R: Threads, B: CrashBanks>(
     rt: &R,
     alloc: Global,
-    asker: Asker,
+    number: u8,
+    asker: Asker<B>,
     answer: &Messages,
-) -> Result<MldClone, AllocError>
-    requires { (leaf : GiveValue) × GivesLeaf answer.now asker leaf }
-    ensures { IfOk result (λ clone. (leaf : GiveValue) → GivesLeaf answer.now asker leaf → clone.local ≡ joined_clone asker leaf) }
+) -> (RunningClone<B>, Result<(), WorldFault>)
+    requires { (leaf : GiveValue) × GivesLeaf answer.now asker.asker leaf }
+    ensures taken { OnOk result.1 ((leaf : GiveValue) → GivesLeaf answer.now asker.asker leaf → LivesAtLeaf asker.asker leaf result.0) }
+    ensures meter { GoesOn (B.meter asker.banks) (B.meter (banks_of_state result.0)) }
+    ensures err { IfErr result.1 (FailsAt number (B.meter asker.banks) (B.meter (banks_of_state result.0))) }
 {
     match asker.receive(rt, alloc, &answer.as_slice()[0]) {
-        Adopted::Joined(clone) => Ok(clone),
-        Adopted::Refused(_) => Err(AllocError),
+        Adopted::Joined(clone) => (CloneState::Live(clone), Ok(())),
+        Adopted::Refused(fault, banks) => {
+            (CloneState::Down(banks), Err(made_fault(number, fault)))
+        }
         Adopted::Ignored(_) => unreachable!(),
     }
 }

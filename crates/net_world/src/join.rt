@@ -1,63 +1,75 @@
 //! The command `join`.
-ghost use Rattle.std.specs.Prelude.{◌≡◌, ◌<◌, vec_len, map, IsTrue, IfOk};
+ghost use Rattle.std.specs.Prelude.{◌≡◌, ◌<◌, vec_len, map, IsTrue, IfOk, IfErr};
 ghost use Rattle.iri_rules.specs.Domain.{is_domain};
 ghost use Rattle.mld_ops.specs.Messages.{message_value};
 ghost use Rattle.mld_model.specs.Local.{IsNamed};
+ghost use Rattle.mld_model.specs.declared.CloneState.TheVariants as kinds;
 ghost use Rattle.schedule_model.specs.declared.Command.TheVariants as commands;
 ghost use Rattle.net_world.specs.Asking.{AsksFirst, SendsQuestion};
-ghost use Rattle.net_world.specs.WorldParts.{KeepsDomain, Does};
+ghost use Rattle.net_world.specs.States.{HasState};
+ghost use Rattle.net_world.specs.declared.faults.WorldFault.TheVariants.{NoMemory};
+ghost use Rattle.net_world.specs.WorldParts.{KeepsDomain, HasFaultCause, Does};
 
+use crate::faults::WorldFault;
 use crate::parts::{Parts, send};
 use crate::replies::Reply;
-use crate::states::{RunningClone, new_asker, state_reply};
-use iri_rules::Text;
+use crate::states::{
+    Named, RunningClone, copy_named, new_asker, put_state, state_reply, take_state,
+};
+use mld_io::{Banks, CrashBanks};
 use mld_model::CloneState;
 use mld_ops::Message;
-use rdf_terms::Iri;
-use std::alloc::{AllocError, Global};
+use std::alloc::Global;
 
 /// Clone `number`, which has no leaf yet, asks for one; it may ask again.
-pub fn join(alloc: Global, parts: &mut Parts, number: u8) -> Result<Reply<'static>, AllocError>
+pub fn join<B: CrashBanks>(
+    alloc: Global,
+    parts: &mut Parts<B>,
+    number: u8,
+) -> Result<Reply<'static>, WorldFault>
     requires named { IsNamed parts.old.domain parts.old.properties.items }
     requires number { number < vec_len parts.old.clones }
-    ensures keeps { KeepsDomain parts.old parts.new }
-    ensures done { IfOk result (Does parts.old (commands.Join number) parts.new) }
+    ensures keeps { KeepsDomain B.meter parts.old parts.new }
+    ensures done { IfOk result (Does B.log parts.old (commands.Join number) parts.new) }
+    ensures cause { IfErr result (HasFaultCause B.meter parts.old parts.new) }
 {
     match &parts.clones[usize::from(number)] {
         CloneState::Asking(asker) => send_question(&mut parts.messages, asker.ask()),
         CloneState::Absent(_) => {
-            let state = &mut parts.clones[usize::from(number)];
-            let properties = parts.properties.as_slice();
-            let question = begin_to_ask(alloc, state, &parts.domain, properties, number)?;
+            let named = copy_named(alloc, &parts.domain, parts.properties.as_slice())?;
+            let question = begin_to_ask(&mut parts.clones, named, number);
             send_question(&mut parts.messages, question)
         }
         settled => Ok(state_reply(settled)),
     }
 }
 
-/// Clone `number` becomes one who asks for a leaf, and gives its question.
-fn begin_to_ask(
-    alloc: Global,
-    state: &mut RunningClone,
-    domain: &Text,
-    properties: &[Iri],
+/// Clone `number`, which is absent, becomes one who asks for a leaf, and gives its question.
+fn begin_to_ask<B: CrashBanks>(
+    clones: &mut Vec<RunningClone<B>>,
+    named: Named,
     number: u8,
-) -> Result<Message, AllocError>
-    requires { IsTrue (is_domain domain.now) }
-    ensures { IfOk result (AsksFirst domain.now properties.now number state.new) }
+) -> Message
+    requires name { IsTrue (is_domain named.domain) }
+    requires absent { (blank : B) × HasState clones.old.items number (kinds.Absent blank) }
+    ensures { AsksFirst named.domain named.properties.items number clones.old.items clones.new.items result }
 {
-    let asker = new_asker(alloc, domain, properties, number)?;
+    let CloneState::Absent(blank) = take_state(clones, number) else {
+        unreachable!()
+    };
+    let asker = new_asker(blank, named, number);
     let question = asker.ask();
-    *state = CloneState::Asking(asker);
-    Ok(question)
+    put_state(clones, number, CloneState::Asking(asker));
+    question
 }
 
 /// Sends the question of one who asks.
 fn send_question(
     messages: &mut Vec<Message>,
     question: Message,
-) -> Result<Reply<'static>, AllocError>
-    ensures { IfOk result (SendsQuestion (map message_value messages.old.items) question (map message_value messages.new.items)) }
+) -> Result<Reply<'static>, WorldFault>
+    ensures sent { IfOk result (SendsQuestion (map message_value messages.old.items) question (map message_value messages.new.items)) }
+    ensures memory { IfErr result (λ fault. fault ≡ NoMemory) }
 {
     let message = send(messages, question)?;
     Ok(Reply::Sent(message))

@@ -9,10 +9,12 @@ mod faults;
 mod founding;
 mod join;
 mod lines;
+mod opening;
 mod parts;
 mod replies;
 mod show;
 mod states;
+mod stopping;
 mod summaries;
 mod worlds;
 

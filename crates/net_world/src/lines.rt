@@ -9,7 +9,7 @@ ghost use Rattle.rdf_terms.specs.declared.terms.Triple.{Triple};
 ghost use Rattle.schedule_model.specs.Schedule.{Setup as ModelSetup, IsNothing, is_unbuilt, unbuilt_words, is_word, first_word, SpellsSetup, SpellsCommand};
 ghost use Rattle.mld_model.specs.World.{clone_count};
 ghost use Rattle.schedule_model.specs.declared.Command.{Command};
-ghost use Rattle.net_world.specs.ReadLines.{setup_of, SetupIs, CommandIs, IsBadSetup, IsUnbuiltSetup, IsBadCommand, IsTripleText, IsCloneAndTriple, IsAddRest, IsRemoveRest, IsDeliverRest, IsShowRest, IsCompareRest, IsJoinRest};
+ghost use Rattle.net_world.specs.ReadLines.{setup_of, SetupIs, CommandIs, IsBadSetup, IsUnbuiltSetup, IsBadCommand, IsTripleText, IsCloneAndTriple, IsAddRest, IsRemoveRest, IsDeliverRest, IsShowRest, IsCompareRest, IsJoinRest, IsStopRest, IsOpenRest};
 
 use iri_rules::{Text, is_domain};
 use mld_model::CLONE_COUNT;
@@ -134,9 +134,7 @@ fn is_nothing(line: &[u8]) -> bool
 }
 
 /// The first words of lines that aren't built yet.
-const UNBUILT_WORDS: [&[u8]; 9] = [
-    b"stop",
-    b"open",
+const UNBUILT_WORDS: [&[u8]; 7] = [
     b"ask",
     b"compact",
     b"truncate",
@@ -308,6 +306,12 @@ fn command_of(alloc: Global, line: &[u8]) -> Result<Option<Command>, AllocError>
     if let Some(rest) = behind(line, b"join ") {
         return Ok(read_join(rest));
     }
+    if let Some(rest) = behind(line, b"stop ") {
+        return Ok(read_stop(rest));
+    }
+    if let Some(rest) = behind(line, b"open ") {
+        return Ok(read_open(rest));
+    }
     Ok(None)
 }
 
@@ -384,6 +388,20 @@ fn read_join(rest: &[u8]) -> Option<Command>
     ensures { MatchOption result ((command : Command) → ¬ IsJoinRest rest.now command) (λ command. IsJoinRest rest.now command) }
 {
     Some(Command::Join(read_clone(rest)?))
+}
+
+/// What follows `stop` and a space: a clone's number.
+fn read_stop(rest: &[u8]) -> Option<Command>
+    ensures { MatchOption result ((command : Command) → ¬ IsStopRest rest.now command) (λ command. IsStopRest rest.now command) }
+{
+    Some(Command::Stop(read_clone(rest)?))
+}
+
+/// What follows `open` and a space: a clone's number.
+fn read_open(rest: &[u8]) -> Option<Command>
+    ensures { MatchOption result ((command : Command) → ¬ IsOpenRest rest.now command) (λ command. IsOpenRest rest.now command) }
+{
+    Some(Command::Open(read_clone(rest)?))
 }
 
 /// What follows `compare` and a space: two clones' numbers with a space between.

@@ -4,19 +4,20 @@ ghost use Rattle.mld_ops.specs.Messages.{message_value};
 
 use crate::states::RunningClone;
 use iri_rules::Text;
+use mld_io::Banks;
 use mld_ops::Message;
 use rdf_terms::Iri;
 use std::alloc::AllocError;
 
 /// All that a world has beside the number of its steps.
 #[derive(Drop)]
-pub struct Parts {
+pub struct Parts<B: Banks> {
     /// The name of the domain.
     pub domain: Text,
     /// The single-valued properties.
     pub properties: Vec<Iri>,
     /// The clones, by number, absent ones with them.
-    pub clones: Vec<RunningClone>,
+    pub clones: Vec<RunningClone<B>>,
     /// Every message ever sent, in order.
     pub messages: Vec<Message>,
 }

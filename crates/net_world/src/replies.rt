@@ -1,10 +1,11 @@
 //! Replies, and their text: lines that end with LF, added at the end of an output.
-ghost use Rattle.std.specs.Prelude.{◌≡◌, ◌++◌, OnOk};
+ghost use Rattle.std.specs.Prelude.{◌≡◌, ◌++◌, OnOk, IfErr};
 ghost use Rattle.std.specs.List.{range_with_len};
 ghost use Rattle.mld_model.specs.Reply.{Ready, Did, Took, Sent, Answer, Joined, Shows};
 ghost use Rattle.schedule_model.specs.ReplyText.{reply_text, pair_line, spaced_range, spaced_message};
-ghost use Rattle.net_world.specs.Replies.{reply_value, TellsReply, numbers_between};
+ghost use Rattle.net_world.specs.Replies.{reply_value, TellsReply, FailsToTell, numbers_between};
 
+use crate::faults::WorldFault;
 use mld_ops::Tagged;
 use rdf_terms::write_triple;
 use std::alloc::{AllocError, Global};
@@ -67,19 +68,24 @@ pub enum Reply<'a> {
     Down,
     /// `live`: the clone is live.
     Live,
+    /// `stopped`: the live clone was stopped.
+    Stopped,
+    /// `opened`: the clone that was down is live.
+    Opened,
 }
 
 /// Adds the text of a reply that was found to an output.
 pub fn tell(
     alloc: Global,
     out: &mut Vec<u8>,
-    reply: Result<Reply<'_>, AllocError>,
-) -> Result<(), AllocError>
-    ensures { OnOk result (TellsReply reply.entry out.old.items out.new.items) }
+    reply: Result<Reply<'_>, WorldFault>,
+) -> Result<(), WorldFault>
+    ensures told { OnOk result (TellsReply reply.entry out.old.items out.new.items) }
+    ensures cause { IfErr result (FailsToTell reply.entry) }
 {
     match reply {
-        Ok(reply) => push_reply(alloc, out, &reply),
-        Err(error) => Err(error),
+        Ok(reply) => Ok(push_reply(alloc, out, &reply)?),
+        Err(fault) => Err(fault),
     }
 }
 
@@ -110,6 +116,8 @@ pub fn push_reply(alloc: Global, out: &mut Vec<u8>, reply: &Reply<'_>) -> Result
         Reply::Asking => out.extend_from_slice(b"asking\n"),
         Reply::Down => out.extend_from_slice(b"down\n"),
         Reply::Live => out.extend_from_slice(b"live\n"),
+        Reply::Stopped => out.extend_from_slice(b"stopped\n"),
+        Reply::Opened => out.extend_from_slice(b"opened\n"),
     }
 }
 

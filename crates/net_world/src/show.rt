@@ -6,11 +6,12 @@ ghost use Rattle.net_world.specs.WorldParts.{Does};
 use crate::parts::Parts;
 use crate::replies::Reply;
 use crate::states::live_at;
+use mld_io::{Banks, CrashBanks};
 
 /// The pairs of clone `number`.
-pub fn show<'a>(parts: &'a Parts, number: u8) -> Reply<'a>
+pub fn show<'a, B: CrashBanks>(parts: &'a Parts<B>, number: u8) -> Reply<'a>
     requires { number < vec_len parts.now.clones }
-    ensures { Does parts.now (commands.Show number) parts.now result }
+    ensures { Does B.log parts.now (commands.Show number) parts.now result }
 {
     match live_at(parts.clones.as_slice(), number) {
         Ok(clone) => Reply::Shows(clone.pairs()),

@@ -1,11 +1,13 @@
 //! What a run tells of the world that it ends with.
-ghost use Rattle.std.specs.Prelude.{◌≡◌, IfOk};
+ghost use Rattle.std.specs.Prelude.{◌≡◌, map, IfOk};
+ghost use Rattle.net_world.specs.WorldBanks.{in_memory};
 ghost use Rattle.mld_ops.specs.Held.{ranges_of};
 ghost use Rattle.net_world.specs.WorldSummary.{IsBlank, IsSummaryOf, Summarizes, SummarizesAll};
 ghost use Rattle.net_world.specs.declared.summaries.State.{State};
 
 use crate::states::RunningClone;
 use clone_core::MldClone;
+use mld_io::Banks;
 use mld_model::CloneState;
 use mld_ops::{Entry, Tagged};
 use std::alloc::{AllocError, Global};
@@ -49,8 +51,8 @@ pub struct Summary {
 }
 
 /// What there is to tell of the clones of a world.
-pub fn summarize(alloc: Global, clones: &[RunningClone]) -> Result<Summary, AllocError>
-    ensures { IfOk result (λ summary. SummarizesAll clones.now summary.clones.items) }
+pub fn summarize<B: Banks>(alloc: Global, clones: &[RunningClone<B>]) -> Result<Summary, AllocError>
+    ensures { IfOk result (λ summary. SummarizesAll (map in_memory clones.now) summary.clones.items) }
 {
     let mut summaries = Vec::with_capacity(alloc, clones.len())?;
     for clone in clones {
@@ -60,8 +62,8 @@ pub fn summarize(alloc: Global, clones: &[RunningClone]) -> Result<Summary, Allo
 }
 
 /// What there is to tell of a clone.
-fn summary_of(alloc: Global, clone: &RunningClone) -> Result<CloneSummary, AllocError>
-    ensures { IfOk result (Summarizes clone.now) }
+fn summary_of<B: Banks>(alloc: Global, clone: &RunningClone<B>) -> Result<CloneSummary, AllocError>
+    ensures { IfOk result (Summarizes (in_memory clone.now)) }
 {
     match clone {
         CloneState::Absent(_) => Ok(blank(alloc, State::Absent)),
@@ -72,7 +74,7 @@ fn summary_of(alloc: Global, clone: &RunningClone) -> Result<CloneSummary, Alloc
 }
 
 /// What there is to tell of a live clone.
-fn summary_of_live(alloc: Global, clone: &MldClone) -> Result<CloneSummary, AllocError>
+fn summary_of_live<B: Banks>(alloc: Global, clone: &MldClone<B>) -> Result<CloneSummary, AllocError>
     ensures { IfOk result (IsSummaryOf clone.now.local) }
 {
     let known = clone.known().to_list(alloc)?;

@@ -2,42 +2,48 @@
 
 use crate::commands::answer;
 use crate::faults::WorldFault;
-use crate::founding::founded_clones;
+use crate::founding::found_clones;
 use crate::lines::Setup;
 use crate::parts::Parts;
-use crate::states::copy_properties;
+use crate::states::copy_named;
+use crate::stopping::stop_all;
 use crate::summaries::{Summary, summarize};
+use journal_store::Blank;
+use mld_io::{Banks, CrashBanks};
+use mld_model::CloneState;
 use schedule_model::Command;
 use std::alloc::{AllocError, Global};
 use std::marker::Model;
 use std::thread::Threads;
 
-/// A world that runs.
+/// A world that runs, each clone on banks of its own.
 #[derive(Drop)]
-pub struct World {
-    parts: Parts,
+pub struct World<B: CrashBanks> {
+    parts: Parts<B>,
     steps: u32,
 }
 
-impl Model for World {
+impl<B: CrashBanks> Model for World<B> {
     ghost use Rattle.std.specs.Prelude.{◌≡◌, vec_len};
     ghost use Rattle.mld_model.specs.Local.{IsNamed};
-    ghost use Rattle.mld_model.specs.StandsFor.{RunningWorld};
     ghost use Rattle.mld_model.specs.World.{clone_count};
+    ghost use Rattle.net_world.specs.WorldBanks.{BankedWorld};
     ghost use Rattle.net_world.specs.WorldParts.{running_of};
 
-    ghost Value = { RunningWorld };
+    ghost Value = { BankedWorld B };
 
     ghost view = { λ w. running_of w.parts w.steps };
 
     ghost invariant = { λ w. (vec_len w.parts.clones ≡ clone_count) × IsNamed w.parts.domain w.parts.properties.items };
 }
 
-impl World {
-    ghost use Rattle.std.specs.Prelude.{◌≡◌, ◌+◌, ◌<◌, IsTrue, IfOk, OnOk};
+impl<B: CrashBanks> World<B> {
+    ghost use Rattle.std.specs.Prelude.{◌≡◌, ◌+◌, ◌<◌, ℕ, vec_len, IsTrue, IfOk, IfErr, OnOk, IsErrOf};
     ghost use Rattle.tree_clock.specs.Limits.{tick_limit};
     ghost use Rattle.iri_rules.specs.Domain.{is_domain};
-    ghost use Rattle.mld_model.specs.StandsFor.{StandsFor};
+    ghost use Rattle.mld_model.specs.World.{World as ModelWorld, clone_count};
+    ghost use Rattle.net_world.specs.Founding.{RefusesFounding};
+    ghost use Rattle.net_world.specs.WorldBanks.{StandsOnBanks, AllBanksStandFor, banks_of, MetersGoOn, HasFailed, memory_of};
     ghost use Rattle.schedule_model.specs.Runs.{founded_by};
     ghost use Rattle.schedule_model.specs.Schedule.{IsSetup};
     ghost use Rattle.schedule_model.specs.Step.{HasCloneNumbers};
@@ -45,18 +51,34 @@ impl World {
     ghost use Rattle.net_world.specs.Worlds.{IsStanding, Stepped};
     ghost use Rattle.net_world.specs.WorldSummary.{Tells};
 
-    /// The founded world: the clones from 0 on are live, each with a leaf of its own, and the others are absent.
-    pub fn found<R: Threads>(rt: &R, alloc: Global, setup: &Setup) -> Result<World, WorldFault>
-        requires { IsSetup (setup_of setup.now) }
-        ensures founded { IfOk result (λ world. StandsFor world (founded_by (setup_of setup.now))) }
-        ensures standing { IfOk result IsStanding }
+    /// The founded world: the clones from 0 on are live, each with a leaf of its own, and the others are absent. Each has banks of its
+    /// own, of which there are as many as clones; the banks of the live ones keep them from then on.
+    ///
+    /// # Errors
+    ///
+    /// `Device` where the device of a clone failed; all banks are given back, in order. `NoMemory`, with which none are.
+    pub fn found<R: Threads>(
+        rt: &R,
+        alloc: Global,
+        setup: &Setup,
+        blanks: Vec<Blank<B>>,
+    ) -> Result<World<B>, (WorldFault, Vec<B>)>
+        requires setup { IsSetup (setup_of setup.now) }
+        requires count { vec_len blanks ≡ clone_count }
+        ensures founded { IfOk result (λ world. StandsOnBanks B.log world (founded_by (setup_of setup.now))) }
+        ensures standing { IfOk result (IsStanding B.log) }
         ensures steps { IfOk result (λ world. world.steps ≡ 0) }
+        ensures meters { IfOk result (λ world. MetersGoOn B.meter blanks.items (banks_of world)) }
+        ensures err { IfErr result (λ refused. RefusesFounding B.meter blanks.items refused.0 refused.1.items) }
     {
-        let clones = founded_clones(rt, alloc, setup)?;
+        let Ok(named) = copy_named(alloc, &setup.domain, setup.props.as_slice()) else {
+            return Err((WorldFault::NoMemory, Vec::new(alloc)));
+        };
+        let clones = found_clones(rt, alloc, setup, blanks)?;
         Ok(World {
             parts: Parts {
-                domain: setup.domain.copy_in(alloc)?,
-                properties: copy_properties(alloc, setup.props.as_slice())?,
+                domain: named.domain,
+                properties: named.properties,
                 clones,
                 messages: Vec::new(alloc),
             },
@@ -74,13 +96,27 @@ impl World {
 
     /// What there is to tell of the world: of each world of the model that it stands for.
     pub fn summary(&self, alloc: Global) -> Result<Summary, AllocError>
-        ensures { IfOk result (Tells self.now) }
+        ensures { IfOk result (Tells (memory_of self.now)) }
     {
         summarize(alloc, self.parts.clones.as_slice())
     }
 
+    /// The banks of the clones, by number: live ones stop. They stand for the world.
+    pub fn into_banks(self, alloc: Global) -> Result<Vec<B>, AllocError>
+        ensures banks { IfOk result (λ banks. banks.items ≡ banks_of self) }
+        ensures stand { (world : ModelWorld) → StandsOnBanks B.log self world → IfOk result (λ banks. AllBanksStandFor B.log world banks.items) }
+    {
+        let mut banks = Vec::with_capacity(alloc, self.parts.clones.len())?;
+        stop_all(self.parts.clones, &mut banks);
+        Ok(banks)
+    }
+
     /// Does a command, and adds the text of its reply to the output. After an error the world may have done a part of it,
-    /// and is not used again.
+    /// and is only asked for its banks.
+    ///
+    /// # Errors
+    ///
+    /// `Device` where the device of the clone failed, and `NoMemory`.
     pub fn step<R: Threads>(
         &mut self,
         rt: &R,
@@ -89,11 +125,13 @@ impl World {
         out: &mut Vec<u8>,
     ) -> Result<(), WorldFault>
         requires few { self.old.steps < tick_limit }
-        requires standing { IsStanding self.old }
+        requires standing { IsStanding B.log self.old }
         requires numbers { HasCloneNumbers command.now }
-        ensures done { OnOk result (Stepped self.old command.now self.new out.old.items out.new.items) }
-        ensures standing { OnOk result (IsStanding self.new) }
+        ensures done { OnOk result (Stepped B.log self.old command.now self.new out.old.items out.new.items) }
+        ensures standing { OnOk result (IsStanding B.log self.new) }
         ensures steps { OnOk result (self.new.steps ≡ self.old.steps + 1) }
+        ensures meters { MetersGoOn B.meter (banks_of self.old) (banks_of self.new) }
+        ensures device { (clone : ℕ) → IsErrOf result (WorldFault.Device clone) → HasFailed B.meter clone (banks_of self.old) (banks_of self.new) }
     {
         self.steps += 1;
         answer(rt, alloc, &mut self.parts, command, out)?;

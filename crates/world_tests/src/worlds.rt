@@ -1,9 +1,15 @@
 //! Lines, a founded world and its steps, worked by hand. Worlds stand in boxes, which are let go in one step, and work on loans.
-ghost use Rattle.std.specs.Prelude.{◌≡◌, ◌+◌, ◌<◌, IfOk, OnOk};
+ghost use Rattle.std.specs.Prelude.{◌≡◌, ◌+◌, ◌<◌, Some, vec_len, IfOk, OnOk};
 ghost use Rattle.schedule_model.specs.Step.{HasCloneNumbers};
+ghost use Rattle.disk_model.specs.BankSteps.{memory_log};
+ghost use Rattle.mld_model.specs.World.{clone_count};
 ghost use Rattle.net_world.specs.Worlds.{IsStanding};
 
+use clone_core::{MldClone, Mounted};
+use disk_model::MemoryBanks;
 use iri_rules::Text;
+use journal_store::Blank;
+use mld_model::CLONE_COUNT;
 use net_world::{
     Command, LineRefusal, Setup, SetupLine, State, World, push_ready, read_command, read_setup,
 };
@@ -12,6 +18,9 @@ use std::alloc::Global;
 use std::test::Fail;
 use std::thread::Threads;
 use tree_clock::Path;
+
+/// A world on banks in memory.
+type TestWorld = World<MemoryBanks>;
 
 #[test]
 fn a_domain_line_is_read(rt: HostRuntime) -> Result<(), Fail> {
@@ -57,7 +66,7 @@ fn lines_of_no_command_are_refused(rt: HostRuntime) {
         assert_eq!(rt; refusal, Some(LineRefusal::BadLine));
     }
     assert_eq!(rt;
-        read_command(rt.alloc(), b"stop 0", "d").err(),
+        read_command(rt.alloc(), b"ask 0", "d").err(),
         Some(LineRefusal::Unbuilt)
     );
 }
@@ -87,7 +96,7 @@ fn a_founded_world_tells_of_its_clones(rt: HostRuntime) -> Result<(), Fail> {
 }
 
 /// The paths of the first three clones of a world, and the state of the last.
-fn told(world: &World, alloc: Global) -> Result<([Option<Path>; 3], Option<State>), Fail> {
+fn told(world: &TestWorld, alloc: Global) -> Result<([Option<Path>; 3], Option<State>), Fail> {
     let summary = world.summary(alloc)?;
     let clones = &summary.clones;
     let paths = [
@@ -106,10 +115,29 @@ fn so_many_clones_are_ready(rt: HostRuntime) -> Result<(), Fail> {
     Ok(())
 }
 
+/// Banks in memory that keep nothing, for each clone.
+fn blanks(alloc: Global) -> Result<Vec<Blank<MemoryBanks>>, Fail>
+    ensures { IfOk result (λ blanks. vec_len blanks ≡ clone_count) }
+{
+    let mut blanks = Vec::with_capacity(alloc, usize::from(CLONE_COUNT))?;
+    for _ in 0..CLONE_COUNT {
+        blanks.push_reserved(blank(alloc)?);
+    }
+    Ok(blanks)
+}
+
+/// Banks in memory that keep nothing.
+fn blank(alloc: Global) -> Result<Blank<MemoryBanks>, Fail> {
+    match MldClone::mount(alloc, MemoryBanks::blank(alloc)) {
+        Mounted::Empty(blank) => Ok(blank),
+        Mounted::Live(_) | Mounted::Refused(_, _) => Err("no blank".into()),
+    }
+}
+
 /// A world of two clones.
 #[tactic(auto, unfolding(iri_rules::specs::Domain::is_domain))]
-fn two_clones<R: Threads>(rt: &R, alloc: Global) -> Result<Box<World>, Fail>
-    ensures standing { IfOk result (λ world. IsStanding world.value) }
+fn two_clones<R: Threads>(rt: &R, alloc: Global) -> Result<Box<TestWorld>, Fail>
+    ensures standing { IfOk result (λ world. IsStanding (λ banks. Some (memory_log banks)) world.value) }
     ensures steps { IfOk result (λ world. world.value.steps ≡ 0) }
 {
     let setup = Setup {
@@ -117,22 +145,24 @@ fn two_clones<R: Threads>(rt: &R, alloc: Global) -> Result<Box<World>, Fail>
         clones: 2,
         props: Vec::new(alloc),
     };
-    let world = World::found(rt, alloc, &setup)?;
-    Ok(Box::new(alloc, world)?)
+    match World::found(rt, alloc, &setup, blanks(alloc)?) {
+        Ok(world) => Ok(Box::new(alloc, world)?),
+        Err(_) => Err("not founded".into()),
+    }
 }
 
 /// Does a command, which is answered by this text.
 fn answers<R: Threads>(
-    world: &mut World,
+    world: &mut TestWorld,
     rt: &R,
     alloc: Global,
     command: &Command,
     wanted: &str,
 ) -> Result<(), Fail>
     requires few { world.old.steps < 100 }
-    requires standing { IsStanding world.old }
+    requires standing { IsStanding (λ banks. Some (memory_log banks)) world.old }
     requires numbers { HasCloneNumbers command.now }
-    ensures standing { OnOk result (IsStanding world.new) }
+    ensures standing { OnOk result (IsStanding (λ banks. Some (memory_log banks)) world.new) }
     ensures steps { OnOk result (world.new.steps ≡ world.old.steps + 1) }
 {
     let mut text = Vec::new(alloc);
@@ -151,10 +181,10 @@ fn what_is_added_is_shown_and_taken(rt: HostRuntime) -> Result<(), Fail> {
 }
 
 /// Clone 0 adds a triple, and shows it.
-fn adds<R: Threads>(world: &mut World, rt: &R, alloc: Global) -> Result<(), Fail>
+fn adds<R: Threads>(world: &mut TestWorld, rt: &R, alloc: Global) -> Result<(), Fail>
     requires few { world.old.steps < 90 }
-    requires standing { IsStanding world.old }
-    ensures standing { OnOk result (IsStanding world.new) }
+    requires standing { IsStanding (λ banks. Some (memory_log banks)) world.old }
+    ensures standing { OnOk result (IsStanding (λ banks. Some (memory_log banks)) world.new) }
     ensures steps { OnOk result (world.new.steps ≡ world.old.steps + 2) }
 {
     let triple = Triple {
@@ -169,9 +199,9 @@ fn adds<R: Threads>(world: &mut World, rt: &R, alloc: Global) -> Result<(), Fail
 }
 
 /// Clone 1 takes message 1 once, and then knows what clone 0 does.
-fn takes<R: Threads>(world: &mut World, rt: &R, alloc: Global) -> Result<(), Fail>
+fn takes<R: Threads>(world: &mut TestWorld, rt: &R, alloc: Global) -> Result<(), Fail>
     requires few { world.old.steps < 90 }
-    requires standing { IsStanding world.old }
+    requires standing { IsStanding (λ banks. Some (memory_log banks)) world.old }
 {
     answers(world, rt, alloc, &Command::Deliver(1, 1), "took r0.1-1\n")?;
     answers(world, rt, alloc, &Command::Deliver(1, 1), "known\n")?;
@@ -186,10 +216,10 @@ fn one_who_asks_joins(rt: HostRuntime) -> Result<(), Fail> {
 }
 
 /// Clone 7, which is absent, asks for a leaf.
-fn asks<R: Threads>(world: &mut World, rt: &R, alloc: Global) -> Result<(), Fail>
+fn asks<R: Threads>(world: &mut TestWorld, rt: &R, alloc: Global) -> Result<(), Fail>
     requires few { world.old.steps < 90 }
-    requires standing { IsStanding world.old }
-    ensures standing { OnOk result (IsStanding world.new) }
+    requires standing { IsStanding (λ banks. Some (memory_log banks)) world.old }
+    ensures standing { OnOk result (IsStanding (λ banks. Some (memory_log banks)) world.new) }
     ensures steps { OnOk result (world.new.steps ≡ world.old.steps + 3) }
 {
     answers(world, rt, alloc, &Command::Show(7), "absent\n")?;
@@ -198,10 +228,47 @@ fn asks<R: Threads>(world: &mut World, rt: &R, alloc: Global) -> Result<(), Fail
 }
 
 /// Clone 1 gives it the half of its own.
-fn joins<R: Threads>(world: &mut World, rt: &R, alloc: Global) -> Result<(), Fail>
+fn joins<R: Threads>(world: &mut TestWorld, rt: &R, alloc: Global) -> Result<(), Fail>
     requires few { world.old.steps < 90 }
-    requires standing { IsStanding world.old }
+    requires standing { IsStanding (λ banks. Some (memory_log banks)) world.old }
 {
     answers(world, rt, alloc, &Command::Deliver(1, 1), "answer m2\n")?;
     answers(world, rt, alloc, &Command::Deliver(2, 7), "joined r11\n")
+}
+
+#[test]
+fn one_that_stopped_opens_again(rt: HostRuntime) -> Result<(), Fail> {
+    let mut world = two_clones(&rt, rt.alloc())?;
+    adds(&mut world, &rt, rt.alloc())?;
+    stops(&mut world, &rt, rt.alloc())?;
+    opens(&mut world, &rt, rt.alloc())
+}
+
+/// Clone 0 stops, and is down.
+fn stops<R: Threads>(world: &mut TestWorld, rt: &R, alloc: Global) -> Result<(), Fail>
+    requires few { world.old.steps < 90 }
+    requires standing { IsStanding (λ banks. Some (memory_log banks)) world.old }
+    ensures standing { OnOk result (IsStanding (λ banks. Some (memory_log banks)) world.new) }
+    ensures steps { OnOk result (world.new.steps ≡ world.old.steps + 2) }
+{
+    answers(world, rt, alloc, &Command::Stop(0), "stopped\n")?;
+    answers(world, rt, alloc, &Command::Show(0), "down\n")
+}
+
+/// It opens, and has its pair.
+fn opens<R: Threads>(world: &mut TestWorld, rt: &R, alloc: Global) -> Result<(), Fail>
+    requires few { world.old.steps < 90 }
+    requires standing { IsStanding (λ banks. Some (memory_log banks)) world.old }
+{
+    answers(world, rt, alloc, &Command::Open(0), "opened\n")?;
+    let shown = "has 1\nr0.1 <http://d/a> <http://d/#p> <http://d/b> .\n";
+    answers(world, rt, alloc, &Command::Show(0), shown)
+}
+
+#[test]
+fn a_world_gives_its_banks_back(rt: HostRuntime) -> Result<(), Fail> {
+    let world = Box::into_inner(two_clones(&rt, rt.alloc())?);
+    let banks = world.into_banks(rt.alloc())?;
+    assert_eq!(rt; banks.len(), 32);
+    Ok(())
 }

@@ -1,36 +1,40 @@
-use Rattle.std.proofs.Common.{arith, ap, map, rules, set, ℕ}
-use Rattle.std.proofs.lemmas.Result.{IfOk-weaker}
-use Rattle.mld_ops.specs.Messages.{message_value}
+use Rattle.std.proofs.Common.{arith, ap, set, ℕ, refl}
 use Rattle.mld_model.specs.declared.CloneState.TheVariants as states
-use Rattle.net_world.specs.WorldParts.{running_of}
 use Rattle.net_world.specs.Replies.{reply_value}
-use Rattle.net_world.proofs.ChangeLemmas.{added, not_added}
-use Rattle.net_world.proofs.WorldLemmas.{has_next_tick, missing_reply, read_back, state_read}
+use Rattle.net_world.specs.States.{Becomes}
+use Rattle.net_world.proofs.ChangeLemmas.{add_done, add_missing_done}
+use Rattle.net_world.proofs.BankLemmas.{cause_set}
+use Rattle.net_world.proofs.Places.{place_read, read_back}
+use Rattle.net_world.proofs.WorldLemmas.{has_next_tick, is_open, missing_reply, keeps_set, keeps_still}
 use Rattle.net_world.proofs.changes.add.Goals as goal
 
 pub set-requires : goal.set-requires
-set-requires c =
-    has_next_tick c.args.parts.now c.args.number c.in-Live.clone c.requires.left
-    (state_read c.args.parts.now.clones.items c.args.number c.from.result c.index_mut.result.now (states.Live c.in-Live.clone) c.from.ensures (omega (arith, c.requires.number)) c.index_mut.ensures.value c.in-Live.is)
+set-requires g c =
+    let at = place_read c.args.parts.now.clones.items c.args.number c.from.result c.index_mut.result.now (states.Live c.in-Live.clone) c.from.ensures (omega (arith, c.requires.number)) c.index_mut.ensures.value c.in-Live.is in
+    record {
+      opened = is_open g.B.Banks.log c.args.parts.now c.args.number c.in-Live.clone c.requires.left at;
+      ticks = has_next_tick g.B.Banks.log c.args.parts.now c.args.number c.in-Live.clone c.requires.left at;
+    }
 
-pub returns-in-Live-clause-done : goal.returns-in-Live-clause-done
-returns-in-Live-clause-done c =
-    IfOk-weaker c.set.result _ _ (λ reply h. record {
-      moves = λ steps. added (running_of c.args.parts.now steps) c.args.number c.args.triple.now c.in-Live.clone c.set.new.clone
-          (set c.args.parts.now.clones.items c.from.result (states.Live c.set.new.clone)) (map message_value c.set.new.messages.items) reply
-          (state_read c.args.parts.now.clones.items c.args.number c.from.result c.index_mut.result.now (states.Live c.in-Live.clone) c.from.ensures (omega (arith, c.requires.number)) c.index_mut.ensures.value c.in-Live.is)
-          (ap (λ (k : ℕ). set c.args.parts.now.clones.items k (states.Live c.set.new.clone)) c.from.ensures) h;
-    })
-    c.set.ensures
+pub returns-in-Live : goal.returns-in-Live
+returns-in-Live g c =
+    let becomes : Becomes c.args.parts.now.clones.items (set c.args.parts.now.clones.items c.from.result (states.Live c.set.new.clone)) c.args.number (states.Live c.in-Live.clone) (states.Live c.set.new.clone) = record {
+      was = place_read c.args.parts.now.clones.items c.args.number c.from.result c.index_mut.result.now (states.Live c.in-Live.clone) c.from.ensures (omega (arith, c.requires.number)) c.index_mut.ensures.value c.in-Live.is;
+      now = ap (λ (k : ℕ). set c.args.parts.now.clones.items k (states.Live c.set.new.clone)) c.from.ensures;
+    } in
+    record {
+      keeps = keeps_set g.B.Banks.log g.B.Banks.meter c.args.parts.now _ refl refl c.args.number (states.Live c.in-Live.clone) (states.Live c.set.new.clone) becomes c.set.ensures.meter;
+      done = add_done g.B.Banks.log g.B.Banks.meter c.args.parts.now _ refl refl c.args.number c.args.triple.now c.in-Live.clone c.set.new.clone c.set.result becomes c.set.ensures.done c.set.ensures.opened;
+      cause = cause_set g.B.Banks.meter _ _ c.args.number (states.Live c.in-Live.clone) (states.Live c.set.new.clone) c.set.result becomes c.set.ensures.cause;
+    }
 
 pub returns-in_default : goal.returns-in_default
-returns-in_default c = record {
-  keeps = search rules;
-  done = record {
-    moves = λ steps. not_added (running_of c.args.parts.now steps) c.args.number c.args.triple.now c.index_mut.result.now
-        (set c.args.parts.now.clones.items c.from.result c.index_mut.result.now) (reply_value c.state_reply.result)
-        (state_read c.args.parts.now.clones.items c.args.number c.from.result c.index_mut.result.now c.index_mut.result.now c.from.ensures (omega (arith, c.requires.number)) c.index_mut.ensures.value (λ i. c.index_mut.result.now))
-        (read_back c.args.parts.now.clones.items c.from.result c.index_mut.result.now c.index_mut.ensures.value)
-        (missing_reply c.index_mut.result.now (reply_value c.state_reply.result) c.state_reply.ensures c.in_default.not-Live);
-  };
-}
+returns-in_default g c =
+    let same = read_back c.args.parts.now.clones.items c.from.result c.index_mut.result.now c.index_mut.ensures.value in
+    record {
+      keeps = keeps_still g.B.Banks.log g.B.Banks.meter c.args.parts.now _ refl refl same;
+      done = add_missing_done g.B.Banks.log g.B.Banks.meter c.args.parts.now _ refl refl c.args.number c.args.triple.now c.index_mut.result.now c.state_reply.result
+          (place_read c.args.parts.now.clones.items c.args.number c.from.result c.index_mut.result.now c.index_mut.result.now c.from.ensures (omega (arith, c.requires.number)) c.index_mut.ensures.value refl)
+          same refl (missing_reply c.index_mut.result.now (reply_value c.state_reply.result) c.state_reply.ensures c.in_default.not-Live);
+      cause = tt;
+    }

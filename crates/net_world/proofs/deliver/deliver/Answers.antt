@@ -1,45 +1,56 @@
 use Rattle.std.proofs.Common.{◌∙◌, List, ap, sym, subst, refl, map}
 use Rattle.std.proofs.lemmas.Result.{IfOk-weaker}
-use Rattle.mld_ops.specs.Messages.{message_value}
 use Rattle.mld_ops.specs.declared.messages.Message.{Message}
+use Rattle.mld_model.specs.World.{numbered}
 use Rattle.net_world.specs.declared.deliver.Received.{Received}
 use Rattle.net_world.specs.declared.deliver.Received.TheVariants as received
 use Rattle.net_world.specs.Delivering.{ReceivesAt}
-use Rattle.mld_model.specs.World.{numbered}
-use Rattle.net_world.specs.WorldParts.{running_of}
-use Rattle.net_world.proofs.DeliverLemmas.{value_at, no_value_at, is_fit, answered, no_message}
+use Rattle.net_world.specs.WorldBanks.{in_memory}
+use Rattle.net_world.proofs.BankLemmas.{cause_memory}
+use Rattle.net_world.proofs.DeliverLemmas.{is_fit, deliver_done, deliver_none}
+use Rattle.net_world.proofs.WorldLemmas.{keeps_meters, keeps_still}
 use Rattle.net_world.proofs.deliver.deliver.Goals as goal
 
-pub returns-in_default-clause-done : goal.returns-in_default-clause-done
-returns-in_default-clause-done g c = record {
-  moves = λ steps. no_message (running_of c.args.parts.now steps) c.args.message c.args.number (running_of c.args.parts.now steps).clones (running_of c.args.parts.now steps).messages
-      (no_value_at c.args.parts.now.messages.items c.args.message (sym (c.in_default.ensures ∙ ap (λ (ms : List Message). numbered ms c.args.message) c.as_slice.ensures.value)));
+pub returns-in_default : goal.returns-in_default
+returns-in_default g c = record {
+  keeps = keeps_still g.B.Banks.log g.B.Banks.meter c.args.parts.now _ refl refl refl;
+  done = deliver_none g.B.Banks.log g.B.Banks.meter c.args.parts.now _ refl refl c.args.message c.args.number refl refl
+      (sym (c.in_default.ensures ∙ ap (λ (ms : List Message). numbered ms c.args.message) c.as_slice.ensures.value));
+  cause = tt;
 }
 
 pub receive_at-requires-clause-fit : goal.receive_at-requires-clause-fit
 receive_at-requires-clause-fit g c =
-    is_fit c.args.parts.now c.args.message c.args.number c.in-Some.message.now c.requires.left
+    is_fit g.B.Banks.log c.args.parts.now c.args.message c.args.number c.in-Some.message.now c.requires.left
     (sym (c.in-Some.ensures ∙ ap (λ (ms : List Message). numbered ms c.args.message) c.as_slice.ensures.value))
 
-pub returns-in-Ok-Told-clause-done : goal.returns-in-Ok-Told-clause-done
-returns-in-Ok-Told-clause-done g c =
-    let P : Received → Type 0 = λ answer. ReceivesAt c.args.parts.now.clones.items c.receive_at.new.clones.items c.args.number c.in-Some.message.now answer in
+pub returns-in-Ok-Told : goal.returns-in-Ok-Told
+returns-in-Ok-Told g c =
+    let P : Received → Type 0 = λ answer. ReceivesAt (map in_memory c.args.parts.now.clones.items) (map in_memory c.receive_at.new.clones.items) c.args.number c.in-Some.message.now answer in
     record {
-      moves = λ steps. answered (running_of c.args.parts.now steps) c.args.message c.args.number c.receive_at.new.clones.items (map message_value c.args.parts.now.messages.items)
-          c.in-Some.message.now (received.Told c.in-Ok-Told.reply) c.in-Ok-Told.reply
-          (value_at c.args.parts.now.messages.items c.args.message c.in-Some.message.now
-          (sym (c.in-Some.ensures ∙ ap (λ (ms : List Message). numbered ms c.args.message) c.as_slice.ensures.value)))
-          (subst P c.in-Ok-Told.field-0-is c.in-Ok-Told.ensures.ok) (refl, refl);
+      keeps = keeps_meters g.B.Banks.log g.B.Banks.meter c.args.parts.now _ refl refl c.receive_at.ensures.meters;
+      done = deliver_done g.B.Banks.log g.B.Banks.meter c.args.parts.now _ refl refl c.args.message c.args.number c.in-Some.message.now (received.Told c.in-Ok-Told.reply) c.in-Ok-Told.reply
+          (sym (c.in-Some.ensures ∙ ap (λ (ms : List Message). numbered ms c.args.message) c.as_slice.ensures.value))
+          (subst P c.in-Ok-Told.field-0-is c.in-Ok-Told.ensures.ok) (λ steps. (refl, refl)) c.in-Ok-Told.ensures.carried;
+      cause = tt;
     }
 
-pub returns-in-Ok-Sends-clause-done : goal.returns-in-Ok-Sends-clause-done
-returns-in-Ok-Sends-clause-done g c =
-    let P : Received → Type 0 = λ answer. ReceivesAt c.args.parts.now.clones.items c.receive_at.new.clones.items c.args.number c.in-Some.message.now answer in
-    IfOk-weaker c.send_answers.result _ _ (λ reply h. record {
-      moves = λ steps. answered (running_of c.args.parts.now steps) c.args.message c.args.number c.receive_at.new.clones.items (map message_value c.send_answers.new.messages.items)
-          c.in-Some.message.now (received.Sends c.in-Ok-Sends.answers) reply
-          (value_at c.args.parts.now.messages.items c.args.message c.in-Some.message.now
-          (sym (c.in-Some.ensures ∙ ap (λ (ms : List Message). numbered ms c.args.message) c.as_slice.ensures.value)))
-          (subst P c.in-Ok-Sends.field-0-is c.in-Ok-Sends.ensures.ok) h;
-    })
-    c.send_answers.ensures
+pub returns-in-Ok-Sends : goal.returns-in-Ok-Sends
+returns-in-Ok-Sends g c =
+    let P : Received → Type 0 = λ answer. ReceivesAt (map in_memory c.args.parts.now.clones.items) (map in_memory c.receive_at.new.clones.items) c.args.number c.in-Some.message.now answer in
+    record {
+      keeps = keeps_meters g.B.Banks.log g.B.Banks.meter c.args.parts.now _ refl refl c.receive_at.ensures.meters;
+      done = IfOk-weaker c.send_answers.result _ _ (λ reply h.
+          deliver_done g.B.Banks.log g.B.Banks.meter c.args.parts.now _ refl refl c.args.message c.args.number c.in-Some.message.now (received.Sends c.in-Ok-Sends.answers) reply
+          (sym (c.in-Some.ensures ∙ ap (λ (ms : List Message). numbered ms c.args.message) c.as_slice.ensures.value))
+          (subst P c.in-Ok-Sends.field-0-is c.in-Ok-Sends.ensures.ok) (λ steps. h) c.in-Ok-Sends.ensures.carried)
+          c.send_answers.ensures.sent;
+      cause = cause_memory g.B.Banks.meter c.args.parts.now.clones.items c.receive_at.new.clones.items c.send_answers.result c.send_answers.ensures.memory;
+    }
+
+pub returns-in-Err : goal.returns-in-Err
+returns-in-Err g c = record {
+  keeps = keeps_meters g.B.Banks.log g.B.Banks.meter c.args.parts.now _ refl refl c.receive_at.ensures.meters;
+  done = tt;
+  cause = c.in-Err.ensures.cause;
+}

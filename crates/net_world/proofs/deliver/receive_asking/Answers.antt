@@ -1,16 +1,25 @@
-use Rattle.std.proofs.Common.{refl, rules}
+use Rattle.std.proofs.Common.{◌≡◌, ◌∙◌, set}
+use Rattle.mld_model.specs.declared.CloneState.TheVariants as states
+use Rattle.net_world.proofs.DeliverLemmas.{asking_becomes, asking_received, asking_carried, asking_on, asking_fails}
+use Rattle.net_world.proofs.BankLemmas.{meters_set, cause_set}
 use Rattle.net_world.proofs.deliver.receive_asking.Goals as goal
 
-pub returns-in-Joined : goal.returns-in-Joined
-returns-in-Joined g c =
-    let joins = c.in-Joined.ensures in
+pub returns : goal.returns
+returns g c =
+    let meter = g.B.Banks.meter in
+    let old = c.args.clones.now.items in
+    let new = c.put_state.new.clones.items in
+    let number = c.args.number in
+    let asking = c.in-Asking.asker in
+    let sent = c.args.message.now in
+    let what = c.receive.result in
+    let told = c.told_of-state.result in
+    let at = c.in-Asking.ensures.was in
+    let now : new ≡ set old number told.0 = c.put_state.ensures ∙ c.take_state.ensures.back told.0 in
+    let becomes = asking_becomes meter old new number asking sent told at now in
     record {
-      asker = c.in-Asking.asker;
-      was = search rules;
-      give = joins.0;
-      is = joins.1;
-      live = c.in-Joined.clone;
-      joins = joins.2;
-      now = refl;
-      at = c.path-path.ensures;
+      ok = asking_received meter old new number asking sent what told at now c.receive.ensures.adopts c.told_of-state.ensures;
+      carried = asking_carried meter old new number asking sent what told at now c.receive.ensures.adopts c.told_of-state.ensures;
+      meters = meters_set meter old new number (states.Asking asking) told.0 becomes (asking_on meter old new number asking sent what told c.told_of-state.ensures c.receive.ensures.meter);
+      cause = cause_set meter old new number (states.Asking asking) told.0 told.1 becomes (asking_fails meter old new number asking sent what told c.told_of-state.ensures c.receive.ensures.meter);
     }

@@ -1,34 +1,65 @@
-use Rattle.std.proofs.Common.{arith, ap, ℕ, set}
-use Rattle.std.proofs.lemmas.Result.{IfOk-weaker}
+use Rattle.std.proofs.Common.{arith, ap, refl, sym, subst, List, ℕ, map, set}
+use Rattle.std.proofs.lemmas.Result.{IfOk-weaker, on_ok_weaker}
+use Rattle.mld_ops.specs.Messages.{message_value}
+use Rattle.mld_ops.specs.declared.messages.Message.{Message}
 use Rattle.mld_model.specs.declared.CloneState.TheVariants as states
-use Rattle.net_world.specs.Delivering.{WhereAway, WhereLive, WhereAsking}
+use Rattle.net_world.specs.Delivering.{WhereAway, WhereLive}
 use Rattle.net_world.specs.Replies.{reply_value}
-use Rattle.net_world.proofs.DeliverLemmas.{away_reply, became_again, read_again}
-use Rattle.net_world.proofs.WorldLemmas.{state_read, read_back}
+use Rattle.net_world.specs.States.{HasState, Becomes}
+use Rattle.net_world.specs.WorldBanks.{BankedState, in_memory, banks_of_state}
+use Rattle.net_world.proofs.Places.{place_read, read_back}
+use Rattle.net_world.proofs.BankLemmas.{memory_at, memory_becomes, meters_set, cause_set, goes_on_same}
+use Rattle.net_world.proofs.DeliverLemmas.{away_reply, away_carried}
 use Rattle.net_world.proofs.deliver.receive_at.Goals as goal
 
-pub returns-in-Live-clause-ok : goal.returns-in-Live-clause-ok
-returns-in-Live-clause-ok g c =
-    IfOk-weaker c.receive_live.result _ _ (λ answer h.
-    WhereLive c.in-Live.clone c.receive_live.new.clone (record {
-      was = state_read c.args.clones.now.items c.args.number c.from.result c.index_mut.result.now (states.Live c.in-Live.clone) c.from.ensures (omega (arith, c.requires.number)) c.index_mut.ensures.value c.in-Live.is;
-      now = ap (λ (k : ℕ). set c.args.clones.now.items k (states.Live c.receive_live.new.clone)) c.from.ensures;
-    }) h)
-    c.receive_live.ensures
+pub receive_live-requires : goal.receive_live-requires
+receive_live-requires g c =
+    let at = place_read c.args.clones.now.items c.args.number c.from.result c.index_mut.result.now (states.Live c.in-Live.clone) c.from.ensures (omega (arith, c.requires.number)) c.index_mut.ensures.value c.in-Live.is in
+    record {
+      own = λ entry is. c.requires.fit.own c.in-Live.clone entry at (ap (λ (m : Message). message_value m) is);
+      opened = c.requires.fit.opened c.in-Live.clone at;
+      good = c.requires.fit.good;
+    }
 
-pub returns-in-Asking-clause-ok : goal.returns-in-Asking-clause-ok
-returns-in-Asking-clause-ok g c =
-    IfOk-weaker c.receive_asking.result _ _ (λ answer h.
-    WhereAsking c.index_mut-in-Asking.result.now c.receive_asking.new.state (record {
-      was = read_again c.args.clones.now.items c.args.number c.from.result c.from-in-Asking.result c.index_mut.result.now c.index_mut-in-Asking.result.now c.from-in-Asking.ensures
-          (omega (arith, c.requires.number)) c.index_mut.ensures.value c.index_mut-in-Asking.ensures.value;
-      now = became_again c.args.clones.now.items c.args.number c.from.result c.from-in-Asking.result c.index_mut.result.now c.receive_asking.new.state c.from-in-Asking.ensures c.index_mut.ensures.value;
-    }) h)
-    c.receive_asking.ensures
+pub receive_asking-requires-clause-asks : goal.receive_asking-requires-clause-asks
+receive_asking-requires-clause-asks g c =
+    let P : List (BankedState g.row.B.Denot) → Type 0 = λ clones. HasState clones c.args.number (states.Asking c.in-Asking.field-0) in
+    (c.in-Asking.field-0, subst P (sym (read_back c.args.clones.now.items c.from.result c.index_mut.result.now c.index_mut.ensures.value)) (place_read c.args.clones.now.items c.args.number c.from.result c.index_mut.result.now (states.Asking c.in-Asking.field-0) c.from.ensures (omega (arith, c.requires.number)) c.index_mut.ensures.value c.in-Asking.is))
 
-pub returns-in_default-clause-ok : goal.returns-in_default-clause-ok
-returns-in_default-clause-ok g c =
-    WhereAway c.index_mut.result.now
-    (state_read c.args.clones.now.items c.args.number c.from.result c.index_mut.result.now c.index_mut.result.now c.from.ensures (omega (arith, c.requires.number)) c.index_mut.ensures.value (λ i. c.index_mut.result.now))
-    (away_reply c.index_mut.result.now (reply_value c.state_reply.result) c.state_reply.ensures c.in_default.not-Live c.in_default.not-Asking)
-    (read_back c.args.clones.now.items c.from.result c.index_mut.result.now c.index_mut.ensures.value)
+pub returns-in-Live : goal.returns-in-Live
+returns-in-Live g c =
+    let old = c.args.clones.now.items in
+    let number = c.args.number in
+    let before = c.in-Live.clone in
+    let after = c.receive_live.new.clone in
+    let becomes : Becomes old (set old c.from.result (states.Live after)) number (states.Live before) (states.Live after) = record {
+      was = place_read old number c.from.result c.index_mut.result.now (states.Live before) c.from.ensures (omega (arith, c.requires.number)) c.index_mut.ensures.value c.in-Live.is;
+      now = ap (λ (k : ℕ). set old k (states.Live after)) c.from.ensures;
+    } in
+    record {
+      ok = IfOk-weaker c.receive_live.result _ _
+          (λ answer h. WhereLive (record { local = before.local }) (record { local = after.local })
+          (memory_becomes old (set old c.from.result (states.Live after)) number (states.Live before) (states.Live after) becomes) h)
+          c.receive_live.ensures.ok;
+      carried = on_ok_weaker c.receive_live.result (λ opened. record { state = states.Live after; now = becomes.now; carried = opened }) c.receive_live.ensures.opened;
+      meters = meters_set g.B.Banks.meter old (set old c.from.result (states.Live after)) number (states.Live before) (states.Live after) becomes c.receive_live.ensures.meter;
+      cause = cause_set g.B.Banks.meter old (set old c.from.result (states.Live after)) number (states.Live before) (states.Live after) c.receive_live.result becomes c.receive_live.ensures.cause;
+    }
+
+pub returns-in_default : goal.returns-in_default
+returns-in_default g c =
+    let old = c.args.clones.now.items in
+    let number = c.args.number in
+    let state = c.index_mut.result.now in
+    let becomes : Becomes old (set old c.from.result state) number state state = record {
+      was = place_read old number c.from.result state state c.from.ensures (omega (arith, c.requires.number)) c.index_mut.ensures.value refl;
+      now = ap (λ (k : ℕ). set old k state) c.from.ensures;
+    } in
+    record {
+      ok = WhereAway (in_memory state) (memory_at old number state becomes.was)
+          (away_reply state (reply_value c.state_reply.result) c.state_reply.ensures c.in_default.not-Live c.in_default.not-Asking)
+          (ap (λ (l : List (BankedState g.row.B.Denot)). map in_memory l) (read_back old c.from.result state c.index_mut.ensures.value));
+      carried = record { state = state; now = becomes.now; carried = away_carried old number state becomes.was c.in_default.not-Live };
+      meters = meters_set g.B.Banks.meter old (set old c.from.result state) number state state becomes (goes_on_same (g.B.Banks.meter (banks_of_state state)));
+      cause = tt;
+    }

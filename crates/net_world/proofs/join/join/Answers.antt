@@ -1,38 +1,47 @@
-use Rattle.std.proofs.Common.{arith, ap, List, ℕ, map, set, subst}
-use Rattle.std.proofs.lemmas.Result.{IfOk-weaker}
-use Rattle.mld_ops.specs.Messages.{message_value}
+use Rattle.std.proofs.Common.{◌∙◌, arith, refl, subst, List, ℕ}
 use Rattle.mld_model.specs.declared.CloneState.TheVariants as states
 use Rattle.net_world.specs.Asking.{AsksFirst}
-use Rattle.net_world.specs.WorldParts.{running_of}
-use Rattle.net_world.specs.Replies.{reply_value}
-use Rattle.net_world.proofs.JoinLemmas.{asks_again, asks_first, settled}
-use Rattle.net_world.proofs.WorldLemmas.{state_read}
+use Rattle.net_world.proofs.Places.{place_read}
+use Rattle.net_world.proofs.BankLemmas.{cause_memory}
+use Rattle.net_world.proofs.JoinLemmas.{join_again_done, join_first_done, join_first_keeps, join_settled_done}
+use Rattle.net_world.proofs.WorldLemmas.{keeps_still}
 use Rattle.net_world.proofs.join.join.Goals as goal
 
-pub returns-in-Asking-clause-done : goal.returns-in-Asking-clause-done
-returns-in-Asking-clause-done c =
-    IfOk-weaker c.send_question.result _ _ (λ reply h. record {
-      moves = λ steps. asks_again (running_of c.args.parts.now steps) c.args.number c.in-Asking.asker c.ask.result (map message_value c.send_question.new.messages.items) reply
-          (state_read c.args.parts.now.clones.items c.args.number c.from.result c.index.result.now (states.Asking c.in-Asking.asker) c.from.ensures (omega (arith, c.requires.number)) c.index.ensures c.in-Asking.is)
-          c.ask.ensures.asks h;
-    })
-    c.send_question.ensures
+pub returns-in-Asking : goal.returns-in-Asking
+returns-in-Asking g c =
+    let parts = c.args.parts.now in
+    record {
+      keeps = keeps_still g.B.Banks.log g.B.Banks.meter parts _ refl refl refl;
+      done = join_again_done g.B.Banks.log g.B.Banks.meter parts _ refl refl c.args.number c.in-Asking.asker c.ask.result c.send_question.result
+          (place_read parts.clones.items c.args.number c.from.result c.index.result.now (states.Asking c.in-Asking.asker) c.from.ensures (omega (arith, c.requires.number)) c.index.ensures c.in-Asking.is)
+          c.ask.ensures.asks refl c.send_question.ensures.sent;
+      cause = cause_memory g.B.Banks.meter parts.clones.items parts.clones.items c.send_question.result c.send_question.ensures.memory;
+    }
 
-pub returns-in_ok-question-in-Absent-clause-done : goal.returns-in_ok-question-in-Absent-clause-done
-returns-in_ok-question-in-Absent-clause-done c =
-    let P : List (List ℕ) → Type 0 = λ properties. AsksFirst c.args.parts.now.domain properties c.args.number c.begin_to_ask.new.state c.in_ok-question-in-Absent.question in
-    IfOk-weaker c.send_question-in-Absent.result _ _ (λ reply h. record {
-      moves = λ steps. asks_first (running_of c.args.parts.now steps) c.args.number c.in-Absent.field-0 c.begin_to_ask.new.state c.in_ok-question-in-Absent.question
-          (set c.args.parts.now.clones.items c.from-in-Absent.result c.begin_to_ask.new.state) (map message_value c.send_question-in-Absent.new.messages.items) reply c.requires.named
-          (state_read c.args.parts.now.clones.items c.args.number c.from.result c.index.result.now (states.Absent c.in-Absent.field-0) c.from.ensures (omega (arith, c.requires.number)) c.index.ensures c.in-Absent.is)
-          (subst P c.as_slice-properties.ensures.value c.in_ok-question-in-Absent.ensures)
-          (ap (λ (k : ℕ). set c.args.parts.now.clones.items k c.begin_to_ask.new.state) c.from-in-Absent.ensures) h;
-    })
-    c.send_question-in-Absent.ensures
+pub returns-in_ok-named-in-Absent : goal.returns-in_ok-named-in-Absent
+returns-in_ok-named-in-Absent g c =
+    let parts = c.args.parts.now in
+    let new = c.begin_to_ask-question.new.clones.items in
+    let question = c.begin_to_ask-question.result in
+    let named = c.in_ok-named-in-Absent.named in
+    let P : List (List ℕ) → Type 0 = λ properties. AsksFirst named.domain properties c.args.number parts.clones.items new question in
+    let Q : List ℕ → Type 0 = λ domain. AsksFirst domain parts.properties.items c.args.number parts.clones.items new question in
+    let asks : AsksFirst parts.domain parts.properties.items c.args.number parts.clones.items new question =
+    subst Q c.in_ok-named-in-Absent.ensures.domain (subst P (c.in_ok-named-in-Absent.ensures.properties ∙ c.as_slice.ensures.value) c.begin_to_ask-question.ensures) in
+    record {
+      keeps = join_first_keeps g.B.Banks.log g.B.Banks.meter parts _ refl refl c.args.number question asks;
+      done = join_first_done g.B.Banks.log g.B.Banks.meter parts _ refl refl c.args.number question c.send_question-in-Absent.result c.requires.named asks c.send_question-in-Absent.ensures.sent;
+      cause = cause_memory g.B.Banks.meter parts.clones.items new c.send_question-in-Absent.result c.send_question-in-Absent.ensures.memory;
+    }
 
-pub returns-in_default-clause-done : goal.returns-in_default-clause-done
-returns-in_default-clause-done c = record {
-  moves = λ steps. settled (running_of c.args.parts.now steps) c.args.number c.index.result.now (reply_value c.state_reply.result) c.state_reply.ensures
-      (state_read c.args.parts.now.clones.items c.args.number c.from.result c.index.result.now c.index.result.now c.from.ensures (omega (arith, c.requires.number)) c.index.ensures (λ i. c.index.result.now))
-      c.in_default.not-Asking c.in_default.not-Absent;
-}
+pub returns-in_default : goal.returns-in_default
+returns-in_default g c =
+    let parts = c.args.parts.now in
+    let state = c.index.result.now in
+    record {
+      keeps = keeps_still g.B.Banks.log g.B.Banks.meter parts _ refl refl refl;
+      done = join_settled_done g.B.Banks.log g.B.Banks.meter parts _ refl refl c.args.number state c.state_reply.result c.state_reply.ensures
+          (place_read parts.clones.items c.args.number c.from.result state state c.from.ensures (omega (arith, c.requires.number)) c.index.ensures refl)
+          c.in_default.not-Asking c.in_default.not-Absent refl refl;
+      cause = tt;
+    }

@@ -1,6 +1,6 @@
 use Rattle.schedule_model.specs.Schedule.{SpellsCommand}
-use Rattle.net_world.specs.ReadLines.{IsAddRest, IsRemoveRest, IsDeliverRest, IsShowRest, IsCompareRest, IsJoinRest}
-use Rattle.net_world.proofs.LinesCommands.{read_behind, found_behind, add_behind, remove_behind, deliver_behind, show_behind, compare_behind, join_behind}
+use Rattle.net_world.specs.ReadLines.{IsAddRest, IsRemoveRest, IsDeliverRest, IsShowRest, IsCompareRest, IsJoinRest, IsStopRest, IsOpenRest}
+use Rattle.net_world.proofs.LinesCommands.{read_behind, found_behind, add_behind, remove_behind, deliver_behind, show_behind, compare_behind, join_behind, stop_behind, open_behind}
 use Rattle.net_world.proofs.lines.command_of.Goals as goal
 
 pub returns-in-Some : goal.returns-in-Some
@@ -32,3 +32,13 @@ pub returns-in-Some-behind-5 : goal.returns-in-Some-behind-5
 returns-in-Some-behind-5 c =
     found_behind (λ command. IsJoinRest c.in-Some-behind-5.rest.now command) (λ command. SpellsCommand c.args.line.now command) c.read_join.result
     (join_behind c.args.line.now c.in-Some-behind-5.rest.now c.in-Some-behind-5.ensures) c.read_join.ensures
+
+pub returns-in-Some-behind-6 : goal.returns-in-Some-behind-6
+returns-in-Some-behind-6 c =
+    found_behind (λ command. IsStopRest c.in-Some-behind-6.rest.now command) (λ command. SpellsCommand c.args.line.now command) c.read_stop.result
+    (stop_behind c.args.line.now c.in-Some-behind-6.rest.now c.in-Some-behind-6.ensures) c.read_stop.ensures
+
+pub returns-in-Some-behind-7 : goal.returns-in-Some-behind-7
+returns-in-Some-behind-7 c =
+    found_behind (λ command. IsOpenRest c.in-Some-behind-7.rest.now command) (λ command. SpellsCommand c.args.line.now command) c.read_open.result
+    (open_behind c.args.line.now c.in-Some-behind-7.rest.now c.in-Some-behind-7.ensures) c.read_open.ensures

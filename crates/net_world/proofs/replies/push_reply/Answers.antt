@@ -63,3 +63,11 @@ returns-in-Live c = search rules
 pub returns-in-Down : goal.returns-in-Down
 unfolding reply_text
 returns-in-Down c = search rules
+
+pub returns-in-Stopped : goal.returns-in-Stopped
+unfolding reply_text
+returns-in-Stopped c = word_pushed c.extend_from_slice-in-Stopped.result c.args.out.now.items _ _ _ c.extend_from_slice-in-Stopped.ensures.items (sym (ap (λ w. reply_text (reply_value w)) c.in-Stopped.is))
+
+pub returns-in-Opened : goal.returns-in-Opened
+unfolding reply_text
+returns-in-Opened c = word_pushed c.extend_from_slice-in-Opened.result c.args.out.now.items _ _ _ c.extend_from_slice-in-Opened.ensures.items (sym (ap (λ w. reply_text (reply_value w)) c.in-Opened.is))

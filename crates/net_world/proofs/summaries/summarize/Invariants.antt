@@ -1,6 +1,7 @@
-use Rattle.std.proofs.Common.{take}
+use Rattle.std.proofs.Common.{map, take}
+use Rattle.net_world.specs.WorldBanks.{in_memory}
 use Rattle.net_world.specs.WorldSummary.{SummarizesAll}
 use Rattle.net_world.proofs.summaries.summarize.Given as goal
 
 abbrev pub invariant-loop-clone : goal.invariant-loop-clone
-invariant-loop-clone l = SummarizesAll (take l.clone-index l.clones) l.summaries.items
+invariant-loop-clone g l = SummarizesAll (map in_memory (take l.clone-index l.clones)) l.summaries.items

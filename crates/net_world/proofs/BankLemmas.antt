@@ -1,0 +1,275 @@
+-- Clones with their banks: where one of them changes, what the others keep, and the model's step.
+use Rattle.std.proofs.Common.{◌≡◌, ◌≢◌, ℕ, List, Option, Some, None, MatchOption, Result, Ok, Err, IfErr, refl, sym, ◌∙◌, ap, arith, subst, map, set, option_map, inl, inr}
+use Rattle.std.specs.Prelude.{slice_get}
+use Rattle.std.proofs.lemmas.Bool.{cases_eq}
+use Rattle.std.proofs.lemmas.List.{map-set, length-set}
+use Rattle.std.proofs.lemmas.Option.{slice_get-map}
+use Rattle.mld_io.specs.Arm.{Arm, Unarmed, Meter, Metered, LowersAtMost}
+use Rattle.mld_io.specs.Disk.{Log}
+use Rattle.mld_io.specs.Faults.{Rose}
+use Rattle.mld_model.specs.declared.CloneState.TheVariants as states
+use Rattle.mld_model.specs.Clone.{Clone, Stored, kept_of}
+use Rattle.mld_model.specs.Clone as model
+use Rattle.mld_model.specs.CloneStep.{Answers, ByState, Takes}
+use Rattle.mld_model.specs.Local.{LocalStored}
+use Rattle.mld_model.specs.Reply.{Reply, NoMessage}
+use Rattle.mld_model.specs.Sound.{Keeps, IsSound}
+use Rattle.mld_model.specs.StandsFor.{StoredStandsFor, CloneStandsFor}
+use Rattle.mld_model.specs.World.{World, Message, clone_at, message_at}
+use Rattle.schedule_model.specs.declared.Command.{Command}
+use Rattle.schedule_model.specs.declared.Command.TheVariants.{Add, Remove, Deliver, Show, Compare, Join, Stop, Open}
+use Rattle.schedule_model.specs.Step.{Step, number_of_clone}
+use Rattle.schedule_model.specs.WorldStep.{Follows}
+use Rattle.schedule_model.proofs.ChangesLaws.{step_keeps_domain, step_keeps_others, kept_still_stands}
+use Rattle.net_world.specs.declared.faults.WorldFault.{WorldFault}
+use Rattle.net_world.specs.declared.faults.WorldFault.TheVariants as faults
+use Rattle.net_world.specs.declared.replies.Reply.{Reply as CodeReply}
+use Rattle.net_world.specs.Replies.{FailsToTell}
+use Rattle.net_world.specs.States.{HasState, Becomes}
+use Rattle.net_world.specs.WorldBanks.{BankedState, BankedWorld, in_memory, banks_of_state, memory_of, KeepsNoneNow, KeepsStored, BanksStandFor, IsBacked, StandsOnBanks, GoesOn, MetersGoOn, FailsAt, FailsAmong, IsCarried, IsCarriedAt}
+use Rattle.net_world.specs.Worlds.{Moves, MovesOnBanks}
+use Rattle.net_world.proofs.Places.{here_at, other_at}
+
+-- ---- what clones have in memory
+
+module _ {B : Type 0} where
+  pub memory_at : (clones : List (BankedState B)) (number : ℕ) (state : BankedState B) → HasState clones number state → HasState (map in_memory clones) number (in_memory state)
+  memory_at clones number state at = slice_get-map in_memory clones number ∙ ap (λ (o : Option (BankedState B)). option_map in_memory o) at
+
+  pub memory_set : (clones : List (BankedState B)) (number : ℕ) (state : BankedState B) → map in_memory (set clones number state) ≡ set (map in_memory clones) number (in_memory state)
+  memory_set clones number state = map-set in_memory clones number state
+
+  pub memory_becomes : (old new : List (BankedState B)) (number : ℕ) (before after : BankedState B) → Becomes old new number before after
+      → Becomes (map in_memory old) (map in_memory new) number (in_memory before) (in_memory after)
+  memory_becomes old new number before after becomes = record {
+    was = memory_at old number before becomes.was;
+    now = ap (λ (l : List (BankedState B)). map in_memory l) becomes.now ∙ memory_set old number after;
+  }
+
+-- ---- meters
+
+-- banks that were not used
+pub goes_on_same : (meter : Meter) → GoesOn meter meter
+goes_on_same meter = record { later = omega arith; unarmed = λ is. is }
+
+-- banks that were used
+pub goes_on : (calls : ℕ) (before now : Meter) (Done Failed : Type 0) → Metered calls before now Done Failed → GoesOn before now
+goes_on calls before now Done Failed metered = record {
+  later = metered.real_later;
+  unarmed = λ is. subst (λ (a : Arm). LowersAtMost calls a now.arm) is metered.lowered;
+}
+
+-- what failed where it wasn't armed had a real fault
+pub rose_unarmed : (calls : ℕ) (before now : Meter) (Done Failed : Type 0) → Metered calls before now Done Failed → Failed → before.arm ≡ Unarmed → Rose before.real_faults now.real_faults
+rose_unarmed calls before now Done Failed metered failed unarmed = elim (metered.cause failed) [
+  | inl caught ↦ absurd (cc (caught, (goes_on calls before now Done Failed metered).unarmed unarmed))
+  | inr rose ↦ rose
+]
+
+module _ {B : Type 0} (meter : B → Meter) where
+  -- banks of which those of one clone were used
+  banks_set : (old : List B) (number : ℕ) (was now : B) → slice_get old number ≡ Some was → GoesOn (meter was) (meter now) → MetersGoOn meter old (set old number now)
+  banks_set old number was now at on = record {
+    count = length-set old number now;
+    each = λ other before after had has. elim (cases_eq other number) [
+      | inl same ↦
+          let first : was ≡ before = cc (at, subst (λ (k : ℕ). slice_get old k ≡ Some before) same had) in
+          let second : now ≡ after = here_at old number now after (subst (λ (k : ℕ). slice_get (set old number now) k ≡ Some after) same has) in
+          subst (λ (b : B). GoesOn (meter b) (meter after)) first (subst (λ (b : B). GoesOn (meter was) (meter b)) second on)
+      | inr differs ↦
+          let kept : before ≡ after = cc (had, other_at old number other now after differs has) in
+          subst (λ (b : B). GoesOn (meter before) (meter b)) kept (goes_on_same (meter before))
+    ];
+  }
+
+  pub banks_at : (clones : List (BankedState B)) (number : ℕ) (state : BankedState B) → HasState clones number state → slice_get (map banks_of_state clones) number ≡ Some (banks_of_state state)
+  banks_at clones number state at = slice_get-map banks_of_state clones number ∙ ap (λ (o : Option (BankedState B)). option_map banks_of_state o) at
+
+  -- clones as they were
+  pub meters_same : (clones : List (BankedState B)) → MetersGoOn meter (map banks_of_state clones) (map banks_of_state clones)
+  meters_same clones = record {
+    count = refl;
+    each = λ other before after had has. subst (λ (b : B). GoesOn (meter before) (meter b)) (cc (had, has)) (goes_on_same (meter before));
+  }
+
+  -- clones of which one changed
+  pub meters_set : (old new : List (BankedState B)) (number : ℕ) (before after : BankedState B) → Becomes old new number before after
+      → GoesOn (meter (banks_of_state before)) (meter (banks_of_state after)) → MetersGoOn meter (map banks_of_state old) (map banks_of_state new)
+  meters_set old new number before after becomes on =
+      subst (λ (l : List B). MetersGoOn meter (map banks_of_state old) l)
+      (sym (map-set banks_of_state old number after) ∙ ap (λ (l : List (BankedState B)). map banks_of_state l) (sym becomes.now))
+      (banks_set (map banks_of_state old) number (banks_of_state before) (banks_of_state after) (banks_at old number before becomes.was) on)
+
+  -- the fault of that one
+  pub fails_set : (old new : List (BankedState B)) (number : ℕ) (before after : BankedState B) (fault : WorldFault) → Becomes old new number before after
+      → FailsAt number (meter (banks_of_state before)) (meter (banks_of_state after)) fault → FailsAmong meter old new fault
+  fails_set old new number before after faults.NoMemory becomes fails = tt
+  fails_set old new number before after (faults.Device clone) becomes fails = λ was now had has unarmed.
+      let now_is : map banks_of_state new ≡ set (map banks_of_state old) number (banks_of_state after) =
+      ap (λ (l : List (BankedState B)). map banks_of_state l) becomes.now ∙ map-set banks_of_state old number after in
+      let first : banks_of_state before ≡ was = cc (banks_at old number before becomes.was, subst (λ (k : ℕ). slice_get (map banks_of_state old) k ≡ Some was) fails.0 had) in
+      let second : banks_of_state after ≡ now = here_at (map banks_of_state old) number (banks_of_state after) now
+      (subst (λ (l : List B). slice_get l number ≡ Some now) now_is (subst (λ (k : ℕ). slice_get (map banks_of_state new) k ≡ Some now) fails.0 has)) in
+      subst (λ (b : B). Rose (meter b).real_faults (meter now).real_faults) first
+      (subst (λ (b : B). Rose (meter (banks_of_state before)).real_faults (meter b).real_faults) second
+      (fails.1 (subst (λ (b : B). (meter b).arm ≡ Unarmed) (sym first) unarmed)))
+
+  -- why a call at that one was refused
+  pub cause_set : {T : Type 0} (old new : List (BankedState B)) (number : ℕ) (before after : BankedState B) (r : Result T WorldFault) → Becomes old new number before after
+      → IfErr r (FailsAt number (meter (banks_of_state before)) (meter (banks_of_state after))) → IfErr r (FailsAmong meter old new)
+  cause_set old new number before after (Ok reply) becomes fails = tt
+  cause_set old new number before after (Err fault) becomes fails = fails_set old new number before after fault becomes fails
+
+  -- want of memory is a cause of its own
+  pub cause_memory : {T : Type 0} (old new : List (BankedState B)) (r : Result T WorldFault) → IfErr r (λ fault. fault ≡ faults.NoMemory) → IfErr r (FailsAmong meter old new)
+  cause_memory old new (Ok reply) none = tt
+  cause_memory old new (Err fault) none = subst (λ (f : WorldFault). FailsAmong meter old new f) (sym none) tt
+
+  -- the fault of a command is told, or there is no memory to tell its reply
+  pub cause_told : {T : Type 0} (old new : List (BankedState B)) (reply : Result CodeReply WorldFault) (told : Result T WorldFault) → IfErr reply (FailsAmong meter old new)
+      → IfErr told (FailsToTell reply) → IfErr told (FailsAmong meter old new)
+  cause_told old new reply (Ok done) fails tells = tt
+  cause_told old new (Ok reply) (Err fault) fails tells = subst (λ (f : WorldFault). FailsAmong meter old new f) (sym tells) tt
+  cause_told old new (Err refused) (Err fault) fails tells = subst (λ (f : WorldFault). FailsAmong meter old new f) (sym tells) fails
+
+-- ---- what banks stand for after a step
+
+-- of a clone that keeps the same
+stands_by : (world next : World) (number : ℕ) (now : Option Log) (kept : Option Stored) → next.domain ≡ world.domain → next.properties ≡ world.properties
+    → ((stored : Stored) (running : LocalStored) → kept ≡ Some stored → StoredStandsFor world.history running stored → StoredStandsFor next.history running stored)
+    → MatchOption kept (KeepsNoneNow now) (λ stored. KeepsStored world number stored now) → MatchOption kept (KeepsNoneNow now) (λ stored. KeepsStored next number stored now)
+stands_by world next number now None domain properties still h = h
+stands_by world next number now (Some stored) domain properties still h = record {
+  log = h.log;
+  now_is = h.now_is;
+  kept = h.kept;
+  keeps = h.keeps;
+  id = h.id;
+  domain = h.domain ∙ sym domain;
+  properties = h.properties ∙ sym properties;
+  stands = still stored _ refl h.stands;
+}
+
+-- a clone that keeps this
+keeps_from : (clone : Clone) (stored : Stored) → kept_of clone ≡ Some stored → Keeps clone stored
+keeps_from clone stored kept = subst (λ (o : Option Stored). MatchOption o ⊥ (λ s. s ≡ stored)) (sym kept) refl
+
+-- where a command opens no banks, a clone that is down answers by its state
+abbrev pub StaysShut : Command → Type 0
+StaysShut (Open number) = ⊥
+StaysShut command = Unit {0}
+
+down_by : (world : World) (number : ℕ) (clone : Clone) (away asking down : Type 0) (live : Stored → List _ → Type 0)
+    → CloneStandsFor world number (states.Down (record {})) clone → ByState clone away asking down live → down
+down_by world number model.Empty away asking down live stands h = h
+down_by world number (model.Down stored) away asking down live stands h = h
+down_by world number clone away asking down live stands h = absurd stands
+
+-- one that is absent or down takes no message
+down_takes : (world next : World) (number : ℕ) (reply : Reply) (sent : Option Message) (clone : Clone) → CloneStandsFor world number (states.Down (record {})) clone
+    → MatchOption sent (Answers world NoMessage reply next) (λ message. Takes world number message clone reply next) → next ≡ world
+down_takes world next number reply None clone stands h = h.1
+down_takes world next number reply (Some message) clone stands h = (down_by world number clone _ _ _ _ stands h).1
+
+down_stays : (world next : World) (command : Command) (reply : Reply) → StaysShut command
+    → CloneStandsFor world (number_of_clone command) (states.Down (record {})) (clone_at world (number_of_clone command)) → Step world command reply next → next ≡ world
+unfolding Step
+down_stays world next (Add number triple) reply shut stands step = (down_by world number (clone_at world number) _ _ _ _ stands step).1
+down_stays world next (Remove number triple) reply shut stands step = (down_by world number (clone_at world number) _ _ _ _ stands step).1
+down_stays world next (Deliver message number) reply shut stands step = down_takes world next number reply (message_at world message) (clone_at world number) stands step
+down_stays world next (Show number) reply shut stands step = (down_by world number (clone_at world number) _ _ _ _ stands step).1
+down_stays world next (Join number) reply shut stands step = (down_by world number (clone_at world number) _ _ _ _ stands step).1
+down_stays world next (Stop number) reply shut stands step = (down_by world number (clone_at world number) _ _ _ _ stands step).1
+down_stays world next (Open number) reply shut stands step = absurd shut
+down_stays world next (Compare number other) reply shut stands step = (down_by world number (clone_at world number) _ _ _ _ stands step).1
+
+-- ---- steps of a world on banks
+
+module _ {B : Type 0} (log : B → Option Log) (old new : BankedWorld B) (command : Command) (reply : Reply) where
+  -- what is known of a clone that keeps the same
+  still_backed : (world next : World) (number : ℕ) (state : BankedState B) → IsSound world → Step world command reply next → clone_at next number ≡ clone_at world number
+      → IsBacked log world number state → IsBacked log next number state
+  still_backed world next number (states.Absent banks) sound step same backed = tt
+  still_backed world next number (states.Asking asking) sound step same backed = tt
+  still_backed world next number (states.Live clone) sound step same backed = backed
+  still_backed world next number (states.Down banks) sound step same backed =
+      let keeps : (next.domain ≡ world.domain) × (next.properties ≡ world.properties) = step_keeps_domain world command reply next step in
+      subst (λ (c : Clone). MatchOption (kept_of c) (KeepsNoneNow (log banks)) (λ stored. KeepsStored next number stored (log banks))) (sym same)
+      (stands_by world next number (log banks) (kept_of (clone_at world number)) keeps.0 keeps.1
+      (λ stored running kept. kept_still_stands world command reply next sound step number stored (keeps_from (clone_at world number) stored kept) running) backed)
+
+  -- what is known of a clone that the command doesn't say of
+  other_backed : (world next : World) → StandsOnBanks log old world → IsSound world → Step world command reply next → (number : ℕ) (state : BankedState B)
+      → number ≢ number_of_clone command → HasState old.clones number state → IsBacked log next number state
+  other_backed world next stands sound step number state differs at =
+      still_backed world next number state sound step (step_keeps_others world command reply next step number differs) (stands.backed number state at)
+
+  -- and of the clone that it says of, where that is in the state in which it was
+  here_backed : (world next : World) → StandsOnBanks log old world → Step world command reply next → StaysShut command → (state : BankedState B)
+      → HasState old.clones (number_of_clone command) state → IsBacked log next (number_of_clone command) state
+  here_backed world next stands step shut (states.Absent banks) at = tt
+  here_backed world next stands step shut (states.Asking asking) at = tt
+  here_backed world next stands step shut (states.Live clone) at = stands.backed (number_of_clone command) (states.Live clone) at
+  here_backed world next stands step shut (states.Down banks) at =
+      let number : ℕ = number_of_clone command in
+      let down : CloneStandsFor world number (states.Down (record {})) (clone_at world number) =
+      stands.memory.clones number (states.Down (record {})) (memory_at old.clones number (states.Down banks) at) in
+      subst (λ (w : World). BanksStandFor w number (log banks)) (sym (down_stays world next command reply shut down step)) (stands.backed number (states.Down banks) at)
+
+  -- the clone that the command says of is in another state
+  pub moves_at : (after : BankedState B) → ((world : World) → StandsOnBanks log old world → IsSound world → Follows world command reply (memory_of new)) → new.clones ≡ set old.clones (number_of_clone command) after
+      → ((world next : World) → StandsOnBanks log old world → IsSound world → Step world command reply next → IsBacked log next (number_of_clone command) after)
+      → MovesOnBanks log old command reply new
+  moves_at after moves same backs world stands sound =
+      let here : ℕ = number_of_clone command in
+      let f : Follows world command reply (memory_of new) = moves world stands sound in
+      record {
+        next = f.next;
+        steps = f.steps;
+        sound = f.sound;
+        stands = record {
+          memory = f.stands;
+          backed = λ number state is.
+              let at : HasState (set old.clones here after) number state = subst (λ (l : List (BankedState B)). HasState l number state) same is in
+              elim (cases_eq number here) [
+                | inl equal ↦
+                    let now : after ≡ state = here_at old.clones here after state (subst (λ (k : ℕ). HasState (set old.clones here after) k state) equal at) in
+                    subst (λ (k : ℕ). IsBacked log f.next k state) (sym equal)
+                    (subst (λ (s : BankedState B). IsBacked log f.next here s) now (backs world f.next stands sound f.steps))
+                | inr differs ↦ other_backed world f.next stands sound f.steps number state differs (other_at old.clones here number after state differs at)
+              ];
+        };
+      }
+
+  -- no clone is in another state
+  pub moves_still : Moves (memory_of old) command reply (memory_of new) → new.clones ≡ old.clones → StaysShut command → MovesOnBanks log old command reply new
+  moves_still moves same shut world stands sound =
+      let f : Follows world command reply (memory_of new) = moves world stands.memory sound in
+      record {
+        next = f.next;
+        steps = f.steps;
+        sound = f.sound;
+        stands = record {
+          memory = f.stands;
+          backed = λ number state is.
+              let at : HasState old.clones number state = subst (λ (l : List (BankedState B)). HasState l number state) same is in
+              elim (cases_eq number (number_of_clone command)) [
+                | inl equal ↦
+                    subst (λ (k : ℕ). IsBacked log f.next k state) (sym equal)
+                    (here_backed world f.next stands f.steps shut state (subst (λ (k : ℕ). HasState old.clones k state) equal at))
+                | inr differs ↦ other_backed world f.next stands sound f.steps number state differs at
+              ];
+        };
+      }
+
+  -- the clone's state is one that may be carried
+  carried_backed : StaysShut command → (state : BankedState B) → IsCarried old.clones (number_of_clone command) state
+      → (world next : World) → StandsOnBanks log old world → IsSound world → Step world command reply next → IsBacked log next (number_of_clone command) state
+  carried_backed shut (states.Absent banks) carried world next stands sound step = tt
+  carried_backed shut (states.Asking asking) carried world next stands sound step = tt
+  carried_backed shut (states.Live clone) carried world next stands sound step = carried
+  carried_backed shut (states.Down banks) carried world next stands sound step = here_backed world next stands step shut (states.Down banks) carried
+
+  pub moves_carried : Moves (memory_of old) command reply (memory_of new) → StaysShut command → IsCarriedAt old.clones new.clones (number_of_clone command)
+      → MovesOnBanks log old command reply new
+  moves_carried moves shut at = moves_at at.state (λ world stands sound. moves world stands.memory sound) at.now (carried_backed shut at.state at.carried)

@@ -1,0 +1,115 @@
+-- The banks of a world: where it is founded, and where its clones stop.
+use Rattle.std.proofs.Common.{◌≡◌, ℕ, zero, suc, List, [], ◌∷◌, Option, Some, None, MatchOption, refl, sym, ◌∙◌, ap, subst, inl, inr, map, option_map}
+use Rattle.std.specs.Prelude.{slice_get}
+use Rattle.std.specs.Prelude.{IsSome}
+use Rattle.std.proofs.lemmas.Option.{slice_get-map}
+use Rattle.mld_io.specs.Disk.{Log}
+use Rattle.journal_store.specs.Standing.{KeepsNothing}
+use Rattle.tree_clock.specs.Lists.{Has}
+use Rattle.mld_model.specs.Clone.{Clone, Stored, kept_of}
+use Rattle.mld_model.specs.Clone as model
+use Rattle.mld_model.specs.World.{World, clone_at}
+use Rattle.mld_model.specs.declared.CloneState.TheVariants as states
+use Rattle.mld_model.specs.StandsFor.{RunningWorld, StandsFor, CloneStandsFor, founded_running}
+use Rattle.mld_model.proofs.FoundedLaws.{founded_sound}
+use Rattle.schedule_model.specs.Runs.{founded_by}
+use Rattle.schedule_model.specs.Schedule.{Setup}
+use Rattle.schedule_model.proofs.WorldLaws.{founded_stands}
+use Rattle.clone_core.specs.Banked.{kept_as}
+use Rattle.net_world.specs.Founding.{IsOpenState, AreFounded}
+use Rattle.net_world.specs.States.{HasState}
+use Rattle.net_world.specs.WorldBanks.{BankedState, BankedWorld, in_memory, banks_of_state, memory_of, KeepsNoneNow, KeepsStored, BanksStandFor, AllBanksStandFor, IsBacked, StandsOnBanks}
+use Rattle.net_world.specs.WorldEnds.{KeepsState, KeepAll}
+use Rattle.net_world.specs.Worlds.{IsStanding}
+use Rattle.net_world.proofs.BankLemmas.{memory_at}
+use Rattle.net_world.proofs.StopLemmas.{told_log}
+
+-- what stands in a place of a list is a member of it
+member_at : {X : Type 0} (items : List X) (place : ℕ) (item : X) → slice_get items place ≡ Some item → Has items item
+member_at [] place item at = absurd (cc at)
+member_at (first ∷ items) zero item at = inl (cc at)
+member_at (first ∷ items) (suc before) item at = inr (member_at items before item at)
+
+module _ {B : Type 0} (log : B → Option Log) where
+  -- ---- founding
+
+  -- a clone that was just founded is open where it is live
+  founded_backed : (world : World) (number : ℕ) (state : BankedState B) → IsOpenState state → IsBacked log world number state
+  founded_backed world number (states.Absent banks) opened = tt
+  founded_backed world number (states.Asking asking) opened = absurd opened
+  founded_backed world number (states.Down banks) opened = absurd opened
+  founded_backed world number (states.Live clone) opened = opened
+
+  -- the world that was founded stands for the model's
+  pub founded_on_banks : (setup : Setup) (running : BankedWorld B) → AreFounded setup running.clones → running.domain ≡ setup.domain → running.properties ≡ setup.properties
+      → running.messages ≡ [] → running.steps ≡ 0 → StandsOnBanks log running (founded_by setup)
+  founded_on_banks setup running founded domain properties messages steps =
+      let same : memory_of running ≡ founded_running setup.domain setup.properties setup.count = λ i. record {
+        domain = domain i;
+        properties = properties i;
+        clones = founded.memory i;
+        messages = messages i;
+        steps = steps i;
+      } in
+      record {
+        memory = subst (λ (r : RunningWorld). StandsFor r (founded_by setup)) (sym same) (founded_stands setup.domain setup.properties setup.count);
+        backed = λ number state at. founded_backed (founded_by setup) number state (founded.opened state (member_at running.clones number state at));
+      }
+
+  -- which is sound
+  pub founded_standing_on : (setup : Setup) (running : BankedWorld B) → StandsOnBanks log running (founded_by setup) → IsStanding log running
+  founded_standing_on setup running stands =
+      record { world = founded_by setup; stands = stands; sound = founded_sound setup.domain setup.properties setup.count }
+
+  -- ---- stopping
+
+  keeps_none : (banks : B) → ((now : Log) → log banks ≡ Some now → KeepsNothing now) → IsSome (log banks) → KeepsNoneNow (log banks)
+  keeps_none banks blank some =
+      let now : (l : Log) × (log banks ≡ Some l) = told_log (log banks) some in
+      record { log = now.0; now_is = now.1; keeps = blank now.0 now.1 }
+
+  -- the banks of a clone that stopped
+  stopped_stands : (world : World) (number : ℕ) (state : BankedState B) (clone : Clone) → CloneStandsFor world number (in_memory state) clone → IsBacked log world number state
+      → clone_at world number ≡ clone → KeepsState log state → IsSome (log (banks_of_state state))
+      → MatchOption (kept_of clone) (KeepsNoneNow (log (banks_of_state state))) (λ stored. KeepsStored world number stored (log (banks_of_state state)))
+  stopped_stands world number (states.Down banks) clone stands backed at keeps some =
+      subst (λ (c : Clone). MatchOption (kept_of c) (KeepsNoneNow (log banks)) (λ stored. KeepsStored world number stored (log banks))) at backed
+  stopped_stands world number (states.Absent banks) model.Absent stands backed at keeps some = keeps_none banks keeps some
+  stopped_stands world number (states.Asking asking) model.Asking stands backed at keeps some = keeps_none asking.banks keeps some
+  stopped_stands world number (states.Live live) (model.Live stored held) stands backed at keeps some =
+      let now : (l : Log) × (log live.banks ≡ Some l) = told_log (log live.banks) some in
+      let kept = keeps backed now.0 now.1 in
+      record {
+        log = now.0;
+        now_is = now.1;
+        kept = kept_as kept.0 live.generation live.local;
+        keeps = kept.1;
+        id = stands.0.id;
+        domain = stands.0.domain;
+        properties = stands.0.properties;
+        stands = stands.1.kept;
+      }
+  stopped_stands world number state clone stands backed at keeps some = absurd stands
+
+  -- what the banks of one more clone keep
+  pub keeps_more : (state : BankedState B) (left rest all : List (BankedState B)) → left ≡ state ∷ rest → KeepsState log state → (KeepAll log left → KeepAll log all)
+      → KeepAll log rest → KeepAll log all
+  keeps_more state left rest all more keeps so_far others =
+      so_far (subst (λ (l : List (BankedState B)). KeepAll log l) (sym more) (λ other has. elim has [
+        | inl same ↦ subst (λ (s : BankedState B). KeepsState log s) same keeps
+        | inr later ↦ others other later
+      ]))
+
+  -- and those of all clones
+  pub all_stand : (running : BankedWorld B) → ((banks : B) → IsSome (log banks)) → KeepAll log running.clones → (world : World) → StandsOnBanks log running world
+      → AllBanksStandFor log world (map banks_of_state running.clones)
+  all_stand running tells keeps world stands number one at =
+      found (slice_get running.clones number) refl (sym (slice_get-map banks_of_state running.clones number) ∙ at)
+    where
+      found : (state : Option (BankedState B)) → slice_get running.clones number ≡ state → option_map banks_of_state state ≡ Some one → BanksStandFor world number (log one)
+      found None there is = absurd (cc is)
+      found (Some state) there is =
+          let same : banks_of_state state ≡ one = cc is in
+          subst (λ (b : B). BanksStandFor world number (log b)) same
+          (stopped_stands world number state (clone_at world number) (stands.memory.clones number (in_memory state) (memory_at running.clones number state there))
+          (stands.backed number state there) refl (keeps state (member_at running.clones number state there)) (tells (banks_of_state state)))

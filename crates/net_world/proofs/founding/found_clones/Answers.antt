@@ -1,0 +1,41 @@
+use Rattle.std.proofs.Common.{◌≡◌, ◌∙◌, ◌++◌, [], List, arith, rules, ap, sym, subst, map}
+use Rattle.mld_model.specs.declared.CloneState.TheVariants as kinds
+use Rattle.net_world.specs.ReadLines.{setup_of}
+use Rattle.net_world.specs.WorldBanks.{BankedState, banks_of_state, MetersGoOn, HasFailed, FailsAmong}
+use Rattle.net_world.specs.declared.faults.WorldFault.{WorldFault}
+use Rattle.net_world.specs.declared.faults.WorldFault.TheVariants as faults
+use Rattle.net_world.proofs.FaultLemmas.{banks_of_absent}
+use Rattle.net_world.proofs.FoundingLemmas.{all_absent, all_founded}
+use Rattle.net_world.proofs.founding.found_clones.Given as given
+use Rattle.net_world.proofs.founding.found_clones.Goals as goal
+
+pub found_each-requires-clause-absent : goal.found_each-requires-clause-absent
+found_each-requires-clause-absent g c =
+    all_absent (setup_of c.args.setup.now) c.args.blanks.items c.in-Ok.clones.items (omega (arith, c.requires.count)) (search rules)
+
+pub returns-in-Ok-found_each-clause-ok : goal.returns-in-Ok-found_each-clause-ok
+returns-in-Ok-found_each-clause-ok g c = all_founded (setup_of c.args.setup.now) c.found_each.new.clones.items c.in-Ok-found_each.ensures.ok
+
+-- the banks that founding begins with
+begun_as : (g : given.Over) (blanks : List g.row.B.Denot) (clones : List (BankedState g.row.B.Denot)) → clones ≡ map (λ banks. kinds.Absent banks) blanks → map banks_of_state clones ≡ blanks
+begun_as g blanks clones are = ap (λ (l : List (BankedState g.row.B.Denot)). map banks_of_state l) are ∙ banks_of_absent blanks
+
+pub returns-in-Ok-found_each-clause-meters : goal.returns-in-Ok-found_each-clause-meters
+returns-in-Ok-found_each-clause-meters g c =
+    subst (λ (l : List g.row.B.Denot). MetersGoOn g.B.Banks.meter l (map banks_of_state c.found_each.new.clones.items)) (begun_as g c.args.blanks.items c.in-Ok.clones.items (search rules))
+    c.found_each.ensures.meters
+
+pub returns-in-Err-Device-clause-err : goal.returns-in-Err-Device-clause-err
+returns-in-Err-Device-clause-err g c =
+    let meter = g.B.Banks.meter in
+    let begun = map banks_of_state c.in-Ok.clones.items in
+    let left = map banks_of_state c.found_each.new.clones.items in
+    let none : c.in-Ok.back.items ≡ [] = search rules in
+    let given : c.stop_all.new.banks.items ≡ left = c.stop_all.ensures.banks ∙ ap (λ (l : List g.row.B.Denot). l ++ left) none in
+    let fails : FailsAmong meter c.in-Ok.clones.items c.found_each.new.clones.items (faults.Device c.in-Err-Device.clone) =
+    subst (λ (f : WorldFault). FailsAmong meter c.in-Ok.clones.items c.found_each.new.clones.items f) c.in-Err-Device.field-0-is c.in-Err-Device.ensures.err in (
+      subst (λ (l : List g.row.B.Denot). MetersGoOn meter l c.stop_all.new.banks.items) (begun_as g c.args.blanks.items c.in-Ok.clones.items (search rules))
+          (subst (λ (l : List g.row.B.Denot). MetersGoOn meter begun l) (sym given) c.found_each.ensures.meters),
+      subst (λ (l : List g.row.B.Denot). HasFailed meter c.in-Err-Device.clone l c.stop_all.new.banks.items) (begun_as g c.args.blanks.items c.in-Ok.clones.items (search rules))
+          (subst (λ (l : List g.row.B.Denot). HasFailed meter c.in-Err-Device.clone begun l) (sym given) fails),
+    )

@@ -1,0 +1,81 @@
+use Rattle.std.proofs.Common.{◌≡◌, ◌+◌, ◌∙◌, List, arith, sym, subst, set, map, length, inl, inr}
+use Rattle.std.proofs.lemmas.Option.{slice_get_within}
+use Rattle.std.proofs.lemmas.Result.{on_ok_weaker, IfErr-weaker}
+use Rattle.mld_model.specs.declared.CloneState.TheVariants as kinds
+use Rattle.net_world.specs.Founding.{IsNewAsker}
+use Rattle.net_world.specs.ReadLines.{setup_of}
+use Rattle.net_world.specs.States.{Becomes}
+use Rattle.net_world.specs.WorldBanks.{BankedState, banks_of_state, GoesOn, MetersGoOn, FailsAt, FailsAmong}
+use Rattle.net_world.proofs.BankLemmas.{meters_set, fails_set}
+use Rattle.net_world.proofs.FaultLemmas.{meters_then, fails_then, then_fails}
+use Rattle.net_world.proofs.FoundingLemmas.{absent_there, giver_there, first_stays, comes_back, one_more}
+use Rattle.net_world.proofs.founding.found_other.Given as given
+use Rattle.net_world.proofs.founding.found_other.Goals as goal
+
+pub take_blank-blank-requires : goal.take_blank-blank-requires
+take_blank-blank-requires g c =
+    absent_there (setup_of c.args.setup.now) c.args.number c.args.clones.now.items (omega (arith, c.requires.below, c.requires.setup.most)) c.requires.founded
+
+pub join_first-state-requires : goal.join_first-state-requires
+join_first-state-requires g c =
+    let old = c.args.clones.now.items in
+    let left = c.take_blank-blank.new.clones.items in
+    let taken = c.take_blank-blank.ensures in
+    let giver = giver_there (setup_of c.args.setup.now) c.args.number old c.new_asker-asker.result.asker c.requires.some c.requires.below c.requires.setup c.new_asker-asker.ensures.asker.id c.requires.founded in
+    let inside = slice_get_within old c.args.number (kinds.Absent c.take_blank-blank.result) taken.was in
+    let counted : length left + 1 ≡ length old = omega (arith, taken.len) in
+    (giver.0, first_stays old left c.args.number (kinds.Absent c.take_blank-blank.result) c.requires.some inside counted (taken.back (kinds.Absent c.take_blank-blank.result)) ∙ giver.1, giver.2)
+
+module _ (g : given.Over) (c : goal.After-put_state g) where
+  abbrev state : BankedState g.row.B.Denot
+  state = c.join_first-state.result.0
+
+  abbrev between : List (BankedState g.row.B.Denot)
+  between = set c.args.clones.now.items c.args.number state
+
+  changes : Becomes c.args.clones.now.items between c.args.number (kinds.Absent c.take_blank-blank.result) state
+      × Becomes between c.put_state.new.clones.items 0 (kinds.Live c.join_first-state.ensures.joins.was) (kinds.Live c.join_first-state.ensures.joins.now)
+  changes =
+      let counted : length c.take_blank-blank.new.clones.items + 1 ≡ length c.args.clones.now.items = omega (arith, c.take_blank-blank.ensures.len) in
+      comes_back c.args.clones.now.items c.take_blank-blank.new.clones.items c.join_first-state.new.clones.items c.put_state.new.clones.items c.args.number
+      (kinds.Absent c.take_blank-blank.result) state (kinds.Live c.join_first-state.ensures.joins.was) (kinds.Live c.join_first-state.ensures.joins.now)
+      c.requires.some c.take_blank-blank.ensures.was counted c.take_blank-blank.ensures.back c.join_first-state.ensures.joins.becomes c.put_state.ensures
+
+  taker : GoesOn (g.B.Banks.meter c.take_blank-blank.result) (g.B.Banks.meter (banks_of_state state))
+  taker = subst (λ (b : g.row.B.Denot). GoesOn (g.B.Banks.meter b) (g.B.Banks.meter (banks_of_state state))) c.new_asker-asker.ensures.banks c.join_first-state.ensures.joins.joins.taker
+
+  first : MetersGoOn g.B.Banks.meter (map banks_of_state c.args.clones.now.items) (map banks_of_state between)
+  first = meters_set g.B.Banks.meter c.args.clones.now.items between c.args.number (kinds.Absent c.take_blank-blank.result) state changes.0 taker
+
+  second : MetersGoOn g.B.Banks.meter (map banks_of_state between) (map banks_of_state c.put_state.new.clones.items)
+  second = meters_set g.B.Banks.meter between c.put_state.new.clones.items 0 (kinds.Live c.join_first-state.ensures.joins.was) (kinds.Live c.join_first-state.ensures.joins.now) changes.1
+      c.join_first-state.ensures.joins.joins.giver
+
+pub returns-clause-ok : goal.returns-clause-ok
+returns-clause-ok g c = on_ok_weaker c.join_first-state.result.1 (λ takes.
+    let old = c.args.clones.now.items in
+    let left = c.take_blank-blank.new.clones.items in
+    let taken = c.take_blank-blank.ensures in
+    let joins = c.join_first-state.ensures.joins in
+    let inside = slice_get_within old c.args.number (kinds.Absent c.take_blank-blank.result) taken.was in
+    let counted : length left + 1 ≡ length old = omega (arith, taken.len) in
+    let at = sym (first_stays old left c.args.number (kinds.Absent c.take_blank-blank.result) c.requires.some inside counted (taken.back (kinds.Absent c.take_blank-blank.result))) ∙ joins.becomes.was in
+    let begins = subst (λ (p : List _). IsNewAsker c.args.setup.now.domain p c.args.number c.new_asker-asker.result.asker) (c.in_ok-named.ensures.properties ∙ c.as_slice.ensures.value)
+    (subst (λ (d : List _). IsNewAsker d c.in_ok-named.named.properties.items c.args.number c.new_asker-asker.result.asker) c.in_ok-named.ensures.domain c.new_asker-asker.ensures.asker) in
+    one_more (setup_of c.args.setup.now) c.args.number old c.put_state.new.clones.items c.new_asker-asker.result.asker joins.was joins.now (state g c) c.requires.setup c.requires.some begins
+    c.requires.founded at takes (changes g c).1.now) c.join_first-state.ensures.joins.joins.ok
+
+pub returns-clause-meters : goal.returns-clause-meters
+returns-clause-meters g c =
+    meters_then g.B.Banks.meter (map banks_of_state c.args.clones.now.items) (map banks_of_state (between g c)) (map banks_of_state c.put_state.new.clones.items) (first g c) (second g c)
+
+pub returns-clause-err : goal.returns-clause-err
+returns-clause-err g c = IfErr-weaker c.join_first-state.result.1 _ (FailsAmong g.B.Banks.meter c.args.clones.now.items c.put_state.new.clones.items) (λ fault either. elim either [
+  | inl gave ↦
+      then_fails g.B.Banks.meter c.args.clones.now.items (between g c) c.put_state.new.clones.items fault (first g c)
+      (fails_set g.B.Banks.meter (between g c) c.put_state.new.clones.items 0 (kinds.Live c.join_first-state.ensures.joins.was) (kinds.Live c.join_first-state.ensures.joins.now) fault (changes g c).1 gave)
+  | inr took ↦
+      fails_then g.B.Banks.meter c.args.clones.now.items (between g c) c.put_state.new.clones.items fault (first g c)
+      (fails_set g.B.Banks.meter c.args.clones.now.items (between g c) c.args.number (kinds.Absent c.take_blank-blank.result) (state g c) fault (changes g c).0
+      (subst (λ (b : g.row.B.Denot). FailsAt c.args.number (g.B.Banks.meter b) (g.B.Banks.meter (banks_of_state (state g c))) fault) c.new_asker-asker.ensures.banks took)) (second g c)
+]) c.join_first-state.ensures.joins.joins.err

@@ -1,0 +1,22 @@
+use Rattle.std.proofs.Common.{inr}
+use Rattle.std.proofs.lemmas.Result.{on_ok_weaker, IfErr-weaker}
+use Rattle.mld_ops.specs.Messages.{give_value}
+use Rattle.net_world.proofs.FoundingLemmas.{gives_leaf}
+use Rattle.net_world.proofs.founding.join.Goals as goal
+
+pub taken_leaf-requires : goal.taken_leaf-requires
+taken_leaf-requires g c =
+    (give_value c.in-Ok.ensures.gives.0, gives_leaf c.args.asker.asker c.args.first.now.local c.given_leaf.new.first.local c.in-Ok.answer c.in-Ok.ensures.gives c.in-Ok.ensures.good)
+
+pub returns-in-Ok : goal.returns-in-Ok
+returns-in-Ok g c = record {
+  giver = c.in-Ok.ensures.meter;
+  taker = c.taken_leaf.ensures.meter;
+  ok = on_ok_weaker c.taken_leaf.result.1 (λ taken. record {
+    leaf = give_value c.in-Ok.ensures.gives.0;
+    forks = c.in-Ok.ensures.gives.2;
+    opened = c.in-Ok.ensures.opened;
+    lives = taken (give_value c.in-Ok.ensures.gives.0) (gives_leaf c.args.asker.asker c.args.first.now.local c.given_leaf.new.first.local c.in-Ok.answer c.in-Ok.ensures.gives c.in-Ok.ensures.good);
+  }) c.taken_leaf.ensures.taken;
+  err = IfErr-weaker c.taken_leaf.result.1 _ _ (λ fault fails. inr fails) c.taken_leaf.ensures.err;
+}

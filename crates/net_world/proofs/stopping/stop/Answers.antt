@@ -1,0 +1,28 @@
+use Rattle.std.proofs.Common.{arith, refl}
+use Rattle.mld_model.specs.declared.CloneState.TheVariants as states
+use Rattle.net_world.specs.Replies.{reply_value}
+use Rattle.net_world.proofs.Places.{place_read}
+use Rattle.net_world.proofs.StopLemmas.{stop_done, stop_keeps, stop_missing_done}
+use Rattle.net_world.proofs.WorldLemmas.{keeps_still, missing_reply}
+use Rattle.net_world.proofs.stopping.stop.Goals as goal
+
+pub stop_live-requires : goal.stop_live-requires
+stop_live-requires g c =
+    (c.in-Live.field-0, place_read c.args.parts.now.clones.items c.args.number c.from.result c.index.result.now (states.Live c.in-Live.field-0) c.from.ensures (omega (arith, c.requires)) c.index.ensures c.in-Live.is)
+
+pub returns-in-Live : goal.returns-in-Live
+returns-in-Live g c = record {
+  keeps = stop_keeps g.B.Banks.log g.B.Banks.meter c.args.parts.now _ refl refl c.args.number c.stop_live.ensures;
+  done = stop_done g.B.Banks.log g.B.Banks.meter c.args.parts.now _ refl refl c.args.number c.stop_live.ensures refl;
+}
+
+pub returns-in_default : goal.returns-in_default
+returns-in_default g c =
+    let parts = c.args.parts.now in
+    let state = c.index.result.now in
+    record {
+      keeps = keeps_still g.B.Banks.log g.B.Banks.meter parts _ refl refl refl;
+      done = stop_missing_done g.B.Banks.log g.B.Banks.meter parts _ refl refl c.args.number state c.state_reply.result
+          (place_read parts.clones.items c.args.number c.from.result state state c.from.ensures (omega (arith, c.requires)) c.index.ensures refl)
+          refl refl (missing_reply state (reply_value c.state_reply.result) c.state_reply.ensures c.in_default.not-Live);
+    }

@@ -1,0 +1,145 @@
+-- A running world on banks: what it has in memory, and what the banks of its clones keep.
+use Rattle.std.specs.Prelude.{◌≡◌, ◌≤◌, ℕ, List, Option, Some, None, MatchOption, map, length, slice_get, slice_set}
+use Rattle.mld_io.specs.Arm.{Meter, Unarmed}
+use Rattle.mld_io.specs.Disk.{Log}
+use Rattle.mld_io.specs.Faults.{Rose}
+use Rattle.journal_store.specs.Pairs.{Kept}
+use Rattle.journal_store.specs.Standing.{KeepsJust, KeepsNothing}
+use Rattle.mld_ops.specs.Messages.{MessageValue}
+use Rattle.mld_model.specs.Clone.{Stored, kept_of}
+use Rattle.mld_model.specs.Local.{LocalStored}
+use Rattle.mld_model.specs.StandsFor.{RunningClone, RunningWorld, StandsFor, StoredStandsFor, id_of}
+use Rattle.mld_model.specs.World.{World, clone_at}
+use Rattle.mld_model.specs.declared.CloneState.{CloneState}
+use Rattle.mld_model.specs.declared.CloneState.TheVariants as states
+use Rattle.clone_core.specs.Banked.{BankedAsker, BankedClone}
+use Rattle.net_world.specs.declared.faults.WorldFault.{WorldFault}
+use Rattle.net_world.specs.declared.faults.WorldFault.TheVariants as faults
+
+-- ---- a running world and its banks
+
+-- a clone of a running world in its state, with its banks
+abbrev pub BankedState : Type 0 → Type 0
+BankedState B = CloneState B (BankedAsker B) B (BankedClone B)
+
+-- what it has in memory
+abbrev pub in_memory : {B : Type 0} → BankedState B → RunningClone
+in_memory (states.Absent banks) = states.Absent (record {})
+in_memory (states.Asking asking) = states.Asking asking.asker
+in_memory (states.Down banks) = states.Down (record {})
+in_memory (states.Live clone) = states.Live (record { local = clone.local })
+
+-- its banks
+abbrev pub banks_of_state : {B : Type 0} → BankedState B → B
+banks_of_state (states.Absent banks) = banks
+banks_of_state (states.Asking asking) = asking.banks
+banks_of_state (states.Down banks) = banks
+banks_of_state (states.Live clone) = clone.banks
+
+-- a world as it runs on banks
+pub record BankedWorld (B : Type 0) : Type 0 where
+  pub domain : List ℕ
+  pub properties : List (List ℕ)
+  pub clones : List (BankedState B)
+  pub messages : List MessageValue
+  pub steps : ℕ
+
+-- what it has in memory
+abbrev pub memory_of : {B : Type 0} → BankedWorld B → RunningWorld
+memory_of world = record {
+  domain = world.domain;
+  properties = world.properties;
+  clones = map in_memory world.clones;
+  messages = world.messages;
+  steps = world.steps;
+}
+
+-- the banks of its clones, by number
+abbrev pub banks_of : {B : Type 0} → BankedWorld B → List B
+banks_of world = map banks_of_state world.clones
+
+-- ---- what banks stand for
+
+-- banks that tell their log keep nothing, and a crash now leaves them so
+pub record KeepsNoneNow (now : Option Log) : Type 0 where
+  pub log : Log
+  pub now_is : now ≡ Some log
+  pub keeps : KeepsNothing log
+
+-- the part of what banks keep that is the clone's own
+abbrev pub stored_in : Kept → LocalStored
+stored_in kept = record { path = kept.head.path; base = kept.head.base.ticks; base_pairs = kept.head.base.pairs; entries = kept.entries }
+
+-- banks that tell their log keep what the model's clone of this number keeps, under its id, the domain and the properties; and a
+-- crash now leaves them so
+pub record KeepsStored (world : World) (number : ℕ) (stored : Stored) (now : Option Log) : Type 0 where
+  pub log : Log
+  pub now_is : now ≡ Some log
+  pub kept : Kept
+  pub keeps : KeepsJust kept log
+  pub id : kept.head.id ≡ id_of number
+  pub domain : kept.head.domain ≡ world.domain
+  pub properties : kept.head.props ≡ world.properties
+  pub stands : StoredStandsFor world.history (stored_in kept) stored
+
+-- banks stand for the model's clone of this number: they keep what it keeps, if anything
+abbrev pub BanksStandFor : World → ℕ → Option Log → Type 0
+BanksStandFor world number now = MatchOption (kept_of (clone_at world number)) (KeepsNoneNow now) (λ stored. KeepsStored world number stored now)
+
+-- all banks of a world do, one by one
+abbrev pub AllBanksStandFor : {B : Type 0} → (B → Option Log) → World → List B → Type 0
+AllBanksStandFor {B = B} log world banks = (number : ℕ) (one : B) → slice_get banks number ≡ Some one → BanksStandFor world number (log one)
+
+-- what is known of a clone beside what it has in memory: a live one is open, and the banks of one that is down stand for the model's
+abbrev pub IsBacked : {B : Type 0} → (B → Option Log) → World → ℕ → BankedState B → Type 0
+IsBacked log world number (states.Absent banks) = Unit {0}
+IsBacked log world number (states.Asking asking) = Unit {0}
+IsBacked log world number (states.Down banks) = BanksStandFor world number (log banks)
+IsBacked log world number (states.Live clone) = clone.closed ≡ None
+
+-- a running world on banks stands for a world of the model
+pub record StandsOnBanks {B : Type 0} (log : B → Option Log) (running : BankedWorld B) (world : World) : Type 0 where
+  pub memory : StandsFor (memory_of running) world
+  pub backed : (number : ℕ) (state : BankedState B) → slice_get running.clones number ≡ Some state → IsBacked log world number state
+
+-- ---- faults of banks
+
+-- the meter of banks that were used: no real fault is forgotten, and no call arms them
+pub record GoesOn (before now : Meter) : Type 0 where
+  pub later : before.real_faults ≤ now.real_faults
+  pub unarmed : before.arm ≡ Unarmed → now.arm ≡ Unarmed
+
+-- so it is of each of these banks, by number
+pub record MetersGoOn {B : Type 0} (meter : B → Meter) (old new : List B) : Type 0 where
+  pub count : length new ≡ length old
+  pub each : (number : ℕ) (was now : B) → slice_get old number ≡ Some was → slice_get new number ≡ Some now → GoesOn (meter was) (meter now)
+
+-- the banks of this number had a real fault, where they were not armed
+abbrev pub HasFailed : {B : Type 0} → (B → Meter) → ℕ → List B → List B → Type 0
+HasFailed {B = B} meter number old new = (was now : B) → slice_get old number ≡ Some was → slice_get new number ≡ Some now → (meter was).arm ≡ Unarmed
+    → Rose (meter was).real_faults (meter now).real_faults
+
+-- the fault of a clone's banks: it names this number, and they had a real fault, where they were not armed
+abbrev pub FailsAt : ℕ → Meter → Meter → WorldFault → Type 0
+FailsAt number before now (faults.Device clone) = (clone ≡ number) × (before.arm ≡ Unarmed → Rose before.real_faults now.real_faults)
+FailsAt number before now faults.NoMemory = Unit {0}
+
+-- why a call at one of these clones was refused: the banks of a clone had a real fault, or memory ran out
+abbrev pub FailsAmong : {B : Type 0} → (B → Meter) → List (BankedState B) → List (BankedState B) → WorldFault → Type 0
+FailsAmong meter old new (faults.Device clone) = HasFailed meter clone (map banks_of_state old) (map banks_of_state new)
+FailsAmong meter old new faults.NoMemory = Unit {0}
+
+-- ---- one clone changes
+
+-- a state that the clone of the number may be in after a call that opens no banks: a live clone is open, and one that is down was just so
+abbrev pub IsCarried : {B : Type 0} → List (BankedState B) → ℕ → BankedState B → Type 0
+IsCarried old number (states.Absent banks) = Unit {0}
+IsCarried old number (states.Asking asking) = Unit {0}
+IsCarried old number (states.Down banks) = slice_get old number ≡ Some (states.Down banks)
+IsCarried old number (states.Live clone) = clone.closed ≡ None
+
+-- of the clones the one of the number alone may have changed, into such a state
+pub record IsCarriedAt {B : Type 0} (old new : List (BankedState B)) (number : ℕ) : Type 0 where
+  pub state : BankedState B
+  pub now : new ≡ slice_set old number state
+  pub carried : IsCarried old number state
