@@ -1,7 +1,9 @@
 //! `mld replay` reads a schedule of one shared graph and its clones from standard input, and writes the replies.
 #![tactic(auto)]
 
+use disk_model::{MemoryBanks, blank_banks};
 use mld_io::{StdSink, StdSource};
+use mld_model::CLONE_COUNT;
 use mld_replay::run::{Ran, RunFault, ended, run};
 use std::alloc::{Alloc, Global};
 use std::env::{self, Env};
@@ -12,7 +14,7 @@ use std::thread::Threads;
 fn main(rt: HostRuntime) -> ExitCode {
     let ran = match run_on_standard(&rt) {
         Ok(ran) => ran,
-        Err(error) => ended(Some(fault_before(&error)), None),
+        Err(error) => ended(Some(fault_before(&error)), Vec::new(rt.alloc()), None),
     };
     if let Some(fault) = &ran.fault {
         // Where standard error fails too, the status still tells.
@@ -24,14 +26,15 @@ fn main(rt: HostRuntime) -> ExitCode {
 /// The run over the words of the process, its standard input and its standard output.
 fn run_on_standard<R: Alloc<A = Global> + Env + Input + Print + Threads>(
     rt: &R,
-) -> io::Result<Ran> {
+) -> io::Result<Ran<MemoryBanks>> {
     let mut words = Vec::new(rt.alloc());
     for word in env::args(rt)?.skip(1) {
         words.push(word)?;
     }
     let mut source = StdSource::new(BufReader::new(rt.alloc(), rt.reader())?);
     let mut sink = StdSink::new(io::writer(rt));
-    Ok(run(rt, rt.alloc(), &words, &mut source, &mut sink))
+    let banks = blank_banks(rt.alloc(), usize::from(CLONE_COUNT))?;
+    Ok(run(rt, rt.alloc(), &words, &mut source, &mut sink, banks))
 }
 
 /// Why there was no run: memory ran out, or the words are not text.

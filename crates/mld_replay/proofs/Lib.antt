@@ -1,4 +1,7 @@
+pub mod BlankLemmas
+pub mod EndLemmas
 pub mod LimitLemmas
+pub mod MeterLemmas
 pub mod RunLemmas
 pub mod StageLemmas
 pub mod SummaryLemmas

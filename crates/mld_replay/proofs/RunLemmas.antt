@@ -6,10 +6,11 @@ use Rattle.std.proofs.Math.Seq.{take-append-add}
 use Rattle.std.specs.Cmp.Lexicographic.{pointwise}
 use Rattle.tree_clock.specs.DotLaws.{path_eq-Decides}
 use Rattle.std.specs.Io.KnownBytes.{Appends}
+use Rattle.mld_io.specs.Disk.{Log}
 use Rattle.mld_io.specs.Lines.{lines_of, after_line, IsCutShort}
 use Rattle.mld_io.proofs.LinesLaws.{first_of_lines_lem}
 use Rattle.schedule_model.specs.Runs.{Stage, Waiting, Acts, Runs, bad_line, no_domain, IsBad, IsUnbuilt, RunsBefore, Outcome, Finished, BadLine, UnbuiltLine, Verdict}
-use Rattle.mld_replay.specs.Ran.{Finishes, StopsAtBad, StopsAtUnbuilt, StopsAtLarge, BreaksOff, ReadsLines, WritesFront, TakesLine, IfSomeLine, HasReadCause, HasWriteFaultCause, Agrees}
+use Rattle.mld_replay.specs.Ran.{Finishes, StopsAtBad, StopsAtUnbuilt, StopsAtLarge, BreaksOff, ReadsLines, WritesFront, WritesWhole, TakesLine, IfSomeLine, HasReadCause, HasWriteFaultCause, Agrees}
 use Rattle.mld_replay.specs.Stages.{StageStands, IsStandingStage, ActsWell, EndsWell, steps_of}
 use Rattle.mld_replay.specs.declared.stages.Stage.{Stage as RunningStage}
 use Rattle.mld_replay.specs.declared.stages.Stage.TheVariants as stages
@@ -44,21 +45,27 @@ pub appends_nothing : (before : Option (List ℕ)) → Appends before before []
 appends_nothing None = tt
 appends_nothing (Some xs) = sym (append-nil xs)
 
+-- no step is made while no domain line has come
+waiting_steps : {B : Type 0} (log : B → Option Log) (running : RunningStage B) → StageStands log running Waiting → steps_of running ≡ 0
+waiting_steps log (stages.Waiting blanks) stands = refl
+waiting_steps log (stages.SetUp setup blanks) stands = absurd stands
+waiting_steps log (stages.Running world) stands = absurd stands
+waiting_steps log (stages.Over banks) stands = absurd stands
+
 -- nothing is done yet
-pub under_way_first : (given before : Option (List ℕ)) (size : ℕ) (running : RunningStage) → size ≡ 0 → running ≡ stages.Waiting → IsUnderWay given given before before size running 0
-under_way_first given before size running nothing none =
-    let P : RunningStage → Type 0 = λ w. IsUnderWay given given before before size w 0 in
-    subst P (sym none) (record {
-      lines = [];
-      text = [];
-      stage = Waiting;
-      counted = refl;
-      runs = (refl, refl);
-      stands = tt;
-      steps = omega arith;
-      left_of = left_first given size nothing;
-      written = appends_nothing before;
-    })
+pub under_way_first : {B : Type 0} (log : B → Option Log) (given before : Option (List ℕ)) (size : ℕ) (running : RunningStage B) → size ≡ 0 → StageStands log running Waiting
+    → IsUnderWay log given given before before size running 0
+under_way_first log given before size running nothing stands = record {
+  lines = [];
+  text = [];
+  stage = Waiting;
+  counted = refl;
+  runs = (refl, refl);
+  stands = stands;
+  steps = omega (arith, waiting_steps log running stands);
+  left_of = left_first given size nothing;
+  written = appends_nothing before;
+}
 
 -- a line was taken, said of an equal line
 pub takes_some : (left rest line : Option (List ℕ)) (size grown : ℕ) (piece text : List ℕ) → line ≡ Some piece → text ≡ piece
@@ -81,13 +88,13 @@ one_word f (first ∷ []) word spelled text same some few is spells tests =
 one_word f (first ∷ second ∷ words) word spelled text same some few is spells tests = absurd (omega (arith, few))
 
 -- one more line is done
-pub under_way_more : (given left rest before now after : Option (List ℕ)) (size grown : ℕ) (running next : RunningStage) (done : ℕ) (line text : List ℕ)
-    → IsUnderWay given left before now size running done
+pub under_way_more : {B : Type 0} (log : B → Option Log) (given left rest before now after : Option (List ℕ)) (size grown : ℕ) (running next : RunningStage B) (done : ℕ) (line text : List ℕ)
+    → IsUnderWay log given left before now size running done
     → ((bytes : List ℕ) → left ≡ Some bytes → TakesLine size bytes rest grown (Some line))
-    → ((stage : Stage) → StageStands running stage → ActsWell stage line text next) → steps_of next ≤ steps_of running + 1
-    → Appends now after text → IsUnderWay given rest before after grown next (done + 1)
-under_way_more given left rest before now after size grown running next done line text way takes acts few writes =
-    let act : ActsWell way.stage line text next = acts way.stage way.stands in
+    → ((stage : Stage) → StageStands log running stage → ActsWell log stage line text next) → steps_of next ≤ steps_of running + 1
+    → Appends now after text → IsUnderWay log given rest before after grown next (done + 1)
+under_way_more log given left rest before now after size grown running next done line text way takes acts few writes =
+    let act : ActsWell log way.stage line text next = acts way.stage way.stands in
     record {
       lines = way.lines ++ line ∷ [];
       text = way.text ++ text;
@@ -102,12 +109,12 @@ under_way_more given left rest before now after size grown running next done lin
 
 -- ---- what was written is a front of the text of a run over the first lines
 
-pub front_first : (before : Option (List ℕ)) (bytes : List ℕ) → WritesFront bytes before before
-front_first before bytes = record { lines = []; rest = lines_of bytes; whole = refl; text = []; stage = Waiting; runs = (refl, refl); size = 0; written = appends_nothing before }
+pub front_first : (before : Option (List ℕ)) (bytes : List ℕ) → WritesFront (λ _. Unit {0}) bytes before before
+front_first before bytes = record { lines = []; rest = lines_of bytes; whole = refl; text = []; stage = Waiting; runs = (refl, refl); size = 0; written = appends_nothing before; holds = tt }
 
-pub front_of_way : (given left before now : Option (List ℕ)) (size : ℕ) (running : RunningStage) (done : ℕ) → IsUnderWay given left before now size running done
-    → (bytes : List ℕ) → given ≡ Some bytes → WritesFront bytes before now
-front_of_way given left before now size running done way bytes is =
+pub front_of_way : {B : Type 0} (log : B → Option Log) (given left before now : Option (List ℕ)) (size : ℕ) (running : RunningStage B) (done : ℕ) → IsUnderWay log given left before now size running done
+    → (bytes : List ℕ) → given ≡ Some bytes → WritesFront (StageStands log running) bytes before now
+front_of_way log given left before now size running done way bytes is =
     let at : IsLeft bytes left size done way.lines = way.left_of bytes is in
     let P : List ℕ → Type 0 = λ t. Appends before now t in
     record {
@@ -119,16 +126,17 @@ front_of_way given left before now size running done way bytes is =
       runs = way.runs;
       size = length way.text;
       written = subst P (sym (take_all (length way.text) way.text (omega arith))) way.written;
+      holds = way.stands;
     }
 
 -- and so is it where the reply to a line was cut short
-pub front_of_reply : (given left rest before now after : Option (List ℕ)) (size grown : ℕ) (running next : RunningStage) (done : ℕ) (line text : List ℕ)
-    → IsUnderWay given left before now size running done
+pub front_of_reply : {B : Type 0} (log : B → Option Log) (given left rest before now after : Option (List ℕ)) (size grown : ℕ) (running next : RunningStage B) (done : ℕ) (line text : List ℕ)
+    → IsUnderWay log given left before now size running done
     → ((bytes : List ℕ) → left ≡ Some bytes → TakesLine size bytes rest grown (Some line))
-    → ((stage : Stage) → StageStands running stage → ActsWell stage line text next)
-    → (n : ℕ) → Appends now after (take n text) → (bytes : List ℕ) → given ≡ Some bytes → WritesFront bytes before after
-front_of_reply given left rest before now after size grown running next done line text way takes acts n writes bytes is =
-    let act : ActsWell way.stage line text next = acts way.stage way.stands in
+    → ((stage : Stage) → StageStands log running stage → ActsWell log stage line text next)
+    → (n : ℕ) → Appends now after (take n text) → (bytes : List ℕ) → given ≡ Some bytes → WritesFront (StageStands log next) bytes before after
+front_of_reply log given left rest before now after size grown running next done line text way takes acts n writes bytes is =
+    let act : ActsWell log way.stage line text next = acts way.stage way.stands in
     let at : IsLeft bytes rest grown (done + 1) (way.lines ++ line ∷ []) = taken_left given left size grown done way.lines line rest way.left_of takes bytes is in
     let P : List ℕ → Type 0 = λ t. Appends before after t in
     record {
@@ -140,22 +148,52 @@ front_of_reply given left rest before now after size grown running next done lin
       runs = runs_more Waiting way.stage act.next way.lines way.text line text way.runs act.acts;
       size = length way.text + n;
       written = subst P (sym (take-append-add way.text text n)) (appends_more before now after way.text (take n text) way.written writes);
+      holds = act.stands;
     }
 
+-- a front says the same of a weaker property
+pub front_as : (P Q : Stage → Type 0) (bytes : List ℕ) (before now : Option (List ℕ)) → ((stage : Stage) → P stage → Q stage) → WritesFront P bytes before now → WritesFront Q bytes before now
+front_as P Q bytes before now holds front = record {
+  lines = front.lines;
+  rest = front.rest;
+  whole = front.whole;
+  text = front.text;
+  stage = front.stage;
+  runs = front.runs;
+  size = front.size;
+  written = front.written;
+  holds = holds front.stage front.holds;
+}
+
+-- so a front is one of any run
+pub front_any : (P : Stage → Type 0) (bytes : List ℕ) (before now : Option (List ℕ)) → WritesFront P bytes before now → WritesFront (λ _. Unit {0}) bytes before now
+front_any P bytes before now front = front_as P (λ _. Unit {0}) bytes before now (λ stage holds. tt) front
+
+-- between two lines the whole text is written
+
+pub whole_first : (before : Option (List ℕ)) (bytes : List ℕ) → WritesWhole bytes before before
+whole_first before bytes = record { lines = []; rest = lines_of bytes; whole = refl; text = []; stage = Waiting; runs = (refl, refl); written = appends_nothing before }
+
+pub whole_of_way : {B : Type 0} (log : B → Option Log) (given left before now : Option (List ℕ)) (size : ℕ) (running : RunningStage B) (done : ℕ) → IsUnderWay log given left before now size running done
+    → (bytes : List ℕ) → given ≡ Some bytes → WritesWhole bytes before now
+whole_of_way log given left before now size running done way bytes is =
+    let at : IsLeft bytes left size done way.lines = way.left_of bytes is in
+    record { lines = way.lines; rest = lines_of at.rest; whole = at.whole; text = way.text; stage = way.stage; runs = way.runs; written = way.written }
+
 -- the state stands for some stage
-pub standing_from : (given left before now : Option (List ℕ)) (size : ℕ) (running : RunningStage) (done : ℕ) → IsUnderWay given left before now size running done → IsStandingStage running
-standing_from given left before now size running done way = record { stage = way.stage; stands = way.stands }
+pub standing_from : {B : Type 0} (log : B → Option Log) (given left before now : Option (List ℕ)) (size : ℕ) (running : RunningStage B) (done : ℕ) → IsUnderWay log given left before now size running done → IsStandingStage log running
+standing_from log given left before now size running done way = record { stage = way.stage; stands = way.stands }
 
 -- the source is at its end, and the clones are founded
-pub finishes : (given left rest before now : Option (List ℕ)) (size : ℕ) (running next : RunningStage) (done : ℕ) → IsUnderWay given left before now size running done
+pub finishes : {B : Type 0} (log : B → Option Log) (given left rest before now : Option (List ℕ)) (size : ℕ) (running next : RunningStage B) (done : ℕ) → IsUnderWay log given left before now size running done
     → ((bytes : List ℕ) → given ≡ Some bytes → (behind : List ℕ) → left ≡ Some behind → (behind ≡ []) × (rest ≡ Some []))
-    → ((stage : Stage) → StageStands running stage → EndsWell stage next) → (bytes : List ℕ) → given ≡ Some bytes → Finishes (StageStands next) bytes rest before now
+    → ((stage : Stage) → StageStands log running stage → EndsWell log stage next) → (bytes : List ℕ) → given ≡ Some bytes → Finishes (StageStands log next) bytes rest before now
 unfolding Verdict
-finishes given left rest before now size running next done way none ends bytes is =
+finishes log given left rest before now size running next done way none ends bytes is =
     let at : IsLeft bytes left size done way.lines = way.left_of bytes is in
     let end : (at.rest ≡ []) × (rest ≡ Some []) = none bytes is at.rest at.is in
     let lines : lines_of bytes ≡ way.lines = at.whole ∙ ap (λ b. way.lines ++ lines_of b) end.0 ∙ append-nil way.lines in
-    let ended : EndsWell way.stage next = ends way.stage way.stands in
+    let ended : EndsWell log way.stage next = ends way.stage way.stands in
     let P : List (List ℕ) → Type 0 = λ ls. Runs Waiting ls way.text way.stage in
     let runs : Runs Waiting (lines_of bytes) way.text way.stage = subst P (sym lines) way.runs in
     record {
@@ -170,11 +208,11 @@ finishes given left rest before now size running next done way none ends bytes i
     }
 
 -- the source is at its end, and no line was a domain line
-pub ends_waiting : (given left rest before now : Option (List ℕ)) (size : ℕ) (running : RunningStage) (done : ℕ) → IsUnderWay given left before now size running done
+pub ends_waiting : {B : Type 0} (log : B → Option Log) (given left rest before now : Option (List ℕ)) (size : ℕ) (running : RunningStage B) (done : ℕ) → IsUnderWay log given left before now size running done
     → ((bytes : List ℕ) → given ≡ Some bytes → (behind : List ℕ) → left ≡ Some behind → (behind ≡ []) × (rest ≡ Some []))
-    → ((stage : Stage) → StageStands running stage → stage ≡ Waiting) → (bytes : List ℕ) → given ≡ Some bytes → StopsAtBad (StageStands running) bytes (done + 1) before now
+    → ((stage : Stage) → StageStands log running stage → stage ≡ Waiting) → (bytes : List ℕ) → given ≡ Some bytes → StopsAtBad (StageStands log running) bytes (done + 1) before now
 unfolding Verdict
-ends_waiting given left rest before now size running done way none waits bytes is =
+ends_waiting log given left rest before now size running done way none waits bytes is =
     let at : IsLeft bytes left size done way.lines = way.left_of bytes is in
     let end : (at.rest ≡ []) × (rest ≡ Some []) = none bytes is at.rest at.is in
     record {
@@ -190,11 +228,11 @@ ends_waiting given left rest before now size running done way none waits bytes i
     }
 
 -- the lines before a line that was taken
-before_line : (given left rest before now : Option (List ℕ)) (size grown : ℕ) (running : RunningStage) (done : ℕ) (line : List ℕ) → (way : IsUnderWay given left before now size running done)
+before_line : {B : Type 0} (log : B → Option Log) (given left rest before now : Option (List ℕ)) (size grown : ℕ) (running : RunningStage B) (done : ℕ) (line : List ℕ) → (way : IsUnderWay log given left before now size running done)
     → ((bytes : List ℕ) → left ≡ Some bytes → TakesLine size bytes rest grown (Some line)) → (bytes : List ℕ) → given ≡ Some bytes
     → (b : RunsBefore (lines_of bytes) (done + 1) way.text way.stage) × ((others : List (List ℕ)) × (b.rest ≡ line ∷ others))
     × ((before : ℕ) → before < done + 1 → ¬ IsTooLargeLine bytes before)
-before_line given left rest before now size grown running done line way takes bytes is =
+before_line log given left rest before now size grown running done line way takes bytes is =
     let at : IsLeft bytes left size done way.lines = way.left_of bytes is in
     let taken : TakesLine size at.rest rest grown (Some line) = takes at.rest at.is in (
       record { front = way.lines; rest = lines_of at.rest; whole = at.whole; counted = ap (λ n. n + 1) way.counted; runs = way.runs },
@@ -203,27 +241,27 @@ before_line given left rest before now size grown running done line way takes by
     )
 
 -- a line that was taken is bad
-pub stops_bad : (given left rest before now : Option (List ℕ)) (size grown : ℕ) (running : RunningStage) (done : ℕ) (line : List ℕ) → IsUnderWay given left before now size running done
-    → ((bytes : List ℕ) → left ≡ Some bytes → TakesLine size bytes rest grown (Some line)) → ((stage : Stage) → StageStands running stage → IsBad stage line)
-    → (bytes : List ℕ) → given ≡ Some bytes → StopsAtBad (StageStands running) bytes (done + 1) before now
+pub stops_bad : {B : Type 0} (log : B → Option Log) (given left rest before now : Option (List ℕ)) (size grown : ℕ) (running : RunningStage B) (done : ℕ) (line : List ℕ) → IsUnderWay log given left before now size running done
+    → ((bytes : List ℕ) → left ≡ Some bytes → TakesLine size bytes rest grown (Some line)) → ((stage : Stage) → StageStands log running stage → IsBad stage line)
+    → (bytes : List ℕ) → given ≡ Some bytes → StopsAtBad (StageStands log running) bytes (done + 1) before now
 unfolding Verdict
-stops_bad given left rest before now size grown running done line way takes bad bytes is =
-    let b = before_line given left rest before now size grown running done line way takes bytes is in
+stops_bad log given left rest before now size grown running done line way takes bad bytes is =
+    let b = before_line log given left rest before now size grown running done line way takes bytes is in
     record { text = way.text; stage = way.stage; verdict = record { before = b.0; bad = bad_line line b.1 (bad way.stage way.stands) }; fits = b.2; written = way.written; holds = way.stands }
 
 -- a line that was taken isn't built
-pub stops_unbuilt : (given left rest before now : Option (List ℕ)) (size grown : ℕ) (running : RunningStage) (done : ℕ) (line : List ℕ) → IsUnderWay given left before now size running done
-    → ((bytes : List ℕ) → left ≡ Some bytes → TakesLine size bytes rest grown (Some line)) → ((stage : Stage) → StageStands running stage → IsUnbuilt stage line)
+pub stops_unbuilt : {B : Type 0} (log : B → Option Log) (given left rest before now : Option (List ℕ)) (size grown : ℕ) (running : RunningStage B) (done : ℕ) (line : List ℕ) → IsUnderWay log given left before now size running done
+    → ((bytes : List ℕ) → left ≡ Some bytes → TakesLine size bytes rest grown (Some line)) → ((stage : Stage) → StageStands log running stage → IsUnbuilt stage line)
     → (bytes : List ℕ) → given ≡ Some bytes → StopsAtUnbuilt bytes (done + 1) before now
 unfolding Verdict
-stops_unbuilt given left rest before now size grown running done line way takes unbuilt bytes is =
-    let b = before_line given left rest before now size grown running done line way takes bytes is in
+stops_unbuilt log given left rest before now size grown running done line way takes unbuilt bytes is =
+    let b = before_line log given left rest before now size grown running done line way takes bytes is in
     record { text = way.text; stage = way.stage; verdict = record { before = b.0; line = line; first = b.1; unbuilt = unbuilt way.stage way.stands }; fits = b.2; written = way.written }
 
 -- the line of the number is too large
-pub stops_large : (given left before now : Option (List ℕ)) (size : ℕ) (running : RunningStage) (done number : ℕ) → IsUnderWay given left before now size running done → number ≡ done + 1
-    → ((bytes : List ℕ) → left ≡ Some bytes → BreaksLimits size bytes) → (bytes : List ℕ) → given ≡ Some bytes → StopsAtLarge (StageStands running) bytes number before now
-stops_large given left before now size running done number way counts breaks bytes is =
+pub stops_large : {B : Type 0} (log : B → Option Log) (given left before now : Option (List ℕ)) (size : ℕ) (running : RunningStage B) (done number : ℕ) → IsUnderWay log given left before now size running done → number ≡ done + 1
+    → ((bytes : List ℕ) → left ≡ Some bytes → BreaksLimits size bytes) → (bytes : List ℕ) → given ≡ Some bytes → StopsAtLarge (StageStands log running) bytes number before now
+stops_large log given left before now size running done number way counts breaks bytes is =
     let at : IsLeft bytes left size done way.lines = way.left_of bytes is in
     record {
       text = way.text;
@@ -239,10 +277,10 @@ stops_large given left before now size running done number way counts breaks byt
     }
 
 -- reading failed in the line behind those done
-pub breaks_off : (given left rest before now : Option (List ℕ)) (size : ℕ) (running : RunningStage) (done : ℕ) → IsUnderWay given left before now size running done
+pub breaks_off : {B : Type 0} (log : B → Option Log) (given left rest before now : Option (List ℕ)) (size : ℕ) (running : RunningStage B) (done : ℕ) → IsUnderWay log given left before now size running done
     → ((bytes : List ℕ) → left ≡ Some bytes → IsCutShort bytes rest) → ((bytes : List ℕ) → given ≡ Some bytes → ReadsLines bytes rest done)
-    → (bytes : List ℕ) → given ≡ Some bytes → BreaksOff (StageStands running) bytes rest before now
-breaks_off given left rest before now size running done way cut reads bytes is =
+    → (bytes : List ℕ) → given ≡ Some bytes → BreaksOff (StageStands log running) bytes rest before now
+breaks_off log given left rest before now size running done way cut reads bytes is =
     let at : IsLeft bytes left size done way.lines = way.left_of bytes is in
     let P : List ℕ → Type 0 = λ b. IsCutShort b rest in
     record {
@@ -272,6 +310,8 @@ agrees_fault P bytes before now faults.ReadFault usage bad unbuilt outcome verdi
 agrees_fault P bytes before now faults.WriteFault usage bad unbuilt outcome verdict = tt
 agrees_fault P bytes before now faults.NoMemory usage bad unbuilt outcome verdict = tt
 agrees_fault P bytes before now (faults.TooLarge line) usage bad unbuilt outcome verdict = tt
+agrees_fault P bytes before now (faults.Device clone) usage bad unbuilt outcome verdict = tt
+agrees_fault P bytes before now (faults.NotEmpty clone) usage bad unbuilt outcome verdict = tt
 agrees_fault P bytes before now (faults.BadLine line) usage bad unbuilt outcome verdict =
     let ends : StopsAtBad P bytes line before now = bad line refl in
     let Q : Outcome → Type 0 = λ o. Agrees (Some (faults.BadLine line)) o in
@@ -283,33 +323,33 @@ agrees_fault P bytes before now (faults.Unbuilt line) usage bad unbuilt outcome 
 
 -- a line that was taken and not done, said of equal values
 
-pub stops_bad_at : (given left rest before now : Option (List ℕ)) (size grown : ℕ) (running : RunningStage) (done : ℕ) (taken : Option (List ℕ)) (piece line : List ℕ) (at : ℕ)
-    → IsUnderWay given left before now size running done → taken ≡ Some piece → line ≡ piece → ((bytes : List ℕ) → left ≡ Some bytes → TakesLine size bytes rest grown taken)
-    → at ≡ done + 1 → ((stage : Stage) → StageStands running stage → IsBad stage line) → (next : RunningStage) → next ≡ running
-    → (bytes : List ℕ) → given ≡ Some bytes → StopsAtBad (StageStands next) bytes at before now
-stops_bad_at given left rest before now size grown running done taken piece line at way is same takes counts bad next kept bytes told =
-    let P : ℕ → Type 0 = λ n. StopsAtBad (StageStands running) bytes n before now in
-    let Q : RunningStage → Type 0 = λ w. StopsAtBad (StageStands w) bytes at before now in
-    subst Q (sym kept) (subst P (sym counts) (stops_bad given left rest before now size grown running done line way (takes_some left rest taken size grown piece line is same takes) bad bytes told))
+pub stops_bad_at : {B : Type 0} (log : B → Option Log) (given left rest before now : Option (List ℕ)) (size grown : ℕ) (running : RunningStage B) (done : ℕ) (taken : Option (List ℕ)) (piece line : List ℕ) (at : ℕ)
+    → IsUnderWay log given left before now size running done → taken ≡ Some piece → line ≡ piece → ((bytes : List ℕ) → left ≡ Some bytes → TakesLine size bytes rest grown taken)
+    → at ≡ done + 1 → ((stage : Stage) → StageStands log running stage → IsBad stage line) → (next : RunningStage B) → next ≡ running
+    → (bytes : List ℕ) → given ≡ Some bytes → StopsAtBad (StageStands log next) bytes at before now
+stops_bad_at {B = B} log given left rest before now size grown running done taken piece line at way is same takes counts bad next kept bytes told =
+    let P : ℕ → Type 0 = λ n. StopsAtBad (StageStands log running) bytes n before now in
+    let Q : RunningStage B → Type 0 = λ w. StopsAtBad (StageStands log w) bytes at before now in
+    subst Q (sym kept) (subst P (sym counts) (stops_bad log given left rest before now size grown running done line way (takes_some left rest taken size grown piece line is same takes) bad bytes told))
 
-pub stops_unbuilt_at : (given left rest before now : Option (List ℕ)) (size grown : ℕ) (running : RunningStage) (done : ℕ) (taken : Option (List ℕ)) (piece line : List ℕ) (at : ℕ)
-    → IsUnderWay given left before now size running done → taken ≡ Some piece → line ≡ piece → ((bytes : List ℕ) → left ≡ Some bytes → TakesLine size bytes rest grown taken)
-    → at ≡ done + 1 → ((stage : Stage) → StageStands running stage → IsUnbuilt stage line)
+pub stops_unbuilt_at : {B : Type 0} (log : B → Option Log) (given left rest before now : Option (List ℕ)) (size grown : ℕ) (running : RunningStage B) (done : ℕ) (taken : Option (List ℕ)) (piece line : List ℕ) (at : ℕ)
+    → IsUnderWay log given left before now size running done → taken ≡ Some piece → line ≡ piece → ((bytes : List ℕ) → left ≡ Some bytes → TakesLine size bytes rest grown taken)
+    → at ≡ done + 1 → ((stage : Stage) → StageStands log running stage → IsUnbuilt stage line)
     → (bytes : List ℕ) → given ≡ Some bytes → StopsAtUnbuilt bytes at before now
-stops_unbuilt_at given left rest before now size grown running done taken piece line at way is same takes counts unbuilt bytes told =
+stops_unbuilt_at log given left rest before now size grown running done taken piece line at way is same takes counts unbuilt bytes told =
     let P : ℕ → Type 0 = λ n. StopsAtUnbuilt bytes n before now in
-    subst P (sym counts) (stops_unbuilt given left rest before now size grown running done line way (takes_some left rest taken size grown piece line is same takes) unbuilt bytes told)
+    subst P (sym counts) (stops_unbuilt log given left rest before now size grown running done line way (takes_some left rest taken size grown piece line is same takes) unbuilt bytes told)
 
 -- the end of the source while no domain line has come, said of an equal state and number
 
-pub ends_waiting_at : (given left rest before now : Option (List ℕ)) (size : ℕ) (running : RunningStage) (done at : ℕ)
-    → IsUnderWay given left before now size running done → ((bytes : List ℕ) → given ≡ Some bytes → (behind : List ℕ) → left ≡ Some behind → (behind ≡ []) × (rest ≡ Some []))
-    → at ≡ done + 1 → ((stage : Stage) → StageStands running stage → stage ≡ Waiting) → (next : RunningStage) → next ≡ running
-    → (bytes : List ℕ) → given ≡ Some bytes → StopsAtBad (StageStands next) bytes at before now
-ends_waiting_at given left rest before now size running done at way none counts waits next kept bytes told =
-    let P : ℕ → Type 0 = λ n. StopsAtBad (StageStands running) bytes n before now in
-    let Q : RunningStage → Type 0 = λ w. StopsAtBad (StageStands w) bytes at before now in
-    subst Q (sym kept) (subst P (sym counts) (ends_waiting given left rest before now size running done way none waits bytes told))
+pub ends_waiting_at : {B : Type 0} (log : B → Option Log) (given left rest before now : Option (List ℕ)) (size : ℕ) (running : RunningStage B) (done at : ℕ)
+    → IsUnderWay log given left before now size running done → ((bytes : List ℕ) → given ≡ Some bytes → (behind : List ℕ) → left ≡ Some behind → (behind ≡ []) × (rest ≡ Some []))
+    → at ≡ done + 1 → ((stage : Stage) → StageStands log running stage → stage ≡ Waiting) → (next : RunningStage B) → next ≡ running
+    → (bytes : List ℕ) → given ≡ Some bytes → StopsAtBad (StageStands log next) bytes at before now
+ends_waiting_at {B = B} log given left rest before now size running done at way none counts waits next kept bytes told =
+    let P : ℕ → Type 0 = λ n. StopsAtBad (StageStands log running) bytes n before now in
+    let Q : RunningStage B → Type 0 = λ w. StopsAtBad (StageStands log w) bytes at before now in
+    subst Q (sym kept) (subst P (sym counts) (ends_waiting log given left rest before now size running done way none waits bytes told))
 
 -- the fault of a line that is too large names the line
 pub large_number : (number at : ℕ) → ◌≡◌ {A = Result (Option (List ℕ)) RunFault} (Err (faults.TooLarge number)) (Err (faults.TooLarge at)) → at ≡ number
@@ -330,6 +370,7 @@ bad_fault {U = U} stop number at fault is same = let fault_is : fault ≡ faults
     bad_stop : (stop : LineStop) (number at : ℕ) → fault_of stop number ≡ faults.BadLine at → (◌≡◌ {A = Result U LineStop} (Err stop) (Err stops.BadLine)) × (at ≡ number)
     bad_stop stops.BadLine number at same = (refl, cc)
     bad_stop stops.Unbuilt number at same = absurd (cc)
+    bad_stop (stops.Device clone) number at same = absurd (cc)
     bad_stop stops.NoMemory number at same = absurd (cc)
 
 -- and that of an unbuilt line from a stop at one
@@ -340,7 +381,29 @@ unbuilt_fault {U = U} stop number at fault is same = let fault_is : fault ≡ fa
     unbuilt_stop : (stop : LineStop) (number at : ℕ) → fault_of stop number ≡ faults.Unbuilt at → (◌≡◌ {A = Result U LineStop} (Err stop) (Err stops.Unbuilt)) × (at ≡ number)
     unbuilt_stop stops.BadLine number at same = absurd (cc)
     unbuilt_stop stops.Unbuilt number at same = (refl, cc)
+    unbuilt_stop (stops.Device clone) number at same = absurd (cc)
     unbuilt_stop stops.NoMemory number at same = absurd (cc)
+
+-- and that of a device from a stop at its failure
+pub device_fault : {T U : Type 0} (stop : LineStop) (number at : ℕ) (fault : RunFault) → fault ≡ fault_of stop number → ◌≡◌ {A = Result T RunFault} (Err fault) (Err (faults.Device at))
+    → ◌≡◌ {A = Result U LineStop} (Err stop) (Err (stops.Device at))
+device_fault {U = U} stop number at fault is same = let fault_is : fault ≡ faults.Device at = cc in device_stop stop number at (sym is ∙ fault_is)
+  where
+    device_stop : (stop : LineStop) (number at : ℕ) → fault_of stop number ≡ faults.Device at → ◌≡◌ {A = Result U LineStop} (Err stop) (Err (stops.Device at))
+    device_stop stops.BadLine number at same = absurd (cc)
+    device_stop stops.Unbuilt number at same = absurd (cc)
+    device_stop (stops.Device clone) number at same = cc
+    device_stop stops.NoMemory number at same = absurd (cc)
+
+err_is : {T : Type 0} {fault other : RunFault} → fault ≡ other → ◌≡◌ {A = Result T RunFault} (Err fault) (Err other)
+err_is same = ap (λ (f : RunFault). Err f) same
+
+-- a stop that isn't want of memory gives a fault that isn't either
+pub no_memory_stop : {T U : Type 0} (stop : LineStop) (number : ℕ) (fault : RunFault) → fault ≡ fault_of stop number
+    → (¬ ◌≡◌ {A = Result T RunFault} (Err fault) (Err faults.NoMemory)) → ¬ ◌≡◌ {A = Result U LineStop} (Err stop) (Err stops.NoMemory)
+no_memory_stop {T = T} stop number fault is differs same =
+    let stop_is : stop ≡ stops.NoMemory = cc in
+    differs (err_is (is ∙ ap (λ (s : LineStop). fault_of s number) stop_is))
 
 -- what holds of a line that was there
 pub of_line : (P : List ℕ → Type 0) (taken : Option (List ℕ)) (line : List ℕ) → taken ≡ Some line → IfSomeLine P taken → P line

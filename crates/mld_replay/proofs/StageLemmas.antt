@@ -1,23 +1,25 @@
 -- What a line makes of a schedule's state, and what its end does.
-use Rattle.std.proofs.Common.{◌≡◌, ℕ, List, [], refl, sym, subst, Option, None, Some}
+use Rattle.std.proofs.Common.{◌≡◌, ℕ, List, [], refl, sym, subst, length, Option, None, Some, Vec, Global}
+use Rattle.std.specs.Prelude.{Result, Ok, Err, IfOk}
+use Rattle.mld_io.specs.Disk.{Log}
 use Rattle.schedule_model.specs.declared.Command.{Command}
-use Rattle.mld_model.specs.World.{World}
+use Rattle.mld_model.specs.World.{World, clone_count}
 use Rattle.mld_model.specs.Reply.{Ready}
 use Rattle.mld_model.specs.Sound.{IsSound}
-use Rattle.mld_model.specs.StandsFor.{RunningWorld, StandsFor}
 use Rattle.mld_model.proofs.FoundedLaws.{founded_sound}
 use Rattle.schedule_model.specs.ReplyText.{reply_text}
 use Rattle.schedule_model.specs.Runs.{Stage, Waiting, SetUp, Running, founded_by, IsWorldOf, says_nothing, sets_up, commands}
-use Rattle.schedule_model.specs.WorldStep.{Follows}
 use Rattle.net_world.specs.declared.lines.Setup.{Setup}
 use Rattle.net_world.specs.declared.lines.SetupLine.{SetupLine}
 use Rattle.net_world.specs.declared.lines.SetupLine.TheVariants as lines
-use Rattle.schedule_model.specs.Schedule.{Setup as ModelSetup, SpellsSetup, IsSetup}
+use Rattle.schedule_model.specs.Schedule.{Setup as ModelSetup, SpellsSetup, SpellsCommand, IsSetup}
 use Rattle.rdf_terms.specs.Order.{iri_cmp}
 use Rattle.tree_clock.specs.Lists.{IsAscending}
 use Rattle.net_world.specs.ReadLines.{setup_of, SetupIs, CommandIs}
-use Rattle.net_world.specs.Worlds.{Stepped}
-use Rattle.mld_replay.specs.Stages.{StageStands, ActsWell, EndsWell}
+use Rattle.net_world.specs.WorldBanks.{BankedWorld, StandsOnBanks}
+use Rattle.net_world.specs.Worlds.{Stepped, FollowsOnBanks}
+use Rattle.mld_replay.specs.Stages.{StageStands, IsStandingStage, ActsWell, EndsWell}
+use Rattle.mld_replay.specs.declared.stops.LineStop.{LineStop}
 use Rattle.mld_replay.specs.declared.stages.Stage.{Stage as RunningStage}
 use Rattle.mld_replay.specs.declared.stages.Stage.TheVariants as stages
 
@@ -32,35 +34,38 @@ spelled_setup line setup spelled = record {
 }
 
 -- it is the domain line
-pub set_up : (line : List ℕ) (read : SetupLine) (setup : Setup) (text : List ℕ) → read ≡ lines.Setup setup → SetupIs line None read
-    → text ≡ reply_text (Ready setup.clones) → ActsWell Waiting line text (stages.SetUp setup)
-set_up line read setup text is reads writes =
+pub set_up : {B : Type 0} (log : B → Option Log) (line : List ℕ) (read : SetupLine) (setup : Setup) (blanks : Vec B Global) (text : List ℕ) → read ≡ lines.Setup setup → SetupIs line None read
+    → text ≡ reply_text (Ready setup.clones) → length blanks.items ≡ clone_count → ActsWell log Waiting line text (stages.SetUp setup blanks)
+set_up log line read setup blanks text is reads writes count =
     let P : SetupLine → Type 0 = λ r. SetupIs line None r in
     let spelled = subst P is reads in
     record {
       next = SetUp (setup_of setup);
       acts = sets_up (record { setup = setup_of setup; spells = spelled; replies = writes; changes = refl });
-      stands = (refl, spelled_setup line (setup_of setup) spelled);
+      stands = (refl, spelled_setup line (setup_of setup) spelled, count);
     }
 
 -- it says nothing, and still none has come
-pub still_waits : (line : List ℕ) (read : SetupLine) (so_far : Option Setup) → read ≡ lines.Other so_far → SetupIs line None read
-    → ActsWell Waiting line [] stages.Waiting
-still_waits line read so_far is reads = let P : SetupLine → Type 0 = λ r. SetupIs line None r in waits so_far (subst P is reads)
+pub still_waits : {B : Type 0} (log : B → Option Log) (line : List ℕ) (read : SetupLine) (so_far : Option Setup) (running : RunningStage B) → read ≡ lines.Other so_far → SetupIs line None read
+    → StageStands log running Waiting → ActsWell log Waiting line [] running
+still_waits {B = B} log line read so_far running is reads stands = let P : SetupLine → Type 0 = λ r. SetupIs line None r in waits so_far (subst P is reads)
   where
-    waits : (so_far : Option Setup) → SetupIs line None (lines.Other so_far) → ActsWell Waiting line [] stages.Waiting
-    waits None nothing = record { next = Waiting; acts = says_nothing nothing refl refl; stands = tt }
+    waits : (so_far : Option Setup) → SetupIs line None (lines.Other so_far) → ActsWell log Waiting line [] running
+    waits None nothing = record { next = Waiting; acts = says_nothing nothing refl refl; stands = stands }
     waits (Some setup) nothing = absurd nothing
+
+-- the banks of a state in which none has come
+pub waiting_count : {B : Type 0} (log : B → Option Log) (state : RunningStage B) (blanks : Vec B Global) → state ≡ stages.Waiting blanks → StageStands log state Waiting → length blanks.items ≡ clone_count
+waiting_count {B = B} log state blanks is stands = let P : RunningStage B → Type 0 = λ s. StageStands log s Waiting in subst P is stands
 
 -- ---- a line behind the domain line
 
 -- it is a command
-pub commanded : (stage : Stage) (line : List ℕ) (read : Option Command) (command : Command) (old new : RunningWorld) (text : List ℕ)
-    → read ≡ Some command → CommandIs line read → Stepped old command new [] text
-    → (model : World) → IsWorldOf stage model → StandsFor old model → IsSound model → ActsWell stage line text (stages.Running new)
-commanded stage line read command old new text is reads stepped model founds stands sound =
-    let P : Option Command → Type 0 = λ c. CommandIs line c in
-    let follows : Follows model command stepped.reply new = stepped.follows model stands sound in
+pub commanded : {B : Type 0} (log : B → Option Log) (stage : Stage) (line : List ℕ) (command : Command) (old new : BankedWorld B) (text : List ℕ)
+    → SpellsCommand line command → Stepped log old command new [] text
+    → (model : World) → IsWorldOf stage model → StandsOnBanks log old model → IsSound model → ActsWell log stage line text (stages.Running new)
+commanded log stage line command old new text spells stepped model founds stands sound =
+    let follows : FollowsOnBanks log model command stepped.reply new = stepped.follows model stands sound in
     record {
       next = Running follows.next;
       acts = commands (record {
@@ -69,7 +74,7 @@ commanded stage line read command old new text is reads stepped model founds sta
         command = command;
         reply = stepped.reply;
         after = follows.next;
-        spells = subst P is reads;
+        spells = spells;
         steps = follows.steps;
         replies = stepped.text;
         changes = refl;
@@ -77,53 +82,90 @@ commanded stage line read command old new text is reads stepped model founds sta
       stands = (follows.stands, follows.sound);
     }
 
--- it is a command, and founds the clones
-pub started : (setup : Setup) (line : List ℕ) (read : Option Command) (command : Command) (old new : RunningWorld) (text : List ℕ)
-    → read ≡ Some command → CommandIs line read → Stepped old command new [] text
-    → StandsFor old (founded_by (setup_of setup)) → ActsWell (SetUp (setup_of setup)) line text (stages.Running new)
-started setup line read command old new text is reads stepped stands =
-    commanded (SetUp (setup_of setup)) line read command old new text is reads stepped (founded_by (setup_of setup)) refl stands
-    (founded_sound setup.domain setup.props.items setup.clones)
+-- a line that was read as a command spells it
+pub spells_read : (line : List ℕ) (read : Option Command) (command : Command) → read ≡ Some command → CommandIs line read → SpellsCommand line command
+spells_read line read command is reads = let P : Option Command → Type 0 = λ c. CommandIs line c in subst P is reads
 
--- it says nothing, and no clone is founded
-pub still_set_up : (setup : Setup) (line : List ℕ) (read : Option Command) → IsSetup (setup_of setup) → read ≡ None → CommandIs line read
-    → ActsWell (SetUp (setup_of setup)) line [] (stages.SetUp setup)
-still_set_up setup line read spelled is reads =
-    let P : Option Command → Type 0 = λ c. CommandIs line c in
-    record { next = SetUp (setup_of setup); acts = says_nothing (subst P is reads) refl refl; stands = (refl, spelled) }
+-- it is a command, and the clones were just founded
+pub started : {B : Type 0} (log : B → Option Log) (stage : Stage) (line : List ℕ) (command : Command) (old new : BankedWorld B) (text : List ℕ)
+    → SpellsCommand line command → Stepped log old command new [] text → EndsWell log stage (stages.Running old) → ActsWell log stage line text (stages.Running new)
+started log stage line command old new text spells stepped founded =
+    commanded log stage line command old new text spells stepped founded.world founded.founds founded.stands.0 founded.stands.1
 
--- it says nothing, and a world runs
-pub still_runs : (line : List ℕ) (read : Option Command) (old : RunningWorld) → read ≡ None → CommandIs line read
-    → (model : World) → StandsFor old model → IsSound model → ActsWell (Running model) line [] (stages.Running old)
-still_runs line read old is reads model stands sound =
+-- so it is, whatever its step answered
+pub started_all : {B : Type 0} (log : B → Option Log) (result : Result (Vec ℕ Global) LineStop) (state : RunningStage B) (command : Command) (old new : BankedWorld B)
+    → IfOk result (λ text. Stepped log old command new [] text.items) → ((stage : Stage) → StageStands log state stage → EndsWell log stage (stages.Running old))
+    → IfOk result (λ text. (stage : Stage) (line : List ℕ) → StageStands log state stage → SpellsCommand line command → ActsWell log stage line text.items (stages.Running new))
+started_all log (Ok text) state command old new stepped founded = λ stage line stands spells. started log stage line command old new text.items spells stepped (founded stage stands)
+started_all log (Err stop) state command old new stepped founded = tt
+
+pub commanded_all : {B : Type 0} (log : B → Option Log) (result : Result (Vec ℕ Global) LineStop) (line : List ℕ) (command : Command) (old new : BankedWorld B)
+    → SpellsCommand line command → IfOk result (λ text. Stepped log old command new [] text.items)
+    → IfOk result (λ text. (model : World) → StandsOnBanks log old model → IsSound model → ActsWell log (Running model) line text.items (stages.Running new))
+commanded_all log (Ok text) line command old new spells stepped = λ model stands sound. commanded log (Running model) line command old new text.items spells stepped model refl stands sound
+commanded_all log (Err stop) line command old new spells stepped = tt
+
+-- it says nothing
+pub nothing_said : {B : Type 0} (log : B → Option Log) (stage : Stage) (line : List ℕ) (read : Option Command) (running : RunningStage B) → read ≡ None → CommandIs line read
+    → StageStands log running stage → ActsWell log stage line [] running
+nothing_said log stage line read running is reads stands =
     let P : Option Command → Type 0 = λ c. CommandIs line c in
-    record { next = Running model; acts = says_nothing (subst P is reads) refl refl; stands = (stands, sound) }
+    record { next = stage; acts = says_nothing (subst P is reads) refl refl; stands = stands }
 
 -- ---- the stage that a state stands for
 
 -- while the domain is set up
-pub set_up_stage : (P : Stage → Type 0) (state : RunningStage) (setup : Setup) → state ≡ stages.SetUp setup → P (SetUp (setup_of setup))
-    → (stage : Stage) → StageStands state stage → P stage
-set_up_stage P state setup is h stage stands = let Q : RunningStage → Type 0 = λ s. StageStands s stage in at stage (subst Q is stands)
+pub set_up_stage : {B : Type 0} (log : B → Option Log) (P : Stage → Type 0) (state : RunningStage B) (setup : Setup) (blanks : Vec B Global) → state ≡ stages.SetUp setup blanks
+    → (IsSetup (setup_of setup) → P (SetUp (setup_of setup))) → (stage : Stage) → StageStands log state stage → P stage
+set_up_stage {B = B} log P state setup blanks is h stage stands = let Q : RunningStage B → Type 0 = λ s. StageStands log s stage in at stage (subst Q is stands)
   where
-    at : (stage : Stage) → StageStands (stages.SetUp setup) stage → P stage
+    at : (stage : Stage) → StageStands log (stages.SetUp setup blanks) stage → P stage
     at Waiting stands = absurd stands
-    at (SetUp model) stands = subst (λ s. P (SetUp s)) stands.0 h
+    at (SetUp model) stands = subst (λ s. P (SetUp s)) stands.0 (h (subst (λ s. IsSetup s) (sym stands.0) stands.1))
     at (Running world) stands = absurd stands
 
--- once a world runs
-pub running_stage : (P : Stage → Type 0) (state : RunningStage) (running : RunningWorld) → state ≡ stages.Running running
-    → ((model : World) → StandsFor running model → IsSound model → P (Running model)) → (stage : Stage) → StageStands state stage → P stage
-running_stage P state running is h stage stands = let Q : RunningStage → Type 0 = λ s. StageStands s stage in at stage (subst Q is stands)
+-- what is set up may be founded, on as many banks as clones
+pub standing_setup : {B : Type 0} (log : B → Option Log) (state : RunningStage B) (setup : Setup) (blanks : Vec B Global) → state ≡ stages.SetUp setup blanks → IsStandingStage log state
+    → IsSetup (setup_of setup) × (length blanks.items ≡ clone_count)
+standing_setup {B = B} log state setup blanks is standing = let Q : RunningStage B → Type 0 = λ s. StageStands log s standing.stage in at standing.stage (subst Q is standing.stands)
   where
-    at : (stage : Stage) → StageStands (stages.Running running) stage → P stage
+    at : (stage : Stage) → StageStands log (stages.SetUp setup blanks) stage → IsSetup (setup_of setup) × (length blanks.items ≡ clone_count)
+    at Waiting stands = absurd stands
+    at (SetUp model) stands = (subst (λ s. IsSetup s) (sym stands.0) stands.1, stands.2)
+    at (Running world) stands = absurd stands
+
+-- while none has come
+pub waiting_stage : {B : Type 0} (log : B → Option Log) (P : Stage → Type 0) (state : RunningStage B) (blanks : Vec B Global) → state ≡ stages.Waiting blanks → P Waiting
+    → (stage : Stage) → StageStands log state stage → P stage
+waiting_stage {B = B} log P state blanks is h stage stands = let Q : RunningStage B → Type 0 = λ s. StageStands log s stage in at stage (subst Q is stands)
+  where
+    at : (stage : Stage) → StageStands log (stages.Waiting blanks) stage → P stage
+    at Waiting stands = h
+    at (SetUp model) stands = absurd stands
+    at (Running world) stands = absurd stands
+
+-- a state that waits stands for the stage that does
+pub standing_waits : {B : Type 0} (log : B → Option Log) (state : RunningStage B) (blanks : Vec B Global) → state ≡ stages.Waiting blanks → IsStandingStage log state → StageStands log state Waiting
+standing_waits log state blanks is standing = waiting_stage log (λ stage. StageStands log state stage → StageStands log state Waiting) state blanks is (λ stands. stands) standing.stage standing.stands standing.stands
+
+-- once a world runs
+pub running_stage : {B : Type 0} (log : B → Option Log) (P : Stage → Type 0) (state : RunningStage B) (running : BankedWorld B) → state ≡ stages.Running running
+    → ((model : World) → StandsOnBanks log running model → IsSound model → P (Running model)) → (stage : Stage) → StageStands log state stage → P stage
+running_stage {B = B} log P state running is h stage stands = let Q : RunningStage B → Type 0 = λ s. StageStands log s stage in at stage (subst Q is stands)
+  where
+    at : (stage : Stage) → StageStands log (stages.Running running) stage → P stage
     at Waiting stands = absurd stands
     at (SetUp model) stands = absurd stands
     at (Running model) stands = h model stands.0 stands.1
 
+-- a state that is over stands for none
+pub over_stage : {B : Type 0} (log : B → Option Log) (state : RunningStage B) (banks : Vec B Global) → state ≡ stages.Over banks → IsStandingStage log state → ⊥
+over_stage {B = B} log state banks is standing = let Q : RunningStage B → Type 0 = λ s. StageStands log s standing.stage in subst Q is standing.stands
+
 -- ---- the end of the lines
 
 -- the clones are founded there, where no command did
-pub founded_end : (setup : Setup) (running : RunningWorld) → StandsFor running (founded_by (setup_of setup)) → EndsWell (SetUp (setup_of setup)) (stages.Running running)
-founded_end setup running stands =
+pub founded_end : {B : Type 0} (log : B → Option Log) (setup : Setup) (running : BankedWorld B) → StandsOnBanks log running (founded_by (setup_of setup))
+    → EndsWell log (SetUp (setup_of setup)) (stages.Running running)
+founded_end log setup running stands =
     record { world = founded_by (setup_of setup); founds = refl; stands = (stands, founded_sound setup.domain setup.props.items setup.clones) }

@@ -5,3 +5,4 @@ pub mod Ran
 pub mod UnderWay
 pub mod Stops
 pub mod FaultTexts
+pub mod Filled

@@ -7,10 +7,10 @@ use Rattle.mld_replay.specs.TooLarge.{left_after, BreaksLimits, IsTooLargeLine}
 use Rattle.mld_model.specs.World.{World}
 use Rattle.schedule_model.specs.Runs.{Stage, Waiting, Running, Runs, RunsBefore, Outcome, Finished, BadLine, UnbuiltLine, Verdict}
 use Rattle.schedule_model.specs.Promises.{KeepsPromises}
-use Rattle.net_world.specs.WorldSummary.{Tells}
-use Rattle.net_world.specs.declared.summaries.Summary.{Summary}
+use Rattle.mld_io.specs.Disk.{Log}
+use Rattle.mld_replay.specs.RunSummaries.{TellsOf}
+use Rattle.mld_replay.specs.Stages.{StageStands, banks_of_stage, BanksKeep}
 use Rattle.mld_replay.specs.declared.stages.Stage.{Stage as RunningStage}
-use Rattle.mld_replay.specs.declared.stages.Stage.TheVariants as stages
 use Rattle.mld_replay.specs.declared.run.Ran.{Ran}
 use Rattle.mld_replay.specs.declared.run.RunFault.{RunFault}
 use Rattle.mld_replay.specs.declared.run.RunFault.TheVariants as faults
@@ -23,7 +23,9 @@ status_of (Some faults.ReadFault) = 2
 status_of (Some faults.WriteFault) = 3
 status_of (Some (faults.BadLine line)) = 4
 status_of (Some faults.NoMemory) = 5
+status_of (Some (faults.Device clone)) = 6
 status_of (Some (faults.TooLarge line)) = 7
+status_of (Some (faults.NotEmpty clone)) = 8
 status_of (Some (faults.Unbuilt line)) = 20
 
 -- the one word is `replay`
@@ -53,15 +55,17 @@ IsWritingFault faults.WriteFault = Unit {0}
 IsWritingFault faults.NoMemory = Unit {0}
 IsWritingFault fault = ⊥
 
--- the faults of a line: it is bad or unbuilt, or there was want of memory
+-- the faults of a line: it is bad or unbuilt, a device failed, or there was want of memory
 abbrev pub IsLineFault : RunFault → Type 0
+IsLineFault (faults.Device clone) = Unit {0}
 IsLineFault (faults.BadLine line) = Unit {0}
 IsLineFault (faults.Unbuilt line) = Unit {0}
 IsLineFault faults.NoMemory = Unit {0}
 IsLineFault fault = ⊥
 
--- the faults of the end of the lines: no domain line came, or there was want of memory
+-- the faults of the end of the lines: no domain line came, a device failed, or there was want of memory
 abbrev pub IsEndFault : RunFault → Type 0
+IsEndFault (faults.Device clone) = Unit {0}
 IsEndFault (faults.BadLine line) = Unit {0}
 IsEndFault faults.NoMemory = Unit {0}
 IsEndFault fault = ⊥
@@ -138,8 +142,8 @@ pub record BreaksOff (P : Stage → Type 0) (bytes : List ℕ) (left before afte
   pub written : Appends before after text
   pub holds : P stage
 
--- what was written is a front of the text of a run over the first lines of these bytes
-pub record WritesFront (bytes : List ℕ) (before after : Option (List ℕ)) : Type 0 where
+-- what was written is a front of the text of a run over the first lines of these bytes, and this holds of the stage that they led to
+pub record WritesFront (P : Stage → Type 0) (bytes : List ℕ) (before after : Option (List ℕ)) : Type 0 where
   pub lines : List (List ℕ)
   pub rest : List (List ℕ)
   pub whole : lines_of bytes ≡ lines ++ rest
@@ -148,8 +152,20 @@ pub record WritesFront (bytes : List ℕ) (before after : Option (List ℕ)) : T
   pub runs : Runs Waiting lines text stage
   pub size : ℕ
   pub written : Appends before after (take size text)
+  pub holds : P stage
 
--- the run ended as the verdict says, or by a fault of reading or writing, want of memory or a line that is too large
+-- what was written is the whole text of a run over the first lines of these bytes
+pub record WritesWhole (bytes : List ℕ) (before after : Option (List ℕ)) : Type 0 where
+  pub lines : List (List ℕ)
+  pub rest : List (List ℕ)
+  pub whole : lines_of bytes ≡ lines ++ rest
+  pub text : List ℕ
+  pub stage : Stage
+  pub runs : Runs Waiting lines text stage
+  pub written : Appends before after text
+
+-- the run ended as the verdict says, or by a fault of reading, of writing or of a device, want of memory, a line that is too large, or
+-- banks that are not empty
 abbrev pub Agrees : Option RunFault → Outcome → Type 0
 Agrees None (Finished text world) = Unit {0}
 Agrees (Some (faults.BadLine line)) (BadLine number text stage) = line ≡ number
@@ -157,6 +173,8 @@ Agrees (Some (faults.Unbuilt line)) (UnbuiltLine number text stage) = line ≡ n
 Agrees (Some faults.ReadFault) outcome = Unit {0}
 Agrees (Some faults.WriteFault) outcome = Unit {0}
 Agrees (Some faults.NoMemory) outcome = Unit {0}
+Agrees (Some (faults.Device clone)) outcome = Unit {0}
+Agrees (Some (faults.NotEmpty clone)) outcome = Unit {0}
 Agrees (Some (faults.TooLarge line)) outcome = Unit {0}
 Agrees fault outcome = ⊥
 
@@ -169,20 +187,24 @@ tells (Some (faults.BadLine line)) = true
 tells (Some (faults.TooLarge line)) = true
 tells (Some fault) = false
 
--- what is told of a state: of the world that runs, and nothing where no clone is founded
-abbrev pub SummarizesStage : RunningStage → Option Summary → Type 0
-SummarizesStage stages.Waiting None = Unit {0}
-SummarizesStage (stages.SetUp setup) None = Unit {0}
-SummarizesStage (stages.Running running) (Some summary) = Tells running summary
-SummarizesStage running summary = ⊥
+-- what a run tells of the stage that it ended at, and what its banks keep of it
+pub record EndsAs {B : Type 0} (log : B → Option Log) (ran : Ran B) (stage : Stage) : Type 0 where
+  pub told : TellsOf ran.world stage
+  pub kept : BanksKeep log ran.banks.items stage
 
--- what is told where a run has to tell of its world, and where not
-abbrev pub IfTold : Bool → RunningStage → Option Summary → Type 0
-IfTold true running summary = SummarizesStage running summary
-IfTold false running summary = summary ≡ None
+-- the run ended by this fault: it tells of the stage that it ended at where it has to, and gives back its banks
+pub record EndsWhole {B : Type 0} (log : B → Option Log) (fault : Option RunFault) (running : RunningStage B) (ran : Ran B) : Type 0 where
+  pub fault_is : ran.fault ≡ fault
+  pub told : IsTrue (tells fault) → (stage : Stage) → StageStands log running stage → TellsOf ran.world stage
+  pub silent : ¬ IsTrue (tells fault) → ran.world ≡ None
+  pub banks_are : ran.banks.items ≡ banks_of_stage running
+  pub kept : (stage : Stage) → StageStands log running stage → BanksKeep log ran.banks.items stage
 
--- the run ended so, and tells of its world where it has to; or it had to, and memory ran out over that
-abbrev pub EndsBy : Option RunFault → RunningStage → Ran → Type 0
-EndsBy fault running ran =
-    ((ran.fault ≡ fault) × IfTold (tells fault) running ran.world)
-    ⊎ (IsTrue (tells fault) × (ran.fault ≡ Some faults.NoMemory) × (ran.world ≡ None))
+-- memory ran out at the end of the run
+pub record EndsShort {B : Type 0} (ran : Ran B) : Type 0 where
+  pub fault_is : ran.fault ≡ Some faults.NoMemory
+  pub silent : ran.world ≡ None
+
+-- the run ended by this fault, or memory ran out over that
+abbrev pub EndsBy : {B : Type 0} → (B → Option Log) → Option RunFault → RunningStage B → Ran B → Type 0
+EndsBy log fault running ran = EndsWhole log fault running ran ⊎ EndsShort ran

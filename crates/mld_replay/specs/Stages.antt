@@ -1,47 +1,75 @@
 -- What the state of a schedule has to do with the stage of the model.
-use Rattle.std.specs.Prelude.{◌≡◌, ℕ, List, Option, None, Some}
-use Rattle.mld_model.specs.World.{World}
+use Rattle.std.specs.Prelude.{◌≡◌, ℕ, List, Option, length, slice_get, Some}
+use Rattle.mld_io.specs.Disk.{Log}
+use Rattle.mld_model.specs.World.{World, clone_count}
 use Rattle.mld_model.specs.Sound.{IsSound}
-use Rattle.mld_model.specs.StandsFor.{RunningWorld, StandsFor}
 use Rattle.schedule_model.specs.Runs.{Stage, Waiting, SetUp, Running, IsWorldOf, Acts}
-use Rattle.net_world.specs.declared.lines.Setup.{Setup}
 use Rattle.schedule_model.specs.Schedule.{IsSetup}
 use Rattle.net_world.specs.ReadLines.{setup_of}
+use Rattle.net_world.specs.WorldBanks.{StandsOnBanks, banks_of, KeepsNoneNow, AllBanksStandFor}
 use Rattle.mld_replay.specs.declared.stages.Stage.{Stage as RunningStage}
 use Rattle.mld_replay.specs.declared.stages.Stage.TheVariants as stages
+use Rattle.mld_replay.specs.declared.stops.LineStop.{LineStop}
+use Rattle.mld_replay.specs.declared.stops.LineStop.TheVariants as stops
 
 -- what a schedule's state stands for: nothing while no domain line has come; then what is set up, by which clones may be founded; and
--- from the first command on a sound world
-abbrev pub StageStands : RunningStage → Stage → Type 0
-StageStands stages.Waiting Waiting = Unit {0}
-StageStands (stages.SetUp setup) (SetUp model) = (setup_of setup ≡ model) × IsSetup model
-StageStands (stages.Running running) (Running world) = StandsFor running world × IsSound world
-StageStands running stage = ⊥
+-- from the first command on a sound world. There are as many banks as clones
+abbrev pub StageStands : {B : Type 0} → (B → Option Log) → RunningStage B → Stage → Type 0
+StageStands log (stages.Waiting blanks) Waiting = length blanks.items ≡ clone_count
+StageStands log (stages.SetUp setup blanks) (SetUp model) = (setup_of setup ≡ model) × IsSetup model × (length blanks.items ≡ clone_count)
+StageStands log (stages.Running running) (Running world) = StandsOnBanks log running world × IsSound world
+StageStands log running stage = ⊥
 
 -- the steps made so far
-abbrev pub steps_of : RunningStage → ℕ
-steps_of stages.Waiting = 0
-steps_of (stages.SetUp setup) = 0
+abbrev pub steps_of : {B : Type 0} → RunningStage B → ℕ
+steps_of (stages.Waiting blanks) = 0
+steps_of (stages.SetUp setup blanks) = 0
 steps_of (stages.Running running) = running.steps
+steps_of (stages.Over banks) = 0
+
+-- the banks, by number
+abbrev pub banks_of_stage : {B : Type 0} → RunningStage B → List B
+banks_of_stage (stages.Waiting blanks) = blanks.items
+banks_of_stage (stages.SetUp setup blanks) = blanks.items
+banks_of_stage (stages.Running running) = banks_of running
+banks_of_stage (stages.Over banks) = banks.items
+
+-- the domain is set up, and no clone is founded
+abbrev pub IsSetUpState : {B : Type 0} → RunningStage B → Type 0
+IsSetUpState (stages.SetUp setup blanks) = Unit {0}
+IsSetUpState state = ⊥
+
+-- why a world isn't founded or a command not done: a device failed, or there was want of memory
+abbrev pub IsWorldStop : LineStop → Type 0
+IsWorldStop (stops.Device clone) = Unit {0}
+IsWorldStop stops.NoMemory = Unit {0}
+IsWorldStop stop = ⊥
 
 -- there is a stage that the state stands for
-pub record IsStandingStage (running : RunningStage) : Type 0 where
+pub record IsStandingStage {B : Type 0} (log : B → Option Log) (running : RunningStage B) : Type 0 where
   pub stage : Stage
-  pub stands : StageStands running stage
-
--- the state behind a line at which this was set up: the world that the line founded, or else what is set up
-abbrev pub stage_of : Setup → Option RunningWorld → RunningStage
-stage_of setup None = stages.SetUp setup
-stage_of setup (Some running) = stages.Running running
+  pub stands : StageStands log running stage
 
 -- the line was done: the text is what the model adds, and the new state stands for the next stage
-pub record ActsWell (stage : Stage) (line text : List ℕ) (running : RunningStage) : Type 0 where
+pub record ActsWell {B : Type 0} (log : B → Option Log) (stage : Stage) (line text : List ℕ) (running : RunningStage B) : Type 0 where
   pub next : Stage
   pub acts : Acts stage line text next
-  pub stands : StageStands running next
+  pub stands : StageStands log running next
 
 -- the lines ended: the new state stands for the world that the clones of the stage are founded in
-pub record EndsWell (stage : Stage) (running : RunningStage) : Type 0 where
+pub record EndsWell {B : Type 0} (log : B → Option Log) (stage : Stage) (running : RunningStage B) : Type 0 where
   pub world : World
   pub founds : IsWorldOf stage world
-  pub stands : StageStands running (Running world)
+  pub stands : StageStands log running (Running world)
+
+-- ---- what the banks keep of a stage
+
+-- all of them keep nothing
+abbrev pub AllKeepNone : {B : Type 0} → (B → Option Log) → List B → Type 0
+AllKeepNone {B = B} log banks = (number : ℕ) (one : B) → slice_get banks number ≡ Some one → KeepsNoneNow (log one)
+
+-- the banks keep what a schedule has come to: nothing before the clones are founded, and then each what its clone keeps
+abbrev pub BanksKeep : {B : Type 0} → (B → Option Log) → List B → Stage → Type 0
+BanksKeep log banks Waiting = AllKeepNone log banks
+BanksKeep log banks (SetUp setup) = AllKeepNone log banks
+BanksKeep log banks (Running world) = AllBanksStandFor log world banks

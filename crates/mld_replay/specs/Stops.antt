@@ -2,6 +2,8 @@
 use Rattle.std.specs.Prelude.{ℕ}
 use Rattle.net_world.specs.declared.lines.LineRefusal.{LineRefusal}
 use Rattle.net_world.specs.declared.lines.LineRefusal.TheVariants as refusals
+use Rattle.net_world.specs.declared.faults.WorldFault.{WorldFault}
+use Rattle.net_world.specs.declared.faults.WorldFault.TheVariants as worlds
 use Rattle.mld_replay.specs.declared.stops.LineStop.{LineStop}
 use Rattle.mld_replay.specs.declared.stops.LineStop.TheVariants as stops
 use Rattle.mld_replay.specs.declared.run.RunFault.{RunFault}
@@ -13,8 +15,14 @@ stop_of refusals.BadLine = stops.BadLine
 stop_of refusals.Unbuilt = stops.Unbuilt
 stop_of refusals.NoMemory = stops.NoMemory
 
+-- nor is one that a world refuses
+abbrev pub stop_of_world : WorldFault → LineStop
+stop_of_world (worlds.Device clone) = stops.Device clone
+stop_of_world worlds.NoMemory = stops.NoMemory
+
 -- the run ends at the line of the number
 abbrev pub fault_of : LineStop → ℕ → RunFault
 fault_of stops.BadLine number = faults.BadLine number
 fault_of stops.Unbuilt number = faults.Unbuilt number
+fault_of (stops.Device clone) number = faults.Device clone
 fault_of stops.NoMemory number = faults.NoMemory

@@ -1,6 +1,7 @@
 -- A replay that is under way: the lines done so far, what they wrote, and the model that the state stands for.
 use Rattle.std.specs.Prelude.{◌≡◌, ℕ, ◌<◌, ◌≤◌, Bool, false, IsTrue, List, [], ◌++◌, Option, Some, length}
 use Rattle.std.specs.Io.KnownBytes.{Appends}
+use Rattle.mld_io.specs.Disk.{Log}
 use Rattle.mld_io.specs.Lines.{lines_of}
 use Rattle.schedule_model.specs.Runs.{Stage, Waiting, Runs}
 use Rattle.mld_replay.specs.TooLarge.{left_after, size_of_lines, IsTooLargeLine}
@@ -18,13 +19,13 @@ pub record IsLeft (bytes : List ℕ) (left : Option (List ℕ)) (size done : ℕ
   pub whole : lines_of bytes ≡ lines ++ lines_of rest
 
 -- so many lines of so many bytes are done: they are a run of the model that wrote this text, and the state stands for where it led
-pub record IsUnderWay (given left before now : Option (List ℕ)) (size : ℕ) (running : RunningStage) (done : ℕ) : Type 0 where
+pub record IsUnderWay {B : Type 0} (log : B → Option Log) (given left before now : Option (List ℕ)) (size : ℕ) (running : RunningStage B) (done : ℕ) : Type 0 where
   pub lines : List (List ℕ)
   pub text : List ℕ
   pub stage : Stage
   pub counted : done ≡ length lines
   pub runs : Runs Waiting lines text stage
-  pub stands : StageStands running stage
+  pub stands : StageStands log running stage
   pub steps : steps_of running ≤ done
   pub left_of : (bytes : List ℕ) → given ≡ Some bytes → IsLeft bytes left size done lines
   pub written : Appends before now text

@@ -1,6 +1,9 @@
-//! The run of a schedule over a source and a sink: its statuses, its text, and what it tells of the world it ends with.
+//! The run of a schedule over a source, a sink and the banks of its clones: its statuses, its text, and what it tells of the world it
+//! ends with.
 #![tactic(auto)]
 
+mod blanks;
+mod endings;
 mod limits;
 pub mod run;
 mod stages;

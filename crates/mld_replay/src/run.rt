@@ -1,5 +1,5 @@
 //! The run: all that the program does, over the words, the source and the sink that it is handed.
-ghost use Rattle.std.specs.Prelude.{◌≡◌, ◌≢◌, ◌↔◌, ◌≤◌, ◌<◌, ◌+◌, ℕ, List, [], map, take, false, None, IsTrue, IfOk, IfErr, OnOk, OnErr, IsErrOf};
+ghost use Rattle.std.specs.Prelude.{◌≡◌, ◌≢◌, ◌↔◌, ◌≤◌, ◌<◌, ◌+◌, ℕ, List, [], map, take, false, None, vec_len, IsTrue, IfOk, IfErr, OnOk, OnErr, IsErrOf};
 ghost use Rattle.std.specs.Io.KnownBytes.{Appends};
 ghost use Rattle.std.specs.String.{string_bytes};
 ghost use Rattle.mld_io.specs.Faults.{Rose};
@@ -8,14 +8,18 @@ ghost use Rattle.schedule_model.specs.Runs.{Stage as ModelStage, Waiting, Outcom
 ghost use Rattle.tree_clock.specs.Limits.{tick_limit};
 ghost use Rattle.mld_replay.specs.Stops.{fault_of};
 ghost use Rattle.mld_replay.specs.TooLarge.{BreaksLimits, line_limit, input_limit};
-ghost use Rattle.mld_replay.specs.RunSummaries.{TellsOf};
-ghost use Rattle.mld_replay.specs.Stages.{StageStands, IsStandingStage, steps_of, ActsWell, EndsWell};
-ghost use Rattle.mld_replay.specs.Ran.{status_of, tells, IsReplay, Finishes, StopsAtBad, StopsAtUnbuilt, StopsAtLarge, BreaksOff, WritesFront, SummarizesStage, EndsBy, Agrees, TakesLine, IfSomeLine, IsReadingFault, IsWritingFault, IsLineFault, IsEndFault, HasReadCause, HasWriteFaultCause};
+ghost use Rattle.mld_model.specs.World.{clone_count};
+ghost use Rattle.net_world.specs.WorldBanks.{MetersGoOn, HasFailed};
+ghost use Rattle.mld_replay.specs.Filled.{IsFirstFilled, EndsBefore};
+ghost use Rattle.mld_replay.specs.Stages.{StageStands, IsStandingStage, steps_of, banks_of_stage, BanksKeep, ActsWell, EndsWell};
+ghost use Rattle.mld_replay.specs.Ran.{status_of, tells, IsReplay, Finishes, StopsAtBad, StopsAtUnbuilt, StopsAtLarge, BreaksOff, WritesFront, WritesWhole, EndsAs, EndsBy, Agrees, TakesLine, IfSomeLine, IsReadingFault, IsWritingFault, IsLineFault, IsEndFault, HasReadCause, HasWriteFaultCause};
 
+use crate::blanks::{blanks_of, find_filled};
+use crate::endings::{End, end_of};
 use crate::limits::{INPUT_LIMIT, LINE_LIMIT};
 use crate::stages::{Stage, act, finish};
 use crate::stops::LineStop;
-use mld_io::{LineFault, Lines, Piece, Sink, Source, WriteFault, write_all};
+use mld_io::{Banks, CrashBanks, LineFault, Lines, Piece, Sink, Source, WriteFault, write_all};
 use net_world::Summary;
 use std::alloc::{AllocError, Global};
 use std::fmt;
@@ -35,104 +39,135 @@ pub enum RunFault {
     BadLine(u64),
     /// No memory was found.
     NoMemory,
+    /// The device of the clone of this number failed.
+    Device(u8),
     /// The line of this number is too large.
     TooLarge(u64),
+    /// The banks of this number are not empty.
+    NotEmpty(u8),
     /// The line of this number isn't built yet.
     Unbuilt(u64),
 }
 
 /// How a run ended.
 #[derive(Drop)]
-pub struct Ran {
+pub struct Ran<B> {
     /// The status of the program.
     pub status: u8,
     /// Why it isn't 0.
     pub fault: Option<RunFault>,
+    /// The banks, in their order; at status 5 there may be none.
+    pub banks: Vec<B>,
     /// What there is to tell of the world that it ended with: at the statuses 0, 2, 4 and 7, where the clones were founded.
     pub world: Option<Summary>,
 }
 
-/// Does all that the program does: by the word `replay` it reads a schedule from the source and writes the replies.
+/// Does all that the program does: by the word `replay` it reads a schedule from the source and writes the replies. Each clone lives on
+/// banks of its own, of which there are as many as clones; they come back in their order.
 ///
 /// # Statuses
 /// 0: the source was read to its end. 1: the words are not `replay` alone; nothing is read or written. 2: the source
 /// failed; the lines whose LF was read are done. 3: the sink failed. 4: a line is outside the grammar, or the input ended
-/// before a `domain` line. 5: no memory. 7: a line is too large. 20: a line isn't built yet. Each line is answered before the
-/// next is read.
-pub fn run<R: Threads, S: Source, K: Sink>(
+/// before a `domain` line. 5: no memory. 6: the device of a clone failed. 7: a line is too large. 8: banks are not empty; nothing is
+/// read or written. 20: a line isn't built yet. Each line is answered before the next is read.
+pub fn run<R: Threads, S: Source, K: Sink, B: CrashBanks>(
     rt: &R,
     alloc: Global,
     words: &Vec<String>,
     source: &mut S,
     sink: &mut K,
-) -> Ran
+    banks: Vec<B>,
+) -> Ran<B>
+    requires { vec_len banks ≡ clone_count }
     ensures status { result.status ≡ status_of result.fault }
     ensures usage { (result.fault ≡ Some RunFault.Usage) ↔ (¬ IsReplay (map (λ w. string_bytes w) words.now.items)) }
-    ensures untouched { result.fault ≡ Some RunFault.Usage → (source.new ≡ source.old) × (sink.new ≡ sink.old) }
+    ensures untouched { result.fault ≡ Some RunFault.Usage → (source.new ≡ source.old) × (sink.new ≡ sink.old) × (result.banks ≡ banks) }
 
     // At status 0 the source is read to its end, none of its lines is too large, and what was written is the text of a run of
-    // the model over them. The world that they lead to is the one that is told of, with the meaning of what each clone knows.
-    // Clones of it that know the same have the same pairs, each answer of a dot holds in it, and no two hold one leaf.
+    // the model over them. The world that they lead to is the one that is told of, with the meaning of what each clone knows, and the
+    // one that the banks keep. Clones of it that know the same have the same pairs, each answer of a dot holds in it, and no two hold
+    // one leaf.
     ensures finished { result.fault ≡ None → (bytes : List ℕ) → S.left source.old ≡ Some bytes
-        → Finishes (TellsOf result.world) bytes (S.left source.new) (K.held sink.old) (K.held sink.new) }
+        → Finishes (EndsAs B.log result) bytes (S.left source.new) (K.held sink.old) (K.held sink.new) }
     // At 4, 20 and 7 the line of that number is the first that is bad, unbuilt or too large; at 4 and 20 none up to it is too
-    // large. The text is that of the lines before it. At 4 and 7 the world that those lead to is told of.
+    // large. The text is that of the lines before it. At 4 and 7 the world that those lead to is told of, and kept by the banks.
     ensures bad { (line : ℕ) → result.fault ≡ Some (RunFault.BadLine line) → (bytes : List ℕ) → S.left source.old ≡ Some bytes
-        → StopsAtBad (TellsOf result.world) bytes line (K.held sink.old) (K.held sink.new) }
+        → StopsAtBad (EndsAs B.log result) bytes line (K.held sink.old) (K.held sink.new) }
     ensures unbuilt { (line : ℕ) → result.fault ≡ Some (RunFault.Unbuilt line) → (bytes : List ℕ) → S.left source.old ≡ Some bytes
         → StopsAtUnbuilt bytes line (K.held sink.old) (K.held sink.new) }
     ensures large { (line : ℕ) → result.fault ≡ Some (RunFault.TooLarge line) → (bytes : List ℕ) → S.left source.old ≡ Some bytes
-        → StopsAtLarge (TellsOf result.world) bytes line (K.held sink.old) (K.held sink.new) }
+        → StopsAtLarge (EndsAs B.log result) bytes line (K.held sink.old) (K.held sink.new) }
     // At 2 the source failed within a line, or before it told its end. The lines done are those whose LF was read, the text is
-    // theirs, and the world that they lead to is told of.
+    // theirs, and the world that they lead to is told of, and kept by the banks.
     ensures broken_off { result.fault ≡ Some RunFault.ReadFault → (bytes : List ℕ) → S.left source.old ≡ Some bytes
-        → BreaksOff (TellsOf result.world) bytes (S.left source.new) (K.held sink.old) (K.held sink.new) }
-    // Whatever the status is, what was written is a front of the text of a run over the first lines.
-    ensures front { (bytes : List ℕ) → S.left source.old ≡ Some bytes → WritesFront bytes (K.held sink.old) (K.held sink.new) }
+        → BreaksOff (EndsAs B.log result) bytes (S.left source.new) (K.held sink.old) (K.held sink.new) }
+    // At 3 what was written is a front of the text of a run over the first lines, and the banks keep the world that those lead to: the
+    // line whose reply could not be written was done.
+    ensures unwritten { result.fault ≡ Some RunFault.WriteFault → (bytes : List ℕ) → S.left source.old ≡ Some bytes
+        → WritesFront (BanksKeep B.log result.banks.items) bytes (K.held sink.old) (K.held sink.new) }
+    // At 6 the banks of that clone had a real fault, where they were not armed, and the text is that of the lines before the one under way.
+    ensures device { (clone : ℕ) → result.fault ≡ Some (RunFault.Device clone) → HasFailed B.meter clone banks.items result.banks.items }
+    ensures failed { (clone : ℕ) → result.fault ≡ Some (RunFault.Device clone) → (bytes : List ℕ) → S.left source.old ≡ Some bytes
+        → WritesWhole bytes (K.held sink.old) (K.held sink.new) }
+    // 8 comes where the banks of that number are the first with a side that has bytes. Where there are such banks, no line is read.
+    ensures not_empty { (clone : ℕ) → result.fault ≡ Some (RunFault.NotEmpty clone) → IsFirstFilled B.log banks.items clone }
+    ensures filled { (clone : ℕ) → IsFirstFilled B.log banks.items clone → EndsBefore result.fault clone × (source.new ≡ source.old) × (sink.new ≡ sink.old) }
+    // Whatever the status is, what was written is a front of the text of a run over the first lines, and the banks come back with their
+    // real faults counted; at 5 there may be none.
+    ensures front { (bytes : List ℕ) → S.left source.old ≡ Some bytes → WritesFront (λ _. Unit {0}) bytes (K.held sink.old) (K.held sink.new) }
+    ensures back { result.fault ≢ Some RunFault.NoMemory → MetersGoOn B.meter banks.items result.banks.items }
     // At the other statuses nothing is told of the world.
     ensures silent { ¬ IsTrue (tells result.fault) → result.world ≡ None }
     // 2 comes where the source's count of faults rose, and 3 where the sink's did. At other statuses that count is what it was;
-    // but where memory for the summary was wanting after a failed read, the run ended by 5.
+    // but where memory for the summary or the banks was wanting after a failed read or write, the run ended by 5.
     ensures read { result.fault ≡ Some RunFault.ReadFault → Rose (S.faults source.old) (S.faults source.new) }
     ensures no_read_fault { result.fault ≢ Some RunFault.ReadFault → result.fault ≢ Some RunFault.NoMemory → S.faults source.new ≡ S.faults source.old }
     ensures write { result.fault ≡ Some RunFault.WriteFault → Rose (K.faults sink.old) (K.faults sink.new) }
-    ensures no_write_fault { result.fault ≢ Some RunFault.WriteFault → K.faults sink.new ≡ K.faults sink.old }
-    // Whatever the verdict on the lines is, the run ends so, unless it ended by 2, 3, 5 or 7.
+    ensures no_write_fault { result.fault ≢ Some RunFault.WriteFault → result.fault ≢ Some RunFault.NoMemory → K.faults sink.new ≡ K.faults sink.old }
+    // Whatever the verdict on the lines is, the run ends so, unless it ended by 2, 3, 5, 6, 7 or 8.
     ensures exact { (bytes : List ℕ) → S.left source.old ≡ Some bytes → (outcome : Outcome) → Verdict (lines_of bytes) outcome
         → IsReplay (map (λ w. string_bytes w) words.now.items) → Agrees result.fault outcome }
 {
     if !is_replay(words) {
-        return ended(Some(RunFault::Usage), None);
+        return ended(Some(RunFault::Usage), banks, None);
     }
-    let mut stage = Stage::Waiting;
-    let fault = replay(rt, alloc, source, sink, &mut stage).err();
-    ended_with(alloc, fault, &stage)
+    let mut banks = banks;
+    if let Err(fault) = find_filled(&mut banks) {
+        return ended(Some(fault), banks, None);
+    }
+    match blanks_of(alloc, banks) {
+        Ok(blanks) => {
+            let mut stage = Stage::Waiting(blanks);
+            let fault = replay(rt, alloc, source, sink, &mut stage).err();
+            ended_with(alloc, fault, stage)
+        }
+        Err((fault, banks)) => ended(Some(fault), banks, None),
+    }
 }
 
-/// A run that ended so, with what it tells of its world where it has to. Where there is no memory for that, it ended by want of
-/// memory.
-fn ended_with(alloc: Global, fault: Option<RunFault>, stage: &Stage) -> Ran
+/// A run that ended so, with its banks, and with what it tells of its world where it has to. Where there is no memory for that, it
+/// ended by want of memory.
+fn ended_with<B: CrashBanks>(alloc: Global, fault: Option<RunFault>, stage: Stage<B>) -> Ran<B>
     ensures status { result.status ≡ status_of result.fault }
-    ensures ends { EndsBy fault stage.now result }
+    ensures ends { EndsBy B.log fault stage result }
 {
-    if !tells(fault) {
-        return ended(fault, None);
-    }
-    match summary_of(alloc, stage) {
-        Ok(summary) => ended(fault, summary),
-        Err(AllocError) => ended(Some(RunFault::NoMemory), None),
+    match end_of(alloc, tells(fault), stage) {
+        Ok(End { world, banks }) => ended(fault, banks, world),
+        Err(AllocError) => ended(Some(RunFault::NoMemory), Vec::new(alloc), None),
     }
 }
 
-/// A run that ended so, and tells this of its world.
-pub fn ended(fault: Option<RunFault>, world: Option<Summary>) -> Ran
+/// A run that ended so, with these banks, and tells this of its world.
+pub fn ended<B>(fault: Option<RunFault>, banks: Vec<B>, world: Option<Summary>) -> Ran<B>
     ensures fault { result.fault ≡ fault }
     ensures status { result.status ≡ status_of fault }
+    ensures banks { result.banks ≡ banks }
     ensures world { result.world ≡ world }
 {
     Ran {
         status: status_of(fault),
         fault,
+        banks,
         world,
     }
 }
@@ -147,16 +182,6 @@ fn tells(fault: Option<RunFault>) -> bool
     }
 }
 
-/// What there is to tell of the world, where the clones are founded.
-fn summary_of(alloc: Global, stage: &Stage) -> Result<Option<Summary>, AllocError>
-    ensures { IfOk result (SummarizesStage stage.now) }
-{
-    match stage {
-        Stage::Waiting | Stage::SetUp(_) => Ok(None),
-        Stage::Running(world) => Ok(Some(world.summary(alloc)?)),
-    }
-}
-
 /// The status of the program for the way in which a run ended.
 fn status_of(fault: Option<RunFault>) -> u8
     ensures { result ≡ status_of fault }
@@ -168,7 +193,9 @@ fn status_of(fault: Option<RunFault>) -> u8
         Some(RunFault::WriteFault) => 3,
         Some(RunFault::BadLine(_)) => 4,
         Some(RunFault::NoMemory) => 5,
+        Some(RunFault::Device(_)) => 6,
         Some(RunFault::TooLarge(_)) => 7,
+        Some(RunFault::NotEmpty(_)) => 8,
         Some(RunFault::Unbuilt(_)) => 20,
     }
 }
@@ -185,26 +212,33 @@ fn is_replay(words: &Vec<String>) -> bool
 
 /// Replays the schedule of the source, and leaves the stage that it leads to. Where a line isn't built or memory runs out,
 /// what is left is not to be used.
-fn replay<R: Threads, S: Source, K: Sink>(
+fn replay<R: Threads, S: Source, K: Sink, B: CrashBanks>(
     rt: &R,
     alloc: Global,
     source: &mut S,
     sink: &mut K,
-    stage: &mut Stage,
+    stage: &mut Stage<B>,
 ) -> Result<(), RunFault>
-    requires { stage.old ≡ Stage.Waiting }
+    requires { StageStands B.log stage.old Waiting }
     ensures usage { ¬ IsErrOf result RunFault.Usage }
     ensures finished { OnOk result ((bytes : List ℕ) → S.left source.old ≡ Some bytes
-        → Finishes (StageStands stage.new) bytes (S.left source.new) (K.held sink.old) (K.held sink.new)) }
+        → Finishes (StageStands B.log stage.new) bytes (S.left source.new) (K.held sink.old) (K.held sink.new)) }
     ensures bad { (line : ℕ) → IsErrOf result (RunFault.BadLine line) → (bytes : List ℕ) → S.left source.old ≡ Some bytes
-        → StopsAtBad (StageStands stage.new) bytes line (K.held sink.old) (K.held sink.new) }
+        → StopsAtBad (StageStands B.log stage.new) bytes line (K.held sink.old) (K.held sink.new) }
     ensures unbuilt { (line : ℕ) → IsErrOf result (RunFault.Unbuilt line) → (bytes : List ℕ) → S.left source.old ≡ Some bytes
         → StopsAtUnbuilt bytes line (K.held sink.old) (K.held sink.new) }
     ensures large { (line : ℕ) → IsErrOf result (RunFault.TooLarge line) → (bytes : List ℕ) → S.left source.old ≡ Some bytes
-        → StopsAtLarge (StageStands stage.new) bytes line (K.held sink.old) (K.held sink.new) }
+        → StopsAtLarge (StageStands B.log stage.new) bytes line (K.held sink.old) (K.held sink.new) }
     ensures broken_off { IsErrOf result RunFault.ReadFault → (bytes : List ℕ) → S.left source.old ≡ Some bytes
-        → BreaksOff (StageStands stage.new) bytes (S.left source.new) (K.held sink.old) (K.held sink.new) }
-    ensures front { (bytes : List ℕ) → S.left source.old ≡ Some bytes → WritesFront bytes (K.held sink.old) (K.held sink.new) }
+        → BreaksOff (StageStands B.log stage.new) bytes (S.left source.new) (K.held sink.old) (K.held sink.new) }
+    ensures front { (bytes : List ℕ) → S.left source.old ≡ Some bytes → WritesFront (λ _. Unit {0}) bytes (K.held sink.old) (K.held sink.new) }
+    ensures unwritten { IsErrOf result RunFault.WriteFault → (bytes : List ℕ) → S.left source.old ≡ Some bytes
+        → WritesFront (StageStands B.log stage.new) bytes (K.held sink.old) (K.held sink.new) }
+    ensures failed { (clone : ℕ) → IsErrOf result (RunFault.Device clone) → (bytes : List ℕ) → S.left source.old ≡ Some bytes
+        → WritesWhole bytes (K.held sink.old) (K.held sink.new) }
+    ensures not_empty { (clone : ℕ) → ¬ IsErrOf result (RunFault.NotEmpty clone) }
+    ensures meters { ¬ IsErrOf result RunFault.NoMemory → MetersGoOn B.meter (banks_of_stage stage.old) (banks_of_stage stage.new) }
+    ensures device { (clone : ℕ) → IsErrOf result (RunFault.Device clone) → HasFailed B.meter clone (banks_of_stage stage.old) (banks_of_stage stage.new) }
     ensures read { HasReadCause (S.faults source.old) (S.faults source.new) result }
     ensures write { HasWriteFaultCause (K.faults sink.old) (K.faults sink.new) result }
 {
@@ -262,20 +296,22 @@ fn write_reply<K: Sink>(sink: &mut K, reply: &[u8]) -> Result<(), RunFault>
 }
 
 /// Does line `number`, and gives the text of its reply.
-fn do_line<R: Threads>(
+fn do_line<R: Threads, B: CrashBanks>(
     rt: &R,
     alloc: Global,
-    stage: &mut Stage,
+    stage: &mut Stage<B>,
     line: &[u8],
     number: u64,
 ) -> Result<Vec<u8>, RunFault>
     requires few { steps_of stage.old < tick_limit }
-    requires standing { IsStandingStage stage.old }
-    ensures ok { IfOk result (λ text. (model : ModelStage) → StageStands stage.old model → ActsWell model line.now text.items stage.new) }
+    requires standing { IsStandingStage B.log stage.old }
+    ensures ok { IfOk result (λ text. (model : ModelStage) → StageStands B.log stage.old model → ActsWell B.log model line.now text.items stage.new) }
     ensures steps { OnOk result (steps_of stage.new ≤ steps_of stage.old + 1) }
-    ensures bad { (at : ℕ) → IsErrOf result (RunFault.BadLine at) → (at ≡ number) × ((model : ModelStage) → StageStands stage.old model → IsBad model line.now) }
+    ensures bad { (at : ℕ) → IsErrOf result (RunFault.BadLine at) → (at ≡ number) × ((model : ModelStage) → StageStands B.log stage.old model → IsBad model line.now) }
     ensures kept { (at : ℕ) → IsErrOf result (RunFault.BadLine at) → stage.new ≡ stage.old }
-    ensures unbuilt { (at : ℕ) → IsErrOf result (RunFault.Unbuilt at) → (at ≡ number) × ((model : ModelStage) → StageStands stage.old model → IsUnbuilt model line.now) }
+    ensures unbuilt { (at : ℕ) → IsErrOf result (RunFault.Unbuilt at) → (at ≡ number) × ((model : ModelStage) → StageStands B.log stage.old model → IsUnbuilt model line.now) }
+    ensures meters { ¬ IsErrOf result RunFault.NoMemory → MetersGoOn B.meter (banks_of_stage stage.old) (banks_of_stage stage.new) }
+    ensures device { (clone : ℕ) → IsErrOf result (RunFault.Device clone) → HasFailed B.meter clone (banks_of_stage stage.old) (banks_of_stage stage.new) }
     ensures other { IfErr result IsLineFault }
 {
     match act(rt, alloc, stage, line) {
@@ -285,16 +321,18 @@ fn do_line<R: Threads>(
 }
 
 /// Ends the lines, where line `number` would be the next.
-fn end_lines<R: Threads>(
+fn end_lines<R: Threads, B: CrashBanks>(
     rt: &R,
     alloc: Global,
-    stage: &mut Stage,
+    stage: &mut Stage<B>,
     number: u64,
 ) -> Result<(), RunFault>
-    requires { IsStandingStage stage.old }
-    ensures ok { OnOk result ((model : ModelStage) → StageStands stage.old model → EndsWell model stage.new) }
-    ensures bad { (at : ℕ) → IsErrOf result (RunFault.BadLine at) → (at ≡ number) × ((model : ModelStage) → StageStands stage.old model → model ≡ Waiting) }
+    requires { IsStandingStage B.log stage.old }
+    ensures ok { OnOk result ((model : ModelStage) → StageStands B.log stage.old model → EndsWell B.log model stage.new) }
+    ensures bad { (at : ℕ) → IsErrOf result (RunFault.BadLine at) → (at ≡ number) × ((model : ModelStage) → StageStands B.log stage.old model → model ≡ Waiting) }
     ensures kept { (at : ℕ) → IsErrOf result (RunFault.BadLine at) → stage.new ≡ stage.old }
+    ensures meters { ¬ IsErrOf result RunFault.NoMemory → MetersGoOn B.meter (banks_of_stage stage.old) (banks_of_stage stage.new) }
+    ensures device { (clone : ℕ) → IsErrOf result (RunFault.Device clone) → HasFailed B.meter clone (banks_of_stage stage.old) (banks_of_stage stage.new) }
     ensures other { IfErr result IsEndFault }
 {
     match finish(rt, alloc, stage) {
@@ -310,6 +348,7 @@ fn fault_of(stop: LineStop, number: u64) -> RunFault
     match stop {
         LineStop::BadLine => RunFault::BadLine(number),
         LineStop::Unbuilt => RunFault::Unbuilt(number),
+        LineStop::Device(clone) => RunFault::Device(clone),
         LineStop::NoMemory => RunFault::NoMemory,
     }
 }
@@ -328,6 +367,8 @@ impl fmt::Display for RunFault {
             RunFault::WriteFault => write!(f, "mld: write fault"),
             RunFault::BadLine(line) => write!(f, "mld: line {line}: bad line"),
             RunFault::NoMemory => write!(f, "mld: no memory"),
+            RunFault::Device(clone) => write!(f, "mld: clone {clone}: device fault"),
+            RunFault::NotEmpty(clone) => write!(f, "mld: bank {clone}: not empty"),
             RunFault::TooLarge(line) => write!(f, "mld: line {line}: too large"),
             RunFault::Unbuilt(line) => write!(f, "mld: line {line}: unbuilt"),
         }

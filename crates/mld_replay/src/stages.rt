@@ -1,150 +1,230 @@
 //! How far a schedule has come, and what a line makes of that.
-ghost use Rattle.std.specs.Prelude.{◌≡◌, ◌<◌, ◌≤◌, ◌+◌, IfOk, OnOk, IsErrOf};
+ghost use Rattle.std.specs.Prelude.{◌≡◌, ◌<◌, ◌≤◌, ◌+◌, [], ℕ, List, IfOk, IfErr, OnOk, OnErr, IsErrOf};
 ghost use Rattle.mld_model.specs.World.{World as ModelWorld};
 ghost use Rattle.mld_model.specs.Sound.{IsSound};
-ghost use Rattle.mld_model.specs.StandsFor.{StandsFor};
-ghost use Rattle.schedule_model.specs.Runs.{Stage as ModelStage, Waiting, SetUp, Running, IsBad, IsUnbuilt};
-ghost use Rattle.net_world.specs.ReadLines.{setup_of};
-ghost use Rattle.schedule_model.specs.Schedule.{IsSetup};
-ghost use Rattle.net_world.specs.Worlds.{IsStanding};
+ghost use Rattle.net_world.specs.WorldBanks.{StandsOnBanks, banks_of, MetersGoOn, HasFailed};
+ghost use Rattle.schedule_model.specs.Runs.{Stage as ModelStage, Waiting, Running, IsBad, IsUnbuilt};
+ghost use Rattle.schedule_model.specs.Schedule.{SpellsCommand};
+ghost use Rattle.schedule_model.specs.Step.{HasCloneNumbers};
+ghost use Rattle.net_world.specs.Worlds.{IsStanding, Stepped};
 ghost use Rattle.tree_clock.specs.Limits.{tick_limit};
-ghost use Rattle.mld_replay.specs.Stages.{StageStands, IsStandingStage, steps_of, stage_of, ActsWell, EndsWell};
+ghost use Rattle.mld_replay.specs.Stages.{StageStands, IsStandingStage, IsSetUpState, IsWorldStop, steps_of, banks_of_stage, ActsWell, EndsWell};
+ghost use Rattle.mld_replay.specs.declared.stages.Stage.TheVariants as stages;
 
 use crate::stops::LineStop;
-use net_world::{Setup, SetupLine, World, push_ready, read_command, read_setup};
+use journal_store::Blank;
+use mld_io::{Banks, CrashBanks};
+use net_world::{Command, Setup, SetupLine, World, push_ready, read_command, read_setup};
 use std::alloc::Global;
+use std::mem;
 use std::thread::Threads;
 
-/// How far a schedule has come.
+/// How far a schedule has come, with the banks of its clones.
 #[derive(Drop)]
-pub enum Stage {
+pub enum Stage<B: CrashBanks> {
     /// No domain line has come.
-    Waiting,
+    Waiting(Vec<Blank<B>>),
     /// The domain is set up, and no clone is founded.
-    SetUp(Setup),
+    SetUp(Setup, Vec<Blank<B>>),
     /// The clones are founded.
-    Running(World),
+    Running(World<B>),
+    /// The clones could not be founded: these banks are left.
+    Over(Vec<B>),
 }
 
 /// Does a line, and gives the text of its reply. The first command founds the clones.
-pub fn act<R: Threads>(
+pub fn act<R: Threads, B: CrashBanks>(
     rt: &R,
     alloc: Global,
-    stage: &mut Stage,
+    stage: &mut Stage<B>,
     line: &[u8],
 ) -> Result<Vec<u8>, LineStop>
     requires few { steps_of stage.old < tick_limit }
-    requires standing { IsStandingStage stage.old }
-    ensures ok { IfOk result (λ text. (model : ModelStage) → StageStands stage.old model → ActsWell model line.now text.items stage.new) }
+    requires standing { IsStandingStage B.log stage.old }
+    ensures ok { IfOk result (λ text. (model : ModelStage) → StageStands B.log stage.old model → ActsWell B.log model line.now text.items stage.new) }
     ensures steps { OnOk result (steps_of stage.new ≤ steps_of stage.old + 1) }
-    ensures bad { IsErrOf result LineStop.BadLine → (model : ModelStage) → StageStands stage.old model → IsBad model line.now }
+    ensures bad { IsErrOf result LineStop.BadLine → (model : ModelStage) → StageStands B.log stage.old model → IsBad model line.now }
     ensures kept { IsErrOf result LineStop.BadLine → stage.new ≡ stage.old }
-    ensures unbuilt { IsErrOf result LineStop.Unbuilt → (model : ModelStage) → StageStands stage.old model → IsUnbuilt model line.now }
+    ensures unbuilt { IsErrOf result LineStop.Unbuilt → (model : ModelStage) → StageStands B.log stage.old model → IsUnbuilt model line.now }
+    ensures meters { ¬ IsErrOf result LineStop.NoMemory → MetersGoOn B.meter (banks_of_stage stage.old) (banks_of_stage stage.new) }
+    ensures device { (clone : ℕ) → IsErrOf result (LineStop.Device clone) → HasFailed B.meter clone (banks_of_stage stage.old) (banks_of_stage stage.new) }
 {
     match stage {
-        Stage::Waiting => match set_up(alloc, line) {
-            Ok((next, text)) => {
-                *stage = next;
-                Ok(text)
-            }
-            Err(stop) => Err(stop),
-        },
-        Stage::SetUp(setup) => match start(rt, alloc, setup, line) {
-            Ok((started, text)) => match started {
-                Some(world) => {
-                    *stage = Stage::Running(world);
-                    Ok(text)
-                }
-                None => Ok(text),
-            },
-            Err(stop) => Err(stop),
+        Stage::Waiting(_) => set_up(alloc, stage, line),
+        Stage::SetUp(setup, _) => match read_command(alloc, line, setup.domain.as_str())? {
+            None => Ok(Vec::new(alloc)),
+            Some(command) => start(rt, alloc, stage, &command),
         },
         Stage::Running(world) => command(rt, alloc, world, line),
+        Stage::Over(_) => unreachable!(),
     }
 }
 
-/// Does a line while no domain line has come: the stage behind it, and the text of its reply.
-fn set_up(alloc: Global, line: &[u8]) -> Result<(Stage, Vec<u8>), LineStop>
-    ensures ok { IfOk result (λ done. ActsWell Waiting line.now done.1.items done.0) }
-    ensures steps { IfOk result (λ done. steps_of done.0 ≡ 0) }
+/// Does a line while no domain line has come, and gives the text of its reply.
+fn set_up<B: CrashBanks>(
+    alloc: Global,
+    stage: &mut Stage<B>,
+    line: &[u8],
+) -> Result<Vec<u8>, LineStop>
+    requires { StageStands B.log stage.old Waiting }
+    ensures ok { IfOk result (λ text. ActsWell B.log Waiting line.now text.items stage.new) }
+    ensures steps { OnOk result (steps_of stage.new ≡ 0) }
     ensures bad { IsErrOf result LineStop.BadLine → IsBad Waiting line.now }
     ensures unbuilt { IsErrOf result LineStop.Unbuilt → IsUnbuilt Waiting line.now }
+    ensures kept { OnErr result (stage.new ≡ stage.old) }
+    ensures banks { banks_of_stage stage.new ≡ banks_of_stage stage.old }
+    ensures device { (clone : ℕ) → ¬ IsErrOf result (LineStop.Device clone) }
 {
-    let mut text = Vec::new(alloc);
     match read_setup(alloc, line, None)? {
         SetupLine::Setup(setup) => {
+            let mut text = Vec::new(alloc);
             push_ready(alloc, &mut text, setup.clones)?;
-            Ok((Stage::SetUp(setup), text))
+            let blanks = take_waiting(alloc, stage);
+            *stage = Stage::SetUp(setup, blanks);
+            Ok(text)
         }
-        SetupLine::Other(_) => Ok((Stage::Waiting, text)),
+        SetupLine::Other(_) => Ok(Vec::new(alloc)),
     }
 }
 
-/// Does a line while the domain is set up and no clone is founded: the world, where the line is a command, which founds it and
-/// makes a step of it; and the text of its reply.
-fn start<R: Threads>(
+/// Takes the banks out of a stage in which no domain line has come.
+fn take_waiting<B: CrashBanks>(alloc: Global, stage: &mut Stage<B>) -> Vec<Blank<B>>
+    requires { StageStands B.log stage.old Waiting }
+    ensures { stage.old ≡ stages.Waiting result }
+{
+    match mem::replace(stage, Stage::Over(Vec::new(alloc))) {
+        Stage::Waiting(blanks) => blanks,
+        _ => unreachable!(),
+    }
+}
+
+/// Founds the clones of a domain that is set up by its first command, and gives the text of the command's reply.
+fn start<R: Threads, B: CrashBanks>(
     rt: &R,
     alloc: Global,
-    setup: &Setup,
-    line: &[u8],
-) -> Result<(Option<World>, Vec<u8>), LineStop>
-    requires { IsSetup (setup_of setup.now) }
-    ensures ok { IfOk result (λ done. ActsWell (SetUp (setup_of setup.now)) line.now done.1.items (stage_of setup.now done.0)) }
-    ensures steps { IfOk result (λ done. steps_of (stage_of setup.now done.0) ≤ 1) }
-    ensures bad { IsErrOf result LineStop.BadLine → IsBad (SetUp (setup_of setup.now)) line.now }
-    ensures unbuilt { IsErrOf result LineStop.Unbuilt → IsUnbuilt (SetUp (setup_of setup.now)) line.now }
+    stage: &mut Stage<B>,
+    command: &Command,
+) -> Result<Vec<u8>, LineStop>
+    requires standing { IsStandingStage B.log stage.old }
+    requires set_up { IsSetUpState stage.old }
+    requires numbers { HasCloneNumbers command.now }
+    ensures ok { IfOk result (λ text. (model : ModelStage) (line : List ℕ) → StageStands B.log stage.old model → SpellsCommand line command.now
+        → ActsWell B.log model line text.items stage.new) }
+    ensures steps { OnOk result (steps_of stage.new ≡ 1) }
+    ensures meters { ¬ IsErrOf result LineStop.NoMemory → MetersGoOn B.meter (banks_of_stage stage.old) (banks_of_stage stage.new) }
+    ensures device { (clone : ℕ) → IsErrOf result (LineStop.Device clone) → HasFailed B.meter clone (banks_of_stage stage.old) (banks_of_stage stage.new) }
+    ensures other { IfErr result IsWorldStop }
 {
-    let mut text = Vec::new(alloc);
-    match read_command(alloc, line, setup.domain.as_str())? {
-        None => Ok((None, text)),
-        Some(command) => {
-            let mut world = World::found(rt, alloc, setup)?;
-            world.step(rt, alloc, &command, &mut text)?;
-            Ok((Some(world), text))
+    let mut world = found(rt, alloc, stage)?;
+    let done = step(rt, alloc, &mut world, command);
+    *stage = Stage::Running(world);
+    done
+}
+
+/// Takes what is set up out of a stage, and founds its clones. Where that was refused, the stage is over, and has the banks that are left.
+fn found<R: Threads, B: CrashBanks>(
+    rt: &R,
+    alloc: Global,
+    stage: &mut Stage<B>,
+) -> Result<World<B>, LineStop>
+    requires standing { IsStandingStage B.log stage.old }
+    requires set_up { IsSetUpState stage.old }
+    ensures ok { IfOk result (λ world. (model : ModelStage) → StageStands B.log stage.old model → EndsWell B.log model (stages.Running world)) }
+    ensures standing { IfOk result (IsStanding B.log) }
+    ensures steps { IfOk result (λ world. world.steps ≡ 0) }
+    ensures meters { IfOk result (λ world. MetersGoOn B.meter (banks_of_stage stage.old) (banks_of world)) }
+    ensures left { (clone : ℕ) → IsErrOf result (LineStop.Device clone) → MetersGoOn B.meter (banks_of_stage stage.old) (banks_of_stage stage.new) }
+    ensures device { (clone : ℕ) → IsErrOf result (LineStop.Device clone) → HasFailed B.meter clone (banks_of_stage stage.old) (banks_of_stage stage.new) }
+    ensures other { IfErr result IsWorldStop }
+{
+    let (setup, blanks) = take_set_up(alloc, stage);
+    match World::found(rt, alloc, &setup, blanks) {
+        Ok(world) => Ok(world),
+        Err((fault, banks)) => {
+            *stage = Stage::Over(banks);
+            Err(LineStop::from(fault))
         }
+    }
+}
+
+/// Takes out of a stage what is set up, with the banks.
+fn take_set_up<B: CrashBanks>(alloc: Global, stage: &mut Stage<B>) -> (Setup, Vec<Blank<B>>)
+    requires { IsSetUpState stage.old }
+    ensures { stage.old ≡ stages.SetUp result.0 result.1 }
+{
+    match mem::replace(stage, Stage::Over(Vec::new(alloc))) {
+        Stage::SetUp(setup, blanks) => (setup, blanks),
+        _ => unreachable!(),
     }
 }
 
 /// Does a line of a world that runs, and gives the text of its reply.
-fn command<R: Threads>(
+fn command<R: Threads, B: CrashBanks>(
     rt: &R,
     alloc: Global,
-    world: &mut World,
+    world: &mut World<B>,
     line: &[u8],
 ) -> Result<Vec<u8>, LineStop>
     requires few { world.old.steps < tick_limit }
-    requires standing { IsStanding world.old }
-    ensures ok { IfOk result (λ text. (model : ModelWorld) → StandsFor world.old model → IsSound model → ActsWell (Running model) line.now text.items (Stage.Running world.new)) }
+    requires standing { IsStanding B.log world.old }
+    ensures ok { IfOk result (λ text. (model : ModelWorld) → StandsOnBanks B.log world.old model → IsSound model
+        → ActsWell B.log (Running model) line.now text.items (stages.Running world.new)) }
     ensures steps { OnOk result (world.new.steps ≤ world.old.steps + 1) }
     ensures bad { IsErrOf result LineStop.BadLine → (model : ModelWorld) → IsBad (Running model) line.now }
     ensures kept { IsErrOf result LineStop.BadLine → world.new ≡ world.old }
     ensures unbuilt { IsErrOf result LineStop.Unbuilt → (model : ModelWorld) → IsUnbuilt (Running model) line.now }
+    ensures meters { MetersGoOn B.meter (banks_of world.old) (banks_of world.new) }
+    ensures device { (clone : ℕ) → IsErrOf result (LineStop.Device clone) → HasFailed B.meter clone (banks_of world.old) (banks_of world.new) }
 {
-    let mut text = Vec::new(alloc);
     match read_command(alloc, line, world.domain())? {
-        None => Ok(text),
-        Some(command) => {
-            world.step(rt, alloc, &command, &mut text)?;
-            Ok(text)
-        }
+        None => Ok(Vec::new(alloc)),
+        Some(command) => step(rt, alloc, world, &command),
     }
 }
 
+/// Does a command of a world that runs, and gives the text of its reply.
+fn step<R: Threads, B: CrashBanks>(
+    rt: &R,
+    alloc: Global,
+    world: &mut World<B>,
+    command: &Command,
+) -> Result<Vec<u8>, LineStop>
+    requires few { world.old.steps < tick_limit }
+    requires standing { IsStanding B.log world.old }
+    requires numbers { HasCloneNumbers command.now }
+    ensures ok { IfOk result (λ text. Stepped B.log world.old command.now world.new [] text.items) }
+    ensures steps { OnOk result (world.new.steps ≡ world.old.steps + 1) }
+    ensures meters { MetersGoOn B.meter (banks_of world.old) (banks_of world.new) }
+    ensures device { (clone : ℕ) → IsErrOf result (LineStop.Device clone) → HasFailed B.meter clone (banks_of world.old) (banks_of world.new) }
+    ensures other { IfErr result IsWorldStop }
+{
+    let mut text = Vec::new(alloc);
+    world.step(rt, alloc, command, &mut text)?;
+    Ok(text)
+}
+
 /// Ends the lines: this founds the clones where no command did. Where no domain line came, the end is a bad line.
-pub fn finish<R: Threads>(rt: &R, alloc: Global, stage: &mut Stage) -> Result<(), LineStop>
-    requires { IsStandingStage stage.old }
-    ensures ok { OnOk result ((model : ModelStage) → StageStands stage.old model → EndsWell model stage.new) }
-    ensures bad { IsErrOf result LineStop.BadLine → (model : ModelStage) → StageStands stage.old model → model ≡ Waiting }
+pub fn finish<R: Threads, B: CrashBanks>(
+    rt: &R,
+    alloc: Global,
+    stage: &mut Stage<B>,
+) -> Result<(), LineStop>
+    requires { IsStandingStage B.log stage.old }
+    ensures ok { OnOk result ((model : ModelStage) → StageStands B.log stage.old model → EndsWell B.log model stage.new) }
+    ensures bad { IsErrOf result LineStop.BadLine → (model : ModelStage) → StageStands B.log stage.old model → model ≡ Waiting }
     ensures kept { IsErrOf result LineStop.BadLine → stage.new ≡ stage.old }
     ensures built { ¬ IsErrOf result LineStop.Unbuilt }
+    ensures meters { ¬ IsErrOf result LineStop.NoMemory → MetersGoOn B.meter (banks_of_stage stage.old) (banks_of_stage stage.new) }
+    ensures device { (clone : ℕ) → IsErrOf result (LineStop.Device clone) → HasFailed B.meter clone (banks_of_stage stage.old) (banks_of_stage stage.new) }
 {
     match stage {
-        Stage::Waiting => Err(LineStop::BadLine),
-        Stage::SetUp(setup) => {
-            let world = World::found(rt, alloc, setup)?;
+        Stage::Waiting(_) => Err(LineStop::BadLine),
+        Stage::SetUp(_, _) => {
+            let world = found(rt, alloc, stage)?;
             *stage = Stage::Running(world);
             Ok(())
         }
         Stage::Running(_) => Ok(()),
+        Stage::Over(_) => unreachable!(),
     }
 }

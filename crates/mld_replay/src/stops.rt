@@ -12,6 +12,9 @@ pub enum LineStop {
     /// It isn't built yet.
     #[error("unbuilt")]
     Unbuilt,
+    /// The device of a clone failed.
+    #[error("clone {0}: device fault")]
+    Device(u8),
     /// No memory was found.
     #[error("no memory")]
     NoMemory,
@@ -34,12 +37,13 @@ impl From<LineRefusal> for LineStop {
 
 impl From<WorldFault> for LineStop {
     ghost use Rattle.std.specs.Prelude.{◌≡◌};
-    ghost use Rattle.mld_replay.specs.declared.stops.LineStop.TheVariants.{NoMemory};
+    ghost use Rattle.mld_replay.specs.Stops.{stop_of_world};
 
-    ghost from_gives = { λ _ stop. stop ≡ NoMemory };
+    ghost from_gives = { λ fault stop. stop ≡ stop_of_world fault };
 
     fn from(fault: WorldFault) -> LineStop {
         match fault {
+            WorldFault::Device { clone } => LineStop::Device(clone),
             WorldFault::NoMemory => LineStop::NoMemory,
         }
     }

@@ -2,11 +2,15 @@
 #![tactic(auto)]
 
 mod comparing;
+mod restarts;
 mod transcripts;
 
 use comparing::{clones_agree, end_of_run, first_difference};
+use disk_model::{MemoryBanks, blank_banks};
 use mld_io::{MemorySink, MemorySource};
+use mld_model::CLONE_COUNT;
 use mld_replay::run::{Ran, run};
+use restarts::{first_clones, places_of, restarted};
 use std::alloc::{Alloc, AllocError, Global};
 use std::fs::{self, Files};
 use std::io::{self, Print};
@@ -14,17 +18,62 @@ use std::process::ExitCode;
 use std::thread::Threads;
 use transcripts::{End, Transcript, read_transcript};
 
-fn main(rt: HostRuntime) -> io::Result<ExitCode> {
-    let names = names_of_transcripts(&rt)?;
-    let mut differ = 0u64;
-    for name in &names {
-        if !replays(&rt, name.as_str())? {
-            differ = differ.saturating_add(1);
+/// How many runs there were, and how many of them were not as wanted.
+#[derive(Clone, Copy)]
+struct Count {
+    runs: u64,
+    differ: u64,
+}
+
+impl Count {
+    /// No run.
+    fn new() -> Count {
+        Count { runs: 0, differ: 0 }
+    }
+
+    /// Counts a run.
+    fn add(&mut self, is_so: bool) {
+        self.runs = self.runs.saturating_add(1);
+        if !is_so {
+            self.differ = self.differ.saturating_add(1);
         }
     }
-    let count = names.len();
-    println!(rt; "{count} schedules, {differ} differ")?;
-    Ok(ExitCode::from(if differ == 0 { 0 } else { 1 }))
+}
+
+fn main(rt: HostRuntime) -> io::Result<ExitCode> {
+    let names = names_of_transcripts(&rt)?;
+    let mut schedules = Count::new();
+    let mut restarts = Count::new();
+    for name in &names {
+        let text = fs::read_to_string(&rt, name.as_str())?;
+        schedules.add(replays(&rt, name.as_str(), text.as_str())?);
+        restart_each(&rt, name.as_str(), text.as_str(), &mut restarts)?;
+    }
+    println!(rt; "{} schedules, {} differ", schedules.runs, schedules.differ)?;
+    println!(rt; "{} restarts, {} differ", restarts.runs, restarts.differ)?;
+    let is_so = schedules.differ == 0 && restarts.differ == 0;
+    Ok(ExitCode::from(if is_so { 0 } else { 1 }))
+}
+
+/// Replays a transcript once more for each place between two of its lines, where its first clone stops and opens, and for each where its
+/// second one does.
+fn restart_each<R: Print + Threads + Alloc<A = Global>>(
+    rt: &R,
+    name: &str,
+    text: &str,
+    restarts: &mut Count,
+) -> io::Result<()> {
+    let Some(places) = places_of(text) else {
+        return Ok(());
+    };
+    for clone in 0..first_clones(text) {
+        for given in places.first..places.end {
+            if let Some(other) = restarted(rt.alloc(), text, given, clone)? {
+                restarts.add(replays(rt, name, other.as_str())?);
+            }
+        }
+    }
+    Ok(())
 }
 
 /// The names of the files here that end with `.txt`, in order.
@@ -44,9 +93,12 @@ fn names_of_transcripts<R: Files + Alloc<A = Global> + Clone + Drop>(
 }
 
 /// Replays the transcript of a file; whether its run is as it says. What differs is written.
-fn replays<R: Files + Print + Threads + Alloc<A = Global>>(rt: &R, name: &str) -> io::Result<bool> {
-    let text = fs::read_to_string(rt, name)?;
-    match read_transcript(rt.alloc(), text.as_str()) {
+fn replays<R: Print + Threads + Alloc<A = Global>>(
+    rt: &R,
+    name: &str,
+    text: &str,
+) -> io::Result<bool> {
+    match read_transcript(rt.alloc(), text) {
         Ok(transcript) => is_as_wanted(rt, name, &transcript),
         Err(fault) => {
             println!(rt; "{name}: {fault}")?;
@@ -76,11 +128,12 @@ fn replayed<R: Threads>(
     alloc: Global,
     schedule: &[u8],
     sink: &mut MemorySink,
-) -> Result<Ran, AllocError> {
+) -> Result<Ran<MemoryBanks>, AllocError> {
     let mut words = Vec::new(alloc);
     words.push(String::from_str(alloc, "replay")?)?;
     let mut source = MemorySource::new(alloc, schedule, &[])?;
-    Ok(run(rt, alloc, &words, &mut source, sink))
+    let banks = blank_banks(alloc, usize::from(CLONE_COUNT))?;
+    Ok(run(rt, alloc, &words, &mut source, sink, banks))
 }
 
 /// Whether what was written is what the transcript says. The first line that differs is written.
@@ -116,7 +169,7 @@ fn has_end<R: Print>(rt: &R, name: &str, wanted: End, got: End) -> io::Result<bo
 }
 
 /// Whether clones that know the same dots have the same pairs. Where they don't, that is written.
-fn has_agreement<R: Print>(rt: &R, name: &str, ran: &Ran) -> io::Result<bool> {
+fn has_agreement<R: Print>(rt: &R, name: &str, ran: &Ran<MemoryBanks>) -> io::Result<bool> {
     let Some(summary) = &ran.world else {
         return Ok(true);
     };

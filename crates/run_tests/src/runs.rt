@@ -1,23 +1,64 @@
 //! Bad lines, limits, faults and words: each with what the run writes and how it ends. What good schedules write is shown by
 //! the transcripts of `mld_schedules`.
+use disk_model::{MemoryBanks, blank_banks};
 use mld_io::{MemorySink, MemorySource, Source};
+use mld_model::CLONE_COUNT;
 use mld_replay::run::{Ran, RunFault, run};
+use net_world::Summary;
 use std::alloc::{AllocError, Global};
 use std::process::Abort;
 use std::test::Fail;
 use std::thread::Threads;
 
-/// Runs by the one word `replay`.
+/// How a run ended, and what it told of its world.
+#[derive(Drop)]
+pub struct Ended {
+    /// The status.
+    pub status: u8,
+    /// Why it isn't 0.
+    pub fault: Option<RunFault>,
+    /// What there was to tell of the world.
+    pub world: Option<Summary>,
+}
+
+/// A run without its banks, which are let go.
+fn without_banks(ran: Ran<MemoryBanks>) -> Ended {
+    let Ran {
+        status,
+        fault,
+        banks: _,
+        world,
+    } = ran;
+    Ended {
+        status,
+        fault,
+        world,
+    }
+}
+
+/// Runs by one word, on blank banks.
 pub fn ran_by<R: Threads>(
     rt: &R,
     alloc: Global,
     word: &str,
     source: &mut MemorySource,
     sink: &mut MemorySink,
-) -> Result<Ran, AllocError> {
+) -> Result<Ended, AllocError> {
     let mut words = Vec::new(alloc);
     words.push(String::from_str(alloc, word)?)?;
-    Ok(run(rt, alloc, &words, source, sink))
+    ran_with(rt, alloc, &words, source, sink)
+}
+
+/// Runs by these words, on blank banks.
+fn ran_with<R: Threads>(
+    rt: &R,
+    alloc: Global,
+    words: &Vec<String>,
+    source: &mut MemorySource,
+    sink: &mut MemorySink,
+) -> Result<Ended, AllocError> {
+    let banks = blank_banks(alloc, usize::from(CLONE_COUNT))?;
+    Ok(without_banks(run(rt, alloc, words, source, sink, banks)))
 }
 
 /// Replays a schedule: why the run ended early, and whether its status and what it wrote are these.
@@ -200,7 +241,7 @@ fn refuses<R: Threads + Abort>(rt: &R, alloc: Global, texts: &[&str]) -> Result<
     }
     let mut source = MemorySource::new(alloc, b"domain d clones 2\n", &[])?;
     let mut sink = MemorySink::new(alloc, &[])?;
-    let ran = run(rt, alloc, &words, &mut source, &mut sink);
+    let ran = ran_with(rt, alloc, &words, &mut source, &mut sink)?;
     assert_eq!(rt; ran.status, 1);
     assert_eq!(rt; ran.fault, Some(RunFault::Usage));
     assert!(rt; ran.world.is_none());
@@ -226,6 +267,8 @@ fn a_fault_has_its_text(rt: HostRuntime) -> Result<(), Fail> {
         (RunFault::WriteFault, "mld: write fault"),
         (RunFault::BadLine(1), "mld: line 1: bad line"),
         (RunFault::NoMemory, "mld: no memory"),
+        (RunFault::Device(9), "mld: clone 9: device fault"),
+        (RunFault::NotEmpty(31), "mld: bank 31: not empty"),
         (RunFault::TooLarge(20), "mld: line 20: too large"),
         (RunFault::Unbuilt(300), "mld: line 300: unbuilt"),
     ] {

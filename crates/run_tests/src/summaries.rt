@@ -18,6 +18,14 @@ const SPREAD: &str =
 const SPREAD_TEXT: &str =
     "ready 2\ndid r0.1 m1\ntook r0.1-1\nhas 1\nr0.1 <http://d/a> <http://d/#p> \"x\" .\nhas 1\nr0.1 <http://d/a> <http://d/#p> \"x\" .\nsame\n";
 
+/// The same, where both clones stop and open on the way.
+const RESTARTED: &str =
+    "domain d clones 2\nadd 0 <http://d/a> <http://d/#p> \"x\" .\nstop 0\nopen 0\ndeliver 1 1\nstop 1\nopen 1\nshow 0\nshow 1\ncompare 0 1\n";
+
+/// What is written for that.
+const RESTARTED_TEXT: &str =
+    "ready 2\ndid r0.1 m1\nstopped\nopened\ntook r0.1-1\nstopped\nopened\nhas 1\nr0.1 <http://d/a> <http://d/#p> \"x\" .\nhas 1\nr0.1 <http://d/a> <http://d/#p> \"x\" .\nsame\n";
+
 /// A triple is added at both clones and removed at one, and all of that comes to the other, which adds it once more.
 const REMOVED: &str =
     "domain d clones 2\nadd 0 <http://d/a> <http://d/#p> \"x\" .\nadd 1 <http://d/a> <http://d/#p> \"x\" .\nremove 1 <http://d/a> <http://d/#p> \"x\" .\ndeliver 1 1\ndeliver 2 0\ndeliver 3 0\nshow 0\ncompare 0 1\nadd 0 <http://d/a> <http://d/#p> \"x\" .\nshow 0\ncompare 0 1\n";
@@ -175,7 +183,7 @@ fn a_run_tells_of_its_world_at_some_statuses(rt: HostRuntime) -> Result<(), Fail
         (b"", 4, false),
         (b"domain d clones 2\nask 0\n", 20, false),
         (b"ask\n", 20, false),
-        (b"domain d clones 2\nstop 0\n", 20, false),
+        (b"domain d clones 2\nshow 0\nask 0\n", 20, false),
     ];
     for (schedule, status, told) in cases {
         let ended = ends_telling(&rt, rt.alloc(), schedule)?;
@@ -228,11 +236,11 @@ fn a_run_whose_source_fails_tells_of_the_lines_done(rt: HostRuntime) -> Result<(
     Ok(())
 }
 
-/// A run over `SPREAD` ends well with the whole text and tells of its world, or for want of memory with a front of the text
+/// A run over `RESTARTED` ends well with the whole text and tells of its world, or for want of memory with a front of the text
 /// and tells nothing.
 fn ends_or_lacks_memory<R: Threads>(rt: &R, alloc: Global) -> Result<bool, AllocError> {
-    let text = SPREAD_TEXT.as_bytes();
-    let mut source = MemorySource::new(alloc, SPREAD.as_bytes(), &[])?;
+    let text = RESTARTED_TEXT.as_bytes();
+    let mut source = MemorySource::new(alloc, RESTARTED.as_bytes(), &[])?;
     let mut sink = MemorySink::new(alloc, &[])?;
     let ran = ran_by(rt, alloc, "replay", &mut source, &mut sink)?;
     let written = sink.bytes();

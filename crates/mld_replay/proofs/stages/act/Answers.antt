@@ -1,11 +1,19 @@
+use Rattle.std.proofs.Common.{subst}
 use Rattle.schedule_model.specs.Runs.{IsBad, IsUnbuilt}
-use Rattle.mld_replay.proofs.StageLemmas.{running_stage}
+use Rattle.mld_replay.specs.Stages.{StageStands}
+use Rattle.mld_replay.specs.declared.stages.Stage.TheVariants as stages
+use Rattle.mld_replay.proofs.StageLemmas.{running_stage, nothing_said}
 use Rattle.mld_replay.proofs.stages.act.Goals as goal
+
+pub returns-in-None-clause-ok : goal.returns-in-None-clause-ok
+returns-in-None-clause-ok g c = λ model stands.
+    rw c.new.ensures.items (nothing_said g.B.Banks.log model c.args.line.now c.in_ok-read_command-in-SetUp.field-0 (stages.SetUp c.in-SetUp.setup c.in-SetUp.field-1) c.in-None.is
+    c.in_ok-read_command-in-SetUp.ensures.ok (subst (λ state. StageStands g.B.Banks.log state model) c.in-SetUp.is stands))
 
 pub returns-in-Running-clause-bad : goal.returns-in-Running-clause-bad
 returns-in-Running-clause-bad g c = λ is.
-    running_stage (λ stage. IsBad stage c.args.line.now) c.args.stage.now c.in-Running.world c.in-Running.is (λ model stands sound. c.command.ensures.bad is model)
+    running_stage g.B.Banks.log (λ stage. IsBad stage c.args.line.now) c.args.stage.now c.in-Running.world c.in-Running.is (λ model stands sound. c.command.ensures.bad is model)
 
 pub returns-in-Running-clause-unbuilt : goal.returns-in-Running-clause-unbuilt
 returns-in-Running-clause-unbuilt g c = λ is.
-    running_stage (λ stage. IsUnbuilt stage c.args.line.now) c.args.stage.now c.in-Running.world c.in-Running.is (λ model stands sound. c.command.ensures.unbuilt is model)
+    running_stage g.B.Banks.log (λ stage. IsUnbuilt stage c.args.line.now) c.args.stage.now c.in-Running.world c.in-Running.is (λ model stands sound. c.command.ensures.unbuilt is model)

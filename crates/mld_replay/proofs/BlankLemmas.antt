@@ -1,0 +1,235 @@
+-- The banks that a run begins with.
+use Rattle.std.proofs.Common.{◌≡◌, inl, inr, ℕ, zero, suc, ◌+◌, ◌<◌, ◌≤◌, List, [], ◌∷◌, ◌++◌, length, append_assoc, slice_set, get_or, arith, refl, sym, ◌∙◌, ap, subst, Option, None, Some}
+use Rattle.std.specs.Prelude.{slice_get, IsSome}
+use Rattle.std.proofs.lemmas.Bool.{false≢true, cases_lt}
+use Rattle.std.proofs.lemmas.List.{nil_from_length, append-nil, length-append}
+use Rattle.std.proofs.lemmas.Option.{slice_get_within, slice_get-get_or}
+use Rattle.mld_io.specs.Arm.{Meter}
+use Rattle.mld_io.specs.Disk.{Log, Sides, seen}
+use Rattle.journal_store.specs.Pairs.{PairReading, KeepsNone, Keeps, Damages, read_banks}
+use Rattle.journal_store.specs.SideReadings.{read_side}
+use Rattle.journal_store.specs.declared.faults.MountFault.TheVariants.{Damaged, Device, NoMemory}
+use Rattle.clone_core.specs.Opening.{TellsClone}
+use Rattle.clone_core.specs.declared.mounts.Mounted.{Mounted}
+use Rattle.clone_core.specs.declared.mounts.Mounted.TheVariants.{Live, Empty, Refused}
+use Rattle.net_world.specs.WorldBanks.{GoesOn, MetersGoOn, HasFailed}
+use Rattle.mld_replay.specs.Filled.{IsFilled, IsFirstFilled, AreEmpty, HadFault, StopsLookingAt, StopsLooking}
+use Rattle.mld_replay.specs.declared.run.RunFault.{RunFault}
+use Rattle.mld_replay.specs.declared.run.RunFault.TheVariants as faults
+use Rattle.mld_replay.proofs.MeterLemmas.{meters_same, meters_then, failed_later}
+
+-- ---- what a mount of banks without a byte tells
+
+reads_none : (sides : Sides) → sides.a ≡ [] → sides.b ≡ [] → read_banks sides ≡ KeepsNone
+unfolding read_banks read_side
+reads_none sides a b = rw (a, b) refl
+
+empty_reads : (now : Option Log) → ¬ IsFilled now → (log : Log) → now ≡ Some log → read_banks (seen log) ≡ KeepsNone
+empty_reads now empty log is =
+    reads_none (seen log) (nil_from_length (seen log).a (omega (arith, a))) (nil_from_length (seen log).b (omega (arith, b)))
+  where
+    a : ¬ (0 < length (seen log).a)
+    a some = empty (record { log = log; now_is = is; bytes = inl some })
+
+    b : ¬ (0 < length (seen log).b)
+    b some = empty (record { log = log; now_is = is; bytes = inr some })
+
+-- a mount found a clone, or damage
+abbrev pub FindsBytes : {B : Type 0} → Mounted B → Type 0
+FindsBytes (Live clone) = Unit {0}
+FindsBytes (Empty blank) = ⊥
+FindsBytes (Refused (Damaged side place) banks) = Unit {0}
+FindsBytes (Refused Device banks) = ⊥
+FindsBytes (Refused NoMemory banks) = ⊥
+
+finds_not : {B : Type 0} (mounted : Mounted B) (reading : PairReading) → reading ≡ KeepsNone → TellsClone mounted reading → ¬ FindsBytes mounted
+finds_not (Live clone) reading none tells finds = let both : Keeps _ ≡ KeepsNone = sym tells.reads ∙ none in absurd (cc (both))
+finds_not (Empty blank) reading none tells finds = finds
+finds_not (Refused (Damaged side place) banks) reading none tells finds = let both : Damages side place ≡ KeepsNone = sym tells ∙ none in absurd (cc (both))
+finds_not (Refused Device banks) reading none tells finds = finds
+finds_not (Refused NoMemory banks) reading none tells finds = finds
+
+-- it does not where no side has a byte
+pub empty_finds_not : {B : Type 0} (mounted : Mounted B) (now : Option Log) → IsSome now → ¬ IsFilled now → ((log : Log) → now ≡ Some log → TellsClone mounted (read_banks (seen log)))
+    → ¬ FindsBytes mounted
+empty_finds_not mounted None told empty tells finds = absurd (false≢true told)
+empty_finds_not mounted (Some log) told empty tells finds = finds_not mounted (read_banks (seen log)) (empty_reads (Some log) empty log refl) (tells log refl) finds
+
+-- ---- one of many banks changes
+
+one_is : {B : Type 0} {one other : B} → ◌≡◌ {A = Option B} (Some one) (Some other) → one ≡ other
+one_is same = cc
+
+stays_same : (meter : Meter) → GoesOn meter meter
+stays_same meter = record { later = omega arith; unarmed = λ un. un }
+
+-- what holds of the old and the new one, and of each with itself, holds of all of them, number by number
+set_at : {B : Type 0} (P : B → B → Type 0) (list : List B) (number : ℕ) (was now : B) → slice_get list number ≡ Some was → P was now → ((one : B) → P one one)
+    → (place : ℕ) (x y : B) → slice_get list place ≡ Some x → slice_get (slice_set list number now) place ≡ Some y → P x y
+set_at P [] number was now at holds same place x y x_at y_at = absurd (cc (at))
+set_at {B = B} P (first ∷ rest) zero was now at holds same zero x y x_at y_at =
+    subst (λ (b : B). P b y) (one_is (sym at ∙ x_at)) (subst (λ (b : B). P was b) (one_is y_at) holds)
+set_at {B = B} P (first ∷ rest) zero was now at holds same (suc place) x y x_at y_at = subst (λ (b : B). P x b) (one_is (sym x_at ∙ y_at)) (same x)
+set_at {B = B} P (first ∷ rest) (suc number) was now at holds same zero x y x_at y_at = subst (λ (b : B). P x b) (one_is (sym x_at ∙ y_at)) (same x)
+set_at P (first ∷ rest) (suc number) was now at holds same (suc place) x y x_at y_at = set_at P rest number was now at holds same place x y x_at y_at
+
+set_there : {B : Type 0} (list : List B) (number : ℕ) (was now : B) → slice_get list number ≡ Some was → slice_get (slice_set list number now) number ≡ Some now
+set_there [] number was now at = absurd (cc (at))
+set_there (first ∷ rest) zero was now at = refl
+set_there (first ∷ rest) (suc number) was now at = set_there rest number was now at
+
+set_length : {B : Type 0} (list : List B) (number : ℕ) (now : B) → length (slice_set list number now) ≡ length list
+set_length [] number now = refl
+set_length (first ∷ rest) zero now = refl
+set_length (first ∷ rest) (suc number) now = ap (λ (n : ℕ). suc n) (set_length rest number now)
+
+swap_at : {B : Type 0} (P : B → B → Type 0) (done : List B) (was now : B) (rest : List B) → P was now → ((one : B) → P one one)
+    → (place : ℕ) (x y : B) → slice_get (done ++ was ∷ rest) place ≡ Some x → slice_get (done ++ now ∷ rest) place ≡ Some y → P x y
+swap_at {B = B} P [] was now rest holds same zero x y x_at y_at = subst (λ (b : B). P b y) (one_is x_at) (subst (λ (b : B). P was b) (one_is y_at) holds)
+swap_at {B = B} P [] was now rest holds same (suc place) x y x_at y_at = subst (λ (b : B). P x b) (one_is (sym x_at ∙ y_at)) (same x)
+swap_at {B = B} P (first ∷ done) was now rest holds same zero x y x_at y_at = subst (λ (b : B). P x b) (one_is (sym x_at ∙ y_at)) (same x)
+swap_at P (first ∷ done) was now rest holds same (suc place) x y x_at y_at = swap_at P done was now rest holds same place x y x_at y_at
+
+swap_there : {B : Type 0} (done : List B) (one : B) (rest : List B) → slice_get (done ++ one ∷ rest) (length done) ≡ Some one
+swap_there [] one rest = refl
+swap_there (first ∷ done) one rest = swap_there done one rest
+
+swap_length : {B : Type 0} (done : List B) (was now : B) (rest : List B) → length (done ++ now ∷ rest) ≡ length (done ++ was ∷ rest)
+swap_length [] was now rest = refl
+swap_length (first ∷ done) was now rest = ap (λ (n : ℕ). suc n) (swap_length done was now rest)
+
+-- what is at a number of one list is at that of another as long
+there_too : {B : Type 0} (old new : List B) (number : ℕ) (was : B) → length new ≡ length old → slice_get old number ≡ Some was → (now : B) × (slice_get new number ≡ Some now)
+there_too old new number was count at = (get_or new number was, slice_get-get_or new number was (omega (arith, count, slice_get_within old number was at)))
+
+-- ---- the look at the banks
+
+-- the banks before this number were looked at: none has bytes
+pub record HasLooked {B : Type 0} (log : B → Option Log) (meter : B → Meter) (old new : List B) (number : ℕ) : Type 0 where
+  pub meters : MetersGoOn meter old new
+  pub logs : (place : ℕ) (was now : B) → slice_get old place ≡ Some was → slice_get new place ≡ Some now → log now ≡ log was
+  pub empty : (place : ℕ) (one : B) → place < number → slice_get old place ≡ Some one → ¬ IsFilled (log one)
+
+pub looked_first : {B : Type 0} (log : B → Option Log) (meter : B → Meter) (banks : List B) → HasLooked log meter banks banks 0
+looked_first log meter banks = record {
+  meters = meters_same meter banks;
+  logs = λ place was now was_at now_at. ap log (one_is (sym now_at ∙ was_at));
+  empty = λ place one before at. absurd (omega (arith, before));
+}
+
+-- those of the number were looked at too
+meters_set : {B : Type 0} (meter : B → Meter) (banks : List B) (number : ℕ) (was now : B) → slice_get banks number ≡ Some was → GoesOn (meter was) (meter now)
+    → MetersGoOn meter banks (slice_set banks number now)
+meters_set meter banks number was now at goes = record {
+  count = set_length banks number now;
+  each = set_at (λ x y. GoesOn (meter x) (meter y)) banks number was now at goes (λ one. stays_same (meter one));
+}
+
+pub looked_meters : {B : Type 0} (log : B → Option Log) (meter : B → Meter) (old middle : List B) (number : ℕ) (was now : B) → HasLooked log meter old middle number
+    → slice_get middle number ≡ Some was → GoesOn (meter was) (meter now) → MetersGoOn meter old (slice_set middle number now)
+looked_meters log meter old middle number was now looked at goes = meters_then meter old middle (slice_set middle number now) looked.meters (meters_set meter middle number was now at goes)
+
+pub looked_more : {B : Type 0} (log : B → Option Log) (meter : B → Meter) (old middle : List B) (number : ℕ) (was now : B) → HasLooked log meter old middle number
+    → slice_get middle number ≡ Some was → log now ≡ log was → GoesOn (meter was) (meter now) → ¬ IsFilled (log was) → HasLooked log meter old (slice_set middle number now) (number + 1)
+looked_more {B = B} log meter old middle number was now looked at same goes none = record {
+  meters = looked_meters log meter old middle number was now looked at goes;
+  logs = λ place first last first_at last_at.
+      let there = there_too old middle place first looked.meters.count first_at in
+      set_at (λ x y. log y ≡ log x) middle number was now at same (λ one. refl) place there.0 last there.1 last_at ∙ looked.logs place first there.0 first_at there.1;
+  empty = λ place one before there filled. elim (cases_lt place number) [
+    | inl earlier ↦ looked.empty place one earlier there filled
+    | inr later ↦
+        let here : place ≡ number = omega (arith, before, later) in
+        let there_now : slice_get old number ≡ Some one = subst (λ (n : ℕ). slice_get old n ≡ Some one) here there in
+        none (subst IsFilled (sym (looked.logs number one was there_now at)) filled)
+  ];
+}
+
+-- the look at those of the number stopped
+pub looked_stops : {B : Type 0} (log : B → Option Log) (meter : B → Meter) (old middle : List B) (number : ℕ) (was now : B) (fault : RunFault) → HasLooked log meter old middle number
+    → slice_get middle number ≡ Some was → GoesOn (meter was) (meter now) → StopsLookingAt number (log was) (meter was) (meter now) fault
+    → StopsLooking log meter old (slice_set middle number now) fault
+looked_stops log meter old middle number was now (faults.NotEmpty clone) looked at goes stops =
+    let there = there_too middle old number was (sym looked.meters.count) at in
+    let first : IsFirstFilled log old number = record {
+      one = there.0;
+      at = there.1;
+      filled = subst IsFilled (looked.logs number there.0 was there.1 at) stops.1;
+      before = λ other empty before other_at. looked.empty other empty before other_at;
+    } in
+    subst (λ (n : ℕ). IsFirstFilled log old n) (sym stops.0) first
+looked_stops {B = B} log meter old middle number was now (faults.Device clone) looked at goes stops =
+    let fails : HasFailed meter number middle (slice_set middle number now) = λ first last first_at last_at.
+    let one : was ≡ first = one_is (sym at ∙ first_at) in
+    let two : now ≡ last = one_is (sym (set_there middle number was now at) ∙ last_at) in
+    subst (λ (b : B). HadFault (meter b) (meter last)) one (subst (λ (b : B). HadFault (meter was) (meter b)) two stops.1) in
+    subst (λ (n : ℕ). HasFailed meter n old (slice_set middle number now)) (sym stops.0) (failed_later meter number old middle (slice_set middle number now) looked.meters fails)
+looked_stops log meter old middle number was now faults.NoMemory looked at goes stops = tt
+looked_stops log meter old middle number was now fault looked at goes stops = absurd stops
+
+-- all were looked at
+pub looked_old : {B : Type 0} (log : B → Option Log) (meter : B → Meter) (old new : List B) (number : ℕ) → HasLooked log meter old new number → length new ≤ number → AreEmpty log old
+looked_old log meter old new number looked all = λ place one at.
+    looked.empty place one (omega (arith, all, looked.meters.count, slice_get_within old place one at)) at
+
+pub looked_new : {B : Type 0} (log : B → Option Log) (meter : B → Meter) (old new : List B) (number : ℕ) → HasLooked log meter old new number → length new ≤ number → AreEmpty log new
+looked_new log meter old new number looked all = λ place one at filled.
+    let there = there_too new old place one (sym looked.meters.count) at in
+    looked_old log meter old new number looked all place there.0 there.1 (subst IsFilled (looked.logs place there.0 one there.1 at) filled)
+
+-- ---- the banks made blanks
+
+-- the first banks were made these blanks, and the rest, which are empty, are left
+pub record IsBlanking {B : Type 0} (log : B → Option Log) (meter : B → Meter) (old done rest : List B) (number : ℕ) : Type 0 where
+  pub meters : MetersGoOn meter old (done ++ rest)
+  pub empty : AreEmpty log rest
+  pub counted : number ≡ length done
+
+pub blanking_first : {B : Type 0} (log : B → Option Log) (meter : B → Meter) (old done rest : List B) → done ≡ [] → rest ≡ old → AreEmpty log old → IsBlanking log meter old done rest 0
+blanking_first log meter old done rest none all empty = rw (none, all) (record { meters = meters_same meter old; empty = empty; counted = refl })
+
+-- the next ones have no bytes
+pub blanking_next : {B : Type 0} (log : B → Option Log) (meter : B → Meter) (old done rest left : List B) (one : B) (number : ℕ) → IsBlanking log meter old done rest number → rest ≡ one ∷ left
+    → ¬ IsFilled (log one)
+blanking_next {B = B} log meter old done rest left one number blanking is = subst (λ (l : List B). AreEmpty log l) is blanking.empty zero one refl
+
+meters_swap : {B : Type 0} (meter : B → Meter) (done : List B) (was now : B) (rest : List B) → GoesOn (meter was) (meter now) → MetersGoOn meter (done ++ was ∷ rest) (done ++ now ∷ rest)
+meters_swap meter done was now rest goes = record {
+  count = swap_length done was now rest;
+  each = swap_at (λ x y. GoesOn (meter x) (meter y)) done was now rest goes (λ one. stays_same (meter one));
+}
+
+blanking_meters : {B : Type 0} (log : B → Option Log) (meter : B → Meter) (old done rest left : List B) (was now : B) (number : ℕ) → IsBlanking log meter old done rest number
+    → rest ≡ was ∷ left → GoesOn (meter was) (meter now) → MetersGoOn meter old (done ++ now ∷ left)
+blanking_meters {B = B} log meter old done rest left was now number blanking is goes =
+    meters_then meter old (done ++ was ∷ left) (done ++ now ∷ left) (subst (λ (l : List B). MetersGoOn meter old (done ++ l)) is blanking.meters) (meters_swap meter done was now left goes)
+
+-- they are made a blank
+pub blanking_more : {B : Type 0} (log : B → Option Log) (meter : B → Meter) (old done rest left more : List B) (was now : B) (number : ℕ) → IsBlanking log meter old done rest number
+    → rest ≡ was ∷ left → more ≡ done ++ now ∷ [] → GoesOn (meter was) (meter now) → IsBlanking log meter old more left (number + 1)
+blanking_more {B = B} log meter old done rest left more was now number blanking is more_is goes = rw more_is (record {
+  meters = rw (append_assoc done (now ∷ []) left) (blanking_meters log meter old done rest left was now number blanking is goes);
+  empty = λ place one at. subst (λ (l : List B). AreEmpty log l) is blanking.empty (suc place) one at;
+  counted = one_more done now number blanking.counted;
+})
+  where
+    one_more : {B : Type 0} (done : List B) (now : B) (number : ℕ) → number ≡ length done → number + 1 ≡ length (done ++ now ∷ [])
+    one_more done now number counted = rw (length-append done (now ∷ [])) (omega (arith, counted))
+
+-- their device failed
+pub blanking_stops : {B : Type 0} (log : B → Option Log) (meter : B → Meter) (old done rest left back : List B) (was now : B) (number : ℕ) → IsBlanking log meter old done rest number
+    → rest ≡ was ∷ left → back ≡ done ++ now ∷ left → GoesOn (meter was) (meter now) → HadFault (meter was) (meter now)
+    → MetersGoOn meter old back × HasFailed meter number old back
+blanking_stops {B = B} log meter old done rest left back was now number blanking is back_is goes fails =
+    let middle : MetersGoOn meter old (done ++ was ∷ left) = subst (λ (l : List B). MetersGoOn meter old (done ++ l)) is blanking.meters in
+    let there : HasFailed meter (length done) (done ++ was ∷ left) (done ++ now ∷ left) = λ first last first_at last_at.
+    let one : was ≡ first = one_is (sym (swap_there done was left) ∙ first_at) in
+    let two : now ≡ last = one_is (sym (swap_there done now left) ∙ last_at) in
+    subst (λ (b : B). HadFault (meter b) (meter last)) one (subst (λ (b : B). HadFault (meter was) (meter b)) two fails) in
+    rw (back_is, blanking.counted)
+    (blanking_meters log meter old done rest left was now number blanking is goes, failed_later meter (length done) old (done ++ was ∷ left) (done ++ now ∷ left) middle there)
+
+-- none is left
+pub blanking_all : {B : Type 0} (log : B → Option Log) (meter : B → Meter) (old done rest : List B) (number : ℕ) → IsBlanking log meter old done rest number → rest ≡ [] → MetersGoOn meter old done
+blanking_all {B = B} log meter old done rest number blanking none =
+    subst (λ (l : List B). MetersGoOn meter old l) (append-nil done) (subst (λ (l : List B). MetersGoOn meter old (done ++ l)) none blanking.meters)
