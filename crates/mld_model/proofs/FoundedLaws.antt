@@ -10,7 +10,6 @@ use Rattle.tree_clock.specs.Path.{IsPrefix, AreApart, zero_letter, one_letter}
 use Rattle.tree_clock.proofs.PathLaws.{apart_symmetric}
 use Rattle.mld_model.specs.Clone.{Clone, Absent, Live, Stored}
 use Rattle.mld_model.specs.World.{clone_at, founded, founded_path, founded_clone, clone_count}
-use Rattle.mld_model.specs.StandsFor.{HasOneTickRanges}
 use Rattle.mld_model.specs.Sound.{Keeps, IsSoundClone, IsOpenGive, IsSound}
 
 tails : (x : ℕ) (xs ys : List ℕ) → x ∷ xs ≡ x ∷ ys → xs ≡ ys
@@ -125,14 +124,4 @@ module _ (domain : List ℕ) (properties : List (List ℕ)) (count : ℕ) where
     gives_apart = λ place id path dots second other leaf known differ opened. absurd (founded_gives_none place id path dots opened);
     gives = λ place id path dots opened. absurd (founded_gives_none place id path dots opened);
     messages = λ message sent. absurd sent;
-  }
-
-  -- and it has no ranges, so each has one tick
-  pub founded_one_tick : HasOneTickRanges (founded domain properties count)
-  founded_one_tick = record {
-    journals = λ number stored keeps range h.
-        absurd (subst (λ (s : Stored). Has s.journal range) (sym (founded_at number stored keeps).1) h);
-    held = λ number stored held live range h.
-        absurd (subst (λ (ranges : List Range). Has ranges range) (holds_nothing (clone_at (founded domain properties count) number) stored held (founded_holds number) live) h);
-    sent = λ range h. absurd h;
   }

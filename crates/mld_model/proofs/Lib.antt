@@ -2,7 +2,6 @@ pub mod StateLaws
 pub mod PairsLaws
 pub mod LocalLaws
 pub mod ReleasedLaws
-pub mod OneTickLaws
 pub mod StandsForLaws
 pub mod StoredLaws
 pub mod KnownLaws

@@ -1,5 +1,5 @@
 -- A clone's own steps are those of the model: what it makes and takes means what the history says.
-use Rattle.std.proofs.Common.{◌≡◌, ℕ, ◌+◌, ◌-◌, ◌<◌, ◌≤◌, List, [], ◌∷◌, ◌++◌, ◌⊎◌, ◌↔◌, inl, inr, refl, sym, ◌∙◌, ap, arith, subst}
+use Rattle.std.proofs.Common.{◌≡◌, ℕ, ◌+◌, ◌-◌, ◌≤◌, List, [], ◌∷◌, ◌++◌, ◌⊎◌, ◌↔◌, inl, inr, refl, sym, ap, arith, subst}
 use Rattle.std.proofs.lemmas.Bool.{cases_lt}
 use Rattle.rdf_terms.specs.declared.terms.Triple.{Triple}
 use Rattle.tree_clock.specs.declared.dots.Dot.{Dot}
@@ -11,17 +11,19 @@ use Rattle.tree_clock.specs.Clock.{ticks_of, Covers, RaisesTo}
 use Rattle.tree_clock.proofs.ClockLaws.{Covers-raised}
 use Rattle.mld_ops.specs.declared.tagged.Tagged.{Tagged}
 use Rattle.mld_ops.specs.Entry.{EntryValue}
-use Rattle.mld_ops.specs.History.{Operation, IsDone, IsClosed, IsNext, IsLawful, dot_at}
-use Rattle.mld_ops.specs.Effect.{range_of, IsEffect}
+use Rattle.mld_ops.specs.History.{Operation, IsClosed, IsNext, IsLawful, dot_at}
+use Rattle.mld_ops.specs.Effect.{range_of}
 use Rattle.mld_ops.proofs.OperationLaws.{same_dot, closed_with_unknown}
 use Rattle.mld_ops.specs.Meaning.{IsMeaning}
 use Rattle.mld_ops.proofs.MeaningLaws.{meaning_with_unknown, meaning_of_taken}
 use Rattle.mld_ops.specs.Net.{IsNet}
-use Rattle.mld_ops.proofs.NetLaws.{net_of_one, net_of_one_back, net_with_unknown}
+use Rattle.mld_ops.proofs.NetLaws.{net_of_one, net_with_unknown}
 use Rattle.std.specs.List.{AllZip}
 use Rattle.mld_ops.proofs.PickingLaws.{pairs_as, pairs_more}
 use Rattle.mld_ops.specs.Ready.{last_dot, IsKnownEntry, IsReadyEntry}
 use Rattle.mld_ops.specs.Cut.{IsCutOf}
+use Rattle.op_fusion.specs.FusionLaws.{MayTake}
+use Rattle.op_fusion.proofs.TakenRanges.{taken_is_meaning}
 use Rattle.mld_model.specs.Clone.{Stored, known_of, with_range, IsKnown, IsReady}
 use Rattle.mld_model.specs.CloneStep.{IsNextTick}
 use Rattle.mld_model.specs.Sound.{IsDoneRange}
@@ -204,14 +206,6 @@ module _ (history : List Operation) (ticks : List (List ℕ × ℕ)) (known : Li
     },
   )
 
--- a range of one tick is that of its dot
-pub range_of_one : (range : Range) (dot : Dot) → range.first ≡ range.last → dot ≡ last_dot range → range ≡ range_of dot
-range_of_one range dot one is = λ i. record {
-  path = sym (ap (λ (d : Dot). d.path) is) i;
-  first = (one ∙ sym (ap (λ (d : Dot). d.tick) is)) i;
-  last = sym (ap (λ (d : Dot). d.tick) is) i;
-}
-
 -- a clock and pairs are those of one who knows these dots
 abbrev pub KnowsAs : List Operation → List Range → List (List ℕ × ℕ) → List Tagged → Type 0
 KnowsAs history dots ticks pairs = SnapshotStandsFor history (record { ticks = ticks; pairs = pairs }) dots
@@ -234,52 +228,26 @@ raised_knows ticks next known range alike positive before clock dot = (
   ]),
 )
 
--- what a ready entry of one tick leaves of the pairs is the meaning with that tick known
+-- what a ready entry leaves of the pairs is the meaning with its range known
 pub taker_knows : (history : List Operation) (known : List Range) (ticks : List (List ℕ × ℕ)) (pairs : List Tagged) (range : Range) (entry : EntryValue)
     (next : List (List ℕ × ℕ)) (new : List Tagged)
-    → KnowsAs history known ticks pairs → EntryStandsFor history entry range → range.first ≡ range.last → IsDoneRange history range
+    → KnowsAs history known ticks pairs → EntryStandsFor history entry range → IsDoneRange history range
     → IsLawful history → IsClosed history known → IsReadyEntry ticks entry → RaisesTo ticks next (last_dot entry.range)
     → IsCutOf entry (ticks_of ticks entry.range.path) pairs new → KnowsAs history (known ++ range ∷ []) next new
-taker_knows history known ticks pairs range entry next new knows net one done lawful closed ready raises cut =
-    let last : IsDone history (last_dot range) = done.done (last_dot range) (record { path = refl; above = done.some; below = omega arith }) in
-    let operation : Operation = last.operation in
-    let effect : IsEffect operation entry = net_of_one_back history operation lawful last.stands range entry net one last.is in
-    let is_range : range ≡ range_of operation.dot = range_of_one range operation.dot one last.is in
-    let can : IsReady history known range = (ready_alike history ticks known knows.known range entry net done.positive).0 ready in
-    let unknown : ¬ Knows known operation.dot = subst (λ (d : Dot). ¬ Knows known d) (sym last.is) can.unknown in
-    let clock : RaisesTo ticks next (last_dot range) = subst (λ (r : Range). RaisesTo ticks next (last_dot r)) net.same raises in
+taker_knows history known ticks pairs range entry next new knows net done lawful closed ready raises cut =
+    let can : MayTake history known ticks range entry = record {
+      lawful = lawful;
+      closed = closed;
+      alike = knows.known;
+      first = done.positive;
+      last = done.some;
+      done = done.done (last_dot range) (record { path = refl; above = done.some; below = omega arith });
+      net = net;
+      ready = ready;
+    } in
     let before : range.first ≤ ticks_of ticks range.path + 1 = subst (λ (r : Range). r.first ≤ ticks_of ticks r.path + 1) net.same ready.before in
-    let had : ticks_of ticks range.path < range.last =
-    elim (cases_lt (ticks_of ticks range.path) range.last) [
-      | inl below ↦ below
-      | inr above ↦ absurd (can.unknown ((knows.known (last_dot range)).0 (record { positive = omega (arith, done.positive, done.some); within = above })))
-    ] in
-    let same_ticks : ticks_of ticks entry.range.path ≡ ticks_of ticks range.path = ap (λ (r : Range). ticks_of ticks r.path) net.same in
-    let same_path : entry.range.path ≡ range.path = ap (λ (r : Range). r.path) net.same in
-    let same_first : entry.range.first ≡ range.first = ap (λ (r : Range). r.first) net.same in
-    let last_path : operation.dot.path ≡ range.path = ap (λ (d : Dot). d.path) last.is in
-    let last_tick : operation.dot.tick ≡ range.last = ap (λ (d : Dot). d.tick) last.is in
     record {
-      known = raised_knows ticks next known range knows.known done.positive before clock;
-      pairs = subst (λ (r : Range). IsMeaning history (known ++ r ∷ []) new) (sym is_range)
-          (meaning_of_taken history known operation pairs new lawful closed last.stands unknown knows.pairs cut.ascending
-          (λ pair. (
-            λ h. elim ((cut.members pair).0 h) [
-              | inl kept ↦ inl (kept.0, λ deleted. kept.1 ((effect.deletes pair).1 deleted))
-              | inr added ↦ let e = (effect.inserts pair.triple pair.dot.tick).0 added.inserts in
-                  inr (same_dot pair.dot operation.dot (added.path ∙ same_path ∙ sym last_path) e.0, e.1)
-            ],
-            λ h. (cut.members pair).1 (elim h [
-              | inl kept ↦ inl (
-                kept.0,
-                λ deleted. kept.1 ((effect.deletes pair).0 deleted),
-                λ superseded. omega (arith, superseded.above, superseded.below, same_ticks, same_first, one, had),
-              )
-              | inr added ↦ inr (record {
-                path = ap (λ (d : Dot). d.path) added.0 ∙ last_path ∙ sym same_path;
-                above = omega (arith, ap (λ (d : Dot). d.tick) added.0, last_tick, same_ticks, had);
-                inserts = (effect.inserts pair.triple pair.dot.tick).1 (ap (λ (d : Dot). d.tick) added.0, added.1);
-              })
-            ]),
-          )));
+      known = raised_knows ticks next known range knows.known done.positive before (subst (λ (r : Range). RaisesTo ticks next (last_dot r)) net.same raises);
+      pairs = taken_is_meaning history known ticks range entry pairs new can knows.pairs
+          (subst (λ (r : Range). IsCutOf entry (ticks_of ticks r.path) pairs new) net.same cut);
     }

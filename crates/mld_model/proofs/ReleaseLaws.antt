@@ -1,12 +1,12 @@
 -- Laws of the ranges that are released once more dots are known.
-use Rattle.std.proofs.Common.{◌≡◌, List, [], ◌∷◌, inl, inr, refl, sym, ◌∙◌, ap, subst}
+use Rattle.std.proofs.Common.{◌≡◌, List, [], ◌∷◌, refl, sym, ◌∙◌, ap, subst}
 use Rattle.tree_clock.specs.declared.dots.Dot.{Dot}
 use Rattle.tree_clock.specs.declared.dots.Range.{Range}
 use Rattle.tree_clock.specs.Lists.{Has}
 use Rattle.tree_clock.specs.Dot.{Knows}
 use Rattle.mld_ops.specs.History.{Operation}
 use Rattle.mld_ops.specs.Picking.{TakesFirst}
-use Rattle.mld_ops.proofs.PickingLaws.{drops_one, first_one, none_no_first, first_member, rest_members, kept_members}
+use Rattle.mld_ops.proofs.PickingLaws.{drops_one, first_one, none_no_first, rest_members, kept_members}
 use Rattle.mld_model.specs.Clone.{Stored, known_of, with_range, IsKnown, IsReady, Releases}
 use Rattle.mld_model.proofs.KnownLaws.{known_with-old}
 
@@ -56,14 +56,3 @@ module _ (history : List Operation) where
   releases_left stored held (first ∷ taken) after left p range h =
       kept_members (IsKnown (known_of stored)) held p.0 p.2 range
       (rest_members (IsReady history (known_of stored)) p.0 first p.1 p.3 range (releases_left (with_range stored first) p.1 taken after left p.4 range h))
-
-  -- what is released was held back
-  pub releases_taken : (stored : Stored) (held taken : List Range) (after : Stored) (left : List Range) → Releases history stored held taken after left → (range : Range)
-      → Has taken range → Has held range
-  releases_taken stored held [] after left p range h = absurd h
-  releases_taken stored held (first ∷ taken) after left p range (inl same) =
-      kept_members (IsKnown (known_of stored)) held p.0 p.2 range
-      (subst (λ (r : Range). Has p.0 r) same (first_member (IsReady history (known_of stored)) p.0 first p.1 p.3))
-  releases_taken stored held (first ∷ taken) after left p range (inr h) =
-      kept_members (IsKnown (known_of stored)) held p.0 p.2 range
-      (rest_members (IsReady history (known_of stored)) p.0 first p.1 p.3 range (releases_taken (with_range stored first) p.1 taken after left p.4 range h))

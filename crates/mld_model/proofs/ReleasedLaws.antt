@@ -22,18 +22,17 @@ use Rattle.mld_model.proofs.KnownLaws.{known_with}
 use Rattle.mld_model.proofs.PairsLaws.{pairs_append}
 use Rattle.mld_model.proofs.LocalLaws.{KnowsAs, known_alike, ready_alike, raised_knows, taker_knows}
 
--- an entry stands for a range of one tick that is done
+-- an entry stands for a range that is done
 pub record StandsDone (history : List Operation) (entry : EntryValue) (range : Range) : Type 0 where
   pub stands : EntryStandsFor history entry range
-  pub one : range.first ≡ range.last
   pub done : IsDoneRange history range
 
--- entries that stand for ranges of one tick which are done
+-- entries that stand for ranges which are done
 pub stand_done : (history : List Operation) (entries : List EntryValue) (ranges : List Range) → AllZip (EntryStandsFor history) entries ranges
-    → ((range : Range) → Has ranges range → range.first ≡ range.last) → ((range : Range) → Has ranges range → IsDoneRange history range)
+    → ((range : Range) → Has ranges range → IsDoneRange history range)
     → AllZip (StandsDone history) entries ranges
-stand_done history entries ranges all one done =
-    pairs_as (EntryStandsFor history) (StandsDone history) entries ranges all (λ entry range h stands. record { stands = stands; one = one range h; done = done range h })
+stand_done history entries ranges all done =
+    pairs_as (EntryStandsFor history) (StandsDone history) entries ranges all (λ entry range h stands. record { stands = stands; done = done range h })
 
 -- and the other way
 pub done_stand : (history : List Operation) (entries : List EntryValue) (ranges : List Range) → AllZip (StandsDone history) entries ranges
@@ -103,7 +102,7 @@ release_stands history stored held entries (entry ∷ taken) left now ticks afte
     (raised_knows now releases.2 (known_of stored) range alike both.done.positive before clock) in
     let next : KnowsAs history (known_of (with_range stored range)) leads.0 leads.1 =
     subst (λ (dots : List Range). KnowsAs history dots leads.0 leads.1) (sym (known_with stored range))
-    (taker_knows history (known_of stored) ticks pairs range entry leads.0 leads.1 knows both.stands both.one both.done lawful sound.closed leads.2 leads.3 leads.4) in
+    (taker_knows history (known_of stored) ticks pairs range entry leads.0 leads.1 knows both.stands both.done lawful sound.closed leads.2 leads.3 leads.4) in
     let more : Released history (with_range stored range) first.1 taken left after new =
     release_stands history (with_range stored range) first.1 releases.1 taken left releases.2 leads.0 after leads.1 new lawful
     (taker_stays_sound history stored range lawful both.done ready sound) first.4 again next releases.6 leads.5 in
@@ -139,7 +138,7 @@ module _ (history : List Operation) (live new : LocalClone) (stored : Stored) (h
       let knows : KnowsAs history (known_of stored) live.ticks live.pairs = record { known = stands.known; pairs = stands.pairs } in
       let taken_one : KnowsAs history (known_of (with_range stored range)) leads.0 leads.1 =
       subst (λ (dots : List Range). KnowsAs history dots leads.0 leads.1) (sym (known_with stored range))
-      (taker_knows history (known_of stored) live.ticks live.pairs range entry leads.0 leads.1 knows both.stands both.one both.done lawful sound.closed leads.2 leads.3 leads.4) in
+      (taker_knows history (known_of stored) live.ticks live.pairs range entry leads.0 leads.1 knows both.stands both.done lawful sound.closed leads.2 leads.3 leads.4) in
       release_stands history (with_range stored range) held live.held accepts.taken new.held accepts.raised leads.0 new.ticks leads.1 new.pairs lawful
       (taker_stays_sound history stored range lawful both.done accepted_ready sound) all alike taken_one accepts.releases leads.5
 

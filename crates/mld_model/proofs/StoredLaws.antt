@@ -32,29 +32,29 @@ stored_still_stands history next running stored is_next sound =
 -- taking the entries of a journal, in order, leads from the dots that the journal is over to those and all of its own
 pub journal_knows : (history : List Operation) (known journal : List Range) (ticks : List (List ℕ × ℕ)) (pairs : List Tagged) (entries : List EntryValue)
     (after : List (List ℕ × ℕ)) (new : List Tagged) → IsLawful history → IsSoundJournal history known journal
-    → ((range : Range) → Has journal range → range.first ≡ range.last) → AllZip (EntryStandsFor history) entries journal
+    → AllZip (EntryStandsFor history) entries journal
     → KnowsAs history known ticks pairs → LeadsTo ticks pairs entries after new → KnowsAs history (known ++ journal) after new
-journal_knows history known [] ticks pairs [] after new lawful sound one all knows leads =
+journal_knows history known [] ticks pairs [] after new lawful sound all knows leads =
     subst (λ (dots : List Range). KnowsAs history dots after new) (sym (append-nil known))
     (subst (λ (t : List (List ℕ × ℕ)). KnowsAs history known t new) (sym leads.0) (subst (λ (p : List Tagged). KnowsAs history known ticks p) (sym leads.1) knows))
-journal_knows history known (range ∷ journal) ticks pairs (entry ∷ entries) after new lawful sound one all knows leads =
+journal_knows history known (range ∷ journal) ticks pairs (entry ∷ entries) after new lawful sound all knows leads =
     let next : KnowsAs history (known ++ range ∷ []) leads.0 leads.1 =
-    taker_knows history known ticks pairs range entry leads.0 leads.1 knows all.0 (one range (inl refl)) (journal_done history known (range ∷ journal) sound range (inl refl))
+    taker_knows history known ticks pairs range entry leads.0 leads.1 knows all.0 (journal_done history known (range ∷ journal) sound range (inl refl))
     lawful sound.0 leads.2 leads.3 leads.4 in
     subst (λ (dots : List Range). KnowsAs history dots after new) (append_assoc known (range ∷ []) journal)
-    (journal_knows history (known ++ range ∷ []) journal leads.0 leads.1 entries after new lawful sound.2 (λ other h. one other (inr h)) all.1 next leads.5)
-journal_knows history known [] ticks pairs (entry ∷ entries) after new lawful sound one all knows leads = absurd all
-journal_knows history known (range ∷ journal) ticks pairs [] after new lawful sound one all knows leads = absurd all
+    (journal_knows history (known ++ range ∷ []) journal leads.0 leads.1 entries after new lawful sound.2 all.1 next leads.5)
+journal_knows history known [] ticks pairs (entry ∷ entries) after new lawful sound all knows leads = absurd all
+journal_knows history known (range ∷ journal) ticks pairs [] after new lawful sound all knows leads = absurd all
 
 -- a clone that begins with what its device has of it stands for what is kept, and holds nothing back
 pub opened_stands : (world : World) (number : ℕ) (running : LocalClone) (stored : Stored) → IsSound world → Keeps (clone_at world number) stored
-    → ((range : Range) → Has stored.journal range → range.first ≡ range.last) → IsLocal running → running.held ≡ []
+    → IsLocal running → running.held ≡ []
     → StoredStandsFor world.history (stored_of running) stored → LocalStandsFor world.history running stored []
-opened_stands world number running stored sound keeps one local none stands =
+opened_stands world number running stored sound keeps local none stands =
     let base : KnowsAs world.history stored.base running.base running.base_pairs = record { known = stands.base; pairs = stands.base_pairs } in
     let knows : KnowsAs world.history (known_of stored) running.ticks running.pairs =
     journal_knows world.history stored.base stored.journal running.base running.base_pairs running.entries running.ticks running.pairs
-    sound.lawful (sound.clones number stored keeps).journal one stands.entries base local.leads in
+    sound.lawful (sound.clones number stored keeps).journal stands.entries base local.leads in
     record {
       kept = stands;
       held = subst (λ (entries : List EntryValue). AllZip (EntryStandsFor world.history) entries []) (sym none) tt;

@@ -19,7 +19,6 @@ use Rattle.mld_model.specs.declared.CloneState.TheVariants as states
 use Rattle.mld_model.specs.declared.NoDevice.{NoDevice}
 use Rattle.mld_model.specs.Clone.{Clone, Absent, Asking, Empty, Down, Live, Stored, known_of}
 use Rattle.mld_model.specs.Local.{LocalAsker, LocalClone, CloneValue, LocalStored, stored_of, blank_clone}
-use Rattle.mld_model.specs.Sound.{Keeps}
 use Rattle.mld_model.specs.World.{World, Message, RangeOf, JoinAsk, JoinGive, clone_at, founded_path, clone_count}
 
 -- a clone as it runs
@@ -112,12 +111,6 @@ MessageStandsFor history (CarriesAsk id) (JoinAsk number) = id ≡ id_of number
 MessageStandsFor history (CarriesGive give) (JoinGive number path dots) = GiveStandsFor history give number path dots
 MessageStandsFor history message other = ⊥
 
--- each range of a world has one tick so far: in the journals, of those held back, and of those sent
-pub record HasOneTickRanges (world : World) : Type 0 where
-  pub journals : (number : ℕ) (stored : Stored) → Keeps (clone_at world number) stored → (range : Range) → Has stored.journal range → range.first ≡ range.last
-  pub held : (number : ℕ) (stored : Stored) (held : List Range) → clone_at world number ≡ Live stored held → (range : Range) → Has held range → range.first ≡ range.last
-  pub sent : (range : Range) → Has world.messages (RangeOf range) → range.first ≡ range.last
-
 -- a running world stands for a world of the model
 pub record StandsFor (running : RunningWorld) (world : World) : Type 0 where
   pub domain : running.domain ≡ world.domain
@@ -125,7 +118,5 @@ pub record StandsFor (running : RunningWorld) (world : World) : Type 0 where
   pub count : length running.clones ≡ clone_count
   pub clones : (number : ℕ) (state : RunningClone) → slice_get running.clones number ≡ Some state → CloneStandsFor world number state (clone_at world number)
   pub messages : AllZip (MessageStandsFor world.history) running.messages world.messages
-  -- only ranges of one tick are made yet
-  pub one_tick : HasOneTickRanges world
   -- no tick is above the number of steps
   pub ticks : (operation : Operation) → Has world.history operation → operation.dot.tick ≤ running.steps

@@ -23,7 +23,6 @@ use Rattle.mld_model.specs.StandsFor.{RunningClone, RunningWorld, LocalStandsFor
 use Rattle.mld_model.proofs.JoiningLaws.{asked_sound, forked_sound, joined_sound, place_of_message}
 use Rattle.mld_model.proofs.LocalLaws.{kept_by}
 use Rattle.mld_model.proofs.PairsLaws.{pairs_count}
-use Rattle.mld_model.proofs.OneTickLaws.{HasOneTickClone, one_tick_asking, one_tick_told, one_tick_forked, one_tick_joined}
 use Rattle.mld_model.proofs.StandsForLaws.{LiveAt, AskingAt, live_at, absent_at, asking_at, place_of_state, set_as_it_is, same_number}
 use Rattle.schedule_model.proofs.WorldLaws.{stepped, stepped_with, stepped_stands, sent_message, SentAs, sent_as, clones_set_stand, changed_stands, taking_follows}
 use Rattle.schedule_model.specs.WorldStep.{Follows}
@@ -123,15 +122,14 @@ passed_over world number asker what other is none relates = absurd relates
 module _ (running : RunningWorld) (world : World) (stands : StandsFor running world) (sound : IsSound world) where
   -- it stands for the world with that state of the clone and that message
   telling_stands : (number : ℕ) (state : RunningClone) (clone : Clone) (message : MessageValue) (other : Message)
-      → CloneStandsFor world number state clone → MessageStandsFor world.history message other → HasOneTickClone clone → ((range : Range) → other ≢ RangeOf range)
+      → CloneStandsFor world number state clone → MessageStandsFor world.history message other
       → StandsFor (stepped_telling running number state message) (record (with_clone world number clone) { messages = world.messages ++ other ∷ [] })
-  telling_stands number state clone message other now told one none = record {
+  telling_stands number state clone message other now told = record {
     domain = stands.domain;
     properties = stands.properties;
     count = length-set running.clones number state ∙ stands.count;
     clones = clones_set_stand running world stands sound number state clone (record (with_clone world number clone) { messages = world.messages ++ other ∷ [] }) refl refl refl now;
     messages = pairs_more (MessageStandsFor world.history) running.messages world.messages message other stands.messages told;
-    one_tick = one_tick_told world stands.one_tick number clone other one none;
     ticks = λ operation h. omega (arith, stands.ticks operation h);
   }
 
@@ -150,7 +148,7 @@ module _ (running : RunningWorld) (world : World) (stands : StandsFor running wo
         next = after_asking world number;
         steps = subst P (sym at) joins;
         sound = asked_sound world number sound below (subst Q (sym at) none);
-        stands = telling_stands number (states.Asking asker) Asking (CarriesAsk (id_of number)) (JoinAsk number) is refl one_tick_asking (λ range same. cc);
+        stands = telling_stands number (states.Asking asker) Asking (CarriesAsk (id_of number)) (JoinAsk number) is refl;
       }
 
   -- an absent clone asks for a leaf
@@ -251,8 +249,7 @@ module _ (running : RunningWorld) (world : World) (stands : StandsFor running wo
       (forked_sound world number stored at.held sound at.live s.number (sound.messages (JoinAsk s.number) s.stands))
       (telling_stands number (states.Live new) (Live (left_half stored) at.held) (CarriesGive give) (JoinGive s.number (stored.path ++ one_letter ∷ []) (known_of stored))
       (subst (λ (c : LocalClone). IsCloneOf world number c × LocalStandsFor world.history c (left_half stored) at.held) (sym gives.left) (of, now))
-      (give_stands world s.number id live.local new.local give stored at.held gives s.is at.stands)
-      (one_tick_forked world number stored at.held stands.one_tick at.live) (λ range same. cc))
+      (give_stands world s.number id live.local new.local give stored at.held gives s.is at.stands))
 
   -- ---- a leaf comes
 
@@ -285,8 +282,7 @@ module _ (running : RunningWorld) (world : World) (stands : StandsFor running wo
       (changed_stands running world stands sound number new (joined_with s.path s.dots) []
       (subst (λ (c : LocalClone). IsCloneOf world number c) (sym joins) (record { id = at.is.id; domain = at.is.domain; properties = at.is.properties }))
       (subst (λ (c : LocalClone). LocalStandsFor world.history c (joined_with s.path s.dots) []) (sym joins)
-      (joined_stands world.history asker give s.number s.path s.dots s.is))
-      (one_tick_joined s.path s.dots))
+      (joined_stands world.history asker give s.number s.path s.dots s.is)))
 
   -- one who asks takes no other message
   pub deliver_asking : (message number : ℕ) (what : MessageValue) (asker : LocalAsker)

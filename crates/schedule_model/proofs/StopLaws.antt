@@ -13,7 +13,6 @@ use Rattle.mld_model.specs.Local.{LocalAsker, LocalClone, CloneValue, stored_of,
 use Rattle.mld_model.specs.StandsFor.{RunningClone, RunningWorld, IsCloneOf, IsAskerOf, StoredStandsFor, CloneStandsFor, StandsFor}
 use Rattle.mld_model.proofs.StateLaws.{live_does}
 use Rattle.mld_model.proofs.LocalLaws.{kept_by}
-use Rattle.mld_model.proofs.OneTickLaws.{AreOneTick, one_tick_live, one_tick_asking, one_tick_down, live_journal_one}
 use Rattle.mld_model.proofs.StandsForLaws.{LiveAt, live_at}
 use Rattle.mld_model.proofs.StoredLaws.{opened_stands, stopped_sound, opened_sound, opened_empty_sound}
 use Rattle.schedule_model.specs.Step.{Step}
@@ -60,8 +59,7 @@ module _ (running : RunningWorld) (world : World) (stands : StandsFor running wo
         next = next;
         steps = live_does world (clone_at world number) Stopped next _ stored at.held at.live (refl, refl {a = next});
         sound = stopped_sound world number sound stored at.held at.live;
-        stands = into_stands running world stands sound number (states.Down (record {})) (Down stored) tt
-            (one_tick_down stored (live_journal_one world number stored at.held stands.one_tick at.live));
+        stands = into_stands running world stands sound number (states.Down (record {})) (Down stored) tt;
       }
 
   -- a clone that isn't live stops nothing
@@ -91,14 +89,13 @@ module _ (running : RunningWorld) (world : World) (stands : StandsFor running wo
   open_stored number device stored local is kept of whole none has =
       let down : clone_at world number ≡ Down stored = down_from world number device (clone_at world number) stored (stands.clones number (states.Down device) is) kept in
       let keeps : Keeps (clone_at world number) stored = subst (λ (c : Clone). Keeps c stored) (sym down) refl in
-      let one : AreOneTick stored.journal = stands.one_tick.journals number stored keeps in
       let next : World = with_clone world number (Live stored []) in
       record {
         next = next;
         steps = subst (λ (c : Clone). Reopens world number c Opened next) (sym down) (refl, refl);
         sound = opened_sound world number sound stored down;
         stands = into_stands running world stands sound number (states.Live (record { local = local })) (Live stored [])
-            (of, opened_stands world number local stored sound keeps one whole none has) (one_tick_live stored [] one (λ range h. absurd h));
+            (of, opened_stands world number local stored sound keeps whole none has);
       }
 
   -- one that keeps nothing asks from then on
@@ -113,5 +110,5 @@ module _ (running : RunningWorld) (world : World) (stands : StandsFor running wo
         next = next;
         steps = subst (λ (c : Clone). Reopens world number c IsAsking next) (sym down) (refl, refl);
         sound = opened_empty_sound world number sound down;
-        stands = into_stands running world stands sound number (states.Asking asker) Asking of one_tick_asking;
+        stands = into_stands running world stands sound number (states.Asking asker) Asking of;
       }

@@ -40,8 +40,6 @@ use Rattle.mld_model.proofs.LocalLaws.{kept_by, next_tick_of, made_by, maker_sta
 use Rattle.mld_model.proofs.ReleasedLaws.{StandsDone, stand_done, Released, accepted_ready, accepted_releases, accepted_told, accepted_stands}
 use Rattle.mld_model.proofs.PairsLaws.{PairAt, pair_at, no_pair_at, pairs_count}
 use Rattle.mld_model.proofs.StandsForLaws.{LiveAt, live_at, clone_stands_as, still_clone_of, clones_stand_set, clones_still_stand, messages_still_stand}
-use Rattle.mld_model.proofs.FoundedLaws.{founded_one_tick}
-use Rattle.mld_model.proofs.OneTickLaws.{HasOneTickClone, one_tick_changed, one_tick_made, one_tick_taken, one_tick_holding}
 use Rattle.schedule_model.specs.WorldStep.{Follows, IsMissingReply, IsAwayReply}
 pub use Rattle.schedule_model.specs.WorldStep.{stepped, stepped_with, stepped_into, stepped_sending, sent_message, LocallyWithin, LocallyCompares}
 
@@ -87,7 +85,6 @@ module _ (domain : List ℕ) (properties : List (List ℕ)) (count : ℕ) where
     count = length-map-range_with_len (founded_local domain properties count) 0 clone_count;
     clones = founded_at;
     messages = tt;
-    one_tick = founded_one_tick domain properties count;
     ticks = λ operation h. absurd h;
   }
 
@@ -138,7 +135,6 @@ module _ (running : RunningWorld) (world : World) (stands : StandsFor running wo
     count = stands.count;
     clones = stands.clones;
     messages = stands.messages;
-    one_tick = stands.one_tick;
     ticks = λ operation h. omega (arith, stands.ticks operation h);
   }
 
@@ -279,7 +275,6 @@ module _ (running : RunningWorld) (world : World) (stands : StandsFor running wo
           messages = pairs_more (MessageStandsFor (operation ∷ world.history)) running.messages world.messages (CarriesEntry entry) (RangeOf (range_of (next_dot live.local)))
               (messages_still_stand world.history operation running.messages world.messages stands.messages sound.messages is_next)
               (made_entry world.history live.local at.base at.journal at.held deletes inserts new.local entry at.stands makes sound.lawful whole.closed is_next);
-          one_tick = one_tick_made world number stored at.held stands.one_tick at.live operation;
           ticks = λ other h. elim h [
             | inl same ↦ let P : Operation → Type 0 = λ o. o.dot.tick ≤ running.steps + 1 in subst P same (next_tick_within number live.local at)
             | inr old ↦ omega (arith, stands.ticks other old)
@@ -392,23 +387,22 @@ module _ (running : RunningWorld) (world : World) (stands : StandsFor running wo
       sound (stepped_stands running world stands)
 
   -- a running world where one clone is in another state, and nothing else has changed
-  pub into_stands : (number : ℕ) (state : RunningClone) (clone : Clone) → CloneStandsFor world number state clone → HasOneTickClone clone
+  pub into_stands : (number : ℕ) (state : RunningClone) (clone : Clone) → CloneStandsFor world number state clone
       → StandsFor (stepped_into running number state) (with_clone world number clone)
-  into_stands number state clone now one = record {
+  into_stands number state clone now = record {
     domain = stands.domain;
     properties = stands.properties;
     count = length-set running.clones number state ∙ stands.count;
     clones = clones_set_stand number state clone (with_clone world number clone) refl refl refl now;
     messages = stands.messages;
-    one_tick = one_tick_changed world stands.one_tick number clone one;
     ticks = λ operation h. omega (arith, stands.ticks operation h);
   }
 
   -- a running world where one clone is live as another, and nothing else has changed
   pub changed_stands : (number : ℕ) (new : CloneValue) (stored : Stored) (held : List Range)
-      → IsCloneOf world number new.local → LocalStandsFor world.history new.local stored held → HasOneTickClone (Live stored held)
+      → IsCloneOf world number new.local → LocalStandsFor world.history new.local stored held
       → StandsFor (stepped_with running number new) (with_clone world number (Live stored held))
-  changed_stands number new stored held of now one = into_stands number (states.Live new) (Live stored held) (of, now) one
+  changed_stands number new stored held of now = into_stands number (states.Live new) (Live stored held) (of, now)
 
   -- a message comes to a clone that is ready for it
   pub deliver_taken : (message number : ℕ) (entry : EntryValue) (live new : CloneValue) (ranges : List Range)
@@ -420,10 +414,10 @@ module _ (running : RunningWorld) (world : World) (stands : StandsFor running wo
       let stored : Stored = kept_by live.local at.base at.journal in
       let whole : IsSoundClone world.history stored = live_sound world number stored at.held sound at.live in
       let both : StandsDone world.history entry s.range =
-      record { stands = s.entry_stands; one = stands.one_tick.sent s.range s.stands; done = sound.messages (RangeOf s.range) s.stands } in
+      record { stands = s.entry_stands; done = sound.messages (RangeOf s.range) s.stands } in
       let ready : IsReady world.history (known_of stored) s.range = accepted_ready world.history live.local new.local stored at.held s.range entry ranges at.stands both locally in
       let all : AllZip (StandsDone world.history) live.local.held at.held =
-      stand_done world.history live.local.held at.held at.stands.held (stands.one_tick.held number stored at.held at.live) (sound.held number stored at.held at.live) in
+      stand_done world.history live.local.held at.held at.stands.held (sound.held number stored at.held at.live) in
       let released : Released world.history (with_range stored s.range) at.held locally.taken new.local.held new.local.ticks new.local.pairs =
       accepted_releases world.history live.local new.local stored at.held s.range entry ranges at.stands both locally all sound.lawful whole in
       let after : Stored = record { path = live.local.path; base = at.base; journal = (at.journal ++ s.range ∷ []) ++ released.ranges } in
@@ -441,8 +435,7 @@ module _ (running : RunningWorld) (world : World) (stands : StandsFor running wo
       (taken_sound world number stored at.held sound at.live s.range released.ranges after released.rest both.done ready released.releases)
       (changed_stands number new after released.rest
       (still_clone_of world world number live.local new.local locally.same refl refl at.is)
-      (accepted_stands world.history live.local new.local stored at.held s.range entry ranges at.stands both locally released)
-      (one_tick_taken world number stored at.held stands.one_tick at.live s.range released.ranges after released.rest both.one released.releases refl))
+      (accepted_stands world.history live.local new.local stored at.held s.range entry ranges at.stands both locally released))
 
   -- a message comes to a clone that holds one of its range already
   pub deliver_held_already : (message number : ℕ) (entry : EntryValue) (live : CloneValue)
@@ -504,8 +497,7 @@ module _ (running : RunningWorld) (world : World) (stands : StandsFor running wo
       (holding_sound world number stored at.held sound at.live s.range done)
       (changed_stands number new stored held
       (subst (λ (c : LocalClone). IsCloneOf world number c) (sym same) of)
-      (subst (λ (c : LocalClone). LocalStandsFor world.history c stored held) (sym same) now)
-      (one_tick_holding world number stored at.held stands.one_tick at.live s.range (stands.one_tick.sent s.range s.stands)))
+      (subst (λ (c : LocalClone). LocalStandsFor world.history c stored held) (sym same) now))
 
   -- an entry that was sent is none of a clone's own path beyond what the clone knows
   pub never_foreign : (message number : ℕ) (entry : EntryValue) (live : CloneValue)
