@@ -4,6 +4,7 @@ pub mod LocalLaws
 pub mod ReleasedLaws
 pub mod StandsForLaws
 pub mod StoredLaws
+pub mod CompactedLaws
 pub mod KnownLaws
 pub mod ReleaseLaws
 pub mod HistoryLaws

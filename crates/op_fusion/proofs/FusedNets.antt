@@ -39,10 +39,10 @@ both_iff f g = (λ a. g.0 (f.0 a), λ c. f.1 (g.1 c))
 -- ---- the dots of two ranges and of the range of both
 
 module _ (left right : Range) (near : AreNeighbours left right) where
-  in_left : (dot : Dot) → IsIn left dot → IsIn (joined left right) dot
+  pub in_left : (dot : Dot) → IsIn left dot → IsIn (joined left right) dot
   in_left dot i = record { path = i.path; above = omega (arith, i.above); below = omega (arith, i.below, near.beyond) }
 
-  in_right : (dot : Dot) → IsIn right dot → IsIn (joined left right) dot
+  pub in_right : (dot : Dot) → IsIn right dot → IsIn (joined left right) dot
   in_right dot i = record { path = i.path ∙ sym near.path; above = omega (arith, i.above); below = i.below }
 
   from_right : (dot : Dot) → IsIn (joined left right) dot → right.first ≤ dot.tick → IsIn right dot
@@ -51,7 +51,7 @@ module _ (left right : Range) (near : AreNeighbours left right) where
   before_right : (dot : Dot) → IsIn (joined left right) dot → dot.tick < right.first → IsIn left dot
   before_right dot i early = record { path = i.path; above = omega (arith, i.above, early); below = omega (arith, early, near.joins) }
 
-  in_either : (dot : Dot) → IsIn (joined left right) dot → IsIn left dot ⊎ IsIn right dot
+  pub in_either : (dot : Dot) → IsIn (joined left right) dot → IsIn left dot ⊎ IsIn right dot
   in_either dot i =
       elim (cases_lt dot.tick right.first) [
         | inl early ↦ inl (before_right dot i early)

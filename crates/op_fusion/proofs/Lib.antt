@@ -8,3 +8,5 @@ pub mod Sifting
 pub mod Merging
 pub mod Staying
 pub mod Adding
+pub mod Compacted
+pub mod FusedCuts

@@ -1,5 +1,6 @@
 //! The laws of fused entries and of cuts, for all lawful histories. These functions do nothing: their clauses are the laws.
 ghost use Rattle.op_fusion.specs.FusionLaws.{OneFused, FusedNetsAreNet, FusedTimeIsSecond, TakenIsClosed, TakenIsMeaning, CutDropsPresent, CutIsApplied};
+ghost use Rattle.op_fusion.specs.CompactingLaws.{FusedRunsAreCompacted, FusedIsEntry, FusedIsReady, FusedRaisesBoth, FusedCutsBoth};
 
 /// What a fused entry is. Two entries have one. That of the net effects of two ranges which meet or overlap is the net
 /// effect of the range of both, and its time is the second's.
@@ -20,4 +21,15 @@ pub fn taken_ranges()
 pub fn cut_pairs()
     ensures drops { CutDropsPresent }
     ensures applied { CutIsApplied }
+{}
+
+/// What compacting entries is: runs of neighbours, each as long as it can be, become one range and one entry each. Of two
+/// entries that may be taken one after the other, in whatever history, the fused one is an entry, is ready where the first
+/// is, raises the clock as both do, and cuts the pairs as both do.
+pub fn compacted_entries()
+    ensures ranges { FusedRunsAreCompacted }
+    ensures entry { FusedIsEntry }
+    ensures ready { FusedIsReady }
+    ensures clock { FusedRaisesBoth }
+    ensures cut { FusedCutsBoth }
 {}

@@ -12,4 +12,4 @@ mod tests;
 pub use cutting::cut;
 pub use faults::FuseFault;
 pub use fusing::fuse;
-pub use laws::{cut_pairs, fused_nets, taken_ranges};
+pub use laws::{compacted_entries, cut_pairs, fused_nets, taken_ranges};
