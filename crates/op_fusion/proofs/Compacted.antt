@@ -1,5 +1,5 @@
 -- Entries that are compacted have compacted ranges, and what is fused of two entries is an entry.
-use Rattle.std.proofs.Common.{◌≡◌, ℕ, ◌≤◌, List, [], ◌∷◌, ◌++◌, inl, inr, refl, sym, ◌∙◌, ap, subst, arith}
+use Rattle.std.proofs.Common.{◌≡◌, ℕ, suc, ◌<◌, ◌≤◌, List, [], ◌∷◌, ◌++◌, ◌⊎◌, inl, inr, refl, sym, ◌∙◌, ap, subst, arith, length, length-append}
 use Rattle.std.proofs.lemmas.List.{map-append}
 use Rattle.rdf_terms.specs.declared.terms.Triple.{Triple}
 use Rattle.tree_clock.specs.declared.dots.Range.{Range}
@@ -116,3 +116,58 @@ fused_runs_are_entries entries (whole ∷ others) all runs entry h =
           (fused_run_is_entry runs.0 runs.1 whole (each runs.0 (inl refl)) (λ one k. each one (inr (has_left runs.1 runs.2 one k))) runs.4)
       | inr more ↦ fused_runs_are_entries runs.2 others (λ one k. each one (inr (has_right runs.1 runs.2 one k))) runs.6 entry more
     ]
+
+-- ---- runs from the left, an entry at a time
+
+head_of : (one other : EntryValue) (entries others : List EntryValue) → one ∷ entries ≡ other ∷ others → one ≡ other
+head_of one other entries others same = cc
+
+tail_of : (one other : EntryValue) (entries others : List EntryValue) → one ∷ entries ≡ other ∷ others → entries ≡ others
+tail_of one other entries others same = cc
+
+not_empty : (one : EntryValue) (entries : List EntryValue) → ¬ (one ∷ entries ≡ [])
+not_empty one entries same = cc
+
+-- a neighbour is fused with the entry before it, and the run goes on
+pub run_goes_on : (whole next fused : EntryValue) (rest compacted : List EntryValue) → AreNeighbours whole.range next.range → Fused whole next fused
+    → AreFusedRuns (fused ∷ rest) compacted → AreFusedRuns (whole ∷ next ∷ rest) compacted
+run_goes_on whole next fused rest [] near f runs = absurd (not_empty fused rest runs)
+run_goes_on whole next fused rest (last ∷ others) near f runs =
+    let first : fused ≡ runs.0 = head_of fused runs.0 rest (runs.1 ++ runs.2) runs.3 in
+    let behind : rest ≡ runs.1 ++ runs.2 = tail_of fused runs.0 rest (runs.1 ++ runs.2) runs.3 in (
+      whole,
+      next ∷ runs.1,
+      runs.2,
+      (λ i. whole ∷ next ∷ behind i),
+      (fused, near, f, subst (λ (entry : EntryValue). IsFusedRun entry runs.1 last) (sym first) runs.4),
+      runs.5,
+      runs.6,
+    )
+
+-- what is no neighbour ends it
+pub run_ends : (whole next : EntryValue) (rest compacted : List EntryValue) → ¬ AreNeighbours whole.range next.range → AreFusedRuns (next ∷ rest) compacted
+    → AreFusedRuns (whole ∷ next ∷ rest) (whole ∷ compacted)
+run_ends whole next rest compacted apart runs = (whole, [], next ∷ rest, refl, refl, apart, runs)
+
+-- and so does the end of the entries
+pub run_is_last : (whole : EntryValue) → AreFusedRuns (whole ∷ []) (whole ∷ [])
+run_is_last whole = (whole, [], [], refl, refl, tt, refl)
+
+run_shrinks : (first : EntryValue) (run rest : List EntryValue) (whole : EntryValue) (others : List EntryValue) → IsFusedRun first run whole
+    → (others ≡ rest) ⊎ (length others < length rest)
+    → (whole ∷ others ≡ first ∷ (run ++ rest)) ⊎ (suc (length others) < suc (length (run ++ rest)))
+run_shrinks first [] rest whole others is (inl same) = inl (λ i. is i ∷ same i)
+run_shrinks first [] rest whole others is (inr shorter) = inr (omega (arith, shorter))
+run_shrinks first (next ∷ run) rest whole others is both =
+    let most : length others ≤ length rest = elim both [
+      | inl same ↦ omega (arith, ap (λ (es : List EntryValue). length es) same)
+      | inr shorter ↦ omega (arith, shorter)
+    ] in
+    inr (omega (arith, most, length-append run rest))
+
+-- compacted entries are the entries, or fewer
+pub fused_runs_shrink : (entries compacted : List EntryValue) → AreFusedRuns entries compacted → (compacted ≡ entries) ⊎ (length compacted < length entries)
+fused_runs_shrink entries [] runs = inl (sym runs)
+fused_runs_shrink entries (whole ∷ others) runs =
+    subst (λ (es : List EntryValue). (whole ∷ others ≡ es) ⊎ (suc (length others) < length es)) (sym runs.3)
+    (run_shrinks runs.0 runs.1 runs.2 whole others runs.4 (fused_runs_shrink runs.2 others runs.6))
