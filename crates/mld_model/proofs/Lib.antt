@@ -5,6 +5,7 @@ pub mod ReleasedLaws
 pub mod StandsForLaws
 pub mod StoredLaws
 pub mod CompactedLaws
+pub mod SendingLaws
 pub mod KnownLaws
 pub mod ReleaseLaws
 pub mod HistoryLaws

@@ -10,9 +10,9 @@ use Rattle.mld_ops.specs.History.{Operation, IsNext}
 use Rattle.mld_ops.proofs.MeaningLaws.{meaning_with_unknown}
 use Rattle.std.specs.List.{AllZip}
 use Rattle.mld_ops.proofs.PickingLaws.{pairs_as}
-use Rattle.mld_ops.specs.Messages.{MessageValue, CarriesEntry, CarriesAsk, CarriesGive, IsGoodMessage}
+use Rattle.mld_ops.specs.Messages.{MessageValue, CarriesEntry, CarriesWant, CarriesAsk, CarriesGive, IsGoodMessage}
 use Rattle.mld_model.specs.Clone.{Clone, Absent, Asking, Empty, Down, Live, Stored}
-use Rattle.mld_model.specs.World.{World, Message, RangeOf, JoinAsk, JoinGive, clone_at, clone_count}
+use Rattle.mld_model.specs.World.{World, Message, RangeOf, Want, JoinAsk, JoinGive, clone_at, clone_count}
 use Rattle.mld_model.specs.Local.{LocalAsker, LocalClone, CloneValue, IsSameClone}
 use Rattle.mld_model.proofs.PairsLaws.{PairAt, pair_at}
 use Rattle.mld_model.specs.declared.NoDevice.{NoDevice}
@@ -171,6 +171,7 @@ module _ (history : List Operation) (next : Operation) where
   message_still_stands : (message : MessageValue) (other : Message) → IsNext history next → IsSoundMessage history other → MessageStandsFor history message other
       → MessageStandsFor (next ∷ history) message other
   message_still_stands (CarriesEntry entry) (RangeOf range) is_next sound stands = entry_still_stands history next entry range is_next sound stands
+  message_still_stands (CarriesWant ticks) (Want dots) is_next sound stands = stands
   message_still_stands (CarriesAsk id) (JoinAsk number) is_next sound stands = stands
   message_still_stands (CarriesGive give) (JoinGive number path dots) is_next sound stands = record {
     id = stands.id;
@@ -196,6 +197,7 @@ good_message history (CarriesGive give) (JoinGive number path dots) stands = rec
   covered = λ pair h. (stands.snapshot.known pair.dot).1 (stands.snapshot.pairs.sound pair h).covered;
 }
 good_message history (CarriesEntry entry) other stands = tt
+good_message history (CarriesWant ticks) other stands = tt
 good_message history (CarriesAsk id) other stands = tt
 good_message history message other stands = absurd stands
 

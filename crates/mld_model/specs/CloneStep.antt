@@ -1,5 +1,6 @@
 -- What a clone of a world does, and what comes to it: each with its reply and the world after it, whatever line asks for it.
-use Rattle.std.specs.Prelude.{◌≡◌, ◌≢◌, ℕ, ◌+◌, ◌<◌, ◌≤◌, List, [], ◌∷◌, ◌++◌, ◌↔◌, length}
+use Rattle.std.specs.Prelude.{◌≡◌, ◌≢◌, ℕ, ◌+◌, ◌<◌, ◌≤◌, List, [], ◌∷◌, ◌++◌, ◌↔◌, length, map}
+use Rattle.std.specs.List.{range_with_len}
 use Rattle.rdf_terms.specs.declared.terms.Triple.{Triple}
 use Rattle.tree_clock.specs.Limits.{path_limit}
 use Rattle.tree_clock.specs.Path.{zero_letter, one_letter}
@@ -11,10 +12,11 @@ use Rattle.mld_ops.specs.Tagged.{tagged_cmp}
 use Rattle.mld_ops.specs.History.{Operation, dot_at}
 use Rattle.mld_ops.specs.Effect.{range_of}
 use Rattle.mld_ops.specs.Meaning.{IsMeaning}
+use Rattle.mld_ops.specs.Picking.{DropsThose}
 use Rattle.mld_model.specs.Clone.{Clone, Absent, Asking, Empty, Down, Live, Stored, known_of, with_range, IsKnown, IsReady, IsHeldBack, AreKnownTo, Releases}
 use Rattle.mld_ops.specs.Held.{held_limit}
-use Rattle.mld_model.specs.World.{World, Message, RangeOf, JoinAsk, JoinGive, with_clone}
-use Rattle.mld_model.specs.Reply.{Reply, Did, NoOperation, Took, Held, HeldFull, AlreadyKnown, Shows, Same, Less, More, Apart, Sent, Answer, Joined, Deep, Ignored, IsAbsent, IsAsking, IsDown, IsLive, Stopped, Opened}
+use Rattle.mld_model.specs.World.{World, Message, RangeOf, Want, JoinAsk, JoinGive, with_clone}
+use Rattle.mld_model.specs.Reply.{Reply, Did, NoOperation, Took, Held, HeldFull, AlreadyKnown, Shows, Same, Less, More, Apart, Sent, Answer, NothingToSend, Joined, Deep, Ignored, IsAbsent, IsAsking, IsDown, IsLive, Stopped, Opened}
 
 -- a reply that changes nothing
 abbrev pub Answers : World → Reply → Reply → World → Type 0
@@ -147,9 +149,19 @@ abbrev pub AskerTakes : World → ℕ → Message → Reply → World → Type 0
 AskerTakes world number (JoinGive id path dots) reply next = TakesLeaf world number id path dots reply next
 AskerTakes world number message reply next = Answers world Ignored reply next
 
--- a message comes to a live clone; wants and snapshots are never sent yet
+-- a live clone is asked for what one lacks who knows these dots, among them all of its base: the ranges of its journal that aren't
+-- known by them are sent, each in a message of its own, or there are none
+pub data TakesWant (world : World) (dots : List Range) (stored : Stored) (reply : Reply) (next : World) : Type 0 where
+  lacks_nothing : AreKnownTo stored.base dots → DropsThose (IsKnown dots) stored.journal [] → Answers world NothingToSend reply next
+      → TakesWant world dots stored reply next
+  sends_ranges : (ranges : List Range) → AreKnownTo stored.base dots → DropsThose (IsKnown dots) stored.journal ranges → ranges ≢ []
+      → reply ≡ Answer (range_with_len (length world.messages + 1) (length ranges))
+      → next ≡ record world { messages = world.messages ++ map RangeOf ranges } → TakesWant world dots stored reply next
+
+-- a message comes to a live clone; what one lacks is not told yet to who lacks dots of the base, and snapshots are never sent yet
 abbrev pub LiveTakes : World → ℕ → Message → Stored → List Range → Reply → World → Type 0
 LiveTakes world number (RangeOf range) stored held reply next = TakesRange world number stored held range reply next
+LiveTakes world number (Want dots) stored held reply next = TakesWant world dots stored reply next
 LiveTakes world number (JoinAsk id) stored held reply next = TakesAsk world number stored held id reply next
 LiveTakes world number (JoinGive id path dots) stored held reply next = Answers world Ignored reply next
 LiveTakes world number message stored held reply next = ⊥
@@ -172,6 +184,11 @@ Reopens world number Asking reply next = Answers world IsAsking reply next
 Reopens world number Empty reply next = (reply ≡ IsAsking) × (next ≡ with_clone world number Asking)
 Reopens world number (Down stored) reply next = (reply ≡ Opened) × (next ≡ with_clone world number (Live stored []))
 Reopens world number (Live stored held) reply next = Answers world IsLive reply next
+
+-- a live clone asks whoever gets its message for what it lacks, by the dots that it knows
+abbrev pub Wants : World → Clone → Reply → World → Type 0
+Wants world clone reply next = IfLive world clone reply next (λ stored held.
+    (reply ≡ Sent (length world.messages + 1)) × (next ≡ record world { messages = world.messages ++ Want (known_of stored) ∷ [] }))
 
 -- the pairs of a clone: the meaning of the dots that it knows
 abbrev pub Lists : World → Clone → Reply → World → Type 0

@@ -174,6 +174,11 @@ pub record LocallyForks (old : LocalClone) (id : List ℕ) (new : LocalClone) (g
   pub left : new ≡ record old { path = old.path ++ zero_letter ∷ [] }
   pub right : give ≡ record { id = id; path = old.path ++ one_letter ∷ []; snapshot = snapshot_of old }
 
+-- the clone answers who knows these ticks, among them all dots of its base: by the entries of its journal that aren't known by them
+pub record LocallyAnswersWant (clone : LocalClone) (ticks : List (List ℕ × ℕ)) (entries : List EntryValue) : Type 0 where
+  pub base : (dot : Dot) → Covers clone.base dot → Covers ticks dot
+  pub unknown : DropsThose (IsKnownEntry ticks) clone.entries entries
+
 -- the clone of one who asked and took a leaf: its base is what the snapshot has, it has no journal, and it holds nothing back
 abbrev pub joined_clone : LocalAsker → GiveValue → LocalClone
 joined_clone asker give = record {

@@ -31,6 +31,8 @@ pub data Reply : Type 0 where
   Sent : ℕ → Reply
   -- what was asked for was sent in the messages of these numbers
   Answer : List ℕ → Reply
+  -- who asked lacks nothing of what the clone keeps in its journal
+  NothingToSend : Reply
   -- the clone is live at the path
   Joined : List ℕ → Reply
   -- the leaf is too deep to be forked

@@ -13,11 +13,11 @@ use Rattle.mld_ops.specs.History.{Operation, dot_at}
 use Rattle.mld_ops.specs.Meaning.{IsMeaning}
 use Rattle.mld_ops.specs.Effect.{range_of}
 use Rattle.mld_ops.proofs.OperationLaws.{range_of_has}
-use Rattle.schedule_model.specs.declared.Command.TheVariants.{Add, Remove, Deliver, Show, Compare, Join, Stop, Open}
+use Rattle.schedule_model.specs.declared.Command.TheVariants.{Add, Remove, Deliver, Show, Compare, Join, Ask, Stop, Open}
 use Rattle.mld_model.specs.Clone.{Clone, Absent, Asking, Down, Live, Stored, kept_of, known_of, with_range}
-use Rattle.mld_model.specs.World.{World, Message, RangeOf, JoinAsk, JoinGive, message_at, clone_at, with_clone}
+use Rattle.mld_model.specs.World.{World, Message, RangeOf, Want, JoinAsk, JoinGive, message_at, clone_at, with_clone}
 use Rattle.mld_model.specs.Reply.{Reply, Did, NoMessage, IsAbsent, IsDown}
-use Rattle.mld_model.specs.CloneStep.{Answers, Makes, Adds, ArePairsOf, Deletes, finds_none, deletes_all, Removes, holds_already, holds_too_many, holds_from_now, TakesRange, knows_already, accepts, holds_back, Asks, Joins, left_half, TakesAsk, asked_itself, is_too_deep, forks, joined_with, TakesLeaf, becomes_live, leaves_it, AskerTakes, LiveTakes, Takes, Stops, Reopens, Lists, Compares, same_dots, fewer_dots, more_dots, dots_apart, ComparesWith, Weighs}
+use Rattle.mld_model.specs.CloneStep.{Answers, Makes, Adds, ArePairsOf, Deletes, finds_none, deletes_all, Removes, holds_already, holds_too_many, holds_from_now, TakesRange, knows_already, accepts, holds_back, Asks, Joins, left_half, TakesAsk, asked_itself, is_too_deep, forks, joined_with, TakesLeaf, becomes_live, leaves_it, AskerTakes, LiveTakes, Takes, Stops, Reopens, Lists, Compares, same_dots, fewer_dots, more_dots, dots_apart, ComparesWith, Weighs, TakesWant, lacks_nothing, sends_ranges, Wants}
 use Rattle.mld_model.proofs.StateLaws.{by_state, IsState, is_absent, is_asking, is_down, if_live, IsStanding, stands_absent, stands_asking, stands_live, if_opens}
 use Rattle.schedule_model.specs.Step.{Step}
 use Rattle.schedule_model.specs.Runs.{Stage, Waiting, SetUp, Running, Commands, Acts, says_nothing, commands, Runs}
@@ -145,6 +145,11 @@ module _ (world next : World) (dot : Dot) (message : ℕ) where
   gives_tell_none number stored held id (is_too_deep differs deep p) = cc (p.0)
   gives_tell_none number stored held id (forks differs room told is) = cc told
 
+  -- and so is a want
+  wants_taken_tell_none : (dots : List Range) (stored : Stored) → ¬ TakesWant world dots stored (Did dot message) next
+  wants_taken_tell_none dots stored (lacks_nothing known none p) = cc (p.0)
+  wants_taken_tell_none dots stored (sends_ranges ranges known drops some told is) = cc told
+
   -- a leaf that comes to a clone that asks
   adopts_tell_none : (number id : ℕ) (path : List ℕ) (dots : List Range) → ¬ TakesLeaf world number id path dots (Did dot message) next
   adopts_tell_none number id path dots (becomes_live own told is) = cc told
@@ -158,6 +163,7 @@ module _ (world next : World) (dot : Dot) (message : ℕ) where
   -- to a live clone
   live_takes_tell_none : (number : ℕ) (sent : Message) (stored : Stored) (held : List Range) → ¬ LiveTakes world number sent stored held (Did dot message) next
   live_takes_tell_none number (RangeOf range) stored held p = receives_tell_none number stored held range p
+  live_takes_tell_none number (Want dots) stored held p = wants_taken_tell_none dots stored p
   live_takes_tell_none number (JoinAsk id) stored held p = gives_tell_none number stored held id p
   live_takes_tell_none number (JoinGive id path dots) stored held p = cc (p.0)
   live_takes_tell_none number sent stored held p = p
@@ -183,6 +189,11 @@ module _ (world next : World) (dot : Dot) (message : ℕ) where
   joins_tell_none : (number : ℕ) (clone : Clone) → ¬ Joins world number clone (Did dot message) next
   joins_tell_none number clone =
       by_state ⊥ clone _ _ _ _ (λ is p. cc (p.0)) (λ is p. cc (p.0)) (state_tells_none IsDown is_down) (λ stored held is p. cc (p.0))
+
+  -- an `ask`
+  wants_tell_none : (clone : Clone) → ¬ Wants world clone (Did dot message) next
+  wants_tell_none clone =
+      if_live ⊥ world clone (Did dot message) next _ (λ answer state. state_tells_none answer state) (λ stored held live p. cc (p.0))
 
   -- a `stop`
   stops_tell_none : (number : ℕ) (clone : Clone) → ¬ Stops world number clone (Did dot message) next
@@ -228,6 +239,7 @@ did_remembers world (Remove number triple) dot message next p =
 did_remembers world (Deliver sent number) dot message next p = absurd (delivers_tell_none world next dot message number (message_at world sent) p)
 did_remembers world (Show number) dot message next p = absurd (lists_tell_none world next dot message (clone_at world number) p)
 did_remembers world (Join number) dot message next p = absurd (joins_tell_none world next dot message number (clone_at world number) p)
+did_remembers world (Ask number) dot message next p = absurd (wants_tell_none world next dot message (clone_at world number) p)
 did_remembers world (Stop number) dot message next p = absurd (stops_tell_none world next dot message number (clone_at world number) p)
 did_remembers world (Open number) dot message next p = absurd (opens_tell_none world next dot message number (clone_at world number) p)
 did_remembers world (Compare number other) dot message next p = absurd (weighs_tell_none world next dot message (clone_at world number) (clone_at world other) p)
@@ -239,6 +251,15 @@ module _ (world next : World) (number : ℕ) (operation : Operation) (remembers 
   -- a world that is left as it was remembers what it did
   same_remembers : next ≡ world → Remembers next number operation
   same_remembers same = subst (λ (world : World). Remembers world number operation) (sym same) remembers
+
+  -- a world in which more was said remembers what it did
+  told_remembers : next.clones ≡ world.clones → next.history ≡ world.history → Remembers next number operation
+  told_remembers clones history = record {
+    stored = remembers.stored;
+    keeps = subst (λ (cs : List Clone). Keeps (get_or cs number Absent) remembers.stored) (sym clones) remembers.keeps;
+    known = remembers.known;
+    stands = subst (λ (operations : List Operation). Has operations operation) (sym history) remembers.stands;
+  }
 
   -- a world where one live clone knows no fewer dots, and whose history has grown, remembers what it did
   grown_remembers : (grower : ℕ) (stored grown : Stored) (held left : List Range) → clone_at world grower ≡ Live stored held
@@ -363,6 +384,18 @@ module _ (world next : World) (number : ℕ) (operation : Operation) (remembers 
   gives_keep giver stored held id reply is (forks differs room told same) =
       grown_remembers giver stored (left_half stored) held held is (ap (λ (w : World). w.clones) same) (λ dot known. known) (λ other stands. subst (λ (w : World). Has w.history other) (sym same) stands)
 
+  -- where it is asked for what another lacks
+  wants_taken_keep : (dots : List Range) (stored : Stored) (reply : Reply) → TakesWant world dots stored reply next → Remembers next number operation
+  wants_taken_keep dots stored reply (lacks_nothing known none p) = same_remembers p.1
+  wants_taken_keep dots stored reply (sends_ranges ranges known drops some told same) =
+      told_remembers (ap (λ (w : World). w.clones) same) (ap (λ (w : World). w.history) same)
+
+  -- where a clone asks for what it lacks
+  wants_keep : (clone : Clone) (reply : Reply) → Wants world clone reply next → Remembers next number operation
+  wants_keep clone reply =
+      if_live (Remembers next number operation) world clone reply next _ (λ answer state p. same_remembers p.1)
+      (λ stored held live p. told_remembers (ap (λ (w : World). w.clones) p.1) (ap (λ (w : World). w.history) p.1))
+
   -- where a leaf comes to a clone that asks
   adopts_keep : (taker id : ℕ) (path : List ℕ) (dots : List Range) (reply : Reply) → clone_at world taker ≡ Asking → TakesLeaf world taker id path dots reply next
       → Remembers next number operation
@@ -380,6 +413,7 @@ module _ (world next : World) (number : ℕ) (operation : Operation) (remembers 
   live_takes_keep : (taker : ℕ) (message : Message) (stored : Stored) (held : List Range) (reply : Reply) → clone_at world taker ≡ Live stored held
       → LiveTakes world taker message stored held reply next → Remembers next number operation
   live_takes_keep taker (RangeOf range) stored held reply is p = receives_keep taker stored held range reply is p
+  live_takes_keep taker (Want dots) stored held reply is p = wants_taken_keep dots stored reply p
   live_takes_keep taker (JoinAsk id) stored held reply is p = gives_keep taker stored held id reply is p
   live_takes_keep taker (JoinGive id path dots) stored held reply is p = same_remembers p.1
   live_takes_keep taker message stored held reply is p = absurd p
@@ -411,6 +445,8 @@ step_remembers world number operation (Show shower) reply next remembers p =
     same_remembers world next number operation remembers (lists_same world (clone_at world shower) reply next p)
 step_remembers world number operation (Join asker) reply next remembers p =
     joins_keep world next number operation remembers asker (clone_at world asker) reply refl p
+step_remembers world number operation (Ask asker) reply next remembers p =
+    wants_keep world next number operation remembers (clone_at world asker) reply p
 step_remembers world number operation (Stop stopper) reply next remembers p =
     stops_keep world next number operation remembers stopper (clone_at world stopper) reply refl p
 step_remembers world number operation (Open opener) reply next remembers p =

@@ -11,14 +11,14 @@ use Rattle.mld_ops.specs.declared.tagged.Tagged.{Tagged}
 use Rattle.mld_ops.specs.History.{Operation, IsInserted, IsNext, dot_at}
 use Rattle.mld_ops.specs.Meaning.{IsMeaning}
 use Rattle.schedule_model.specs.declared.Command.{Command}
-use Rattle.schedule_model.specs.declared.Command.TheVariants.{Add, Remove, Deliver, Show, Compare, Join, Stop, Open}
+use Rattle.schedule_model.specs.declared.Command.TheVariants.{Add, Remove, Deliver, Show, Compare, Join, Ask, Stop, Open}
 use Rattle.mld_model.specs.Clone.{Clone, Absent, Asking, Down, Live, Stored, known_of}
-use Rattle.mld_model.specs.World.{World, Message, RangeOf, JoinAsk, JoinGive, message_at, clone_at, with_clone}
+use Rattle.mld_model.specs.World.{World, Message, RangeOf, Want, JoinAsk, JoinGive, message_at, clone_at, with_clone}
 use Rattle.mld_model.specs.Local.{LocalStored}
 use Rattle.mld_model.specs.Reply.{Reply, NoMessage}
 use Rattle.mld_model.specs.Sound.{Keeps, IsSoundClone, IsSound}
 use Rattle.mld_model.specs.StandsFor.{StoredStandsFor}
-use Rattle.mld_model.specs.CloneStep.{Answers, Makes, Adds, ArePairsOf, Deletes, finds_none, deletes_all, Removes, holds_already, holds_too_many, holds_from_now, TakesRange, knows_already, accepts, holds_back, Asks, Joins, left_half, TakesAsk, asked_itself, is_too_deep, forks, joined_with, TakesLeaf, becomes_live, leaves_it, AskerTakes, LiveTakes, Takes, Stops, Reopens}
+use Rattle.mld_model.specs.CloneStep.{Answers, Makes, Adds, ArePairsOf, Deletes, finds_none, deletes_all, Removes, holds_already, holds_too_many, holds_from_now, TakesRange, knows_already, accepts, holds_back, Asks, Joins, left_half, TakesAsk, asked_itself, is_too_deep, forks, joined_with, TakesLeaf, becomes_live, leaves_it, AskerTakes, LiveTakes, Takes, Stops, Reopens, TakesWant, lacks_nothing, sends_ranges, Wants}
 use Rattle.mld_model.proofs.StateLaws.{by_state, if_live, if_opens}
 use Rattle.mld_model.proofs.SoundLaws.{made_is_next, live_sound}
 use Rattle.mld_model.proofs.StoredLaws.{stored_still_stands}
@@ -54,6 +54,15 @@ module _ (world next : World) (number : ℕ) where
     domain = ap (λ (w : World). w.domain) same;
     properties = ap (λ (w : World). w.properties) same;
     others = λ other differs. ap (λ (w : World). clone_at w other) same ∙ get_or-set_other world.clones number other now Absent differs;
+    grows = λ sound. stays (ap (λ (w : World). w.history) same);
+  }
+
+  -- other messages were sent
+  told_changes : (messages : List Message) → next ≡ record world { messages = messages } → Changes world next number
+  told_changes messages same = record {
+    domain = ap (λ (w : World). w.domain) same;
+    properties = ap (λ (w : World). w.properties) same;
+    others = λ other differs. ap (λ (w : World). clone_at w other) same;
     grows = λ sound. stays (ap (λ (w : World). w.history) same);
   }
 
@@ -112,6 +121,11 @@ module _ (world next : World) (number : ℕ) where
   gives_change stored held id reply (is_too_deep differs deep p) = same_changes p.1
   gives_change stored held id reply (forks differs room told same) = clone_changes (Live (left_half stored) held) _ same
 
+  -- a live clone is asked for what another lacks
+  wants_taken_change : (dots : List Range) (stored : Stored) (reply : Reply) → TakesWant world dots stored reply next → Changes world next number
+  wants_taken_change dots stored reply (lacks_nothing known none p) = same_changes p.1
+  wants_taken_change dots stored reply (sends_ranges ranges known drops some told same) = told_changes _ same
+
   -- a leaf comes to a clone that asks
   adopts_change : (id : ℕ) (path : List ℕ) (dots : List Range) (reply : Reply) → TakesLeaf world number id path dots reply next → Changes world next number
   adopts_change id path dots reply (becomes_live own told same) = clone_changes (Live (joined_with path dots) []) world.messages same
@@ -126,6 +140,7 @@ module _ (world next : World) (number : ℕ) where
   live_takes_change : (message : Message) (stored : Stored) (held : List Range) (reply : Reply) → LiveTakes world number message stored held reply next
       → Changes world next number
   live_takes_change (RangeOf range) stored held reply p = receives_change stored held range reply p
+  live_takes_change (Want dots) stored held reply p = wants_taken_change dots stored reply p
   live_takes_change (JoinAsk id) stored held reply p = gives_change stored held id reply p
   live_takes_change (JoinGive id path dots) stored held reply p = same_changes p.1
   live_takes_change message stored held reply p = absurd p
@@ -153,6 +168,11 @@ module _ (world next : World) (number : ℕ) where
   joins_change clone reply =
       by_state (Changes world next number) clone _ _ _ _ (λ is. asks_change reply) (λ is. asks_change reply) (λ p. same_changes p.1) (λ stored held is p. same_changes p.1)
 
+  -- an `ask`
+  wants_change : (clone : Clone) (reply : Reply) → Wants world clone reply next → Changes world next number
+  wants_change clone reply =
+      if_live (Changes world next number) world clone reply next _ (λ answer state p. same_changes p.1) (λ stored held live p. told_changes _ p.1)
+
   -- a `stop`
   stops_change : (clone : Clone) (reply : Reply) → Stops world number clone reply next → Changes world next number
   stops_change clone reply =
@@ -174,6 +194,7 @@ step_changes world (Remove number triple) reply next p = removes_change world ne
 step_changes world (Deliver message number) reply next p = delivers_change world next number (message_at world message) reply p
 step_changes world (Show number) reply next p = same_changes world next number (lists_same world (clone_at world number) reply next p)
 step_changes world (Join number) reply next p = joins_change world next number (clone_at world number) reply p
+step_changes world (Ask number) reply next p = wants_change world next number (clone_at world number) reply p
 step_changes world (Stop number) reply next p = stops_change world next number (clone_at world number) reply p
 step_changes world (Open number) reply next p = opens_change world next number (clone_at world number) reply p
 step_changes world (Compare number other) reply next p =

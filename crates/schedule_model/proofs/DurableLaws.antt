@@ -7,11 +7,11 @@ use Rattle.tree_clock.specs.declared.dots.Range.{Range}
 use Rattle.mld_ops.specs.declared.tagged.Tagged.{Tagged}
 use Rattle.mld_ops.specs.History.{Operation, dot_at}
 use Rattle.schedule_model.specs.declared.Command.{Command}
-use Rattle.schedule_model.specs.declared.Command.TheVariants.{Add, Remove, Deliver, Show, Compare, Join, Stop, Open}
+use Rattle.schedule_model.specs.declared.Command.TheVariants.{Add, Remove, Deliver, Show, Compare, Join, Ask, Stop, Open}
 use Rattle.mld_model.specs.Clone.{Clone, Absent, Asking, Empty, Down, Live, Stored, known_of, with_range, Releases, kept_of}
-use Rattle.mld_model.specs.World.{World, Message, RangeOf, JoinAsk, JoinGive, message_at, clone_count, clone_at}
+use Rattle.mld_model.specs.World.{World, Message, RangeOf, Want, JoinAsk, JoinGive, message_at, clone_count, clone_at}
 use Rattle.mld_model.specs.Reply.{Reply, Did, Took, Answer, Joined, NoMessage, Ignored, IsAbsent, IsDown}
-use Rattle.mld_model.specs.CloneStep.{Answers, Makes, Adds, Deletes, finds_none, deletes_all, Removes, Accepts, HoldsBack, holds_already, holds_too_many, holds_from_now, TakesRange, knows_already, accepts, holds_back, Asks, Joins, left_half, TakesAsk, asked_itself, is_too_deep, forks, joined_with, TakesLeaf, becomes_live, leaves_it, AskerTakes, LiveTakes, Takes, Stops, Reopens}
+use Rattle.mld_model.specs.CloneStep.{Answers, Makes, Adds, Deletes, finds_none, deletes_all, Removes, Accepts, HoldsBack, holds_already, holds_too_many, holds_from_now, TakesRange, knows_already, accepts, holds_back, Asks, Joins, left_half, TakesAsk, asked_itself, is_too_deep, forks, joined_with, TakesLeaf, becomes_live, leaves_it, AskerTakes, LiveTakes, Takes, Stops, Reopens, TakesWant, lacks_nothing, sends_ranges, Wants}
 use Rattle.mld_model.proofs.StateLaws.{by_state, IsState, is_absent, is_asking, is_down, if_live, if_opens}
 use Rattle.schedule_model.proofs.StepSoundLaws.{lists_same, weighs_same}
 use Rattle.mld_model.specs.Durable.{DurableStep, AppendsMade, AppendsTaken, kept_after, history_after}
@@ -77,6 +77,14 @@ module _ (world next : World) (number : ℕ) where
     kept = ap (λ (w : World). kept_of (clone_at w number)) (sym same);
     made = ap (λ (w : World). w.history) (sym same);
     others = λ other differs. ap (λ (w : World). kept_of (clone_at w other)) same;
+  }
+
+  -- nor to a world in which more was said
+  told_leads : next.clones ≡ world.clones → next.history ≡ world.history → Leads world number [] next
+  told_leads clones history = record {
+    kept = ap (λ (cs : List Clone). kept_of (get_or cs number Absent)) (sym clones);
+    made = sym history;
+    others = λ other differs. ap (λ (cs : List Clone). kept_of (get_or cs other Absent)) clones;
   }
 
   -- an answer that changes nothing, and has no steps, leads to such a world
@@ -177,6 +185,12 @@ module _ (world next : World) (number : ℕ) where
       subst (λ (r : Reply). Leads world number (giving_steps r) next) (sym told)
       (changed_leads (giving_steps (Answer ((length world.messages + 1) ∷ []))) (Live stored held) (Live (left_half stored) held) inside is (ap (λ (w : World). w.clones) same) refl (ap (λ (w : World). w.history) (sym same)))
 
+  -- one that is asked for what another lacks leads there by none
+  wants_taken_lead : (dots : List Range) (stored : Stored) (reply : Reply) → TakesWant world dots stored reply next → Leads world number [] next
+  wants_taken_lead dots stored reply (lacks_nothing known none p) = same_leads p.1
+  wants_taken_lead dots stored reply (sends_ranges ranges known drops some told same) =
+      told_leads (ap (λ (w : World). w.clones) same) (ap (λ (w : World). w.history) same)
+
   -- one who asks and takes a leaf leads there by creating what it keeps
   adopts_lead : (id : ℕ) (path : List ℕ) (dots : List Range) (reply : Reply) → number < length world.clones → clone_at world number ≡ Asking
       → TakesLeaf world number id path dots reply next → Leads world number (joining_steps path dots reply) next
@@ -200,6 +214,7 @@ module _ (world next : World) (number : ℕ) where
   live_takes_lead : (message : Message) (stored : Stored) (held : List Range) (reply : Reply) → number < length world.clones → clone_at world number ≡ Live stored held
       → LiveTakes world number message stored held reply next → Leads world number (message_steps message reply) next
   live_takes_lead (RangeOf range) stored held reply inside is p = receives_lead stored held range reply inside is p
+  live_takes_lead (Want dots) stored held reply inside is p = wants_taken_lead dots stored reply p
   live_takes_lead (JoinAsk id) stored held reply inside is p = gives_lead stored held id reply inside is p
   live_takes_lead (JoinGive id path dots) stored held reply inside is p = answered_leads (joining_steps path dots) Ignored reply refl p
   live_takes_lead message stored held reply inside is p = absurd p
@@ -234,6 +249,14 @@ module _ (world next : World) (number : ℕ) where
   joins_lead clone reply inside is =
       by_state (Leads world number [] next) clone _ _ _ _ (λ state. asks_lead Absent reply inside (is ∙ state) refl)
       (λ state. asks_lead Asking reply inside (is ∙ state) refl) (λ p. same_leads p.1) (λ stored held live p. same_leads p.1)
+
+  -- ---- asking for what is lacked
+
+  -- a clone that asks for what it lacks leads there by none
+  wants_lead : (clone : Clone) (reply : Reply) → Wants world clone reply next → Leads world number [] next
+  wants_lead clone reply =
+      if_live (Leads world number [] next) world clone reply next _ (λ answer state p. same_leads p.1)
+      (λ stored held live p. told_leads (ap (λ (w : World). w.clones) p.1) (ap (λ (w : World). w.history) p.1))
 
   -- ---- stopping and opening
 
@@ -280,6 +303,8 @@ durable_steps_lead world (Show number) reply next small count p =
     leads_durably world (Show number) reply next [] refl (same_leads world next number (lists_same world (clone_at world number) reply next p))
 durable_steps_lead world (Join number) reply next small count p =
     leads_durably world (Join number) reply next [] refl (joins_lead world next number (clone_at world number) reply (place_of world number small count) refl p)
+durable_steps_lead world (Ask number) reply next small count p =
+    leads_durably world (Ask number) reply next [] refl (wants_lead world next number (clone_at world number) reply p)
 durable_steps_lead world (Stop number) reply next small count p =
     leads_durably world (Stop number) reply next [] refl (stops_lead world next number (clone_at world number) reply (place_of world number small count) refl p)
 durable_steps_lead world (Open number) reply next small count p =
@@ -312,6 +337,7 @@ one_durable_list world (Remove number triple) reply next steps other p q = makes
 one_durable_list world (Deliver message number) reply next steps other p q = delivers_once (message_at world message) reply steps other p q
 one_durable_list world (Show number) reply next steps other p q = p ∙ sym q
 one_durable_list world (Join number) reply next steps other p q = p ∙ sym q
+one_durable_list world (Ask number) reply next steps other p q = p ∙ sym q
 one_durable_list world (Stop number) reply next steps other p q = p ∙ sym q
 one_durable_list world (Open number) reply next steps other p q = p ∙ sym q
 one_durable_list world (Compare number second) reply next steps other p q = p ∙ sym q

@@ -3,6 +3,7 @@ pub mod WorldLaws
 pub mod JoinLaws
 pub mod ChangesLaws
 pub mod StopLaws
+pub mod AskLaws
 pub mod ScheduleLaws
 pub mod StepLaws
 pub mod RunsLaws

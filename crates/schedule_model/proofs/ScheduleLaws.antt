@@ -10,7 +10,7 @@ use Rattle.rdf_terms.specs.Grammar.{SpellsTriple}
 use Rattle.schedule_model.specs.Characters.{space, hash_mark}
 use Rattle.mld_model.specs.World.{clone_count}
 use Rattle.schedule_model.specs.declared.Command.{Command}
-use Rattle.schedule_model.specs.declared.Command.TheVariants.{Add, Remove, Deliver, Show, Compare, Join, Stop, Open}
+use Rattle.schedule_model.specs.declared.Command.TheVariants.{Add, Remove, Deliver, Show, Compare, Join, Ask, Stop, Open}
 use Rattle.schedule_model.specs.Schedule.{IsNothing, empty, comment, is_unbuilt, Setup, SpellsSetup, SpellsCommand}
 use Rattle.schedule_model.proofs.LackingLaws.{Lacks, Lacks-from_test, one_split, apart, no_space}
 use Rattle.rdf_terms.proofs.Complete.{one_spelled}
@@ -38,6 +38,7 @@ begins (Remove number triple) = 114
 begins (Deliver message number) = 100
 begins (Show number) = 115
 begins (Join number) = 106
+begins (Ask number) = 97
 begins (Stop number) = 115
 begins (Open number) = 111
 begins (Compare number other) = 99
@@ -50,6 +51,7 @@ command_begins line (Remove number triple) h = (_, h.1)
 command_begins line (Deliver message number) h = (_, h.0)
 command_begins line (Show number) h = (_, h.0)
 command_begins line (Join number) h = (_, h.0)
+command_begins line (Ask number) h = (_, h.0)
 command_begins line (Stop number) h = (_, h.0)
 command_begins line (Open number) h = (_, h.0)
 command_begins line (Compare number other) h = (_, h.0)
@@ -62,6 +64,7 @@ begins_apart (Remove number triple) = refl
 begins_apart (Deliver message number) = refl
 begins_apart (Show number) = refl
 begins_apart (Join number) = refl
+begins_apart (Ask number) = refl
 begins_apart (Stop number) = refl
 begins_apart (Open number) = refl
 begins_apart (Compare number other) = refl
@@ -79,6 +82,7 @@ spells_numbers line (Remove number triple) h = h.2
 spells_numbers line (Deliver message number) h = h.2
 spells_numbers line (Show number) h = h.1
 spells_numbers line (Join number) h = h.1
+spells_numbers line (Ask number) h = h.1
 spells_numbers line (Stop number) h = h.1
 spells_numbers line (Open number) h = h.1
 spells_numbers line (Compare number other) h = (h.1, h.2)
@@ -117,6 +121,7 @@ unbuilt_command line (Remove number triple) u h = false≢true (subst (λ (l : L
 unbuilt_command line (Deliver message number) u h = false≢true (subst (λ (l : List ℕ). is_unbuilt l ≡ true) h.0 u)
 unbuilt_command line (Show number) u h = false≢true (subst (λ (l : List ℕ). is_unbuilt l ≡ true) h.0 u)
 unbuilt_command line (Join number) u h = false≢true (subst (λ (l : List ℕ). is_unbuilt l ≡ true) h.0 u)
+unbuilt_command line (Ask number) u h = false≢true (subst (λ (l : List ℕ). is_unbuilt l ≡ true) h.0 u)
 unbuilt_command line (Stop number) u h = false≢true (subst (λ (l : List ℕ). is_unbuilt l ≡ true) h.0 u)
 unbuilt_command line (Open number) u h = false≢true (subst (λ (l : List ℕ). is_unbuilt l ≡ true) h.0 u)
 unbuilt_command line (Compare number other) u h = false≢true (subst (λ (l : List ℕ). is_unbuilt l ≡ true) h.0 u)
@@ -130,6 +135,7 @@ setup_command line setup (Remove number triple) p q = apart p.whole q.1 refl
 setup_command line setup (Deliver message number) p q = apart (ap (drop 1) p.whole) (ap (drop 1) q.0) refl
 setup_command line setup (Show number) p q = apart p.whole q.0 refl
 setup_command line setup (Join number) p q = apart p.whole q.0 refl
+setup_command line setup (Ask number) p q = apart p.whole q.0 refl
 setup_command line setup (Stop number) p q = apart p.whole q.0 refl
 setup_command line setup (Open number) p q = apart p.whole q.0 refl
 setup_command line setup (Compare number other) p q = apart p.whole q.0 refl
@@ -178,6 +184,10 @@ one_command line (Show number) (Show other) p q =
     ap Show (decimal_injective number other (small p.1) (small q.1) (ap (drop 5) (sym p.0 ∙ q.0)))
 one_command line (Join number) (Join other) p q =
     ap Join (decimal_injective number other (small p.1) (small q.1) (ap (drop 5) (sym p.0 ∙ q.0)))
+one_command line (Ask number) (Ask other) p q =
+    ap Ask (decimal_injective number other (small p.1) (small q.1) (ap (drop 4) (sym p.0 ∙ q.0)))
+one_command line (Add number triple) (Ask other) p q = absurd (apart (ap (drop 1) p.1) (ap (drop 1) q.0) refl)
+one_command line (Ask number) (Add other triple) p q = absurd (apart (ap (drop 1) p.0) (ap (drop 1) q.1) refl)
 one_command line (Stop number) (Stop other) p q =
     ap Stop (decimal_injective number other (small p.1) (small q.1) (ap (drop 5) (sym p.0 ∙ q.0)))
 one_command line (Open number) (Open other) p q =

@@ -1,5 +1,6 @@
 -- A step of the world has one outcome.
-use Rattle.std.specs.Prelude.{◌≡◌, ℕ, ◌+◌, ◌<◌, List, [], ◌∷◌, length, Option, Some, None, MatchOption}
+use Rattle.std.specs.Prelude.{◌≡◌, ℕ, ◌+◌, ◌<◌, List, [], ◌∷◌, ◌++◌, length, map, Option, Some, None, MatchOption}
+use Rattle.std.specs.List.{range_with_len}
 use Rattle.std.proofs.Common.{sym, ◌∙◌, ap, arith, inl, inr, subst}
 use Rattle.std.proofs.lemmas.Bool.{cases_order}
 use Rattle.rdf_terms.specs.declared.terms.Triple.{Triple}
@@ -11,11 +12,12 @@ use Rattle.mld_ops.specs.Tagged.{tagged_cmp}
 use Rattle.mld_ops.proofs.TaggedLaws.{tagged_total, tagged_exact}
 use Rattle.mld_ops.proofs.AscendingLaws.{same_ascending}
 use Rattle.mld_ops.proofs.MeaningLaws.{one_meaning}
-use Rattle.schedule_model.specs.declared.Command.TheVariants.{Add, Remove, Deliver, Show, Compare, Join, Stop, Open}
-use Rattle.mld_model.specs.Clone.{Clone, Live, Stored, known_of, with_range}
-use Rattle.mld_model.specs.World.{World, Message, RangeOf, JoinAsk, JoinGive, message_at, clone_at, with_clone}
-use Rattle.mld_model.specs.Reply.{Reply, Did, Took, Shows, NoMessage}
-use Rattle.mld_model.specs.CloneStep.{Answers, IsNextTick, after_operation, Makes, Adds, ArePairsOf, Deletes, finds_none, deletes_all, Removes, Accepts, HoldsBack, holds_already, holds_too_many, holds_from_now, TakesRange, knows_already, accepts, holds_back, Joins, TakesAsk, asked_itself, is_too_deep, forks, TakesLeaf, becomes_live, leaves_it, AskerTakes, LiveTakes, Takes, Stops, Lists, Compares, same_dots, fewer_dots, more_dots, dots_apart, ComparesWith, Weighs}
+use Rattle.schedule_model.specs.declared.Command.TheVariants.{Add, Remove, Deliver, Show, Compare, Join, Ask, Stop, Open}
+use Rattle.mld_ops.proofs.PickingLaws.{drops_one}
+use Rattle.mld_model.specs.Clone.{Clone, Live, Stored, known_of, with_range, IsKnown}
+use Rattle.mld_model.specs.World.{World, Message, RangeOf, Want, JoinAsk, JoinGive, message_at, clone_at, with_clone}
+use Rattle.mld_model.specs.Reply.{Reply, Did, Took, Shows, Answer, NoMessage}
+use Rattle.mld_model.specs.CloneStep.{Answers, IsNextTick, after_operation, Makes, Adds, ArePairsOf, Deletes, finds_none, deletes_all, Removes, Accepts, HoldsBack, holds_already, holds_too_many, holds_from_now, TakesRange, knows_already, accepts, holds_back, Joins, TakesAsk, asked_itself, is_too_deep, forks, TakesLeaf, becomes_live, leaves_it, AskerTakes, LiveTakes, Takes, Stops, Lists, Compares, same_dots, fewer_dots, more_dots, dots_apart, ComparesWith, Weighs, TakesWant, lacks_nothing, sends_ranges, Wants}
 use Rattle.mld_model.proofs.StateLaws.{by_one_state, AreSame, answers_once, once_if_live, opens_once}
 use Rattle.schedule_model.specs.Step.{Step}
 use Rattle.mld_model.proofs.ReleaseLaws.{releases_once}
@@ -174,6 +176,20 @@ module _ (world : World) (number : ℕ) (reply other : Reply) (next after : Worl
   adopts_once id path dots (leaves_it differs p) (becomes_live own told is) = absurd (differs own)
   adopts_once id path dots (leaves_it differs p) (leaves_it too q) = answers_once p q
 
+  -- what one lacks is told in one way
+  wants_taken_once : (dots : List Range) (stored : Stored) → TakesWant world dots stored reply next → TakesWant world dots stored other after
+      → AreSame reply next other after
+  wants_taken_once dots stored (lacks_nothing known none p) (lacks_nothing too nothing q) = answers_once p q
+  wants_taken_once dots stored (lacks_nothing known none p) (sends_ranges ranges too drops some told is) =
+      absurd (some (drops_one (IsKnown dots) stored.journal ranges [] drops none))
+  wants_taken_once dots stored (sends_ranges ranges known drops some told is) (lacks_nothing too none q) =
+      absurd (some (drops_one (IsKnown dots) stored.journal ranges [] drops none))
+  wants_taken_once dots stored (sends_ranges ranges known drops some told is) (sends_ranges others too left more said was) =
+      let same : ranges ≡ others = drops_one (IsKnown dots) stored.journal ranges others drops left in (
+        told ∙ ap (λ (rs : List Range). Answer (range_with_len (length world.messages + 1) (length rs))) same ∙ sym said,
+        is ∙ ap (λ (rs : List Range). record world { messages = world.messages ++ map RangeOf rs }) same ∙ sym was,
+      )
+
   -- a message that comes to a clone that asks has one outcome
   asker_takes_once : (message : Message) → AskerTakes world number message reply next → AskerTakes world number message other after → AreSame reply next other after
   asker_takes_once (JoinGive id path dots) p q = adopts_once id path dots p q
@@ -183,6 +199,7 @@ module _ (world : World) (number : ℕ) (reply other : Reply) (next after : Worl
   live_takes_once : (message : Message) (stored : Stored) (held : List Range) → LiveTakes world number message stored held reply next
       → LiveTakes world number message stored held other after → AreSame reply next other after
   live_takes_once (RangeOf range) stored held p q = receives_once stored held range p q
+  live_takes_once (Want dots) stored held p q = wants_taken_once dots stored p q
   live_takes_once (JoinAsk id) stored held p q = gives_once stored held id p q
   live_takes_once (JoinGive id path dots) stored held p q = answers_once p q
   live_takes_once message stored held p q = absurd p
@@ -193,6 +210,10 @@ module _ (world : World) (number : ℕ) (reply other : Reply) (next after : Worl
   takes_once message clone =
       by_one_state (AreSame reply next other after) clone _ _ _ _ _ _ _ _ (λ p q. answers_once p q) (asker_takes_once message) (λ p q. answers_once p q)
       (live_takes_once message)
+
+  -- a clone that asks for what it lacks has one outcome
+  asks_once : (clone : Clone) → Wants world clone reply next → Wants world clone other after → AreSame reply next other after
+  asks_once clone = once_if_live world clone reply other next after _ _ (λ stored held p q. (p.0 ∙ sym q.0, p.1 ∙ sym q.1))
 
   -- a clone that is told to stop has one outcome
   stops_once : (clone : Clone) → Stops world number clone reply next → Stops world number clone other after → AreSame reply next other after
@@ -213,6 +234,7 @@ one_step world (Remove number triple) reply other next after p q = removes_once 
 one_step world (Deliver message number) reply other next after p q = delivers_once world number reply other next after (message_at world message) p q
 one_step world (Show number) reply other next after p q = lists_once world (clone_at world number) reply other next after p q
 one_step world (Join number) reply other next after p q = joins_once world number reply other next after (clone_at world number) p q
+one_step world (Ask number) reply other next after p q = asks_once world number reply other next after (clone_at world number) p q
 one_step world (Stop number) reply other next after p q = stops_once world number reply other next after (clone_at world number) p q
 one_step world (Open number) reply other next after p q = opens_once world number (clone_at world number) reply other next after p q
 one_step world (Compare number second) reply other next after p q =

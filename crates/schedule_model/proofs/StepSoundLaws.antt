@@ -7,17 +7,20 @@ use Rattle.tree_clock.specs.Lists.{Has}
 use Rattle.mld_ops.specs.declared.tagged.Tagged.{Tagged}
 use Rattle.mld_ops.specs.Meaning.{IsMeaning}
 use Rattle.mld_ops.proofs.MeaningLaws.{one_meaning, same_known}
-use Rattle.schedule_model.specs.declared.Command.TheVariants.{Add, Remove, Deliver, Show, Compare, Join, Stop, Open}
-use Rattle.mld_model.specs.Clone.{Clone, Absent, Asking, Live, Stored, known_of}
-use Rattle.mld_model.specs.World.{World, Message, RangeOf, JoinAsk, JoinGive, message_at, clone_count, clone_at}
+use Rattle.schedule_model.specs.declared.Command.TheVariants.{Add, Remove, Deliver, Show, Compare, Join, Ask, Stop, Open}
+use Rattle.mld_model.specs.Clone.{Clone, Absent, Asking, Live, Stored, known_of, IsKnown}
+use Rattle.mld_model.specs.World.{World, Message, RangeOf, Want, JoinAsk, JoinGive, message_at, clone_count, clone_at}
 use Rattle.mld_model.specs.Reply.{Reply, NoMessage}
-use Rattle.mld_model.specs.CloneStep.{Answers, Makes, Adds, ArePairsOf, Deletes, finds_none, deletes_all, Removes, holds_already, holds_too_many, holds_from_now, TakesRange, knows_already, accepts, holds_back, Asks, Joins, TakesAsk, asked_itself, is_too_deep, forks, TakesLeaf, becomes_live, leaves_it, AskerTakes, LiveTakes, Takes, Stops, Reopens, Lists, ComparesWith, Weighs}
+use Rattle.mld_model.specs.CloneStep.{Answers, Makes, Adds, ArePairsOf, Deletes, finds_none, deletes_all, Removes, holds_already, holds_too_many, holds_from_now, TakesRange, knows_already, accepts, holds_back, Asks, Joins, TakesAsk, asked_itself, is_too_deep, forks, TakesLeaf, becomes_live, leaves_it, AskerTakes, LiveTakes, Takes, Stops, Reopens, Lists, ComparesWith, Weighs, TakesWant, lacks_nothing, sends_ranges, Wants}
 use Rattle.mld_model.proofs.StateLaws.{by_state, if_live, if_opens}
 use Rattle.schedule_model.specs.Step.{Step}
 use Rattle.schedule_model.specs.Runs.{Stage, Waiting, SetUp, Running, IsWorldOf, Commands, Acts, says_nothing, sets_up, commands, Runs}
 use Rattle.mld_model.specs.Sound.{Keeps, IsSound}
 use Rattle.mld_model.proofs.LeafLaws.{apart_differ}
-use Rattle.mld_model.proofs.SoundLaws.{made_sound, taken_sound, holding_sound}
+use Rattle.mld_ops.proofs.PickingLaws.{kept_members}
+use Rattle.mld_model.proofs.JournalLaws.{journal_done}
+use Rattle.mld_model.proofs.SoundLaws.{made_sound, taken_sound, holding_sound, live_sound}
+use Rattle.mld_model.proofs.SendingLaws.{wanted_sound, ranges_sent_sound}
 use Rattle.mld_model.proofs.StoredLaws.{stopped_sound, opened_sound, opened_empty_sound}
 use Rattle.mld_model.proofs.JoiningLaws.{asked_sound, forked_sound, stands_at, joined_sound, place_of_message}
 use Rattle.schedule_model.proofs.ScheduleLaws.{spells_numbers}
@@ -83,6 +86,15 @@ module _ (world next : World) (reply : Reply) (sound : IsSound world) where
   gives_sound number stored held id is sent (forks differs room told same) =
       subst IsSound (sym same) (forked_sound world number stored held sound is id (sound.messages (JoinAsk id) sent))
 
+  -- and so does one that is asked for what another lacks
+  wants_taken_sound : (number : ℕ) (dots : List Range) (stored : Stored) (held : List Range) → clone_at world number ≡ Live stored held
+      → TakesWant world dots stored reply next → IsSound next
+  wants_taken_sound number dots stored held is (lacks_nothing known none p) = same_sound world next sound p.1
+  wants_taken_sound number dots stored held is (sends_ranges ranges known drops some told same) =
+      subst IsSound (sym same) (ranges_sent_sound ranges world sound (λ range h.
+      journal_done world.history stored.base stored.journal (live_sound world number stored held sound is).journal range
+      (kept_members (IsKnown dots) stored.journal ranges drops range h)))
+
   -- and a leaf that comes to a clone that asks
   adopts_sound : (number place id : ℕ) (path : List ℕ) (dots : List Range) → clone_at world number ≡ Asking → slice_get world.messages place ≡ Some (JoinGive id path dots)
       → TakesLeaf world number id path dots reply next → IsSound next
@@ -101,6 +113,7 @@ module _ (world next : World) (reply : Reply) (sound : IsSound world) where
   live_takes_sound : (number : ℕ) (message : Message) (stored : Stored) (held : List Range) → clone_at world number ≡ Live stored held
       → (sent : (place : ℕ) × (slice_get world.messages place ≡ Some message)) → LiveTakes world number message stored held reply next → IsSound next
   live_takes_sound number (RangeOf range) stored held is sent p = receives_sound number stored held range is (stands_at world.messages sent.0 (RangeOf range) sent.1) p
+  live_takes_sound number (Want dots) stored held is sent p = wants_taken_sound number dots stored held is p
   live_takes_sound number (JoinAsk id) stored held is sent p = gives_sound number stored held id is (stands_at world.messages sent.0 (JoinAsk id) sent.1) p
   live_takes_sound number (JoinGive id path dots) stored held is sent p = same_sound world next sound p.1
   live_takes_sound number message stored held is sent p = absurd p
@@ -118,6 +131,12 @@ module _ (world next : World) (reply : Reply) (sound : IsSound world) where
   delivers_sound number None has p = same_sound world next sound p.1
   delivers_sound number (Some message) has p =
       takes_sound number message (clone_at world number) refl (has message refl) p
+
+  -- a clone that asks for what it lacks leads to a sound world
+  wants_sound : (number : ℕ) (clone : Clone) → clone_at world number ≡ clone → Wants world clone reply next → IsSound next
+  wants_sound number clone is =
+      if_live (IsSound next) world clone reply next _ (λ answer state p. same_sound world next sound p.1)
+      (λ stored held live p. subst IsSound (sym p.1) (wanted_sound world number stored held sound (is ∙ live)))
 
   -- a clone that is told to stop leads to a sound world
   stops_sound : (number : ℕ) (clone : Clone) → clone_at world number ≡ clone → Stops world number clone reply next → IsSound next
@@ -153,6 +172,7 @@ step_sound world (Remove number triple) reply next small sound p = removes_sound
 step_sound world (Deliver message number) reply next small sound p = delivers_sound world next reply sound number (message_at world message) (place_of_message world message) p
 step_sound world (Show number) reply next small sound p = same_sound world next sound (lists_same world (clone_at world number) reply next p)
 step_sound world (Join number) reply next small sound p = joins_sound world next reply sound number (clone_at world number) small refl p
+step_sound world (Ask number) reply next small sound p = wants_sound world next reply sound number (clone_at world number) refl p
 step_sound world (Stop number) reply next small sound p = stops_sound world next reply sound number (clone_at world number) refl p
 step_sound world (Open number) reply next small sound p = opens_sound world next reply sound number (clone_at world number) refl p
 step_sound world (Compare number other) reply next small sound p =

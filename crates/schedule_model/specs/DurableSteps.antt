@@ -3,7 +3,7 @@ use Rattle.std.specs.Prelude.{◌≡◌, ◌≢◌, ℕ, List, [], ◌∷◌, ma
 use Rattle.tree_clock.specs.declared.dots.Range.{Range}
 use Rattle.mld_ops.specs.History.{Operation}
 use Rattle.schedule_model.specs.declared.Command.{Command}
-use Rattle.schedule_model.specs.declared.Command.TheVariants.{Add, Remove, Deliver, Show, Compare, Join, Stop, Open}
+use Rattle.schedule_model.specs.declared.Command.TheVariants.{Add, Remove, Deliver, Show, Compare, Join, Ask, Stop, Open}
 use Rattle.mld_model.specs.Clone.{kept_of}
 use Rattle.mld_model.specs.CloneStep.{joined_with}
 use Rattle.mld_model.specs.World.{World, Message, RangeOf, Want, SnapshotOf, JoinAsk, JoinGive, message_at, clone_at, clone_count}
@@ -37,7 +37,8 @@ abbrev pub joining_steps : List ℕ → List Range → Reply → List DurableSte
 joining_steps path dots (Joined leaf) = Creates (joined_with path dots) ∷ []
 joining_steps path dots reply = []
 
--- the steps of a clone that a message came to, by its reply; wants and snapshots are never sent yet
+-- the steps of a clone that a message came to, by its reply; it keeps what it kept where it answers a want, and snapshots are never
+-- sent yet
 abbrev pub message_steps : Message → Reply → List DurableStep
 message_steps (RangeOf range) reply = taking_steps reply
 message_steps (JoinAsk id) reply = giving_steps reply
@@ -53,6 +54,7 @@ DurableSteps world (Deliver message number) reply next steps =
     MatchOption (message_at world message) (steps ≡ []) (λ sent. steps ≡ message_steps sent reply)
 DurableSteps world (Show number) reply next steps = steps ≡ []
 DurableSteps world (Join number) reply next steps = steps ≡ []
+DurableSteps world (Ask number) reply next steps = steps ≡ []
 DurableSteps world (Stop number) reply next steps = steps ≡ []
 DurableSteps world (Open number) reply next steps = steps ≡ []
 DurableSteps world (Compare number other) reply next steps = steps ≡ []

@@ -1,7 +1,10 @@
 -- Runs of the model over lines, and the verdict on the lines of a schedule.
-use Rattle.std.specs.Prelude.{◌≡◌, ℕ, ◌+◌, List, [], ◌∷◌, ◌++◌, IsTrue, length}
+use Rattle.std.specs.Prelude.{◌≡◌, ℕ, ◌+◌, List, [], ◌∷◌, ◌++◌, ◌⊎◌, Some, IsTrue, length}
+use Rattle.tree_clock.specs.declared.dots.Range.{Range}
 use Rattle.schedule_model.specs.declared.Command.{Command}
-use Rattle.mld_model.specs.World.{World, founded}
+use Rattle.schedule_model.specs.declared.Command.TheVariants.{Deliver}
+use Rattle.mld_model.specs.Clone.{Live, Stored, AreKnownTo}
+use Rattle.mld_model.specs.World.{World, Want, message_at, clone_at, founded}
 use Rattle.mld_model.specs.Reply.{Reply, Ready}
 use Rattle.schedule_model.specs.ReplyText.{reply_text}
 use Rattle.schedule_model.specs.Step.{Step}
@@ -57,9 +60,27 @@ Runs stage [] text next = (text ≡ []) × (next ≡ stage)
 Runs stage (line ∷ lines) text next =
     (front : List ℕ) × (rest : List ℕ) × (middle : Stage) × Acts stage line front middle × Runs middle lines rest next × (text ≡ front ++ rest)
 
--- the line isn't built yet, whatever the stage is
+-- the line delivers to a live clone a want of one who lacks dots of the clone's base; what it lacks can't be told it by ranges alone
+pub record DeliversFromBehind (world : World) (line : List ℕ) : Type 0 where
+  pub message : ℕ
+  pub number : ℕ
+  pub spells : SpellsCommand line (Deliver message number)
+  pub dots : List Range
+  pub sent : message_at world message ≡ Some (Want dots)
+  pub stored : Stored
+  pub held : List Range
+  pub live : clone_at world number ≡ Live stored held
+  pub behind : ¬ AreKnownTo stored.base dots
+
+-- the line would have a clone of the world that runs send a snapshot
+abbrev pub WantsSnapshot : Stage → List ℕ → Type 0
+WantsSnapshot Waiting line = ⊥
+WantsSnapshot (SetUp setup) line = ⊥
+WantsSnapshot (Running world) line = DeliversFromBehind world line
+
+-- the line isn't built yet: by its first word, whatever the stage is, or since it would have a snapshot sent
 abbrev pub IsUnbuilt : Stage → List ℕ → Type 0
-IsUnbuilt stage line = IsTrue (is_unbuilt line)
+IsUnbuilt stage line = IsTrue (is_unbuilt line) ⊎ WantsSnapshot stage line
 
 -- the line spells none of what may come at this stage: a domain line while a schedule waits, and then a command
 abbrev pub SpellsNone : Stage → List ℕ → Type 0

@@ -1,8 +1,8 @@
 -- One step of the world: a command, its reply, and the world after it.
 use Rattle.std.specs.Prelude.{ℕ, ◌<◌, MatchOption}
 use Rattle.schedule_model.specs.declared.Command.{Command}
-use Rattle.schedule_model.specs.declared.Command.TheVariants.{Add, Remove, Deliver, Show, Compare, Join, Stop, Open}
-use Rattle.mld_model.specs.CloneStep.{Answers, Adds, Removes, Takes, Lists, Joins, Stops, Reopens, Weighs}
+use Rattle.schedule_model.specs.declared.Command.TheVariants.{Add, Remove, Deliver, Show, Compare, Join, Ask, Stop, Open}
+use Rattle.mld_model.specs.CloneStep.{Answers, Adds, Removes, Takes, Lists, Joins, Wants, Stops, Reopens, Weighs}
 use Rattle.mld_model.specs.World.{World, message_at, clone_at, clone_count}
 use Rattle.mld_model.specs.Reply.{Reply, NoMessage}
 
@@ -13,6 +13,7 @@ HasCloneNumbers (Remove number triple) = number < clone_count
 HasCloneNumbers (Deliver message number) = number < clone_count
 HasCloneNumbers (Show number) = number < clone_count
 HasCloneNumbers (Join number) = number < clone_count
+HasCloneNumbers (Ask number) = number < clone_count
 HasCloneNumbers (Stop number) = number < clone_count
 HasCloneNumbers (Open number) = number < clone_count
 HasCloneNumbers (Compare number other) = (number < clone_count) × (other < clone_count)
@@ -24,6 +25,7 @@ number_of_clone (Remove number triple) = number
 number_of_clone (Deliver message number) = number
 number_of_clone (Show number) = number
 number_of_clone (Join number) = number
+number_of_clone (Ask number) = number
 number_of_clone (Stop number) = number
 number_of_clone (Open number) = number
 number_of_clone (Compare number other) = number
@@ -36,6 +38,7 @@ Step world (Deliver message number) reply next =
     MatchOption (message_at world message) (Answers world NoMessage reply next) (λ sent. Takes world number sent (clone_at world number) reply next)
 Step world (Show number) reply next = Lists world (clone_at world number) reply next
 Step world (Join number) reply next = Joins world number (clone_at world number) reply next
+Step world (Ask number) reply next = Wants world (clone_at world number) reply next
 Step world (Stop number) reply next = Stops world number (clone_at world number) reply next
 Step world (Open number) reply next = Reopens world number (clone_at world number) reply next
 Step world (Compare number other) reply next = Weighs world (clone_at world number) (clone_at world other) reply next

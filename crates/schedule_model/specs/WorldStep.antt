@@ -1,5 +1,5 @@
 -- What a step of a running world has to do with the model.
-use Rattle.std.specs.Prelude.{◌≡◌, ℕ, ◌+◌, [], ◌∷◌, ◌++◌, ◌⊎◌, Option, slice_set}
+use Rattle.std.specs.Prelude.{◌≡◌, ℕ, ◌+◌, List, [], ◌∷◌, ◌++◌, ◌⊎◌, Option, slice_set}
 use Rattle.tree_clock.specs.declared.dots.Dot.{Dot}
 use Rattle.tree_clock.specs.Clock.{Covers}
 use Rattle.mld_ops.specs.Entry.{EntryValue}
@@ -33,6 +33,10 @@ stepped_telling running number state message =
 -- with another clone and the message of one more entry
 abbrev pub stepped_sending : RunningWorld → ℕ → CloneValue → EntryValue → RunningWorld
 stepped_sending running number clone entry = stepped_telling running number (states.Live clone) (CarriesEntry entry)
+
+-- with more messages
+abbrev pub stepped_saying : RunningWorld → List MessageValue → RunningWorld
+stepped_saying running messages = record running { messages = running.messages ++ messages; steps = running.steps + 1 }
 
 -- the message of a number, as it runs
 abbrev pub sent_message : RunningWorld → ℕ → Option MessageValue

@@ -26,6 +26,8 @@ pub enum Command {
     Compare(u8, u8),
     /// `join C`: clone C asks for a leaf.
     Join(u8),
+    /// `ask C`: clone C asks whoever gets its message for what it lacks.
+    Ask(u8),
     /// `stop C`: clone C stops, and forgets what it holds back.
     Stop(u8),
     /// `open C`: clone C, which is down, runs again with what its banks keep.

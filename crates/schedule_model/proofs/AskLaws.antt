@@ -1,0 +1,182 @@
+-- A running world where a clone asks for what it lacks, or tells who does, stands for what the model's step makes.
+use Rattle.std.proofs.Common.{◌≡◌, ◌≢◌, ℕ, ◌+◌, List, [], ◌∷◌, ◌++◌, ◌↔◌, refl, ap, arith, subst, length, map, Some}
+use Rattle.std.specs.Prelude.{slice_get}
+use Rattle.std.specs.List.{AllZip, range_with_len}
+use Rattle.tree_clock.specs.declared.dots.Dot.{Dot}
+use Rattle.tree_clock.specs.declared.dots.Range.{Range}
+use Rattle.tree_clock.specs.Dot.{Knows}
+use Rattle.tree_clock.specs.Clock.{Covers}
+use Rattle.mld_ops.specs.Entry.{EntryValue}
+use Rattle.mld_ops.specs.History.{Operation}
+use Rattle.mld_ops.specs.Messages.{MessageValue, CarriesEntry, CarriesWant}
+use Rattle.mld_ops.specs.Picking.{DropsThose}
+use Rattle.mld_ops.specs.Ready.{IsKnownEntry}
+use Rattle.mld_ops.proofs.PickingLaws.{kept_members, pairs_drop}
+use Rattle.schedule_model.specs.declared.Command.TheVariants.{Deliver, Ask}
+use Rattle.mld_model.specs.declared.CloneState.TheVariants as states
+use Rattle.mld_model.specs.Clone.{Live, Stored, known_of, IsKnown, AreKnownTo}
+use Rattle.mld_model.specs.World.{World, Message, RangeOf, Want, message_at, clone_at}
+use Rattle.mld_model.specs.CloneStep.{lacks_nothing, sends_ranges}
+use Rattle.mld_model.specs.Reply.{Reply, Sent, Answer, NothingToSend}
+use Rattle.mld_model.specs.Sound.{IsSoundClone, IsSound}
+use Rattle.mld_model.specs.Local.{LocalClone, CloneValue, LocallyAnswersWant}
+use Rattle.mld_model.specs.StandsFor.{RunningClone, RunningWorld, EntryStandsFor, LocalStandsFor, MessageStandsFor, StandsFor}
+use Rattle.mld_model.proofs.StateLaws.{live_does}
+use Rattle.mld_model.proofs.JournalLaws.{journal_done}
+use Rattle.mld_model.proofs.SoundLaws.{live_sound}
+use Rattle.mld_model.proofs.SendingLaws.{wanted_sound, ranges_sent_sound}
+use Rattle.mld_model.proofs.LocalLaws.{kept_by, known_alike}
+use Rattle.mld_model.proofs.PairsLaws.{pairs_count, pairs_append}
+use Rattle.mld_model.proofs.StandsForLaws.{LiveAt, live_at, clone_stands_as}
+use Rattle.schedule_model.specs.Schedule.{SpellsCommand}
+use Rattle.schedule_model.specs.Step.{Step}
+use Rattle.schedule_model.specs.Runs.{DeliversFromBehind}
+use Rattle.schedule_model.specs.WorldStep.{stepped, stepped_saying, sent_message, Follows, IsMissingReply}
+use Rattle.schedule_model.proofs.WorldLaws.{stepped_stands, missing_replies, staying_follows, taking_follows, SentAs, sent_as}
+
+-- the want of the model that was sent as this one
+pub record SentWant (world : World) (ticks : List (List ℕ × ℕ)) (message : ℕ) : Type 0 where
+  pub dots : List Range
+  pub at : message_at world message ≡ Some (Want dots)
+  pub alike : (dot : Dot) → Covers ticks dot ↔ Knows dots dot
+
+want_from : (world : World) (ticks : List (List ℕ × ℕ)) (message : ℕ) (other : Message) → message_at world message ≡ Some other
+    → MessageStandsFor world.history (CarriesWant ticks) other → SentWant world ticks message
+want_from world ticks message (Want dots) at relates = record { dots = dots; at = at; alike = relates }
+want_from world ticks message other at relates = absurd relates
+
+-- entries that stand for ranges do so as messages
+entries_sent : (history : List Operation) (entries : List EntryValue) (ranges : List Range) → AllZip (EntryStandsFor history) entries ranges
+    → AllZip (MessageStandsFor history) (map CarriesEntry entries) (map RangeOf ranges)
+entries_sent history [] [] all = tt
+entries_sent history (entry ∷ entries) (range ∷ ranges) all = (all.0, entries_sent history entries ranges all.1)
+entries_sent history [] (range ∷ ranges) all = absurd all
+entries_sent history (entry ∷ entries) [] all = absurd all
+
+-- ranges for which some entries stand are some
+some_ranges : (history : List Operation) (entries : List EntryValue) (ranges : List Range) → AllZip (EntryStandsFor history) entries ranges → entries ≢ [] → ranges ≢ []
+some_ranges history [] ranges all some none = some refl
+some_ranges history (entry ∷ entries) [] all some none = all
+some_ranges history (entry ∷ entries) (range ∷ ranges) all some none = cc
+
+-- what a live clone answers to a want, in the model
+module _ (history : List Operation) (live : LocalClone) (stored : Stored) (held dots : List Range) (ticks : List (List ℕ × ℕ)) (entries : List EntryValue)
+    (stands : LocalStandsFor history live stored held) (alike : (dot : Dot) → Covers ticks dot ↔ Knows dots dot) where
+  base_known : ((dot : Dot) → Covers live.base dot → Covers ticks dot) → AreKnownTo stored.base dots
+  base_known within dot known = (alike dot).0 (within dot ((stands.kept.base dot).1 known))
+
+  ranges_left : DropsThose (IsKnownEntry ticks) live.entries entries
+      → (ranges : List Range) × DropsThose (IsKnown dots) stored.journal ranges × AllZip (EntryStandsFor history) entries ranges
+  ranges_left drops =
+      pairs_drop (EntryStandsFor history) (IsKnownEntry ticks) (IsKnown dots) (λ entry range net. known_alike history ticks dots alike range entry net)
+      live.entries stored.journal entries stands.kept.entries drops
+
+-- a running world that stands for a sound world
+module _ (running : RunningWorld) (world : World) (stands : StandsFor running world) (sound : IsSound world) where
+  -- it stands for the world with more messages
+  saying_stands : (messages : List MessageValue) (others : List Message) → AllZip (MessageStandsFor world.history) messages others
+      → StandsFor (stepped_saying running messages) (record world { messages = world.messages ++ others })
+  saying_stands messages others told = record {
+    domain = stands.domain;
+    properties = stands.properties;
+    count = stands.count;
+    clones = λ number state is.
+        clone_stands_as world (record world { messages = world.messages ++ others }) number state (clone_at world number) refl refl refl (stands.clones number state is);
+    messages = pairs_append (MessageStandsFor world.history) running.messages world.messages messages others stands.messages told;
+    ticks = λ operation h. omega (arith, stands.ticks operation h);
+  }
+
+  -- as many messages were sent as in the model
+  said_count : length running.messages ≡ length world.messages
+  said_count = pairs_count (MessageStandsFor world.history) running.messages world.messages stands.messages
+
+  -- ---- ask
+
+  -- a live clone asks for what it lacks
+  pub ask_follows : (number : ℕ) (live : CloneValue) → slice_get running.clones number ≡ Some (states.Live live)
+      → Follows world (Ask number) (Sent (length running.messages + 1)) (stepped_saying running (CarriesWant live.local.ticks ∷ []))
+  unfolding Step
+  ask_follows number live is =
+      let at : LiveAt world number live.local = live_at running world stands number live is in
+      let stored : Stored = kept_by live.local at.base at.journal in
+      let next : World = record world { messages = world.messages ++ Want (known_of stored) ∷ [] } in
+      record {
+        next = next;
+        steps = live_does world (clone_at world number) (Sent (length running.messages + 1)) next _ stored at.held at.live
+            (ap (λ n. Sent (n + 1)) said_count, refl {a = next});
+        sound = wanted_sound world number stored at.held sound at.live;
+        stands = saying_stands (CarriesWant live.local.ticks ∷ []) (Want (known_of stored) ∷ []) (at.stands.known, tt);
+      }
+
+  -- a clone that isn't live doesn't
+  pub ask_missing : (number : ℕ) (state : RunningClone) (reply : Reply)
+      → slice_get running.clones number ≡ Some state → IsMissingReply state reply → Follows world (Ask number) reply (stepped running)
+  unfolding Step
+  ask_missing number state reply is missing =
+      staying_follows running world stands sound (Ask number) reply
+      (missing_replies world number state (clone_at world number) reply _ missing (stands.clones number state is))
+
+  -- ---- a want comes
+
+  sent_want : (message : ℕ) (ticks : List (List ℕ × ℕ)) → sent_message running message ≡ Some (CarriesWant ticks) → SentWant world ticks message
+  sent_want message ticks is =
+      let s : SentAs world (CarriesWant ticks) message = sent_as running world stands message (CarriesWant ticks) is in
+      want_from world ticks message s.other s.at s.relates
+
+  -- a live clone has nothing to tell who sent it
+  pub want_nothing : (message number : ℕ) (ticks : List (List ℕ × ℕ)) (live : CloneValue)
+      → sent_message running message ≡ Some (CarriesWant ticks) → slice_get running.clones number ≡ Some (states.Live live) → LocallyAnswersWant live.local ticks []
+      → Follows world (Deliver message number) NothingToSend (stepped running)
+  want_nothing message number ticks live told is answers =
+      let s : SentWant world ticks message = sent_want message ticks told in
+      let at : LiveAt world number live.local = live_at running world stands number live is in
+      let stored : Stored = kept_by live.local at.base at.journal in
+      let left = ranges_left world.history live.local stored at.held s.dots ticks [] at.stands s.alike answers.unknown in
+      taking_follows (stepped running) world world message number (Want s.dots) (Live stored at.held) NothingToSend s.at at.live
+      (lacks_nothing (base_known world.history live.local stored at.held s.dots ticks [] at.stands s.alike answers.base)
+      (subst (λ (ranges : List Range). DropsThose (IsKnown s.dots) stored.journal ranges) (no_ranges left.0 left.2) left.1) (refl, refl))
+      sound (stepped_stands running world stands)
+    where
+      no_ranges : (ranges : List Range) → AllZip (EntryStandsFor world.history) [] ranges → ranges ≡ []
+      no_ranges [] all = refl
+      no_ranges (range ∷ ranges) all = absurd all
+
+  -- or it sends the entries that the other one lacks
+  pub want_answered : (message number : ℕ) (ticks : List (List ℕ × ℕ)) (live : CloneValue) (entries : List EntryValue)
+      → sent_message running message ≡ Some (CarriesWant ticks) → slice_get running.clones number ≡ Some (states.Live live)
+      → LocallyAnswersWant live.local ticks entries → entries ≢ []
+      → Follows world (Deliver message number) (Answer (range_with_len (length running.messages + 1) (length entries))) (stepped_saying running (map CarriesEntry entries))
+  want_answered message number ticks live entries told is answers some =
+      let s : SentWant world ticks message = sent_want message ticks told in
+      let at : LiveAt world number live.local = live_at running world stands number live is in
+      let stored : Stored = kept_by live.local at.base at.journal in
+      let left = ranges_left world.history live.local stored at.held s.dots ticks entries at.stands s.alike answers.unknown in
+      let whole : IsSoundClone world.history stored = live_sound world number stored at.held sound at.live in
+      let reply : Reply = Answer (range_with_len (length running.messages + 1) (length entries)) in
+      let next : World = record world { messages = world.messages ++ map RangeOf left.0 } in
+      taking_follows (stepped_saying running (map CarriesEntry entries)) world next message number (Want s.dots) (Live stored at.held) reply s.at at.live
+      (sends_ranges left.0 (base_known world.history live.local stored at.held s.dots ticks entries at.stands s.alike answers.base) left.1
+      (some_ranges world.history entries left.0 left.2 some)
+      (λ i. Answer (range_with_len (said_count i + 1) (pairs_count (EntryStandsFor world.history) entries left.0 left.2 i))) (refl {a = next}))
+      (ranges_sent_sound left.0 world sound (λ range h.
+      journal_done world.history at.base at.journal whole.journal range (kept_members (IsKnown s.dots) at.journal left.0 left.1 range h)))
+      (saying_stands (map CarriesEntry entries) (map RangeOf left.0) (entries_sent world.history entries left.0 left.2))
+
+  -- one who lacks dots of the base would have to be sent a snapshot
+  pub want_behind : (line : List ℕ) (message number : ℕ) (ticks : List (List ℕ × ℕ)) (live : CloneValue) → SpellsCommand line (Deliver message number)
+      → sent_message running message ≡ Some (CarriesWant ticks) → slice_get running.clones number ≡ Some (states.Live live)
+      → ¬ ((dot : Dot) → Covers live.local.base dot → Covers ticks dot) → DeliversFromBehind world line
+  want_behind line message number ticks live spells told is behind =
+      let s : SentWant world ticks message = sent_want message ticks told in
+      let at : LiveAt world number live.local = live_at running world stands number live is in
+      record {
+        message = message;
+        number = number;
+        spells = spells;
+        dots = s.dots;
+        sent = s.at;
+        stored = kept_by live.local at.base at.journal;
+        held = at.held;
+        live = at.live;
+        behind = λ known. behind (λ dot covered. (s.alike dot).1 (known dot ((at.stands.kept.base dot).0 covered)));
+      }
