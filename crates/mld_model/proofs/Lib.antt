@@ -5,6 +5,8 @@ pub mod ReleasedLaws
 pub mod StandsForLaws
 pub mod StoredLaws
 pub mod CompactedLaws
+pub mod CompactedJournals
+pub mod CompactedStands
 pub mod SendingLaws
 pub mod KnownLaws
 pub mod ReleaseLaws

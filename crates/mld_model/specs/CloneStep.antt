@@ -13,10 +13,11 @@ use Rattle.mld_ops.specs.History.{Operation, dot_at}
 use Rattle.mld_ops.specs.Effect.{range_of}
 use Rattle.mld_ops.specs.Meaning.{IsMeaning}
 use Rattle.mld_ops.specs.Picking.{DropsThose}
+use Rattle.op_fusion.specs.Compacting.{AreCompacted}
 use Rattle.mld_model.specs.Clone.{Clone, Absent, Asking, Empty, Down, Live, Stored, known_of, with_range, IsKnown, IsReady, IsHeldBack, AreKnownTo, Releases}
 use Rattle.mld_ops.specs.Held.{held_limit}
 use Rattle.mld_model.specs.World.{World, Message, RangeOf, Want, JoinAsk, JoinGive, with_clone}
-use Rattle.mld_model.specs.Reply.{Reply, Did, NoOperation, Took, Held, HeldFull, AlreadyKnown, Shows, Same, Less, More, Apart, Sent, Answer, NothingToSend, Joined, Deep, Ignored, IsAbsent, IsAsking, IsDown, IsLive, Stopped, Opened}
+use Rattle.mld_model.specs.Reply.{Reply, Did, NoOperation, Took, Held, HeldFull, AlreadyKnown, Shows, Same, Less, More, Apart, Sent, Answer, NothingToSend, Kept, Joined, Deep, Ignored, IsAbsent, IsAsking, IsDown, IsLive, Stopped, Opened}
 
 -- a reply that changes nothing
 abbrev pub Answers : World → Reply → Reply → World → Type 0
@@ -189,6 +190,12 @@ Reopens world number (Live stored held) reply next = Answers world IsLive reply 
 abbrev pub Wants : World → Clone → Reply → World → Type 0
 Wants world clone reply next = IfLive world clone reply next (λ stored held.
     (reply ≡ Sent (length world.messages + 1)) × (next ≡ record world { messages = world.messages ++ Want (known_of stored) ∷ [] }))
+
+-- a live clone compacts its journal
+abbrev pub Compacts : World → ℕ → Clone → Reply → World → Type 0
+Compacts world number clone reply next = IfLive world clone reply next (λ stored held.
+    (ranges : List Range) × AreCompacted stored.journal ranges × (reply ≡ Kept (length ranges))
+    × (next ≡ with_clone world number (Live (record stored { journal = ranges }) held)))
 
 -- the pairs of a clone: the meaning of the dots that it knows
 abbrev pub Lists : World → Clone → Reply → World → Type 0

@@ -19,6 +19,7 @@ use Rattle.mld_ops.specs.Picking.{HasNone, DropsThose, TakesFirst}
 use Rattle.mld_ops.specs.Ready.{last_dot, IsKnownEntry, IsReadyEntry}
 use Rattle.mld_ops.specs.Cut.{IsCutOf}
 use Rattle.mld_ops.specs.Held.{held_limit, ranges_of}
+use Rattle.op_fusion.specs.Compacting.{AreFusedRuns}
 
 -- a clone alone: its id, domain, single-valued properties and path; the clock and the pairs of its base; the entries of its
 -- journal; and those that it holds back, in order of arrival. Its own clock and pairs follow from these (`IsLocal`)
@@ -173,6 +174,11 @@ pub record LocallyForks (old : LocalClone) (id : List ℕ) (new : LocalClone) (g
   pub room : length old.path < path_limit
   pub left : new ≡ record old { path = old.path ++ zero_letter ∷ [] }
   pub right : give ≡ record { id = id; path = old.path ++ one_letter ∷ []; snapshot = snapshot_of old }
+
+-- the clone compacts its journal: its entries are those fused of the runs, and nothing else changes
+pub record LocallyCompacts (old new : LocalClone) : Type 0 where
+  pub fused : AreFusedRuns old.entries new.entries
+  pub rest : new ≡ record old { entries = new.entries }
 
 -- the clone answers who knows these ticks, among them all dots of its base: by the entries of its journal that aren't known by them
 pub record LocallyAnswersWant (clone : LocalClone) (ticks : List (List ℕ × ℕ)) (entries : List EntryValue) : Type 0 where

@@ -33,6 +33,8 @@ pub data Reply : Type 0 where
   Answer : List ℕ → Reply
   -- who asked lacks nothing of what the clone keeps in its journal
   NothingToSend : Reply
+  -- the journal was compacted, and so many ranges are kept in it
+  Kept : ℕ → Reply
   -- the clone is live at the path
   Joined : List ℕ → Reply
   -- the leaf is too deep to be forked

@@ -13,17 +13,18 @@ use Rattle.mld_ops.specs.History.{Operation, dot_at}
 use Rattle.mld_ops.specs.Meaning.{IsMeaning}
 use Rattle.mld_ops.specs.Effect.{range_of}
 use Rattle.mld_ops.proofs.OperationLaws.{range_of_has}
-use Rattle.schedule_model.specs.declared.Command.TheVariants.{Add, Remove, Deliver, Show, Compare, Join, Ask, Stop, Open}
+use Rattle.schedule_model.specs.declared.Command.TheVariants.{Add, Remove, Deliver, Show, Compare, Join, Ask, Compact, Stop, Open}
 use Rattle.mld_model.specs.Clone.{Clone, Absent, Asking, Down, Live, Stored, kept_of, known_of, with_range}
 use Rattle.mld_model.specs.World.{World, Message, RangeOf, Want, JoinAsk, JoinGive, message_at, clone_at, with_clone}
 use Rattle.mld_model.specs.Reply.{Reply, Did, NoMessage, IsAbsent, IsDown}
-use Rattle.mld_model.specs.CloneStep.{Answers, Makes, Adds, ArePairsOf, Deletes, finds_none, deletes_all, Removes, holds_already, holds_too_many, holds_from_now, TakesRange, knows_already, accepts, holds_back, Asks, Joins, left_half, TakesAsk, asked_itself, is_too_deep, forks, joined_with, TakesLeaf, becomes_live, leaves_it, AskerTakes, LiveTakes, Takes, Stops, Reopens, Lists, Compares, same_dots, fewer_dots, more_dots, dots_apart, ComparesWith, Weighs, TakesWant, lacks_nothing, sends_ranges, Wants}
+use Rattle.mld_model.specs.CloneStep.{Answers, Makes, Adds, ArePairsOf, Deletes, finds_none, deletes_all, Removes, holds_already, holds_too_many, holds_from_now, TakesRange, knows_already, accepts, holds_back, Asks, Joins, left_half, TakesAsk, asked_itself, is_too_deep, forks, joined_with, TakesLeaf, becomes_live, leaves_it, AskerTakes, LiveTakes, Takes, Stops, Reopens, Lists, Compares, same_dots, fewer_dots, more_dots, dots_apart, ComparesWith, Weighs, TakesWant, lacks_nothing, sends_ranges, Wants, Compacts}
 use Rattle.mld_model.proofs.StateLaws.{by_state, IsState, is_absent, is_asking, is_down, if_live, IsStanding, stands_absent, stands_asking, stands_live, if_opens}
 use Rattle.schedule_model.specs.Step.{Step}
 use Rattle.schedule_model.specs.Runs.{Stage, Waiting, SetUp, Running, Commands, Acts, says_nothing, commands, Runs}
 use Rattle.mld_model.specs.Sound.{Keeps}
 use Rattle.mld_model.proofs.LeafLaws.{place_of_clone}
 use Rattle.mld_model.proofs.StoredLaws.{kept_then}
+use Rattle.mld_model.proofs.CompactedJournals.{known_compacted}
 use Rattle.mld_model.proofs.ReleaseLaws.{releases_known}
 use Rattle.mld_model.proofs.KnownLaws.{known_with-old, known_with-new}
 use Rattle.schedule_model.proofs.StepSoundLaws.{lists_same, weighs_same}
@@ -195,6 +196,11 @@ module _ (world next : World) (dot : Dot) (message : ℕ) where
   wants_tell_none clone =
       if_live ⊥ world clone (Did dot message) next _ (λ answer state. state_tells_none answer state) (λ stored held live p. cc (p.0))
 
+  -- a `compact`
+  compacts_tell_none : (number : ℕ) (clone : Clone) → ¬ Compacts world number clone (Did dot message) next
+  compacts_tell_none number clone =
+      if_live ⊥ world clone (Did dot message) next _ (λ answer state. state_tells_none answer state) (λ stored held live p. cc (p.2))
+
   -- a `stop`
   stops_tell_none : (number : ℕ) (clone : Clone) → ¬ Stops world number clone (Did dot message) next
   stops_tell_none number clone =
@@ -240,6 +246,7 @@ did_remembers world (Deliver sent number) dot message next p = absurd (delivers_
 did_remembers world (Show number) dot message next p = absurd (lists_tell_none world next dot message (clone_at world number) p)
 did_remembers world (Join number) dot message next p = absurd (joins_tell_none world next dot message number (clone_at world number) p)
 did_remembers world (Ask number) dot message next p = absurd (wants_tell_none world next dot message (clone_at world number) p)
+did_remembers world (Compact number) dot message next p = absurd (compacts_tell_none world next dot message number (clone_at world number) p)
 did_remembers world (Stop number) dot message next p = absurd (stops_tell_none world next dot message number (clone_at world number) p)
 did_remembers world (Open number) dot message next p = absurd (opens_tell_none world next dot message number (clone_at world number) p)
 did_remembers world (Compare number other) dot message next p = absurd (weighs_tell_none world next dot message (clone_at world number) (clone_at world other) p)
@@ -396,6 +403,14 @@ module _ (world next : World) (number : ℕ) (operation : Operation) (remembers 
       if_live (Remembers next number operation) world clone reply next _ (λ answer state p. same_remembers p.1)
       (λ stored held live p. told_remembers (ap (λ (w : World). w.clones) p.1) (ap (λ (w : World). w.history) p.1))
 
+  -- where a clone compacts its journal: it knows what it knew
+  compacts_keep : (compacter : ℕ) (clone : Clone) (reply : Reply) → clone_at world compacter ≡ clone → Compacts world compacter clone reply next
+      → Remembers next number operation
+  compacts_keep compacter clone reply is =
+      if_live (Remembers next number operation) world clone reply next _ (λ answer state p. same_remembers p.1)
+      (λ stored held live p. grown_remembers compacter stored (record stored { journal = p.0 }) held held (is ∙ live) (ap (λ (w : World). w.clones) p.3)
+      (λ dot known. (known_compacted stored p.0 dot p.1).0 known) (λ other stands. subst (λ (w : World). Has w.history other) (sym p.3) stands))
+
   -- where a leaf comes to a clone that asks
   adopts_keep : (taker id : ℕ) (path : List ℕ) (dots : List Range) (reply : Reply) → clone_at world taker ≡ Asking → TakesLeaf world taker id path dots reply next
       → Remembers next number operation
@@ -447,6 +462,8 @@ step_remembers world number operation (Join asker) reply next remembers p =
     joins_keep world next number operation remembers asker (clone_at world asker) reply refl p
 step_remembers world number operation (Ask asker) reply next remembers p =
     wants_keep world next number operation remembers (clone_at world asker) reply p
+step_remembers world number operation (Compact compacter) reply next remembers p =
+    compacts_keep world next number operation remembers compacter (clone_at world compacter) reply refl p
 step_remembers world number operation (Stop stopper) reply next remembers p =
     stops_keep world next number operation remembers stopper (clone_at world stopper) reply refl p
 step_remembers world number operation (Open opener) reply next remembers p =

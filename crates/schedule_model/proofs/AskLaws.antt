@@ -1,38 +1,43 @@
--- A running world where a clone asks for what it lacks, or tells who does, stands for what the model's step makes.
-use Rattle.std.proofs.Common.{◌≡◌, ◌≢◌, ℕ, ◌+◌, List, [], ◌∷◌, ◌++◌, ◌↔◌, refl, ap, arith, subst, length, map, Some}
+-- A running world where a clone asks for what it lacks, tells who does, or compacts its journal stands for what the model's step makes.
+use Rattle.std.proofs.Common.{◌≡◌, ◌≢◌, ℕ, ◌+◌, List, [], ◌∷◌, ◌++◌, ◌↔◌, refl, sym, ap, arith, subst, length, map, Some}
 use Rattle.std.specs.Prelude.{slice_get}
 use Rattle.std.specs.List.{AllZip, range_with_len}
+use Rattle.std.proofs.lemmas.List.{length-map}
 use Rattle.tree_clock.specs.declared.dots.Dot.{Dot}
 use Rattle.tree_clock.specs.declared.dots.Range.{Range}
 use Rattle.tree_clock.specs.Dot.{Knows}
 use Rattle.tree_clock.specs.Clock.{Covers}
 use Rattle.mld_ops.specs.Entry.{EntryValue}
+use Rattle.mld_ops.specs.Held.{ranges_of}
 use Rattle.mld_ops.specs.History.{Operation}
 use Rattle.mld_ops.specs.Messages.{MessageValue, CarriesEntry, CarriesWant}
 use Rattle.mld_ops.specs.Picking.{DropsThose}
 use Rattle.mld_ops.specs.Ready.{IsKnownEntry}
 use Rattle.mld_ops.proofs.PickingLaws.{kept_members, pairs_drop}
-use Rattle.schedule_model.specs.declared.Command.TheVariants.{Deliver, Ask}
+use Rattle.op_fusion.specs.Compacting.{AreCompacted}
+use Rattle.schedule_model.specs.declared.Command.TheVariants.{Deliver, Ask, Compact}
 use Rattle.mld_model.specs.declared.CloneState.TheVariants as states
 use Rattle.mld_model.specs.Clone.{Live, Stored, known_of, IsKnown, AreKnownTo}
-use Rattle.mld_model.specs.World.{World, Message, RangeOf, Want, message_at, clone_at}
+use Rattle.mld_model.specs.World.{World, Message, RangeOf, Want, message_at, clone_at, with_clone}
 use Rattle.mld_model.specs.CloneStep.{lacks_nothing, sends_ranges}
-use Rattle.mld_model.specs.Reply.{Reply, Sent, Answer, NothingToSend}
+use Rattle.mld_model.specs.Reply.{Reply, Sent, Answer, NothingToSend, Kept}
 use Rattle.mld_model.specs.Sound.{IsSoundClone, IsSound}
-use Rattle.mld_model.specs.Local.{LocalClone, CloneValue, LocallyAnswersWant}
-use Rattle.mld_model.specs.StandsFor.{RunningClone, RunningWorld, EntryStandsFor, LocalStandsFor, MessageStandsFor, StandsFor}
+use Rattle.mld_model.specs.Local.{LocalClone, CloneValue, LocallyCompacts, LocallyAnswersWant}
+use Rattle.mld_model.specs.StandsFor.{RunningClone, RunningWorld, EntryStandsFor, LocalStandsFor, IsCloneOf, MessageStandsFor, StandsFor}
 use Rattle.mld_model.proofs.StateLaws.{live_does}
 use Rattle.mld_model.proofs.JournalLaws.{journal_done}
 use Rattle.mld_model.proofs.SoundLaws.{live_sound}
 use Rattle.mld_model.proofs.SendingLaws.{wanted_sound, ranges_sent_sound}
+use Rattle.mld_model.proofs.CompactedJournals.{compacted_sound}
+use Rattle.mld_model.proofs.CompactedStands.{journal_compacted, compacted_stands}
 use Rattle.mld_model.proofs.LocalLaws.{kept_by, known_alike}
 use Rattle.mld_model.proofs.PairsLaws.{pairs_count, pairs_append}
 use Rattle.mld_model.proofs.StandsForLaws.{LiveAt, live_at, clone_stands_as}
 use Rattle.schedule_model.specs.Schedule.{SpellsCommand}
 use Rattle.schedule_model.specs.Step.{Step}
 use Rattle.schedule_model.specs.Runs.{DeliversFromBehind}
-use Rattle.schedule_model.specs.WorldStep.{stepped, stepped_saying, sent_message, Follows, IsMissingReply}
-use Rattle.schedule_model.proofs.WorldLaws.{stepped_stands, missing_replies, staying_follows, taking_follows, SentAs, sent_as}
+use Rattle.schedule_model.specs.WorldStep.{stepped, stepped_with, stepped_saying, sent_message, Follows, IsMissingReply}
+use Rattle.schedule_model.proofs.WorldLaws.{stepped_stands, missing_replies, staying_follows, taking_follows, SentAs, sent_as, changed_stands}
 
 -- the want of the model that was sent as this one
 pub record SentWant (world : World) (ticks : List (List ℕ × ℕ)) (message : ℕ) : Type 0 where
@@ -180,3 +185,37 @@ module _ (running : RunningWorld) (world : World) (stands : StandsFor running wo
         live = at.live;
         behind = λ known. behind (λ dot covered. (s.alike dot).1 (known dot ((at.stands.kept.base dot).0 covered)));
       }
+
+  -- ---- compact
+
+  -- a live clone compacts its journal
+  pub compact_follows : (number : ℕ) (live new : CloneValue) → slice_get running.clones number ≡ Some (states.Live live) → LocallyCompacts live.local new.local
+      → Follows world (Compact number) (Kept (length new.local.entries)) (stepped_with running number new)
+  unfolding Step
+  compact_follows number live new is compacts =
+      let at : LiveAt world number live.local = live_at running world stands number live is in
+      let stored : Stored = kept_by live.local at.base at.journal in
+      let whole : IsSoundClone world.history stored = live_sound world number stored at.held sound at.live in
+      let ranges : List Range = ranges_of new.local.entries in
+      let compacted : AreCompacted stored.journal ranges =
+      journal_compacted world.history live.local new.local stored at.held sound.lawful whole at.stands compacts in
+      let next : World = with_clone world number (Live (record stored { journal = ranges }) at.held) in
+      let of : IsCloneOf world number (record live.local { entries = new.local.entries }) =
+      record { id = at.is.id; domain = at.is.domain; properties = at.is.properties } in
+      record {
+        next = next;
+        steps = live_does world (clone_at world number) (Kept (length new.local.entries)) next _ stored at.held at.live
+            (ranges, compacted, ap (λ n. Kept n) (sym (length-map new.local.entries (λ (entry : EntryValue). entry.range))), refl {a = next});
+        sound = compacted_sound world number stored at.held ranges sound at.live compacted;
+        stands = changed_stands running world stands sound number new (record stored { journal = ranges }) at.held
+            (subst (λ (clone : LocalClone). IsCloneOf world number clone) (sym compacts.rest) of)
+            (compacted_stands world.history live.local new.local stored at.held sound.lawful whole at.stands compacts);
+      }
+
+  -- a clone that isn't live doesn't
+  pub compact_missing : (number : ℕ) (state : RunningClone) (reply : Reply)
+      → slice_get running.clones number ≡ Some state → IsMissingReply state reply → Follows world (Compact number) reply (stepped running)
+  unfolding Step
+  compact_missing number state reply is missing =
+      staying_follows running world stands sound (Compact number) reply
+      (missing_replies world number state (clone_at world number) reply _ missing (stands.clones number state is))

@@ -11,14 +11,14 @@ use Rattle.mld_ops.specs.declared.tagged.Tagged.{Tagged}
 use Rattle.mld_ops.specs.History.{Operation, IsInserted, IsNext, dot_at}
 use Rattle.mld_ops.specs.Meaning.{IsMeaning}
 use Rattle.schedule_model.specs.declared.Command.{Command}
-use Rattle.schedule_model.specs.declared.Command.TheVariants.{Add, Remove, Deliver, Show, Compare, Join, Ask, Stop, Open}
+use Rattle.schedule_model.specs.declared.Command.TheVariants.{Add, Remove, Deliver, Show, Compare, Join, Ask, Compact, Stop, Open}
 use Rattle.mld_model.specs.Clone.{Clone, Absent, Asking, Down, Live, Stored, known_of}
 use Rattle.mld_model.specs.World.{World, Message, RangeOf, Want, JoinAsk, JoinGive, message_at, clone_at, with_clone}
 use Rattle.mld_model.specs.Local.{LocalStored}
 use Rattle.mld_model.specs.Reply.{Reply, NoMessage}
 use Rattle.mld_model.specs.Sound.{Keeps, IsSoundClone, IsSound}
 use Rattle.mld_model.specs.StandsFor.{StoredStandsFor}
-use Rattle.mld_model.specs.CloneStep.{Answers, Makes, Adds, ArePairsOf, Deletes, finds_none, deletes_all, Removes, holds_already, holds_too_many, holds_from_now, TakesRange, knows_already, accepts, holds_back, Asks, Joins, left_half, TakesAsk, asked_itself, is_too_deep, forks, joined_with, TakesLeaf, becomes_live, leaves_it, AskerTakes, LiveTakes, Takes, Stops, Reopens, TakesWant, lacks_nothing, sends_ranges, Wants}
+use Rattle.mld_model.specs.CloneStep.{Answers, Makes, Adds, ArePairsOf, Deletes, finds_none, deletes_all, Removes, holds_already, holds_too_many, holds_from_now, TakesRange, knows_already, accepts, holds_back, Asks, Joins, left_half, TakesAsk, asked_itself, is_too_deep, forks, joined_with, TakesLeaf, becomes_live, leaves_it, AskerTakes, LiveTakes, Takes, Stops, Reopens, TakesWant, lacks_nothing, sends_ranges, Wants, Compacts}
 use Rattle.mld_model.proofs.StateLaws.{by_state, if_live, if_opens}
 use Rattle.mld_model.proofs.SoundLaws.{made_is_next, live_sound}
 use Rattle.mld_model.proofs.StoredLaws.{stored_still_stands}
@@ -173,6 +173,12 @@ module _ (world next : World) (number : ℕ) where
   wants_change clone reply =
       if_live (Changes world next number) world clone reply next _ (λ answer state p. same_changes p.1) (λ stored held live p. told_changes _ p.1)
 
+  -- a `compact`
+  compacts_change : (clone : Clone) (reply : Reply) → Compacts world number clone reply next → Changes world next number
+  compacts_change clone reply =
+      if_live (Changes world next number) world clone reply next _ (λ answer state p. same_changes p.1)
+      (λ stored held live p. clone_changes (Live (record stored { journal = p.0 }) held) world.messages p.3)
+
   -- a `stop`
   stops_change : (clone : Clone) (reply : Reply) → Stops world number clone reply next → Changes world next number
   stops_change clone reply =
@@ -195,6 +201,7 @@ step_changes world (Deliver message number) reply next p = delivers_change world
 step_changes world (Show number) reply next p = same_changes world next number (lists_same world (clone_at world number) reply next p)
 step_changes world (Join number) reply next p = joins_change world next number (clone_at world number) reply p
 step_changes world (Ask number) reply next p = wants_change world next number (clone_at world number) reply p
+step_changes world (Compact number) reply next p = compacts_change world next number (clone_at world number) reply p
 step_changes world (Stop number) reply next p = stops_change world next number (clone_at world number) reply p
 step_changes world (Open number) reply next p = opens_change world next number (clone_at world number) reply p
 step_changes world (Compare number other) reply next p =

@@ -1,22 +1,24 @@
 -- The durable steps of a command lead to the next world.
 use Rattle.std.specs.Prelude.{◌≡◌, ◌≢◌, ℕ, ◌<◌, List, [], ◌∷◌, ◌++◌, ◌+◌, Option, Some, None, MatchOption, map, length}
-use Rattle.std.proofs.Common.{refl, sym, ◌∙◌, ap, arith, subst, get_or, set, append-nil, append_assoc}
+use Rattle.std.proofs.Common.{refl, sym, ◌∙◌, ap, arith, subst, inl, inr, get_or, set, append-nil, append_assoc}
 use Rattle.std.proofs.lemmas.List.{get_or-set_same, get_or-set_other}
 use Rattle.rdf_terms.specs.declared.terms.Triple.{Triple}
 use Rattle.tree_clock.specs.declared.dots.Range.{Range}
 use Rattle.mld_ops.specs.declared.tagged.Tagged.{Tagged}
 use Rattle.mld_ops.specs.History.{Operation, dot_at}
 use Rattle.schedule_model.specs.declared.Command.{Command}
-use Rattle.schedule_model.specs.declared.Command.TheVariants.{Add, Remove, Deliver, Show, Compare, Join, Ask, Stop, Open}
+use Rattle.schedule_model.specs.declared.Command.TheVariants.{Add, Remove, Deliver, Show, Compare, Join, Ask, Compact, Stop, Open}
 use Rattle.mld_model.specs.Clone.{Clone, Absent, Asking, Empty, Down, Live, Stored, known_of, with_range, Releases, kept_of}
-use Rattle.mld_model.specs.World.{World, Message, RangeOf, Want, JoinAsk, JoinGive, message_at, clone_count, clone_at}
+use Rattle.mld_model.specs.World.{World, Message, RangeOf, Want, JoinAsk, JoinGive, message_at, clone_count, clone_at, with_clone}
 use Rattle.mld_model.specs.Reply.{Reply, Did, Took, Answer, Joined, NoMessage, Ignored, IsAbsent, IsDown}
-use Rattle.mld_model.specs.CloneStep.{Answers, Makes, Adds, Deletes, finds_none, deletes_all, Removes, Accepts, HoldsBack, holds_already, holds_too_many, holds_from_now, TakesRange, knows_already, accepts, holds_back, Asks, Joins, left_half, TakesAsk, asked_itself, is_too_deep, forks, joined_with, TakesLeaf, becomes_live, leaves_it, AskerTakes, LiveTakes, Takes, Stops, Reopens, TakesWant, lacks_nothing, sends_ranges, Wants}
+use Rattle.mld_model.specs.CloneStep.{Answers, Makes, Adds, Deletes, finds_none, deletes_all, Removes, Accepts, HoldsBack, holds_already, holds_too_many, holds_from_now, TakesRange, knows_already, accepts, holds_back, Asks, Joins, left_half, TakesAsk, asked_itself, is_too_deep, forks, joined_with, TakesLeaf, becomes_live, leaves_it, AskerTakes, LiveTakes, Takes, Stops, Reopens, TakesWant, lacks_nothing, sends_ranges, Wants, Compacts}
 use Rattle.mld_model.proofs.StateLaws.{by_state, IsState, is_absent, is_asking, is_down, if_live, if_opens}
+use Rattle.op_fusion.specs.Compacting.{AreCompacted}
+use Rattle.mld_model.proofs.CompactedJournals.{compacted_shrinks}
 use Rattle.schedule_model.proofs.StepSoundLaws.{lists_same, weighs_same}
-use Rattle.mld_model.specs.Durable.{DurableStep, AppendsMade, AppendsTaken, kept_after, history_after}
+use Rattle.mld_model.specs.Durable.{DurableStep, AppendsMade, AppendsTaken, Swaps, kept_after, history_after}
 use Rattle.schedule_model.specs.Step.{Step, number_of_clone}
-use Rattle.schedule_model.specs.DurableSteps.{MakesDurably, taking_steps, giving_steps, joining_steps, message_steps, DurableSteps, LeadsDurably, DurableStepsLead, OneDurableList}
+use Rattle.schedule_model.specs.DurableSteps.{SwapsDurably, keeps_the_same, swaps_it, MakesDurably, taking_steps, giving_steps, joining_steps, message_steps, DurableSteps, LeadsDurably, DurableStepsLead, OneDurableList}
 
 -- ---- what durable steps lead to
 
@@ -66,6 +68,14 @@ quiet message answer takes gives joins = refl
 -- the durable steps of a `deliver` of this message, if there is one
 abbrev DeliversDurably : Option Message → Reply → List DurableStep → Type 0
 DeliversDurably sent reply steps = MatchOption sent (steps ≡ []) (λ message. steps ≡ message_steps message reply)
+
+-- there are durable steps of a compaction that lead to the next world
+abbrev SwapsAndLeads : World → World → ℕ → Type 0
+SwapsAndLeads world next number = (steps : List DurableStep) × SwapsDurably world next number steps × Leads world number steps next
+
+-- what is kept is one thing
+one_kept : (one other : Stored) → Some one ≡ Some other → one ≡ other
+one_kept one other same = cc
 
 -- ---- by the kind of command
 
@@ -250,13 +260,48 @@ module _ (world next : World) (number : ℕ) where
       by_state (Leads world number [] next) clone _ _ _ _ (λ state. asks_lead Absent reply inside (is ∙ state) refl)
       (λ state. asks_lead Asking reply inside (is ∙ state) refl) (λ p. same_leads p.1) (λ stored held live p. same_leads p.1)
 
-  -- ---- asking for what is lacked
+  -- ---- asking for what is lacked, and compacting
 
   -- a clone that asks for what it lacks leads there by none
   wants_lead : (clone : Clone) (reply : Reply) → Wants world clone reply next → Leads world number [] next
   wants_lead clone reply =
       if_live (Leads world number [] next) world clone reply next _ (λ answer state p. same_leads p.1)
       (λ stored held live p. told_leads (ap (λ (w : World). w.clones) p.1) (ap (λ (w : World). w.history) p.1))
+
+  -- a clone whose journal is compacted leads there by the swap of what it keeps, unless the journal stays as it is
+  compacted_leads : (stored : Stored) (held ranges : List Range) → number < length world.clones → clone_at world number ≡ Live stored held
+      → AreCompacted stored.journal ranges → next ≡ with_clone world number (Live (record stored { journal = ranges }) held)
+      → SwapsAndLeads world next number
+  compacted_leads stored held ranges inside is compacted same =
+      let now : Stored = record stored { journal = ranges } in
+      let kept : kept_of (clone_at world number) ≡ Some stored = ap kept_of is in
+      let kept_then : kept_of (clone_at next number) ≡ Some now =
+      ap (λ (w : World). kept_of (clone_at w number)) same ∙ ap kept_of (get_or-set_same world.clones number (Live now held) Absent inside) in
+      let clones : next.clones ≡ set world.clones number (Live now held) = ap (λ (w : World). w.clones) same in
+      let history : world.history ≡ next.history = ap (λ (w : World). w.history) (sym same) in
+      elim (compacted_shrinks stored.journal ranges compacted) [
+        | inl stays ↦
+            let as_it_was : now ≡ stored = λ i. record { path = stored.path; base = stored.base; journal = stays i } in (
+              [],
+              keeps_the_same (kept_then ∙ ap (λ (s : Stored). Some s) as_it_was ∙ sym kept) refl,
+              changed_leads [] (Live stored held) (Live now held) inside is clones (ap (λ (s : Stored). Some s) (sym as_it_was)) history,
+            )
+        | inr shorter ↦ (
+          Swaps now ∷ [],
+          swaps_it now kept_then (λ stays.
+              let as_it_was : now ≡ stored = one_kept now stored (sym kept_then ∙ stays ∙ kept) in
+              omega (arith, shorter, ap (λ (s : Stored). length s.journal) as_it_was)) refl,
+          changed_leads (Swaps now ∷ []) (Live stored held) (Live now held) inside is clones refl history,
+        )
+      ]
+
+  -- so one that compacts leads there by that step or by none
+  compacts_lead : (clone : Clone) (reply : Reply) → number < length world.clones → clone_at world number ≡ clone → Compacts world number clone reply next
+      → SwapsAndLeads world next number
+  compacts_lead clone reply inside is =
+      if_live (SwapsAndLeads world next number) world clone reply next _
+      (λ answer state p. ([], keeps_the_same (ap (λ (w : World). kept_of (clone_at w number)) p.1) refl, same_leads p.1))
+      (λ stored held live p. compacted_leads stored held p.0 inside (is ∙ live) p.1 p.3)
 
   -- ---- stopping and opening
 
@@ -305,6 +350,9 @@ durable_steps_lead world (Join number) reply next small count p =
     leads_durably world (Join number) reply next [] refl (joins_lead world next number (clone_at world number) reply (place_of world number small count) refl p)
 durable_steps_lead world (Ask number) reply next small count p =
     leads_durably world (Ask number) reply next [] refl (wants_lead world next number (clone_at world number) reply p)
+durable_steps_lead world (Compact number) reply next small count p =
+    let swapped = compacts_lead world next number (clone_at world number) reply (place_of world number small count) refl p in
+    leads_durably world (Compact number) reply next swapped.0 swapped.1 swapped.2
 durable_steps_lead world (Stop number) reply next small count p =
     leads_durably world (Stop number) reply next [] refl (stops_lead world next number (clone_at world number) reply (place_of world number small count) refl p)
 durable_steps_lead world (Open number) reply next small count p =
@@ -329,6 +377,15 @@ delivers_once : (sent : Option Message) (reply : Reply) (steps other : List Dura
 delivers_once None reply steps other p q = p ∙ sym q
 delivers_once (Some message) reply steps other p q = p ∙ sym q
 
+-- and those of a compaction
+swaps_once : (world next : World) (number : ℕ) (steps other : List DurableStep) → SwapsDurably world next number steps → SwapsDurably world next number other
+    → steps ≡ other
+swaps_once world next number steps other (keeps_the_same same p) (keeps_the_same too q) = p ∙ sym q
+swaps_once world next number steps other (keeps_the_same same p) (swaps_it stored kept differs q) = absurd (differs same)
+swaps_once world next number steps other (swaps_it stored kept differs p) (keeps_the_same same q) = absurd (differs same)
+swaps_once world next number steps other (swaps_it stored kept differs p) (swaps_it second too apart q) =
+    p ∙ ap (λ (s : Stored). Swaps s ∷ []) (one_kept stored second (sym kept ∙ too)) ∙ sym q
+
 -- the durable steps of a step are one list
 pub one_durable_list : OneDurableList
 unfolding DurableSteps
@@ -338,6 +395,7 @@ one_durable_list world (Deliver message number) reply next steps other p q = del
 one_durable_list world (Show number) reply next steps other p q = p ∙ sym q
 one_durable_list world (Join number) reply next steps other p q = p ∙ sym q
 one_durable_list world (Ask number) reply next steps other p q = p ∙ sym q
+one_durable_list world (Compact number) reply next steps other p q = swaps_once world next number steps other p q
 one_durable_list world (Stop number) reply next steps other p q = p ∙ sym q
 one_durable_list world (Open number) reply next steps other p q = p ∙ sym q
 one_durable_list world (Compare number second) reply next steps other p q = p ∙ sym q

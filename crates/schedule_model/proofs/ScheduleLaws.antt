@@ -10,7 +10,7 @@ use Rattle.rdf_terms.specs.Grammar.{SpellsTriple}
 use Rattle.schedule_model.specs.Characters.{space, hash_mark}
 use Rattle.mld_model.specs.World.{clone_count}
 use Rattle.schedule_model.specs.declared.Command.{Command}
-use Rattle.schedule_model.specs.declared.Command.TheVariants.{Add, Remove, Deliver, Show, Compare, Join, Ask, Stop, Open}
+use Rattle.schedule_model.specs.declared.Command.TheVariants.{Add, Remove, Deliver, Show, Compare, Join, Ask, Compact, Stop, Open}
 use Rattle.schedule_model.specs.Schedule.{IsNothing, empty, comment, is_unbuilt, Setup, SpellsSetup, SpellsCommand}
 use Rattle.schedule_model.proofs.LackingLaws.{Lacks, Lacks-from_test, one_split, apart, no_space}
 use Rattle.rdf_terms.proofs.Complete.{one_spelled}
@@ -39,6 +39,7 @@ begins (Deliver message number) = 100
 begins (Show number) = 115
 begins (Join number) = 106
 begins (Ask number) = 97
+begins (Compact number) = 99
 begins (Stop number) = 115
 begins (Open number) = 111
 begins (Compare number other) = 99
@@ -52,6 +53,7 @@ command_begins line (Deliver message number) h = (_, h.0)
 command_begins line (Show number) h = (_, h.0)
 command_begins line (Join number) h = (_, h.0)
 command_begins line (Ask number) h = (_, h.0)
+command_begins line (Compact number) h = (_, h.0)
 command_begins line (Stop number) h = (_, h.0)
 command_begins line (Open number) h = (_, h.0)
 command_begins line (Compare number other) h = (_, h.0)
@@ -65,6 +67,7 @@ begins_apart (Deliver message number) = refl
 begins_apart (Show number) = refl
 begins_apart (Join number) = refl
 begins_apart (Ask number) = refl
+begins_apart (Compact number) = refl
 begins_apart (Stop number) = refl
 begins_apart (Open number) = refl
 begins_apart (Compare number other) = refl
@@ -83,6 +86,7 @@ spells_numbers line (Deliver message number) h = h.2
 spells_numbers line (Show number) h = h.1
 spells_numbers line (Join number) h = h.1
 spells_numbers line (Ask number) h = h.1
+spells_numbers line (Compact number) h = h.1
 spells_numbers line (Stop number) h = h.1
 spells_numbers line (Open number) h = h.1
 spells_numbers line (Compare number other) h = (h.1, h.2)
@@ -122,6 +126,7 @@ unbuilt_command line (Deliver message number) u h = false≢true (subst (λ (l :
 unbuilt_command line (Show number) u h = false≢true (subst (λ (l : List ℕ). is_unbuilt l ≡ true) h.0 u)
 unbuilt_command line (Join number) u h = false≢true (subst (λ (l : List ℕ). is_unbuilt l ≡ true) h.0 u)
 unbuilt_command line (Ask number) u h = false≢true (subst (λ (l : List ℕ). is_unbuilt l ≡ true) h.0 u)
+unbuilt_command line (Compact number) u h = false≢true (subst (λ (l : List ℕ). is_unbuilt l ≡ true) h.0 u)
 unbuilt_command line (Stop number) u h = false≢true (subst (λ (l : List ℕ). is_unbuilt l ≡ true) h.0 u)
 unbuilt_command line (Open number) u h = false≢true (subst (λ (l : List ℕ). is_unbuilt l ≡ true) h.0 u)
 unbuilt_command line (Compare number other) u h = false≢true (subst (λ (l : List ℕ). is_unbuilt l ≡ true) h.0 u)
@@ -136,6 +141,7 @@ setup_command line setup (Deliver message number) p q = apart (ap (drop 1) p.who
 setup_command line setup (Show number) p q = apart p.whole q.0 refl
 setup_command line setup (Join number) p q = apart p.whole q.0 refl
 setup_command line setup (Ask number) p q = apart p.whole q.0 refl
+setup_command line setup (Compact number) p q = apart p.whole q.0 refl
 setup_command line setup (Stop number) p q = apart p.whole q.0 refl
 setup_command line setup (Open number) p q = apart p.whole q.0 refl
 setup_command line setup (Compare number other) p q = apart p.whole q.0 refl
@@ -186,8 +192,12 @@ one_command line (Join number) (Join other) p q =
     ap Join (decimal_injective number other (small p.1) (small q.1) (ap (drop 5) (sym p.0 ∙ q.0)))
 one_command line (Ask number) (Ask other) p q =
     ap Ask (decimal_injective number other (small p.1) (small q.1) (ap (drop 4) (sym p.0 ∙ q.0)))
+one_command line (Compact number) (Compact other) p q =
+    ap Compact (decimal_injective number other (small p.1) (small q.1) (ap (drop 8) (sym p.0 ∙ q.0)))
 one_command line (Add number triple) (Ask other) p q = absurd (apart (ap (drop 1) p.1) (ap (drop 1) q.0) refl)
 one_command line (Ask number) (Add other triple) p q = absurd (apart (ap (drop 1) p.0) (ap (drop 1) q.1) refl)
+one_command line (Compare number with) (Compact other) p q = absurd (apart (ap (drop 5) p.0) (ap (drop 5) q.0) refl)
+one_command line (Compact number) (Compare other second) p q = absurd (apart (ap (drop 5) p.0) (ap (drop 5) q.0) refl)
 one_command line (Stop number) (Stop other) p q =
     ap Stop (decimal_injective number other (small p.1) (small q.1) (ap (drop 5) (sym p.0 ∙ q.0)))
 one_command line (Open number) (Open other) p q =

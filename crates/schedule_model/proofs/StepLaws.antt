@@ -12,15 +12,16 @@ use Rattle.mld_ops.specs.Tagged.{tagged_cmp}
 use Rattle.mld_ops.proofs.TaggedLaws.{tagged_total, tagged_exact}
 use Rattle.mld_ops.proofs.AscendingLaws.{same_ascending}
 use Rattle.mld_ops.proofs.MeaningLaws.{one_meaning}
-use Rattle.schedule_model.specs.declared.Command.TheVariants.{Add, Remove, Deliver, Show, Compare, Join, Ask, Stop, Open}
+use Rattle.schedule_model.specs.declared.Command.TheVariants.{Add, Remove, Deliver, Show, Compare, Join, Ask, Compact, Stop, Open}
 use Rattle.mld_ops.proofs.PickingLaws.{drops_one}
 use Rattle.mld_model.specs.Clone.{Clone, Live, Stored, known_of, with_range, IsKnown}
 use Rattle.mld_model.specs.World.{World, Message, RangeOf, Want, JoinAsk, JoinGive, message_at, clone_at, with_clone}
-use Rattle.mld_model.specs.Reply.{Reply, Did, Took, Shows, Answer, NoMessage}
-use Rattle.mld_model.specs.CloneStep.{Answers, IsNextTick, after_operation, Makes, Adds, ArePairsOf, Deletes, finds_none, deletes_all, Removes, Accepts, HoldsBack, holds_already, holds_too_many, holds_from_now, TakesRange, knows_already, accepts, holds_back, Joins, TakesAsk, asked_itself, is_too_deep, forks, TakesLeaf, becomes_live, leaves_it, AskerTakes, LiveTakes, Takes, Stops, Lists, Compares, same_dots, fewer_dots, more_dots, dots_apart, ComparesWith, Weighs, TakesWant, lacks_nothing, sends_ranges, Wants}
+use Rattle.mld_model.specs.Reply.{Reply, Did, Took, Shows, Answer, Kept, NoMessage}
+use Rattle.mld_model.specs.CloneStep.{Answers, IsNextTick, after_operation, Makes, Adds, ArePairsOf, Deletes, finds_none, deletes_all, Removes, Accepts, HoldsBack, holds_already, holds_too_many, holds_from_now, TakesRange, knows_already, accepts, holds_back, Joins, TakesAsk, asked_itself, is_too_deep, forks, TakesLeaf, becomes_live, leaves_it, AskerTakes, LiveTakes, Takes, Stops, Lists, Compares, same_dots, fewer_dots, more_dots, dots_apart, ComparesWith, Weighs, TakesWant, lacks_nothing, sends_ranges, Wants, Compacts}
 use Rattle.mld_model.proofs.StateLaws.{by_one_state, AreSame, answers_once, once_if_live, opens_once}
 use Rattle.schedule_model.specs.Step.{Step}
 use Rattle.mld_model.proofs.ReleaseLaws.{releases_once}
+use Rattle.mld_model.proofs.CompactedJournals.{compacted_once}
 use Rattle.schedule_model.specs.Laws.{OneStep}
 
 -- of two ticks that come next neither is below the other
@@ -215,6 +216,15 @@ module _ (world : World) (number : ℕ) (reply other : Reply) (next after : Worl
   asks_once : (clone : Clone) → Wants world clone reply next → Wants world clone other after → AreSame reply next other after
   asks_once clone = once_if_live world clone reply other next after _ _ (λ stored held p q. (p.0 ∙ sym q.0, p.1 ∙ sym q.1))
 
+  -- and so has one that compacts its journal
+  compacts_once : (clone : Clone) → Compacts world number clone reply next → Compacts world number clone other after → AreSame reply next other after
+  compacts_once clone =
+      once_if_live world clone reply other next after _ _ (λ stored held p q.
+      let same : p.0 ≡ q.0 = compacted_once stored.journal p.0 q.0 p.1 q.1 in (
+        p.2 ∙ ap (λ (ranges : List Range). Kept (length ranges)) same ∙ sym q.2,
+        p.3 ∙ ap (λ (ranges : List Range). with_clone world number (Live (record stored { journal = ranges }) held)) same ∙ sym q.3,
+      ))
+
   -- a clone that is told to stop has one outcome
   stops_once : (clone : Clone) → Stops world number clone reply next → Stops world number clone other after → AreSame reply next other after
   stops_once clone =
@@ -235,6 +245,7 @@ one_step world (Deliver message number) reply other next after p q = delivers_on
 one_step world (Show number) reply other next after p q = lists_once world (clone_at world number) reply other next after p q
 one_step world (Join number) reply other next after p q = joins_once world number reply other next after (clone_at world number) p q
 one_step world (Ask number) reply other next after p q = asks_once world number reply other next after (clone_at world number) p q
+one_step world (Compact number) reply other next after p q = compacts_once world number reply other next after (clone_at world number) p q
 one_step world (Stop number) reply other next after p q = stops_once world number reply other next after (clone_at world number) p q
 one_step world (Open number) reply other next after p q = opens_once world number (clone_at world number) reply other next after p q
 one_step world (Compare number second) reply other next after p q =

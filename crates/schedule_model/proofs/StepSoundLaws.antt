@@ -7,11 +7,11 @@ use Rattle.tree_clock.specs.Lists.{Has}
 use Rattle.mld_ops.specs.declared.tagged.Tagged.{Tagged}
 use Rattle.mld_ops.specs.Meaning.{IsMeaning}
 use Rattle.mld_ops.proofs.MeaningLaws.{one_meaning, same_known}
-use Rattle.schedule_model.specs.declared.Command.TheVariants.{Add, Remove, Deliver, Show, Compare, Join, Ask, Stop, Open}
+use Rattle.schedule_model.specs.declared.Command.TheVariants.{Add, Remove, Deliver, Show, Compare, Join, Ask, Compact, Stop, Open}
 use Rattle.mld_model.specs.Clone.{Clone, Absent, Asking, Live, Stored, known_of, IsKnown}
 use Rattle.mld_model.specs.World.{World, Message, RangeOf, Want, JoinAsk, JoinGive, message_at, clone_count, clone_at}
 use Rattle.mld_model.specs.Reply.{Reply, NoMessage}
-use Rattle.mld_model.specs.CloneStep.{Answers, Makes, Adds, ArePairsOf, Deletes, finds_none, deletes_all, Removes, holds_already, holds_too_many, holds_from_now, TakesRange, knows_already, accepts, holds_back, Asks, Joins, TakesAsk, asked_itself, is_too_deep, forks, TakesLeaf, becomes_live, leaves_it, AskerTakes, LiveTakes, Takes, Stops, Reopens, Lists, ComparesWith, Weighs, TakesWant, lacks_nothing, sends_ranges, Wants}
+use Rattle.mld_model.specs.CloneStep.{Answers, Makes, Adds, ArePairsOf, Deletes, finds_none, deletes_all, Removes, holds_already, holds_too_many, holds_from_now, TakesRange, knows_already, accepts, holds_back, Asks, Joins, TakesAsk, asked_itself, is_too_deep, forks, TakesLeaf, becomes_live, leaves_it, AskerTakes, LiveTakes, Takes, Stops, Reopens, Lists, ComparesWith, Weighs, TakesWant, lacks_nothing, sends_ranges, Wants, Compacts}
 use Rattle.mld_model.proofs.StateLaws.{by_state, if_live, if_opens}
 use Rattle.schedule_model.specs.Step.{Step}
 use Rattle.schedule_model.specs.Runs.{Stage, Waiting, SetUp, Running, IsWorldOf, Commands, Acts, says_nothing, sets_up, commands, Runs}
@@ -21,6 +21,7 @@ use Rattle.mld_ops.proofs.PickingLaws.{kept_members}
 use Rattle.mld_model.proofs.JournalLaws.{journal_done}
 use Rattle.mld_model.proofs.SoundLaws.{made_sound, taken_sound, holding_sound, live_sound}
 use Rattle.mld_model.proofs.SendingLaws.{wanted_sound, ranges_sent_sound}
+use Rattle.mld_model.proofs.CompactedJournals.{compacted_sound}
 use Rattle.mld_model.proofs.StoredLaws.{stopped_sound, opened_sound, opened_empty_sound}
 use Rattle.mld_model.proofs.JoiningLaws.{asked_sound, forked_sound, stands_at, joined_sound, place_of_message}
 use Rattle.schedule_model.proofs.ScheduleLaws.{spells_numbers}
@@ -138,6 +139,12 @@ module _ (world next : World) (reply : Reply) (sound : IsSound world) where
       if_live (IsSound next) world clone reply next _ (λ answer state p. same_sound world next sound p.1)
       (λ stored held live p. subst IsSound (sym p.1) (wanted_sound world number stored held sound (is ∙ live)))
 
+  -- and so does one that compacts its journal
+  compacts_sound : (number : ℕ) (clone : Clone) → clone_at world number ≡ clone → Compacts world number clone reply next → IsSound next
+  compacts_sound number clone is =
+      if_live (IsSound next) world clone reply next _ (λ answer state p. same_sound world next sound p.1)
+      (λ stored held live p. subst IsSound (sym p.3) (compacted_sound world number stored held p.0 sound (is ∙ live) p.1))
+
   -- a clone that is told to stop leads to a sound world
   stops_sound : (number : ℕ) (clone : Clone) → clone_at world number ≡ clone → Stops world number clone reply next → IsSound next
   stops_sound number clone is =
@@ -173,6 +180,7 @@ step_sound world (Deliver message number) reply next small sound p = delivers_so
 step_sound world (Show number) reply next small sound p = same_sound world next sound (lists_same world (clone_at world number) reply next p)
 step_sound world (Join number) reply next small sound p = joins_sound world next reply sound number (clone_at world number) small refl p
 step_sound world (Ask number) reply next small sound p = wants_sound world next reply sound number (clone_at world number) refl p
+step_sound world (Compact number) reply next small sound p = compacts_sound world next reply sound number (clone_at world number) refl p
 step_sound world (Stop number) reply next small sound p = stops_sound world next reply sound number (clone_at world number) refl p
 step_sound world (Open number) reply next small sound p = opens_sound world next reply sound number (clone_at world number) refl p
 step_sound world (Compare number other) reply next small sound p =

@@ -37,6 +37,7 @@ use Rattle.mld_model.specs.StandsFor.{RunningClone, RunningWorld, EntryStandsFor
 use Rattle.mld_model.proofs.JournalLaws.{journal_done}
 use Rattle.mld_model.proofs.SoundLaws.{made_is_next, made_sound, taken_sound, holding_sound, live_sound}
 use Rattle.mld_model.proofs.LocalLaws.{kept_by, next_tick_of, made_by, maker_stands, made_entry, known_alike, ready_alike}
+pub use Rattle.mld_model.proofs.CompactedStands.{same_ranges}
 use Rattle.mld_model.proofs.ReleasedLaws.{StandsDone, stand_done, Released, accepted_ready, accepted_releases, accepted_told, accepted_stands}
 use Rattle.mld_model.proofs.PairsLaws.{PairAt, pair_at, no_pair_at, pairs_count}
 use Rattle.mld_model.proofs.StandsForLaws.{LiveAt, live_at, clone_stands_as, still_clone_of, clones_stand_set, clones_still_stand, messages_still_stand}
@@ -191,13 +192,6 @@ must_be_held world live stored held range entry stands entry_stands positive mus
   unknown = λ k. must.unknown ((known_alike world.history live.ticks (known_of stored) stands.known range entry entry_stands).1 k);
   unready = λ r. must.unready ((ready_alike world.history live.ticks (known_of stored) stands.known range entry entry_stands positive).1 r);
 }
-
--- the ranges of entries that stand for ranges are those
-pub same_ranges : (history : List Operation) (entries : List EntryValue) (ranges : List Range) → AllZip (EntryStandsFor history) entries ranges → ranges_of entries ≡ ranges
-same_ranges history [] [] all = refl
-same_ranges history (entry ∷ entries) (range ∷ ranges) all = λ i. all.0.same i ∷ same_ranges history entries ranges all.1 i
-same_ranges history [] (range ∷ ranges) all = absurd all
-same_ranges history (entry ∷ entries) [] all = absurd all
 
 -- a range is held just where an entry of it is
 held_alike : (history : List Operation) (entries : List EntryValue) (ranges : List Range) (entry : EntryValue) (range : Range) → AllZip (EntryStandsFor history) entries ranges

@@ -1,14 +1,14 @@
 -- The durable steps of a command, on the device of its clone.
-use Rattle.std.specs.Prelude.{◌≡◌, ◌≢◌, ℕ, List, [], ◌∷◌, map, length, MatchOption}
+use Rattle.std.specs.Prelude.{◌≡◌, ◌≢◌, ℕ, List, [], ◌∷◌, map, length, Some, MatchOption}
 use Rattle.tree_clock.specs.declared.dots.Range.{Range}
 use Rattle.mld_ops.specs.History.{Operation}
 use Rattle.schedule_model.specs.declared.Command.{Command}
-use Rattle.schedule_model.specs.declared.Command.TheVariants.{Add, Remove, Deliver, Show, Compare, Join, Ask, Stop, Open}
-use Rattle.mld_model.specs.Clone.{kept_of}
+use Rattle.schedule_model.specs.declared.Command.TheVariants.{Add, Remove, Deliver, Show, Compare, Join, Ask, Compact, Stop, Open}
+use Rattle.mld_model.specs.Clone.{Stored, kept_of}
 use Rattle.mld_model.specs.CloneStep.{joined_with}
 use Rattle.mld_model.specs.World.{World, Message, RangeOf, Want, SnapshotOf, JoinAsk, JoinGive, message_at, clone_at, clone_count}
 use Rattle.mld_model.specs.Reply.{Reply, Did, Took, Answer, Joined}
-use Rattle.mld_model.specs.Durable.{DurableStep, AppendsMade, AppendsTaken, AppendsFork, Creates, kept_after, history_after}
+use Rattle.mld_model.specs.Durable.{DurableStep, AppendsMade, AppendsTaken, AppendsFork, Creates, Swaps, kept_after, history_after}
 use Rattle.schedule_model.specs.Step.{HasCloneNumbers, number_of_clone, Step}
 
 -- one step: the entry of the operation that joined the history is appended
@@ -46,6 +46,12 @@ message_steps (JoinGive id path dots) reply = joining_steps path dots reply
 message_steps (Want dots) reply = []
 message_steps (SnapshotOf dots) reply = []
 
+-- what the clone of the number keeps is swapped for what it keeps then, unless that is the same
+pub data SwapsDurably (world next : World) (number : ℕ) (steps : List DurableStep) : Type 0 where
+  keeps_the_same : kept_of (clone_at next number) ≡ kept_of (clone_at world number) → steps ≡ [] → SwapsDurably world next number steps
+  swaps_it : (stored : Stored) → kept_of (clone_at next number) ≡ Some stored → kept_of (clone_at next number) ≢ kept_of (clone_at world number)
+      → steps ≡ Swaps stored ∷ [] → SwapsDurably world next number steps
+
 -- the durable steps of a command: the world before, the command, the reply, the world after, the steps
 unfoldable pub DurableSteps : World → Command → Reply → World → List DurableStep → Type 0
 DurableSteps world (Add number triple) reply next steps = MakesDurably world reply next steps
@@ -55,6 +61,7 @@ DurableSteps world (Deliver message number) reply next steps =
 DurableSteps world (Show number) reply next steps = steps ≡ []
 DurableSteps world (Join number) reply next steps = steps ≡ []
 DurableSteps world (Ask number) reply next steps = steps ≡ []
+DurableSteps world (Compact number) reply next steps = SwapsDurably world next number steps
 DurableSteps world (Stop number) reply next steps = steps ≡ []
 DurableSteps world (Open number) reply next steps = steps ≡ []
 DurableSteps world (Compare number other) reply next steps = steps ≡ []

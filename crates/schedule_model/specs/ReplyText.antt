@@ -7,7 +7,7 @@ use Rattle.tree_clock.specs.declared.dots.Range.{Range}
 use Rattle.tree_clock.specs.Path.{path_text}
 use Rattle.tree_clock.specs.Dot.{dot_text, range_text}
 use Rattle.mld_ops.specs.declared.tagged.Tagged.{Tagged}
-use Rattle.mld_model.specs.Reply.{Reply, Ready, Did, NoOperation, Took, Held, HeldFull, AlreadyKnown, Shows, Same, Less, More, Apart, Sent, Answer, NothingToSend, Joined, Deep, NoMessage, Ignored, IsAbsent, IsAsking, IsDown, IsLive, Stopped, Opened}
+use Rattle.mld_model.specs.Reply.{Reply, Ready, Did, NoOperation, Took, Held, HeldFull, AlreadyKnown, Shows, Same, Less, More, Apart, Sent, Answer, NothingToSend, Kept, Joined, Deep, NoMessage, Ignored, IsAbsent, IsAsking, IsDown, IsLive, Stopped, Opened}
 use Rattle.schedule_model.specs.Characters.{space, line_end}
 
 -- the line of a pair
@@ -39,6 +39,7 @@ reply_text Apart = codes "apart\n"
 reply_text (Sent number) = codes "sent m" ++ (decimal number ++ line_end ∷ [])
 reply_text (Answer numbers) = codes "answer" ++ (flat_map spaced_message numbers ++ line_end ∷ [])
 reply_text NothingToSend = codes "nothing\n"
+reply_text (Kept count) = codes "kept " ++ (decimal count ++ line_end ∷ [])
 reply_text (Joined path) = codes "joined " ++ (path_text path ++ line_end ∷ [])
 reply_text Deep = codes "deep\n"
 reply_text NoMessage = codes "no message\n"

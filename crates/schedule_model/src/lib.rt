@@ -28,6 +28,8 @@ pub enum Command {
     Join(u8),
     /// `ask C`: clone C asks whoever gets its message for what it lacks.
     Ask(u8),
+    /// `compact C`: clone C fuses the neighbours in its journal.
+    Compact(u8),
     /// `stop C`: clone C stops, and forgets what it holds back.
     Stop(u8),
     /// `open C`: clone C, which is down, runs again with what its banks keep.
