@@ -9,13 +9,13 @@ use Rattle.mld_model.specs.Sound.{IsSound}
 use Rattle.mld_model.proofs.FoundedLaws.{founded_sound}
 use Rattle.schedule_model.specs.ReplyText.{reply_text}
 use Rattle.schedule_model.specs.Runs.{Stage, Waiting, SetUp, Running, founded_by, IsWorldOf, says_nothing, sets_up, commands}
-use Rattle.net_world.specs.declared.lines.Setup.{Setup}
-use Rattle.net_world.specs.declared.lines.SetupLine.{SetupLine}
-use Rattle.net_world.specs.declared.lines.SetupLine.TheVariants as lines
+use Rattle.schedule_text.specs.declared.setups.Setup.{Setup}
+use Rattle.schedule_text.specs.declared.setups.SetupLine.{SetupLine}
+use Rattle.schedule_text.specs.declared.setups.SetupLine.TheVariants as lines
 use Rattle.schedule_model.specs.Schedule.{Setup as ModelSetup, SpellsSetup, SpellsCommand, IsSetup}
 use Rattle.rdf_terms.specs.Order.{iri_cmp}
 use Rattle.tree_clock.specs.Lists.{IsAscending}
-use Rattle.net_world.specs.ReadLines.{setup_of, SetupIs, CommandIs}
+use Rattle.schedule_text.specs.ReadLines.{setup_of, SetupIs, CommandIs}
 use Rattle.net_world.specs.WorldBanks.{BankedWorld, StandsOnBanks}
 use Rattle.net_world.specs.Worlds.{Stepped, FollowsOnBanks}
 use Rattle.mld_replay.specs.Stages.{StageStands, IsStandingStage, ActsWell, EndsWell}

@@ -5,7 +5,7 @@ use Rattle.mld_model.specs.World.{World, clone_count}
 use Rattle.mld_model.specs.Sound.{IsSound}
 use Rattle.schedule_model.specs.Runs.{Stage, Waiting, SetUp, Running, IsWorldOf, Acts}
 use Rattle.schedule_model.specs.Schedule.{IsSetup}
-use Rattle.net_world.specs.ReadLines.{setup_of}
+use Rattle.schedule_text.specs.ReadLines.{setup_of}
 use Rattle.net_world.specs.WorldBanks.{StandsOnBanks, banks_of, KeepsNoneNow, AllBanksStandFor}
 use Rattle.mld_replay.specs.declared.stages.Stage.{Stage as RunningStage}
 use Rattle.mld_replay.specs.declared.stages.Stage.TheVariants as stages

@@ -1,7 +1,7 @@
 -- Why a run ends at a line that was not done.
 use Rattle.std.specs.Prelude.{ℕ}
-use Rattle.net_world.specs.declared.lines.LineRefusal.{LineRefusal}
-use Rattle.net_world.specs.declared.lines.LineRefusal.TheVariants as refusals
+use Rattle.schedule_text.specs.declared.refusals.LineRefusal.{LineRefusal}
+use Rattle.schedule_text.specs.declared.refusals.LineRefusal.TheVariants as refusals
 use Rattle.net_world.specs.declared.faults.WorldFault.{WorldFault}
 use Rattle.net_world.specs.declared.faults.WorldFault.TheVariants as worlds
 use Rattle.mld_replay.specs.declared.stops.LineStop.{LineStop}

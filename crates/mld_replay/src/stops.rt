@@ -1,5 +1,6 @@
 //! Why a line was not done.
-use net_world::{LineRefusal, WorldFault};
+use net_world::WorldFault;
+use schedule_text::LineRefusal;
 use std::alloc::AllocError;
 use thiserror::Error;
 

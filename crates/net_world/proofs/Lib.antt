@@ -1,6 +1,3 @@
-pub mod LinesText
-pub mod LinesNumbers
-pub mod LinesCommands
 pub mod RepliesShown
 pub mod WorldLemmas
 pub mod ChangeLemmas

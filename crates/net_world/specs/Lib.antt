@@ -1,7 +1,6 @@
 pub mod Replies
 pub mod States
 pub mod Founding
-pub mod ReadLines
 pub mod Worlds
 pub mod WorldParts
 pub mod Changes

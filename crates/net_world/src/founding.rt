@@ -6,12 +6,11 @@ ghost use Rattle.mld_model.specs.declared.CloneState.TheVariants as kinds;
 ghost use Rattle.schedule_model.specs.Schedule.{IsSetup};
 ghost use Rattle.clone_core.specs.Joining.{LocallyGives, AreGood};
 ghost use Rattle.net_world.specs.Founding.{GivesLeaf, AreFounded, AreFoundedTo, RefusesFounding, IsAbsentAt, IsMadeFirst, MayGive, LivesAtLeaf, JoinsBy, HasGiver, JoinsFirst};
-ghost use Rattle.net_world.specs.ReadLines.{setup_of};
+ghost use Rattle.schedule_text.specs.ReadLines.{setup_of};
 ghost use Rattle.net_world.specs.States.{HasState};
 ghost use Rattle.net_world.specs.WorldBanks.{BankedState, banks_of_state, GoesOn, MetersGoOn, FailsAt, FailsAmong};
 
 use crate::faults::{WorldFault, made_fault};
-use crate::lines::Setup;
 use crate::states::{RunningClone, copy_named, id_of, new_asker, put_state, take_state};
 use crate::stopping::stop_all;
 use clone_core::{Adopted, Asker, Got, MldClone, ReceiveFault};
@@ -19,6 +18,7 @@ use journal_store::{Blank, MakeFault};
 use mld_io::{Banks, CrashBanks};
 use mld_model::CloneState;
 use mld_ops::Messages;
+use schedule_text::Setup;
 use std::alloc::{AllocError, Global};
 use std::thread::Threads;
 

@@ -1,4 +1,4 @@
-//! The world of a schedule: its lines, its clones and every message ever sent.
+//! The world of a schedule: its clones and every message ever sent.
 #![tactic(auto)]
 
 mod changes;
@@ -8,7 +8,6 @@ mod deliver;
 mod faults;
 mod founding;
 mod join;
-mod lines;
 mod opening;
 mod parts;
 mod replies;
@@ -19,7 +18,6 @@ mod summaries;
 mod worlds;
 
 pub use faults::WorldFault;
-pub use lines::{LineRefusal, Setup, SetupLine, read_command, read_setup};
 pub use replies::push_ready;
 pub use schedule_model::Command;
 pub use summaries::{CloneSummary, State, Summary};

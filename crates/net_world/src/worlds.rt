@@ -3,7 +3,6 @@
 use crate::commands::answer;
 use crate::faults::WorldFault;
 use crate::founding::found_clones;
-use crate::lines::Setup;
 use crate::parts::Parts;
 use crate::states::copy_named;
 use crate::stopping::stop_all;
@@ -12,6 +11,7 @@ use journal_store::Blank;
 use mld_io::{Banks, CrashBanks};
 use mld_model::CloneState;
 use schedule_model::Command;
+use schedule_text::Setup;
 use std::alloc::{AllocError, Global};
 use std::marker::Model;
 use std::thread::Threads;
@@ -47,7 +47,7 @@ impl<B: CrashBanks> World<B> {
     ghost use Rattle.schedule_model.specs.Runs.{founded_by};
     ghost use Rattle.schedule_model.specs.Schedule.{IsSetup};
     ghost use Rattle.schedule_model.specs.Step.{HasCloneNumbers};
-    ghost use Rattle.net_world.specs.ReadLines.{setup_of};
+    ghost use Rattle.schedule_text.specs.ReadLines.{setup_of};
     ghost use Rattle.net_world.specs.Worlds.{IsStanding, Stepped};
     ghost use Rattle.net_world.specs.WorldSummary.{Tells};
 

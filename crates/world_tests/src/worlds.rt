@@ -10,10 +10,9 @@ use disk_model::MemoryBanks;
 use iri_rules::Text;
 use journal_store::Blank;
 use mld_model::CLONE_COUNT;
-use net_world::{
-    Command, LineRefusal, Setup, SetupLine, State, World, push_ready, read_command, read_setup,
-};
+use net_world::{Command, State, World, push_ready};
 use rdf_terms::{Iri, Term, Triple};
+use schedule_text::{LineRefusal, Setup, SetupLine, read_command, read_setup};
 use std::alloc::Global;
 use std::test::Fail;
 use std::thread::Threads;

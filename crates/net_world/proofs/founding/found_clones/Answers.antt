@@ -1,6 +1,6 @@
 use Rattle.std.proofs.Common.{◌≡◌, ◌∙◌, ◌++◌, [], List, arith, rules, ap, sym, subst, map}
 use Rattle.mld_model.specs.declared.CloneState.TheVariants as kinds
-use Rattle.net_world.specs.ReadLines.{setup_of}
+use Rattle.schedule_text.specs.ReadLines.{setup_of}
 use Rattle.net_world.specs.WorldBanks.{BankedState, banks_of_state, MetersGoOn, HasFailed, FailsAmong}
 use Rattle.net_world.specs.declared.faults.WorldFault.{WorldFault}
 use Rattle.net_world.specs.declared.faults.WorldFault.TheVariants as faults

@@ -1,6 +1,6 @@
 use Rattle.std.proofs.Common.{◌≤◌, map}
 use Rattle.net_world.specs.Founding.{AreFoundedTo}
-use Rattle.net_world.specs.ReadLines.{setup_of}
+use Rattle.schedule_text.specs.ReadLines.{setup_of}
 use Rattle.net_world.specs.WorldBanks.{banks_of_state, MetersGoOn}
 use Rattle.net_world.proofs.founding.found_each.Given as goal
 

@@ -3,7 +3,7 @@ use Rattle.std.proofs.lemmas.Option.{slice_get_within}
 use Rattle.std.proofs.lemmas.Result.{on_ok_weaker, IfErr-weaker}
 use Rattle.mld_model.specs.declared.CloneState.TheVariants as kinds
 use Rattle.net_world.specs.Founding.{IsNewAsker}
-use Rattle.net_world.specs.ReadLines.{setup_of}
+use Rattle.schedule_text.specs.ReadLines.{setup_of}
 use Rattle.net_world.specs.States.{Becomes}
 use Rattle.net_world.specs.WorldBanks.{BankedState, banks_of_state, GoesOn, MetersGoOn, FailsAt, FailsAmong}
 use Rattle.net_world.proofs.BankLemmas.{meters_set, fails_set}

@@ -1,7 +1,7 @@
 use Rattle.std.proofs.Common.{List, ◌∙◌, ap, map, refl}
 use Rattle.mld_ops.specs.Messages.{message_value}
 use Rattle.mld_ops.specs.declared.messages.Message.{Message}
-use Rattle.net_world.specs.ReadLines.{setup_of}
+use Rattle.schedule_text.specs.ReadLines.{setup_of}
 use Rattle.net_world.proofs.EndLemmas.{founded_on_banks, founded_standing_on}
 use Rattle.net_world.proofs.worlds.World.found.Goals as goal
 

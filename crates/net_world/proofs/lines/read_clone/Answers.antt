@@ -1,8 +1,0 @@
-use Rattle.std.proofs.Common.{◌≡◌, arith}
-use Rattle.net_world.proofs.LinesNumbers.{small, one_number}
-use Rattle.net_world.proofs.lines.read_clone.Goals as goal
-
-pub returns-then-number-from : goal.returns-then-number-from
-returns-then-number-from c = λ number below same.
-    let alike : c.in_ok-number.number ≡ number = one_number c.args.text.now c.in_ok-number.number number c.in_ok-number.ensures.0 (small below) c.in_ok-number.ensures.1 same in
-    omega (arith, c.from.ensures)

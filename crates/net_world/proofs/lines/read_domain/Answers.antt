@@ -1,5 +1,0 @@
-use Rattle.net_world.proofs.LinesCommands.{domain_text}
-use Rattle.net_world.proofs.lines.read_domain.Goals as goal
-
-pub returns-in_default : goal.returns-in_default
-returns-in_default c = λ named. c.in_default.ensures.cases.0 (domain_text c.args.text.now named)

@@ -1,0 +1,4 @@
+pub mod LinesText
+pub mod LinesNumbers
+pub mod LinesSetups
+pub mod LinesCommands

@@ -1,0 +1,44 @@
+use Rattle.schedule_model.specs.Schedule.{SpellsCommand}
+use Rattle.schedule_text.specs.ReadLines.{IsAddRest, IsRemoveRest, IsDeliverRest, IsShowRest, IsCompareRest, IsJoinRest, IsStopRest, IsOpenRest}
+use Rattle.schedule_text.proofs.LinesCommands.{read_behind, found_behind, add_behind, remove_behind, deliver_behind, show_behind, compare_behind, join_behind, stop_behind, open_behind}
+use Rattle.schedule_text.proofs.commands.command_of.Goals as goal
+
+pub returns-in-Some : goal.returns-in-Some
+returns-in-Some c =
+    read_behind (λ command. IsAddRest c.in-Some.rest.now command) (λ command. SpellsCommand c.args.line.now command) c.read_add.result
+    (add_behind c.args.line.now c.in-Some.rest.now c.in-Some.ensures) c.read_add.ensures
+
+pub returns-in-Some-behind : goal.returns-in-Some-behind
+returns-in-Some-behind c =
+    read_behind (λ command. IsRemoveRest c.in-Some-behind.rest.now command) (λ command. SpellsCommand c.args.line.now command) c.read_remove.result
+    (remove_behind c.args.line.now c.in-Some-behind.rest.now c.in-Some-behind.ensures) c.read_remove.ensures
+
+pub returns-in-Some-behind-2 : goal.returns-in-Some-behind-2
+returns-in-Some-behind-2 c =
+    found_behind (λ command. IsDeliverRest c.in-Some-behind-2.rest.now command) (λ command. SpellsCommand c.args.line.now command) c.read_deliver.result
+    (deliver_behind c.args.line.now c.in-Some-behind-2.rest.now c.in-Some-behind-2.ensures) c.read_deliver.ensures
+
+pub returns-in-Some-behind-3 : goal.returns-in-Some-behind-3
+returns-in-Some-behind-3 c =
+    found_behind (λ command. IsShowRest c.in-Some-behind-3.rest.now command) (λ command. SpellsCommand c.args.line.now command) c.read_show.result
+    (show_behind c.args.line.now c.in-Some-behind-3.rest.now c.in-Some-behind-3.ensures) c.read_show.ensures
+
+pub returns-in-Some-behind-4 : goal.returns-in-Some-behind-4
+returns-in-Some-behind-4 c =
+    found_behind (λ command. IsCompareRest c.in-Some-behind-4.rest.now command) (λ command. SpellsCommand c.args.line.now command) c.read_compare.result
+    (compare_behind c.args.line.now c.in-Some-behind-4.rest.now c.in-Some-behind-4.ensures) c.read_compare.ensures
+
+pub returns-in-Some-behind-5 : goal.returns-in-Some-behind-5
+returns-in-Some-behind-5 c =
+    found_behind (λ command. IsJoinRest c.in-Some-behind-5.rest.now command) (λ command. SpellsCommand c.args.line.now command) c.read_join.result
+    (join_behind c.args.line.now c.in-Some-behind-5.rest.now c.in-Some-behind-5.ensures) c.read_join.ensures
+
+pub returns-in-Some-behind-6 : goal.returns-in-Some-behind-6
+returns-in-Some-behind-6 c =
+    found_behind (λ command. IsStopRest c.in-Some-behind-6.rest.now command) (λ command. SpellsCommand c.args.line.now command) c.read_stop.result
+    (stop_behind c.args.line.now c.in-Some-behind-6.rest.now c.in-Some-behind-6.ensures) c.read_stop.ensures
+
+pub returns-in-Some-behind-7 : goal.returns-in-Some-behind-7
+returns-in-Some-behind-7 c =
+    found_behind (λ command. IsOpenRest c.in-Some-behind-7.rest.now command) (λ command. SpellsCommand c.args.line.now command) c.read_open.result
+    (open_behind c.args.line.now c.in-Some-behind-7.rest.now c.in-Some-behind-7.ensures) c.read_open.ensures

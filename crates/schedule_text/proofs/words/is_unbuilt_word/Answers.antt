@@ -1,0 +1,10 @@
+use Rattle.std.proofs.Common.{rules, tests}
+use Rattle.std.proofs.lemmas.Iterator.{YieldsList-from_slice}
+use Rattle.std.proofs.lemmas.Iterator.Search.{any_from_yields_List}
+use Rattle.schedule_model.specs.Schedule.{is_word}
+use Rattle.schedule_text.proofs.words.is_unbuilt_word.Goals as goal
+
+pub returns : goal.returns
+returns c =
+    any_from_yields_List (λ unbuilt. is_word unbuilt.now c.args.word.now) _ _ _ c.any.ensures.ran
+    (YieldsList-from_slice _ c.iter.ensures.rest) (λ x b q k. search (rules, tests))

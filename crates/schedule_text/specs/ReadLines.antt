@@ -1,0 +1,89 @@
+-- What a line of a schedule was read as.
+use Rattle.std.specs.Prelude.{◌≡◌, ℕ, ◌<◌, ◌^◌, List, ◌∷◌, ◌++◌, IsTrue, Option, None, Some}
+use Rattle.std.specs.Str.{IsUtf8}
+use Rattle.std.specs.Fmt.{decimal}
+use Rattle.rdf_terms.specs.declared.terms.Triple.{Triple}
+use Rattle.rdf_terms.specs.Grammar.{SpellsTriple, IsTripleWithin}
+use Rattle.schedule_model.specs.Characters.{space}
+use Rattle.schedule_model.specs.declared.Command.TheVariants.{Add, Remove, Deliver, Show, Compare, Join, Stop, Open}
+use Rattle.schedule_model.specs.declared.Command.{Command}
+use Rattle.schedule_model.specs.Schedule.{Setup as ModelSetup, IsNothing, is_unbuilt, SpellsSetup, SpellsCommand, IsCloneNumber}
+use Rattle.schedule_model.specs.Runs.{IsBad, IsUnbuilt, Waiting}
+use Rattle.schedule_text.specs.declared.setups.Setup.{Setup}
+use Rattle.schedule_text.specs.declared.setups.SetupLine.{SetupLine}
+use Rattle.schedule_text.specs.declared.setups.SetupLine.TheVariants as lines
+
+-- the setup of the model
+abbrev pub setup_of : Setup → ModelSetup
+setup_of setup = record { domain = setup.domain; properties = setup.props.items; count = setup.clones }
+
+-- what a line was read as before the clones are founded: while no domain line has come it says nothing, or it is the domain
+-- line; and behind that one it leaves the setup as it was
+abbrev pub SetupIs : List ℕ → Option Setup → SetupLine → Type 0
+SetupIs line None (lines.Other None) = IsNothing line
+SetupIs line None (lines.Other (Some setup)) = ⊥
+SetupIs line None (lines.Setup setup) = SpellsSetup line (setup_of setup)
+SetupIs line (Some setup) (lines.Other so_far) = so_far ≡ Some setup
+SetupIs line (Some setup) (lines.Setup next) = ⊥
+
+-- no domain line has come, and the line is outside the grammar and isn't one that will be built
+abbrev pub IsBadSetup : List ℕ → Option Setup → Type 0
+IsBadSetup line None = IsBad Waiting line
+IsBadSetup line (Some setup) = ⊥
+
+-- no domain line has come, and the line isn't built yet
+abbrev pub IsUnbuiltSetup : List ℕ → Option Setup → Type 0
+IsUnbuiltSetup line None = IsUnbuilt Waiting line
+IsUnbuiltSetup line (Some setup) = ⊥
+
+-- a line that was read behind the domain line: it says nothing, or it is a command
+abbrev pub CommandIs : List ℕ → Option Command → Type 0
+CommandIs line None = IsNothing line
+CommandIs line (Some command) = SpellsCommand line command
+
+-- it is outside the grammar, and isn't one that will be built
+abbrev pub IsBadCommand : List ℕ → Type 0
+IsBadCommand line = ¬ IsNothing line × ¬ IsTrue (is_unbuilt line) × ((command : Command) → ¬ SpellsCommand line command)
+
+-- the text of a triple within the limits
+pub record IsTripleText (text : List ℕ) (triple : Triple) : Type 0 where
+  pub bytes : IsUtf8 text
+  pub spelled : SpellsTriple text triple
+  pub within : IsTripleWithin triple
+
+-- what follows the first word of a command and its space
+
+-- a clone's number, a space, and the text of a triple
+pub record IsCloneAndTriple (rest : List ℕ) (number : ℕ) (triple : Triple) : Type 0 where
+  pub text : List ℕ
+  pub whole : rest ≡ decimal number ++ space ∷ text
+  pub clone : IsCloneNumber number
+  pub spelled : IsTripleText text triple
+
+abbrev pub IsAddRest : List ℕ → Command → Type 0
+IsAddRest rest command = (number : ℕ) × (triple : Triple) × (command ≡ Add number triple) × IsCloneAndTriple rest number triple
+
+abbrev pub IsRemoveRest : List ℕ → Command → Type 0
+IsRemoveRest rest command = (number : ℕ) × (triple : Triple) × (command ≡ Remove number triple) × IsCloneAndTriple rest number triple
+
+abbrev pub IsDeliverRest : List ℕ → Command → Type 0
+IsDeliverRest rest command = (message : ℕ) × (number : ℕ) × (command ≡ Deliver message number) × (rest ≡ decimal message ++ space ∷ decimal number)
+    × (message < 2 ^ 64) × IsCloneNumber number
+
+abbrev pub IsShowRest : List ℕ → Command → Type 0
+IsShowRest rest command = (number : ℕ) × (command ≡ Show number) × (rest ≡ decimal number) × IsCloneNumber number
+
+abbrev pub IsCompareRest : List ℕ → Command → Type 0
+IsCompareRest rest command = (number : ℕ) × (other : ℕ) × (command ≡ Compare number other) × (rest ≡ decimal number ++ space ∷ decimal other)
+    × IsCloneNumber number × IsCloneNumber other
+
+abbrev pub IsJoinRest : List ℕ → Command → Type 0
+IsJoinRest rest command = (number : ℕ) × (command ≡ Join number) × (rest ≡ decimal number) × IsCloneNumber number
+
+-- the rest of a `stop` line
+abbrev pub IsStopRest : List ℕ → Command → Type 0
+IsStopRest rest command = (number : ℕ) × (command ≡ Stop number) × (rest ≡ decimal number) × IsCloneNumber number
+
+-- the rest of an `open` line
+abbrev pub IsOpenRest : List ℕ → Command → Type 0
+IsOpenRest rest command = (number : ℕ) × (command ≡ Open number) × (rest ≡ decimal number) × IsCloneNumber number

@@ -1,0 +1,167 @@
+//! Lines that are commands, each in its form.
+ghost use Rattle.std.specs.Prelude.{ℕ, IsTrue, IfOk, IsErrOf, MatchOption};
+ghost use Rattle.iri_rules.specs.Domain.{is_domain};
+ghost use Rattle.rdf_terms.specs.declared.terms.Triple.{Triple};
+ghost use Rattle.schedule_model.specs.Schedule.{is_unbuilt, SpellsCommand};
+ghost use Rattle.schedule_model.specs.declared.Command.{Command};
+ghost use Rattle.schedule_text.specs.ReadLines.{CommandIs, IsBadCommand, IsTripleText, IsCloneAndTriple, IsAddRest, IsRemoveRest, IsDeliverRest, IsShowRest, IsCompareRest, IsJoinRest, IsStopRest, IsOpenRest};
+
+use crate::numbers::{read_clone, read_number};
+use crate::refusals::LineRefusal;
+use crate::words::{behind, is_nothing, is_unbuilt, split_at_space};
+use rdf_terms::{Triple, TripleFault, read_triple};
+use schedule_model::Command;
+use std::alloc::{AllocError, Global};
+
+/// Reads a line, without its LF, once the domain of this name is set up: a command, or `None` for an empty line or a comment.
+pub fn read_command(
+    alloc: Global,
+    line: &[u8],
+    _domain: &str,
+) -> Result<Option<Command>, LineRefusal>
+    requires { IsTrue (is_domain _domain.now) }
+    ensures ok { IfOk result (CommandIs line.now) }
+    ensures bad { IsErrOf result LineRefusal.BadLine → IsBadCommand line.now }
+    ensures unbuilt { IsErrOf result LineRefusal.Unbuilt → IsTrue (is_unbuilt line.now) }
+{
+    if is_nothing(line) {
+        return Ok(None);
+    }
+    if is_unbuilt(line) {
+        return Err(LineRefusal::Unbuilt);
+    }
+    match command_of(alloc, line)? {
+        Some(command) => Ok(Some(command)),
+        None => Err(LineRefusal::BadLine),
+    }
+}
+
+/// The command of a line, where the line spells one.
+fn command_of(alloc: Global, line: &[u8]) -> Result<Option<Command>, AllocError>
+    ensures { IfOk result (λ found. MatchOption found ((command : Command) → ¬ SpellsCommand line.now command) (λ command. SpellsCommand line.now command)) }
+{
+    if let Some(rest) = behind(line, b"add ") {
+        return read_add(alloc, rest);
+    }
+    if let Some(rest) = behind(line, b"remove ") {
+        return read_remove(alloc, rest);
+    }
+    if let Some(rest) = behind(line, b"deliver ") {
+        return Ok(read_deliver(rest));
+    }
+    if let Some(rest) = behind(line, b"show ") {
+        return Ok(read_show(rest));
+    }
+    if let Some(rest) = behind(line, b"compare ") {
+        return Ok(read_compare(rest));
+    }
+    if let Some(rest) = behind(line, b"join ") {
+        return Ok(read_join(rest));
+    }
+    if let Some(rest) = behind(line, b"stop ") {
+        return Ok(read_stop(rest));
+    }
+    if let Some(rest) = behind(line, b"open ") {
+        return Ok(read_open(rest));
+    }
+    Ok(None)
+}
+
+/// What follows `add` and a space: a clone's number, a space, and a triple.
+fn read_add(alloc: Global, rest: &[u8]) -> Result<Option<Command>, AllocError>
+    ensures { IfOk result (λ found. MatchOption found ((command : Command) → ¬ IsAddRest rest.now command) (λ command. IsAddRest rest.now command)) }
+{
+    let Some((number, triple)) = read_clone_and_triple(alloc, rest)? else {
+        return Ok(None);
+    };
+    Ok(Some(Command::Add(number, triple)))
+}
+
+/// What follows `remove` and a space: a clone's number, a space, and a triple.
+fn read_remove(alloc: Global, rest: &[u8]) -> Result<Option<Command>, AllocError>
+    ensures { IfOk result (λ found. MatchOption found ((command : Command) → ¬ IsRemoveRest rest.now command) (λ command. IsRemoveRest rest.now command)) }
+{
+    let Some((number, triple)) = read_clone_and_triple(alloc, rest)? else {
+        return Ok(None);
+    };
+    Ok(Some(Command::Remove(number, triple)))
+}
+
+/// A clone's number, a space, and a triple.
+fn read_clone_and_triple(alloc: Global, rest: &[u8]) -> Result<Option<(u8, Triple)>, AllocError>
+    ensures { IfOk result (λ found. MatchOption found ((number : ℕ) (triple : Triple) → ¬ IsCloneAndTriple rest.now number triple) (λ parts. IsCloneAndTriple rest.now parts.0 parts.1)) }
+{
+    let Some((number, text)) = split_at_space(rest) else {
+        return Ok(None);
+    };
+    let Some(number) = read_clone(number) else {
+        return Ok(None);
+    };
+    let Some(triple) = read_triple_bytes(alloc, text)? else {
+        return Ok(None);
+    };
+    Ok(Some((number, triple)))
+}
+
+/// The triple of a text, where the text is UTF-8 and spells one within the limits.
+fn read_triple_bytes(alloc: Global, text: &[u8]) -> Result<Option<Triple>, AllocError>
+    ensures { IfOk result (λ found. MatchOption found ((triple : Triple) → ¬ IsTripleText text.now triple) (λ triple. IsTripleText text.now triple)) }
+{
+    let Ok(text) = str::from_utf8(text) else {
+        return Ok(None);
+    };
+    match read_triple(alloc, text) {
+        Ok(triple) => Ok(Some(triple)),
+        Err(TripleFault::NotTriple { .. }) => Ok(None),
+        Err(TripleFault::TooLong) => Ok(None),
+        Err(TripleFault::NoMemory) => Err(AllocError),
+    }
+}
+
+/// What follows `deliver` and a space: a message's number, a space, and a clone's number.
+fn read_deliver(rest: &[u8]) -> Option<Command>
+    ensures { MatchOption result ((command : Command) → ¬ IsDeliverRest rest.now command) (λ command. IsDeliverRest rest.now command) }
+{
+    let (message, number) = split_at_space(rest)?;
+    let message = read_number(message)?;
+    let number = read_clone(number)?;
+    Some(Command::Deliver(message, number))
+}
+
+/// What follows `show` and a space: a clone's number.
+fn read_show(rest: &[u8]) -> Option<Command>
+    ensures { MatchOption result ((command : Command) → ¬ IsShowRest rest.now command) (λ command. IsShowRest rest.now command) }
+{
+    Some(Command::Show(read_clone(rest)?))
+}
+
+/// What follows `join` and a space: a clone's number.
+fn read_join(rest: &[u8]) -> Option<Command>
+    ensures { MatchOption result ((command : Command) → ¬ IsJoinRest rest.now command) (λ command. IsJoinRest rest.now command) }
+{
+    Some(Command::Join(read_clone(rest)?))
+}
+
+/// What follows `stop` and a space: a clone's number.
+fn read_stop(rest: &[u8]) -> Option<Command>
+    ensures { MatchOption result ((command : Command) → ¬ IsStopRest rest.now command) (λ command. IsStopRest rest.now command) }
+{
+    Some(Command::Stop(read_clone(rest)?))
+}
+
+/// What follows `open` and a space: a clone's number.
+fn read_open(rest: &[u8]) -> Option<Command>
+    ensures { MatchOption result ((command : Command) → ¬ IsOpenRest rest.now command) (λ command. IsOpenRest rest.now command) }
+{
+    Some(Command::Open(read_clone(rest)?))
+}
+
+/// What follows `compare` and a space: two clones' numbers with a space between.
+fn read_compare(rest: &[u8]) -> Option<Command>
+    ensures { MatchOption result ((command : Command) → ¬ IsCompareRest rest.now command) (λ command. IsCompareRest rest.now command) }
+{
+    let (number, other) = split_at_space(rest)?;
+    let number = read_clone(number)?;
+    let other = read_clone(other)?;
+    Some(Command::Compare(number, other))
+}

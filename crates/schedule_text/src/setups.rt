@@ -1,0 +1,108 @@
+//! The domain line, which sets up.
+ghost use Rattle.std.specs.Prelude.{◌≡◌, IsTrue, IfOk, IsErrOf, MatchOption};
+ghost use Rattle.iri_rules.specs.Domain.{is_domain};
+ghost use Rattle.schedule_model.specs.Schedule.{Setup as ModelSetup, SpellsSetup};
+ghost use Rattle.schedule_text.specs.ReadLines.{setup_of, SetupIs, IsBadSetup, IsUnbuiltSetup};
+
+use crate::numbers::read_count;
+use crate::refusals::LineRefusal;
+use crate::words::{behind, is_nothing, is_unbuilt, split_at_space};
+use iri_rules::{Text, is_domain};
+use rdf_terms::Iri;
+use std::alloc::{AllocError, Global};
+
+/// What a domain is set up with.
+#[derive(Debug, Drop)]
+pub struct Setup {
+    /// The name of the domain.
+    pub domain: Text,
+    /// How many clones are founded, 1 to `CLONE_COUNT`.
+    pub clones: u8,
+    /// The single-valued properties. No line sets one yet.
+    pub props: Vec<Iri>,
+}
+
+/// What a line was before the clones are founded.
+#[derive(Debug, Drop)]
+pub enum SetupLine {
+    /// It sets up the domain, which is set up so from then on.
+    Setup(Setup),
+    /// It sets up nothing, and this is what there was before it.
+    Other(Option<Setup>),
+}
+
+/// Reads a line, without its LF, while no clone is founded, with what is set up so far.
+///
+/// While no domain line has come this is `domain D clones N`, or `Other` for an empty line or a comment. From then on each line
+/// is `Other`, whatever it holds: it is for `read_command` to say what it is.
+pub fn read_setup(
+    alloc: Global,
+    line: &[u8],
+    so_far: Option<Setup>,
+) -> Result<SetupLine, LineRefusal>
+    ensures ok { IfOk result (SetupIs line.now so_far) }
+    ensures bad { IsErrOf result LineRefusal.BadLine → IsBadSetup line.now so_far }
+    ensures unbuilt { IsErrOf result LineRefusal.Unbuilt → IsUnbuiltSetup line.now so_far }
+{
+    match so_far {
+        Some(setup) => Ok(SetupLine::Other(Some(setup))),
+        None => read_first(alloc, line),
+    }
+}
+
+/// Reads a line while no domain line has come.
+fn read_first(alloc: Global, line: &[u8]) -> Result<SetupLine, LineRefusal>
+    ensures ok { IfOk result (SetupIs line.now None) }
+    ensures bad { IsErrOf result LineRefusal.BadLine → IsBadSetup line.now None }
+    ensures unbuilt { IsErrOf result LineRefusal.Unbuilt → IsUnbuiltSetup line.now None }
+{
+    if is_nothing(line) {
+        return Ok(SetupLine::Other(None));
+    }
+    if is_unbuilt(line) {
+        return Err(LineRefusal::Unbuilt);
+    }
+    match domain_line(alloc, line)? {
+        Some(setup) => Ok(SetupLine::Setup(setup)),
+        None => Err(LineRefusal::BadLine),
+    }
+}
+
+/// `domain D clones N`, where the line spells it.
+fn domain_line(alloc: Global, line: &[u8]) -> Result<Option<Setup>, AllocError>
+    ensures { IfOk result (λ found. MatchOption found ((setup : ModelSetup) → ¬ SpellsSetup line.now setup) (λ setup. SpellsSetup line.now (setup_of setup))) }
+{
+    let Some(rest) = behind(line, b"domain ") else {
+        return Ok(None);
+    };
+    let Some((name, rest)) = split_at_space(rest) else {
+        return Ok(None);
+    };
+    let Some(number) = behind(rest, b"clones ") else {
+        return Ok(None);
+    };
+    let Some(domain) = read_domain(alloc, name)? else {
+        return Ok(None);
+    };
+    let Some(clones) = read_count(number) else {
+        return Ok(None);
+    };
+    Ok(Some(Setup {
+        domain,
+        clones,
+        props: Vec::new(alloc),
+    }))
+}
+
+/// The name of a domain.
+fn read_domain(alloc: Global, text: &[u8]) -> Result<Option<Text>, AllocError>
+    ensures { IfOk result (λ found. MatchOption found (¬ IsTrue (is_domain text.now)) (λ domain. IsTrue (is_domain text.now) × (domain ≡ text.now))) }
+{
+    let Ok(text) = str::from_utf8(text) else {
+        return Ok(None);
+    };
+    if !is_domain(text) {
+        return Ok(None);
+    }
+    Ok(Some(Text::new(alloc, text)?))
+}
