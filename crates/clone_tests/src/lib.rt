@@ -2,10 +2,8 @@
 #![tactic(auto)]
 
 #[cfg(test)]
-mod alone;
+mod calls;
 #[cfg(test)]
 mod clones;
 #[cfg(test)]
-mod joining;
-#[cfg(test)]
-mod stopping;
+mod refusals;
