@@ -1,6 +1,6 @@
 //! Schedules worked by hand, each with what the run tells of the world that it ends with.
-use crate::runs::{ran_by, with_comment};
-use mld_io::{MemorySink, MemorySource};
+use crate::replays::{is_end, replayed};
+use crate::runs::with_comment;
 use mld_ops::Tagged;
 use mld_replay::run::RunFault;
 use net_world::{CloneSummary, State, Summary};
@@ -102,18 +102,6 @@ fn is_told(summary: &Summary, zero: &Told<'_>, one: &Told<'_>, triple: &Triple) 
     }
 }
 
-/// What is told of the world that a schedule leads to.
-fn told_of<R: Threads>(
-    rt: &R,
-    alloc: Global,
-    schedule: &[u8],
-) -> Result<(u8, Option<Summary>), AllocError> {
-    let mut source = MemorySource::new(alloc, schedule, &[])?;
-    let mut sink = MemorySink::new(alloc, &[])?;
-    let ran = ran_by(rt, alloc, "replay", &mut source, &mut sink)?;
-    Ok((ran.status, ran.world))
-}
-
 /// The triple of the schedules.
 fn triple(alloc: Global) -> Result<Triple, Fail> {
     let text = "<http://d/a> <http://d/#p> \"x\" .";
@@ -129,9 +117,9 @@ fn tells<R: Threads>(
     one: &Told<'_>,
 ) -> Result<bool, Fail> {
     let triple = triple(alloc)?;
-    let (status, world) = told_of(rt, alloc, schedule.as_bytes())?;
-    Ok(match world {
-        Some(summary) => status == 0 && is_told(&summary, zero, one, &triple),
+    let ended = replayed(rt, alloc, schedule.as_bytes(), &[], &[])?;
+    Ok(match &ended.world {
+        Some(summary) => ended.status == 0 && is_told(summary, zero, one, &triple),
         None => false,
     })
 }
@@ -166,8 +154,8 @@ fn ends_telling<R: Threads>(
     alloc: Global,
     schedule: &[u8],
 ) -> Result<(u8, bool), AllocError> {
-    let (status, world) = told_of(rt, alloc, schedule)?;
-    Ok((status, world.is_some()))
+    let ended = replayed(rt, alloc, schedule, &[], &[])?;
+    Ok((ended.status, ended.world.is_some()))
 }
 
 #[test]
@@ -198,40 +186,51 @@ fn a_run_tells_of_its_world_at_some_statuses(rt: HostRuntime) -> Result<(), Fail
     Ok(())
 }
 
+/// Two adds at a clone of two, the second without LF.
+const TWO_ADDS: &[u8] =
+    b"domain d clones 2\nadd 0 <http://d/a> <http://d/#p> \"x\" .\nadd 0 <http://d/a> <http://d/#p> \"x\" .";
+
+/// Where this read fails two lines of those are done, and just the first add is told of.
+fn tells_one_add<R: Threads>(rt: &R, alloc: Global, failing: u64) -> Result<bool, Fail> {
+    let triple = triple(alloc)?;
+    let ended = replayed(rt, alloc, TWO_ADDS, &[failing], &[])?;
+    let zero = Told {
+        known: &[(leaf(false), 1)],
+        journal: &[only(false, 1)],
+        dots: &[dot(false, 1)],
+    };
+    let one = Told {
+        known: &[],
+        journal: &[],
+        dots: &[],
+    };
+    let text = b"ready 2\ndid r0.1 m1\n";
+    Ok(match &ended.world {
+        Some(summary) => {
+            is_end(&ended, 2, Some(RunFault::ReadFault), text)
+                && is_told(summary, &zero, &one, &triple)
+        }
+        None => false,
+    })
+}
+
+/// Where this read fails no command is done, and no world is told of.
+fn tells_of_no_world<R: Threads>(rt: &R, alloc: Global, failing: u64) -> Result<bool, AllocError> {
+    let ended = replayed(rt, alloc, TWO_ADDS, &[failing], &[])?;
+    Ok(ended.status == 2 && ended.world.is_none())
+}
+
 #[test]
 fn a_run_whose_source_fails_tells_of_the_lines_done(rt: HostRuntime) -> Result<(), Fail> {
-    let schedule =
-        b"domain d clones 2\nadd 0 <http://d/a> <http://d/#p> \"x\" .\nadd 0 <http://d/a> <http://d/#p> \"x\" .";
     // The lines take 18 and 39 bytes with their LF, and the last one 38: read 57 is the first behind the second line, and
-    // read 95 the first behind the third. Where either fails two lines are done, so one pair is there.
+    // read 95 the first behind the third.
     for failing in [57, 95] {
-        let mut source = MemorySource::new(rt.alloc(), schedule, &[failing])?;
-        let mut sink = MemorySink::new(rt.alloc(), &[])?;
-        let ran = ran_by(&rt, rt.alloc(), "replay", &mut source, &mut sink)?;
-        assert_eq!(rt; ran.status, 2);
-        assert_eq!(rt; ran.fault, Some(RunFault::ReadFault));
-        assert!(rt; sink.bytes() == b"ready 2\ndid r0.1 m1\n".as_slice());
-        let summary = ran.world.ok_or("a summary")?;
-        let zero = Told {
-            known: &[(leaf(false), 1)],
-            journal: &[only(false, 1)],
-            dots: &[dot(false, 1)],
-        };
-        let one = Told {
-            known: &[],
-            journal: &[],
-            dots: &[],
-        };
-        let triple = triple(rt.alloc())?;
-        assert!(rt; is_told(&summary, &zero, &one, &triple));
+        let is_so = tells_one_add(&rt, rt.alloc(), failing)?;
+        assert!(rt; is_so, "{failing}");
     }
-    // No domain line is done, and then no command.
     for failing in [17, 18, 56] {
-        let mut source = MemorySource::new(rt.alloc(), schedule, &[failing])?;
-        let mut sink = MemorySink::new(rt.alloc(), &[])?;
-        let ran = ran_by(&rt, rt.alloc(), "replay", &mut source, &mut sink)?;
-        assert_eq!(rt; ran.status, 2);
-        assert!(rt; ran.world.is_none());
+        let is_so = tells_of_no_world(&rt, rt.alloc(), failing)?;
+        assert!(rt; is_so, "{failing}");
     }
     Ok(())
 }
@@ -240,14 +239,11 @@ fn a_run_whose_source_fails_tells_of_the_lines_done(rt: HostRuntime) -> Result<(
 /// and tells nothing.
 fn ends_or_lacks_memory<R: Threads>(rt: &R, alloc: Global) -> Result<bool, AllocError> {
     let text = RESTARTED_TEXT.as_bytes();
-    let mut source = MemorySource::new(alloc, RESTARTED.as_bytes(), &[])?;
-    let mut sink = MemorySink::new(alloc, &[])?;
-    let ran = ran_by(rt, alloc, "replay", &mut source, &mut sink)?;
-    let written = sink.bytes();
-    Ok(match ran.fault {
-        None => ran.status == 0 && ran.world.is_some() && written == text,
+    let ended = replayed(rt, alloc, RESTARTED.as_bytes(), &[], &[])?;
+    Ok(match ended.fault {
+        None => is_end(&ended, 0, None, text) && ended.world.is_some(),
         Some(RunFault::NoMemory) => {
-            ran.status == 5 && ran.world.is_none() && text.starts_with(written)
+            ended.status == 5 && ended.world.is_none() && text.starts_with(ended.sink.bytes())
         }
         Some(_) => false,
     })
