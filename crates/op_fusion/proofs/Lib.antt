@@ -10,3 +10,4 @@ pub mod Staying
 pub mod Adding
 pub mod Compacted
 pub mod FusedCuts
+pub mod Applied

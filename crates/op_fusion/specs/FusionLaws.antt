@@ -14,7 +14,7 @@ use Rattle.mld_ops.specs.Cut.{IsCutOf}
 use Rattle.mld_ops.specs.Ready.{last_dot, IsReadyEntry}
 use Rattle.op_fusion.specs.Fusion.{AreNeighbours, joined, Fused}
 use Rattle.mld_ops.specs.Applies.{Applies}
-use Rattle.op_fusion.specs.Cutting.{AreCuts}
+use Rattle.op_fusion.specs.Cutting.{AreCuts, AreCutsBehind}
 
 -- two entries have one fused entry at most, but for the list that its clock is
 abbrev pub OneFused : Type 0
@@ -68,3 +68,9 @@ CutDropsPresent = (entry : EntryValue) (known : ℕ) (state drops adds : List Ta
 abbrev pub CutIsApplied : Type 0
 CutIsApplied = (entry : EntryValue) (known : ℕ) (old drops adds new : List Tagged)
     → AreCuts entry known old drops adds → Applies drops adds old new → IsCutOf entry known old new
+
+-- and so where the entry comes behind an earlier change: what both as one leave of the pairs is the cut of what the earlier one leaves
+abbrev pub CutBehindIsApplied : Type 0
+CutBehindIsApplied = (entry : EntryValue) (known : ℕ) (state drops adds middle more_drops more_adds new : List Tagged)
+    → AreCutsBehind entry known state drops adds more_drops more_adds → Applies drops adds state middle → Applies more_drops more_adds state new
+    → IsCutOf entry known middle new

@@ -1,5 +1,5 @@
 //! The laws of fused entries and of cuts, for all lawful histories. These functions do nothing: their clauses are the laws.
-ghost use Rattle.op_fusion.specs.FusionLaws.{OneFused, FusedNetsAreNet, FusedTimeIsSecond, TakenIsClosed, TakenIsMeaning, CutDropsPresent, CutIsApplied};
+ghost use Rattle.op_fusion.specs.FusionLaws.{OneFused, FusedNetsAreNet, FusedTimeIsSecond, TakenIsClosed, TakenIsMeaning, CutDropsPresent, CutIsApplied, CutBehindIsApplied};
 ghost use Rattle.op_fusion.specs.CompactingLaws.{FusedRunsAreCompacted, FusedIsEntry, FusedIsReady, FusedRaisesBoth, FusedCutsBoth};
 
 /// What a fused entry is. Two entries have one. That of the net effects of two ranges which meet or overlap is the net
@@ -17,10 +17,12 @@ pub fn taken_ranges()
     ensures meaning { TakenIsMeaning }
 {}
 
-/// What a cut is: it drops present pairs alone, and pairs to which it is applied are those behind the entry.
+/// What a cut is: it drops present pairs alone, and pairs to which it is applied are those behind the entry. The same holds of the cut of
+/// an entry behind another change, both as one.
 pub fn cut_pairs()
     ensures drops { CutDropsPresent }
     ensures applied { CutIsApplied }
+    ensures behind { CutBehindIsApplied }
 {}
 
 /// What compacting entries is: runs of neighbours, each as long as it can be, become one range and one entry each. Of two

@@ -9,7 +9,7 @@ mod pairs;
 #[cfg(test)]
 mod tests;
 
-pub use cutting::cut;
+pub use cutting::{cut, cut_behind};
 pub use faults::FuseFault;
 pub use fusing::fuse;
 pub use laws::{compacted_entries, cut_pairs, fused_nets, taken_ranges};

@@ -6,3 +6,6 @@ returns-clause-drops c = laws.cut_drops_present
 
 pub returns-clause-applied : goal.returns-clause-applied
 returns-clause-applied c = laws.cut_is_applied
+
+pub returns-clause-behind : goal.returns-clause-behind
+returns-clause-behind c = laws.cut_behind_is_applied
