@@ -2,7 +2,8 @@
 ghost use Rattle.std.specs.Prelude.{◌≡◌, ◌↔◌, ◌≤◌, ◌++◌, [], List, length, map, IsTrue, IfOk, OnOk, vec_len};
 ghost use Rattle.std.specs.List.{filter};
 ghost use Rattle.std.specs.Option.{option_copied};
-ghost use Rattle.graph_index.specs.Matching.{matches, dots_of, HasTriple};
+ghost use Rattle.chunked_list.specs.Joined.{joined_chunks};
+ghost use Rattle.graph_index.specs.Matching.{is_of, matches, dots_of, HasTriple};
 ghost use Rattle.mld_ops.specs.Applies.{Applies};
 ghost use Rattle.mld_ops.specs.Tagged.{tagged_cmp};
 ghost use Rattle.tree_clock.specs.Lists.{IsAscending};
@@ -12,7 +13,7 @@ use crate::copies::{copy_chunks, copy_found, dots_found};
 use crate::matching::{BeforeTriple, Matching, OfRange, OfTriple};
 use crate::pair_order::PairOrder;
 use crate::steps::Steps;
-use chunked_list::Chunked;
+use chunked_list::{Chunk, Chunked};
 use mld_ops::{Cut, Tagged, Tags};
 use rdf_terms::{Iri, Term, Triple};
 use std::alloc::{AllocError, Global};
@@ -67,6 +68,13 @@ impl Graph {
         copy_chunks(alloc, self.pairs.chunks())
     }
 
+    /// Its pairs in chunks, ascending.
+    pub fn chunks(&self) -> &[Chunk<Tagged>]
+        ensures { joined_chunks result.now ≡ self.now.elements }
+    {
+        self.pairs.chunks()
+    }
+
     /// The number of pairs. It takes no memory.
     pub fn count(&self) -> usize
         ensures { result ≡ length self.now.elements }
@@ -114,6 +122,14 @@ impl Graph {
             Some(pair) => pair.triple == *triple,
             None => false,
         }
+    }
+
+    /// The pairs with the triple, ascending.
+    pub fn of_triple(&self, alloc: Global, triple: &Triple) -> Result<Vec<Tagged>, AllocError>
+        ensures { IfOk result (λ list. list.items ≡ filter (is_of triple.now) self.now.elements) }
+    {
+        let found = self.pairs.filtered(alloc, &OfTriple { triple })?;
+        copy_found(alloc, &found)
     }
 
     /// The dots of the pairs with the triple, ascending.
