@@ -15,6 +15,7 @@ use Rattle.tree_clock.specs.Limits.{path_limit}
 use Rattle.tree_clock.specs.Path.{zero_letter}
 use Rattle.tree_clock.specs.declared.dots.Dot.{Dot}
 use Rattle.tree_clock.proofs.ClockLaws.{same_test, apart_test}
+use Rattle.op_fusion.proofs.Applied.{applied}
 use Rattle.journal_store.proofs.Mounted.{told_before}
 use Rattle.journal_store.proofs.Ready.{ready_same}
 use Rattle.journal_store.proofs.RecordReading.{known_more}
@@ -27,10 +28,10 @@ use Rattle.journal_store.specs.declared.faults.Why.{Why}
 use Rattle.journal_store.specs.declared.faults.Why.TheVariants as why
 use Rattle.clone_core.specs.Appending.{KeepsIfTold, with_entries, AreReadyEntries, MayAppendAll, MayForkNow, LeavesStopped}
 use Rattle.clone_core.specs.Banked.{head_of, kept_as, IsOnBanks}
-use Rattle.clone_core.specs.CloneSteps.{StepValue}
 use Rattle.clone_core.specs.Making.{IsNextEntry}
-use Rattle.clone_core.specs.Plans.{entries_of, StepsLead, IsOwnStep}
-use Rattle.clone_core.proofs.MakingLaws.{own_ready}
+use Rattle.clone_core.specs.Plans.{IsPlanFrom}
+use Rattle.clone_core.specs.declared.plans.Plan.{Plan}
+use Rattle.clone_core.proofs.MakingLaws.{local_ascends, own_ready}
 use Rattle.clone_core.proofs.StopLaws.{none_some}
 
 -- ---- ticks that are the same at each path
@@ -69,13 +70,14 @@ known_leads ticks other pairs [] after new same leads path = same path ∙ ap (�
 known_leads ticks other pairs (entry ∷ entries) after new same leads path =
     known_leads leads.0 (raised_to other (last_dot entry.range)) leads.1 entries after new (raised_ticks ticks leads.0 other (last_dot entry.range) same leads.3) leads.5 path
 
--- the entries of steps are ready one after another
-pub steps_ready : (ticks other : List (List ℕ × ℕ)) (steps : List StepValue) (after : List (List ℕ × ℕ)) → SameTicks ticks other → StepsLead ticks steps after → AreReadyEntries other (entries_of steps)
-steps_ready ticks other [] after same leads = tt
-steps_ready ticks other (step ∷ steps) after same leads = (
-  ready_same ticks other step.entry same leads.2,
-  steps_ready leads.0 (raised_to other (last_dot step.entry.range)) steps after
-      (λ path. sym (raised_ticks ticks leads.0 other (last_dot step.entry.range) (λ p. sym (same p)) leads.4 path))
+-- entries that lead somewhere are ready one after another
+leads_ready : (ticks other : List (List ℕ × ℕ)) (pairs : List Tagged) (entries : List EntryValue) (after : List (List ℕ × ℕ)) (new : List Tagged) → SameTicks ticks other
+    → LeadsTo ticks pairs entries after new → AreReadyEntries other entries
+leads_ready ticks other pairs [] after new same leads = tt
+leads_ready ticks other pairs (entry ∷ entries) after new same leads = (
+  ready_same ticks other entry same leads.2,
+  leads_ready leads.0 (raised_to other (last_dot entry.range)) leads.1 entries after new
+      (λ path. sym (raised_ticks ticks leads.0 other (last_dot entry.range) (λ p. sym (same p)) leads.3 path))
       leads.5,
 )
 
@@ -129,31 +131,29 @@ may_rest before now entry entries may keeps = record {
   ready = subst (λ (ts : List (List ℕ × ℕ)). AreReadyEntries ts entries) (sym (known_more may.kept.head.base.ticks may.kept.entries entry)) may.ready.1;
 }
 
--- a clone's banks may have the entries of steps behind what they keep
-pub steps_may : (now : Option Log) (journal closed : Option Why) (side : Side) (generation : ℕ) (clone : LocalClone) (steps : List StepValue) (after : List (List ℕ × ℕ))
-    → IsLocal clone → IsOnBanks now journal closed side generation clone → closed ≡ None → StepsLead clone.ticks steps after → MayAppendAll now (entries_of steps)
-steps_may now journal closed side generation clone steps after local banks is_open leads = record {
-  kept = kept_as side generation clone;
-  keeps = λ log e. banks.keeps log e is_open;
-  ready = steps_ready clone.ticks (known_after clone.base clone.entries) steps after
-      (λ path. sym (known_leads clone.base clone.base clone.base_pairs clone.entries clone.ticks clone.pairs (λ p. refl) local.leads path)) leads;
-}
+-- what a clone's banks keep is what it knows
+banks_know : (clone : LocalClone) → IsLocal clone → SameTicks clone.ticks (known_after clone.base clone.entries)
+banks_know clone local path = sym (known_leads clone.base clone.base clone.base_pairs clone.entries clone.ticks clone.pairs (λ p. refl) local.leads path)
 
--- and that of the one step of its own entry
-pub own_may : (now : Option Log) (journal closed : Option Why) (side : Side) (generation : ℕ) (clone : LocalClone) (dot : Dot) (entry : EntryValue) (steps : List StepValue)
-    → IsLocal clone → IsOnBanks now journal closed side generation clone → closed ≡ None → IsNextEntry clone.ticks dot entry → IsOwnStep dot entry steps
-    → MayAppendAll now (entries_of steps)
-own_may now journal closed side generation clone dot entry steps local banks is_open next own =
-    subst (λ (ss : List StepValue). MayAppendAll now (entries_of ss)) (sym own.one) (record {
+-- a clone's banks may have the entries of a plan behind what they keep
+pub plan_may : (now : Option Log) (journal closed : Option Why) (side : Side) (generation : ℕ) (clone : LocalClone) (plan : Plan)
+    → IsLocal clone → IsOnBanks now journal closed side generation clone → closed ≡ None → IsPlanFrom clone.ticks clone.pairs plan → MayAppendAll now plan.entries.items
+plan_may now journal closed side generation clone plan local banks is_open from =
+    let new = applied plan.cut.drops.items plan.cut.adds.items clone.pairs (local_ascends clone local) in
+    record {
       kept = kept_as side generation clone;
       keeps = λ log e. banks.keeps log e is_open;
-      ready = (
-        ready_same clone.ticks (known_after clone.base clone.entries) own.step.entry
-            (λ path. sym (known_leads clone.base clone.base clone.base_pairs clone.entries clone.ticks clone.pairs (λ p. refl) local.leads path))
-            (own_ready clone.ticks dot own.step.entry (subst (λ (e : EntryValue). IsNextEntry clone.ticks dot e) (sym own.same) next)),
-        tt,
-      );
-    })
+      ready = leads_ready clone.ticks (known_after clone.base clone.entries) clone.pairs plan.entries.items plan.clock.ticks new.0 (banks_know clone local) (from.leads new.0 new.1);
+    }
+
+-- and the one of its own
+pub own_may : (now : Option Log) (journal closed : Option Why) (side : Side) (generation : ℕ) (clone : LocalClone) (dot : Dot) (entry : EntryValue)
+    → IsLocal clone → IsOnBanks now journal closed side generation clone → closed ≡ None → IsNextEntry clone.ticks dot entry → MayAppendAll now (entry ∷ [])
+own_may now journal closed side generation clone dot entry local banks is_open next = record {
+  kept = kept_as side generation clone;
+  keeps = λ log e. banks.keeps log e is_open;
+  ready = (ready_same clone.ticks (known_after clone.base clone.entries) entry (banks_know clone local) (own_ready clone.ticks dot entry next), tt);
+}
 
 -- and a fork, where the path has room
 pub fork_may : (now : Option Log) (journal closed : Option Why) (side : Side) (generation : ℕ) (clone : LocalClone)

@@ -1,4 +1,4 @@
--- A loop that appends the entries of steps.
+-- A loop that appends entries.
 use Rattle.std.proofs.Common.{◌≡◌, ◌∙◌, ℕ, ◌+◌, ◌*◌, ◌<◌, ◌≤◌, List, [], ◌∷◌, ◌++◌, append_assoc, append-nil, length, get_or, drop, Option, None, Some, Bool, true, false, refl, sym, ap, subst}
 use Rattle.std.proofs.lemmas.List.{drop_more, drop_all}
 use Rattle.std.specs.List.{AllByRecursion}
@@ -10,8 +10,6 @@ use Rattle.journal_store.specs.Pairs.{Kept, with_entry}
 use Rattle.journal_store.specs.Standing.{JournalValue}
 use Rattle.journal_store.specs.declared.faults.Why.{Why}
 use Rattle.clone_core.specs.Appending.{KeepsIfTold, with_entries, MayAppendAll, LeavesOpen}
-use Rattle.clone_core.specs.CloneSteps.{StepValue}
-use Rattle.clone_core.specs.Plans.{entries_of}
 use Rattle.clone_core.proofs.AppendLaws.{may_rest}
 use Rattle.clone_core.proofs.StopLaws.{Metered-none, append_done}
 
@@ -21,21 +19,21 @@ pub record KeepsSoFar (kept : Kept) (all rest : List EntryValue) (now : Option L
   pub keeps : KeepsIfTold so_far now
   pub leads : with_entries rest so_far ≡ with_entries all kept
 
-module _ {B : Type 0} (log : B → Option Log) (meter : B → Meter) (steps : List StepValue) (first : JournalValue B) where
+module _ {B : Type 0} (log : B → Option Log) (meter : B → Meter) (all : List EntryValue) (first : JournalValue B) where
   -- what the loop has done so far
   pub record IsAppendingAll (i : ℕ) (journal : JournalValue B) (closed : Option Why) (done : Bool) : Type 0 where
     pub closed_is : closed ≡ None
     pub journal_open : journal.closed ≡ None
     pub side_is : journal.side ≡ first.side
     pub generation_is : journal.generation ≡ first.generation
-    pub follow : MayAppendAll (log journal.banks) (entries_of (drop i steps))
-    pub keeps : (kept : Kept) → KeepsIfTold kept (log first.banks) → KeepsSoFar kept (entries_of steps) (entries_of (drop i steps)) (log journal.banks)
-    pub short : AllByRecursion IsShortEntry (entries_of (drop i steps))
+    pub follow : MayAppendAll (log journal.banks) (drop i all)
+    pub keeps : (kept : Kept) → KeepsIfTold kept (log first.banks) → KeepsSoFar kept all (drop i all) (log journal.banks)
+    pub short : AllByRecursion IsShortEntry (drop i all)
     pub untouched : done ≡ false → journal ≡ first
     pub metered : Metered (4 * i) (meter first.banks) (meter journal.banks) (Unit {0}) ⊥
 
   -- nothing yet
-  pub appending_none : (closed : Option Why) → closed ≡ None → first.closed ≡ None → MayAppendAll (log first.banks) (entries_of steps) → AllByRecursion IsShortEntry (entries_of steps)
+  pub appending_none : (closed : Option Why) → closed ≡ None → first.closed ≡ None → MayAppendAll (log first.banks) all → AllByRecursion IsShortEntry all
       → IsAppendingAll 0 first closed false
   appending_none closed is_open journal_open may short = record {
     closed_is = is_open;
@@ -49,21 +47,21 @@ module _ {B : Type 0} (log : B → Option Log) (meter : B → Meter) (steps : Li
     metered = Metered-none (meter first.banks) (λ f. f);
   }
 
-  module _ (i : ℕ) (journal : JournalValue B) (closed : Option Why) (done : Bool) (step : StepValue) (less : i < length steps) (is : step ≡ get_or steps i step)
+  module _ (i : ℕ) (journal : JournalValue B) (closed : Option Why) (done : Bool) (entry : EntryValue) (less : i < length all) (is : entry ≡ get_or all i entry)
       (so : IsAppendingAll i journal closed done) where
     -- the entries that are left
-    pub left_is : entries_of (drop i steps) ≡ step.entry ∷ entries_of (drop (i + 1) steps)
-    left_is = ap entries_of (drop_more steps i step less) ∙ ap (λ (s : StepValue). s.entry ∷ entries_of (drop (i + 1) steps)) (sym is)
+    pub left_is : drop i all ≡ entry ∷ drop (i + 1) all
+    left_is = drop_more all i entry less ∙ ap (λ (e : EntryValue). e ∷ drop (i + 1) all) (sym is)
 
-    pub step_may : MayAppendAll (log journal.banks) (step.entry ∷ entries_of (drop (i + 1) steps))
-    step_may = subst (λ (es : List EntryValue). MayAppendAll (log journal.banks) es) left_is so.follow
+    pub entry_may : MayAppendAll (log journal.banks) (entry ∷ drop (i + 1) all)
+    entry_may = subst (λ (es : List EntryValue). MayAppendAll (log journal.banks) es) left_is so.follow
 
-    pub step_short : IsShortEntry step.entry × AllByRecursion IsShortEntry (entries_of (drop (i + 1) steps))
-    step_short = subst (λ (es : List EntryValue). AllByRecursion IsShortEntry es) left_is so.short
+    pub entry_short : IsShortEntry entry × AllByRecursion IsShortEntry (drop (i + 1) all)
+    entry_short = subst (λ (es : List EntryValue). AllByRecursion IsShortEntry es) left_is so.short
 
     -- one was appended
     pub appending_more : {D F : Type 0} (now : JournalValue B) (shut : Option Why)
-        → ((kept : Kept) → KeepsIfTold kept (log journal.banks) → KeepsIfTold (with_entry step.entry kept) (log now.banks))
+        → ((kept : Kept) → KeepsIfTold kept (log journal.banks) → KeepsIfTold (with_entry entry kept) (log now.banks))
         → LeavesOpen now shut → now.side ≡ journal.side → now.generation ≡ journal.generation
         → Metered 4 (meter journal.banks) (meter now.banks) D F → D → ¬ F → IsAppendingAll (i + 1) now shut true
     appending_more now shut more is_open side generation metered d f = record {
@@ -71,27 +69,27 @@ module _ {B : Type 0} (log : B → Option Log) (meter : B → Meter) (steps : Li
       journal_open = is_open.journal_open;
       side_is = side ∙ so.side_is;
       generation_is = generation ∙ so.generation_is;
-      follow = may_rest (log journal.banks) (log now.banks) step.entry (entries_of (drop (i + 1) steps)) step_may more;
+      follow = may_rest (log journal.banks) (log now.banks) entry (drop (i + 1) all) entry_may more;
       keeps = λ kept k.
           let s = so.keeps kept k in
           record {
-            so_far = with_entry step.entry s.so_far;
+            so_far = with_entry entry s.so_far;
             keeps = more s.so_far s.keeps;
-            leads = ap (λ (es : List EntryValue). record s.so_far { entries = es }) (append_assoc s.so_far.entries (step.entry ∷ []) (entries_of (drop (i + 1) steps)))
+            leads = ap (λ (es : List EntryValue). record s.so_far { entries = es }) (append_assoc s.so_far.entries (entry ∷ []) (drop (i + 1) all))
                 ∙ ap (λ (es : List EntryValue). with_entries es s.so_far) (sym left_is) ∙ s.leads;
           };
-      short = step_short.1;
+      short = entry_short.1;
       untouched = λ e. absurd (let c : true ≡ false = e in cc);
       metered = append_done i (meter first.banks) (meter journal.banks) (meter now.banks) so.metered metered d f;
     }
 
   -- all were
-  pub appending_all : (i : ℕ) (journal : JournalValue B) (closed : Option Why) (done : Bool) → length steps ≤ i → IsAppendingAll i journal closed done
-      → (kept : Kept) → KeepsIfTold kept (log first.banks) → KeepsIfTold (with_entries (entries_of steps) kept) (log journal.banks)
+  pub appending_all : (i : ℕ) (journal : JournalValue B) (closed : Option Why) (done : Bool) → length all ≤ i → IsAppendingAll i journal closed done
+      → (kept : Kept) → KeepsIfTold kept (log first.banks) → KeepsIfTold (with_entries all kept) (log journal.banks)
   appending_all i journal closed done past so kept k =
       let s = so.keeps kept k in
-      let none : entries_of (drop i steps) ≡ [] = ap entries_of (drop_all i steps past) in
-      let same : s.so_far ≡ with_entries (entries_of steps) kept =
+      let none : drop i all ≡ [] = drop_all i all past in
+      let same : s.so_far ≡ with_entries all kept =
       ap (λ (es : List EntryValue). record s.so_far { entries = es }) (sym (append-nil s.so_far.entries))
       ∙ ap (λ (es : List EntryValue). with_entries es s.so_far) (sym none) ∙ s.leads in
       subst (λ (w : Kept). KeepsIfTold w (log journal.banks)) same s.keeps

@@ -16,7 +16,7 @@ none_held = omega arith
 
 -- a clone that has what the entries behind its head lead to
 pub found_local : (head : HeadValue) (path : List ℕ) (replayed : Replayed) → IsNamed head.domain head.props → IsClock head.base.ticks → IsGoodSnapshot head.base
-    → LeadsTo head.base.ticks head.base.pairs replayed.entries.items replayed.clock.ticks replayed.pairs.items → AreCovered replayed.clock.ticks replayed.pairs.items
+    → LeadsTo head.base.ticks head.base.pairs replayed.entries.items replayed.clock.ticks replayed.pairs.elements → AreCovered replayed.clock.ticks replayed.pairs.elements
     → IsLocal (found_clone head path replayed)
 found_local head path replayed named clock base leads covered = record {
   named = named;
@@ -30,10 +30,10 @@ found_local head path replayed named clock base leads covered = record {
 
 -- a clone that has no entries
 pub begun_local : (head : HeadValue) (path : List ℕ) (replayed : Replayed) → IsNamed head.domain head.props → IsClock head.base.ticks → IsGoodSnapshot head.base
-    → replayed.clock.ticks ≡ head.base.ticks → replayed.pairs.items ≡ head.base.pairs → replayed.entries.items ≡ [] → IsLocal (found_clone head path replayed)
+    → replayed.clock.ticks ≡ head.base.ticks → replayed.pairs.elements ≡ head.base.pairs → replayed.entries.items ≡ [] → IsLocal (found_clone head path replayed)
 begun_local head path replayed named clock base ticks pairs none =
     found_local head path replayed named clock base
-    (subst (λ (es : List EntryValue). LeadsTo head.base.ticks head.base.pairs es replayed.clock.ticks replayed.pairs.items) (sym none) (ticks, pairs))
+    (subst (λ (es : List EntryValue). LeadsTo head.base.ticks head.base.pairs es replayed.clock.ticks replayed.pairs.elements) (sym none) (ticks, pairs))
     (λ pair h.
     subst (λ (ts : List (List ℕ × ℕ)). Covers ts pair.dot) (sym ticks)
     (base.covered pair (subst (λ (ps : List Tagged). Has ps pair) pairs h)))

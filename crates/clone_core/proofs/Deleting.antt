@@ -1,13 +1,13 @@
 -- The pairs that a clone deletes, and the entry of the operation that deletes them.
-use Rattle.std.proofs.Common.{◌≡◌, ◌∙◌, ℕ, ◌<◌, ◌≤◌, List, length, take, [], ◌∷◌, Bool, true, refl, ap, sym, subst, inl, arith, inr}
+use Rattle.std.proofs.Common.{◌≡◌, ◌∙◌, ℕ, ◌<◌, ◌≤◌, List, [], ◌∷◌, Bool, true, refl, ap, sym, subst, inl, arith, inr}
 use Rattle.std.proofs.lemmas.Bool.{false≢true}
 use Rattle.std.proofs.lemmas.Cmp.{tied_itself}
-use Rattle.std.proofs.lemmas.List.{take_all}
 use Rattle.std.specs.Bool.{Decides}
 use Rattle.std.specs.List.{AllByRecursion, filter}
 use Rattle.std.specs.Ordering.{eq_by_cmp, is_eq}
 use Rattle.std.specs.declared.cmp.Ordering.{Ordering}
 use Rattle.std.specs.declared.cmp.Ordering.TheVariants.{Less, Equal, Greater}
+use Rattle.graph_index.specs.Matching.{is_of}
 use Rattle.rdf_terms.specs.declared.terms.Triple.{Triple}
 use Rattle.rdf_terms.specs.Order.{triple_cmp}
 use Rattle.rdf_terms.specs.OrderLaws.{triple_total, triple_exact}
@@ -24,10 +24,6 @@ use Rattle.mld_ops.specs.Effect.{range_of}
 use Rattle.mld_model.specs.CloneStep.{ArePairsOf}
 use Rattle.clone_core.specs.Making.{MayBeDeleted}
 
--- the test of a pair for its triple
-abbrev pub is_of : Triple → Tagged → Bool
-is_of triple pair = eq_by_cmp triple_cmp pair.triple triple
-
 tied : (o : Ordering) → is_eq o ≡ true → o ≡ Equal
 tied Less h = absurd (false≢true h)
 tied Equal h = refl
@@ -38,14 +34,13 @@ triple_decides : (a b : Triple) → Decides (eq_by_cmp triple_cmp a b) (a ≡ b)
 triple_decides a b = (λ h. triple_exact a b (tied (triple_cmp a b) h), λ e. ap is_eq (ap (triple_cmp a) (sym e) ∙ tied_itself triple_total a))
 
 -- the pairs that pass the test are those of the triple
-pub filtered_pairs : (triple : Triple) (pairs found : List Tagged) (i : ℕ) → length pairs ≤ i → IsAscending tagged_cmp pairs
-    → found ≡ filter (is_of triple) (take i pairs) → ArePairsOf triple pairs found
-filtered_pairs triple pairs found i past a e =
-    subst (λ (l : List Tagged). ArePairsOf triple pairs l) (sym (e ∙ ap (filter (is_of triple)) (take_all i pairs past))) (record {
+pub filtered_pairs : (triple : Triple) (pairs found : List Tagged) → IsAscending tagged_cmp pairs → found ≡ filter (is_of triple) pairs → ArePairsOf triple pairs found
+filtered_pairs triple pairs found a e =
+    subst (λ (l : List Tagged). ArePairsOf triple pairs l) (sym e) (record {
       ascending = ascending_filter tagged_cmp (is_of triple) pairs a;
       members = λ pair. (
-        λ h. let f = (has_filter (is_of triple) pairs pair).0 h in (f.0, (triple_decides pair.triple triple).0 f.1),
-        λ h. (has_filter (is_of triple) pairs pair).1 (h.0, (triple_decides pair.triple triple).1 h.1),
+        λ h. let f = (has_filter (is_of triple) pairs pair).0 h in (f.0, sym ((triple_decides triple pair.triple).0 f.1)),
+        λ h. (has_filter (is_of triple) pairs pair).1 (h.0, (triple_decides triple pair.triple).1 (sym h.1)),
       );
     })
 

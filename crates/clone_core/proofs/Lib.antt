@@ -1,8 +1,5 @@
-pub mod PlanLaws
 pub mod MakingLaws
-pub mod Cutting
 pub mod Deleting
-pub mod Stepping
 pub mod Planning
 pub mod OwnEntries
 pub mod Taking
@@ -13,3 +10,4 @@ pub mod Appended
 pub mod Begun
 pub mod Removing
 pub mod Mounting
+pub mod Replaying

@@ -94,7 +94,7 @@ local_taken old entries held ticks pairs local e l h = record {
 -- ---- a clone's own entries
 
 module _ (ticks : List (List ℕ × ℕ)) (dot : Dot) (entry : EntryValue) (next : IsNextEntry ticks dot entry) where
-  path_is : entry.range.path ≡ dot.path
+  pub path_is : entry.range.path ≡ dot.path
   path_is = ap (λ (r : Range). r.path) next.range
 
   first_is : entry.range.first ≡ dot.tick

@@ -1,62 +1,67 @@
 -- Plans grow by entries that are ready.
-use Rattle.std.proofs.Common.{◌≡◌, ◌∙◌, ℕ, ◌+◌, ◌≤◌, List, [], ◌∷◌, ◌++◌, length, append_assoc, append-nil, Option, None, refl, sym, ap, subst, inl, inr, arith}
+use Rattle.std.proofs.Common.{◌≡◌, ◌∙◌, ℕ, ◌+◌, ◌≤◌, List, [], ◌∷◌, ◌++◌, length, append_assoc, append-nil, Option, None, Some, refl, sym, ap, subst, inl, inr, arith}
+use Rattle.std.specs.List.{AllByRecursion}
 use Rattle.tree_clock.specs.declared.dots.Range.{Range}
 use Rattle.tree_clock.specs.Clock.{ticks_of, RaisesTo}
+use Rattle.tree_clock.specs.Lists.{Has, IsAscending}
+use Rattle.mld_ops.specs.declared.tagged.Tagged.{Tagged}
+use Rattle.mld_ops.specs.Applies.{Applies}
+use Rattle.mld_ops.specs.Cut.{IsCutOf}
 use Rattle.mld_ops.specs.Entry.{EntryValue, IsEntry}
-use Rattle.mld_ops.specs.Picking.{HasNone, DropsThose, TakesFirst}
-use Rattle.mld_ops.proofs.PickingLaws.{none_drops}
-use Rattle.mld_ops.specs.Ready.{last_dot, IsKnownEntry, IsReadyEntry}
-use Rattle.mld_model.specs.Local.{LocallyReleases}
 use Rattle.mld_ops.specs.Held.{ranges_of}
-use Rattle.clone_core.specs.Plans.{entries_of, adds_of, StepsLead, IsPlanFrom, IsEmptyPlan, PlansEntry, PlansReleases, IsPlanOf, left_of}
-use Rattle.clone_core.specs.CloneSteps.{StepValue}
+use Rattle.mld_ops.specs.Picking.{HasNone, DropsThose, TakesFirst}
+use Rattle.mld_ops.proofs.AscendingLaws.{same_ascending}
+use Rattle.mld_ops.proofs.PickingLaws.{none_drops}
+use Rattle.mld_ops.proofs.TaggedLaws.{tagged_total, tagged_exact}
+use Rattle.mld_ops.specs.Ready.{last_dot, IsKnownEntry, IsReadyEntry}
+use Rattle.mld_ops.specs.Tagged.{tagged_cmp}
+use Rattle.mld_model.specs.Local.{LeadsTo, LocallyReleases}
+use Rattle.op_fusion.specs.Cutting.{AreCutsBehind}
+use Rattle.op_fusion.proofs.Applied.{applied}
+use Rattle.op_fusion.proofs.CutPairs.{cut_behind_is_applied}
+use Rattle.clone_core.specs.Plans.{AscendsBoth, IsPlanFrom, IsEmptyPlan, StaysPlan, PlansEntry, PlansReleases, IsPlanOf, left_of}
 use Rattle.clone_core.specs.declared.plans.Plan.{Plan}
-use Rattle.journal_store.specs.StoredVolumes.{AreGoodEntries}
-use Rattle.clone_core.specs.Appending.{AreReadyEntries}
-use Rattle.clone_core.proofs.AppendLaws.{good_ready, ready_rest}
+use Rattle.clone_core.proofs.MakingLaws.{leads_append}
 
--- ---- one more step
+-- ---- one more entry
 
-leads_more : (start : List (List ℕ × ℕ)) (steps : List StepValue) (ticks after : List (List ℕ × ℕ)) (step : StepValue)
-    → StepsLead start steps ticks → IsEntry step.entry → IsReadyEntry ticks step.entry → step.known ≡ ticks_of ticks step.entry.range.path
-    → RaisesTo ticks after (last_dot step.entry.range) → StepsLead start (steps ++ step ∷ []) after
-leads_more start [] ticks after step l e r k c =
-    let back = λ (P : List (List ℕ × ℕ) → Type 0) (h : P ticks). subst P l h in (
-      after,
-      e,
-      back (λ ts. IsReadyEntry ts step.entry) r,
-      back (λ ts. step.known ≡ ticks_of ts step.entry.range.path) k,
-      back (λ ts. RaisesTo ts after (last_dot step.entry.range)) c,
-      refl,
-    )
-leads_more start (s ∷ steps) ticks after step l e r k c = (l.0, l.1, l.2, l.3, l.4, leads_more l.0 steps ticks after step l.5 e r k c)
+all_more : (entries : List EntryValue) (entry : EntryValue) → AllByRecursion IsEntry entries → IsEntry entry → AllByRecursion IsEntry (entries ++ entry ∷ [])
+all_more [] entry all e = (e, tt)
+all_more (x ∷ entries) entry all e = (all.0, all_more entries entry all.1 e)
 
-adds_more : (steps : List StepValue) (step : StepValue) → adds_of (steps ++ step ∷ []) ≡ adds_of steps + step.adds
-adds_more [] step = omega arith
-adds_more (s ∷ steps) step = let e = adds_more steps step in omega (arith, e)
-
-pub entries_more : (steps : List StepValue) (step : StepValue) → entries_of (steps ++ step ∷ []) ≡ entries_of steps ++ step.entry ∷ []
-entries_more [] step = refl
-entries_more (s ∷ steps) step = ap (λ (es : List EntryValue). s.entry ∷ es) (entries_more steps step)
-
-ranges_more : (entries : List EntryValue) (entry : EntryValue) → ranges_of (entries ++ entry ∷ []) ≡ ranges_of entries ++ entry.range ∷ []
+pub ranges_more : (entries : List EntryValue) (entry : EntryValue) → ranges_of (entries ++ entry ∷ []) ≡ ranges_of entries ++ entry.range ∷ []
 ranges_more [] entry = refl
 ranges_more (e ∷ entries) entry = ap (λ (rs : List Range). e.range ∷ rs) (ranges_more entries entry)
 
--- the plan with one more step
-pub plans_more : (old new : Plan) (step : StepValue) → IsEntry step.entry → IsReadyEntry old.clock.ticks step.entry
-    → step.known ≡ ticks_of old.clock.ticks step.entry.range.path → RaisesTo old.clock.ticks new.clock.ticks (last_dot step.entry.range)
-    → new.steps.items ≡ old.steps.items ++ step ∷ [] → new.adds ≡ old.adds + step.adds → new.ranges ≡ old.ranges ++ step.entry.range ∷ []
-    → new.left ≡ old.left → PlansEntry old step.entry new
-plans_more old new step e r k c steps adds ranges left = record {
-  leads = λ ticks from. record {
-    leads = subst (λ (ss : List StepValue). StepsLead ticks ss new.clock.ticks) (sym steps) (leads_more ticks old.steps.items old.clock.ticks new.clock.ticks step from.leads e r k c);
-    adds = adds ∙ ap (λ n. n + step.adds) from.adds ∙ sym (adds_more old.steps.items step) ∙ ap adds_of (sym steps);
-    ranges = ranges ∙ ap (λ (rs : List Range). rs ++ step.entry.range ∷ []) from.ranges ∙ sym (ranges_more (entries_of old.steps.items) step.entry)
-        ∙ ap ranges_of (sym (entries_more old.steps.items step)) ∙ ap (λ (ss : List StepValue). ranges_of (entries_of ss)) (sym steps);
+-- where the first cut leads through entries, the cut of one more entry behind it leads through that too
+leads_more : (ticks middle after : List (List ℕ × ℕ)) (pairs drops adds more_drops more_adds : List Tagged) (entries : List EntryValue) (entry : EntryValue) (known : ℕ)
+    → IsAscending tagged_cmp pairs → IsReadyEntry middle entry → known ≡ ticks_of middle entry.range.path → RaisesTo middle after (last_dot entry.range)
+    → AreCutsBehind entry known pairs drops adds more_drops more_adds
+    → ((new : List Tagged) → Applies drops adds pairs new → LeadsTo ticks pairs entries middle new)
+    → (new : List Tagged) → Applies more_drops more_adds pairs new → LeadsTo ticks pairs (entries ++ entry ∷ []) after new
+leads_more ticks middle after pairs drops adds more_drops more_adds entries entry known a ready is raised cuts leads new both =
+    let half = applied drops adds pairs a in
+    let cut = cut_behind_is_applied entry known pairs drops adds half.0 more_drops more_adds new cuts half.1 both in
+    leads_append ticks pairs entries (entry ∷ []) middle half.0 after new (leads half.0 half.1)
+    (after, new, ready, raised, subst (λ k. IsCutOf entry k half.0 new) is cut, (refl, refl))
+
+-- the plan with one more entry
+pub plans_more : (pairs : List Tagged) (old new : Plan) (entry : EntryValue) (known : ℕ) → IsEntry entry → IsReadyEntry old.clock.ticks entry
+    → known ≡ ticks_of old.clock.ticks entry.range.path → RaisesTo old.clock.ticks new.clock.ticks (last_dot entry.range)
+    → AreCutsBehind entry known pairs old.cut.drops.items old.cut.adds.items new.cut.drops.items new.cut.adds.items
+    → new.entries.items ≡ old.entries.items ++ entry ∷ [] → new.ranges ≡ old.ranges ++ entry.range ∷ []
+    → new.left ≡ old.left → PlansEntry pairs old entry new
+plans_more pairs old new entry known e ready is raised cuts entries ranges left = record {
+  leads = λ ticks a from. record {
+    are_entries = subst (λ (es : List EntryValue). AllByRecursion IsEntry es) (sym entries) (all_more old.entries.items entry from.are_entries e);
+    leads = λ news both. subst (λ (es : List EntryValue). LeadsTo ticks pairs es new.clock.ticks news) (sym entries)
+        (leads_more ticks old.clock.ticks new.clock.ticks pairs old.cut.drops.items old.cut.adds.items new.cut.drops.items new.cut.adds.items old.entries.items entry known
+        a ready is raised cuts from.leads news both);
+    ranges = ranges ∙ ap (λ (rs : List Range). rs ++ entry.range ∷ []) from.ranges ∙ sym (ranges_more old.entries.items entry) ∙ ap ranges_of (sym entries);
   };
-  entries = ap entries_of steps ∙ entries_more old.steps.items step;
-  clock = c;
+  cut = record { drops = cuts.drops_ascend; adds = cuts.adds_ascend };
+  entries = entries;
+  clock = raised;
   left = left;
 }
 
@@ -68,12 +73,12 @@ pub releases_none : (ticks : List (List ℕ × ℕ)) (held : List EntryValue) �
 releases_none ticks held known ready = (none_drops (IsKnownEntry ticks) held known, ready, refl)
 
 -- a plan that is as it was, where nothing is released
-pub plans_none : (plan : Plan) (held : List EntryValue) → plan.left ≡ None → HasNone (IsKnownEntry plan.clock.ticks) held → HasNone (IsReadyEntry plan.clock.ticks) held
-    → PlansReleases plan held plan (left_of plan.left held)
-plans_none plan held none known ready = record {
-  leads = λ ticks from. from;
+pub plans_none : (pairs : List Tagged) (plan : Plan) (held : List EntryValue) → plan.left ≡ None → HasNone (IsKnownEntry plan.clock.ticks) held → HasNone (IsReadyEntry plan.clock.ticks) held
+    → PlansReleases pairs plan held plan (left_of plan.left held)
+plans_none pairs plan held none known ready = record {
+  leads = λ ticks a from. from;
   taken = [];
-  entries = sym (append-nil (entries_of plan.steps.items));
+  entries = sym (append-nil plan.entries.items);
   releases = subst (λ (left : List EntryValue). LocallyReleases plan.clock.ticks held [] plan.clock.ticks left) (sym (ap (λ (o : Option (List EntryValue)). left_of o held) none))
       (releases_none plan.clock.ticks held known ready);
 }
@@ -92,40 +97,43 @@ first_shorter P (x ∷ xs) first rest (inr t) = let l = first_shorter P xs first
 -- ---- a loop that releases
 
 -- what a loop that releases has done so far
-pub record IsReleasing (start : Plan) (begun : List EntryValue) (plan : Plan) (held : List EntryValue) : Type 0 where
-  pub leads : (ticks : List (List ℕ × ℕ)) → IsPlanFrom ticks start → IsPlanFrom ticks plan
+pub record IsReleasing (pairs : List Tagged) (start : Plan) (begun : List EntryValue) (plan : Plan) (held : List EntryValue) : Type 0 where
+  pub leads : StaysPlan pairs start plan
+  pub cut : AscendsBoth plan.cut
   pub taken : List EntryValue
-  pub entries : entries_of plan.steps.items ≡ entries_of start.steps.items ++ taken
+  pub entries : plan.entries.items ≡ start.entries.items ++ taken
   pub releases : (more : List EntryValue) (after : List (List ℕ × ℕ)) (left : List EntryValue)
       → LocallyReleases plan.clock.ticks held more after left → LocallyReleases start.clock.ticks begun (taken ++ more) after left
 
 -- nothing yet
-pub releasing_none : (plan : Plan) (held : List EntryValue) → IsReleasing plan held plan held
-releasing_none plan held = record {
-  leads = λ ticks from. from;
+pub releasing_none : (pairs : List Tagged) (plan : Plan) (held : List EntryValue) → AscendsBoth plan.cut → IsReleasing pairs plan held plan held
+releasing_none pairs plan held ascends = record {
+  leads = λ ticks a from. from;
+  cut = ascends;
   taken = [];
-  entries = sym (append-nil (entries_of plan.steps.items));
+  entries = sym (append-nil plan.entries.items);
   releases = λ more after left r. r;
 }
 
 -- one more entry
-pub releasing_more : (start : Plan) (begun : List EntryValue) (plan next : Plan) (held kept rest : List EntryValue) (entry : EntryValue)
-    → IsReleasing start begun plan held → DropsThose (IsKnownEntry plan.clock.ticks) held kept → TakesFirst (IsReadyEntry plan.clock.ticks) kept entry rest
-    → PlansEntry plan entry next → IsReleasing start begun next rest
-releasing_more start begun plan next held kept rest entry r d t p = record {
-  leads = λ ticks from. p.leads ticks (r.leads ticks from);
+pub releasing_more : (pairs : List Tagged) (start : Plan) (begun : List EntryValue) (plan next : Plan) (held kept rest : List EntryValue) (entry : EntryValue)
+    → IsReleasing pairs start begun plan held → DropsThose (IsKnownEntry plan.clock.ticks) held kept → TakesFirst (IsReadyEntry plan.clock.ticks) kept entry rest
+    → PlansEntry pairs plan entry next → IsReleasing pairs start begun next rest
+releasing_more pairs start begun plan next held kept rest entry r d t p = record {
+  leads = λ ticks a from. p.leads ticks a (r.leads ticks a from);
+  cut = p.cut;
   taken = r.taken ++ entry ∷ [];
-  entries = p.entries ∙ ap (λ (es : List EntryValue). es ++ entry ∷ []) r.entries ∙ append_assoc (entries_of start.steps.items) r.taken (entry ∷ []);
+  entries = p.entries ∙ ap (λ (es : List EntryValue). es ++ entry ∷ []) r.entries ∙ append_assoc start.entries.items r.taken (entry ∷ []);
   releases = λ more after left m.
       subst (λ (es : List EntryValue). LocallyReleases start.clock.ticks begun es after left) (sym (append_assoc r.taken (entry ∷ []) more))
       (r.releases (entry ∷ more) after left (kept, rest, next.clock.ticks, d, t, p.clock, m));
 }
 
 -- none is left to be released
-pub releasing_all : (start : Plan) (begun : List EntryValue) (plan : Plan) (held kept : List EntryValue)
-    → IsReleasing start begun plan held → DropsThose (IsKnownEntry plan.clock.ticks) held kept → HasNone (IsReadyEntry plan.clock.ticks) kept
-    → PlansReleases start begun plan kept
-releasing_all start begun plan held kept r d n = record {
+pub releasing_all : (pairs : List Tagged) (start : Plan) (begun : List EntryValue) (plan : Plan) (held kept : List EntryValue)
+    → IsReleasing pairs start begun plan held → DropsThose (IsKnownEntry plan.clock.ticks) held kept → HasNone (IsReadyEntry plan.clock.ticks) kept
+    → PlansReleases pairs start begun plan kept
+releasing_all pairs start begun plan held kept r d n = record {
   leads = r.leads;
   taken = r.taken;
   entries = r.entries;
@@ -133,57 +141,39 @@ releasing_all start begun plan held kept r d n = record {
       (r.releases [] plan.clock.ticks kept (d, n, refl));
 }
 
--- ---- a loop that takes entries
-
--- what it has done so far: the plan leads from the clock, and what it took stands in front of the rest, which is ready
-pub record IsPlanning (ticks : List (List ℕ × ℕ)) (all : List EntryValue) (plan : Plan) (rest : List EntryValue) : Type 0 where
-  pub leads : IsPlanFrom ticks plan
-  pub entries : entries_of plan.steps.items ++ rest ≡ all
-  pub ready : AreReadyEntries plan.clock.ticks rest
-
--- an empty plan leads nowhere
-pub empty_from : (ticks : List (List ℕ × ℕ)) (empty : Plan) → IsEmptyPlan ticks empty → IsPlanFrom ticks empty
-empty_from ticks empty e = record {
-  leads = subst (λ (ss : List StepValue). StepsLead ticks ss empty.clock.ticks) (sym e.steps) e.clock;
-  adds = e.adds ∙ ap adds_of (sym e.steps);
-  ranges = e.ranges ∙ ap (λ (ss : List StepValue). ranges_of (entries_of ss)) (sym e.steps);
+-- the plan notes what is left of a copy of those held back
+pub plans_left : (pairs : List Tagged) (old now : Plan) (held copy left : List EntryValue) → copy ≡ held → PlansReleases pairs old copy now left
+    → PlansReleases pairs old held (record now { left = Some left }) left
+plans_left pairs old now held copy left e r = record {
+  leads = λ ticks a from. let f = r.leads ticks a from in record { are_entries = f.are_entries; leads = f.leads; ranges = f.ranges };
+  taken = r.taken;
+  entries = r.entries;
+  releases = subst (λ (h : List EntryValue). LocallyReleases old.clock.ticks h r.taken now.clock.ticks left) e r.releases;
 }
-
--- nothing yet
-pub planning_none : (ticks : List (List ℕ × ℕ)) (all rest : List EntryValue) (empty : Plan) → IsEmptyPlan ticks empty → rest ≡ all → AreGoodEntries ticks all → IsPlanning ticks all empty rest
-planning_none ticks all rest empty e same good = record {
-  leads = empty_from ticks empty e;
-  entries = ap (λ (ss : List StepValue). entries_of ss ++ rest) e.steps ∙ same;
-  ready = subst (λ ts. AreReadyEntries ts rest) (sym e.clock) (subst (λ (es : List EntryValue). AreReadyEntries ticks es) (sym same) (good_ready ticks all good));
-}
-
--- the next entry is ready
-pub planning_ready : (ticks : List (List ℕ × ℕ)) (all held rest : List EntryValue) (plan : Plan) (entry : EntryValue) → IsPlanning ticks all plan held → held ≡ entry ∷ rest
-    → IsReadyEntry plan.clock.ticks entry
-planning_ready ticks all held rest plan entry p e = (subst (λ (es : List EntryValue). AreReadyEntries plan.clock.ticks es) e p.ready).0
-
--- one more entry
-pub planning_more : (ticks : List (List ℕ × ℕ)) (all held rest : List EntryValue) (plan next : Plan) (entry : EntryValue) → IsPlanning ticks all plan held → held ≡ entry ∷ rest
-    → PlansEntry plan entry next → IsPlanning ticks all next rest
-planning_more ticks all held rest plan next entry p e more = record {
-  leads = more.leads ticks p.leads;
-  entries = ap (λ (es : List EntryValue). es ++ rest) more.entries ∙ append_assoc (entries_of plan.steps.items) (entry ∷ []) rest
-      ∙ ap (λ (es : List EntryValue). entries_of plan.steps.items ++ es) (sym e) ∙ p.entries;
-  ready = ready_rest plan.clock.ticks next.clock.ticks entry rest (subst (λ (es : List EntryValue). AreReadyEntries plan.clock.ticks es) e p.ready) more.clock;
-}
-
--- all were taken
-pub planning_all : (ticks : List (List ℕ × ℕ)) (all rest : List EntryValue) (plan : Plan) → IsPlanning ticks all plan rest → rest ≡ [] → entries_of plan.steps.items ≡ all
-planning_all ticks all rest plan p none = sym (append-nil (entries_of plan.steps.items)) ∙ ap (λ (es : List EntryValue). entries_of plan.steps.items ++ es) (sym none) ∙ p.entries
 
 -- ---- the whole plan
 
-pub plan_from : (ticks : List (List ℕ × ℕ)) (held : List EntryValue) (entry : EntryValue) (empty one plan : Plan)
-    → IsEmptyPlan ticks empty → PlansEntry empty entry one → PlansReleases one held plan (left_of plan.left held) → IsPlanOf ticks held entry plan
-plan_from ticks held entry empty one plan e p r = record {
-  leads = r.leads ticks (p.leads ticks (empty_from ticks empty e));
+-- a change of nothing leaves ascending pairs as they are
+applies_none : (pairs new : List Tagged) → IsAscending tagged_cmp pairs → Applies [] [] pairs new → new ≡ pairs
+applies_none pairs new a h = same_ascending tagged_cmp tagged_total tagged_exact new pairs h.ascending a
+    (λ pair k. elim ((h.members pair).0 k) [ inl m ↦ m.0 | inr m ↦ absurd m ])
+    (λ pair k. (h.members pair).1 (inl (k, λ n. n)))
+
+-- an empty plan leads nowhere
+pub empty_from : (ticks : List (List ℕ × ℕ)) (pairs : List Tagged) (empty : Plan) → IsAscending tagged_cmp pairs → IsEmptyPlan ticks empty → IsPlanFrom ticks pairs empty
+empty_from ticks pairs empty a e = record {
+  are_entries = subst (λ (es : List EntryValue). AllByRecursion IsEntry es) (sym e.entries) tt;
+  leads = λ new h. subst (λ (es : List EntryValue). LeadsTo ticks pairs es empty.clock.ticks new) (sym e.entries)
+      (e.clock, applies_none pairs new a (subst (λ (drops : List Tagged). Applies drops [] pairs new) e.drops (subst (λ (adds : List Tagged). Applies empty.cut.drops.items adds pairs new) e.adds h)));
+  ranges = e.ranges ∙ ap ranges_of (sym e.entries);
+}
+
+pub plan_from : (ticks : List (List ℕ × ℕ)) (pairs : List Tagged) (held : List EntryValue) (entry : EntryValue) (empty one plan : Plan) → IsAscending tagged_cmp pairs
+    → IsEmptyPlan ticks empty → PlansEntry pairs empty entry one → PlansReleases pairs one held plan (left_of plan.left held) → IsPlanOf ticks pairs held entry plan
+plan_from ticks pairs held entry empty one plan a e p r = record {
+  leads = r.leads ticks a (p.leads ticks a (empty_from ticks pairs empty a e));
   taken = r.taken;
-  entries = r.entries ∙ ap (λ (es : List EntryValue). es ++ r.taken) (p.entries ∙ ap (λ (ss : List StepValue). entries_of ss ++ entry ∷ []) e.steps);
+  entries = r.entries ∙ ap (λ (es : List EntryValue). es ++ r.taken) (p.entries ∙ ap (λ (es : List EntryValue). es ++ entry ∷ []) e.entries);
   raised = one.clock.ticks;
   clock = subst (λ ts. RaisesTo ts one.clock.ticks (last_dot entry.range)) e.clock p.clock;
   releases = r.releases;

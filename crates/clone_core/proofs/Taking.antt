@@ -5,6 +5,7 @@ use Rattle.tree_clock.specs.declared.dots.Range.{Range}
 use Rattle.tree_clock.specs.Lists.{Has}
 use Rattle.mld_ops.proofs.AscendingLaws.{has_take_more, has_at}
 use Rattle.mld_ops.specs.declared.tagged.Tagged.{Tagged}
+use Rattle.mld_ops.specs.Applies.{Applies}
 use Rattle.mld_ops.specs.Entry.{EntryValue}
 use Rattle.mld_ops.specs.Ready.{IsKnownEntry, IsReadyEntry}
 use Rattle.causal_buffer.specs.declared.faults.HeldFault.{HeldFault}
@@ -16,9 +17,7 @@ use Rattle.mld_model.specs.Local.{LocalClone, IsLocal, LeadsTo, LocallyReleases,
 use Rattle.mld_ops.specs.Held.{ranges_of}
 use Rattle.clone_core.specs.CloneCalls.{LacksRange}
 use Rattle.clone_core.proofs.MakingLaws.{local_taken, taken_by}
-use Rattle.clone_core.specs.Plans.{entries_of, StepsCut, IsPlanOf, left_of}
-use Rattle.clone_core.proofs.PlanLaws.{steps_lead, steps_entries}
-use Rattle.clone_core.specs.CloneSteps.{StepValue}
+use Rattle.clone_core.specs.Plans.{IsPlanOf, left_of}
 use Rattle.clone_core.specs.Takes.{IsFullAt}
 use Rattle.clone_core.specs.declared.plans.Plan.{Plan}
 use Rattle.clone_core.proofs.Planning.{drops_shorter, first_shorter}
@@ -35,8 +34,8 @@ releases_shorter ticks held (entry ∷ taken) after left r =
     let m = releases_shorter r.2 r.1 taken after left r.6 in
     omega (arith, d, f, m)
 
-module _ (old : LocalClone) (entry : EntryValue) (plan : Plan) (pairs : List Tagged) (journal held : List EntryValue) (of : IsPlanOf old.ticks old.held entry plan)
-    (cut : StepsCut old.pairs plan.steps.items pairs) (behind : journal ≡ old.entries ++ entries_of plan.steps.items) (is : held ≡ left_of plan.left old.held) where
+module _ (old : LocalClone) (entry : EntryValue) (plan : Plan) (pairs : List Tagged) (journal held : List EntryValue) (of : IsPlanOf old.ticks old.pairs old.held entry plan)
+    (applies : Applies plan.cut.drops.items plan.cut.adds.items old.pairs pairs) (behind : journal ≡ old.entries ++ plan.entries.items) (is : held ≡ left_of plan.left old.held) where
   -- the clone then
   abbrev pub planned : LocalClone
   planned = record (taken_by old [] held plan.clock.ticks pairs) { entries = journal }
@@ -45,9 +44,7 @@ module _ (old : LocalClone) (entry : EntryValue) (plan : Plan) (pairs : List Tag
   pub planned_local : IsLocal old → IsLocal planned
   planned_local local =
       subst (λ (es : List EntryValue). IsLocal (record (taken_by old [] held plan.clock.ticks pairs) { entries = es })) (sym behind)
-      (local_taken old (entries_of plan.steps.items) held plan.clock.ticks pairs local
-      (steps_entries old.ticks plan.steps.items plan.clock.ticks of.leads.leads)
-      (steps_lead old.ticks old.pairs plan.steps.items plan.clock.ticks pairs of.leads.leads cut)
+      (local_taken old plan.entries.items held plan.clock.ticks pairs local of.leads.are_entries (of.leads.leads pairs applies)
       (let r = releases_shorter of.raised old.held of.taken plan.clock.ticks (left_of plan.left old.held) of.releases in
       let h = local.held in
       let e = ap length is in
@@ -63,8 +60,7 @@ module _ (old : LocalClone) (entry : EntryValue) (plan : Plan) (pairs : List Tag
     clock = of.clock;
     releases = subst (λ (left : List EntryValue). LocallyReleases of.raised old.held of.taken plan.clock.ticks left) (sym is) of.releases;
     entries = behind ∙ ap (λ (es : List EntryValue). old.entries ++ es) of.entries;
-    leads = subst (λ (es : List EntryValue). LeadsTo old.ticks old.pairs es plan.clock.ticks pairs) of.entries
-        (steps_lead old.ticks old.pairs plan.steps.items plan.clock.ticks pairs of.leads.leads cut);
+    leads = subst (λ (es : List EntryValue). LeadsTo old.ticks old.pairs es plan.clock.ticks pairs) of.entries (of.leads.leads pairs applies);
     told = of.leads.ranges ∙ ap ranges_of of.entries;
   }
 
@@ -130,7 +126,7 @@ lacks_all entries range i past lacks = subst (λ (es : List EntryValue). LacksRa
 pub has_item : (entries : List EntryValue) (i : ℕ) (entry : EntryValue) → i < length entries → entry ≡ get_or entries i entry → Has entries entry
 has_item entries i entry l e = subst (λ (w : EntryValue). Has entries w) (sym e) (has_at entries i entry l)
 
--- a range is told for each step
-pub ranges_length : (steps : List StepValue) → length (ranges_of (entries_of steps)) ≡ length steps
+-- a range is told for each entry
+pub ranges_length : (entries : List EntryValue) → length (ranges_of entries) ≡ length entries
 ranges_length [] = refl
-ranges_length (step ∷ steps) = ap (λ n. suc n) (ranges_length steps)
+ranges_length (entry ∷ entries) = ap (λ n. suc n) (ranges_length entries)

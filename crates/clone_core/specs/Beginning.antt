@@ -19,7 +19,7 @@ found_clone head path replayed = record {
   entries = replayed.entries.items;
   held = [];
   ticks = replayed.clock.ticks;
-  pairs = replayed.pairs.items;
+  pairs = replayed.pairs.elements;
 }
 
 -- the clone of a head with no entries

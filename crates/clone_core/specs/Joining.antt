@@ -2,7 +2,9 @@
 use Rattle.std.specs.Prelude.{◌≡◌, ◌≢◌, ℕ, List, [], ◌∷◌, length, None}
 use Rattle.tree_clock.specs.Limits.{path_limit}
 use Rattle.tree_clock.specs.Lists.{Has}
-use Rattle.tree_clock.specs.Clock.{IsClock}
+use Rattle.tree_clock.specs.Clock.{ClockValue, IsClock}
+use Rattle.chunked_list.specs.Room.{ChunkedValue}
+use Rattle.mld_ops.specs.declared.tagged.Tagged.{Tagged}
 use Rattle.mld_ops.specs.declared.messages.Give.{Give}
 use Rattle.mld_ops.specs.declared.messages.Message.{Message}
 use Rattle.mld_ops.specs.declared.messages.Message.TheVariants as message
@@ -95,8 +97,9 @@ AdoptsWhole (adopted.Refused fault banks) = ⊥
 
 -- ---- the parts of joining
 
--- two copies of a snapshot
-pub record AreCopies (snapshot : Snapshot) (copies : Snapshot × Snapshot) : Type 0 where
-  pub base : snapshot_value copies.0 ≡ snapshot_value snapshot
-  pub copy : snapshot_value copies.1 ≡ snapshot_value snapshot
-  pub clock : IsClock copies.0.clock.ticks
+-- a copy of a snapshot for the base of a clone, and its clock and its pairs for the clone
+pub record AreBegunWith (snapshot : Snapshot) (parts : Snapshot × ClockValue × ChunkedValue Tagged) : Type 0 where
+  pub base : snapshot_value parts.0 ≡ snapshot_value snapshot
+  pub clock : parts.1.ticks ≡ parts.0.clock.ticks
+  pub pairs : parts.2.elements ≡ parts.0.tagged.items
+  pub is_clock : IsClock parts.0.clock.ticks

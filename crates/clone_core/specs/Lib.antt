@@ -7,9 +7,7 @@ pub mod Closing
 pub mod Joining
 pub mod Making
 pub mod Opening
-pub mod PairLists
 pub mod Plans
-pub mod CloneSteps
 pub mod Stopping
 pub mod Takes
 pub mod View

@@ -10,81 +10,56 @@ ghost use Rattle.tree_clock.specs.Lists.{IsAscending};
 ghost use Rattle.journal_store.specs.Calls.{made, made_banks, FailsToMake};
 ghost use Rattle.journal_store.specs.Heads.{head_value};
 ghost use Rattle.journal_store.specs.Pairs.{Kept, with_entry, with_fork};
-ghost use Rattle.journal_store.specs.declared.faults.AppendFault.TheVariants as append;
 ghost use Rattle.journal_store.specs.declared.faults.Why.{Why};
 ghost use Rattle.clone_core.specs.Appending.{KeepsIfTold, with_entries, MayAppendAll, MayForkNow, LeavesOpen, LeavesStopped, IsRefusedBy, AreShortParts, BeginsJournal};
 ghost use Rattle.clone_core.specs.Closing.{append_calls, create_calls};
-ghost use Rattle.clone_core.specs.Plans.{entries_of};
 
-use crate::steps::Step;
 use journal_store::{AppendFault, Blank, Head, Journal, MakeFault, Why};
 use mld_io::Banks;
 use mld_ops::Entry;
 use op_codec::{is_short_clock, is_short_entry, is_short_list};
 use std::alloc::{AllocError, Global};
 
-/// Appends the entries of steps in order, to an open journal behind whose entries they may stand. Where that fails behind a call of the
+/// Appends entries in order, to an open journal behind whose entries they may stand. Where that fails behind a call of the
 /// device, the clone is closed.
-pub(crate) fn append_steps<B: Banks>(
+pub(crate) fn append_entries<B: Banks>(
     alloc: Global,
     journal: &mut Journal<B>,
     closed: &mut Option<Why>,
-    steps: &[Step],
+    entries: &[Entry],
 ) -> Result<(), Why>
     requires opened { closed.old ≡ None }
     requires journal { journal.old.closed ≡ None }
-    requires follow { MayAppendAll (B.log journal.old.banks) (entries_of steps.now) }
+    requires follow { MayAppendAll (B.log journal.old.banks) entries.now }
     ensures kept { (kept : Kept) → KeepsIfTold kept (B.log journal.old.banks)
-        → OnOk result (KeepsIfTold (with_entries (entries_of steps.now) kept) (B.log journal.new.banks)) }
+        → OnOk result (KeepsIfTold (with_entries entries.now kept) (B.log journal.new.banks)) }
     ensures ok { OnOk result (LeavesOpen journal.new closed.new) }
     ensures err { IfErr result (LeavesStopped false journal.old journal.new closed.new) }
     ensures side { journal.new.side ≡ journal.old.side }
     ensures generation { journal.new.generation ≡ journal.old.generation }
-    ensures meter { Metered (append_calls * length steps.now) (B.meter journal.old.banks) (B.meter journal.new.banks) (IsOk result) (IsErrOf result Why.Device) }
+    ensures meter { Metered (append_calls * length entries.now) (B.meter journal.old.banks) (B.meter journal.new.banks) (IsOk result) (IsErrOf result Why.Device) }
 {
-    match are_short(alloc, steps) {
-        Ok(true) => append_all(alloc, journal, closed, steps),
-        Ok(false) | Err(AllocError) => Err(Why::NoMemory),
+    if !are_short(alloc, entries) {
+        return Err(Why::NoMemory);
     }
-}
-
-/// Whether the lists of each step's entry have counts of four bytes.
-fn are_short(alloc: Global, steps: &[Step]) -> Result<bool, AllocError>
-    ensures { IfOk result (λ short. IsTrue short → AllByRecursion IsShortEntry (entries_of steps.now)) }
-{
-    for step in steps {
-        if !is_short_entry(alloc, step.entry())? {
-            return Ok(false);
-        }
-    }
-    Ok(true)
-}
-
-/// Appends entries of such lists.
-fn append_all<B: Banks>(
-    alloc: Global,
-    journal: &mut Journal<B>,
-    closed: &mut Option<Why>,
-    steps: &[Step],
-) -> Result<(), Why>
-    requires opened { closed.old ≡ None }
-    requires journal { journal.old.closed ≡ None }
-    requires follow { MayAppendAll (B.log journal.old.banks) (entries_of steps.now) }
-    requires short { AllByRecursion IsShortEntry (entries_of steps.now) }
-    ensures kept { (kept : Kept) → KeepsIfTold kept (B.log journal.old.banks)
-        → OnOk result (KeepsIfTold (with_entries (entries_of steps.now) kept) (B.log journal.new.banks)) }
-    ensures ok { OnOk result (LeavesOpen journal.new closed.new) }
-    ensures err { IfErr result (LeavesStopped false journal.old journal.new closed.new) }
-    ensures side { journal.new.side ≡ journal.old.side }
-    ensures generation { journal.new.generation ≡ journal.old.generation }
-    ensures meter { Metered (append_calls * length steps.now) (B.meter journal.old.banks) (B.meter journal.new.banks) (IsOk result) (IsErrOf result Why.Device) }
-{
     let mut done = false;
-    for step in steps {
-        append_one(alloc, journal, closed, done, step.entry())?;
+    for entry in entries {
+        append_one(alloc, journal, closed, done, entry)?;
         done = true;
     }
     Ok(())
+}
+
+/// Whether the lists of each entry have counts of four bytes; not where there is no memory to tell.
+fn are_short(alloc: Global, entries: &[Entry]) -> bool
+    ensures { IsTrue result → AllByRecursion IsShortEntry entries.now }
+{
+    for entry in entries {
+        let Ok(true) = is_short_entry(alloc, entry) else {
+            return false;
+        };
+    }
+    true
 }
 
 /// Appends an entry of such lists, where earlier calls of the device were done for the same message or weren't.

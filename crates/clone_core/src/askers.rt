@@ -1,18 +1,20 @@
 //! Who asks for a leaf, to become a clone.
 ghost use Rattle.std.specs.Prelude.{IfOk};
-ghost use Rattle.clone_core.specs.Joining.{AreCopies};
+ghost use Rattle.clone_core.specs.Joining.{AreBegunWith};
+ghost use Rattle.mld_ops.specs.Messages.{snapshot_value, IsGoodSnapshot};
 
 use crate::appending::create;
 use crate::clones::MldClone;
+use graph_index::Graph;
 use iri_rules::Text;
 use journal_store::{Blank, Head, MakeFault};
 use mld_io::{Banks, CrashBanks, Leave};
-use mld_ops::{Give, Message, Snapshot, kept_properties};
+use mld_ops::{Give, Message, Snapshot, copy_pairs, kept_properties};
 use rdf_terms::Iri;
 use std::alloc::{AllocError, Global};
 use std::marker::Model;
 use std::thread::Threads;
-use tree_clock::Leaf;
+use tree_clock::{Clock, Leaf};
 use uuid::Uuid;
 
 /// Who asks for a leaf: its id, domain and single-valued properties, and its banks, which keep nothing yet. It can't be copied: it
@@ -136,7 +138,7 @@ impl<B: Banks> Asker<B> {
         ensures adopts { TakesGive self give.now result }
         ensures meter { Metered (adopting_calls result) (B.meter self.banks) (B.meter (banks_of_adopted result)) (AdoptsWhole result) (FailsToAdopt result) }
     {
-        let Ok((base, copy)) = two_copies(alloc, &give.snapshot) else {
+        let Ok((base, clock, pairs)) = begun_with(alloc, &give.snapshot) else {
             return Adopted::Refused(MakeFault::NoMemory, self.stop());
         };
         let Asker {
@@ -156,14 +158,7 @@ impl<B: Banks> Asker<B> {
         match create(alloc, blank, &head) {
             Ok(journal) => {
                 let leaf = Leaf::at(give.path);
-                Adopted::Joined(MldClone::beginning(
-                    alloc,
-                    head,
-                    leaf,
-                    copy.clock,
-                    copy.tagged,
-                    journal,
-                ))
+                Adopted::Joined(MldClone::beginning(alloc, head, leaf, clock, pairs, journal))
             }
             Err((fault, banks)) => Adopted::Refused(fault, banks),
         }
@@ -195,10 +190,14 @@ impl<B: CrashBanks> Asker<B> {
     }
 }
 
-// Two copies of a snapshot.
-fn two_copies(alloc: Global, snapshot: &Snapshot) -> Result<(Snapshot, Snapshot), AllocError>
-    ensures { IfOk result (λ copies. AreCopies snapshot.now copies) }
+// A copy of a good snapshot for the base of a clone, and its clock and its pairs for the clone.
+fn begun_with(alloc: Global, snapshot: &Snapshot) -> Result<(Snapshot, Clock, Graph), AllocError>
+    requires { IsGoodSnapshot (snapshot_value snapshot.now) }
+    ensures { IfOk result (AreBegunWith snapshot.now) }
 {
     let base = snapshot.copy_in(alloc)?;
-    Ok((base, snapshot.copy_in(alloc)?))
+    let clock = snapshot.clock.copy_in(alloc)?;
+    let list = copy_pairs(alloc, snapshot.tagged.as_slice())?;
+    let pairs = Graph::from_list(alloc, list)?;
+    Ok((base, clock, pairs))
 }

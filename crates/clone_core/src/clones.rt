@@ -1,23 +1,25 @@
 //! The clone.
-ghost use Rattle.std.specs.Prelude.{◌≡◌, MatchOption};
+ghost use Rattle.std.specs.Prelude.{◌≡◌, ◌+◌, ◌≤◌, ◌++◌, MatchOption, vec_len, vec_capacity};
 ghost use Rattle.clone_core.specs.CloneCalls.{HasRange, LacksRange};
 ghost use Rattle.clone_core.specs.Plans.{left_of};
 
 use crate::answers::{Covering, Done, Got};
-use crate::appending::{append_fork, append_steps, create};
+use crate::appending::{append_entries, append_fork, create};
 use crate::faults::{ReceiveFault, UpdateFault};
-use crate::making::{deletion, insertion, pairs_of};
+use crate::making::{deletion, insertion};
 use crate::mounts::Replayed;
-use crate::preparing::{prepare_own, prepare_plan};
-use crate::steps::take_steps;
+use crate::plans::{prepare_own, prepare_plan};
 use causal_buffer::{Held, HeldFault, is_known, is_ready};
+use graph_index::Graph;
 use iri_rules::Text;
 use journal_store::{Blank, Head, Journal, MakeFault, Why};
 use mld_io::{Banks, CrashBanks, Leave};
-use mld_ops::{Entry, Give, Message, Messages, Snapshot, Tagged, copy_pairs, kept_properties};
+use mld_ops::{Entry, Give, Message, Messages, Snapshot, Tagged, kept_properties};
 use rdf_terms::{Iri, Triple};
 use std::alloc::{AllocError, Global};
+use std::collections::VecDeque;
 use std::marker::Model;
+use std::slice;
 use std::thread::Threads;
 use tree_clock::{Clock, Dot, Leaf, PATH_LIMIT, Path, Range, TICK_LIMIT};
 use uuid::Uuid;
@@ -35,7 +37,7 @@ pub struct MldClone<B: Banks> {
     clock: Clock,
     entries: Vec<Entry>,
     held: Held,
-    pairs: Vec<Tagged>,
+    pairs: Graph,
     journal: Journal<B>,
     closed: Option<Why>,
 }
@@ -114,7 +116,7 @@ impl<B: Banks> MldClone<B> {
             head,
             Leaf::genesis(),
             clock,
-            Vec::new(alloc),
+            Graph::empty(alloc),
             journal,
         ))
     }
@@ -125,7 +127,7 @@ impl<B: Banks> MldClone<B> {
         head: Head,
         leaf: Leaf,
         clock: Clock,
-        pairs: Vec<Tagged>,
+        pairs: Graph,
         journal: Journal<B>,
     ) -> MldClone<B>
         requires named { IsNamed head.domain head.props.items }
@@ -133,7 +135,7 @@ impl<B: Banks> MldClone<B> {
         requires base { IsGoodSnapshot (head_value head).base }
         requires path { leaf ≡ head.path }
         requires clock { clock.ticks ≡ head.base.ticks }
-        requires pairs { pairs.items ≡ head.tagged.items }
+        requires pairs { pairs.elements ≡ head.tagged.items }
         requires begins { BeginsJournal (head_value head) journal (B.log journal.banks) }
         ensures { result ≡ record { local = begun_clone (head_value head); generation = 1; closed = None; banks = journal.banks } }
     {
@@ -248,18 +250,18 @@ impl<B: Banks> MldClone<B> {
     }
 
     /// The clone's pairs, ascending.
-    pub fn pairs(&self) -> &[Tagged]
-        ensures pairs { result.now ≡ self.now.local.pairs }
+    pub fn pairs(&self) -> &Graph
+        ensures pairs { result.now.elements ≡ self.now.local.pairs }
         ensures ascending { IsAscending tagged_cmp self.now.local.pairs }
     {
-        self.pairs.as_slice()
+        &self.pairs
     }
 
     /// A copy of the clone's pairs, ascending.
     pub fn tagged(&self, alloc: Global) -> Result<Vec<Tagged>, AllocError>
         ensures { IfOk result (λ pairs. pairs.items ≡ self.now.local.pairs) }
     {
-        copy_pairs(alloc, self.pairs())
+        self.pairs.to_list(alloc)
     }
 
     /// The entry of the journal that has this very range.
@@ -359,7 +361,7 @@ impl<B: Banks> MldClone<B> {
         ensures err { IfErr result (StopsUpdate self.old self.new) }
         ensures meter { (calls : ℕ) × UpdateCalls result calls × Metered calls (B.meter self.old.banks) (B.meter self.new.banks) (IsOk result) (IsErrOf result UpdateFault.Device) }
     {
-        let deletes = pairs_of(alloc, self.pairs(), triple)?;
+        let deletes = self.pairs().of_triple(alloc, triple)?;
         if deletes.is_empty() {
             return Ok(Done::Nothing);
         }
@@ -378,17 +380,22 @@ impl<B: Banks> MldClone<B> {
         ensures meter { Metered append_calls (B.meter self.old.banks) (B.meter self.new.banks) (IsOk result) (IsErrOf result UpdateFault.Device) }
     {
         let made = entry.copy_in(alloc)?;
-        let steps = prepare_own(
+        let cut = prepare_own(
             alloc,
             &mut self.clock,
             &mut self.entries,
             &mut self.pairs,
-            dot,
-            entry,
+            &entry,
         )?;
-        append_steps(alloc, &mut self.journal, &mut self.closed, &steps)?;
+        append_entries(
+            alloc,
+            &mut self.journal,
+            &mut self.closed,
+            slice::from_ref(&entry),
+        )?;
         self.clock.raise(dot);
-        take_steps(&mut self.entries, &mut self.pairs, steps);
+        self.pairs.apply(cut);
+        self.entries.push_reserved(entry);
         Ok(Done::Made(made))
     }
 
@@ -475,7 +482,7 @@ impl<B: Banks> MldClone<B> {
     {
         Ok(Snapshot {
             clock: self.clock.copy_in(alloc)?,
-            tagged: copy_pairs(alloc, &self.pairs)?,
+            tagged: self.pairs.to_list(alloc)?,
         })
     }
 
@@ -535,8 +542,9 @@ impl<B: Banks> MldClone<B> {
             &mut self.pairs,
             entry,
         )?;
-        append_steps(alloc, &mut self.journal, &mut self.closed, &plan.steps)?;
-        take_steps(&mut self.entries, &mut self.pairs, plan.steps);
+        append_entries(alloc, &mut self.journal, &mut self.closed, &plan.entries)?;
+        self.pairs.apply(plan.cut);
+        push_all(&mut self.entries, plan.entries);
         self.clock = plan.clock;
         replace_held(&mut self.held, plan.left);
         Ok(Got::Took(plan.ranges))
@@ -568,6 +576,17 @@ fn entry_in<'a>(entries: &'a [Entry], range: &Range) -> Option<&'a Entry>
         }
     }
     None
+}
+
+// Puts entries behind a journal that has room for them.
+fn push_all(journal: &mut Vec<Entry>, entries: Vec<Entry>)
+    requires { vec_len journal.old + vec_len entries ≤ vec_capacity journal.old }
+    ensures { journal.new.items ≡ journal.old.items ++ entries.items }
+{
+    let mut rest = VecDeque::from_vec(entries);
+    while let Some(entry) = rest.pop_front() {
+        journal.push_reserved(entry);
+    }
 }
 
 // Puts another list in place of what is held, if there is one.

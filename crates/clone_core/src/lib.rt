@@ -8,10 +8,7 @@ mod clones;
 mod faults;
 mod making;
 mod mounts;
-mod pairs;
 mod plans;
-mod preparing;
-mod steps;
 
 pub use answers::{Covering, Done, Got};
 pub use askers::{Adopted, Asker};

@@ -1,10 +1,7 @@
 //! The entries of a clone's own operations.
 ghost use Rattle.std.specs.Prelude.{◌≡◌, ◌+◌, IfOk};
 ghost use Rattle.clone_core.specs.Making.{IsInsertion, IsDeletion, MayBeDeleted};
-ghost use Rattle.mld_model.specs.CloneStep.{ArePairsOf};
-ghost use Rattle.mld_ops.specs.Tagged.{tagged_cmp};
 ghost use Rattle.tree_clock.specs.Clock.{ticks_of};
-ghost use Rattle.tree_clock.specs.Lists.{IsAscending};
 
 use mld_ops::{Entry, Tagged};
 use rdf_terms::Triple;
@@ -27,20 +24,6 @@ pub fn insertion(
     let mut inserts = Vec::new(alloc);
     inserts.push((triple.copy_in(alloc)?, dot.tick))?;
     Ok(Entry::new(range_of(dot), time, Vec::new(alloc), inserts).unwrap())
-}
-
-/// Copies of the pairs of a triple, in the order of the given ones.
-pub fn pairs_of(alloc: Global, pairs: &[Tagged], triple: &Triple) -> Result<Vec<Tagged>, AllocError>
-    requires { IsAscending tagged_cmp pairs.now }
-    ensures { IfOk result (λ found. ArePairsOf triple.now pairs.now found.items) }
-{
-    let mut found = Vec::new(alloc);
-    for pair in pairs {
-        if pair.triple == *triple {
-            found.push(pair.copy_in(alloc)?)?;
-        }
-    }
-    Ok(found)
 }
 
 /// The entry of the operation at a clock's next dot that deletes pairs, where all of the clock's dots are its causes.

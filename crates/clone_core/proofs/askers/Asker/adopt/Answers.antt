@@ -1,4 +1,4 @@
-use Rattle.std.proofs.Common.{◌≡◌, sym, subst}
+use Rattle.std.proofs.Common.{sym, subst}
 use Rattle.mld_ops.specs.Messages.{SnapshotValue, IsGoodSnapshot}
 use Rattle.clone_core.proofs.askers.Asker.adopt.Goals as goal
 

@@ -1,4 +1,4 @@
-use Rattle.std.proofs.Common.{◌≡◌, ◌∙◌, List, sym, ap, subst}
+use Rattle.std.proofs.Common.{◌∙◌, List, sym, ap, subst}
 use Rattle.mld_ops.specs.Entry.{EntryValue}
 use Rattle.mld_model.specs.Local.{LeadsTo}
 use Rattle.journal_store.specs.Heads.{head_value}
@@ -17,7 +17,7 @@ found-requires-clause-local g c =
     let replayed = c.in-Ok.replayed in
     let good = c.in-Found.ensures.good.0 in
     found_local head c.at-leaf.result replayed (record { name = good.name; ascending = good.props_ascend }) c.in-Ok.ensures.clock good.base
-    (subst (λ (es : List EntryValue). LeadsTo head.base.ticks head.base.pairs es replayed.clock.ticks replayed.pairs.items) (sym c.in-Ok.ensures.entries) c.in-Ok.ensures.leads)
+    (subst (λ (es : List EntryValue). LeadsTo head.base.ticks head.base.pairs es replayed.clock.ticks replayed.pairs.elements) (sym c.in-Ok.ensures.entries) c.in-Ok.ensures.leads)
     c.in-Ok.ensures.covered
 
 pub found-requires-clause-banks : goal.found-requires-clause-banks
