@@ -146,7 +146,7 @@ pub fn clock(alloc: Global, path: &Path, tick: u32) -> Result<Clock, AllocError>
 
 /// How many pairs a clone has.
 pub fn count_of_pairs(clone: &TestClone) -> usize {
-    clone.pairs().len()
+    clone.pairs().count()
 }
 
 /// How many entries a clone took, how many it holds back, how many pairs it has, and how many ticks of its own path it knows.
