@@ -11,3 +11,6 @@ pub mod Begun
 pub mod Removing
 pub mod Mounting
 pub mod Replaying
+pub mod FusedRuns
+pub mod Unknown
+pub mod Swapping

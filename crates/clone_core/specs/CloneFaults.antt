@@ -1,8 +1,12 @@
 -- The faults of a clone, after those of what it holds and of its banks.
 use Rattle.causal_buffer.specs.declared.faults.HeldFault.{HeldFault}
 use Rattle.causal_buffer.specs.declared.faults.HeldFault.TheVariants as held
+use Rattle.journal_store.specs.declared.faults.SwapFault.{SwapFault}
+use Rattle.journal_store.specs.declared.faults.SwapFault.TheVariants as swap
 use Rattle.journal_store.specs.declared.faults.Why.{Why}
 use Rattle.journal_store.specs.declared.faults.Why.TheVariants as why
+use Rattle.clone_core.specs.declared.faults.KeepFault.{KeepFault}
+use Rattle.clone_core.specs.declared.faults.KeepFault.TheVariants as keep
 use Rattle.clone_core.specs.declared.faults.ReceiveFault.{ReceiveFault}
 use Rattle.clone_core.specs.declared.faults.ReceiveFault.TheVariants as fault
 use Rattle.clone_core.specs.declared.faults.UpdateFault.{UpdateFault}
@@ -22,3 +26,10 @@ update_fault_of why.NoMemory = update.NoMemory
 abbrev pub receive_fault_of : Why → ReceiveFault
 receive_fault_of why.Device = fault.Device
 receive_fault_of why.NoMemory = fault.NoMemory
+
+-- the fault of a swap as a clone tells it
+abbrev pub keep_fault_of : SwapFault → KeepFault
+keep_fault_of (swap.Closed reason) = keep.Closed reason
+keep_fault_of swap.GenerationsSpent = keep.GenerationsSpent
+keep_fault_of swap.Device = keep.Device
+keep_fault_of swap.NoMemory = keep.NoMemory

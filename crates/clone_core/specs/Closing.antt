@@ -45,12 +45,15 @@ pub record StaysOpen {B : Type 0} (old new : BankedClone B) : Type 0 where
 
 -- ---- how many calls that write or sync
 
--- an append makes four calls of the device, a create six, a mount two
+-- an append makes four calls of the device, a create and a swap six, a mount two
 abbrev pub append_calls : ℕ
 append_calls = 4
 
 abbrev pub create_calls : ℕ
 create_calls = 6
+
+abbrev pub swap_calls : ℕ
+swap_calls = 6
 
 abbrev pub mount_calls : ℕ
 mount_calls = 2

@@ -20,8 +20,10 @@ pub enum Got {
     Held,
     /// The entry was known.
     Known,
-    /// The leaf was forked for who asked, and these messages are for them.
+    /// These messages are for who asked: the leaf that was forked for them, or what they lack of the journal.
     Answer(Messages),
+    /// Who asked lacks nothing of what the journal has.
+    Nothing,
     /// A clone takes no message of this kind, or asked itself.
     Ignored,
 }

@@ -152,7 +152,7 @@ pub(crate) fn create<B: Banks>(
 }
 
 /// Whether the lists of a head have fewer than 2^32 items, and its texts fewer than 2^32 bytes.
-fn is_short_head(alloc: Global, head: &Head) -> Result<bool, AllocError>
+pub(crate) fn is_short_head(alloc: Global, head: &Head) -> Result<bool, AllocError>
     ensures { IfOk result (λ short. IsTrue short → AreShortParts (head_value head.now)) }
 {
     Ok(

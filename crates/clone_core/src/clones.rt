@@ -28,18 +28,18 @@ use uuid::Uuid;
 /// of its journal, those that it holds back, and its pairs, ascending; the journal on its banks; and whether an earlier call closed it.
 #[derive(Drop)]
 pub struct MldClone<B: Banks> {
-    id: Uuid,
-    domain: Text,
-    properties: Vec<Iri>,
-    leaf: Leaf,
-    base: Clock,
-    base_pairs: Vec<Tagged>,
+    pub(crate) id: Uuid,
+    pub(crate) domain: Text,
+    pub(crate) properties: Vec<Iri>,
+    pub(crate) leaf: Leaf,
+    pub(crate) base: Clock,
+    pub(crate) base_pairs: Vec<Tagged>,
     clock: Clock,
-    entries: Vec<Entry>,
+    pub(crate) entries: Vec<Entry>,
     held: Held,
     pairs: Graph,
-    journal: Journal<B>,
-    closed: Option<Why>,
+    pub(crate) journal: Journal<B>,
+    pub(crate) closed: Option<Why>,
 }
 
 impl<B: Banks> Model for MldClone<B> {
@@ -74,6 +74,7 @@ impl<B: Banks> MldClone<B> {
     ghost use Rattle.clone_core.specs.Making.{IsNextEntry};
     ghost use Rattle.clone_core.specs.Stopping.{StopsUpdate, StopsReceive, StopsTaking};
     ghost use Rattle.clone_core.specs.Takes.{MakesDone, IsFullAt, RefusesEntry};
+    ghost use Rattle.clone_core.specs.Wants.{MessageCalls};
     ghost use Rattle.mld_model.specs.Local.{IsLocal, IsNamed, blank_clone, joined_clone, snapshot_of, next_dot, LocallyMakes, LocallyAccepts, LocallyHolds, IsForeign};
     ghost use Rattle.mld_ops.specs.Ready.{IsReadyEntry};
     ghost use Rattle.mld_ops.specs.Tagged.{tagged_cmp};
@@ -400,14 +401,15 @@ impl<B: Banks> MldClone<B> {
     }
 
     /// Takes an entry that is ready, and then those held back that this releases; or holds it back. Forks the leaf for who asks for one.
-    /// Messages of other kinds are ignored. A snapshot in the message is one that may be taken. Each entry that is taken is appended to
-    /// the journal on the banks, in order, and so is a fork, before anything is handed out.
+    /// Answers a want by the entries of the journal that it lacks. Messages of other kinds are ignored. A snapshot in the message is one
+    /// that may be taken. Each entry that is taken is appended to the journal on the banks, in order, and so is a fork, before anything
+    /// is handed out.
     ///
     /// # Errors
     ///
-    /// In this order: `Closed` where an earlier call closed the clone; `ForeignTick`; `HeldFull`; `Deep`; `Device` where the device
-    /// failed, which closes the clone: the appends that were done stand on the banks. `NoMemory` leaves it as it was, or closes it where
-    /// a call of the device was done. After the others it is as it was.
+    /// In this order: `Closed` where an earlier call closed the clone; `ForeignTick`; `HeldFull`; `Deep`; `FromBehind`; `Device` where the
+    /// device failed, which closes the clone: the appends that were done stand on the banks. `NoMemory` leaves it as it was, or closes it
+    /// where a call of the device was done. After the others it is as it was.
     pub fn receive<R: Threads>(
         &mut self,
         _rt: &R,
@@ -421,7 +423,7 @@ impl<B: Banks> MldClone<B> {
         ensures closed { (why : Why) → IsErrOf result (ReceiveFault.Closed why) ↔ (self.old.closed ≡ Some why) }
         ensures err { IfErr result (Refuses self.old.local message.now) }
         ensures left { IfErr result (LeavesReceive self.old self.new) }
-        ensures meter { (calls : ℕ) × ReceiveCalls result calls × Metered calls (B.meter self.old.banks) (B.meter self.new.banks) (IsOk result) (IsErrOf result ReceiveFault.Device) }
+        ensures meter { (calls : ℕ) × MessageCalls message.now result calls × Metered calls (B.meter self.old.banks) (B.meter self.new.banks) (IsOk result) (IsErrOf result ReceiveFault.Device) }
     {
         if let Some(why) = self.closed {
             return Err(ReceiveFault::Closed { why });
@@ -429,7 +431,8 @@ impl<B: Banks> MldClone<B> {
         match message {
             Message::Range(entry) => self.receive_entry(alloc, entry),
             Message::JoinAsk(id) => self.receive_ask(alloc, id),
-            Message::Want(_) | Message::Snapshot(_) | Message::JoinGive(_) => Ok(Got::Ignored),
+            Message::Want(known) => self.answer_want(alloc, known),
+            Message::Snapshot(_) | Message::JoinGive(_) => Ok(Got::Ignored),
         }
     }
 

@@ -1,6 +1,6 @@
 //! Why a clone refuses.
 use causal_buffer::HeldFault;
-use journal_store::Why;
+use journal_store::{SwapFault, Why};
 use std::alloc::AllocError;
 use thiserror::Error;
 
@@ -48,6 +48,29 @@ pub enum ReceiveFault {
     /// The leaf that was asked for can't be forked, since its path has as many letters as it may.
     #[error("the leaf is too deep to be forked")]
     Deep,
+    /// The want comes from one who lacks dots of the clone's base, and snapshots aren't sent yet.
+    #[error("snapshots are not sent yet")]
+    FromBehind,
+    /// The device failed, which closes the clone.
+    #[error("the device failed")]
+    Device,
+    /// Memory ran out.
+    #[error("out of memory")]
+    NoMemory,
+}
+
+/// Why a journal was not compacted.
+#[derive(Clone, Copy, Debug, PartialEq, Eq, Error)]
+pub enum KeepFault {
+    /// An earlier call closed the clone.
+    #[error("the clone is closed")]
+    Closed {
+        /// Why it did.
+        why: Why,
+    },
+    /// The generation of the journal is the greatest that there is.
+    #[error("no generation is left")]
+    GenerationsSpent,
     /// The device failed, which closes the clone.
     #[error("the device failed")]
     Device,
@@ -75,6 +98,33 @@ impl From<AllocError> for ReceiveFault {
 
     fn from(_error: AllocError) -> ReceiveFault {
         ReceiveFault::NoMemory
+    }
+}
+
+impl From<AllocError> for KeepFault {
+    ghost use Rattle.std.specs.Prelude.{◌≡◌};
+    ghost use Rattle.clone_core.specs.declared.faults.KeepFault.TheVariants.{NoMemory};
+
+    ghost from_gives = { λ _ fault. fault ≡ NoMemory };
+
+    fn from(_error: AllocError) -> KeepFault {
+        KeepFault::NoMemory
+    }
+}
+
+impl From<SwapFault> for KeepFault {
+    ghost use Rattle.clone_core.specs.CloneFaults.{keep_fault_of};
+    ghost use Rattle.std.specs.Prelude.{◌≡◌};
+
+    ghost from_gives = { λ swap fault. fault ≡ keep_fault_of swap };
+
+    fn from(fault: SwapFault) -> KeepFault {
+        match fault {
+            SwapFault::Closed { why } => KeepFault::Closed { why },
+            SwapFault::GenerationsSpent => KeepFault::GenerationsSpent,
+            SwapFault::Device => KeepFault::Device,
+            SwapFault::NoMemory => KeepFault::NoMemory,
+        }
     }
 }
 

@@ -5,13 +5,15 @@ mod answers;
 mod appending;
 mod askers;
 mod clones;
+mod compacting;
 mod faults;
 mod making;
 mod mounts;
 mod plans;
+mod wants;
 
 pub use answers::{Covering, Done, Got};
 pub use askers::{Adopted, Asker};
 pub use clones::MldClone;
-pub use faults::{ReceiveFault, UpdateFault};
+pub use faults::{KeepFault, ReceiveFault, UpdateFault};
 pub use mounts::Mounted;

@@ -34,7 +34,7 @@ pub const MIXED: [&str; 4] = ["http://d/b", "http://d/a", "http://d/a#", "http:/
 pub enum Word {
     /// An operation was made, at this tick.
     Made(u32),
-    /// No operation was made.
+    /// No operation was made, or nothing is lacked.
     Nothing,
     /// So many ranges were taken.
     Took(usize),
@@ -63,6 +63,7 @@ fn word_of_got(got: Result<Got, ReceiveFault>) -> Word {
         Ok(Got::Held) => Word::Held,
         Ok(Got::Known) => Word::Known,
         Ok(Got::Answer(messages)) => Word::Answer(messages.len()),
+        Ok(Got::Nothing) => Word::Nothing,
         Ok(Got::Ignored) => Word::Ignored,
         Err(fault) => Word::NotTaken(fault),
     }

@@ -6,4 +6,6 @@ mod calls;
 #[cfg(test)]
 mod clones;
 #[cfg(test)]
+mod keeping;
+#[cfg(test)]
 mod refusals;

@@ -32,21 +32,15 @@ fn snapshot(alloc: Global) -> Snapshot
 }
 
 #[test]
-fn wants_and_snapshots_are_ignored(rt: HostRuntime) -> Result<(), Fail> {
+fn snapshots_are_ignored(rt: HostRuntime) -> Result<(), Fail> {
     let mut clone = first(rt.alloc())?;
-    let want = ignores(
-        &mut clone,
-        &rt,
-        rt.alloc(),
-        &Message::Want(Clock::empty(rt.alloc())),
-    );
-    let other = ignores(
+    let ignored = ignores(
         &mut clone,
         &rt,
         rt.alloc(),
         &Message::Snapshot(snapshot(rt.alloc())),
     );
-    assert!(rt; want && other);
+    assert!(rt; ignored);
     Ok(())
 }
 

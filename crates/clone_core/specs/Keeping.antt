@@ -1,0 +1,103 @@
+-- Keeping a journal compacted: what it makes of a clone and of what its banks keep, what a refusal leaves, and how many calls it makes.
+use Rattle.std.specs.Prelude.{◌≡◌, ◌⊎◌, ℕ, ◌+◌, ◌-◌, ◌^◌, List, [], ◌∷◌, ◌++◌, Option, None, Some}
+use Rattle.mld_io.specs.Disk.{other_side}
+use Rattle.mld_ops.specs.Entry.{EntryValue}
+use Rattle.op_fusion.specs.Compacting.{AreFusedRuns}
+use Rattle.op_fusion.specs.Fusion.{AreNeighbours, Fused}
+use Rattle.journal_store.specs.Standing.{JournalValue}
+use Rattle.journal_store.specs.declared.faults.Why.{Why}
+use Rattle.journal_store.specs.declared.faults.Why.TheVariants as why
+use Rattle.mld_model.specs.Local.{LocallyCompacts}
+use Rattle.clone_core.specs.Appending.{LeavesOpen}
+use Rattle.clone_core.specs.Banked.{BankedClone}
+use Rattle.clone_core.specs.Closing.{Shuts, StaysOrShuts, swap_calls}
+use Rattle.clone_core.specs.declared.faults.KeepFault.{KeepFault}
+use Rattle.clone_core.specs.declared.faults.KeepFault.TheVariants as keep
+
+-- some entry and the one right behind it have neighbouring ranges
+pub record HasNeighbours (entries : List EntryValue) : Type 0 where
+  pub front : List EntryValue
+  pub first : EntryValue
+  pub second : EntryValue
+  pub rest : List EntryValue
+  pub stand : entries ≡ front ++ first ∷ second ∷ rest
+  pub near : AreNeighbours first.range second.range
+
+-- an open clone keeps its journal compacted: no two neighbours stand side by side, and nothing changes; or there are such, and what its
+-- banks keep is swapped for the compacted journal, of the next generation
+pub data KeepsCompacted {B : Type 0} (old new : BankedClone B) : Type 0 where
+  nothing_to_fuse : AreFusedRuns old.local.entries old.local.entries → new ≡ old → KeepsCompacted old new
+  swapped : LocallyCompacts old.local new.local → HasNeighbours old.local.entries → new.closed ≡ None → new.generation ≡ old.generation + 1
+      → KeepsCompacted old new
+
+-- a clone that was open is open still
+pub record StaysUnclosed {B : Type 0} (old new : BankedClone B) : Type 0 where
+  pub was : old.closed ≡ None
+  pub now : new.closed ≡ None
+
+-- an open clone has neighbours to fuse, and no generation is left for the swap
+pub record IsSpent {B : Type 0} (clone : BankedClone B) : Type 0 where
+  pub opened : clone.closed ≡ None
+  pub neighbours : HasNeighbours clone.local.entries
+  pub last : clone.generation ≡ 2 ^ 64 - 1
+
+-- what a journal that was not compacted leaves: the clone as it was, but for a fault of its device, or of memory behind a call of the device
+abbrev pub LeavesKeep : {B : Type 0} → BankedClone B → BankedClone B → KeepFault → Type 0
+LeavesKeep old new (keep.Closed reason) = new ≡ old
+LeavesKeep old new keep.GenerationsSpent = new ≡ old
+LeavesKeep old new keep.Device = Shuts old why.Device new
+LeavesKeep old new keep.NoMemory = StaysOrShuts old new
+
+-- how many calls of the device are made: those of a swap where there are neighbours, and none where there are none
+pub record KeepCalls (entries : List EntryValue) (calls : ℕ) : Type 0 where
+  pub swaps : HasNeighbours entries → calls ≡ swap_calls
+  pub stays : ¬ HasNeighbours entries → calls ≡ 0
+
+-- ---- the parts of it
+
+-- the entry goes on from the last of the others
+pub record GoesOn (entries : List EntryValue) (entry : EntryValue) : Type 0 where
+  pub front : List EntryValue
+  pub last : EntryValue
+  pub stand : entries ≡ front ++ last ∷ []
+  pub near : AreNeighbours last.range entry.range
+
+-- the last of the entries became the one that is fused of it and of the entry
+pub record FusesLast (old : List EntryValue) (entry : EntryValue) (new : List EntryValue) : Type 0 where
+  pub front : List EntryValue
+  pub last : EntryValue
+  pub fused : EntryValue
+  pub was : old ≡ front ++ last ∷ []
+  pub near : AreNeighbours last.range entry.range
+  pub fuses : Fused last entry fused
+  pub now : new ≡ front ++ fused ∷ []
+
+-- an entry was added to runs: it went on from the last of them, or it begins another
+abbrev pub AddsToRuns : List EntryValue → EntryValue → List EntryValue → Type 0
+AddsToRuns old entry new = FusesLast old entry new ⊎ ((¬ GoesOn old entry) × (new ≡ old ++ entry ∷ []))
+
+-- a swap was done: the other side counts, of the next generation, and neither the journal nor the clone is closed
+pub record IsSwapped {B : Type 0} (old new : JournalValue B) (closed : Option Why) : Type 0 where
+  pub opened : LeavesOpen new closed
+  pub side : new.side ≡ other_side old.side
+  pub generation : new.generation ≡ old.generation + 1
+
+-- what a swap leaves that was refused, of an open journal and of whether its clone is closed
+abbrev pub LeavesUnswapped : {B : Type 0} → JournalValue B → JournalValue B → Option Why → KeepFault → Type 0
+LeavesUnswapped old new closed (keep.Closed reason) = ⊥
+LeavesUnswapped old new closed keep.GenerationsSpent = (new ≡ old) × (closed ≡ None)
+LeavesUnswapped old new closed keep.Device = closed ≡ Some why.Device
+LeavesUnswapped old new closed keep.NoMemory = ((new ≡ old) × (closed ≡ None)) ⊎ (closed ≡ Some why.NoMemory)
+
+-- a clone whose journal was swapped for the compacted one
+pub record SwapsCompacted {B : Type 0} (old new : BankedClone B) : Type 0 where
+  pub compacts : LocallyCompacts old.local new.local
+  pub opened : new.closed ≡ None
+  pub generation : new.generation ≡ old.generation + 1
+
+-- and one that was open, and whose journal was not
+abbrev pub StopsKeep : {B : Type 0} → BankedClone B → BankedClone B → KeepFault → Type 0
+StopsKeep old new (keep.Closed reason) = ⊥
+StopsKeep old new keep.GenerationsSpent = new ≡ old
+StopsKeep old new keep.Device = Shuts old why.Device new
+StopsKeep old new keep.NoMemory = StaysOrShuts old new

@@ -1,0 +1,64 @@
+//! Wants: what a clone asks others for, and what it answers to one who asks it.
+ghost use Rattle.std.specs.Prelude.{IfOk};
+ghost use Rattle.clone_core.specs.Wants.{CarryUnknown};
+
+use crate::answers::Got;
+use crate::clones::MldClone;
+use crate::faults::ReceiveFault;
+use causal_buffer::is_known;
+use mld_io::Banks;
+use mld_ops::{Entry, Message, Messages};
+use std::alloc::{AllocError, Global};
+use tree_clock::Clock;
+
+impl<B: Banks> MldClone<B> {
+    ghost use Rattle.std.specs.Prelude.{◌≡◌, ℕ, None, IfOk, IfErr, IsOk, OnOk, IsErrOf};
+    ghost use Rattle.mld_io.specs.Arm.{Metered};
+    ghost use Rattle.mld_ops.specs.Messages.{CarriesWant, IsGoodMessage, message_value};
+    ghost use Rattle.clone_core.specs.Closing.{StaysOpen};
+    ghost use Rattle.clone_core.specs.Joining.{AnswersGood};
+    ghost use Rattle.clone_core.specs.Stopping.{StopsReceive};
+    ghost use Rattle.clone_core.specs.Wants.{AnswersWant, RefusesWant};
+
+    /// A question for what the clone lacks: it tells the dots that the clone knows.
+    pub fn want(&self, alloc: Global) -> Result<Message, AllocError>
+        ensures wants { IfOk result (λ message. message_value message ≡ CarriesWant self.now.local.ticks) }
+        ensures good { IfOk result (λ message. IsGoodMessage (message_value message)) }
+    {
+        Ok(Message::Want(self.known().copy_in(alloc)?))
+    }
+
+    /// Answers a want of one who knows these dots: each entry of the journal that isn't known by them is sent, in a message of its own.
+    /// Nothing changes, and no device is called.
+    pub(crate) fn answer_want(&self, alloc: Global, known: &Clock) -> Result<Got, ReceiveFault>
+        requires { self.now.closed ≡ None }
+        ensures ok { IfOk result (λ got. AnswersWant self.now.local known.now.ticks got self.now.local) }
+        ensures good { IfOk result AnswersGood }
+        ensures opened { OnOk result (StaysOpen self.now self.now) }
+        ensures err { IfErr result (RefusesWant self.now.local known.now.ticks) }
+        ensures left { IfErr result (StopsReceive self.now self.now) }
+        ensures meter { Metered 0 (B.meter self.now.banks) (B.meter self.now.banks) (IsOk result) (IsErrOf result ReceiveFault.Device) }
+    {
+        if !self.base().leq(known) {
+            return Err(ReceiveFault::FromBehind);
+        }
+        let messages = unknown_by(alloc, known, self.journal())?;
+        if messages.is_empty() {
+            return Ok(Got::Nothing);
+        }
+        Ok(Got::Answer(Messages::from_vec(messages)))
+    }
+}
+
+/// Copies of the entries that aren't known by these dots, in order, each in a message.
+fn unknown_by(alloc: Global, known: &Clock, entries: &[Entry]) -> Result<Vec<Message>, AllocError>
+    ensures { IfOk result (λ messages. CarryUnknown known.now.ticks entries.now messages.items) }
+{
+    let mut messages = Vec::new(alloc);
+    for entry in entries {
+        if !is_known(known, entry) {
+            messages.push(Message::Range(entry.copy_in(alloc)?))?;
+        }
+    }
+    Ok(messages)
+}
