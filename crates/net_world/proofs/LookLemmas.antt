@@ -1,5 +1,6 @@
 -- What `show` and `compare` do is the model's step.
 use Rattle.std.proofs.Common.{◌≡◌, ℕ, List, Option, Bor, inl, inr, refl, sym, map}
+use Rattle.chunked_list.specs.Room.{ChunkedValue}
 use Rattle.mld_io.specs.Arm.{Meter}
 use Rattle.mld_io.specs.Disk.{Log}
 use Rattle.mld_ops.specs.declared.tagged.Tagged.{Tagged}
@@ -61,10 +62,10 @@ module _ {B : Type 0} (log : B → Option Log) (meter : B → Meter) (parts : Pa
       → Does log parts command parts reply
   looks command reply shut moves = does_still log meter parts parts refl refl command reply moves shut refl
 
-  pub show_done : (number : ℕ) (live : BankedClone B) (pairs : Bor (List Tagged)) → HasState parts.clones.items number (states.Live live) → pairs.now ≡ live.local.pairs → Does log parts (Show number) parts (replies.Shows pairs)
+  pub show_done : (number : ℕ) (live : BankedClone B) (pairs : Bor (ChunkedValue Tagged)) → HasState parts.clones.items number (states.Live live) → pairs.now.elements ≡ live.local.pairs → Does log parts (Show number) parts (replies.Shows pairs)
   show_done number live pairs at are =
       looks (Show number) (replies.Shows pairs) tt
-      (λ steps. shown (memory_of (running_of parts steps)) number (record { local = live.local }) pairs.now (memory_at parts.clones.items number (states.Live live) at) are)
+      (λ steps. shown (memory_of (running_of parts steps)) number (record { local = live.local }) pairs.now.elements (memory_at parts.clones.items number (states.Live live) at) are)
 
   pub show_missing_done : (number : ℕ) (reply : CodeReply) → IsMissingAt (map in_memory parts.clones.items) number (reply_value reply) → Does log parts (Show number) parts reply
   show_missing_done number reply missing = looks (Show number) reply tt (λ steps. not_shown (memory_of (running_of parts steps)) number (reply_value reply) missing)

@@ -1,11 +1,14 @@
 //! Replies, and their text: lines that end with LF, added at the end of an output.
 ghost use Rattle.std.specs.Prelude.{◌≡◌, ◌++◌, OnOk, IfErr};
-ghost use Rattle.std.specs.List.{range_with_len};
+ghost use Rattle.std.specs.List.{flat_map, range_with_len};
+ghost use Rattle.chunked_list.specs.Joined.{joined_chunks};
 ghost use Rattle.mld_model.specs.Reply.{Ready, Did, Took, Sent, Answer, Joined, Shows};
 ghost use Rattle.schedule_model.specs.ReplyText.{reply_text, pair_line, spaced_range, spaced_message};
 ghost use Rattle.net_world.specs.Replies.{reply_value, TellsReply, FailsToTell, numbers_between};
 
 use crate::faults::WorldFault;
+use chunked_list::Chunk;
+use graph_index::Graph;
 use mld_ops::Tagged;
 use rdf_terms::write_triple;
 use std::alloc::{AllocError, Global};
@@ -34,7 +37,7 @@ pub enum Reply<'a> {
     /// `known`: the range was known.
     Known,
     /// `has K`, then a line of dot and triple for each pair: these are the pairs of the clone.
-    Shows(&'a [Tagged]),
+    Shows(&'a Graph),
     /// `same`: two clones know the same dots.
     Same,
     /// `less`: the first clone's dots are a proper part of the second's.
@@ -199,11 +202,33 @@ fn push_range(alloc: Global, out: &mut Vec<u8>, range: &Range) -> Result<(), All
 }
 
 /// `has K`, then a line of dot and triple for each pair.
-fn push_pairs(alloc: Global, out: &mut Vec<u8>, pairs: &[Tagged]) -> Result<(), AllocError>
-    ensures { OnOk result (out.new.items ≡ out.old.items ++ reply_text (Shows pairs.now)) }
+fn push_pairs(alloc: Global, out: &mut Vec<u8>, pairs: &Graph) -> Result<(), AllocError>
+    ensures { OnOk result (out.new.items ≡ out.old.items ++ reply_text (Shows pairs.now.elements)) }
 {
-    let head = format!(in alloc; "has {}\n", pairs.len())?;
+    let head = format!(in alloc; "has {}\n", pairs.count())?;
     out.extend_from_slice(head.as_bytes())?;
+    push_chunks(alloc, out, pairs.chunks())?;
+    Ok(())
+}
+
+/// A line of dot and triple for each pair of chunks.
+fn push_chunks(
+    alloc: Global,
+    out: &mut Vec<u8>,
+    chunks: &[Chunk<Tagged>],
+) -> Result<(), AllocError>
+    ensures { OnOk result (out.new.items ≡ out.old.items ++ flat_map pair_line (joined_chunks chunks.now)) }
+{
+    for chunk in chunks {
+        push_lines(alloc, out, chunk.as_slice())?;
+    }
+    Ok(())
+}
+
+/// A line of dot and triple for each pair.
+fn push_lines(alloc: Global, out: &mut Vec<u8>, pairs: &[Tagged]) -> Result<(), AllocError>
+    ensures { OnOk result (out.new.items ≡ out.old.items ++ flat_map pair_line pairs.now) }
+{
     for pair in pairs {
         push_pair(alloc, out, pair)?;
     }
