@@ -12,10 +12,10 @@ use Rattle.rdf_terms.specs.declared.faults.TripleFault.TheVariants.{NotTriple, T
 use Rattle.schedule_model.specs.Characters.{space}
 use Rattle.mld_model.specs.World.{clone_count}
 use Rattle.schedule_model.specs.declared.Command.{Command}
-use Rattle.schedule_model.specs.declared.Command.TheVariants.{Add, Remove, Deliver, Show, Compare, Join, Stop, Open}
+use Rattle.schedule_model.specs.declared.Command.TheVariants.{Add, Remove, Deliver, Show, Compare, Join, Ask, Compact, Stop, Open}
 use Rattle.schedule_model.proofs.LackingLaws.{Lacks, apart}
 use Rattle.schedule_model.specs.Schedule.{SpellsCommand}
-use Rattle.schedule_text.specs.ReadLines.{IsTripleText, IsCloneAndTriple, IsAddRest, IsRemoveRest, IsDeliverRest, IsShowRest, IsCompareRest, IsJoinRest, IsStopRest, IsOpenRest}
+use Rattle.schedule_text.specs.ReadLines.{IsTripleText, IsCloneAndTriple, IsAddRest, IsRemoveRest, IsDeliverRest, IsShowRest, IsCompareRest, IsJoinRest, IsAskRest, IsCompactRest, IsStopRest, IsOpenRest}
 use Rattle.schedule_text.proofs.LinesText.{has_space}
 use Rattle.schedule_text.proofs.LinesNumbers.{small, number_first}
 
@@ -46,6 +46,8 @@ add_back line rest e (Deliver message number) h = absurd (apart e h.0 refl)
 add_back line rest e (Show number) h = absurd (apart e h.0 refl)
 add_back line rest e (Compare number other) h = absurd (apart e h.0 refl)
 add_back line rest e (Join number) h = absurd (apart e h.0 refl)
+add_back line rest e (Ask number) h = absurd (apart (ap (drop 1) e) (ap (drop 1) h.0) refl)
+add_back line rest e (Compact number) h = absurd (apart e h.0 refl)
 add_back line rest e (Stop number) h = absurd (apart e h.0 refl)
 add_back line rest e (Open number) h = absurd (apart e h.0 refl)
 
@@ -64,6 +66,8 @@ remove_back line rest e (Deliver message number) h = absurd (apart e h.0 refl)
 remove_back line rest e (Show number) h = absurd (apart e h.0 refl)
 remove_back line rest e (Compare number other) h = absurd (apart e h.0 refl)
 remove_back line rest e (Join number) h = absurd (apart e h.0 refl)
+remove_back line rest e (Ask number) h = absurd (apart e h.0 refl)
+remove_back line rest e (Compact number) h = absurd (apart e h.0 refl)
 remove_back line rest e (Stop number) h = absurd (apart e h.0 refl)
 remove_back line rest e (Open number) h = absurd (apart e h.0 refl)
 
@@ -81,6 +85,8 @@ deliver_back line rest e (Deliver message number) h = (message, number, refl, ap
 deliver_back line rest e (Show number) h = absurd (apart e h.0 refl)
 deliver_back line rest e (Compare number other) h = absurd (apart e h.0 refl)
 deliver_back line rest e (Join number) h = absurd (apart e h.0 refl)
+deliver_back line rest e (Ask number) h = absurd (apart e h.0 refl)
+deliver_back line rest e (Compact number) h = absurd (apart e h.0 refl)
 deliver_back line rest e (Stop number) h = absurd (apart e h.0 refl)
 deliver_back line rest e (Open number) h = absurd (apart e h.0 refl)
 
@@ -98,6 +104,8 @@ show_back line rest e (Deliver message number) h = absurd (apart e h.0 refl)
 show_back line rest e (Show number) h = (number, refl, ap (drop 5) (sym e ∙ h.0), h.1)
 show_back line rest e (Compare number other) h = absurd (apart e h.0 refl)
 show_back line rest e (Join number) h = absurd (apart e h.0 refl)
+show_back line rest e (Ask number) h = absurd (apart e h.0 refl)
+show_back line rest e (Compact number) h = absurd (apart e h.0 refl)
 show_back line rest e (Stop number) h = absurd (apart (ap (drop 1) e) (ap (drop 1) h.0) refl)
 show_back line rest e (Open number) h = absurd (apart e h.0 refl)
 
@@ -115,6 +123,8 @@ compare_back line rest e (Deliver message number) h = absurd (apart e h.0 refl)
 compare_back line rest e (Show number) h = absurd (apart e h.0 refl)
 compare_back line rest e (Compare number other) h = (number, other, refl, ap (drop 8) (sym e ∙ h.0), h.1, h.2)
 compare_back line rest e (Join number) h = absurd (apart e h.0 refl)
+compare_back line rest e (Ask number) h = absurd (apart e h.0 refl)
+compare_back line rest e (Compact number) h = absurd (apart (ap (drop 5) e) (ap (drop 5) h.0) refl)
 compare_back line rest e (Stop number) h = absurd (apart e h.0 refl)
 compare_back line rest e (Open number) h = absurd (apart e h.0 refl)
 
@@ -132,11 +142,51 @@ join_back line rest e (Deliver message number) h = absurd (apart e h.0 refl)
 join_back line rest e (Show number) h = absurd (apart e h.0 refl)
 join_back line rest e (Compare number other) h = absurd (apart e h.0 refl)
 join_back line rest e (Join number) h = (number, refl, ap (drop 5) (sym e ∙ h.0), h.1)
+join_back line rest e (Ask number) h = absurd (apart e h.0 refl)
+join_back line rest e (Compact number) h = absurd (apart e h.0 refl)
 join_back line rest e (Stop number) h = absurd (apart e h.0 refl)
 join_back line rest e (Open number) h = absurd (apart e h.0 refl)
 
 pub join_behind : (line rest : List ℕ) → line ≡ codes "join " ++ rest → (command : Command) → IsJoinRest rest command ↔ SpellsCommand line command
 join_behind line rest e command = (join_there line rest e command, join_back line rest e command)
+
+ask_there : (line rest : List ℕ) → line ≡ codes "ask " ++ rest → (command : Command) → IsAskRest rest command → SpellsCommand line command
+ask_there line rest e command h =
+    subst (λ (k : Command). SpellsCommand line k) (sym h.1) (e ∙ ap (λ (r : List ℕ). codes "ask " ++ r) h.2, h.3)
+
+ask_back : (line rest : List ℕ) → line ≡ codes "ask " ++ rest → (command : Command) → SpellsCommand line command → IsAskRest rest command
+ask_back line rest e (Add number triple) h = absurd (apart (ap (drop 1) e) (ap (drop 1) h.1) refl)
+ask_back line rest e (Remove number triple) h = absurd (apart e h.1 refl)
+ask_back line rest e (Deliver message number) h = absurd (apart e h.0 refl)
+ask_back line rest e (Show number) h = absurd (apart e h.0 refl)
+ask_back line rest e (Compare number other) h = absurd (apart e h.0 refl)
+ask_back line rest e (Join number) h = absurd (apart e h.0 refl)
+ask_back line rest e (Ask number) h = (number, refl, ap (drop 4) (sym e ∙ h.0), h.1)
+ask_back line rest e (Compact number) h = absurd (apart e h.0 refl)
+ask_back line rest e (Stop number) h = absurd (apart e h.0 refl)
+ask_back line rest e (Open number) h = absurd (apart e h.0 refl)
+
+pub ask_behind : (line rest : List ℕ) → line ≡ codes "ask " ++ rest → (command : Command) → IsAskRest rest command ↔ SpellsCommand line command
+ask_behind line rest e command = (ask_there line rest e command, ask_back line rest e command)
+
+compact_there : (line rest : List ℕ) → line ≡ codes "compact " ++ rest → (command : Command) → IsCompactRest rest command → SpellsCommand line command
+compact_there line rest e command h =
+    subst (λ (k : Command). SpellsCommand line k) (sym h.1) (e ∙ ap (λ (r : List ℕ). codes "compact " ++ r) h.2, h.3)
+
+compact_back : (line rest : List ℕ) → line ≡ codes "compact " ++ rest → (command : Command) → SpellsCommand line command → IsCompactRest rest command
+compact_back line rest e (Add number triple) h = absurd (apart e h.1 refl)
+compact_back line rest e (Remove number triple) h = absurd (apart e h.1 refl)
+compact_back line rest e (Deliver message number) h = absurd (apart e h.0 refl)
+compact_back line rest e (Show number) h = absurd (apart e h.0 refl)
+compact_back line rest e (Compare number other) h = absurd (apart (ap (drop 5) e) (ap (drop 5) h.0) refl)
+compact_back line rest e (Join number) h = absurd (apart e h.0 refl)
+compact_back line rest e (Ask number) h = absurd (apart e h.0 refl)
+compact_back line rest e (Compact number) h = (number, refl, ap (drop 8) (sym e ∙ h.0), h.1)
+compact_back line rest e (Stop number) h = absurd (apart e h.0 refl)
+compact_back line rest e (Open number) h = absurd (apart e h.0 refl)
+
+pub compact_behind : (line rest : List ℕ) → line ≡ codes "compact " ++ rest → (command : Command) → IsCompactRest rest command ↔ SpellsCommand line command
+compact_behind line rest e command = (compact_there line rest e command, compact_back line rest e command)
 
 stop_there : (line rest : List ℕ) → line ≡ codes "stop " ++ rest → (command : Command) → IsStopRest rest command → SpellsCommand line command
 stop_there line rest e command h =
@@ -149,6 +199,8 @@ stop_back line rest e (Deliver message number) h = absurd (apart e h.0 refl)
 stop_back line rest e (Show number) h = absurd (apart (ap (drop 1) e) (ap (drop 1) h.0) refl)
 stop_back line rest e (Compare number other) h = absurd (apart e h.0 refl)
 stop_back line rest e (Join number) h = absurd (apart e h.0 refl)
+stop_back line rest e (Ask number) h = absurd (apart e h.0 refl)
+stop_back line rest e (Compact number) h = absurd (apart e h.0 refl)
 stop_back line rest e (Stop number) h = (number, refl, ap (drop 5) (sym e ∙ h.0), h.1)
 stop_back line rest e (Open number) h = absurd (apart e h.0 refl)
 
@@ -166,6 +218,8 @@ open_back line rest e (Deliver message number) h = absurd (apart e h.0 refl)
 open_back line rest e (Show number) h = absurd (apart e h.0 refl)
 open_back line rest e (Compare number other) h = absurd (apart e h.0 refl)
 open_back line rest e (Join number) h = absurd (apart e h.0 refl)
+open_back line rest e (Ask number) h = absurd (apart e h.0 refl)
+open_back line rest e (Compact number) h = absurd (apart e h.0 refl)
 open_back line rest e (Stop number) h = absurd (apart e h.0 refl)
 open_back line rest e (Open number) h = (number, refl, ap (drop 5) (sym e ∙ h.0), h.1)
 

@@ -5,7 +5,7 @@ use Rattle.std.specs.Fmt.{decimal}
 use Rattle.rdf_terms.specs.declared.terms.Triple.{Triple}
 use Rattle.rdf_terms.specs.Grammar.{SpellsTriple, IsTripleWithin}
 use Rattle.schedule_model.specs.Characters.{space}
-use Rattle.schedule_model.specs.declared.Command.TheVariants.{Add, Remove, Deliver, Show, Compare, Join, Stop, Open}
+use Rattle.schedule_model.specs.declared.Command.TheVariants.{Add, Remove, Deliver, Show, Compare, Join, Ask, Compact, Stop, Open}
 use Rattle.schedule_model.specs.declared.Command.{Command}
 use Rattle.schedule_model.specs.Schedule.{Setup as ModelSetup, IsNothing, is_unbuilt, SpellsSetup, SpellsCommand, IsCloneNumber}
 use Rattle.schedule_model.specs.Runs.{IsBad, IsUnbuilt, Waiting}
@@ -79,6 +79,14 @@ IsCompareRest rest command = (number : ℕ) × (other : ℕ) × (command ≡ Com
 
 abbrev pub IsJoinRest : List ℕ → Command → Type 0
 IsJoinRest rest command = (number : ℕ) × (command ≡ Join number) × (rest ≡ decimal number) × IsCloneNumber number
+
+-- the rest of an `ask` line
+abbrev pub IsAskRest : List ℕ → Command → Type 0
+IsAskRest rest command = (number : ℕ) × (command ≡ Ask number) × (rest ≡ decimal number) × IsCloneNumber number
+
+-- the rest of a `compact` line
+abbrev pub IsCompactRest : List ℕ → Command → Type 0
+IsCompactRest rest command = (number : ℕ) × (command ≡ Compact number) × (rest ≡ decimal number) × IsCloneNumber number
 
 -- the rest of a `stop` line
 abbrev pub IsStopRest : List ℕ → Command → Type 0

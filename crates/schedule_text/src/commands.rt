@@ -4,7 +4,7 @@ ghost use Rattle.iri_rules.specs.Domain.{is_domain};
 ghost use Rattle.rdf_terms.specs.declared.terms.Triple.{Triple};
 ghost use Rattle.schedule_model.specs.Schedule.{is_unbuilt, SpellsCommand};
 ghost use Rattle.schedule_model.specs.declared.Command.{Command};
-ghost use Rattle.schedule_text.specs.ReadLines.{CommandIs, IsBadCommand, IsTripleText, IsCloneAndTriple, IsAddRest, IsRemoveRest, IsDeliverRest, IsShowRest, IsCompareRest, IsJoinRest, IsStopRest, IsOpenRest};
+ghost use Rattle.schedule_text.specs.ReadLines.{CommandIs, IsBadCommand, IsTripleText, IsCloneAndTriple, IsAddRest, IsRemoveRest, IsDeliverRest, IsShowRest, IsCompareRest, IsJoinRest, IsAskRest, IsCompactRest, IsStopRest, IsOpenRest};
 
 use crate::numbers::{read_clone, read_number};
 use crate::refusals::LineRefusal;
@@ -57,6 +57,12 @@ fn command_of(alloc: Global, line: &[u8]) -> Result<Option<Command>, AllocError>
     }
     if let Some(rest) = behind(line, b"join ") {
         return Ok(read_join(rest));
+    }
+    if let Some(rest) = behind(line, b"ask ") {
+        return Ok(read_ask(rest));
+    }
+    if let Some(rest) = behind(line, b"compact ") {
+        return Ok(read_compact(rest));
     }
     if let Some(rest) = behind(line, b"stop ") {
         return Ok(read_stop(rest));
@@ -140,6 +146,20 @@ fn read_join(rest: &[u8]) -> Option<Command>
     ensures { MatchOption result ((command : Command) → ¬ IsJoinRest rest.now command) (λ command. IsJoinRest rest.now command) }
 {
     Some(Command::Join(read_clone(rest)?))
+}
+
+/// What follows `ask` and a space: a clone's number.
+fn read_ask(rest: &[u8]) -> Option<Command>
+    ensures { MatchOption result ((command : Command) → ¬ IsAskRest rest.now command) (λ command. IsAskRest rest.now command) }
+{
+    Some(Command::Ask(read_clone(rest)?))
+}
+
+/// What follows `compact` and a space: a clone's number.
+fn read_compact(rest: &[u8]) -> Option<Command>
+    ensures { MatchOption result ((command : Command) → ¬ IsCompactRest rest.now command) (λ command. IsCompactRest rest.now command) }
+{
+    Some(Command::Compact(read_clone(rest)?))
 }
 
 /// What follows `stop` and a space: a clone's number.
