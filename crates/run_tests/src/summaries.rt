@@ -169,9 +169,9 @@ fn a_run_tells_of_its_world_at_some_statuses(rt: HostRuntime) -> Result<(), Fail
         (b"# c\nshow\n", 4, false),
         (b"# c\n", 4, false),
         (b"", 4, false),
-        (b"domain d clones 2\nask 0\n", 20, false),
-        (b"ask\n", 20, false),
-        (b"domain d clones 2\nshow 0\nask 0\n", 20, false),
+        (b"domain d clones 2\nquery 0\n", 20, false),
+        (b"query\n", 20, false),
+        (b"domain d clones 2\nshow 0\nquery 0\n", 20, false),
     ];
     for (schedule, status, told) in cases {
         let ended = ends_telling(&rt, rt.alloc(), schedule)?;

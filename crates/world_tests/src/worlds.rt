@@ -45,7 +45,7 @@ fn lines_before_the_domain_line_are_refused(rt: HostRuntime) {
         Some(LineRefusal::BadLine)
     );
     assert_eq!(rt;
-        read_setup(rt.alloc(), b"ask", None).err(),
+        read_setup(rt.alloc(), b"query", None).err(),
         Some(LineRefusal::Unbuilt)
     );
 }
@@ -65,7 +65,7 @@ fn lines_of_no_command_are_refused(rt: HostRuntime) {
         assert_eq!(rt; refusal, Some(LineRefusal::BadLine));
     }
     assert_eq!(rt;
-        read_command(rt.alloc(), b"ask 0", "d").err(),
+        read_command(rt.alloc(), b"query 0", "d").err(),
         Some(LineRefusal::Unbuilt)
     );
 }
