@@ -1,5 +1,5 @@
 -- Clones with their banks: where one of them changes, what the others keep, and the model's step.
-use Rattle.std.proofs.Common.{◌≡◌, ◌≢◌, ℕ, List, Option, Some, None, MatchOption, Result, Ok, Err, IfErr, refl, sym, ◌∙◌, ap, arith, subst, map, set, option_map, inl, inr}
+use Rattle.std.proofs.Common.{◌≡◌, ◌≢◌, ℕ, ◌+◌, List, Option, Some, None, MatchOption, Result, Ok, Err, IfErr, refl, sym, ◌∙◌, ap, arith, subst, map, set, option_map, inl, inr}
 use Rattle.std.specs.Prelude.{slice_get}
 use Rattle.std.proofs.lemmas.Bool.{cases_eq}
 use Rattle.std.proofs.lemmas.List.{map-set, length-set}
@@ -16,8 +16,10 @@ use Rattle.mld_model.specs.Reply.{Reply, NoMessage}
 use Rattle.mld_model.specs.Sound.{Keeps, IsSound}
 use Rattle.mld_model.specs.StandsFor.{StoredStandsFor, CloneStandsFor}
 use Rattle.mld_model.specs.World.{World, Message, clone_at, message_at}
+use Rattle.clone_core.specs.Banked.{BankedClone}
+use Rattle.clone_core.specs.Closing.{StaysOpen}
 use Rattle.schedule_model.specs.declared.Command.{Command}
-use Rattle.schedule_model.specs.declared.Command.TheVariants.{Add, Remove, Deliver, Show, Compare, Join, Stop, Open}
+use Rattle.schedule_model.specs.declared.Command.TheVariants.{Add, Remove, Deliver, Show, Compare, Join, Ask, Compact, Stop, Open}
 use Rattle.schedule_model.specs.Step.{Step, number_of_clone}
 use Rattle.schedule_model.specs.WorldStep.{Follows}
 use Rattle.schedule_model.proofs.ChangesLaws.{step_keeps_domain, step_keeps_others, kept_still_stands}
@@ -26,7 +28,7 @@ use Rattle.net_world.specs.declared.faults.WorldFault.TheVariants as faults
 use Rattle.net_world.specs.declared.replies.Reply.{Reply as CodeReply}
 use Rattle.net_world.specs.Replies.{FailsToTell}
 use Rattle.net_world.specs.States.{HasState, Becomes}
-use Rattle.net_world.specs.WorldBanks.{BankedState, BankedWorld, in_memory, banks_of_state, memory_of, KeepsNoneNow, KeepsStored, BanksStandFor, IsBacked, StandsOnBanks, GoesOn, MetersGoOn, FailsAt, FailsAmong, IsCarried, IsCarriedAt}
+use Rattle.net_world.specs.WorldBanks.{BankedState, BankedWorld, in_memory, banks_of_state, memory_of, KeepsNoneNow, KeepsStored, BanksStandFor, IsReached, IsDownOn, IsOpenAt, IsBacked, StandsOnBanks, GoesOn, MetersGoOn, FailsAt, FailsAmong, IsNextGeneration, is_first, is_next, IsOpenNext, IsCarried, IsCarriedAt}
 use Rattle.net_world.specs.Worlds.{Moves, MovesOnBanks}
 use Rattle.net_world.proofs.Places.{here_at, other_at}
 
@@ -104,6 +106,7 @@ module _ {B : Type 0} (meter : B → Meter) where
   pub fails_set : (old new : List (BankedState B)) (number : ℕ) (before after : BankedState B) (fault : WorldFault) → Becomes old new number before after
       → FailsAt number (meter (banks_of_state before)) (meter (banks_of_state after)) fault → FailsAmong meter old new fault
   fails_set old new number before after faults.NoMemory becomes fails = tt
+  fails_set old new number before after faults.Unbuilt becomes fails = absurd fails
   fails_set old new number before after (faults.Device clone) becomes fails = λ was now had has unarmed.
       let now_is : map banks_of_state new ≡ set (map banks_of_state old) number (banks_of_state after) =
       ap (λ (l : List (BankedState B)). map banks_of_state l) becomes.now ∙ map-set banks_of_state old number after in
@@ -179,46 +182,63 @@ down_stays world next (Remove number triple) reply shut stands step = (down_by w
 down_stays world next (Deliver message number) reply shut stands step = down_takes world next number reply (message_at world message) (clone_at world number) stands step
 down_stays world next (Show number) reply shut stands step = (down_by world number (clone_at world number) _ _ _ _ stands step).1
 down_stays world next (Join number) reply shut stands step = (down_by world number (clone_at world number) _ _ _ _ stands step).1
+down_stays world next (Ask number) reply shut stands step = (down_by world number (clone_at world number) _ _ _ _ stands step).1
+down_stays world next (Compact number) reply shut stands step = (down_by world number (clone_at world number) _ _ _ _ stands step).1
 down_stays world next (Stop number) reply shut stands step = (down_by world number (clone_at world number) _ _ _ _ stands step).1
 down_stays world next (Open number) reply shut stands step = absurd shut
 down_stays world next (Compare number other) reply shut stands step = (down_by world number (clone_at world number) _ _ _ _ stands step).1
 
 -- ---- steps of a world on banks
 
-module _ {B : Type 0} (log : B → Option Log) (old new : BankedWorld B) (command : Command) (reply : Reply) where
+-- a live clone that stayed open keeps its generation
+pub stays_next : {B : Type 0} (old : List (BankedState B)) (number : ℕ) (was now : BankedClone B) → HasState old number (states.Live was) → StaysOpen was now → IsOpenNext old number now
+stays_next old number was now at stays = record { opened = stays.opened; next = is_next was at (omega (arith, stays.generation)) }
+
+module _ {B : Type 0} (log : B → Option Log) (old new : BankedWorld B) (command : Command) (reply : Reply) (later : new.steps ≡ old.steps + 1) where
+  -- what was known of a live clone, and of one that is down
+  open_still : (clone : BankedClone B) → IsOpenAt old.steps clone → IsOpenAt new.steps clone
+  open_still clone backed = record { opened = backed.opened; reached = omega (arith, later, backed.reached) }
+
+  down_still : (world next : World) (number : ℕ) (now : Option Log) → IsDownOn world old.steps number now → BanksStandFor next number now → IsDownOn next new.steps number now
+  down_still world next number now backed stands =
+      record { stands = stands; reached = λ told kept is keeps. omega (arith, later, backed.reached told kept is keeps) }
+
   -- what is known of a clone that keeps the same
   still_backed : (world next : World) (number : ℕ) (state : BankedState B) → IsSound world → Step world command reply next → clone_at next number ≡ clone_at world number
-      → IsBacked log world number state → IsBacked log next number state
+      → IsBacked log world old.steps number state → IsBacked log next new.steps number state
   still_backed world next number (states.Absent banks) sound step same backed = tt
   still_backed world next number (states.Asking asking) sound step same backed = tt
-  still_backed world next number (states.Live clone) sound step same backed = backed
+  still_backed world next number (states.Live clone) sound step same backed = open_still clone backed
   still_backed world next number (states.Down banks) sound step same backed =
       let keeps : (next.domain ≡ world.domain) × (next.properties ≡ world.properties) = step_keeps_domain world command reply next step in
-      subst (λ (c : Clone). MatchOption (kept_of c) (KeepsNoneNow (log banks)) (λ stored. KeepsStored next number stored (log banks))) (sym same)
+      down_still world next number (log banks) backed
+      (subst (λ (c : Clone). MatchOption (kept_of c) (KeepsNoneNow (log banks)) (λ stored. KeepsStored next number stored (log banks))) (sym same)
       (stands_by world next number (log banks) (kept_of (clone_at world number)) keeps.0 keeps.1
-      (λ stored running kept. kept_still_stands world command reply next sound step number stored (keeps_from (clone_at world number) stored kept) running) backed)
+      (λ stored running kept. kept_still_stands world command reply next sound step number stored (keeps_from (clone_at world number) stored kept) running) backed.stands))
 
   -- what is known of a clone that the command doesn't say of
   other_backed : (world next : World) → StandsOnBanks log old world → IsSound world → Step world command reply next → (number : ℕ) (state : BankedState B)
-      → number ≢ number_of_clone command → HasState old.clones number state → IsBacked log next number state
+      → number ≢ number_of_clone command → HasState old.clones number state → IsBacked log next new.steps number state
   other_backed world next stands sound step number state differs at =
       still_backed world next number state sound step (step_keeps_others world command reply next step number differs) (stands.backed number state at)
 
   -- and of the clone that it says of, where that is in the state in which it was
   here_backed : (world next : World) → StandsOnBanks log old world → Step world command reply next → StaysShut command → (state : BankedState B)
-      → HasState old.clones (number_of_clone command) state → IsBacked log next (number_of_clone command) state
+      → HasState old.clones (number_of_clone command) state → IsBacked log next new.steps (number_of_clone command) state
   here_backed world next stands step shut (states.Absent banks) at = tt
   here_backed world next stands step shut (states.Asking asking) at = tt
-  here_backed world next stands step shut (states.Live clone) at = stands.backed (number_of_clone command) (states.Live clone) at
+  here_backed world next stands step shut (states.Live clone) at = open_still clone (stands.backed (number_of_clone command) (states.Live clone) at)
   here_backed world next stands step shut (states.Down banks) at =
       let number : ℕ = number_of_clone command in
       let down : CloneStandsFor world number (states.Down (record {})) (clone_at world number) =
       stands.memory.clones number (states.Down (record {})) (memory_at old.clones number (states.Down banks) at) in
-      subst (λ (w : World). BanksStandFor w number (log banks)) (sym (down_stays world next command reply shut down step)) (stands.backed number (states.Down banks) at)
+      let backed : IsDownOn world old.steps number (log banks) = stands.backed number (states.Down banks) at in
+      down_still world next number (log banks) backed
+      (subst (λ (w : World). BanksStandFor w number (log banks)) (sym (down_stays world next command reply shut down step)) backed.stands)
 
   -- the clone that the command says of is in another state
   pub moves_at : (after : BankedState B) → ((world : World) → StandsOnBanks log old world → IsSound world → Follows world command reply (memory_of new)) → new.clones ≡ set old.clones (number_of_clone command) after
-      → ((world next : World) → StandsOnBanks log old world → IsSound world → Step world command reply next → IsBacked log next (number_of_clone command) after)
+      → ((world next : World) → StandsOnBanks log old world → IsSound world → Step world command reply next → IsBacked log next new.steps (number_of_clone command) after)
       → MovesOnBanks log old command reply new
   moves_at after moves same backs world stands sound =
       let here : ℕ = number_of_clone command in
@@ -234,8 +254,8 @@ module _ {B : Type 0} (log : B → Option Log) (old new : BankedWorld B) (comman
               elim (cases_eq number here) [
                 | inl equal ↦
                     let now : after ≡ state = here_at old.clones here after state (subst (λ (k : ℕ). HasState (set old.clones here after) k state) equal at) in
-                    subst (λ (k : ℕ). IsBacked log f.next k state) (sym equal)
-                    (subst (λ (s : BankedState B). IsBacked log f.next here s) now (backs world f.next stands sound f.steps))
+                    subst (λ (k : ℕ). IsBacked log f.next new.steps k state) (sym equal)
+                    (subst (λ (s : BankedState B). IsBacked log f.next new.steps here s) now (backs world f.next stands sound f.steps))
                 | inr differs ↦ other_backed world f.next stands sound f.steps number state differs (other_at old.clones here number after state differs at)
               ];
         };
@@ -255,19 +275,27 @@ module _ {B : Type 0} (log : B → Option Log) (old new : BankedWorld B) (comman
               let at : HasState old.clones number state = subst (λ (l : List (BankedState B)). HasState l number state) same is in
               elim (cases_eq number (number_of_clone command)) [
                 | inl equal ↦
-                    subst (λ (k : ℕ). IsBacked log f.next k state) (sym equal)
+                    subst (λ (k : ℕ). IsBacked log f.next new.steps k state) (sym equal)
                     (here_backed world f.next stands f.steps shut state (subst (λ (k : ℕ). HasState old.clones k state) equal at))
                 | inr differs ↦ other_backed world f.next stands sound f.steps number state differs at
               ];
         };
       }
 
+  -- the generation of a live clone that may be carried
+  next_reached : (world : World) → StandsOnBanks log old world → (number generation : ℕ) → IsNextGeneration old.clones number generation → IsReached new.steps generation
+  next_reached world stands number generation (is_first one) = omega (arith, one, later)
+  next_reached world stands number generation (is_next was at most) =
+      let backed : IsOpenAt old.steps was = stands.backed number (states.Live was) at in
+      omega (arith, later, most, backed.reached)
+
   -- the clone's state is one that may be carried
   carried_backed : StaysShut command → (state : BankedState B) → IsCarried old.clones (number_of_clone command) state
-      → (world next : World) → StandsOnBanks log old world → IsSound world → Step world command reply next → IsBacked log next (number_of_clone command) state
+      → (world next : World) → StandsOnBanks log old world → IsSound world → Step world command reply next → IsBacked log next new.steps (number_of_clone command) state
   carried_backed shut (states.Absent banks) carried world next stands sound step = tt
   carried_backed shut (states.Asking asking) carried world next stands sound step = tt
-  carried_backed shut (states.Live clone) carried world next stands sound step = carried
+  carried_backed shut (states.Live clone) carried world next stands sound step =
+      record { opened = carried.opened; reached = next_reached world stands (number_of_clone command) clone.generation carried.next }
   carried_backed shut (states.Down banks) carried world next stands sound step = here_backed world next stands step shut (states.Down banks) carried
 
   pub moves_carried : Moves (memory_of old) command reply (memory_of new) → StaysShut command → IsCarriedAt old.clones new.clones (number_of_clone command)

@@ -1,5 +1,5 @@
 -- What `add` and `remove` do is the model's step.
-use Rattle.std.proofs.Common.{◌≡◌, ℕ, ◌+◌, List, [], ◌∷◌, ◌++◌, true, false, Option, None, Result, Ok, Err, IfOk, OnOk, refl, sym, ◌∙◌, ap, subst, length, map, set}
+use Rattle.std.proofs.Common.{◌≡◌, ℕ, ◌+◌, List, [], ◌∷◌, ◌++◌, true, false, Option, Result, Ok, Err, IfOk, OnOk, refl, sym, ◌∙◌, ap, subst, length, map, set}
 use Rattle.mld_io.specs.Arm.{Meter}
 use Rattle.mld_io.specs.Disk.{Log}
 use Rattle.rdf_terms.specs.declared.terms.Triple.{Triple}
@@ -17,6 +17,7 @@ use Rattle.schedule_model.specs.declared.Command.TheVariants.{Add, Remove}
 use Rattle.schedule_model.specs.WorldStep.{IsMissingReply}
 use Rattle.schedule_model.proofs.WorldLaws.{stepped_sending, add_follows, add_missing, remove_follows, remove_nothing, remove_missing}
 use Rattle.clone_core.specs.Banked.{BankedClone}
+use Rattle.clone_core.specs.Closing.{StaysOpen}
 use Rattle.net_world.specs.declared.faults.WorldFault.{WorldFault}
 use Rattle.net_world.specs.declared.parts.Parts.{Parts}
 use Rattle.net_world.specs.declared.replies.Reply.{Reply as CodeReply}
@@ -28,7 +29,7 @@ use Rattle.net_world.specs.WorldBanks.{BankedState, in_memory, memory_of}
 use Rattle.net_world.specs.WorldParts.{running_of, Does}
 use Rattle.net_world.specs.Worlds.{Moves}
 use Rattle.net_world.proofs.Places.{set_again}
-use Rattle.net_world.proofs.BankLemmas.{memory_at, memory_becomes}
+use Rattle.net_world.proofs.BankLemmas.{memory_at, memory_becomes, stays_next}
 use Rattle.net_world.proofs.WorldLemmas.{after_step, moved, does_carried, does_still}
 
 -- the reply of an operation that was made, and the clones and messages after it
@@ -81,7 +82,7 @@ not_removed running number triple state new reply at same missing =
 module _ {B : Type 0} (log : B → Option Log) (meter : B → Meter) (old new : Parts B) (domain : new.domain ≡ old.domain) (properties : new.properties ≡ old.properties) (number : ℕ) (triple : Triple) where
   -- a live clone was told to add a triple
   pub add_done : (before after : BankedClone B) (r : Result CodeReply WorldFault) → Becomes old.clones.items new.clones.items number (states.Live before) (states.Live after)
-      → IfOk r (SetsAs before.local (map message_value old.messages.items) triple true after.local (map message_value new.messages.items)) → OnOk r (after.closed ≡ None)
+      → IfOk r (SetsAs before.local (map message_value old.messages.items) triple true after.local (map message_value new.messages.items)) → OnOk r (StaysOpen before after)
       → IfOk r (Does log old (Add number triple) new)
   add_done before after (Err fault) becomes sets opened = tt
   add_done before after (Ok reply) becomes sets opened =
@@ -90,11 +91,11 @@ module _ {B : Type 0} (log : B → Option Log) (meter : B → Meter) (old new : 
       (map in_memory new.clones.items) (map message_value new.messages.items) reply
       (memory_at old.clones.items number (states.Live before) becomes.was)
       (memory_becomes old.clones.items new.clones.items number (states.Live before) (states.Live after) becomes).now sets)
-      tt (record { state = states.Live after; now = becomes.now; carried = opened })
+      tt (record { state = states.Live after; now = becomes.now; carried = stays_next old.clones.items number before after becomes.was opened })
 
   -- or to remove it
   pub remove_done : (before after : BankedClone B) (r : Result CodeReply WorldFault) → Becomes old.clones.items new.clones.items number (states.Live before) (states.Live after)
-      → IfOk r (SetsAs before.local (map message_value old.messages.items) triple false after.local (map message_value new.messages.items)) → OnOk r (after.closed ≡ None)
+      → IfOk r (SetsAs before.local (map message_value old.messages.items) triple false after.local (map message_value new.messages.items)) → OnOk r (StaysOpen before after)
       → IfOk r (Does log old (Remove number triple) new)
   remove_done before after (Err fault) becomes sets opened = tt
   remove_done before after (Ok reply) becomes sets opened =
@@ -103,7 +104,7 @@ module _ {B : Type 0} (log : B → Option Log) (meter : B → Meter) (old new : 
       (map in_memory new.clones.items) (map message_value new.messages.items) reply
       (memory_at old.clones.items number (states.Live before) becomes.was)
       (memory_becomes old.clones.items new.clones.items number (states.Live before) (states.Live after) becomes).now sets)
-      tt (record { state = states.Live after; now = becomes.now; carried = opened })
+      tt (record { state = states.Live after; now = becomes.now; carried = stays_next old.clones.items number before after becomes.was opened })
 
   -- a clone that isn't live did neither
   pub add_missing_done : (state : BankedState B) (reply : CodeReply) → HasState old.clones.items number state → new.clones.items ≡ old.clones.items → new.messages.items ≡ old.messages.items

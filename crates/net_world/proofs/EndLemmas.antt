@@ -1,5 +1,5 @@
 -- The banks of a world: where it is founded, and where its clones stop.
-use Rattle.std.proofs.Common.{◌≡◌, ℕ, zero, suc, List, [], ◌∷◌, Option, Some, None, MatchOption, refl, sym, ◌∙◌, ap, subst, inl, inr, map, option_map}
+use Rattle.std.proofs.Common.{◌≡◌, ℕ, zero, suc, List, [], ◌∷◌, Option, Some, None, MatchOption, refl, sym, ◌∙◌, arith, subst, inl, inr, map, option_map}
 use Rattle.std.specs.Prelude.{slice_get}
 use Rattle.std.specs.Prelude.{IsSome}
 use Rattle.std.proofs.lemmas.Option.{slice_get-map}
@@ -17,7 +17,6 @@ use Rattle.schedule_model.specs.Schedule.{Setup}
 use Rattle.schedule_model.proofs.WorldLaws.{founded_stands}
 use Rattle.clone_core.specs.Banked.{kept_as}
 use Rattle.net_world.specs.Founding.{IsOpenState, AreFounded}
-use Rattle.net_world.specs.States.{HasState}
 use Rattle.net_world.specs.WorldBanks.{BankedState, BankedWorld, in_memory, banks_of_state, memory_of, KeepsNoneNow, KeepsStored, BanksStandFor, AllBanksStandFor, IsBacked, StandsOnBanks}
 use Rattle.net_world.specs.WorldEnds.{KeepsState, KeepAll}
 use Rattle.net_world.specs.Worlds.{IsStanding}
@@ -34,11 +33,11 @@ module _ {B : Type 0} (log : B → Option Log) where
   -- ---- founding
 
   -- a clone that was just founded is open where it is live
-  founded_backed : (world : World) (number : ℕ) (state : BankedState B) → IsOpenState state → IsBacked log world number state
-  founded_backed world number (states.Absent banks) opened = tt
-  founded_backed world number (states.Asking asking) opened = absurd opened
-  founded_backed world number (states.Down banks) opened = absurd opened
-  founded_backed world number (states.Live clone) opened = opened
+  founded_backed : (world : World) (steps number : ℕ) (state : BankedState B) → IsOpenState state → IsBacked log world steps number state
+  founded_backed world steps number (states.Absent banks) opened = tt
+  founded_backed world steps number (states.Asking asking) opened = absurd opened
+  founded_backed world steps number (states.Down banks) opened = absurd opened
+  founded_backed world steps number (states.Live clone) opened = record { opened = opened.opened; reached = omega (arith, opened.first) }
 
   -- the world that was founded stands for the model's
   pub founded_on_banks : (setup : Setup) (running : BankedWorld B) → AreFounded setup running.clones → running.domain ≡ setup.domain → running.properties ≡ setup.properties
@@ -53,7 +52,7 @@ module _ {B : Type 0} (log : B → Option Log) where
       } in
       record {
         memory = subst (λ (r : RunningWorld). StandsFor r (founded_by setup)) (sym same) (founded_stands setup.domain setup.properties setup.count);
-        backed = λ number state at. founded_backed (founded_by setup) number state (founded.opened state (member_at running.clones number state at));
+        backed = λ number state at. founded_backed (founded_by setup) running.steps number state (founded.opened state (member_at running.clones number state at));
       }
 
   -- which is sound
@@ -69,16 +68,16 @@ module _ {B : Type 0} (log : B → Option Log) where
       record { log = now.0; now_is = now.1; keeps = blank now.0 now.1 }
 
   -- the banks of a clone that stopped
-  stopped_stands : (world : World) (number : ℕ) (state : BankedState B) (clone : Clone) → CloneStandsFor world number (in_memory state) clone → IsBacked log world number state
+  stopped_stands : (world : World) (steps number : ℕ) (state : BankedState B) (clone : Clone) → CloneStandsFor world number (in_memory state) clone → IsBacked log world steps number state
       → clone_at world number ≡ clone → KeepsState log state → IsSome (log (banks_of_state state))
       → MatchOption (kept_of clone) (KeepsNoneNow (log (banks_of_state state))) (λ stored. KeepsStored world number stored (log (banks_of_state state)))
-  stopped_stands world number (states.Down banks) clone stands backed at keeps some =
-      subst (λ (c : Clone). MatchOption (kept_of c) (KeepsNoneNow (log banks)) (λ stored. KeepsStored world number stored (log banks))) at backed
-  stopped_stands world number (states.Absent banks) model.Absent stands backed at keeps some = keeps_none banks keeps some
-  stopped_stands world number (states.Asking asking) model.Asking stands backed at keeps some = keeps_none asking.banks keeps some
-  stopped_stands world number (states.Live live) (model.Live stored held) stands backed at keeps some =
+  stopped_stands world steps number (states.Down banks) clone stands backed at keeps some =
+      subst (λ (c : Clone). MatchOption (kept_of c) (KeepsNoneNow (log banks)) (λ stored. KeepsStored world number stored (log banks))) at backed.stands
+  stopped_stands world steps number (states.Absent banks) model.Absent stands backed at keeps some = keeps_none banks keeps some
+  stopped_stands world steps number (states.Asking asking) model.Asking stands backed at keeps some = keeps_none asking.banks keeps some
+  stopped_stands world steps number (states.Live live) (model.Live stored held) stands backed at keeps some =
       let now : (l : Log) × (log live.banks ≡ Some l) = told_log (log live.banks) some in
-      let kept = keeps backed now.0 now.1 in
+      let kept = keeps backed.opened now.0 now.1 in
       record {
         log = now.0;
         now_is = now.1;
@@ -89,7 +88,7 @@ module _ {B : Type 0} (log : B → Option Log) where
         properties = stands.0.properties;
         stands = stands.1.kept;
       }
-  stopped_stands world number state clone stands backed at keeps some = absurd stands
+  stopped_stands world steps number state clone stands backed at keeps some = absurd stands
 
   -- what the banks of one more clone keep
   pub keeps_more : (state : BankedState B) (left rest all : List (BankedState B)) → left ≡ state ∷ rest → KeepsState log state → (KeepAll log left → KeepAll log all)
@@ -111,5 +110,5 @@ module _ {B : Type 0} (log : B → Option Log) where
       found (Some state) there is =
           let same : banks_of_state state ≡ one = cc is in
           subst (λ (b : B). BanksStandFor world number (log b)) same
-          (stopped_stands world number state (clone_at world number) (stands.memory.clones number (in_memory state) (memory_at running.clones number state there))
+          (stopped_stands world running.steps number state (clone_at world number) (stands.memory.clones number (in_memory state) (memory_at running.clones number state there))
           (stands.backed number state there) refl (keeps state (member_at running.clones number state there)) (tells (banks_of_state state)))

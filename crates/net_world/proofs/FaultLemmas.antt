@@ -1,5 +1,5 @@
 -- Faults of banks over several changes of clones.
-use Rattle.std.proofs.Common.{◌≡◌, ◌∙◌, ℕ, ◌+◌, ◌<◌, ◌≤◌, Result, Err, List, [], ◌∷◌, Some, refl, ap, sym, subst, arith, inl, inr, map, min, length}
+use Rattle.std.proofs.Common.{◌≡◌, ◌∙◌, ℕ, ◌≤◌, Result, Err, List, [], ◌∷◌, Some, refl, ap, subst, arith, inl, inr, map}
 use Rattle.std.specs.Prelude.{slice_get}
 use Rattle.std.proofs.lemmas.Option.{slice_get_cases, slice_get_within}
 use Rattle.mld_io.specs.Arm.{Meter, Metered}
@@ -66,12 +66,14 @@ module _ {B : Type 0} (meter : B → Meter) where
   pub fails_then : (old mid new : List (BankedState B)) (fault : WorldFault) → MetersGoOn meter (map banks_of_state old) (map banks_of_state mid) → FailsAmong meter old mid fault
       → MetersGoOn meter (map banks_of_state mid) (map banks_of_state new) → FailsAmong meter old new fault
   fails_then old mid new faults.NoMemory first fails second = tt
+  fails_then old mid new faults.Unbuilt first fails second = absurd fails
   fails_then old mid new (faults.Device clone) first fails second =
       failed_then (map banks_of_state old) (map banks_of_state mid) (map banks_of_state new) clone first fails second
 
   pub then_fails : (old mid new : List (BankedState B)) (fault : WorldFault) → MetersGoOn meter (map banks_of_state old) (map banks_of_state mid) → FailsAmong meter mid new fault
       → FailsAmong meter old new fault
   then_fails old mid new faults.NoMemory first fails = tt
+  then_fails old mid new faults.Unbuilt first fails = absurd fails
   then_fails old mid new (faults.Device clone) first fails =
       then_failed (map banks_of_state old) (map banks_of_state mid) (map banks_of_state new) clone first fails
 

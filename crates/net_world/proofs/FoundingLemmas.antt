@@ -1,5 +1,5 @@
 -- The forks by which a world is founded, clone after clone.
-use Rattle.std.proofs.Common.{◌≡◌, ◌≢◌, ◌+◌, ◌-◌, ◌<◌, ◌≤◌, ◌∙◌, ℕ, zero, suc, List, [], ◌∷◌, ◌++◌, Option, Some, None, Ok, refl, ap, sym, subst, arith, inl, inr, map, get_or, set, insert, replicate, option_map, length}
+use Rattle.std.proofs.Common.{◌≡◌, ◌≢◌, ◌+◌, ◌-◌, ◌<◌, ◌≤◌, ◌∙◌, ℕ, zero, suc, List, [], ◌∷◌, ◌++◌, Option, Some, None, refl, ap, sym, subst, arith, inl, inr, map, get_or, set, insert, replicate, option_map, length}
 use Rattle.std.specs.Prelude.{slice_get}
 use Rattle.std.specs.List.{range_with_len}
 use Rattle.std.proofs.lemmas.Bool.{lt-ltb, le-ltb, cases_eq, cases_lt}
@@ -8,7 +8,7 @@ use Rattle.std.proofs.lemmas.List.FromFn.{get_or-map-range_with_len, length-map-
 use Rattle.std.proofs.lemmas.Option.{slice_get-map, slice_get_cases, slice_get_within, get_or_from_slice_get}
 use Rattle.mld_model.specs.World.{clone_count, founded_path}
 use Rattle.mld_model.specs.declared.CloneState.TheVariants as states
-use Rattle.mld_model.specs.Local.{LocalAsker, LocalClone, CloneValue, blank_clone, joined_clone, snapshot_of}
+use Rattle.mld_model.specs.Local.{LocalAsker, LocalClone, CloneValue, blank_clone, joined_clone}
 use Rattle.mld_model.specs.StandsFor.{RunningClone, id_of, founded_local}
 use Rattle.mld_model.proofs.StandsForLaws.{same_number}
 use Rattle.mld_ops.specs.Messages.{GiveValue, give_value}
@@ -17,15 +17,14 @@ use Rattle.mld_ops.proofs.PropertiesLaws.{kept_same}
 use Rattle.mld_ops.specs.declared.messages.Give.{Give}
 use Rattle.mld_ops.specs.declared.messages.Message.{Message}
 use Rattle.mld_ops.specs.declared.messages.Message.TheVariants as kinds
-use Rattle.clone_core.specs.Banked.{BankedAsker, BankedClone}
+use Rattle.clone_core.specs.Banked.{BankedClone}
 use Rattle.clone_core.specs.Joining.{LocallyGives, AreGood, IsGiveFor}
 use Rattle.schedule_model.specs.Schedule.{Setup, IsSetup}
-use Rattle.net_world.specs.Founding.{IsNewAsker, GivesLeaf, IsOpenState, AreFounded, IsFoundedTo, AreFoundedTo, IsAbsentAt, MayGive, LivesAtLeaf, TakesHalf, HasGiver}
+use Rattle.net_world.specs.Founding.{IsNewAsker, GivesLeaf, IsOpenFirst, AreFounded, IsFoundedTo, AreFoundedTo, IsAbsentAt, TakesHalf, HasGiver}
 use Rattle.net_world.specs.States.{HasState, Becomes}
 use Rattle.net_world.specs.WorldBanks.{BankedState, in_memory}
 use Rattle.net_world.proofs.Places.{here_at, other_at}
 use Rattle.net_world.proofs.BankLemmas.{memory_at}
-use Rattle.tree_clock.specs.Limits.{path_limit}
 use Rattle.tree_clock.specs.Lists.{Has}
 use Rattle.tree_clock.specs.Path.{zero_letter, one_letter}
 
@@ -126,7 +125,7 @@ module _ {B : Type 0} (setup : Setup) where
 
   pub first_founded : (old new : List (BankedState B)) (clone : BankedClone B) (id domain : List ℕ) (given : List (List ℕ)) → IsSetup setup → AreFoundedTo setup 0 old
       → id ≡ id_of 0 → domain ≡ setup.domain → given ≡ setup.properties → AreKept given clone.local.properties
-      → clone.local ≡ blank_clone id domain clone.local.properties [] → clone.closed ≡ None → new ≡ set old 0 (states.Live clone) → AreFoundedTo setup 1 new
+      → clone.local ≡ blank_clone id domain clone.local.properties [] → IsOpenFirst clone → new ≡ set old 0 (states.Live clone) → AreFoundedTo setup 1 new
   first_founded old new clone id domain given is absent id_is domain_is given_is kept blank opened sets =
       let same : clone.local.properties ≡ setup.properties =
       kept_same setup.properties clone.local.properties (subst (λ (g : List (List ℕ)). AreKept g clone.local.properties) given_is kept) is.named.ascending in
@@ -166,7 +165,7 @@ module _ {B : Type 0} (setup : Setup) where
               live.0,
               at,
               record {
-                opened = there.opened;
+                opened = there.opened.opened;
                 other = λ same.
                     let alike : number ≡ 0 = same_number number 0 (omega (arith, below, is.most)) (omega arith) (sym id ∙ same ∙ ap (λ (c : LocalClone). c.id) local) in
                     omega (arith, alike, some);
@@ -177,14 +176,14 @@ module _ {B : Type 0} (setup : Setup) where
       ]
 
   -- the first clone once it has forked for the next one
-  first_after : (number : ℕ) (asker : LocalAsker) (was now : BankedClone B) (state : BankedState B) → 1 ≤ number → was.local ≡ founded_there setup number 0 → TakesHalf asker was now state
+  first_after : (number : ℕ) (asker : LocalAsker) (was now : BankedClone B) (state : BankedState B) → 1 ≤ number → was.local ≡ founded_there setup number 0 → IsOpenFirst was → TakesHalf asker was now state
       → IsFoundedTo setup (number + 1) 0 (states.Live now)
-  first_after number asker was now state some was_is takes =
+  first_after number asker was now state some was_is first takes =
       let local : now.local ≡ founded_there setup (number + 1) 0 = takes.forks.left ∙ (λ i. record (was_is i) { path = (was_is i).path ++ zero_letter ∷ [] })
       ∙ ap (λ (leaf : List ℕ). blank_clone (id_of 0) setup.domain setup.properties leaf) (left_after number some) in
       record {
         memory = ap (λ (l : LocalClone). states.Live (record { local = l })) local ∙ sym (founded_within setup (number + 1) 0 (omega arith));
-        opened = takes.opened;
+        opened = record { opened = takes.opened.opened; first = takes.opened.generation ∙ first.first };
       }
 
   -- the next one
@@ -213,7 +212,8 @@ module _ {B : Type 0} (setup : Setup) where
       → IsNewAsker setup.domain setup.properties number asker → AreFoundedTo setup number old → HasState old 0 (states.Live was) → TakesHalf asker was now state
       → new ≡ set (set old number state) 0 (states.Live now) → AreFoundedTo setup (number + 1) new
   one_more number old new asker was now state is some begins founded at takes sets =
-      let was_is : was.local ≡ founded_there setup number 0 = live_is number 0 was (omega (arith, some)) (founded.each 0 (states.Live was) at) in
+      let was_there : IsFoundedTo setup number 0 (states.Live was) = founded.each 0 (states.Live was) at in
+      let was_is : was.local ≡ founded_there setup number 0 = live_is number 0 was (omega (arith, some)) was_there in
       record {
         count = ap (λ (l : List (BankedState B)). length l) sets ∙ length-set (set old number state) 0 (states.Live now) ∙ length-set old number state ∙ founded.count;
         each = λ place found has.
@@ -223,7 +223,7 @@ module _ {B : Type 0} (setup : Setup) where
                   let is_now : states.Live now ≡ found =
                   here_at (set old number state) 0 (states.Live now) found (subst (λ (k : ℕ). HasState (set (set old number state) 0 (states.Live now)) k found) first there) in
                   subst (λ (k : ℕ). IsFoundedTo setup (number + 1) k found) (sym first)
-                  (subst (λ (s : BankedState B). IsFoundedTo setup (number + 1) 0 s) is_now (first_after number asker was now state some was_is takes))
+                  (subst (λ (s : BankedState B). IsFoundedTo setup (number + 1) 0 s) is_now (first_after number asker was now state some was_is was_there.opened takes))
               | inr differs ↦
                   let still : HasState (set old number state) place found = other_at (set old number state) 0 place (states.Live now) found differs there in
                   elim (cases_eq place number) [

@@ -11,3 +11,5 @@ pub mod Places
 pub mod BankLemmas
 pub mod FaultLemmas
 pub mod EndLemmas
+pub mod AskLemmas
+pub mod CompactLemmas

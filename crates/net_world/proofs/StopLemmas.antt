@@ -1,5 +1,5 @@
 -- What `stop` and `open` do is the model's step.
-use Rattle.std.proofs.Common.{◌≡◌, ◌≢◌, ℕ, ◌<◌, List, Option, Some, None, MatchOption, Result, IfOk, IfErr, IsSome, refl, sym, ◌∙◌, ap, arith, subst, length, map, set}
+use Rattle.std.proofs.Common.{◌≡◌, ◌≢◌, ℕ, ◌+◌, ◌<◌, List, Option, Some, None, MatchOption, Result, IfOk, IfErr, IsSome, refl, sym, ◌∙◌, ap, arith, subst, length, map, set}
 use Rattle.std.proofs.lemmas.List.{get_or-set_same}
 use Rattle.std.proofs.lemmas.Option.{slice_get_within}
 use Rattle.mld_io.specs.Arm.{Meter, Metered, Unarmed}
@@ -12,6 +12,7 @@ use Rattle.mld_ops.specs.Messages.{message_value}
 use Rattle.mld_ops.specs.declared.messages.Message.{Message}
 use Rattle.tree_clock.specs.declared.dots.Range.{Range}
 use Rattle.journal_store.specs.Pairs.{Kept, Damages, read_banks}
+use Rattle.journal_store.specs.Standing.{KeepsJust}
 use Rattle.journal_store.specs.declared.faults.MountFault.TheVariants as mount
 use Rattle.mld_model.specs.declared.CloneState.TheVariants as states
 use Rattle.mld_model.specs.Clone.{Clone, Stored, kept_of}
@@ -42,7 +43,7 @@ use Rattle.net_world.specs.OpeningBanks.{IsWholeAt, IsUndamaged, IsOpenedAs, Ope
 use Rattle.net_world.specs.Replies.{reply_value}
 use Rattle.net_world.specs.States.{HasState, Becomes, reply_of_state}
 use Rattle.net_world.specs.StoppedClones.{StopsOnBanks}
-use Rattle.net_world.specs.WorldBanks.{BankedState, in_memory, banks_of_state, memory_of, stored_in, KeepsNoneNow, KeepsStored, BanksStandFor, IsBacked, StandsOnBanks, GoesOn, FailsAt}
+use Rattle.net_world.specs.WorldBanks.{BankedState, in_memory, banks_of_state, memory_of, stored_in, KeepsNoneNow, KeepsStored, IsReached, IsDownOn, IsOpenAt, IsBacked, StandsOnBanks, GoesOn, FailsAt}
 use Rattle.net_world.specs.WorldParts.{running_of, HasStepLeft, KeepsDomain, Does}
 use Rattle.net_world.proofs.BankLemmas.{memory_at, memory_becomes, goes_on, goes_on_same, rose_unarmed}
 use Rattle.net_world.proofs.WorldLemmas.{after_step, moved, does_at, does_still, keeps_set}
@@ -69,7 +70,7 @@ told_log (Some told) h = (told, refl)
 module _ {B : Type 0} (log : B → Option Log) (meter : B → Meter) (old new : Parts B) (domain : new.domain ≡ old.domain) (properties : new.properties ≡ old.properties) (number : ℕ) where
   -- the banks of a clone that stopped stand for what the model's keeps
   stopped_backed : (s : StopsOnBanks log old.clones.items new.clones.items number) (steps : ℕ) (world next : World) → StandsOnBanks log (running_of old steps) world → IsSound world
-      → Step world (Stop number) Stopped next → BanksStandFor next number (log s.clone.banks)
+      → Step world (Stop number) Stopped next → IsDownOn next (steps + 1) number (log s.clone.banks)
   stopped_backed s steps world next stands sound step =
       let running : RunningWorld = memory_of (running_of old steps) in
       let was = memory_at old.clones.items number (states.Live s.clone) s.becomes.was in
@@ -78,19 +79,29 @@ module _ {B : Type 0} (log : B → Option Log) (meter : B → Meter) (old new : 
       let now : next ≡ with_clone world number (model.Down stored) = stopped_next world next number stored at.held at.live step in
       let inside : number < length world.clones = omega (arith, slice_get_within running.clones number _ was, stands.memory.count, sound.count) in
       let down : clone_at next number ≡ model.Down stored = ap (λ (w : World). clone_at w number) now ∙ clone_written world number (model.Down stored) inside in
-      let keeps : KeepsClone s.clone.local s.clone.generation s.now = s.keeps (stands.backed number (states.Live s.clone) s.becomes.was) in
+      let backed : IsOpenAt steps s.clone = stands.backed number (states.Live s.clone) s.becomes.was in
+      let keeps : KeepsClone s.clone.local s.clone.generation s.now = s.keeps backed.opened in
       let same : (next.domain ≡ world.domain) × (next.properties ≡ world.properties) = step_keeps_domain world (Stop number) Stopped next step in
-      subst (λ (c : Clone). MatchOption (kept_of c) (KeepsNoneNow (log s.clone.banks)) (λ kept. KeepsStored next number kept (log s.clone.banks))) (sym down)
-      (record {
-        log = s.now;
-        now_is = s.told;
-        kept = kept_as keeps.0 s.clone.generation s.clone.local;
-        keeps = keeps.1;
-        id = at.is.id;
-        domain = at.is.domain ∙ sym same.0;
-        properties = at.is.properties ∙ sym same.1;
-        stands = subst (λ (h : List Operation). StoredStandsFor h (stored_of s.clone.local) stored) (ap (λ (w : World). w.history) (sym now)) at.stands.kept;
-      })
+      record {
+        stands =
+            subst (λ (c : Clone). MatchOption (kept_of c) (KeepsNoneNow (log s.clone.banks)) (λ kept. KeepsStored next number kept (log s.clone.banks))) (sym down)
+            (record {
+              log = s.now;
+              now_is = s.told;
+              kept = kept_as keeps.0 s.clone.generation s.clone.local;
+              keeps = keeps.1;
+              id = at.is.id;
+              domain = at.is.domain ∙ sym same.0;
+              properties = at.is.properties ∙ sym same.1;
+              stands = subst (λ (h : List Operation). StoredStandsFor h (stored_of s.clone.local) stored) (ap (λ (w : World). w.history) (sym now)) at.stands.kept;
+            });
+        reached = λ told kept is keeps_it.
+            let one : told ≡ s.now = cc (is, s.told) in
+            let just : KeepsJust kept s.now = subst (λ (l : Log). KeepsJust kept l) one keeps_it in
+            let same : kept ≡ kept_as keeps.0 s.clone.generation s.clone.local = cc (just.reads, keeps.1.reads) in
+            let equal : kept.generation ≡ s.clone.generation = ap (λ (k : Kept). k.generation) same in
+            omega (arith, equal, backed.reached);
+      }
 
   -- a live clone stopped
   pub stop_done : StopsOnBanks log old.clones.items new.clones.items number → new.messages.items ≡ old.messages.items → Does log old (Stop number) new replies.Stopped
@@ -124,10 +135,12 @@ module _ {B : Type 0} (log : B → Option Log) (meter : B → Meter) (old new : 
 
   -- a clone that isn't down answered by its state
   standing_backed : (steps : ℕ) (state : BankedState B) (reply : Reply) → IsStandingReply (in_memory state) reply → HasState old.clones.items number state
-      → (world next : World) → StandsOnBanks log (running_of old steps) world → IsBacked log next number state
+      → (world next : World) → StandsOnBanks log (running_of old steps) world → IsBacked log next (steps + 1) number state
   standing_backed steps (states.Absent banks) reply standing at world next stands = tt
   standing_backed steps (states.Asking asking) reply standing at world next stands = tt
-  standing_backed steps (states.Live clone) reply standing at world next stands = stands.backed number (states.Live clone) at
+  standing_backed steps (states.Live clone) reply standing at world next stands =
+      let backed : IsOpenAt steps clone = stands.backed number (states.Live clone) at in
+      record { opened = backed.opened; reached = omega (arith, backed.reached) }
   standing_backed steps (states.Down banks) reply standing at world next stands = absurd standing
 
   pub open_standing_done : (state : BankedState B) (reply : CodeReply) → HasState old.clones.items number state → set old.clones.items number state ≡ old.clones.items → new.clones.items ≡ old.clones.items
@@ -160,6 +173,17 @@ module _ {B : Type 0} (log : B → Option Log) (meter : B → Meter) (old new : 
       })
       o.begins.local o.begins.held (subst (λ (k : Kept). StoredStandsFor world.history (stored_in k) stored) same h.stands)
 
+  -- its generation is that of what its banks keep
+  opened_reached : (o : OpensLive log old.clones.items new.clones.items number) (steps : ℕ) (world : World) (kept : Option Stored)
+      → ((told : Log) (found : Kept) → log o.banks ≡ Some told → KeepsJust found told → IsReached steps found.generation)
+      → MatchOption kept (KeepsNoneNow (log o.banks)) (λ stored. KeepsStored world number stored (log o.banks)) → IsReached (steps + 1) o.clone.generation
+  opened_reached o steps world None reached h = absurd (cc (h.keeps.none, (o.found h.log h.now_is).reads))
+  opened_reached o steps world (Some stored) reached h =
+      let found = o.found h.log h.now_is in
+      let same : h.kept ≡ kept_as found.side o.clone.generation o.clone.local = cc (h.keeps.reads, found.reads) in
+      let equal : h.kept.generation ≡ o.clone.generation = ap (λ (k : Kept). k.generation) same in
+      omega (arith, equal, reached h.log h.kept h.now_is h.keeps)
+
   -- and of one that asks, since its banks keep nothing
   asking_follows : (o : OpensAsking log old.domain old.properties.items old.clones.items new.clones.items number) (steps : ℕ) (world : World) → IsNamed old.domain old.properties.items
       → StandsOnBanks log (running_of old steps) world → IsSound world
@@ -184,16 +208,18 @@ module _ {B : Type 0} (log : B → Option Log) (meter : B → Meter) (old new : 
       subst (λ (r : RunningWorld). Follows world (Open number) Opened r)
       (λ i. after_step (memory_of (running_of old steps))
       (sym (memory_becomes old.clones.items new.clones.items number (states.Down o.banks) (states.Live o.clone) o.becomes).now i) (map message_value (sym sent i)))
-      (live_follows o steps world stands sound (kept_of (clone_at world number)) refl (stands.backed number (states.Down o.banks) o.becomes.was)))
+      (live_follows o steps world stands sound (kept_of (clone_at world number)) refl (stands.backed number (states.Down o.banks) o.becomes.was).stands))
       o.becomes.now
-      (λ steps world next stands sound step. o.begins.opened)
+      (λ steps world next stands sound step.
+      let backed : IsDownOn world steps number (log o.banks) = stands.backed number (states.Down o.banks) o.becomes.was in
+      record { opened = o.begins.opened; reached = opened_reached o steps world (kept_of (clone_at world number)) backed.reached backed.stands })
   open_done replies.Asking named sent o =
       does_at log meter old new domain properties (Open number) replies.Asking (states.Asking o.asking)
       (λ steps world stands sound.
       subst (λ (r : RunningWorld). Follows world (Open number) IsAsking r)
       (λ i. after_step (memory_of (running_of old steps))
       (sym (memory_becomes old.clones.items new.clones.items number (states.Down o.banks) (states.Asking o.asking) o.becomes).now i) (map message_value (sym sent i)))
-      (asking_follows o steps world named stands sound (kept_of (clone_at world number)) refl (stands.backed number (states.Down o.banks) o.becomes.was)))
+      (asking_follows o steps world named stands sound (kept_of (clone_at world number)) refl (stands.backed number (states.Down o.banks) o.becomes.was).stands))
       o.becomes.now
       (λ steps world next stands sound step. tt)
   open_done reply named sent o = absurd o
@@ -211,7 +237,7 @@ whole_from log clones number banks at world (Some stored) h =
 pub whole_at : {B : Type 0} (log : B → Option Log) (parts : Parts B) (number : ℕ) (banks : B) → HasStepLeft log parts → HasState parts.clones.items number (states.Down banks)
     → IsWholeAt log parts.clones.items number
 whole_at log parts number banks left at =
-    whole_from log parts.clones.items number banks at left.standing.world (kept_of (clone_at left.standing.world number)) (left.standing.stands.backed number (states.Down banks) at)
+    whole_from log parts.clones.items number banks at left.standing.world (kept_of (clone_at left.standing.world number)) (left.standing.stands.backed number (states.Down banks) at).stands
 
 -- so a mount finds no damage
 pub undamaged : {B : Type 0} (now : Log) (what : Mounted B) → TellsClone what (read_banks (seen now)) → ((side : Side) (place : ℕ) → read_banks (seen now) ≢ Damages side place) → IsUndamaged what

@@ -1,5 +1,5 @@
 -- What commands do with the parts of a running world is the model's step.
-use Rattle.std.proofs.Common.{◌≡◌, ◌≢◌, ℕ, ◌+◌, ◌<◌, List, Option, None, refl, sym, ◌∙◌, ap, arith, subst, length, map, set}
+use Rattle.std.proofs.Common.{◌≡◌, ◌≢◌, ℕ, ◌+◌, ◌-◌, ◌^◌, ◌<◌, List, Option, None, Result, Ok, Err, IfErr, refl, sym, ◌∙◌, ap, arith, subst, length, map, set}
 use Rattle.std.proofs.lemmas.List.{length-map, length-set}
 use Rattle.mld_io.specs.Arm.{Meter}
 use Rattle.mld_io.specs.Disk.{Log}
@@ -24,10 +24,11 @@ use Rattle.net_world.specs.declared.faults.WorldFault.TheVariants as faults
 use Rattle.net_world.specs.declared.parts.Parts.{Parts}
 use Rattle.net_world.specs.declared.replies.Reply.{Reply as CodeReply}
 use Rattle.net_world.specs.Commands.{Answered}
+use Rattle.net_world.specs.Unbuilt.{LeavesUnbuilt, LeavesParts, HasStopCause}
 use Rattle.net_world.specs.WorldParts.{running_of, HasStepLeft, KeepsDomain, HasFaultCause, Does}
-use Rattle.net_world.specs.Replies.{reply_value}
+use Rattle.net_world.specs.Replies.{reply_value, FailsToTell}
 use Rattle.net_world.specs.States.{HasState, Becomes, reply_of_state}
-use Rattle.net_world.specs.WorldBanks.{BankedState, BankedWorld, in_memory, banks_of_state, memory_of, banks_of, IsBacked, StandsOnBanks, GoesOn, MetersGoOn, HasFailed, IsCarriedAt}
+use Rattle.net_world.specs.WorldBanks.{BankedState, BankedWorld, in_memory, banks_of_state, memory_of, banks_of, IsOpenAt, IsBacked, StandsOnBanks, GoesOn, MetersGoOn, HasFailed, IsCarriedAt}
 use Rattle.net_world.specs.Worlds.{IsStanding, Moves, FollowsOnBanks, Stepped}
 use Rattle.net_world.proofs.BankLemmas.{memory_at, meters_same, meters_set, StaysShut, moves_at, moves_still, moves_carried}
 
@@ -58,10 +59,42 @@ step_meters {B = B} meter old new running steps is keeps =
     subst (λ (w : BankedWorld B). MetersGoOn meter (banks_of w) (map banks_of_state new.clones.items)) is keeps.meters
 
 -- and a device that failed is that of the clone that the fault names
-pub step_device : {B : Type 0} (meter : B → Meter) (old new : Parts B) (running : BankedWorld B) (steps : ℕ) → running_of old steps ≡ running → (fault : WorldFault)
-    → HasFaultCause meter old new fault → (clone : ℕ) → fault ≡ faults.Device clone → HasFailed meter clone (banks_of running) (map banks_of_state new.clones.items)
-step_device {B = B} meter old new running steps is fault cause clone same =
-    subst (λ (w : BankedWorld B). HasFailed meter clone (banks_of w) (map banks_of_state new.clones.items)) is (subst (λ (f : WorldFault). HasFaultCause meter old new f) same cause)
+pub step_device : {B : Type 0} (log : B → Option Log) (meter : B → Meter) (old : Parts B) (command : Command) (new : Parts B) (running : BankedWorld B) (steps : ℕ) → running_of old steps ≡ running → (fault : WorldFault)
+    → HasStopCause log meter old command new fault → (clone : ℕ) → fault ≡ faults.Device clone → HasFailed meter clone (banks_of running) (map banks_of_state new.clones.items)
+step_device {B = B} log meter old command new running steps is fault cause clone same =
+    subst (λ (w : BankedWorld B). HasFailed meter clone (banks_of w) (map banks_of_state new.clones.items)) is
+    (subst (λ (f : WorldFault). HasStopCause log meter old command new f) same cause)
+
+-- where a snapshot would have to be sent, nothing changed
+pub step_unbuilt : {B : Type 0} (log : B → Option Log) (meter : B → Meter) (old : Parts B) (command : Command) (new : Parts B) (running : BankedWorld B) (steps : ℕ) → running_of old steps ≡ running → (fault : WorldFault)
+    → HasStopCause log meter old command new fault → fault ≡ faults.Unbuilt → LeavesUnbuilt log running command (running_of new steps)
+step_unbuilt {B = B} log meter old command new running steps is fault cause same =
+    let leaves : LeavesParts log old command new = subst (λ (f : WorldFault). HasStopCause log meter old command new f) same cause in
+    subst (λ (w : BankedWorld B). LeavesUnbuilt log w command (running_of new steps)) is (leaves.leaves steps)
+
+-- the cause of a fault of banks or memory is one of a command
+pub stop_cause : {B : Type 0} (log : B → Option Log) (meter : B → Meter) (old : Parts B) (command : Command) (new : Parts B) (fault : WorldFault) → HasFaultCause meter old new fault
+    → HasStopCause log meter old command new fault
+stop_cause log meter old command new (faults.Device clone) cause = cause
+stop_cause log meter old command new faults.NoMemory cause = cause
+stop_cause log meter old command new faults.Unbuilt cause = absurd cause
+
+pub stop_causes : {B T : Type 0} (log : B → Option Log) (meter : B → Meter) (old : Parts B) (command : Command) (new : Parts B) (r : Result T WorldFault) → IfErr r (HasFaultCause meter old new)
+    → IfErr r (HasStopCause log meter old command new)
+stop_causes log meter old command new (Ok reply) cause = tt
+stop_causes log meter old command new (Err fault) cause = stop_cause log meter old command new fault cause
+
+-- the fault of a command is told, or there is no memory to tell its reply
+pub told_stop : {B T : Type 0} (log : B → Option Log) (meter : B → Meter) (old : Parts B) (command : Command) (new : Parts B) (reply : Result CodeReply WorldFault) (told : Result T WorldFault)
+    → IfErr reply (HasStopCause log meter old command new) → IfErr told (FailsToTell reply) → IfErr told (HasStopCause log meter old command new)
+told_stop log meter old command new reply (Ok done) fails tells = tt
+told_stop log meter old command new (Ok reply) (Err fault) fails tells = subst (λ (f : WorldFault). HasStopCause log meter old command new f) (sym tells) tt
+told_stop log meter old command new (Err refused) (Err fault) fails tells = subst (λ (f : WorldFault). HasStopCause log meter old command new f) (sym tells) fails
+
+pub told_fault : {B T : Type 0} (log : B → Option Log) (meter : B → Meter) (old : Parts B) (command : Command) (new : Parts B) (reply : Result CodeReply WorldFault) (told : Result T WorldFault)
+    → IfErr reply (HasFaultCause meter old new) → IfErr told (FailsToTell reply) → IfErr told (HasStopCause log meter old command new)
+told_fault log meter old command new (Ok reply) told fails tells = told_stop log meter old command new (Ok reply) told tt tells
+told_fault log meter old command new (Err refused) told fails tells = told_stop log meter old command new (Err refused) told (stop_cause log meter old command new refused fails) tells
 
 -- a clone of parts that stand for a sound world with a step left has a tick left
 pub has_next_tick : {B : Type 0} (log : B → Option Log) (parts : Parts B) (number : ℕ) (live : BankedClone B) → HasStepLeft log parts
@@ -79,7 +112,14 @@ has_next_tick log parts number live left at =
 -- and is open
 pub is_open : {B : Type 0} (log : B → Option Log) (parts : Parts B) (number : ℕ) (live : BankedClone B) → HasStepLeft log parts → HasState parts.clones.items number (states.Live live)
     → live.closed ≡ None
-is_open log parts number live left at = left.standing.stands.backed number (states.Live live) at
+is_open log parts number live left at = (left.standing.stands.backed number (states.Live live) at).opened
+
+-- and has a generation left
+pub has_generation : {B : Type 0} (log : B → Option Log) (parts : Parts B) (number : ℕ) (live : BankedClone B) → HasStepLeft log parts → HasState parts.clones.items number (states.Live live)
+    → live.generation ≢ 2 ^ 64 - 1
+has_generation log parts number live left at same =
+    let backed : IsOpenAt left.steps live = left.standing.stands.backed number (states.Live live) at in
+    omega (arith, backed.reached, left.few, same)
 
 -- ---- steps
 
@@ -120,7 +160,7 @@ module _ {B : Type 0} (log : B → Option Log) (meter : B → Meter) (old new : 
       (after_step (memory_of (running_of old steps)) (map in_memory new.clones.items) (map message_value new.messages.items)))
       → StaysShut command → IsCarriedAt old.clones.items new.clones.items (number_of_clone command) → Does log old command new reply
   does_carried command reply moves shut carried = record {
-    moves = λ steps. moves_carried log (running_of old steps) (running_of new (steps + 1)) command (reply_value reply) (parts_moved command (reply_value reply) steps (moves steps)) shut carried;
+    moves = λ steps. moves_carried log (running_of old steps) (running_of new (steps + 1)) command (reply_value reply) refl (parts_moved command (reply_value reply) steps (moves steps)) shut carried;
   }
 
   -- each clone is in the state in which it was
@@ -129,7 +169,7 @@ module _ {B : Type 0} (log : B → Option Log) (meter : B → Meter) (old new : 
       (after_step (memory_of (running_of old steps)) (map in_memory new.clones.items) (map message_value new.messages.items)))
       → StaysShut command → new.clones.items ≡ old.clones.items → Does log old command new reply
   does_still command reply moves shut same = record {
-    moves = λ steps. moves_still log (running_of old steps) (running_of new (steps + 1)) command (reply_value reply) (parts_moved command (reply_value reply) steps (moves steps)) same shut;
+    moves = λ steps. moves_still log (running_of old steps) (running_of new (steps + 1)) command (reply_value reply) refl (parts_moved command (reply_value reply) steps (moves steps)) same shut;
   }
 
   -- the clone that the command says of is in another state, of which more is known
@@ -137,10 +177,10 @@ module _ {B : Type 0} (log : B → Option Log) (meter : B → Meter) (old new : 
       → ((steps : ℕ) (world : World) → StandsOnBanks log (running_of old steps) world → IsSound world → Follows world command (reply_value reply)
       (after_step (memory_of (running_of old steps)) (map in_memory new.clones.items) (map message_value new.messages.items)))
       → new.clones.items ≡ set old.clones.items (number_of_clone command) after
-      → ((steps : ℕ) (world next : World) → StandsOnBanks log (running_of old steps) world → IsSound world → Step world command (reply_value reply) next → IsBacked log next (number_of_clone command) after)
+      → ((steps : ℕ) (world next : World) → StandsOnBanks log (running_of old steps) world → IsSound world → Step world command (reply_value reply) next → IsBacked log next (steps + 1) (number_of_clone command) after)
       → Does log old command new reply
   does_at command reply after follows same backs = record {
-    moves = λ steps. moves_at log (running_of old steps) (running_of new (steps + 1)) command (reply_value reply) after
+    moves = λ steps. moves_at log (running_of old steps) (running_of new (steps + 1)) command (reply_value reply) refl after
         (λ world stands sound. subst (λ (r : RunningWorld). Follows world command (reply_value reply) r) (in_memory_after steps) (follows steps world stands sound)) same (backs steps);
   }
 

@@ -38,10 +38,17 @@ ReceivesLive old sent new (received.Told (replies.Took ranges)) = LocallyReceive
 ReceivesLive old sent new (received.Told replies.Held) = LocallyReceives old sent got.Held new
 ReceivesLive old sent new (received.Told replies.Known) = LocallyReceives old sent got.Known new
 ReceivesLive old sent new (received.Told replies.Ignored) = LocallyReceives old sent got.Ignored new
+ReceivesLive old sent new (received.Told replies.Nothing) = LocallyReceives old sent got.Nothing new
 ReceivesLive old sent new (received.Told replies.HeldFull) = Refuses old sent fault.HeldFull × (new ≡ old)
 ReceivesLive old sent new (received.Told replies.Deep) = Refuses old sent fault.Deep × (new ≡ old)
 ReceivesLive old sent new (received.Sends answers) = LocallyReceives old sent (got.Answer answers) new
+ReceivesLive old sent new received.FromBehind = Refuses old sent fault.FromBehind × (new ≡ old)
 ReceivesLive old sent new other = ⊥
+
+-- what is as it was where a snapshot would have to be sent
+abbrev pub StaysBehind : {X : Type 0} → X → X → Received → Type 0
+StaysBehind old new received.FromBehind = new ≡ old
+StaysBehind old new other = Unit {0}
 
 -- one who asks took the leaf that the message gives it, and lives at the path
 pub record LivesAt (old new : RunningClone) (sent : Message) (path : List ℕ) : Type 0 where
@@ -76,7 +83,7 @@ IsToldOf number (adopted.Refused fault banks) told = (told.0 ≡ states.Down ban
 -- a clone that is absent or down answers by its state
 abbrev pub StaysAway : RunningClone → Received → Type 0
 StaysAway state (received.Told reply) = IsAwayReply state (reply_value reply)
-StaysAway state (received.Sends answers) = ⊥
+StaysAway state other = ⊥
 
 -- what the clone of the number does with a message, by its state
 pub data ReceivesAt (old new : List RunningClone) (number : ℕ) (sent : Message) (answer : Received) : Type 0 where

@@ -1,5 +1,5 @@
 -- How a world is founded: the first clone forks its leaf for the others, one after another.
-use Rattle.std.specs.Prelude.{◌≡◌, ◌≢◌, ◌⊎◌, ◌<◌, ℕ, List, [], ◌∷◌, None, Result, Ok, Err, OnOk, IfErr, map, length, slice_get, Some}
+use Rattle.std.specs.Prelude.{◌≡◌, ◌≢◌, ◌⊎◌, ◌<◌, ℕ, List, [], ◌∷◌, None, Result, Ok, Err, OnOk, IfErr, map, length}
 use Rattle.std.specs.List.{range_with_len}
 use Rattle.mld_io.specs.Arm.{Meter}
 use Rattle.tree_clock.specs.Limits.{path_limit}
@@ -14,7 +14,7 @@ use Rattle.mld_model.specs.StandsFor.{id_of, founded_local}
 use Rattle.mld_model.specs.World.{clone_count}
 use Rattle.mld_model.specs.declared.CloneState.TheVariants as states
 use Rattle.clone_core.specs.Banked.{BankedAsker, BankedClone}
-use Rattle.clone_core.specs.Closing.{banks_of_made}
+use Rattle.clone_core.specs.Closing.{banks_of_made, StaysOpen}
 use Rattle.schedule_model.specs.Schedule.{Setup}
 use Rattle.tree_clock.specs.Lists.{Has}
 use Rattle.net_world.specs.declared.faults.WorldFault.{WorldFault}
@@ -37,12 +37,17 @@ pub record GivesLeaf (messages : List Message) (asker : LocalAsker) (leaf : Give
   pub own : leaf.id ≡ asker.id
   pub good : IsGoodSnapshot leaf.snapshot
 
--- a clone that was just founded: it is open where it is live, and absent else
+-- a live clone that was just founded: it is open, and of the first generation
+pub record IsOpenFirst {B : Type 0} (clone : BankedClone B) : Type 0 where
+  pub opened : clone.closed ≡ None
+  pub first : clone.generation ≡ 1
+
+-- a clone that was just founded: it is so where it is live, and absent else
 abbrev pub IsOpenState : {B : Type 0} → BankedState B → Type 0
 IsOpenState (states.Absent banks) = Unit {0}
 IsOpenState (states.Asking asking) = ⊥
 IsOpenState (states.Down banks) = ⊥
-IsOpenState (states.Live clone) = clone.closed ≡ None
+IsOpenState (states.Live clone) = IsOpenFirst clone
 
 -- the clones of the founded world: what they have in memory, each open on its banks
 pub record AreFounded {B : Type 0} (setup : Setup) (clones : List (BankedState B)) : Type 0 where
@@ -53,6 +58,7 @@ pub record AreFounded {B : Type 0} (setup : Setup) (clones : List (BankedState B
 -- given back, in order
 abbrev pub RefusesFounding : {B : Type 0} → (B → Meter) → List B → WorldFault → List B → Type 0
 RefusesFounding meter blanks faults.NoMemory banks = banks ≡ []
+RefusesFounding meter blanks faults.Unbuilt banks = ⊥
 RefusesFounding meter blanks (faults.Device clone) banks = MetersGoOn meter blanks banks × HasFailed meter clone blanks banks
 
 -- ---- the parts of founding
@@ -83,18 +89,18 @@ pub record MayGive {B : Type 0} (asker : LocalAsker) (first : BankedClone B) : T
   pub other : asker.id ≢ first.local.id
   pub room : length first.local.path < path_limit
 
--- one who asked lives at the leaf, open
+-- one who asked lives at the leaf, open, and of the first generation
 pub record LivesAtLeaf {B : Type 0} (asker : LocalAsker) (leaf : GiveValue) (state : BankedState B) : Type 0 where
   pub clone : BankedClone B
   pub is : state ≡ states.Live clone
-  pub opened : clone.closed ≡ None
+  pub opened : IsOpenFirst clone
   pub local : clone.local ≡ joined_clone asker leaf
 
--- a clone forked its leaf for one who asked, which lives at the right half, and both are open
+-- a clone forked its leaf for one who asked, which lives at the right half; both are open, and the first keeps its generation
 pub record TakesHalf {B : Type 0} (asker : LocalAsker) (was now : BankedClone B) (state : BankedState B) : Type 0 where
   pub leaf : GiveValue
   pub forks : LocallyForks was.local asker.id now.local leaf
-  pub opened : now.closed ≡ None
+  pub opened : StaysOpen was now
   pub lives : LivesAtLeaf asker leaf state
 
 -- what became of one who asked the first clone, and of that clone: the leaf was given and taken, or the banks of one of them failed

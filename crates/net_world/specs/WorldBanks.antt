@@ -1,5 +1,5 @@
 -- A running world on banks: what it has in memory, and what the banks of its clones keep.
-use Rattle.std.specs.Prelude.{◌≡◌, ◌≤◌, ℕ, List, Option, Some, None, MatchOption, map, length, slice_get, slice_set}
+use Rattle.std.specs.Prelude.{◌≡◌, ◌+◌, ◌≤◌, ℕ, List, Option, Some, None, MatchOption, map, length, slice_get, slice_set}
 use Rattle.mld_io.specs.Arm.{Meter, Unarmed}
 use Rattle.mld_io.specs.Disk.{Log}
 use Rattle.mld_io.specs.Faults.{Rose}
@@ -90,17 +90,31 @@ BanksStandFor world number now = MatchOption (kept_of (clone_at world number)) (
 abbrev pub AllBanksStandFor : {B : Type 0} → (B → Option Log) → World → List B → Type 0
 AllBanksStandFor {B = B} log world banks = (number : ℕ) (one : B) → slice_get banks number ≡ Some one → BanksStandFor world number (log one)
 
--- what is known of a clone beside what it has in memory: a live one is open, and the banks of one that is down stand for the model's
-abbrev pub IsBacked : {B : Type 0} → (B → Option Log) → World → ℕ → BankedState B → Type 0
-IsBacked log world number (states.Absent banks) = Unit {0}
-IsBacked log world number (states.Asking asking) = Unit {0}
-IsBacked log world number (states.Down banks) = BanksStandFor world number (log banks)
-IsBacked log world number (states.Live clone) = clone.closed ≡ None
+-- a generation that so many steps may lead to: a clone begins with the first, and each step makes one more at most
+abbrev pub IsReached : ℕ → ℕ → Type 0
+IsReached steps generation = generation ≤ steps + 1
+
+-- what is known of a clone that is down, after so many steps: its banks stand for the model's, and what they keep has such a generation
+pub record IsDownOn (world : World) (steps number : ℕ) (now : Option Log) : Type 0 where
+  pub stands : BanksStandFor world number now
+  pub reached : (log : Log) (kept : Kept) → now ≡ Some log → KeepsJust kept log → IsReached steps kept.generation
+
+-- and of one that is live: it is open, and has such a generation
+pub record IsOpenAt {B : Type 0} (steps : ℕ) (clone : BankedClone B) : Type 0 where
+  pub opened : clone.closed ≡ None
+  pub reached : IsReached steps clone.generation
+
+-- what is known of a clone beside what it has in memory, after so many steps
+abbrev pub IsBacked : {B : Type 0} → (B → Option Log) → World → ℕ → ℕ → BankedState B → Type 0
+IsBacked log world steps number (states.Absent banks) = Unit {0}
+IsBacked log world steps number (states.Asking asking) = Unit {0}
+IsBacked log world steps number (states.Down banks) = IsDownOn world steps number (log banks)
+IsBacked log world steps number (states.Live clone) = IsOpenAt steps clone
 
 -- a running world on banks stands for a world of the model
 pub record StandsOnBanks {B : Type 0} (log : B → Option Log) (running : BankedWorld B) (world : World) : Type 0 where
   pub memory : StandsFor (memory_of running) world
-  pub backed : (number : ℕ) (state : BankedState B) → slice_get running.clones number ≡ Some state → IsBacked log world number state
+  pub backed : (number : ℕ) (state : BankedState B) → slice_get running.clones number ≡ Some state → IsBacked log world running.steps number state
 
 -- ---- faults of banks
 
@@ -122,21 +136,33 @@ HasFailed {B = B} meter number old new = (was now : B) → slice_get old number 
 -- the fault of a clone's banks: it names this number, and they had a real fault, where they were not armed
 abbrev pub FailsAt : ℕ → Meter → Meter → WorldFault → Type 0
 FailsAt number before now (faults.Device clone) = (clone ≡ number) × (before.arm ≡ Unarmed → Rose before.real_faults now.real_faults)
+FailsAt number before now faults.Unbuilt = ⊥
 FailsAt number before now faults.NoMemory = Unit {0}
 
 -- why a call at one of these clones was refused: the banks of a clone had a real fault, or memory ran out
 abbrev pub FailsAmong : {B : Type 0} → (B → Meter) → List (BankedState B) → List (BankedState B) → WorldFault → Type 0
 FailsAmong meter old new (faults.Device clone) = HasFailed meter clone (map banks_of_state old) (map banks_of_state new)
+FailsAmong meter old new faults.Unbuilt = ⊥
 FailsAmong meter old new faults.NoMemory = Unit {0}
 
 -- ---- one clone changes
+
+-- the generation of the live clone of the number after one call: it is a clone's first, or at most the next one
+pub data IsNextGeneration {B : Type 0} (old : List (BankedState B)) (number generation : ℕ) : Type 0 where
+  is_first : generation ≡ 1 → IsNextGeneration old number generation
+  is_next : (was : BankedClone B) → slice_get old number ≡ Some (states.Live was) → generation ≤ was.generation + 1 → IsNextGeneration old number generation
+
+-- a live clone after one call is open, and its generation is at most the next one
+pub record IsOpenNext {B : Type 0} (old : List (BankedState B)) (number : ℕ) (clone : BankedClone B) : Type 0 where
+  pub opened : clone.closed ≡ None
+  pub next : IsNextGeneration old number clone.generation
 
 -- a state that the clone of the number may be in after a call that opens no banks: a live clone is open, and one that is down was just so
 abbrev pub IsCarried : {B : Type 0} → List (BankedState B) → ℕ → BankedState B → Type 0
 IsCarried old number (states.Absent banks) = Unit {0}
 IsCarried old number (states.Asking asking) = Unit {0}
 IsCarried old number (states.Down banks) = slice_get old number ≡ Some (states.Down banks)
-IsCarried old number (states.Live clone) = clone.closed ≡ None
+IsCarried old number (states.Live clone) = IsOpenNext old number clone
 
 -- of the clones the one of the number alone may have changed, into such a state
 pub record IsCarriedAt {B : Type 0} (old new : List (BankedState B)) (number : ℕ) : Type 0 where

@@ -4,6 +4,7 @@ ghost use Rattle.tree_clock.specs.Limits.{tick_limit};
 ghost use Rattle.tree_clock.specs.Clock.{ticks_of};
 ghost use Rattle.mld_ops.specs.Messages.{message_value};
 ghost use Rattle.schedule_model.specs.declared.Command.TheVariants as commands;
+ghost use Rattle.clone_core.specs.Closing.{StaysOpen};
 ghost use Rattle.net_world.specs.Changes.{SetsAs, SendsEntry};
 ghost use Rattle.net_world.specs.WorldParts.{HasStepLeft, KeepsDomain, HasFaultCause, Does};
 ghost use Rattle.net_world.specs.WorldBanks.{GoesOn, FailsAt};
@@ -69,7 +70,7 @@ fn set<B: CrashBanks>(
 ) -> Result<Reply<'static>, WorldFault>
     requires opened { clone.old.closed ≡ None }
     requires ticks { ticks_of clone.old.local.ticks clone.old.local.path < tick_limit }
-    ensures opened { OnOk result (clone.new.closed ≡ None) }
+    ensures opened { OnOk result (StaysOpen clone.old clone.new) }
     ensures meter { GoesOn (B.meter clone.old.banks) (B.meter clone.new.banks) }
     ensures cause { IfErr result (FailsAt number (B.meter clone.old.banks) (B.meter clone.new.banks)) }
     ensures done { IfOk result (SetsAs clone.old.local (map message_value messages.old.items) triple.now present clone.new.local (map message_value messages.new.items)) }

@@ -4,9 +4,12 @@ ghost use Rattle.mld_model.specs.Local.{IsNamed};
 ghost use Rattle.mld_model.specs.World.{clone_count};
 ghost use Rattle.schedule_model.specs.Step.{HasCloneNumbers};
 ghost use Rattle.net_world.specs.Commands.{Answered};
-ghost use Rattle.net_world.specs.WorldParts.{HasStepLeft, HasFaultCause, KeepsDomain};
+ghost use Rattle.net_world.specs.Unbuilt.{HasStopCause};
+ghost use Rattle.net_world.specs.WorldParts.{HasStepLeft, KeepsDomain};
 
+use crate::ask::ask;
 use crate::changes::{add, remove};
+use crate::compact::compact;
 use crate::compare::compare;
 use crate::deliver::deliver;
 use crate::faults::WorldFault;
@@ -35,7 +38,7 @@ pub fn answer<R: Threads, B: CrashBanks>(
     requires numbers { HasCloneNumbers command.now }
     ensures keeps { KeepsDomain B.meter parts.old parts.new }
     ensures done { OnOk result (Answered B.log parts.old command.now parts.new out.old.items out.new.items) }
-    ensures cause { IfErr result (HasFaultCause B.meter parts.old parts.new) }
+    ensures cause { IfErr result (HasStopCause B.log B.meter parts.old command.now parts.new) }
 {
     match command {
         Command::Add(number, triple) => tell(alloc, out, add(alloc, parts, *number, triple)),
@@ -44,6 +47,8 @@ pub fn answer<R: Threads, B: CrashBanks>(
             tell(alloc, out, deliver(rt, alloc, parts, *message, *number))
         }
         Command::Join(number) => tell(alloc, out, join(alloc, parts, *number)),
+        Command::Ask(number) => tell(alloc, out, ask(alloc, parts, *number)),
+        Command::Compact(number) => tell(alloc, out, compact(alloc, parts, *number)),
         Command::Stop(number) => tell(alloc, out, Ok(stop(parts, *number))),
         Command::Open(number) => tell(alloc, out, open(alloc, parts, *number)),
         Command::Show(number) => tell(alloc, out, Ok(show(parts, *number))),

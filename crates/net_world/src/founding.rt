@@ -4,6 +4,7 @@ ghost use Rattle.mld_ops.specs.Messages.{GiveValue};
 ghost use Rattle.mld_model.specs.World.{clone_count};
 ghost use Rattle.mld_model.specs.declared.CloneState.TheVariants as kinds;
 ghost use Rattle.schedule_model.specs.Schedule.{IsSetup};
+ghost use Rattle.clone_core.specs.Closing.{StaysOpen};
 ghost use Rattle.clone_core.specs.Joining.{LocallyGives, AreGood};
 ghost use Rattle.net_world.specs.Founding.{GivesLeaf, AreFounded, AreFoundedTo, RefusesFounding, IsAbsentAt, IsMadeFirst, MayGive, LivesAtLeaf, JoinsBy, HasGiver, JoinsFirst};
 ghost use Rattle.schedule_text.specs.ReadLines.{setup_of};
@@ -42,6 +43,7 @@ pub fn found_clones<R: Threads, B: CrashBanks>(
     match found_each(rt, alloc, setup, &mut clones) {
         Ok(()) => Ok(clones),
         Err(WorldFault::NoMemory) => Err((WorldFault::NoMemory, Vec::new(alloc))),
+        Err(WorldFault::Unbuilt) => unreachable!(),
         Err(WorldFault::Device { clone }) => {
             stop_all(clones, &mut back);
             Err((WorldFault::Device { clone }, back))
@@ -202,7 +204,7 @@ fn given_leaf<R: Threads, B: CrashBanks>(
     requires { MayGive asker.now.asker first.old }
     ensures gives { IfOk result (λ messages. LocallyGives first.old.local asker.now.asker.id messages first.new.local) }
     ensures good { IfOk result (λ messages. AreGood messages) }
-    ensures opened { OnOk result (first.new.closed ≡ None) }
+    ensures opened { OnOk result (StaysOpen first.old first.new) }
     ensures meter { GoesOn (B.meter first.old.banks) (B.meter first.new.banks) }
     ensures err { IfErr result (FailsAt 0 (B.meter first.old.banks) (B.meter first.new.banks)) }
 {
@@ -215,6 +217,7 @@ fn given_leaf<R: Threads, B: CrashBanks>(
         Err(ReceiveFault::ForeignTick { .. }) => unreachable!(),
         Err(ReceiveFault::HeldFull) => unreachable!(),
         Err(ReceiveFault::Deep) => unreachable!(),
+        Err(ReceiveFault::FromBehind) => unreachable!(),
     }
 }
 

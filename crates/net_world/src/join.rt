@@ -64,7 +64,7 @@ fn begin_to_ask<B: CrashBanks>(
 }
 
 /// Sends the question of one who asks.
-fn send_question(
+pub fn send_question(
     messages: &mut Vec<Message>,
     question: Message,
 ) -> Result<Reply<'static>, WorldFault>

@@ -1,8 +1,10 @@
 //! The world of a schedule: its clones and every message ever sent.
 #![tactic(auto)]
 
+mod ask;
 mod changes;
 mod commands;
+mod compact;
 mod compare;
 mod deliver;
 mod faults;

@@ -2,7 +2,7 @@
 ghost use Rattle.std.specs.Prelude.{◌≡◌, ◌++◌, OnOk, IfErr};
 ghost use Rattle.std.specs.List.{flat_map, range_with_len};
 ghost use Rattle.chunked_list.specs.Joined.{joined_chunks};
-ghost use Rattle.mld_model.specs.Reply.{Ready, Did, Took, Sent, Answer, Joined, Shows};
+ghost use Rattle.mld_model.specs.Reply.{Ready, Did, Took, Sent, Answer, Kept, Joined, Shows};
 ghost use Rattle.schedule_model.specs.ReplyText.{reply_text, pair_line, spaced_range, spaced_message};
 ghost use Rattle.net_world.specs.Replies.{reply_value, TellsReply, FailsToTell, numbers_between};
 
@@ -46,7 +46,7 @@ pub enum Reply<'a> {
     More,
     /// `apart`: each clone knows a dot that the other lacks.
     Apart,
-    /// `sent mM`: who asks for a leaf has asked in the message of the number.
+    /// `sent mM`: what was asked for, a leaf or what a clone lacks, was asked for in the message of the number.
     Sent(usize),
     /// `answer`, then each number: what was asked for was sent in the messages of these numbers.
     Answer {
@@ -55,6 +55,10 @@ pub enum Reply<'a> {
         /// The number after that of the last one.
         end: usize,
     },
+    /// `nothing`: who asked lacks nothing of what the clone keeps in its journal.
+    Nothing,
+    /// `kept K`: the journal was compacted, and so many ranges are kept in it.
+    Kept(u64),
     /// `joined P`: the clone is live at the path.
     Joined(Path),
     /// `deep`: the leaf is too deep to be forked.
@@ -111,6 +115,8 @@ pub fn push_reply(alloc: Global, out: &mut Vec<u8>, reply: &Reply<'_>) -> Result
         Reply::Apart => out.extend_from_slice(b"apart\n"),
         Reply::Sent(message) => push_sent(alloc, out, *message),
         Reply::Answer { first, end } => push_answered(alloc, out, *first, *end),
+        Reply::Nothing => out.extend_from_slice(b"nothing\n"),
+        Reply::Kept(count) => push_kept(alloc, out, *count),
         Reply::Joined(path) => push_joined(alloc, out, path),
         Reply::Deep => out.extend_from_slice(b"deep\n"),
         Reply::NoMessage => out.extend_from_slice(b"no message\n"),
@@ -145,6 +151,14 @@ fn push_sent(alloc: Global, out: &mut Vec<u8>, message: usize) -> Result<(), All
     ensures { OnOk result (out.new.items ≡ out.old.items ++ reply_text (Sent message)) }
 {
     let line = format!(in alloc; "sent m{message}\n")?;
+    out.extend_from_slice(line.as_bytes())
+}
+
+/// `kept K`.
+fn push_kept(alloc: Global, out: &mut Vec<u8>, count: u64) -> Result<(), AllocError>
+    ensures { OnOk result (out.new.items ≡ out.old.items ++ reply_text (Kept count)) }
+{
+    let line = format!(in alloc; "kept {count}\n")?;
     out.extend_from_slice(line.as_bytes())
 }
 
@@ -212,11 +226,7 @@ fn push_pairs(alloc: Global, out: &mut Vec<u8>, pairs: &Graph) -> Result<(), All
 }
 
 /// A line of dot and triple for each pair of chunks.
-fn push_chunks(
-    alloc: Global,
-    out: &mut Vec<u8>,
-    chunks: &[Chunk<Tagged>],
-) -> Result<(), AllocError>
+fn push_chunks(alloc: Global, out: &mut Vec<u8>, chunks: &[Chunk<Tagged>]) -> Result<(), AllocError>
     ensures { OnOk result (out.new.items ≡ out.old.items ++ flat_map pair_line (joined_chunks chunks.now)) }
 {
     for chunk in chunks {

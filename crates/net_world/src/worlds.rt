@@ -43,6 +43,7 @@ impl<B: CrashBanks> World<B> {
     ghost use Rattle.iri_rules.specs.Domain.{is_domain};
     ghost use Rattle.mld_model.specs.World.{World as ModelWorld, clone_count};
     ghost use Rattle.net_world.specs.Founding.{RefusesFounding};
+    ghost use Rattle.net_world.specs.Unbuilt.{LeavesUnbuilt};
     ghost use Rattle.net_world.specs.WorldBanks.{StandsOnBanks, AllBanksStandFor, banks_of, MetersGoOn, HasFailed, memory_of};
     ghost use Rattle.schedule_model.specs.Runs.{founded_by};
     ghost use Rattle.schedule_model.specs.Schedule.{IsSetup};
@@ -111,12 +112,13 @@ impl<B: CrashBanks> World<B> {
         Ok(banks)
     }
 
-    /// Does a command, and adds the text of its reply to the output. After an error the world may have done a part of it,
-    /// and is only asked for its banks.
+    /// Does a command, and adds the text of its reply to the output. After `Device` and `NoMemory` the world may have done a part of
+    /// it, and is only asked for its banks.
     ///
     /// # Errors
     ///
-    /// `Device` where the device of the clone failed, and `NoMemory`.
+    /// `Device` where the device of the clone failed; `Unbuilt` where a clone would have to send a snapshot, and the world is as it
+    /// was; and `NoMemory`.
     pub fn step<R: Threads>(
         &mut self,
         rt: &R,
@@ -131,10 +133,11 @@ impl<B: CrashBanks> World<B> {
         ensures standing { OnOk result (IsStanding B.log self.new) }
         ensures steps { OnOk result (self.new.steps ≡ self.old.steps + 1) }
         ensures meters { MetersGoOn B.meter (banks_of self.old) (banks_of self.new) }
+        ensures unbuilt { IsErrOf result WorldFault.Unbuilt → LeavesUnbuilt B.log self.old command.now self.new }
         ensures device { (clone : ℕ) → IsErrOf result (WorldFault.Device clone) → HasFailed B.meter clone (banks_of self.old) (banks_of self.new) }
     {
-        self.steps += 1;
         answer(rt, alloc, &mut self.parts, command, out)?;
+        self.steps += 1;
         Ok(())
     }
 }

@@ -20,7 +20,7 @@ pub returns-clause-ok : goal.returns-clause-ok
 returns-clause-ok g c = on_ok_weaker c.first_of-state.result.1 (λ made.
     first_founded (setup_of c.args.setup.now) c.args.clones.now.items c.put_state.new.clones.items made.0 c.id_of.result c.in_ok-named.named.domain c.in_ok-named.named.properties.items
     c.requires.setup c.requires.absent c.id_of.ensures c.in_ok-named.ensures.domain (c.in_ok-named.ensures.properties ∙ c.as_slice.ensures.value)
-    (IfOk-at_ok _ made.1 c.genesis-genesis.ensures.kept) (IfOk-at_ok _ made.1 c.genesis-genesis.ensures.blank) (IfOk-at_ok _ made.1 c.genesis-genesis.ensures.opened)
+    (IfOk-at_ok _ made.1 c.genesis-genesis.ensures.kept) (IfOk-at_ok _ made.1 c.genesis-genesis.ensures.blank) (record { opened = IfOk-at_ok _ made.1 c.genesis-genesis.ensures.opened; first = IfOk-at_ok _ made.1 c.genesis-genesis.ensures.generation })
     (c.put_state.ensures ∙ c.take_blank-blank.ensures.back c.first_of-state.result.0 ∙ ap (λ (s : BankedState g.row.B.Denot). set c.args.clones.now.items 0 s) made.2)) c.first_of-state.ensures.ok
 
 module _ (g : given.Over) (c : goal.After-put_state g) where

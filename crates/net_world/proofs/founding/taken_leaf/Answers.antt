@@ -11,6 +11,6 @@ returns-in-Joined-clause-taken g c = λ leaf gives.
     record {
       clone = c.in-Joined.clone;
       is = refl;
-      opened = adopts.3;
+      opened = record { opened = adopts.3; first = adopts.4 };
       local = adopts.2 ∙ ap (λ (l : GiveValue). joined_clone c.args.asker.asker l) same;
     }

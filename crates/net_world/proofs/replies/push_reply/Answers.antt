@@ -68,6 +68,10 @@ pub returns-in-Stopped : goal.returns-in-Stopped
 unfolding reply_text
 returns-in-Stopped c = word_pushed c.extend_from_slice-in-Stopped.result c.args.out.now.items _ _ _ c.extend_from_slice-in-Stopped.ensures.items (sym (ap (λ w. reply_text (reply_value w)) c.in-Stopped.is))
 
+pub returns-in-Nothing : goal.returns-in-Nothing
+unfolding reply_text
+returns-in-Nothing c = word_pushed c.extend_from_slice-in-Nothing.result c.args.out.now.items _ _ _ c.extend_from_slice-in-Nothing.ensures.items (sym (ap (λ w. reply_text (reply_value w)) c.in-Nothing.is))
+
 pub returns-in-Opened : goal.returns-in-Opened
 unfolding reply_text
 returns-in-Opened c = word_pushed c.extend_from_slice-in-Opened.result c.args.out.now.items _ _ _ c.extend_from_slice-in-Opened.ensures.items (sym (ap (λ w. reply_text (reply_value w)) c.in-Opened.is))

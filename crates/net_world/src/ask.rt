@@ -1,0 +1,33 @@
+//! The command `ask`.
+ghost use Rattle.std.specs.Prelude.{◌<◌, vec_len, IfOk, IfErr};
+ghost use Rattle.schedule_model.specs.declared.Command.TheVariants as commands;
+ghost use Rattle.net_world.specs.WorldParts.{KeepsDomain, HasFaultCause, Does};
+
+use crate::faults::WorldFault;
+use crate::join::send_question;
+use crate::parts::Parts;
+use crate::replies::Reply;
+use crate::states::state_reply;
+use mld_io::{Banks, CrashBanks};
+use mld_model::CloneState;
+use std::alloc::Global;
+
+/// Clone `number`, which is live, asks whoever gets its message for what it lacks.
+pub fn ask<B: CrashBanks>(
+    alloc: Global,
+    parts: &mut Parts<B>,
+    number: u8,
+) -> Result<Reply<'static>, WorldFault>
+    requires { number < vec_len parts.old.clones }
+    ensures keeps { KeepsDomain B.meter parts.old parts.new }
+    ensures done { IfOk result (Does B.log parts.old (commands.Ask number) parts.new) }
+    ensures cause { IfErr result (HasFaultCause B.meter parts.old parts.new) }
+{
+    match &parts.clones[usize::from(number)] {
+        CloneState::Live(clone) => {
+            let want = clone.want(alloc)?;
+            send_question(&mut parts.messages, want)
+        }
+        missing => Ok(state_reply(missing)),
+    }
+}
