@@ -6,9 +6,10 @@ ghost use Rattle.net_world.specs.WorldBanks.{StandsOnBanks, banks_of, MetersGoOn
 ghost use Rattle.schedule_model.specs.Runs.{Stage as ModelStage, Waiting, Running, IsBad, IsUnbuilt};
 ghost use Rattle.schedule_model.specs.Schedule.{SpellsCommand};
 ghost use Rattle.schedule_model.specs.Step.{HasCloneNumbers};
+ghost use Rattle.net_world.specs.Unbuilt.{LeavesUnbuilt};
 ghost use Rattle.net_world.specs.Worlds.{IsStanding, Stepped};
 ghost use Rattle.tree_clock.specs.Limits.{tick_limit};
-ghost use Rattle.mld_replay.specs.Stages.{StageStands, IsStandingStage, IsSetUpState, IsWorldStop, steps_of, banks_of_stage, ActsWell, EndsWell};
+ghost use Rattle.mld_replay.specs.Stages.{StageStands, IsStandingStage, IsSetUpState, IsWorldStop, IsCommandStop, steps_of, banks_of_stage, ActsWell, EndsWell};
 ghost use Rattle.mld_replay.specs.declared.stages.Stage.TheVariants as stages;
 
 use crate::stops::LineStop;
@@ -173,7 +174,7 @@ fn command<R: Threads, B: CrashBanks>(
     ensures steps { OnOk result (world.new.steps ≤ world.old.steps + 1) }
     ensures bad { IsErrOf result LineStop.BadLine → (model : ModelWorld) → IsBad (Running model) line.now }
     ensures kept { IsErrOf result LineStop.BadLine → world.new ≡ world.old }
-    ensures unbuilt { IsErrOf result LineStop.Unbuilt → (model : ModelWorld) → IsUnbuilt (Running model) line.now }
+    ensures unbuilt { IsErrOf result LineStop.Unbuilt → (model : ModelWorld) → StandsOnBanks B.log world.old model → IsSound model → IsUnbuilt (Running model) line.now }
     ensures meters { MetersGoOn B.meter (banks_of world.old) (banks_of world.new) }
     ensures device { (clone : ℕ) → IsErrOf result (LineStop.Device clone) → HasFailed B.meter clone (banks_of world.old) (banks_of world.new) }
 {
@@ -197,7 +198,8 @@ fn step<R: Threads, B: CrashBanks>(
     ensures steps { OnOk result (world.new.steps ≡ world.old.steps + 1) }
     ensures meters { MetersGoOn B.meter (banks_of world.old) (banks_of world.new) }
     ensures device { (clone : ℕ) → IsErrOf result (LineStop.Device clone) → HasFailed B.meter clone (banks_of world.old) (banks_of world.new) }
-    ensures other { IfErr result IsWorldStop }
+    ensures unbuilt { IsErrOf result LineStop.Unbuilt → LeavesUnbuilt B.log world.old command.now world.new }
+    ensures other { IfErr result IsCommandStop }
 {
     let mut text = Vec::new(alloc);
     world.step(rt, alloc, command, &mut text)?;

@@ -16,4 +16,4 @@ returns-in-Running-clause-bad g c = λ is.
 
 pub returns-in-Running-clause-unbuilt : goal.returns-in-Running-clause-unbuilt
 returns-in-Running-clause-unbuilt g c = λ is.
-    running_stage g.B.Banks.log (λ stage. IsUnbuilt stage c.args.line.now) c.args.stage.now c.in-Running.world c.in-Running.is (λ model stands sound. c.command.ensures.unbuilt is model)
+    running_stage g.B.Banks.log (λ stage. IsUnbuilt stage c.args.line.now) c.args.stage.now c.in-Running.world c.in-Running.is (λ model stands sound. c.command.ensures.unbuilt is model stands sound)
