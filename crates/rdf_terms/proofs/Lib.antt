@@ -1,4 +1,5 @@
 pub mod Comparing
+pub mod Blocks
 pub mod TagLemmas
 pub mod Appending
 pub mod Steps

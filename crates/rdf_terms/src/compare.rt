@@ -1,5 +1,5 @@
 //! Comparisons of texts as they would be written, without writing them: the first place where they differ decides.
-ghost use Rattle.std.specs.Prelude.{◌≡◌, ℕ, List, [], ◌∷◌, ◌++◌, slice_index_or};
+ghost use Rattle.std.specs.Prelude.{◌≡◌, ℕ, ◌+◌, ◌≤◌, List, [], ◌∷◌, ◌++◌, take, drop, length, slice_index_or};
 ghost use Rattle.std.specs.Cmp.Lexicographic.{slice_cmp};
 ghost use Rattle.std.specs.Ordering.{nat_cmp, ordering_then};
 ghost use Rattle.rdf_terms.specs.Compare.{common, rank, rank_at};
@@ -7,10 +7,50 @@ ghost use Rattle.rdf_terms.specs.Marks.{quote, greater};
 ghost use Rattle.rdf_terms.specs.Spelling.{escaped};
 
 use std::cmp::Ordering;
+use std::simd::prelude::*;
+
+/// How many bytes are compared at once.
+const LANES: usize = 16;
 
 /// How many bytes two texts have in common from their starts.
-#[tactic(auto, using(crate::proofs::Comparing::common_more, crate::proofs::Comparing::common_stop, crate::proofs::Comparing::common_end))]
 fn common_len(a: &[u8], b: &[u8]) -> usize
+    ensures { result ≡ common a.now b.now }
+{
+    let shorter = a.len().min(b.len());
+    if shorter < LANES {
+        return common_by_one(a, b);
+    }
+    let last = shorter - LANES;
+    let mut passed = 0;
+    while passed < last {
+        let more = common_lanes(a, b, passed);
+        if more < LANES {
+            return passed + more;
+        }
+        passed += LANES;
+    }
+    last + common_lanes(a, b, last)
+}
+
+/// How many of the 16 bytes from a place on two texts have in common.
+fn common_lanes(a: &[u8], b: &[u8], place: usize) -> usize
+    requires first { place + 16 ≤ length a.now }
+    requires second { place + 16 ≤ length b.now }
+    ensures { result ≡ common (take 16 (drop place a.now)) (take 16 (drop place b.now)) }
+{
+    let unequal = u8x16::from_slice(&a[place..])
+        .simd_ne(u8x16::from_slice(&b[place..]))
+        .to_bitmask();
+    if unequal == 0 {
+        LANES
+    } else {
+        unequal.trailing_zeros() as usize
+    }
+}
+
+/// How many bytes two texts have in common from their starts, looked at one by one.
+#[tactic(auto, using(crate::proofs::Comparing::common_more, crate::proofs::Comparing::common_stop, crate::proofs::Comparing::common_end))]
+fn common_by_one(a: &[u8], b: &[u8]) -> usize
     ensures { result ≡ common a.now b.now }
 {
     let shorter = a.len().min(b.len());

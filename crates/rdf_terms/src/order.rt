@@ -79,8 +79,9 @@ fn cmp_with_tag(datatype: &Iri) -> Ordering
 fn cmp_literals(a: &Literal, b: &Literal) -> Ordering
     ensures { result ≡ slice_cmp nat_cmp (literal_text a.now) (literal_text b.now) }
 {
-    let first = cmp_escaped(a.lexical.as_str().as_bytes(), b.lexical.as_str().as_bytes());
-    first.then(cmp_suffixes(&a.kind, &b.kind))
+    cmp_escaped(a.lexical.as_str().as_bytes(), b.lexical.as_str().as_bytes()).then_with(
+        || cmp_suffixes(&a.kind, &b.kind),
+    )
 }
 
 /// Compares two terms by the bytes of what is written for them: literals come before IRIs.
@@ -106,8 +107,8 @@ pub fn cmp_triples(a: &Triple, b: &Triple) -> Ordering
     ensures { result ≡ triple_cmp a.now b.now }
 {
     cmp_iris(&a.s, &b.s)
-        .then(cmp_iris(&a.p, &b.p))
-        .then(cmp_terms(&a.o, &b.o))
+        .then_with(|| cmp_iris(&a.p, &b.p))
+        .then_with(|| cmp_terms(&a.o, &b.o))
 }
 
 impl PartialEq for Term {

@@ -1,7 +1,10 @@
-use Rattle.std.proofs.Common.{◌≡◌, ◌+◌, drop}
+use Rattle.std.proofs.Common.{◌-◌, ◌≤◌}
 use Rattle.rdf_terms.specs.Compare.{common}
 use Rattle.rdf_terms.proofs.compare.common_len.Given as goal
 
--- what the texts have in common is what was passed, and what their rests have in common
-abbrev pub invariant-loop-i : goal.invariant-loop-i
-invariant-loop-i l = common l.a l.b ≡ l.i + common (drop l.i l.a) (drop l.i l.b)
+-- what is passed the texts have in common
+abbrev pub invariant-loop-passed : goal.invariant-loop-passed
+invariant-loop-passed l = l.passed ≤ common l.a l.b
+
+abbrev pub decreases-loop-passed : goal.decreases-loop-passed
+decreases-loop-passed l = l.last - l.passed
