@@ -79,9 +79,8 @@ fn cmp_with_tag(datatype: &Iri) -> Ordering
 fn cmp_literals(a: &Literal, b: &Literal) -> Ordering
     ensures { result ≡ slice_cmp nat_cmp (literal_text a.now) (literal_text b.now) }
 {
-    cmp_escaped(a.lexical.as_str().as_bytes(), b.lexical.as_str().as_bytes()).then_with(
-        || cmp_suffixes(&a.kind, &b.kind),
-    )
+    let first = cmp_escaped(a.lexical.as_str().as_bytes(), b.lexical.as_str().as_bytes());
+    first.then_with(|| cmp_suffixes(&a.kind, &b.kind))
 }
 
 /// Compares two terms by the bytes of what is written for them: literals come before IRIs.
