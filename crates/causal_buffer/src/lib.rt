@@ -4,8 +4,6 @@
 mod faults;
 mod held;
 mod ready;
-#[cfg(test)]
-mod tests;
 
 pub use faults::HeldFault;
 pub use held::{Held, Kept};

@@ -6,7 +6,5 @@ mod calls;
 mod sides;
 mod steps;
 mod store;
-#[cfg(test)]
-mod tests;
 
 pub use banks::{MemoryBanks, blank_banks};

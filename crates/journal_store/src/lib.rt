@@ -10,13 +10,9 @@ mod head_writing;
 mod heads;
 mod journals;
 mod laws;
-#[cfg(test)]
-mod mount_tests;
 mod mounting;
 mod record_reading;
 mod side_reading;
-#[cfg(test)]
-mod write_tests;
 mod writing;
 
 pub use faults::{AppendFault, MakeFault, MountFault, SwapFault, Why};

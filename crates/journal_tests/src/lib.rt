@@ -9,4 +9,8 @@ mod failing_tests;
 #[cfg(test)]
 mod made;
 #[cfg(test)]
+mod making_tests;
+#[cfg(test)]
+mod mounting_tests;
+#[cfg(test)]
 mod writing_tests;

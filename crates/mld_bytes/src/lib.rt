@@ -5,8 +5,6 @@
 mod laws;
 mod put;
 mod take;
-#[cfg(test)]
-mod tests;
 
 pub use laws::{one_number, one_piece};
 pub use put::{put_bytes, put_number, put_u8, put_u32, put_u64};

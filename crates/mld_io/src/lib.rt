@@ -10,8 +10,6 @@ mod pieces;
 mod sinks;
 mod sources;
 mod standard;
-#[cfg(test)]
-mod tests;
 
 pub use banks::{Banks, CrashBanks, Leave, Side};
 pub use faults::{Failed, IoFault, LineFault, WriteFault};

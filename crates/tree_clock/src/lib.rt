@@ -6,8 +6,6 @@ mod dots;
 mod leaves;
 mod limits;
 mod paths;
-#[cfg(test)]
-mod plain_list;
 mod range_lists;
 mod trees;
 

@@ -9,8 +9,6 @@ ghost use Rattle.tree_clock.specs.Letters.{IsLetter};
 ghost use Rattle.tree_clock.specs.Limits.{path_limit};
 ghost use Rattle.tree_clock.specs.Path.{letters, path_text, zero_letter, one_letter};
 
-#[cfg(test)]
-use crate::limits::PATH_LIMIT;
 use std::cmp::Ordering;
 use std::fmt;
 use std::marker::Model;
@@ -151,55 +149,5 @@ impl fmt::Display for Path {
             }
         }
         Ok(())
-    }
-}
-
-#[cfg(test)]
-mod tests {
-    use super::*;
-    use std::test::Fail;
-
-    fn path(letters: &[u8]) -> Path {
-        let mut path = Path::root();
-        for letter in letters {
-            if path.len() < PATH_LIMIT {
-                path = path.child(*letter == b'1');
-            }
-        }
-        path
-    }
-
-    #[test]
-    fn a_path_prints_its_letters(rt: HostRuntime) -> Result<(), Fail> {
-        let zeros = path(&[b'0'; 64]);
-        assert!(rt; Path::root().is_empty());
-        assert_eq!(rt; path(b"01").len(), 2);
-        assert!(rt; !path(b"01").is_empty());
-        assert_eq!(rt; format!(in rt.alloc(); "{}", Path::root())?.as_str(), "r");
-        assert_eq!(rt; format!(in rt.alloc(); "{}", path(b"01"))?.as_str(), "r01");
-        assert_eq!(rt; zeros.len(), 64);
-        let text = "r0000000000000000000000000000000000000000000000000000000000000000";
-        assert_eq!(rt; format!(in rt.alloc(); "{zeros}")?.as_str(), text);
-        Ok(())
-    }
-
-    #[test]
-    fn letters_are_counted_from_the_front(rt: HostRuntime) {
-        let path = path(b"011");
-        assert_eq!(rt; path.len(), 3);
-        assert!(rt; !path.letter(0));
-        assert!(rt; path.letter(1));
-        assert!(rt; path.letter(2));
-    }
-
-    #[test]
-    fn paths_are_ordered_by_their_texts(rt: HostRuntime) {
-        assert!(rt; Path::root() < path(b"0"));
-        assert!(rt; path(b"0") < path(b"00"));
-        assert!(rt; path(b"00") < path(b"01"));
-        assert!(rt; path(b"01") < path(b"1"));
-        assert!(rt; path(&[b'0'; 64]) < path(b"1"));
-        assert!(rt; path(b"0") != path(b"00"));
-        assert!(rt; path(b"01") == Path::root().child(false).child(true));
     }
 }

@@ -1,19 +1,12 @@
-//! Tries of mounting.
-use super::*;
+//! What a mount finds on given bytes: damage and its place, which side counts, and a device that fails.
+use crate::made::SIDE;
 use disk_model::MemoryBanks;
+use journal_store::{Journal, JournalMounted, MountFault};
 use mld_io::{CrashBanks, Leave, Side};
 use std::alloc::Global;
 use std::test::Fail;
 
-/// A side with a head of generation 1, id 0 and domain `d`, and the entry of one insert.
-const SIDE: &[u8] = b"\x01mld1\x00\x00\x00\x00\x00\x00\x00\x01\
-    \x00\x00\x00\x00\x00\x00\x00\x00\x00\x00\x00\x00\x00\x00\x00\x00\
-    \x00\x00\x00\x01d\x00\x00\x00\x00\x00\x00\x00\x00\x00\x00\x00\x00\x00\
-    \x01\x01\x00\x00\x00\x00\x01\x00\x00\x00\x01\x00\x00\x00\x01\x00\x00\x00\x00\x01\
-    \x00\x00\x00\x00\x00\x00\x00\x01\x00\x00\x00\x20\
-    <http://d/a> <http://d/#p> \"x\" .\x00\x00\x00\x01\x00";
-
-/// Where its fields begin.
+/// Where the fields of `SIDE` begin.
 const STARTS: [u64; 24] = [
     0, 1, 5, 13, 29, 33, 34, 38, 39, 43, 47, 48, 49, 50, 54, 58, 62, 63, 67, 71, 75, 79, 111, 115,
 ];

@@ -1,4 +1,8 @@
-use super::*;
+//! Numbers and pieces of bytes.
+use mld_bytes::{
+    Short, put_bytes, put_number, put_u8, put_u32, put_u64, take_bytes, take_number, take_u8,
+    take_u32, take_u64,
+};
 use std::test::Fail;
 
 #[test]

@@ -1,5 +1,5 @@
-//! Tries of the banks in memory.
-use super::*;
+//! Banks in memory: calls that are done, caught and failed, and what a crash leaves.
+use disk_model::MemoryBanks;
 use mld_io::{Banks, CrashBanks, IoFault, Leave, Side};
 use std::alloc::{AllocError, Global};
 use std::test::Fail;

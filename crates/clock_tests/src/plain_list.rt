@@ -1,10 +1,7 @@
 //! A clock as a plain list, by which the trees are judged.
-use crate::clocks::Clock;
-use crate::dots::Dot;
-use crate::limits::PATH_LIMIT;
-use crate::paths::Path;
 use std::alloc::{AllocError, Global};
 use std::test::Fail;
+use tree_clock::{Clock, Dot, PATH_LIMIT, Path};
 
 // The paths with their ticks, in no order. A path may have no ticks.
 #[derive(Drop)]

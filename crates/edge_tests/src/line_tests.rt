@@ -1,5 +1,8 @@
-//! Tries of the edges by fakes.
-use super::*;
+//! Lines, sources and sinks, tried by fakes.
+use mld_io::{
+    Failed, IoFault, LineFault, Lines, MemorySink, MemorySource, Piece, Sink, Source, StdSink,
+    StdSource, WriteFault, write_all,
+};
 use std::io;
 use std::io::{BufReader, Read};
 use std::test::Fail;

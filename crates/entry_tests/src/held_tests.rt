@@ -1,4 +1,5 @@
-use crate::{Held, HeldFault, Kept, is_known, is_ready};
+//! Entries that are held back, and released.
+use causal_buffer::{Held, HeldFault, Kept, is_known, is_ready};
 use mld_ops::{Entry, HELD_LIMIT};
 use std::alloc::{AllocError, Global};
 use std::test::Fail;

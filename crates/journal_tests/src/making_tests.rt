@@ -1,16 +1,13 @@
-//! Tries of the calls that write.
-ghost use Rattle.std.specs.Prelude.{IfOk};
+//! A journal is made and swapped: the bytes of both sides.
 ghost use Rattle.journal_store.specs.Heads.{head_value};
 ghost use Rattle.journal_store.specs.StoredVolumes.{IsGoodHead};
 
-use super::*;
+use crate::made::first_head;
 use disk_model::MemoryBanks;
-use iri_rules::{Text, is_domain};
+use journal_store::{Head, Journal, JournalMounted};
 use mld_io::Side;
 use std::alloc::Global;
 use std::test::Fail;
-use tree_clock::{Clock, Path};
-use uuid::Uuid;
 
 /// A side of generation 1 that has a head of id 0 and domain `d`, and nothing else.
 const FIRST: &[u8] = b"\x01mld1\x00\x00\x00\x00\x00\x00\x00\x01\
@@ -21,25 +18,6 @@ const FIRST: &[u8] = b"\x01mld1\x00\x00\x00\x00\x00\x00\x00\x01\
 const SECOND: &[u8] = b"\x01mld1\x00\x00\x00\x00\x00\x00\x00\x02\
     \x00\x00\x00\x00\x00\x00\x00\x00\x00\x00\x00\x00\x00\x00\x00\x00\
     \x00\x00\x00\x01d\x00\x00\x00\x00\x00\x00\x00\x00\x00\x00\x00\x00\x00\x00";
-
-/// That head.
-fn first_head(alloc: Global) -> Result<Box<Head>, Fail>
-    ensures { IfOk result (λ head. IsGoodHead (head_value head.value)) }
-{
-    let domain = Text::new(alloc, "d")?;
-    if !is_domain(domain.as_str()) {
-        return Err("no domain".into());
-    }
-    let head = Head {
-        id: Uuid::from_u128(0),
-        domain,
-        props: Vec::new(alloc),
-        path: Path::root(),
-        base: Clock::empty(alloc),
-        tagged: Vec::new(alloc),
-    };
-    Ok(Box::new(alloc, head)?)
-}
 
 /// Whether a swap for the same head is done on a journal, and puts just its bytes on side B.
 fn is_swapped(alloc: Global, mut journal: Journal<MemoryBanks>, head: &Head) -> bool
