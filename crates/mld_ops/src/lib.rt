@@ -18,5 +18,5 @@ pub use limits::HELD_LIMIT;
 pub use messages::{Give, Message, Messages, Snapshot};
 pub use operations::{Operation, meaning};
 pub use pairs::{copy_pairs, has_pair, insert_pair, remove_pair, remove_pairs};
-pub use properties::kept_properties;
+pub use properties::{copy_properties, kept_properties};
 pub use tagged::Tagged;
