@@ -1,6 +1,8 @@
+use mld_ops::{Entry, Message, Tagged};
 use op_codec::*;
 use std::alloc::Global;
 use std::test::Fail;
+use tree_clock::Clock;
 
 // The entry that inserts `<http://d/a> <http://d/#p> "x" .` as the first operation of the root.
 const ENTRY: &[u8] =
@@ -14,154 +16,190 @@ const CLOCK: &[u8] =
 const PAIRS: &[u8] =
     b"\x00\x00\x00\x02\x00\x00\x00\x20<http://d/a> <http://d/#p> \"x\" .\x00\x00\x00\x00\x03\x00\x00\x00\x20<http://d/a> <http://d/#p> \"x\" .\x03\x60\x00\x00\x00\x01";
 
-// Where reading a message has a fault.
-fn place(alloc: Global, input: &[u8]) -> Option<usize> {
-    match read_message(alloc, input, 0) {
-        Err(CodecFault::NotInGrammar { place }) => Some(place),
-        _ => None,
-    }
-}
+// No clock, or no list: a count of none.
+const NONE: &[u8] = b"\x00\x00\x00\x00";
 
-// Whether the message of these pieces is read up to the byte behind it, and is written as it was.
-fn is_written_again(alloc: Global, pieces: &[&[u8]]) -> Result<bool, Fail> {
-    let input = joined(alloc, pieces)?;
-    let (message, next) = read_message(alloc, &input, 0)?;
-    if !is_short_message(alloc, &message)? {
-        return Ok(false);
-    }
-    let mut out = Vec::new(alloc);
-    write_message(&mut out, &message)?;
-    Ok(next == input.len() && out.as_slice() == input.as_slice())
-}
+// An id.
+const ID: &[u8] = b"0123456789abcdef";
+
+// A clock of the root with one tick, as it stands in an entry behind the range.
+const TIME: &[u8] = b"\x00\x00\x00\x01\x00\x00\x00\x00\x01";
+
+// Messages of each kind, empty and filled, in pieces.
+const MESSAGES: [&[&[u8]]; 8] = [
+    &[b"\x01", ENTRY],
+    &[b"\x02", NONE],
+    &[b"\x02", CLOCK],
+    &[b"\x03", NONE, NONE],
+    &[b"\x03", CLOCK, PAIRS],
+    &[b"\x04", ID],
+    &[b"\x05", ID, b"\x00", NONE, NONE],
+    &[b"\x05", ID, b"\x02\x40", CLOCK, PAIRS],
+];
+
+// Messages in pieces, each with the place of its fault.
+const FAULTS: [(&[&[u8]], usize); 16] = [
+    (&[], 0),
+    (&[b"\x07"], 0),
+    (&[b"\x02\xff\xff\xff\xff"], 5),
+    (&[b"\x02\x00\x00\x00"], 1),
+    // A clock whose paths descend, with an unused bit set, with a tick of 0, with a path of 65 letters; a short id.
+    (
+        &[b"\x02\x00\x00\x00\x02\x01\x80\x00\x00\x00\x01\x01\x00\x00\x00\x00\x01"],
+        11,
+    ),
+    (&[b"\x02\x00\x00\x00\x01\x01\x40\x00\x00\x00\x01"], 5),
+    (&[b"\x02\x00\x00\x00\x01\x01\x80\x00\x00\x00\x00"], 7),
+    (&[b"\x02\x00\x00\x00\x01\x41\x00\x00\x00\x00\x01"], 5),
+    (&[b"\x04\x00\x00\x00"], 1),
+    // Two blanks between the terms; a byte that is no UTF-8; a text that is cut short.
+    (
+        &[
+            b"\x03\x00\x00\x00\x00\x00\x00\x00\x01\x00\x00\x00\x21<http://d/a>  <http://d/#p> \"x\" .\x00\x00\x00\x00\x03",
+        ],
+        13,
+    ),
+    (
+        &[b"\x03\x00\x00\x00\x00\x00\x00\x00\x01\x00\x00\x00\x01\xff\x00\x00\x00\x00\x03"],
+        13,
+    ),
+    (
+        &[b"\x03\x00\x00\x00\x00\x00\x00\x00\x01\x00\x00\x00\x21<http://d/a> "],
+        13,
+    ),
+    // The second pair isn't covered: it begins behind the first, of 41 bytes.
+    (
+        &[b"\x03\x00\x00\x00\x01\x00\x00\x00\x00\x03", PAIRS],
+        14 + 41,
+    ),
+    // A first tick of 0; ticks of its path that aren't its last; a delete that its time doesn't cover.
+    (
+        &[
+            b"\x01\x00\x00\x00\x00\x00\x00\x00\x00\x01",
+            TIME,
+            NONE,
+            NONE,
+        ],
+        1,
+    ),
+    (
+        &[
+            b"\x01\x00\x00\x00\x00\x01\x00\x00\x00\x02",
+            TIME,
+            NONE,
+            NONE,
+        ],
+        1,
+    ),
+    (
+        &[
+            b"\x01\x00\x00\x00\x00\x01\x00\x00\x00\x01",
+            TIME,
+            PAIRS,
+            NONE,
+        ],
+        1,
+    ),
+];
 
 // These pieces joined.
-fn joined(alloc: Global, pieces: &[&[u8]]) -> Result<Vec<u8>, Fail> {
-    let mut all = Vec::new(alloc);
+fn joined(alloc: Global, pieces: &[&[u8]]) -> Result<Box<Vec<u8>>, Fail> {
+    let mut all = Box::new(alloc, Vec::new(alloc))?;
     for piece in pieces {
         all.extend_from_slice(piece)?;
     }
     Ok(all)
 }
 
-#[test]
-fn faults_have_their_places(rt: HostRuntime) {
-    let alloc = rt.alloc();
-    assert_eq!(rt; place(alloc, b""), Some(0));
-    assert_eq!(rt; place(alloc, b"\x07"), Some(0));
-    assert_eq!(rt; place(alloc, b"\x02\xff\xff\xff\xff"), Some(5));
-    assert_eq!(rt; place(alloc, b"\x02\x00\x00\x00"), Some(1));
-    let descending = b"\x02\x00\x00\x00\x02\x01\x80\x00\x00\x00\x01\x01\x00\x00\x00\x00\x01";
-    assert_eq!(rt; place(alloc, descending), Some(11));
-    assert_eq!(rt;
-        place(alloc, b"\x02\x00\x00\x00\x01\x01\x40\x00\x00\x00\x01"),
-        Some(5)
-    );
-    assert_eq!(rt;
-        place(alloc, b"\x02\x00\x00\x00\x01\x01\x80\x00\x00\x00\x00"),
-        Some(7)
-    );
-    assert_eq!(rt;
-        place(alloc, b"\x02\x00\x00\x00\x01\x41\x00\x00\x00\x00\x01"),
-        Some(5)
-    );
-    assert_eq!(rt; place(alloc, b"\x04\x00\x00\x00"), Some(1));
+// Where reading a message has a fault.
+fn place(alloc: Global, pieces: &[&[u8]]) -> Result<Option<usize>, Fail> {
+    let input = joined(alloc, pieces)?;
+    Ok(match read_message(alloc, &input, 0) {
+        Err(CodecFault::NotInGrammar { place }) => Some(place),
+        _ => None,
+    })
 }
 
 #[test]
-fn an_entry_is_read_and_written(rt: HostRuntime) -> Result<(), Fail> {
-    let alloc = rt.alloc();
-    let (entry, next) = read_entry(alloc, ENTRY, 0)?;
-    assert_eq!(rt; next, ENTRY.len());
-    assert_eq!(rt; entry.inserts().len(), 1);
-    let mut out = Vec::new(alloc);
-    if is_short_entry(alloc, &entry)? {
-        write_entry(&mut out, &entry)?;
+fn faults_have_their_places(rt: HostRuntime) -> Result<(), Fail> {
+    for (pieces, wanted) in FAULTS {
+        assert_eq!(rt; place(rt.alloc(), pieces)?, Some(wanted));
     }
-    assert_eq!(rt; out.as_slice(), ENTRY);
     Ok(())
 }
 
-#[test]
-fn a_clock_is_read_and_written(rt: HostRuntime) -> Result<(), Fail> {
-    let alloc = rt.alloc();
-    let (clock, next) = read_clock(alloc, CLOCK, 0)?;
-    assert_eq!(rt; next, CLOCK.len());
-    let mut out = Vec::new(alloc);
-    if is_short_clock(alloc, &clock)? {
-        write_clock(&mut out, &clock)?;
+// Whether these bytes are written for a message, and it may be written.
+fn is_written_as(alloc: Global, message: &Message, wanted: &[u8]) -> Result<bool, Fail> {
+    if !is_short_message(alloc, message)? {
+        return Ok(false);
     }
-    assert_eq!(rt; out.as_slice(), CLOCK);
-    Ok(())
+    let mut out = Box::new(alloc, Vec::new(alloc))?;
+    write_message(&mut out, message)?;
+    Ok(out.as_slice() == wanted)
 }
 
-#[test]
-fn pairs_are_read_and_written(rt: HostRuntime) -> Result<(), Fail> {
-    let alloc = rt.alloc();
-    let (pairs, next) = read_tagged(alloc, PAIRS, 0)?;
-    assert_eq!(rt; next, PAIRS.len());
-    assert_eq!(rt; pairs.len(), 2);
-    let mut out = Vec::new(alloc);
-    if is_short_list(alloc, &pairs)? {
-        write_tagged(&mut out, &pairs)?;
-    }
-    assert_eq!(rt; out.as_slice(), PAIRS);
-    Ok(())
+// Whether the message of these pieces is read up to the byte behind it, and is written as it was.
+fn is_written_again(alloc: Global, pieces: &[&[u8]]) -> Result<bool, Fail> {
+    let input = joined(alloc, pieces)?;
+    let (message, next) = read_message(alloc, &input, 0)?;
+    Ok(next == input.len() && is_written_as(alloc, &message, &input)?)
 }
 
 #[test]
 fn each_kind_of_message_is_read_and_written(rt: HostRuntime) -> Result<(), Fail> {
-    let alloc = rt.alloc();
-    let none = b"\x00\x00\x00\x00".as_slice();
-    let id = b"0123456789abcdef".as_slice();
-    let leaf = b"\x02\x40".as_slice();
-    assert!(rt; is_written_again(alloc, &[b"\x01", ENTRY])?);
-    assert!(rt; is_written_again(alloc, &[b"\x02", none])?);
-    assert!(rt; is_written_again(alloc, &[b"\x02", CLOCK])?);
-    assert!(rt; is_written_again(alloc, &[b"\x03", none, none])?);
-    assert!(rt; is_written_again(alloc, &[b"\x03", CLOCK, PAIRS])?);
-    assert!(rt; is_written_again(alloc, &[b"\x04", id])?);
-    assert!(rt; is_written_again(alloc, &[b"\x05", id, b"\x00", none, none])?);
-    assert!(rt; is_written_again(alloc, &[b"\x05", id, leaf, CLOCK, PAIRS])?);
+    for pieces in MESSAGES {
+        assert!(rt; is_written_again(rt.alloc(), pieces)?);
+    }
     Ok(())
 }
 
-#[test]
-fn faults_of_triples_and_pairs_have_their_places(rt: HostRuntime) -> Result<(), Fail> {
-    let alloc = rt.alloc();
-
-    // Two blanks between the terms; a byte that is no UTF-8; a text that is cut short.
-    let blanks =
-        b"\x03\x00\x00\x00\x00\x00\x00\x00\x01\x00\x00\x00\x21<http://d/a>  <http://d/#p> \"x\" .\x00\x00\x00\x00\x03";
-    assert_eq!(rt; place(alloc, blanks), Some(13));
-    let no_text = b"\x03\x00\x00\x00\x00\x00\x00\x00\x01\x00\x00\x00\x01\xff\x00\x00\x00\x00\x03";
-    assert_eq!(rt; place(alloc, no_text), Some(13));
-    let cut = b"\x03\x00\x00\x00\x00\x00\x00\x00\x01\x00\x00\x00\x21<http://d/a> ";
-    assert_eq!(rt; place(alloc, cut), Some(13));
-
-    // The second pair isn't covered: it begins behind the first, of 41 bytes.
-    let few = b"\x00\x00\x00\x01\x00\x00\x00\x00\x03";
-    let uncovered = joined(alloc, &[b"\x03", few, PAIRS])?;
-    assert_eq!(rt; place(alloc, &uncovered), Some(14 + 41));
-    Ok(())
+// Whether these bytes are written for an entry.
+fn is_entry_as(alloc: Global, entry: &Entry, wanted: &[u8]) -> Result<bool, Fail> {
+    let mut out = Box::new(alloc, Vec::new(alloc))?;
+    if is_short_entry(alloc, entry)? {
+        write_entry(&mut out, entry)?;
+    }
+    Ok(out.as_slice() == wanted)
 }
 
 #[test]
-fn what_breaks_an_entry_is_at_its_start(rt: HostRuntime) -> Result<(), Fail> {
-    let alloc = rt.alloc();
-    let none = b"\x00\x00\x00\x00".as_slice();
-    let root = b"\x00\x00\x00\x00\x01\x00\x00\x00\x00\x01".as_slice();
+fn an_entry_is_read_and_written(rt: HostRuntime) -> Result<(), Fail> {
+    let (entry, next) = read_entry(rt.alloc(), ENTRY, 0)?;
+    assert!(rt; next == ENTRY.len() && entry.inserts().len() == 1);
+    assert!(rt; is_entry_as(rt.alloc(), &entry, ENTRY)?);
+    Ok(())
+}
 
-    // A first tick of 0; ticks of its path that aren't its last; a delete that its time doesn't cover.
-    let zero = b"\x01\x00\x00\x00\x00\x00\x00\x00\x00\x01".as_slice();
-    let first = joined(alloc, &[zero, &root[1..], none, none])?;
-    assert_eq!(rt; place(alloc, &first), Some(1));
-    let own = b"\x01\x00\x00\x00\x00\x01\x00\x00\x00\x02".as_slice();
-    let ticks = joined(alloc, &[own, &root[1..], none, none])?;
-    assert_eq!(rt; place(alloc, &ticks), Some(1));
-    let one = b"\x01\x00\x00\x00\x00\x01\x00\x00\x00\x01".as_slice();
-    let deletes = joined(alloc, &[one, &root[1..], PAIRS, none])?;
-    assert_eq!(rt; place(alloc, &deletes), Some(1));
-    let right = joined(alloc, &[one, &root[1..], none, none])?;
-    assert_eq!(rt; place(alloc, &right), None);
+// Whether these bytes are written for a clock.
+fn is_clock_as(alloc: Global, clock: &Clock, wanted: &[u8]) -> Result<bool, Fail> {
+    let mut out = Box::new(alloc, Vec::new(alloc))?;
+    if is_short_clock(alloc, clock)? {
+        write_clock(&mut out, clock)?;
+    }
+    Ok(out.as_slice() == wanted)
+}
+
+#[test]
+fn a_clock_is_read_and_written(rt: HostRuntime) -> Result<(), Fail> {
+    let (clock, next) = read_clock(rt.alloc(), CLOCK, 0)?;
+    assert!(rt; next == CLOCK.len());
+    assert!(rt; is_clock_as(rt.alloc(), &clock, CLOCK)?);
+    Ok(())
+}
+
+// Whether these bytes are written for pairs.
+fn are_pairs_as(alloc: Global, pairs: &[Tagged], wanted: &[u8]) -> Result<bool, Fail> {
+    let mut out = Box::new(alloc, Vec::new(alloc))?;
+    if is_short_list(alloc, pairs)? {
+        write_tagged(&mut out, pairs)?;
+    }
+    Ok(out.as_slice() == wanted)
+}
+
+#[test]
+fn pairs_are_read_and_written(rt: HostRuntime) -> Result<(), Fail> {
+    let (pairs, next) = read_tagged(rt.alloc(), PAIRS, 0)?;
+    assert!(rt; next == PAIRS.len() && pairs.len() == 2);
+    assert!(rt; are_pairs_as(rt.alloc(), &pairs, PAIRS)?);
     Ok(())
 }

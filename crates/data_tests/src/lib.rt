@@ -1,5 +1,5 @@
-//! Tests of terms, operations, messages and their bytes, through their public calls. They stand in a crate of their own, so that
-//! those crates aren't proved a second time with their tests.
+//! Tests of operations, messages and their bytes, through their public calls. They stand in a crate of their own, so that those
+//! crates aren't proved a second time with their tests.
 #![tactic(auto)]
 
 #[cfg(test)]
@@ -10,5 +10,3 @@ mod message_tests;
 mod operation_tests;
 #[cfg(test)]
 mod property_tests;
-#[cfg(test)]
-mod term_tests;

@@ -1,16 +1,13 @@
 use mld_ops::{Entry, Operation, Tagged, copy_pairs, has_pair, insert_pair, meaning, remove_pairs};
-use rdf_terms::{Iri, Term, Triple};
+use rdf_terms::{Triple, read_triple};
 use std::alloc::Global;
 use std::test::Fail;
 use tree_clock::{Clock, Dot, Path, Range, Ranges};
 
 // A triple that differs from others by its object.
 fn triple(alloc: Global, object: &str) -> Result<Triple, Fail> {
-    Ok(Triple {
-        s: Iri::new(alloc, "http://example.org/s")?,
-        p: Iri::new(alloc, "http://example.org/p")?,
-        o: Term::Iri(Iri::new(alloc, object)?),
-    })
+    let text = format!(in alloc; "<http://d/s> <http://d/p> <http://d/{object}> .")?;
+    Ok(read_triple(alloc, text.as_str())?)
 }
 
 fn pair(alloc: Global, object: &str, dot: &Dot) -> Result<Tagged, Fail> {
@@ -50,7 +47,7 @@ fn right(tick: u32) -> Dot {
 
 fn inserting(alloc: Global, dot: &Dot) -> Result<Operation, Fail> {
     let mut inserts = Vec::new(alloc);
-    inserts.push(triple(alloc, "http://example.org/t")?)?;
+    inserts.push(triple(alloc, "t")?)?;
     Ok(Operation {
         dot: *dot,
         causes: Ranges::new(alloc),
@@ -65,7 +62,7 @@ fn deleting(alloc: Global, dot: &Dot, cause: &Dot) -> Result<Operation, Fail> {
     Ok(Operation {
         dot: *dot,
         causes,
-        deletes: pairs(alloc, "http://example.org/t", cause)?,
+        deletes: pairs(alloc, "t", cause)?,
         inserts: Vec::new(alloc),
     })
 }
@@ -79,73 +76,76 @@ fn three(alloc: Global) -> Result<Vec<Operation>, Fail> {
     Ok(history)
 }
 
+// Whether the pairs of the three operations, where these are known, have these dots.
+fn leave(alloc: Global, known: &[Range], wanted: &[Dot]) -> Result<bool, Fail> {
+    let history = Box::new(alloc, three(alloc)?)?;
+    let pairs = Box::new(alloc, meaning(alloc, &history, known)?)?;
+    let dots_are = pairs.iter().zip(wanted).all(|(pair, dot)| pair.dot == *dot);
+    Ok(dots_are && pairs.len() == wanted.len())
+}
+
 #[test]
 fn a_delete_leaves_the_triple_by_another_dot(rt: HostRuntime) -> Result<(), Fail> {
-    let history = three(rt.alloc())?;
     let known = [one(&left(1)), one(&right(1)), one(&right(2))];
-    let after = meaning(rt.alloc(), &history, &known)?;
-    assert_eq!(rt; after.len(), 1);
-    assert!(rt; after[0].dot == left(1));
+    assert!(rt; leave(rt.alloc(), &known, &[left(1)])?);
     Ok(())
 }
 
 #[test]
 fn what_is_not_known_deletes_nothing(rt: HostRuntime) -> Result<(), Fail> {
-    let history = three(rt.alloc())?;
     let known = [one(&right(1)), one(&left(1))];
-    let before = meaning(rt.alloc(), &history, &known)?;
-    assert_eq!(rt; before.len(), 2);
-    assert!(rt; before[0].dot == left(1));
-    assert!(rt; before[1].dot == right(1));
+    assert!(rt; leave(rt.alloc(), &known, &[left(1), right(1)])?);
     Ok(())
 }
 
-// The pairs with the objects b, a and b, put in one after another.
-fn two(alloc: Global, dot: &Dot) -> Result<Vec<Tagged>, Fail> {
-    let mut pairs = Vec::new(alloc);
-    insert_pair(&mut pairs, pair(alloc, "http://example.org/b", dot)?)?;
-    insert_pair(&mut pairs, pair(alloc, "http://example.org/a", dot)?)?;
-    insert_pair(&mut pairs, pair(alloc, "http://example.org/b", dot)?)?;
-    Ok(pairs)
+// Puts the pairs of these objects into a list, one after another.
+fn insert_each(alloc: Global, objects: &[&str], pairs: &mut Vec<Tagged>) -> Result<(), Fail> {
+    for object in objects {
+        insert_pair(pairs, pair(alloc, object, &left(1))?)?;
+    }
+    Ok(())
+}
+
+// Whether a list has just the pairs of these objects.
+fn has_just(alloc: Global, pairs: &[Tagged], objects: &[&str]) -> Result<bool, Fail> {
+    let mut all = pairs.len() == objects.len();
+    for (found, object) in pairs.iter().zip(objects) {
+        let wanted = Box::new(alloc, pair(alloc, object, &left(1))?)?;
+        all &= *found == *wanted;
+    }
+    Ok(all)
 }
 
 #[test]
 fn a_list_has_each_pair_once_in_order(rt: HostRuntime) -> Result<(), Fail> {
-    let inserted = two(rt.alloc(), &left(1))?;
-    let copy = copy_pairs(rt.alloc(), &inserted)?;
-    let expected = pairs(rt.alloc(), "http://example.org/a", &left(1))?;
-    assert_eq!(rt; copy.len(), 2);
-    assert!(rt; copy[..1] == expected[..]);
+    let mut pairs = Box::new(rt.alloc(), Vec::new(rt.alloc()))?;
+    insert_each(rt.alloc(), &["b", "a", "b"], &mut pairs)?;
+    let copy = Box::new(rt.alloc(), copy_pairs(rt.alloc(), &pairs)?)?;
+    assert!(rt; has_just(rt.alloc(), &copy, &["a", "b"])?);
     Ok(())
-}
-
-fn without_first(alloc: Global, dot: &Dot) -> Result<Vec<Tagged>, Fail> {
-    let first = pairs(alloc, "http://example.org/a", dot)?;
-    let mut pairs = Vec::new(alloc);
-    insert_pair(&mut pairs, pair(alloc, "http://example.org/b", dot)?)?;
-    insert_pair(&mut pairs, pair(alloc, "http://example.org/a", dot)?)?;
-    remove_pairs(&mut pairs, &first);
-    Ok(pairs)
 }
 
 #[test]
 fn a_pair_is_taken_out_and_the_other_stays(rt: HostRuntime) -> Result<(), Fail> {
-    let left_over = without_first(rt.alloc(), &left(1))?;
-    let expected = pairs(rt.alloc(), "http://example.org/b", &left(1))?;
-    assert!(rt; left_over == expected);
+    let mut list = Box::new(rt.alloc(), Vec::new(rt.alloc()))?;
+    insert_each(rt.alloc(), &["b", "a"], &mut list)?;
+    let first = Box::new(rt.alloc(), pairs(rt.alloc(), "a", &left(1))?)?;
+    remove_pairs(&mut list, &first);
+    assert!(rt; has_just(rt.alloc(), &list, &["b"])?);
     Ok(())
 }
 
+// Whether a pair of this object is found in a list that has one pair, of the object b.
 fn has_object(alloc: Global, object: &str) -> Result<bool, Fail> {
-    let mut pairs = Vec::new(alloc);
-    insert_pair(&mut pairs, pair(alloc, "http://example.org/b", &left(1))?)?;
-    Ok(has_pair(&pairs, &pair(alloc, object, &left(1))?))
+    let list = Box::new(alloc, pairs(alloc, "b", &left(1))?)?;
+    let wanted = Box::new(alloc, pair(alloc, object, &left(1))?)?;
+    Ok(has_pair(&list, &wanted))
 }
 
 #[test]
 fn a_pair_is_found_by_its_triple(rt: HostRuntime) -> Result<(), Fail> {
-    assert!(rt; has_object(rt.alloc(), "http://example.org/b")?);
-    assert!(rt; !has_object(rt.alloc(), "http://example.org/a")?);
+    assert!(rt; has_object(rt.alloc(), "b")?);
+    assert!(rt; !has_object(rt.alloc(), "a")?);
     Ok(())
 }
 
@@ -155,6 +155,23 @@ fn clock(alloc: Global, dot: &Dot) -> Result<Clock, Fail> {
     clock.reserve(&dot.path)?;
     clock.raise(dot);
     Ok(clock)
+}
+
+// Pairs of these objects and ticks of the root.
+fn root_pairs(alloc: Global, deletes: [(&str, u32); 2]) -> Result<Vec<Tagged>, Fail> {
+    let path = Path::root();
+    let mut pairs = Vec::new(alloc);
+    for (object, tick) in deletes {
+        pairs.push(pair(alloc, object, &Dot { path, tick })?)?;
+    }
+    Ok(pairs)
+}
+
+// A triple that is inserted at this tick.
+fn inserts(alloc: Global, object: &str, tick: u32) -> Result<Vec<(Triple, u32)>, Fail> {
+    let mut inserts = Vec::new(alloc);
+    inserts.push((triple(alloc, object)?, tick))?;
+    Ok(inserts)
 }
 
 // Whether there is an entry of the root's ticks from `first` to `last`, at a time of `ticks` ticks, that deletes pairs
@@ -167,23 +184,18 @@ fn is_entry(
 ) -> Result<bool, Fail> {
     let path = Path::root();
     let time = clock(alloc, &Dot { path, tick: ticks })?;
-    let mut pairs = Vec::new(alloc);
-    for (object, tick) in deletes {
-        pairs.push(pair(alloc, object, &Dot { path, tick })?)?;
-    }
-    let mut inserts = Vec::new(alloc);
-    inserts.push((triple(alloc, "http://example.org/c")?, insert))?;
-    let entry = Entry::new(Range { path, first, last }, time, pairs, inserts);
-    Ok(entry.is_some())
+    let deletes = root_pairs(alloc, deletes)?;
+    let inserts = inserts(alloc, "c", insert)?;
+    Ok(Entry::new(Range { path, first, last }, time, deletes, inserts).is_some())
 }
 
 #[test]
 fn an_entry_is_refused_where_a_part_is_none_of_an_entry(rt: HostRuntime) -> Result<(), Fail> {
-    let sorted = [("http://example.org/a", 1), ("http://example.org/b", 2)];
-    let unsorted = [("http://example.org/b", 2), ("http://example.org/a", 1)];
-    let twice = [("http://example.org/a", 1), ("http://example.org/a", 1)];
-    let inside = [("http://example.org/a", 1), ("http://example.org/b", 3)];
-    let later = [("http://example.org/a", 1), ("http://example.org/b", 6)];
+    let sorted = [("a", 1), ("b", 2)];
+    let unsorted = [("b", 2), ("a", 1)];
+    let twice = [("a", 1), ("a", 1)];
+    let inside = [("a", 1), ("b", 3)];
+    let later = [("a", 1), ("b", 6)];
     for (ticks, deletes, insert, want) in [
         ((3, 5, 5), sorted, 4, true),
         // A tick 0, a range with no dot, and a time that ends elsewhere.
@@ -205,19 +217,24 @@ fn an_entry_is_refused_where_a_part_is_none_of_an_entry(rt: HostRuntime) -> Resu
 }
 
 fn entry(alloc: Global) -> Result<Entry, Fail> {
-    let deletes = pairs(alloc, "http://example.org/a", &left(1))?;
-    let mut inserts = Vec::new(alloc);
-    inserts.push((triple(alloc, "http://example.org/b")?, 2))?;
+    let deletes = pairs(alloc, "a", &left(1))?;
+    let inserts = inserts(alloc, "b", 2)?;
     let time = clock(alloc, &left(2))?;
     Ok(Entry::new(one(&left(2)), time, deletes, inserts).ok_or("refused")?)
 }
 
+// Whether this entry has the parts of that one.
+fn has_parts(entry: &Entry) -> bool {
+    entry.range() == one(&left(2))
+        && entry.time().ticks(&left(2).path) == 2
+        && entry.deletes().len() == 1
+        && entry.inserts().len() == 1
+}
+
 #[test]
 fn an_entry_gives_its_parts(rt: HostRuntime) -> Result<(), Fail> {
-    let entry = entry(rt.alloc())?.copy_in(rt.alloc())?;
-    assert!(rt; entry.range() == one(&left(2)));
-    assert_eq!(rt; entry.time().ticks(&left(2).path), 2);
-    assert_eq!(rt; entry.deletes().len(), 1);
-    assert_eq!(rt; entry.inserts().len(), 1);
+    let entry = Box::new(rt.alloc(), entry(rt.alloc())?)?;
+    let copy = Box::new(rt.alloc(), entry.copy_in(rt.alloc())?)?;
+    assert!(rt; has_parts(&copy));
     Ok(())
 }

@@ -13,8 +13,3 @@ pub use absolute::{DOMAIN_LIMIT, IRI_LIMIT, is_absolute, is_domain, is_iri};
 pub use faults::IriFault;
 pub use resolution::resolve;
 pub use texts::Text;
-
-#[cfg(test)]
-mod resolution_tests;
-#[cfg(test)]
-mod tests;

@@ -1,6 +1,6 @@
 //! The rows of RFC 3986, section 5.4, and others, worked by hand.
-use super::*;
-use crate::tests::letters;
+use crate::iris::letters;
+use iri_rules::{IriFault, is_absolute, resolve};
 use std::alloc::Global;
 use std::test::Fail;
 

@@ -1,5 +1,5 @@
-//! Each test of a text, and texts themselves.
-use super::*;
+//! Names of domains, absolute IRIs, and texts.
+use iri_rules::{Text, is_absolute, is_domain, is_iri};
 use std::alloc::Global;
 use std::test::Fail;
 
@@ -15,15 +15,15 @@ pub(crate) fn letters(alloc: Global, count: usize) -> Result<String, Fail> {
 #[test]
 fn names_of_domains_are_tested(rt: HostRuntime) -> Result<(), Fail> {
     let most = letters(rt.alloc(), 200)?;
-    let more = letters(rt.alloc(), 201)?;
     assert!(rt; is_domain("data.example-1") && is_domain(most.as_str()));
+    let more = letters(rt.alloc(), 201)?;
     assert!(rt; !is_domain("") && !is_domain("Data") && !is_domain(more.as_str()));
     Ok(())
 }
 
 #[test]
 fn absolute_iris_are_tested(rt: HostRuntime) {
-    assert!(rt; is_absolute("urn:x") && is_absolute("a+b-c.1:"));
+    assert!(rt; is_absolute("urn:x") && is_absolute("a+b-c.1:") && is_iri("urn:x"));
     assert!(rt; !is_absolute("1x:y") && !is_absolute("a") && !is_absolute("a:b c"));
 }
 
