@@ -1,11 +1,12 @@
 -- Steps of reading an escape.
-use Rattle.std.proofs.Common.{◌≡◌, ℕ, suc, zero, ◌+◌, ◌-◌, ◌*◌, ◌<◌, ◌≤◌, List, [], ◌∷◌, ◌++◌, length, ◌≢◌, Bool, true, false, ltb, Result, Ok, Err, MatchResult, Some, None, refl, sym, ap, ◌∙◌, subst, inl, inr, arith}
+use Rattle.std.proofs.Common.{◌≡◌, ℕ, suc, zero, ◌+◌, ◌-◌, ◌*◌, ◌^◌, ◌<◌, ◌≤◌, List, [], ◌∷◌, ◌++◌, length, ◌≢◌, Bool, true, false, ltb, Result, Ok, Err, MatchResult, Some, None, refl, sym, ap, ◌∙◌, subst, inl, inr, arith}
 use Rattle.std.specs.Bool.{OnTrue}
 use Rattle.std.specs.Char.{IsScalar, digit_value}
 use Rattle.std.proofs.lemmas.Bool.{cases_Bool, and_parts, ne_eqb}
 use Rattle.std.proofs.lemmas.Bool.Decides.{nat_tests}
 use Rattle.std.proofs.lemmas.Str.{encode_ascii}
-use Rattle.std.proofs.Math.Nat.{mul-le-mul_left}
+use Rattle.std.proofs.Math.Nat.{mul-le-mul_left, one-le-pow}
+use Rattle.std.proofs.lemmas.Nat.{pow-add}
 use lib.Utf8.{scalar, encode, scalar_cases}
 use Rattle.rdf_terms.specs.declared.escapes.Escape.{Escape}
 use Rattle.rdf_terms.specs.declared.faults.TripleFault.{TripleFault}
@@ -16,6 +17,17 @@ use Rattle.rdf_terms.specs.Escapes.{is_hexadecimal}
 use Rattle.rdf_terms.specs.TripleReading.{Slot, Part, State, Within, Between, Behind, Digits, step, verdict, with_digit, with_letter, within, spot_behind, may_hold, may_begin, Leads}
 use Rattle.rdf_terms.specs.TripleReads.{HasByte, HasDigit, HasNoDigit, HasLetter, HasNoLetter, IsEscape, StopsBehind}
 use Rattle.rdf_terms.proofs.Stops.{leads_on, stops_here, stops_at_end, stops_later, byte_is}
+
+-- how many codes begin with the same digits, where at most seven are to come
+pub width_within : (digits : ℕ) → digits < 8 → (1 ≤ 16 ^ digits) × (16 ^ digits ≤ 268435456)
+width_within digits h =
+    let rest = 7 - digits in
+    let all : digits + rest ≡ 7 = omega arith in
+    let whole : 16 ^ digits * 16 ^ rest ≡ 16 ^ 7 = sym (pow-add 16 digits rest) ∙ ap (λ n. 16 ^ n) all in
+    let some : 1 ≤ 16 ^ digits = one-le-pow digits 16 (omega arith) in
+    let more : 1 ≤ 16 ^ rest = one-le-pow rest 16 (omega arith) in
+    let most : 16 ^ digits * 1 ≤ 16 ^ digits * 16 ^ rest = mul-le-mul_left (16 ^ digits) more in
+    (some, omega arith)
 
 scalar_small : (code : ℕ) → scalar code ≡ true → code < 1114112
 scalar_small code h = elim (scalar_cases code h) [

@@ -38,22 +38,14 @@ fn letter_value(letter: u8) -> Option<char>
 }
 
 /// How many codes begin with the same digits, where so many digits are to come.
+#[tactic(auto, using(crate::proofs::EscapeLemmas::width_within))]
 fn width(digits: u32) -> u64
     requires { digits < 8 }
     ensures width { result ≡ 16 ^ digits }
     ensures some { 1 ≤ result }
     ensures small { result ≤ 268435456 }
 {
-    match digits {
-        0 => 1,
-        1 => 16,
-        2 => 256,
-        3 => 4_096,
-        4 => 65_536,
-        5 => 1_048_576,
-        6 => 16_777_216,
-        _ => 268_435_456,
-    }
+    16_u64.pow(digits)
 }
 
 /// Whether some character whose code begins with this one, with so many digits to come, may stand here.

@@ -50,15 +50,11 @@ fn cmp_datatypes(a: &Iri, b: &Iri) -> Ordering
 fn cmp_suffixes(a: &Kind, b: &Kind) -> Ordering
     ensures { result ≡ slice_cmp nat_cmp (suffix_text a.now) (suffix_text b.now) }
 {
-    match a {
-        Kind::Datatype(datatype) => match b {
-            Kind::Datatype(other) => cmp_datatypes(datatype, other),
-            Kind::Language(_) => cmp_with_tag(datatype),
-        },
-        Kind::Language(tag) => match b {
-            Kind::Datatype(other) => cmp_with_tag(other).reverse(),
-            Kind::Language(other) => tag.as_str().cmp(&other.as_str()),
-        },
+    match (a, b) {
+        (Kind::Datatype(datatype), Kind::Datatype(other)) => cmp_datatypes(datatype, other),
+        (Kind::Datatype(datatype), Kind::Language(_)) => cmp_with_tag(datatype),
+        (Kind::Language(_), Kind::Datatype(other)) => cmp_with_tag(other).reverse(),
+        (Kind::Language(tag), Kind::Language(other)) => tag.as_str().cmp(&other.as_str()),
     }
 }
 
@@ -88,15 +84,11 @@ fn cmp_literals(a: &Literal, b: &Literal) -> Ordering
 pub fn cmp_terms(a: &Term, b: &Term) -> Ordering
     ensures { result ≡ term_cmp a.now b.now }
 {
-    match a {
-        Term::Iri(iri) => match b {
-            Term::Iri(other) => cmp_iris(iri, other),
-            Term::Literal(_) => Ordering::Greater,
-        },
-        Term::Literal(literal) => match b {
-            Term::Iri(_) => Ordering::Less,
-            Term::Literal(other) => cmp_literals(literal, other),
-        },
+    match (a, b) {
+        (Term::Iri(iri), Term::Iri(other)) => cmp_iris(iri, other),
+        (Term::Iri(_), Term::Literal(_)) => Ordering::Greater,
+        (Term::Literal(_), Term::Iri(_)) => Ordering::Less,
+        (Term::Literal(literal), Term::Literal(other)) => cmp_literals(literal, other),
     }
 }
 
