@@ -5,3 +5,4 @@ pub mod Storing
 pub mod Halving
 pub mod Splitting
 pub mod Standing
+pub mod Between

@@ -1,7 +1,8 @@
 -- An element that is put into a chunk, which is split then.
-use Rattle.std.proofs.Common.{◌≡◌, ℕ, ◌+◌, ◌-◌, ◌<◌, ◌≤◌, List, [], ◌∷◌, ◌++◌, length, set, sym, subst, ap, ◌∙◌, arith}
+use Rattle.std.proofs.Common.{◌≡◌, ◌-◌, ℕ, ◌+◌, ◌<◌, List, [], ◌∷◌, ◌++◌, length, set, sym, subst, ap, ◌∙◌, arith}
 use Rattle.std.proofs.lemmas.List.{length-set}
 use Rattle.std.specs.List.{AllByRecursion, insert}
+use Rattle.chunked_list.specs.ChunkLimits.{chunk_limit, half_limit}
 use Rattle.chunked_list.specs.Joined.{joined_chunks, chunk_at, front_of, back_of}
 use Rattle.chunked_list.specs.Room.{excess_of}
 use Rattle.chunked_list.specs.Stores.{AreSized}
@@ -11,10 +12,10 @@ module _ {X : Type 0} (chunks items new : List (List X)) (c at : ℕ) (x : X) (l
   inside : items ≡ set chunks c (insert (chunk_at chunks c) at x) → c < length items
   inside i = let n : length items ≡ length chunks = ap length i ∙ length-set chunks c (insert (chunk_at chunks c) at x) in omega (arith, n, l)
 
-  is_full : length (chunk_at chunks c) + 1 ≡ 128 → items ≡ set chunks c (insert (chunk_at chunks c) at x) → length (chunk_at items c) ≡ 128
+  is_full : length (chunk_at chunks c) + 1 ≡ chunk_limit → items ≡ set chunks c (insert (chunk_at chunks c) at x) → length (chunk_at items c) ≡ chunk_limit
   is_full f i = ap (λ zs. length (chunk_at zs c)) i ∙ ap length (at_set chunks c (insert (chunk_at chunks c) at x) l) ∙ length_put (chunk_at chunks c) at x ∙ f
 
-  pub split_excess : length (chunk_at chunks c) + 1 ≡ 128 → items ≡ set chunks c (insert (chunk_at chunks c) at x) → new ≡ split_of items c → excess_of new + 63 ≡ excess_of chunks
+  pub split_excess : length (chunk_at chunks c) + 1 ≡ chunk_limit → items ≡ set chunks c (insert (chunk_at chunks c) at x) → new ≡ split_of items c → excess_of new + (half_limit - 1) ≡ excess_of chunks
   split_excess f i s =
       let h = excess_split items c (inside i) (is_full f i) in
       let k = put_excess chunks items c at x l i in
@@ -24,7 +25,7 @@ module _ {X : Type 0} (chunks items new : List (List X)) (c at : ℕ) (x : X) (l
   pub split_count : items ≡ set chunks c (insert (chunk_at chunks c) at x) → new ≡ split_of items c → length (joined_chunks new) ≡ length (joined_chunks chunks) + 1
   split_count i s = ap (λ zs. length (joined_chunks zs)) s ∙ ap length (joined_split items c (inside i)) ∙ put_count chunks items c at x l i
 
-  pub split_sized : length (chunk_at chunks c) + 1 ≡ 128 → items ≡ set chunks c (insert (chunk_at chunks c) at x) → new ≡ split_of items c → AreSized chunks → AreSized new
+  pub split_sized : length (chunk_at chunks c) + 1 ≡ chunk_limit → items ≡ set chunks c (insert (chunk_at chunks c) at x) → new ≡ split_of items c → AreSized chunks → AreSized new
   split_sized f i s a =
       subst AreSized (sym (s ∙ ap (λ zs. split_of zs c) i)) (sized_split chunks c (insert (chunk_at chunks c) at x) l a (length_put (chunk_at chunks c) at x ∙ f))
 

@@ -1,5 +1,5 @@
 -- Elements of an ascending list at the place that a search finds.
-use Rattle.std.proofs.Common.{◌≡◌, ◌∙◌, ℕ, ◌+◌, ◌<◌, ◌≤◌, max, List, [], ◌∷◌, ◌++◌, Bool, true, false, IsTrue, ◌↔◌, ◌⊎◌, Option, None, Some, length, drop, suc, zero, refl, sym, subst, ap, inl, inr, arith}
+use Rattle.std.proofs.Common.{◌≡◌, ◌∙◌, ℕ, ◌<◌, max, List, [], ◌∷◌, ◌++◌, Bool, true, false, IsTrue, ◌↔◌, ◌⊎◌, None, Some, length, drop, suc, zero, refl, sym, subst, ap, inl, inr, arith}
 use Rattle.std.proofs.lemmas.Bool.{true≢false, false≢true}
 use Rattle.std.proofs.lemmas.Cmp.{tied_itself}
 use Rattle.std.proofs.lemmas.Map.Lookups.{CmpEqualImpliesEq}
@@ -7,9 +7,9 @@ use Rattle.std.specs.Cmp.{IsTotalOrder}
 use Rattle.std.specs.Ordering.{is_lt, is_eq}
 use Rattle.std.specs.declared.cmp.Ordering.{Ordering}
 use Rattle.std.specs.declared.cmp.Ordering.TheVariants.{Less, Equal, Greater}
-use Rattle.tree_clock.specs.Lists.{Has, IsBelowAll, IsAscending}
+use Rattle.tree_clock.specs.Lists.{Has, IsAscending}
 use Rattle.mld_ops.proofs.AscendingLaws.{below_member, below_from_members, has_append, has_left, has_right, ascending_append, ascending_front, ascending_back, ascending_without, has_without}
-use Rattle.chunked_list.specs.Joined.{joined_chunks, chunk_at, front_of, back_of}
+use Rattle.chunked_list.specs.Joined.{joined_chunks, front_of, back_of}
 use Rattle.chunked_list.specs.Parted.{IsFirstOf}
 use Rattle.chunked_list.proofs.Placing.{whole}
 

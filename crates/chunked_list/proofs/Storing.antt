@@ -1,7 +1,8 @@
 -- What edits of chunks do to the list and to its room.
 use Rattle.std.proofs.Common.{◌≡◌, ℕ, ◌+◌, ◌-◌, ◌*◌, ◌<◌, ◌≤◌, List, [], ◌∷◌, ◌++◌, length, get_or, set, take, drop, suc, zero, refl, sym, subst, ap, ◌∙◌, arith, append_assoc}
 use Rattle.std.proofs.lemmas.List.{length-append, length-take, length-drop, take-append-drop}
-use Rattle.std.specs.List.{AllByRecursion, remove, insert}
+use Rattle.std.specs.List.{remove, insert}
+use Rattle.chunked_list.specs.ChunkLimits.{chunk_limit, half_limit}
 use Rattle.chunked_list.specs.Joined.{joined_chunks, chunk_at, front_of, back_of}
 use Rattle.chunked_list.specs.Room.{excess_of, load_of, room_of}
 use Rattle.chunked_list.specs.Stores.{IsSized, AreSized}
@@ -24,7 +25,7 @@ count_set (x ∷ xs) (suc c) v l =
     let a = length-append x (joined_chunks (set xs c v)) in let b = length-append x (joined_chunks xs) in
     let h = count_set xs c v (omega (arith, l)) in omega (arith, a, b, h)
 
-pub excess_set : {X : Type 0} (chunks : List (List X)) (c : ℕ) (v : List X) → c < length chunks → excess_of (set chunks c v) + (length (chunk_at chunks c) - 64) ≡ excess_of chunks + (length v - 64)
+pub excess_set : {X : Type 0} (chunks : List (List X)) (c : ℕ) (v : List X) → c < length chunks → excess_of (set chunks c v) + (length (chunk_at chunks c) - half_limit) ≡ excess_of chunks + (length v - half_limit)
 excess_set [] c v l = absurd (omega (arith, l))
 excess_set (x ∷ xs) zero v l = omega arith
 excess_set (x ∷ xs) (suc c) v l = let h = excess_set xs c v (omega (arith, l)) in omega (arith, h)
@@ -43,7 +44,7 @@ pub load_is : {X : Type 0} (chunks : List (List X)) → 0 < length chunks → lo
 load_is [] l = absurd (omega (arith, l))
 load_is (x ∷ xs) l = refl
 
-pub excess_at : {X : Type 0} (chunks : List (List X)) (c : ℕ) → c < length chunks → length (chunk_at chunks c) - 64 ≤ excess_of chunks
+pub excess_at : {X : Type 0} (chunks : List (List X)) (c : ℕ) → c < length chunks → length (chunk_at chunks c) - half_limit ≤ excess_of chunks
 excess_at [] c l = absurd (omega (arith, l))
 excess_at (x ∷ xs) zero l = omega arith
 excess_at (x ∷ xs) (suc c) l = let h = excess_at xs c (omega (arith, l)) in omega (arith, h)
@@ -54,11 +55,11 @@ count_at (x ∷ xs) zero l = let a = length-append x (joined_chunks xs) in omega
 count_at (x ∷ xs) (suc c) l = let a = length-append x (joined_chunks xs) in let h = count_at xs c (omega (arith, l)) in omega (arith, a, h)
 
 -- the number of elements is bounded
-pub count_bound : {X : Type 0} (chunks : List (List X)) → AreSized chunks → length (joined_chunks chunks) ≤ 128 * length chunks
+pub count_bound : {X : Type 0} (chunks : List (List X)) → AreSized chunks → length (joined_chunks chunks) ≤ chunk_limit * length chunks
 count_bound [] a = omega arith
 count_bound (x ∷ xs) a = let b = length-append x (joined_chunks xs) in let h = count_bound xs a.1 in omega (arith, b, h, a.0.1)
 
-pub excess_bound : {X : Type 0} (chunks : List (List X)) → AreSized chunks → excess_of chunks ≤ 128 * length chunks
+pub excess_bound : {X : Type 0} (chunks : List (List X)) → AreSized chunks → excess_of chunks ≤ chunk_limit * length chunks
 excess_bound [] a = omega arith
 excess_bound (x ∷ xs) a = let h = excess_bound xs a.1 in omega (arith, h, a.0.1)
 
@@ -124,7 +125,7 @@ count_remove (x ∷ xs) (suc c) l =
     let a = length-append x (joined_chunks xs) in let b = length-append x (joined_chunks (remove xs c)) in
     let h = count_remove xs c (omega (arith, l)) in omega (arith, a, b, h)
 
-pub excess_remove : {X : Type 0} (chunks : List (List X)) (c : ℕ) → c < length chunks → excess_of (remove chunks c) + (length (chunk_at chunks c) - 64) ≡ excess_of chunks
+pub excess_remove : {X : Type 0} (chunks : List (List X)) (c : ℕ) → c < length chunks → excess_of (remove chunks c) + (length (chunk_at chunks c) - half_limit) ≡ excess_of chunks
 excess_remove [] c l = absurd (omega (arith, l))
 excess_remove (x ∷ xs) zero l = omega arith
 excess_remove (x ∷ xs) (suc c) l = let h = excess_remove xs c (omega (arith, l)) in omega (arith, h)
@@ -167,23 +168,23 @@ joined_only {X = X} chunks c at l o =
 
 -- a chunk that is split
 abbrev pub split_of : {X : Type 0} → List (List X) → ℕ → List (List X)
-split_of chunks c = take c chunks ++ take 64 (chunk_at chunks c) ∷ drop 64 (chunk_at chunks c) ∷ drop (c + 1) chunks
+split_of chunks c = take c chunks ++ take half_limit (chunk_at chunks c) ∷ drop half_limit (chunk_at chunks c) ∷ drop (c + 1) chunks
 
 pub joined_split : {X : Type 0} (chunks : List (List X)) (c : ℕ) → c < length chunks → joined_chunks (split_of chunks c) ≡ joined_chunks chunks
 joined_split [] c l = absurd (omega (arith, l))
-joined_split (x ∷ xs) zero l = sym (append_assoc (take 64 x) (drop 64 x) (joined_chunks xs)) ∙ ap (λ zs. zs ++ joined_chunks xs) (take-append-drop 64 x)
+joined_split (x ∷ xs) zero l = sym (append_assoc (take half_limit x) (drop half_limit x) (joined_chunks xs)) ∙ ap (λ zs. zs ++ joined_chunks xs) (take-append-drop half_limit x)
 joined_split (x ∷ xs) (suc c) l = rw (step c) (ap (λ zs. x ++ zs) (joined_split xs c (omega (arith, l))))
 
-pub excess_split : {X : Type 0} (chunks : List (List X)) (c : ℕ) → c < length chunks → length (chunk_at chunks c) ≡ 128 → excess_of (split_of chunks c) + 64 ≡ excess_of chunks
+pub excess_split : {X : Type 0} (chunks : List (List X)) (c : ℕ) → c < length chunks → length (chunk_at chunks c) ≡ chunk_limit → excess_of (split_of chunks c) + half_limit ≡ excess_of chunks
 excess_split [] c l o = absurd (omega (arith, l))
 excess_split (x ∷ xs) zero l o =
-    let a = length-take 64 x in let b = length-drop 64 x in omega (arith, a, b, o)
+    let a = length-take half_limit x in let b = length-drop half_limit x in omega (arith, a, b, o)
 excess_split (x ∷ xs) (suc c) l o = rw (step c) (let h = excess_split xs c (omega (arith, l)) o in omega (arith, h))
 
-pub sized_split : {X : Type 0} (chunks : List (List X)) (c : ℕ) (v : List X) → c < length chunks → AreSized chunks → length v ≡ 128 → AreSized (split_of (set chunks c v) c)
+pub sized_split : {X : Type 0} (chunks : List (List X)) (c : ℕ) (v : List X) → c < length chunks → AreSized chunks → length v ≡ chunk_limit → AreSized (split_of (set chunks c v) c)
 sized_split [] c v l a o = absurd (omega (arith, l))
 sized_split (x ∷ xs) zero v l a o =
-    let t = length-take 64 v in let d = length-drop 64 v in
+    let t = length-take half_limit v in let d = length-drop half_limit v in
     ((omega (arith, t, o), omega (arith, t, o)), ((omega (arith, d, o), omega (arith, d, o)), a.1))
 sized_split (x ∷ xs) (suc c) v l a o = rw (step c) (a.0, sized_split xs c v (omega (arith, l)) a.1 o)
 
@@ -194,10 +195,10 @@ at_set (x ∷ xs) (suc c) v l = at_set xs c v (omega (arith, l))
 
 -- one element more, or one less, in one of the chunks
 pub put_excess : {X : Type 0} (chunks items : List (List X)) (c at : ℕ) (x : X) → c < length chunks → items ≡ set chunks c (insert (chunk_at chunks c) at x)
-    → excess_of items + (length (chunk_at chunks c) - 64) ≡ excess_of chunks + (length (chunk_at chunks c) + 1 - 64)
+    → excess_of items + (length (chunk_at chunks c) - half_limit) ≡ excess_of chunks + (length (chunk_at chunks c) + 1 - half_limit)
 put_excess chunks items c at x l e =
     let h = excess_set chunks c (insert (chunk_at chunks c) at x) l in
-    ap (λ zs. excess_of zs + (length (chunk_at chunks c) - 64)) e ∙ h ∙ ap (λ n. excess_of chunks + (n - 64)) (length_put (chunk_at chunks c) at x)
+    ap (λ zs. excess_of zs + (length (chunk_at chunks c) - half_limit)) e ∙ h ∙ ap (λ n. excess_of chunks + (n - half_limit)) (length_put (chunk_at chunks c) at x)
 
 pub put_count : {X : Type 0} (chunks items : List (List X)) (c at : ℕ) (x : X) → c < length chunks → items ≡ set chunks c (insert (chunk_at chunks c) at x)
     → length (joined_chunks items) ≡ length (joined_chunks chunks) + 1
@@ -208,13 +209,13 @@ put_count chunks items c at x l e =
     omega (arith, h, n, i)
 
 pub put_sized : {X : Type 0} (chunks items : List (List X)) (c at : ℕ) (x : X) → items ≡ set chunks c (insert (chunk_at chunks c) at x)
-    → AreSized chunks → length (chunk_at chunks c) + 1 < 128 → AreSized items
+    → AreSized chunks → length (chunk_at chunks c) + 1 < chunk_limit → AreSized items
 put_sized chunks items c at x e a l =
     let n = length_put (chunk_at chunks c) at x in
     rw e (sized_set chunks c (insert (chunk_at chunks c) at x) a (omega (arith, n), omega (arith, n, l)))
 
 pub take_excess : {X : Type 0} (chunks items : List (List X)) (c at : ℕ) → c < length chunks → at < length (chunk_at chunks c) → items ≡ set chunks c (remove (chunk_at chunks c) at)
-    → excess_of items + (length (chunk_at chunks c) - 64) ≡ excess_of chunks + (length (chunk_at chunks c) - 1 - 64)
+    → excess_of items + (length (chunk_at chunks c) - half_limit) ≡ excess_of chunks + (length (chunk_at chunks c) - 1 - half_limit)
 take_excess chunks items c at l m e =
     let h = excess_set chunks c (remove (chunk_at chunks c) at) l in
     let n = length_take (chunk_at chunks c) at m in
@@ -245,12 +246,12 @@ pub room_less : {X : Type 0} (s : ℕ) (old new : List (List X)) → 0 < length 
     → room_of s (load_of old) ≤ room_of s (load_of new)
 room_less s old new l m h = rw (load_is old l, load_is new m) (omega (arith, h))
 
-pub room_split : {X : Type 0} (s t : ℕ) (old new : List (List X)) → 0 < length old → 0 < length new → s ≡ t + 1 → excess_of new + 63 ≡ excess_of old
+pub room_split : {X : Type 0} (s t : ℕ) (old new : List (List X)) → 0 < length old → 0 < length new → s ≡ t + 1 → excess_of new + (half_limit - 1) ≡ excess_of old
     → room_of s (load_of old) ≤ room_of t (load_of new) + 1
 room_split s t old new l m p q = rw (load_is old l, load_is new m) (omega (arith, p, q))
 
 -- where a chunk can be split, there is one to spare
-pub no_split : {X : Type 0} (chunks : List (List X)) (c s : ℕ) → c < length chunks → length (chunk_at chunks c) + 1 ≡ 128 → s ≡ 0 → 0 < room_of s (load_of chunks) → ⊥
+pub no_split : {X : Type 0} (chunks : List (List X)) (c s : ℕ) → c < length chunks → length (chunk_at chunks c) + 1 ≡ chunk_limit → s ≡ 0 → 0 < room_of s (load_of chunks) → ⊥
 no_split chunks c s l f z r =
     let e = excess_at chunks c l in
     let k = load_is chunks (omega (arith, l)) in

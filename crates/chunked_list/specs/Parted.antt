@@ -1,5 +1,5 @@
 -- Lists that a test divides, and where.
-use Rattle.std.specs.Prelude.{◌≡◌, ℕ, ◌<◌, List, [], ◌∷◌, ◌⊎◌, Bool, true, false, length, Option, None, Some}
+use Rattle.std.specs.Prelude.{◌≡◌, ℕ, ◌<◌, List, [], ◌∷◌, ◌⊎◌, Bool, true, false, not, ◌&&◌, length, Option, None, Some}
 use Rattle.std.specs.List.{AllByRecursion}
 use Rattle.tree_clock.specs.Lists.{Has}
 use Rattle.chunked_list.specs.Joined.{chunk_at, front_of, back_of}
@@ -23,3 +23,11 @@ pub record IsElement {X : Type 0} (chunks : List (List X)) (chunk at : ℕ) : Ty
 abbrev pub IsFirstOf : {X : Type 0} → (X → Bool) → List X → Option X → Type 0
 IsFirstOf p [] first = first ≡ None
 IsFirstOf p (x ∷ xs) first = ((p x ≡ true) × IsFirstOf p xs first) ⊎ ((p x ≡ false) × (first ≡ Some x))
+
+-- an element that is not in front of the first of two places, and in front of the second
+abbrev pub is_between : {X : Type 0} → (X → Bool) → (X → Bool) → X → Bool
+is_between first second x = not (first x) && second x
+
+-- some element fails the test
+abbrev pub HasFailing : {X : Type 0} → (X → Bool) → List X → Type 0
+HasFailing {X} p xs = (x : X) × Has xs x × (p x ≡ false)

@@ -9,9 +9,8 @@ mod limits;
 mod lists;
 mod places;
 mod searches;
+mod spans;
 mod stores;
-#[cfg(test)]
-mod tests;
 
 pub use bounds::{Bound, Order};
 pub use chunks::Chunk;

@@ -3,7 +3,7 @@ ghost use Rattle.std.specs.Prelude.{◌≡◌, ◌<◌, ◌≤◌, ◌+◌, ◌�
 ghost use Rattle.std.specs.List.{filter};
 ghost use Rattle.std.specs.Option.{option_copied};
 ghost use Rattle.chunked_list.specs.Joined.{joined_chunks};
-ghost use Rattle.chunked_list.specs.Parted.{IsParted, IsFirstOf};
+ghost use Rattle.chunked_list.specs.Parted.{IsParted, IsFirstOf, is_between};
 ghost use Rattle.tree_clock.specs.Lists.{Has, IsAscending};
 
 use crate::bounds::{Bound, Order};
@@ -11,6 +11,7 @@ use crate::chunks::Chunk;
 use crate::filters::filtered_in;
 use crate::places::find;
 use crate::searches::{has_element, insert_in, remove_from};
+use crate::spans::between_in;
 use crate::stores::{Store, build, empty, make_room};
 use std::alloc::{AllocError, Global};
 use std::marker::Model;
@@ -80,6 +81,22 @@ impl<T: Drop> Chunked<T> {
     {
         let place = find(&self.store.chunks, bound)?;
         Some(&self.store.chunks[place.chunk].as_slice()[place.at])
+    }
+
+    /// The elements that aren't before the first bound, and are before the second, in order. It looks at no others but those
+    /// that a search by halves meets.
+    pub fn between<A: Bound<T>, B: Bound<T>>(
+        &self,
+        alloc: Global,
+        first: &A,
+        second: &B,
+    ) -> Result<Vec<&T>, AllocError>
+        requires first { IsParted (A.before first.now) self.now.elements }
+        requires second { IsParted (B.before second.now) self.now.elements }
+        ensures { IfOk result (λ found. map (λ x. x.now) found.items
+            ≡ filter (is_between (A.before first.now) (B.before second.now)) self.now.elements) }
+    {
+        between_in(alloc, &self.store.chunks, first, second)
     }
 
     /// The elements that are before the bound, wherever they stand, in order.

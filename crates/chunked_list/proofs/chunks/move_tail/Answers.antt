@@ -1,4 +1,4 @@
-use Rattle.std.proofs.Common.{◌≡◌, ◌∙◌, ◌≤◌, ◌++◌, ◌∷◌, [], length, sym, ap, arith, refl, rules}
+use Rattle.std.proofs.Common.{◌≡◌, ◌∙◌, ◌++◌, ◌∷◌, [], length, sym, ap, arith, refl}
 use Rattle.std.proofs.lemmas.List.{append-nil}
 use Rattle.chunked_list.proofs.Halving.{moved_more, moved_front, moved_back}
 use Rattle.chunked_list.proofs.chunks.move_tail.Goals as goal

@@ -1,4 +1,4 @@
-use Rattle.std.proofs.Common.{◌≡◌, ◌∙◌, ◌++◌, sym, ap, subst, take, map}
+use Rattle.std.proofs.Common.{◌∙◌, ◌++◌, sym, ap, take}
 use Rattle.std.proofs.lemmas.List.Elements.{filter-append}
 use Rattle.std.specs.List.{filter}
 use Rattle.chunked_list.specs.Joined.{joined_chunks}

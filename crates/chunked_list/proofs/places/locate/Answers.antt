@@ -1,8 +1,8 @@
-use Rattle.std.proofs.Common.{◌≡◌, ◌∙◌, ◌≤◌, ◌-◌, true, false, sym, ap, subst, arith, [], length, rules}
+use Rattle.std.proofs.Common.{◌≡◌, ◌∙◌, true, false, sym, subst, [], rules}
 use Rattle.std.proofs.lemmas.Fn.{always_returns_same}
 use Rattle.std.proofs.lemmas.List.{get_or_default}
 use Rattle.std.specs.List.Sorted.{IsPartitionPoint}
-use Rattle.chunked_list.specs.Joined.{chunk_at, joined_chunks, first_passes}
+use Rattle.chunked_list.specs.Joined.{chunk_at, first_passes}
 use Rattle.chunked_list.specs.Parted.{IsParted}
 use Rattle.chunked_list.proofs.Parting.{heads_parted, partitioned, parted_left, parted_right}
 use Rattle.chunked_list.proofs.Placing.{divides, joined_at}

@@ -1,4 +1,4 @@
-use Rattle.std.proofs.Common.{◌≡◌, ◌∙◌, ◌≤◌, sym, ap, subst, arith, [], length}
+use Rattle.std.proofs.Common.{◌≡◌, ◌∙◌, ◌≤◌, subst, arith, [], length}
 use Rattle.std.proofs.lemmas.List.{get_or_default}
 use Rattle.chunked_list.specs.Joined.{chunk_at}
 use Rattle.chunked_list.proofs.Placing.{all_front, none_front, next_front, next_back}

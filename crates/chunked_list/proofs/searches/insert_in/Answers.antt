@@ -1,8 +1,8 @@
-use Rattle.std.proofs.Common.{◌≡◌, ◌∙◌, ◌++◌, ◌∷◌, sym, ap, subst, arith, [], ◌<◌, max, length, drop, inl, rules, true, false, refl}
+use Rattle.std.proofs.Common.{◌∙◌, sym, subst, ◌<◌, max, length}
 use Rattle.std.proofs.lemmas.Bool.{false≢true}
 use Rattle.std.specs.Ordering.{is_lt}
 use Rattle.chunked_list.specs.Parted.{IsParted, Divides}
-use Rattle.tree_clock.specs.Lists.{Has, IsAscending}
+use Rattle.tree_clock.specs.Lists.{Has}
 use Rattle.chunked_list.specs.Joined.{joined_chunks, front_of, back_of}
 use Rattle.chunked_list.proofs.Parting.{parted_ascending}
 use Rattle.chunked_list.proofs.Standing.{whole_any, put_ascends, put_has}

@@ -1,4 +1,4 @@
-use Rattle.std.proofs.Common.{◌≡◌, ◌∙◌, ◌<◌, sym, subst, length, true}
+use Rattle.std.proofs.Common.{sym, subst}
 use Rattle.std.specs.Ordering.{is_lt}
 use Rattle.tree_clock.specs.Lists.{Has}
 use Rattle.chunked_list.specs.Joined.{joined_chunks, front_of, back_of}

@@ -1,8 +1,4 @@
-use Rattle.std.proofs.Common.{◌≡◌, ◌∙◌, ◌<◌, ◌+◌, sym, ap, subst, arith, [], length, set}
-use Rattle.std.specs.List.{insert}
-use Rattle.chunked_list.specs.Joined.{joined_chunks, chunk_at}
-use Rattle.chunked_list.specs.Room.{excess_of}
-use Rattle.chunked_list.specs.Stores.{AreSized}
+use Rattle.std.proofs.Common.{◌<◌, arith, length}
 use Rattle.chunked_list.proofs.Splitting.{split_count, split_excess, split_sized, split_joined, spare_left}
 use Rattle.chunked_list.proofs.Storing.{count_bound, excess_at, room_split, no_split}
 use Rattle.chunked_list.proofs.stores.put_and_split.Goals as goal

@@ -1,7 +1,6 @@
-use Rattle.std.proofs.Common.{◌≡◌, ◌∙◌, ◌<◌, sym, ap, subst, arith, [], length}
-use Rattle.std.proofs.lemmas.List.{get_or_default, length-set}
-use Rattle.std.specs.List.{insert}
-use Rattle.chunked_list.specs.Joined.{joined_chunks, chunk_at}
+use Rattle.std.proofs.Common.{◌∙◌, ◌<◌, ap, arith, [], length}
+use Rattle.std.proofs.lemmas.List.{get_or_default}
+use Rattle.chunked_list.specs.Joined.{joined_chunks}
 use Rattle.chunked_list.proofs.Storing.{count_bound, excess_bound, excess_at, put_sized, put_excess, put_count, joined_put, room_within}
 use Rattle.chunked_list.proofs.stores.put_within.Goals as goal
 

@@ -1,4 +1,4 @@
-use Rattle.std.proofs.Common.{◌≡◌, ◌∙◌, ◌<◌, sym, ap, subst, arith, length, rules}
+use Rattle.std.proofs.Common.{◌∙◌, ◌<◌, sym, ap, subst, arith, length, rules}
 use Rattle.chunked_list.specs.Joined.{joined_chunks}
 use Rattle.chunked_list.specs.Stores.{AreSized}
 use Rattle.chunked_list.specs.Room.{excess_of}

@@ -1,7 +1,7 @@
-use Rattle.std.proofs.Common.{◌≡◌, ◌∙◌, ◌<◌, sym, ap, subst, arith, [], length}
+use Rattle.std.proofs.Common.{◌∙◌, ◌<◌, ap, arith, [], length}
 use Rattle.std.proofs.lemmas.List.{get_or_default}
-use Rattle.chunked_list.specs.Joined.{joined_chunks, chunk_at}
-use Rattle.chunked_list.proofs.Storing.{count_at, excess_bound, excess_at, take_sized, take_excess, take_count, joined_take, back_first, room_less}
+use Rattle.chunked_list.specs.Joined.{joined_chunks}
+use Rattle.chunked_list.proofs.Storing.{count_at, excess_at, take_sized, take_excess, take_count, joined_take, back_first, room_less}
 use Rattle.chunked_list.proofs.stores.take_within.Goals as goal
 
 pub overflow_sub-store : goal.overflow_sub-store

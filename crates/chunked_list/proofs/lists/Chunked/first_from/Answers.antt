@@ -1,6 +1,5 @@
-use Rattle.std.proofs.Common.{◌≡◌, ◌∙◌, ◌<◌, ◌++◌, [], sym, subst, ap, length, true, false, get_or, inl, refl, drop, None, Some}
+use Rattle.std.proofs.Common.{◌≡◌, ◌∙◌, ◌++◌, [], sym, subst, ap, true, get_or, inl, refl, drop, None, Some}
 use Rattle.std.proofs.lemmas.List.{get_or_default}
-use Rattle.std.specs.Option.{option_copied}
 use Rattle.tree_clock.specs.Lists.{Has}
 use Rattle.chunked_list.specs.Joined.{joined_chunks, front_of, back_of}
 use Rattle.chunked_list.specs.Parted.{Divides, IsElement, IsFirstOf}

@@ -1,0 +1,88 @@
+//! The elements of a list in chunks between two bounds.
+ghost use Rattle.std.specs.Prelude.{◌≡◌, ◌++◌, false, map, IfOk, OnOk};
+ghost use Rattle.std.specs.List.{filter};
+ghost use Rattle.chunked_list.specs.Joined.{joined_chunks, back_of};
+ghost use Rattle.chunked_list.specs.Parted.{IsParted, IsElement, HasFailing, is_between};
+ghost use Rattle.chunked_list.specs.Stores.{AreSized};
+
+use crate::bounds::Bound;
+use crate::chunks::Chunk;
+use crate::places::{Place, find};
+use std::alloc::{AllocError, Global};
+
+/// The elements that aren't before the first bound, and are before the second, in order.
+pub(crate) fn between_in<'a, T: Drop, A: Bound<T>, B: Bound<T>>(
+    alloc: Global,
+    chunks: &'a [Chunk<T>],
+    first: &A,
+    second: &B,
+) -> Result<Vec<&'a T>, AllocError>
+    requires sized { AreSized chunks.now }
+    requires first { IsParted (A.before first.now) (joined_chunks chunks.now) }
+    requires second { IsParted (B.before second.now) (joined_chunks chunks.now) }
+    ensures { IfOk result (λ found. map (λ x. x.now) found.items
+        ≡ filter (is_between (A.before first.now) (B.before second.now)) (joined_chunks chunks.now)) }
+{
+    let mut found = Vec::new(alloc);
+    if let Some(place) = find(chunks, first) {
+        add_from(&mut found, chunks, place, second)?;
+    }
+    Ok(found)
+}
+
+// Adds the elements from a place on, as long as they are before the bound.
+fn add_from<'a, T: Drop, B: Bound<T>>(
+    found: &mut Vec<&'a T>,
+    chunks: &'a [Chunk<T>],
+    place: Place,
+    bound: &B,
+) -> Result<(), AllocError>
+    requires element { IsElement chunks.now place.chunk place.at }
+    requires parted { IsParted (B.before bound.now) (back_of chunks.now place.chunk place.at) }
+    ensures { OnOk result (map (λ x. x.now) found.new.items
+        ≡ map (λ x. x.now) found.old.items ++ filter (B.before bound.now) (back_of chunks.now place.chunk place.at)) }
+{
+    let rest = &chunks[place.chunk].as_slice()[place.at..];
+    if add_elements(found, rest, bound)? {
+        return add_chunks(found, &chunks[place.chunk + 1..], bound);
+    }
+    Ok(())
+}
+
+// Adds the elements of chunks, as long as they are before the bound.
+fn add_chunks<'a, T: Drop, B: Bound<T>>(
+    found: &mut Vec<&'a T>,
+    chunks: &'a [Chunk<T>],
+    bound: &B,
+) -> Result<(), AllocError>
+    requires { IsParted (B.before bound.now) (joined_chunks chunks.now) }
+    ensures { OnOk result (map (λ x. x.now) found.new.items
+        ≡ map (λ x. x.now) found.old.items ++ filter (B.before bound.now) (joined_chunks chunks.now)) }
+{
+    for chunk in chunks {
+        if !add_elements(found, chunk.as_slice(), bound)? {
+            return Ok(());
+        }
+    }
+    Ok(())
+}
+
+// Adds the elements, as long as they are before the bound, and tells whether all are.
+fn add_elements<'a, T: Drop, B: Bound<T>>(
+    found: &mut Vec<&'a T>,
+    elements: &'a [T],
+    bound: &B,
+) -> Result<bool, AllocError>
+    requires { IsParted (B.before bound.now) elements.now }
+    ensures items { OnOk result (map (λ x. x.now) found.new.items
+        ≡ map (λ x. x.now) found.old.items ++ filter (B.before bound.now) elements.now) }
+    ensures ended { IfOk result (λ all. all ≡ false → HasFailing (B.before bound.now) elements.now) }
+{
+    for element in elements {
+        if !bound.is_before(element) {
+            return Ok(false);
+        }
+        found.push(element)?;
+    }
+    Ok(true)
+}
