@@ -1,22 +1,23 @@
 -- The first pair of an ascending list that isn't before a triple.
 use Rattle.std.proofs.Common.{◌≡◌, ◌∙◌, List, [], ◌∷◌, Bool, true, false, Option, None, Some, IsTrue, ◌↔◌, ◌⊎◌, refl, sym, subst, ap, inl, inr}
-use Rattle.std.proofs.lemmas.Bool.{cases_Bool, true≢false, false≢true}
+use Rattle.std.proofs.lemmas.Bool.{true≢false, false≢true}
 use Rattle.std.proofs.lemmas.Cmp.{tied_itself}
-use Rattle.std.specs.List.{AllByRecursion}
-use Rattle.std.specs.Ordering.{is_lt, is_eq, eq_by_cmp, ordering_then}
+use Rattle.std.proofs.lemmas.List.Elements.{filter_agree}
+use Rattle.std.specs.List.{filter}
+use Rattle.std.specs.Ordering.{is_lt, is_le, is_eq, eq_by_cmp, ordering_then}
 use Rattle.std.specs.declared.cmp.Ordering.{Ordering}
 use Rattle.std.specs.declared.cmp.Ordering.TheVariants.{Less, Equal, Greater}
 use Rattle.rdf_terms.specs.declared.terms.Triple.{Triple}
 use Rattle.rdf_terms.specs.Order.{triple_cmp}
 use Rattle.rdf_terms.specs.OrderLaws.{triple_total, triple_exact}
-use Rattle.tree_clock.specs.declared.dots.Dot.{Dot}
 use Rattle.tree_clock.specs.Dot.{dot_cmp}
 use Rattle.tree_clock.specs.Lists.{Has, IsAscending}
 use Rattle.mld_ops.specs.declared.tagged.Tagged.{Tagged}
 use Rattle.mld_ops.specs.Tagged.{tagged_cmp}
 use Rattle.mld_ops.proofs.AscendingLaws.{below_member}
-use Rattle.chunked_list.specs.Parted.{IsParted, IsFirstOf}
-use Rattle.graph_index.specs.Matching.{HasTriple}
+use Rattle.chunked_list.specs.Parted.{IsParted, IsFirstOf, is_between}
+use Rattle.graph_index.specs.Matching.{is_of, HasTriple}
+use Rattle.graph_index.proofs.Keys.{parted_before, parted_up_to, equal_between}
 
 -- whether a pair is before the pairs with the triple
 abbrev pub is_before : Triple → Tagged → Bool
@@ -35,23 +36,15 @@ then_cases Greater q h = cc
 not_itself : (triple : Triple) → is_lt (triple_cmp triple triple) ≡ true → ⊥
 not_itself triple h = false≢true (sym (ap is_lt (tied_itself triple_total triple)) ∙ h)
 
--- a pair behind one that isn't before the triple isn't either
-not_before : (triple : Triple) (x y : Tagged) → tagged_cmp x y ≡ Less → is_before triple x ≡ false → is_before triple y ≡ false
-not_before triple x y l f = elim (cases_Bool (is_before triple y)) [
-  | inl t ↦ elim (then_cases (triple_cmp x.triple y.triple) (dot_cmp x.dot y.dot) l) [
-    | inl e ↦ absurd (true≢false (sym (ap is_lt (triple_total.trans x.triple y.triple triple e (lower (triple_cmp y.triple triple) t))) ∙ f))
-    | inr e ↦ absurd (true≢false (sym (ap (λ w. is_lt (triple_cmp w triple)) (triple_exact x.triple y.triple e) ∙ t) ∙ f))
-  ]
-  | inr e ↦ e
-]
+-- the pairs with the triple stand together
+pub before_triple : (triple : Triple) (xs : List Tagged) → IsAscending tagged_cmp xs → IsParted (is_before triple) xs
+before_triple = parted_before triple_cmp triple_total (λ pair. pair.triple) (λ x y. then_cases (triple_cmp x.triple y.triple) (dot_cmp x.dot y.dot))
 
-all_not : (triple : Triple) (x : Tagged) (ys : List Tagged) → ((y : Tagged) → Has ys y → tagged_cmp x y ≡ Less) → is_before triple x ≡ false → AllByRecursion (λ y. is_before triple y ≡ false) ys
-all_not triple x [] h f = tt
-all_not triple x (y ∷ ys) h f = (not_before triple x y (h y (inl refl)) f, all_not triple x ys (λ z k. h z (inr k)) f)
+pub up_to_triple : (triple : Triple) (xs : List Tagged) → IsAscending tagged_cmp xs → IsParted (λ pair. is_le (triple_cmp pair.triple triple)) xs
+up_to_triple = parted_up_to triple_cmp triple_total (λ pair. pair.triple) (λ x y. then_cases (triple_cmp x.triple y.triple) (dot_cmp x.dot y.dot))
 
-pub parted_by_triple : (triple : Triple) (xs : List Tagged) → IsAscending tagged_cmp xs → IsParted (is_before triple) xs
-parted_by_triple triple [] a = tt
-parted_by_triple triple (x ∷ xs) a = (λ f. all_not triple x xs (λ y k. below_member tagged_cmp x xs y a.0 k) f, parted_by_triple triple xs a.1)
+pub with_triple_between : (triple : Triple) (xs : List Tagged) → filter (is_between (is_before triple) (λ pair. is_le (triple_cmp pair.triple triple))) xs ≡ filter (is_of triple) xs
+with_triple_between triple = filter_agree (is_between (is_before triple) (λ pair. is_le (triple_cmp pair.triple triple))) (is_of triple) (λ x. equal_between triple_cmp triple_total x.triple triple)
 
 -- the first one that isn't before the triple has it, where some pair does
 pub first_has : (triple : Triple) (xs : List Tagged) (first : Option Tagged) → IsAscending tagged_cmp xs → IsFirstOf (is_before triple) xs first

@@ -1,3 +1,4 @@
 pub mod Changing
 pub mod Finding
+pub mod Keys
 pub mod Ranging

@@ -1,5 +1,5 @@
 -- Which pairs match, by the parts of their triples, and which have a triple.
-use Rattle.std.specs.Prelude.{◌≡◌, ℕ, List, Bool, true, ◌&&◌, nat_eq, nat_le, Option, None, Some, map}
+use Rattle.std.specs.Prelude.{ℕ, List, Bool, true, ◌&&◌, nat_eq, nat_le, Option, None, Some, map}
 use Rattle.std.specs.Cmp.Lexicographic.{pointwise}
 use Rattle.std.specs.List.{filter}
 use Rattle.std.specs.Ordering.{eq_by_cmp}

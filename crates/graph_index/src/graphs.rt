@@ -10,7 +10,7 @@ ghost use Rattle.tree_clock.specs.Lists.{IsAscending};
 
 use crate::changes::apply_to;
 use crate::copies::{copy_chunks, copy_found, dots_found};
-use crate::matching::{BeforeTriple, Matching, OfRange, OfTriple};
+use crate::matching::{BeforeTriple, Matching, OfRange, UpToTriple};
 use crate::pair_order::PairOrder;
 use crate::steps::Steps;
 use chunked_list::{Chunk, Chunked};
@@ -128,16 +128,24 @@ impl Graph {
     pub fn of_triple(&self, alloc: Global, triple: &Triple) -> Result<Vec<Tagged>, AllocError>
         ensures { IfOk result (λ list. list.items ≡ filter (is_of triple.now) self.now.elements) }
     {
-        let found = self.pairs.filtered(alloc, &OfTriple { triple })?;
-        copy_found(alloc, &found)
+        let pairs = self.with_triple(alloc, triple)?;
+        copy_found(alloc, &pairs)
     }
 
     /// The dots of the pairs with the triple, ascending.
     pub fn tags_of(&self, alloc: Global, triple: &Triple) -> Result<Vec<Dot>, AllocError>
         ensures { IfOk result (λ dots. dots.items ≡ dots_of triple.now self.now.elements) }
     {
-        let found = self.pairs.filtered(alloc, &OfTriple { triple })?;
-        dots_found(alloc, &found)
+        let pairs = self.with_triple(alloc, triple)?;
+        dots_found(alloc, &pairs)
+    }
+
+    // The pairs with the triple, ascending. It looks at no others but those that a search by halves meets.
+    fn with_triple(&self, alloc: Global, triple: &Triple) -> Result<Vec<&Tagged>, AllocError>
+        ensures { IfOk result (λ found. map (λ x. x.now) found.items ≡ filter (is_of triple.now) self.now.elements) }
+    {
+        self.pairs
+            .between(alloc, &BeforeTriple { triple }, &UpToTriple { triple })
     }
 }
 

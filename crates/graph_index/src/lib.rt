@@ -7,8 +7,6 @@ mod graphs;
 mod matching;
 mod pair_order;
 mod steps;
-#[cfg(test)]
-mod tests;
 
 pub use graphs::Graph;
 pub use steps::Steps;

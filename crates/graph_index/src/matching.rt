@@ -66,19 +66,20 @@ impl<'a> Bound<Tagged> for BeforeTriple<'a> {
     }
 }
 
-/// The pairs with the triple.
+/// The place behind the pairs with the triple.
 #[derive(Drop)]
-pub(crate) struct OfTriple<'a> {
+pub(crate) struct UpToTriple<'a> {
     pub(crate) triple: &'a Triple,
 }
 
-impl<'a> Bound<Tagged> for OfTriple<'a> {
-    ghost use Rattle.graph_index.specs.Matching.{is_of};
+impl<'a> Bound<Tagged> for UpToTriple<'a> {
+    ghost use Rattle.std.specs.Ordering.{is_le};
+    ghost use Rattle.rdf_terms.specs.Order.{triple_cmp};
 
-    ghost before = { λ given pair. is_of given.triple.now pair };
+    ghost before = { λ place pair. is_le (triple_cmp pair.triple place.triple.now) };
 
     fn is_before(&self, pair: &Tagged) -> bool {
-        *self.triple == pair.triple
+        pair.triple.cmp(self.triple).is_le()
     }
 }
 

@@ -1,4 +1,4 @@
-use Rattle.std.proofs.Common.{◌≡◌, ◌∙◌, ◌++◌, sym, ap, take}
+use Rattle.std.proofs.Common.{◌∙◌, ◌++◌, sym, ap, take}
 use Rattle.chunked_list.specs.Joined.{joined_chunks}
 use Rattle.chunked_list.proofs.JoinedLaws.{joined_more}
 use Rattle.graph_index.proofs.copies.copy_chunks.Goals as goal

@@ -1,4 +1,4 @@
-use Rattle.std.proofs.Common.{◌≡◌, ◌∙◌, List, IfOk, map, subst, sym, ap}
+use Rattle.std.proofs.Common.{◌∙◌, List, IfOk, map, subst, ap}
 use Rattle.mld_ops.specs.Applies.{IsOfRange}
 use Rattle.mld_ops.specs.declared.tagged.Tagged.{Tagged}
 use Rattle.graph_index.proofs.Ranging.{of_range, ok_weaker}
