@@ -1,0 +1,238 @@
+ghost use Rattle.std.specs.Ordering.{nat_cmp};
+ghost use Rattle.tree_clock.specs.Lists.{IsAscending};
+
+use chunked_list::{Bound, Chunked, Order};
+use std::alloc::Global;
+use std::cmp::Ordering;
+use std::test::Fail;
+
+// Numbers by size.
+struct BySize;
+
+impl Order<u32> for BySize {
+    ghost use Rattle.std.specs.Ordering.{nat_cmp};
+    ghost use Rattle.std.proofs.lemmas.Cmp.{nat_cmp_total};
+    ghost use Rattle.std.proofs.lemmas.Map.Lookups.{exact_unsigned};
+
+    ghost order = { λ _. nat_cmp };
+
+    ghost total = { λ _. nat_cmp_total };
+
+    ghost exact = { λ _. exact_unsigned };
+
+    fn compare(&self, a: &u32, b: &u32) -> Ordering {
+        a.cmp(b)
+    }
+}
+
+// The place of a number.
+#[derive(Clone, Copy)]
+struct Under {
+    number: u32,
+}
+
+impl Bound<u32> for Under {
+    ghost use Rattle.std.specs.Ordering.{is_lt, nat_cmp};
+
+    ghost before = { λ place number. is_lt (nat_cmp number place.number) };
+
+    fn is_before(&self, number: &u32) -> bool {
+        number.cmp(&self.number).is_lt()
+    }
+}
+
+// Puts so many numbers in, each so much above the one before it.
+fn fill(alloc: Global, list: &mut Chunked<u32>, from: u32, step: u32, count: u32) -> bool
+    requires { IsAscending nat_cmp list.old.elements }
+    ensures { IsAscending nat_cmp list.new.elements }
+{
+    let mut number = from;
+    for _ in 0..count {
+        if list.prepare(alloc, 1).is_err() {
+            return false;
+        }
+        list.insert(&BySize, number);
+        number = number.saturating_add(step);
+    }
+    true
+}
+
+// Takes the numbers from a first to a last out.
+fn cut_out(list: &mut Chunked<u32>, first: u32, last: u32)
+    requires { IsAscending nat_cmp list.old.elements }
+    ensures { IsAscending nat_cmp list.new.elements }
+{
+    for number in first..last {
+        list.remove(&BySize, &number);
+    }
+}
+
+// Whether there are so many chunks, and that one has so many elements from a first to a last.
+fn has_chunk(
+    list: &Chunked<u32>,
+    chunks: usize,
+    at: usize,
+    (first, last): (u32, u32),
+    count: usize,
+) -> bool {
+    if list.chunks().len() != chunks {
+        return false;
+    }
+    let Some(chunk) = list.chunks().get(at) else {
+        return false;
+    };
+    let found = chunk.as_slice();
+    found.len() == count && found.first() == Some(&first) && found.last() == Some(&last)
+}
+
+// Whether the elements are all numbers from 0 to one that is too large.
+fn has_all(list: &Chunked<u32>, end: u32) -> bool {
+    let mut next = 0_u32;
+    for chunk in list.chunks() {
+        for number in chunk.as_slice() {
+            if *number != next {
+                return false;
+            }
+            next = next.saturating_add(1);
+        }
+    }
+    next == end && list.len() == end as usize
+}
+
+#[test]
+fn chunks_split_at_their_limit(rt: HostRuntime) -> Result<(), Fail> {
+    let alloc = rt.alloc();
+    let mut list = Box::new(alloc, Chunked::new(alloc))?;
+    assert!(rt; fill(alloc, &mut list, 0, 2, 127) && has_chunk(&list, 1, 0, (0, 252), 127));
+    assert!(rt; fill(alloc, &mut list, 254, 2, 1) && has_chunk(&list, 2, 1, (128, 254), 64));
+    assert!(rt; fill(alloc, &mut list, 256, 2, 1) && has_chunk(&list, 2, 1, (128, 256), 65));
+    // The even numbers below 500, then the odd ones.
+    assert!(rt; fill(alloc, &mut list, 258, 2, 121) && has_chunk(&list, 3, 2, (256, 498), 122));
+    assert!(rt; fill(alloc, &mut list, 1, 2, 250) && has_chunk(&list, 7, 4, (256, 371), 116));
+    assert!(rt; has_all(&list, 500) && fill(alloc, &mut list, 0, 7, 70) && has_all(&list, 500));
+    assert!(rt; loses_a_chunk(&mut list));
+    Ok(())
+}
+
+// The numbers of the second of seven chunks are taken out of all numbers below 500.
+fn loses_a_chunk(list: &mut Chunked<u32>) -> bool
+    requires { IsAscending nat_cmp list.old.elements }
+{
+    cut_out(list, 64, 128);
+    list.len() == 436
+        && has_chunk(list, 6, 1, (128, 191), 64)
+        && list.contains(&BySize, &63)
+        && !list.contains(&BySize, &64)
+        && !list.contains(&BySize, &127)
+        && list.contains(&BySize, &128)
+}
+
+#[test]
+fn lists_of_vectors(rt: HostRuntime) -> Result<(), Fail> {
+    let alloc = rt.alloc();
+    let mut numbers = Vec::new(alloc);
+    numbers.extend(0..300)?;
+    let list = Box::new(alloc, Chunked::from_vec(alloc, numbers)?)?;
+    assert!(rt; has_all(&list, 300) && !list.is_empty());
+    assert!(rt; list.filtered(alloc, &Under { number: 130 })?.len() == 130);
+    Ok(())
+}
+
+// The list of the numbers from 0 to one that is too large.
+fn numbers_to(alloc: Global, end: u32) -> Result<Chunked<u32>, Fail> {
+    let mut numbers = Vec::new(alloc);
+    numbers.extend(0..end)?;
+    Ok(Chunked::from_vec(alloc, numbers)?)
+}
+
+#[test]
+fn lists_of_vectors_about_the_limit(rt: HostRuntime) -> Result<(), Fail> {
+    let alloc = rt.alloc();
+    let none = Box::new(alloc, numbers_to(alloc, 0)?)?;
+    assert!(rt; has_all(&none, 0) && none.is_empty() && none.chunks().is_empty());
+    let full = Box::new(alloc, numbers_to(alloc, 127)?)?;
+    assert!(rt; has_all(&full, 127) && has_chunk(&full, 1, 0, (0, 126), 127));
+    let split = Box::new(alloc, numbers_to(alloc, 128)?)?;
+    assert!(rt; has_all(&split, 128) && has_chunk(&split, 2, 0, (0, 63), 64));
+    assert!(rt; has_chunk(&split, 2, 1, (64, 127), 64));
+    let more = Box::new(alloc, numbers_to(alloc, 129)?)?;
+    assert!(rt; has_all(&more, 129) && has_chunk(&more, 2, 1, (64, 128), 65));
+    Ok(())
+}
+
+#[test]
+fn a_chunk_splits_at_its_first_and_last_place(rt: HostRuntime) -> Result<(), Fail> {
+    let alloc = rt.alloc();
+    let mut list = Box::new(alloc, Chunked::new(alloc))?;
+    assert!(rt; fill(alloc, &mut list, 1, 1, 127) && has_chunk(&list, 1, 0, (1, 127), 127));
+    assert!(rt; fill(alloc, &mut list, 0, 1, 1) && has_all(&list, 128));
+    assert!(rt; has_chunk(&list, 2, 0, (0, 63), 64) && has_chunk(&list, 2, 1, (64, 127), 64));
+    // The second one is filled, and gets a last element that splits it.
+    assert!(rt; fill(alloc, &mut list, 128, 1, 63) && has_chunk(&list, 2, 1, (64, 190), 127));
+    assert!(rt; fill(alloc, &mut list, 191, 1, 1) && has_all(&list, 192));
+    assert!(rt; has_chunk(&list, 3, 1, (64, 127), 64) && has_chunk(&list, 3, 2, (128, 191), 64));
+    Ok(())
+}
+
+#[test]
+fn a_chunk_goes_with_its_last_element(rt: HostRuntime) -> Result<(), Fail> {
+    let alloc = rt.alloc();
+    let mut list = Box::new(alloc, Chunked::new(alloc))?;
+    assert!(rt; fill(alloc, &mut list, 0, 1, 192));
+    // The last element of a chunk goes, and comes back to its end.
+    cut_out(&mut list, 63, 64);
+    assert!(rt; has_chunk(&list, 3, 0, (0, 62), 63) && !list.contains(&BySize, &63));
+    assert!(rt; fill(alloc, &mut list, 63, 1, 1) && has_chunk(&list, 3, 0, (0, 63), 64));
+    // All elements of the chunk in the middle go, and then those on both sides.
+    cut_out(&mut list, 64, 128);
+    assert!(rt; has_chunk(&list, 2, 1, (128, 191), 64) && list.len() == 128);
+    cut_out(&mut list, 0, 192);
+    assert!(rt; has_all(&list, 0) && list.is_empty() && list.chunks().is_empty());
+    assert!(rt; fill(alloc, &mut list, 0, 1, 1) && has_chunk(&list, 1, 0, (0, 0), 1));
+    Ok(())
+}
+
+// Whether the numbers of a list from the first to the second, which is not among them, are these.
+fn has_between(
+    alloc: Global,
+    list: &Chunked<u32>,
+    places: (u32, u32),
+    wanted: &[u32],
+) -> Result<bool, Fail>
+    requires { IsAscending nat_cmp list.now.elements }
+{
+    let first = Under { number: places.0 };
+    let second = Under { number: places.1 };
+    let found = list.between(alloc, &first, &second)?;
+    Ok(are_same(&found, wanted))
+}
+
+fn are_same(found: &[&u32], wanted: &[u32]) -> bool {
+    if found.len() != wanted.len() {
+        return false;
+    }
+    for (number, other) in found.iter().zip(wanted) {
+        if **number != *other {
+            return false;
+        }
+    }
+    true
+}
+
+// The even numbers from 0 to 398 stand in three chunks, of which the first two have 64 of them.
+#[test]
+fn elements_between_two_places(rt: HostRuntime) -> Result<(), Fail> {
+    let alloc = rt.alloc();
+    let mut list = Box::new(alloc, Chunked::new(alloc))?;
+    assert!(rt; fill(alloc, &mut list, 0, 2, 200) && has_chunk(&list, 3, 0, (0, 126), 64));
+    assert!(rt; has_chunk(&list, 3, 1, (128, 254), 64));
+    assert!(rt; has_between(alloc, &list, (124, 131), &[124, 126, 128, 130])?);
+    assert!(rt; has_between(alloc, &list, (127, 129), &[128])?);
+    assert!(rt; has_between(alloc, &list, (125, 127), &[126])?);
+    assert!(rt; has_between(alloc, &list, (127, 127), &[])?);
+    assert!(rt; has_between(alloc, &list, (5, 3), &[])?);
+    assert!(rt; has_between(alloc, &list, (0, 1), &[0])?);
+    assert!(rt; has_between(alloc, &list, (396, 1000), &[396, 398])?);
+    assert!(rt; has_between(alloc, &list, (399, 1000), &[])?);
+    Ok(())
+}
