@@ -42,14 +42,14 @@ decide_more R total exact y x xs Greater is (inr n) = inr (λ h. elim h [ inl sa
     differs : y ≡ x → ⊥
     differs same = let tied : R y x ≡ Equal = ap (λ z. R z x) same ∙ tied_itself total x in cc
 
-has_or_not : {X : Type 0} (R : X → X → Ordering) → IsTotalOrder R → CmpEqualImpliesEq R → (xs : List X) (x : X) → Has xs x ⊎ (¬ Has xs x)
+pub has_or_not : {X : Type 0} (R : X → X → Ordering) → IsTotalOrder R → CmpEqualImpliesEq R → (xs : List X) (x : X) → Has xs x ⊎ (¬ Has xs x)
 has_or_not R total exact [] x = inr (λ h. h)
 has_or_not R total exact (y ∷ xs) x = decide_more R total exact y x xs (R y x) refl (has_or_not R total exact xs x)
 
 -- ---- the parts of entries
 
 -- a delete at the entry's own path has a tick before its range
-deletes_before : (entry : EntryValue) (pair : Tagged) → IsEntry entry → Has entry.deletes pair → pair.dot.path ≡ entry.range.path → pair.dot.tick < entry.range.first
+pub deletes_before : (entry : EntryValue) (pair : Tagged) → IsEntry entry → Has entry.deletes pair → pair.dot.path ≡ entry.range.path → pair.dot.tick < entry.range.first
 deletes_before entry pair is d path =
     let covered : Covers entry.time pair.dot = of_member (λ (other : Tagged). Covers entry.time other.dot) entry.deletes pair is.deletes_covered d in
     let outside : ¬ IsIn entry.range pair.dot = of_member (λ (other : Tagged). ¬ IsIn entry.range other.dot) entry.deletes pair is.deletes_outside d in

@@ -22,16 +22,16 @@ use Rattle.op_fusion.proofs.Ticks.{tick_positive, earlier_is_cause, causes_grow}
 
 -- two fused entries of the same two have the same parts
 pub one_fused : OneFused
-one_fused first second one other f g = (
-  f.range ∙ sym g.range,
-  same_ascending insert_cmp insert_total insert_exact one.inserts other.inserts f.inserts_ascend g.inserts_ascend
+one_fused first second one other f g = record {
+  range = f.range ∙ sym g.range;
+  inserts = same_ascending insert_cmp insert_total insert_exact one.inserts other.inserts f.inserts_ascend g.inserts_ascend
       (λ insert h. (g.inserts insert.0 insert.1).1 ((f.inserts insert.0 insert.1).0 h))
-      (λ insert h. (f.inserts insert.0 insert.1).1 ((g.inserts insert.0 insert.1).0 h)),
-  same_ascending tagged_cmp tagged_total tagged_exact one.deletes other.deletes f.deletes_ascend g.deletes_ascend
+      (λ insert h. (f.inserts insert.0 insert.1).1 ((g.inserts insert.0 insert.1).0 h));
+  deletes = same_ascending tagged_cmp tagged_total tagged_exact one.deletes other.deletes f.deletes_ascend g.deletes_ascend
       (λ pair h. (g.deletes pair).1 ((f.deletes pair).0 h))
-      (λ pair h. (f.deletes pair).1 ((g.deletes pair).0 h)),
-  λ path. f.time path ∙ sym (g.time path),
-)
+      (λ pair h. (f.deletes pair).1 ((g.deletes pair).0 h));
+  time = λ path. f.time path ∙ sym (g.time path);
+}
 
 both_iff : {A B C : Type 0} → A ↔ B → B ↔ C → A ↔ C
 both_iff f g = (λ a. g.0 (f.0 a), λ c. f.1 (g.1 c))
@@ -45,10 +45,10 @@ module _ (left right : Range) (near : AreNeighbours left right) where
   pub in_right : (dot : Dot) → IsIn right dot → IsIn (joined left right) dot
   in_right dot i = record { path = i.path ∙ sym near.path; above = omega (arith, i.above); below = i.below }
 
-  from_right : (dot : Dot) → IsIn (joined left right) dot → right.first ≤ dot.tick → IsIn right dot
+  pub from_right : (dot : Dot) → IsIn (joined left right) dot → right.first ≤ dot.tick → IsIn right dot
   from_right dot i from = record { path = i.path ∙ near.path; above = from; below = i.below }
 
-  before_right : (dot : Dot) → IsIn (joined left right) dot → dot.tick < right.first → IsIn left dot
+  pub before_right : (dot : Dot) → IsIn (joined left right) dot → dot.tick < right.first → IsIn left dot
   before_right dot i early = record { path = i.path; above = omega (arith, i.above, early); below = omega (arith, early, near.joins) }
 
   pub in_either : (dot : Dot) → IsIn (joined left right) dot → IsIn left dot ⊎ IsIn right dot

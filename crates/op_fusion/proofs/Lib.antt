@@ -8,6 +8,8 @@ pub mod Sifting
 pub mod Merging
 pub mod Staying
 pub mod Adding
-pub mod Compacted
+pub mod Runs
 pub mod FusedCuts
+pub mod FusedOnce
+pub mod Rows
 pub mod Applied

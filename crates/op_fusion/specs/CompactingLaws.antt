@@ -8,11 +8,17 @@ use Rattle.mld_ops.specs.Held.{ranges_of}
 use Rattle.mld_ops.specs.Cut.{IsCutOf}
 use Rattle.mld_ops.specs.Ready.{last_dot, IsReadyEntry}
 use Rattle.op_fusion.specs.Fusion.{AreNeighbours, Fused}
-use Rattle.op_fusion.specs.Compacting.{AreCompacted, AreFusedRuns}
+use Rattle.op_fusion.specs.FusionLaws.{AreOneEntry}
+use Rattle.op_fusion.specs.Compacting.{AreCompacted, IsFusedRun, AreFusedRuns}
 
 -- entries that are compacted have compacted ranges
 abbrev pub FusedRunsAreCompacted : Type 0
 FusedRunsAreCompacted = (entries compacted : List EntryValue) → AreFusedRuns entries compacted → AreCompacted (ranges_of entries) (ranges_of compacted)
+
+-- entries are fused to one entry at most, whatever the grouping: from the left, or by halves
+abbrev pub OneFusedRun : Type 0
+OneFusedRun = (entries : List EntryValue) (one other : EntryValue) → ((entry : EntryValue) → Has entries entry → IsEntry entry)
+    → IsFusedRun entries one → IsFusedRun entries other → AreOneEntry one other
 
 -- what is fused of two entries is an entry
 abbrev pub FusedIsEntry : Type 0

@@ -16,11 +16,16 @@ use Rattle.op_fusion.specs.Fusion.{AreNeighbours, joined, Fused}
 use Rattle.mld_ops.specs.Applies.{Applies}
 use Rattle.op_fusion.specs.Cutting.{AreCuts, AreCutsBehind}
 
--- two entries have one fused entry at most, but for the list that its clock is
+-- the entries are one, but for the list that its clock is
+pub record AreOneEntry (one other : EntryValue) : Type 0 where
+  pub range : one.range ≡ other.range
+  pub inserts : one.inserts ≡ other.inserts
+  pub deletes : one.deletes ≡ other.deletes
+  pub time : (path : List ℕ) → ticks_of one.time path ≡ ticks_of other.time path
+
+-- two entries have one fused entry at most
 abbrev pub OneFused : Type 0
-OneFused = (first second one other : EntryValue) → Fused first second one → Fused first second other
-    → (one.range ≡ other.range) × (one.inserts ≡ other.inserts) × (one.deletes ≡ other.deletes)
-    × ((path : List ℕ) → ticks_of one.time path ≡ ticks_of other.time path)
+OneFused = (first second one other : EntryValue) → Fused first second one → Fused first second other → AreOneEntry one other
 
 -- the fused entry of the net effects of two ranges, which may overlap, is the net effect of the range of both
 abbrev pub FusedNetsAreNet : Type 0

@@ -29,15 +29,15 @@ pub fn fuse(alloc: Global, first: &Entry, second: &Entry) -> Result<Entry, FuseF
     Ok(fuse_neighbours(alloc, first, second)?)
 }
 
-// Whether the ranges may be fused.
-fn are_neighbours(first: &Range, second: &Range) -> bool
+/// Whether the ranges may be fused.
+pub fn are_neighbours(first: &Range, second: &Range) -> bool
     ensures { IsTrue result ↔ fusion.AreNeighbours first.now second.now }
 {
     first.path == second.path && first.last < second.last && second.first <= first.last + 1
 }
 
-// The entry of both ranges.
-fn fuse_neighbours(alloc: Global, first: &Entry, second: &Entry) -> Result<Entry, AllocError>
+/// The entry of both ranges, which are neighbours.
+pub fn fuse_neighbours(alloc: Global, first: &Entry, second: &Entry) -> Result<Entry, AllocError>
     requires { fusion.AreNeighbours first.now.range second.now.range }
     ensures { IfOk result (λ fused. fusion.Fused first.now second.now fused) }
 {

@@ -1,6 +1,6 @@
 //! The laws of fused entries and of cuts, for all lawful histories. These functions do nothing: their clauses are the laws.
 ghost use Rattle.op_fusion.specs.FusionLaws.{OneFused, FusedNetsAreNet, FusedTimeIsSecond, TakenIsClosed, TakenIsMeaning, CutDropsPresent, CutIsApplied, CutBehindIsApplied};
-ghost use Rattle.op_fusion.specs.CompactingLaws.{FusedRunsAreCompacted, FusedIsEntry, FusedIsReady, FusedRaisesBoth, FusedCutsBoth};
+ghost use Rattle.op_fusion.specs.CompactingLaws.{FusedRunsAreCompacted, OneFusedRun, FusedIsEntry, FusedIsReady, FusedRaisesBoth, FusedCutsBoth};
 
 /// What a fused entry is. Two entries have one. That of the net effects of two ranges which meet or overlap is the net
 /// effect of the range of both, and its time is the second's.
@@ -25,11 +25,13 @@ pub fn cut_pairs()
     ensures behind { CutBehindIsApplied }
 {}
 
-/// What compacting entries is: runs of neighbours, each as long as it can be, become one range and one entry each. Of two
-/// entries that may be taken one after the other, in whatever history, the fused one is an entry, is ready where the first
-/// is, raises the clock as both do, and cuts the pairs as both do.
+/// What compacting entries is: runs of neighbours, each as long as it can be, become one range and one entry each, and
+/// which of a run are fused first makes no difference. Of two entries that may be taken one after the other, in whatever
+/// history, the fused one is an entry, is ready where the first is, raises the clock as both do, and cuts the pairs as both
+/// do.
 pub fn compacted_entries()
     ensures ranges { FusedRunsAreCompacted }
+    ensures one { OneFusedRun }
     ensures entry { FusedIsEntry }
     ensures ready { FusedIsReady }
     ensures clock { FusedRaisesBoth }

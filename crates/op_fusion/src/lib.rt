@@ -1,6 +1,7 @@
 //! Entries of neighbouring ranges fused into one, and the cut that an entry makes in the pairs of one who takes it.
 #![tactic(auto)]
 
+mod compacting;
 mod cutting;
 mod faults;
 mod fusing;
@@ -9,6 +10,7 @@ mod pairs;
 #[cfg(test)]
 mod tests;
 
+pub use compacting::{compacted, has_neighbours};
 pub use cutting::{cut, cut_behind};
 pub use faults::FuseFault;
 pub use fusing::fuse;

@@ -1,4 +1,4 @@
-use crate::{FuseFault, cut, fuse};
+use crate::{FuseFault, compacted, cut, fuse, has_neighbours};
 use mld_ops::{Cut, Entry, Tagged, Tags};
 use rdf_terms::{Iri, Term, Triple};
 use std::alloc::{AllocError, Global};
@@ -171,5 +171,47 @@ fn an_entry_seen_in_part_drops_what_its_end_deleted(rt: HostRuntime) -> Result<(
     let seen = cut_at(alloc, 1)?;
     assert!(rt; has_one(&seen.drops, &pair(alloc, T, 1)?));
     assert!(rt; has_one(&seen.adds, &pair(alloc, U, 2)?));
+    Ok(())
+}
+
+// Entries of r0.1-2, r0.2-3 and r0.4, and of r0.6 behind a gap. Tick 1 inserts T, tick 2 inserts U, tick 3 deletes T and inserts V,
+// tick 4 deletes U and inserts T, tick 6 inserts U.
+fn a_run_and_one_alone(alloc: Global) -> Result<Vec<Entry>, Fail> {
+    let mut entries = Vec::new(alloc);
+    entries.push(entry(alloc, &left(), 1, 2, &[], &[(T, 1), (U, 2)])?)?;
+    entries.push(entry(alloc, &left(), 2, 3, &[(T, 1)], &[(U, 2), (V, 3)])?)?;
+    entries.push(entry(alloc, &left(), 4, 4, &[(U, 2)], &[(T, 4)])?)?;
+    entries.push(entry(alloc, &left(), 6, 6, &[], &[(U, 6)])?)?;
+    Ok(entries)
+}
+
+// What is left of them: the run is one entry of r0.1-4.
+fn one_run_and_one_alone(alloc: Global) -> Result<Vec<Entry>, Fail> {
+    let mut entries = Vec::new(alloc);
+    entries.push(entry(alloc, &left(), 1, 4, &[], &[(T, 4), (V, 3)])?)?;
+    entries.push(entry(alloc, &left(), 6, 6, &[], &[(U, 6)])?)?;
+    Ok(entries)
+}
+
+fn are_alike(entries: &[Entry], others: &[Entry]) -> bool {
+    entries.len() == others.len()
+        && entries
+            .iter()
+            .zip(others)
+            .all(|(entry, other)| alike(entry, other))
+}
+
+// The entries have neighbours, and are compacted to the wanted ones, which have none.
+fn compacts_to(alloc: Global, entries: &[Entry], wanted: &[Entry]) -> Result<bool, AllocError> {
+    let runs = compacted(alloc, entries)?;
+    Ok(has_neighbours(entries) && !has_neighbours(&runs) && are_alike(&runs, wanted))
+}
+
+#[test]
+fn a_run_becomes_one_and_what_is_alone_stays(rt: HostRuntime) -> Result<(), Fail> {
+    let alloc = rt.alloc();
+    let entries = a_run_and_one_alone(alloc)?;
+    let wanted = one_run_and_one_alone(alloc)?;
+    assert!(rt; compacts_to(alloc, &entries, &wanted)?);
     Ok(())
 }

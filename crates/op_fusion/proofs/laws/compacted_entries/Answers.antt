@@ -1,9 +1,13 @@
-use Rattle.op_fusion.proofs.Compacted as runs
+use Rattle.op_fusion.proofs.Runs as runs
 use Rattle.op_fusion.proofs.FusedCuts as laws
+use Rattle.op_fusion.proofs.FusedOnce as once
 use Rattle.op_fusion.proofs.laws.compacted_entries.Goals as goal
 
 pub returns-clause-ranges : goal.returns-clause-ranges
 returns-clause-ranges c = runs.fused_runs_are_compacted
+
+pub returns-clause-one : goal.returns-clause-one
+returns-clause-one c = once.one_fused_run
 
 pub returns-clause-entry : goal.returns-clause-entry
 returns-clause-entry c = runs.fused_is_entry
