@@ -1,5 +1,5 @@
 -- Compacted entries lead where the entries do.
-use Rattle.std.proofs.Common.{ℕ, List, [], ◌∷◌, ◌++◌, inl, inr, refl, sym, subst, arith}
+use Rattle.std.proofs.Common.{ℕ, List, [], ◌∷◌, ◌++◌, append_assoc, inl, inr, subst, arith}
 use Rattle.tree_clock.specs.Lists.{Has}
 use Rattle.tree_clock.specs.Clock.{ticks_of, Covers, RaisesTo}
 use Rattle.tree_clock.proofs.ClockLaws.{Covers-raised}
@@ -8,9 +8,9 @@ use Rattle.mld_ops.specs.Entry.{EntryValue, IsEntry}
 use Rattle.mld_ops.specs.Cut.{IsCutOf}
 use Rattle.mld_ops.specs.Ready.{last_dot}
 use Rattle.mld_ops.proofs.AscendingLaws.{has_left, has_right}
-use Rattle.op_fusion.specs.Compacting.{IsFusedRun, AreFusedRuns}
+use Rattle.op_fusion.specs.Compacting.{IsFusedRun, alone, both, AreFusedRuns}
 use Rattle.op_fusion.specs.CompactingLaws.{AreReadyInTurn}
-use Rattle.op_fusion.proofs.Compacted.{fused_is_entry}
+use Rattle.op_fusion.proofs.Runs.{near_all, fused_run_is_entry}
 use Rattle.op_fusion.proofs.FusedCuts.{fused_is_ready, fused_raises_both, fused_cuts_both}
 use Rattle.op_fusion.proofs.Staying.{insert_inside}
 use Rattle.mld_model.specs.Local.{LeadsTo}
@@ -26,25 +26,34 @@ covered_behind ticks next entry old new is raises cut covered pair h = (Covers-r
       inr (a.path, omega (arith, is.first, inside.0), inside.1)
 ])
 
--- a run and what comes behind it, once the run is fused: the fused entry is an entry, and with the rest it leads to the same
-run_leads : (ticks : List (List ℕ × ℕ)) (pairs : List Tagged) (first : EntryValue) (run rest : List EntryValue) (whole : EntryValue)
-    (after : List (List ℕ × ℕ)) (new : List Tagged) → IsEntry first → ((entry : EntryValue) → Has run entry → IsEntry entry)
-    → ((pair : Tagged) → Has pairs pair → Covers ticks pair.dot) → IsFusedRun first run whole → LeadsTo ticks pairs (first ∷ (run ++ rest)) after new
-    → IsEntry whole × LeadsTo ticks pairs (whole ∷ rest) after new
-run_leads ticks pairs first [] rest whole after new one all covered is leads =
-    (subst IsEntry (sym is) one, subst (λ (entry : EntryValue). LeadsTo ticks pairs (entry ∷ rest) after new) (sym is) leads)
-run_leads ticks pairs first (second ∷ run) rest whole after new one all covered is leads =
-    let more : LeadsTo leads.0 leads.1 (second ∷ (run ++ rest)) after new = leads.5 in
-    let turn : AreReadyInTurn ticks leads.0 first second =
-    record { one = one; two = all second (inl refl); near = is.1; ready = leads.2; raises = leads.3; ready_then = more.2 } in
-    run_leads ticks pairs is.0 run rest whole after new (fused_is_entry first second is.0 one (all second (inl refl)) is.1 is.2)
-    (λ entry h. all entry (inr h)) covered is.3 (
-      more.0,
-      more.1,
-      fused_is_ready ticks leads.0 first second is.0 turn is.2,
-      fused_raises_both ticks leads.0 more.0 first second is.0 turn is.2 more.3,
-      fused_cuts_both ticks leads.0 first second is.0 pairs leads.1 more.1 turn is.2 covered leads.4 more.4,
-      more.5,
+-- a run and what comes behind it, once the run is fused: the fused entry with the rest leads to the same
+run_leads : (run : List EntryValue) (whole : EntryValue) → IsFusedRun run whole → (ticks : List (List ℕ × ℕ)) (pairs : List Tagged) (rest : List EntryValue)
+    (after : List (List ℕ × ℕ)) (new : List Tagged) → ((entry : EntryValue) → Has run entry → IsEntry entry)
+    → ((pair : Tagged) → Has pairs pair → Covers ticks pair.dot) → LeadsTo ticks pairs (run ++ rest) after new → LeadsTo ticks pairs (whole ∷ rest) after new
+run_leads run whole (alone entry) ticks pairs rest after new all covered leads = leads
+run_leads run whole (both left first next right second fused l r near f) ticks pairs rest after new all covered leads =
+    let all_left : (entry : EntryValue) → Has left entry → IsEntry entry = λ entry h. all entry (has_left left (next ∷ right) entry h) in
+    let all_right : (entry : EntryValue) → Has (next ∷ right) entry → IsEntry entry = λ entry h. all entry (has_right left (next ∷ right) entry h) in
+    let first_is : IsEntry first = fused_run_is_entry left first l all_left in
+    let one : LeadsTo ticks pairs (first ∷ next ∷ (right ++ rest)) after new =
+    run_leads left first l ticks pairs (next ∷ (right ++ rest)) after new all_left covered
+    (subst (λ (es : List EntryValue). LeadsTo ticks pairs es after new) (append_assoc left (next ∷ right) rest) leads) in
+    let two : LeadsTo one.0 one.1 (second ∷ rest) after new =
+    run_leads (next ∷ right) second r one.0 one.1 rest after new all_right (covered_behind ticks one.0 first pairs one.1 first_is one.3 one.4 covered) one.5 in
+    let turn : AreReadyInTurn ticks one.0 first second = record {
+      one = first_is;
+      two = fused_run_is_entry (next ∷ right) second r all_right;
+      near = near_all first.range next right second near r;
+      ready = one.2;
+      raises = one.3;
+      ready_then = two.2;
+    } in (
+      two.0,
+      two.1,
+      fused_is_ready ticks one.0 first second fused turn f,
+      fused_raises_both ticks one.0 two.0 first second fused turn f two.3,
+      fused_cuts_both ticks one.0 first second fused pairs one.1 two.1 turn f covered one.4 two.4,
+      two.5,
     )
 
 -- from pairs of which the clock has the dots
@@ -53,17 +62,17 @@ pub compacted_leads : (ticks : List (List ℕ × ℕ)) (pairs : List Tagged) (en
     → LeadsTo ticks pairs entries after new → AreFusedRuns entries compacted → LeadsTo ticks pairs compacted after new
 compacted_leads ticks pairs entries [] after new covered all leads runs = subst (λ (es : List EntryValue). LeadsTo ticks pairs es after new) runs leads
 compacted_leads ticks pairs entries (whole ∷ others) after new covered all leads runs =
-    let split : LeadsTo ticks pairs (runs.0 ∷ (runs.1 ++ runs.2)) after new = subst (λ (es : List EntryValue). LeadsTo ticks pairs es after new) runs.3 leads in
-    let each : (entry : EntryValue) → Has (runs.0 ∷ (runs.1 ++ runs.2)) entry → IsEntry entry =
-    subst (λ (es : List EntryValue). (entry : EntryValue) → Has es entry → IsEntry entry) runs.3 all in
-    let one : IsEntry whole × LeadsTo ticks pairs (whole ∷ runs.2) after new =
-    run_leads ticks pairs runs.0 runs.1 runs.2 whole after new (each runs.0 (inl refl)) (λ entry h. each entry (inr (has_left runs.1 runs.2 entry h))) covered runs.4 split in
-    let step : LeadsTo ticks pairs (whole ∷ runs.2) after new = one.1 in (
+    let split : LeadsTo ticks pairs (runs.0 ++ runs.1) after new = subst (λ (es : List EntryValue). LeadsTo ticks pairs es after new) runs.2 leads in
+    let each : (entry : EntryValue) → Has (runs.0 ++ runs.1) entry → IsEntry entry =
+    subst (λ (es : List EntryValue). (entry : EntryValue) → Has es entry → IsEntry entry) runs.2 all in
+    let each_of_run : (entry : EntryValue) → Has runs.0 entry → IsEntry entry = λ entry h. each entry (has_left runs.0 runs.1 entry h) in
+    let step : LeadsTo ticks pairs (whole ∷ runs.1) after new = run_leads runs.0 whole runs.3 ticks pairs runs.1 after new each_of_run covered split in (
       step.0,
       step.1,
       step.2,
       step.3,
       step.4,
-      compacted_leads step.0 step.1 runs.2 others after new (covered_behind ticks step.0 whole pairs step.1 one.0 step.3 step.4 covered)
-          (λ entry h. each entry (inr (has_right runs.1 runs.2 entry h))) step.5 runs.6,
+      compacted_leads step.0 step.1 runs.1 others after new
+          (covered_behind ticks step.0 whole pairs step.1 (fused_run_is_entry runs.0 whole runs.3 each_of_run) step.3 step.4 covered)
+          (λ entry h. each entry (has_right runs.0 runs.1 entry h)) step.5 runs.5,
     )

@@ -12,8 +12,8 @@ use Rattle.mld_ops.specs.Net.{IsNet}
 use Rattle.mld_ops.specs.Ready.{last_dot}
 use Rattle.mld_ops.proofs.AscendingLaws.{has_left, has_right}
 use Rattle.mld_ops.proofs.MeaningLaws.{same_known}
-use Rattle.op_fusion.specs.Compacting.{AreCompacted, IsFusedRun, AreFusedRuns}
-use Rattle.op_fusion.proofs.Compacted.{fused_runs_are_compacted}
+use Rattle.op_fusion.specs.Compacting.{AreCompacted, IsFusedRun, alone, both, AreFusedRuns}
+use Rattle.op_fusion.proofs.Runs.{fused_runs_are_compacted, near_all}
 use Rattle.op_fusion.proofs.FusedNets.{fused_nets_are_net}
 use Rattle.mld_model.specs.Clone.{Stored, known_of}
 use Rattle.mld_model.specs.Sound.{IsSoundClone, IsDoneRange}
@@ -29,18 +29,18 @@ record StandsAlone (history : List Operation) (entry : EntryValue) : Type 0 wher
   done : IsDone history (last_dot entry.range)
 
 -- what is fused of a run of such entries is one
-run_stands : (history : List Operation) (first : EntryValue) (run : List EntryValue) (whole : EntryValue) → IsLawful history → StandsAlone history first
-    → ((entry : EntryValue) → Has run entry → StandsAlone history entry) → IsFusedRun first run whole → StandsAlone history whole
-run_stands history first [] whole lawful one all is = subst (StandsAlone history) (sym is) one
-run_stands history first (next ∷ run) whole lawful one all is =
-    let two : StandsAlone history next = all next (inl refl) in
-    let both : StandsAlone history is.0 = record {
-      net = subst (λ (range : Range). IsNet history range is.0) (sym is.2.range)
-          (fused_nets_are_net history first.range next.range first next is.0 lawful is.1 two.done one.net two.net is.2);
-      done = subst (λ (range : Range). IsDone history (last_dot range)) (sym is.2.range)
-          (subst (λ (path : List ℕ). IsDone history (dot_at path next.range.last)) (sym is.1.path) two.done);
-    } in
-    run_stands history is.0 run whole lawful both (λ entry h. all entry (inr h)) is.3
+run_stands : (history : List Operation) → IsLawful history → (run : List EntryValue) (whole : EntryValue) → IsFusedRun run whole
+    → ((entry : EntryValue) → Has run entry → StandsAlone history entry) → StandsAlone history whole
+run_stands history lawful run whole (alone entry) all = all entry (inl refl)
+run_stands history lawful run whole (both left first next right second fused l r near f) all =
+    let one : StandsAlone history first = run_stands history lawful left first l (λ entry h. all entry (has_left left (next ∷ right) entry h)) in
+    let two : StandsAlone history second = run_stands history lawful (next ∷ right) second r (λ entry h. all entry (has_right left (next ∷ right) entry h)) in
+    let meets = near_all first.range next right second near r in record {
+      net = subst (λ (range : Range). IsNet history range fused) (sym f.range)
+          (fused_nets_are_net history first.range second.range first second fused lawful meets two.done one.net two.net f);
+      done = subst (λ (range : Range). IsDone history (last_dot range)) (sym f.range)
+          (subst (λ (path : List ℕ). IsDone history (dot_at path second.range.last)) (sym meets.path) two.done);
+    }
 
 -- and so is each of compacted entries
 runs_stand : (history : List Operation) (entries compacted : List EntryValue) → IsLawful history
@@ -48,12 +48,11 @@ runs_stand : (history : List Operation) (entries compacted : List EntryValue) �
     → (entry : EntryValue) → Has compacted entry → StandsAlone history entry
 runs_stand history entries [] lawful all runs entry h = absurd h
 runs_stand history entries (whole ∷ others) lawful all runs entry h =
-    let each : (one : EntryValue) → Has (runs.0 ∷ (runs.1 ++ runs.2)) one → StandsAlone history one =
-    subst (λ (es : List EntryValue). (one : EntryValue) → Has es one → StandsAlone history one) runs.3 all in
+    let each : (one : EntryValue) → Has (runs.0 ++ runs.1) one → StandsAlone history one =
+    subst (λ (es : List EntryValue). (one : EntryValue) → Has es one → StandsAlone history one) runs.2 all in
     elim h [
-      | inl same ↦ subst (StandsAlone history) same
-          (run_stands history runs.0 runs.1 whole lawful (each runs.0 (inl refl)) (λ one k. each one (inr (has_left runs.1 runs.2 one k))) runs.4)
-      | inr more ↦ runs_stand history runs.2 others lawful (λ one k. each one (inr (has_right runs.1 runs.2 one k))) runs.6 entry more
+      | inl same ↦ subst (StandsAlone history) same (run_stands history lawful runs.0 whole runs.3 (λ one k. each one (has_left runs.0 runs.1 one k)))
+      | inr more ↦ runs_stand history runs.1 others lawful (λ one k. each one (has_right runs.0 runs.1 one k)) runs.5 entry more
     ]
 
 -- entries that stand for ranges, which are done
