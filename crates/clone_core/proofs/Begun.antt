@@ -1,5 +1,5 @@
 -- Clones that begin with what a head has.
-use Rattle.std.proofs.Common.{◌≡◌, ℕ, ◌≤◌, List, [], length, sym, subst, arith}
+use Rattle.std.proofs.Common.{◌≡◌, ℕ, ◌≤◌, List, [], sym, subst, arith}
 use Rattle.tree_clock.specs.Lists.{Has}
 use Rattle.tree_clock.specs.Clock.{Covers, IsClock}
 use Rattle.mld_ops.specs.declared.tagged.Tagged.{Tagged}
@@ -8,8 +8,9 @@ use Rattle.mld_ops.specs.Held.{held_limit}
 use Rattle.mld_ops.specs.Messages.{IsGoodSnapshot}
 use Rattle.journal_store.specs.Heads.{HeadValue}
 use Rattle.mld_model.specs.Local.{IsLocal, IsNamed, LeadsTo}
-use Rattle.clone_core.specs.Beginning.{found_clone, AreCovered}
-use Rattle.clone_core.specs.declared.mounts.Replayed.{Replayed}
+use Rattle.clone_plans.specs.Replays.{AreCovered}
+use Rattle.clone_core.specs.Beginning.{found_clone}
+use Rattle.clone_plans.specs.declared.replays.Replayed.{Replayed}
 
 none_held : 0 ≤ held_limit
 none_held = omega arith

@@ -1,6 +1,3 @@
-pub mod MakingLaws
-pub mod Deleting
-pub mod Planning
 pub mod OwnEntries
 pub mod Taking
 pub mod Joining
@@ -10,7 +7,6 @@ pub mod Appended
 pub mod Begun
 pub mod Removing
 pub mod Mounting
-pub mod Replaying
 pub mod FusedRuns
-pub mod Unknown
+pub mod Sending
 pub mod Swapping

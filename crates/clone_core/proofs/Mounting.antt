@@ -5,12 +5,12 @@ use Rattle.mld_io.specs.declared.banks.Side.{Side}
 use Rattle.mld_ops.specs.Entry.{EntryValue}
 use Rattle.journal_store.specs.Heads.{HeadValue}
 use Rattle.journal_store.specs.Mounting.{IsSynced}
-use Rattle.journal_store.specs.Pairs.{Kept, PairReading, Keeps, read_banks}
+use Rattle.journal_store.specs.Pairs.{Kept, Keeps, read_banks}
 use Rattle.journal_store.specs.declared.faults.Why.{Why}
 use Rattle.mld_model.specs.Local.{LocalClone}
 use Rattle.clone_core.specs.Banked.{kept_as, IsOnBanks}
 use Rattle.clone_core.specs.Beginning.{found_clone}
-use Rattle.clone_core.specs.declared.mounts.Replayed.{Replayed}
+use Rattle.clone_plans.specs.declared.replays.Replayed.{Replayed}
 use Rattle.clone_core.proofs.StopLaws.{none_some}
 
 some_same : {X : Type 0} {x y : X} → ◌≡◌ {A = Option X} (Some x) (Some y) → x ≡ y

@@ -9,8 +9,8 @@ use Rattle.mld_ops.specs.Entry.{EntryValue, IsEntry}
 use Rattle.mld_model.specs.Local.{LocalClone, LeadsTo, IsLocal, next_dot}
 use Rattle.op_fusion.specs.Cutting.{AreCuts}
 use Rattle.op_fusion.proofs.CutPairs.{cut_is_applied}
-use Rattle.clone_core.proofs.MakingLaws.{own_ready, own_last, path_is, local_taken, taken_by}
-use Rattle.clone_core.specs.Making.{IsNextEntry}
+use Rattle.clone_plans.proofs.MakingLaws.{own_ready, own_last, path_is, local_taken, taken_by}
+use Rattle.clone_plans.specs.Making.{IsNextEntry}
 use Rattle.clone_core.specs.Takes.{MakesDone}
 use Rattle.clone_core.specs.declared.answers.Done.TheVariants as done
 

@@ -1,5 +1,5 @@
 -- What the entry of a removal does is the clone's own operation that deletes the pairs.
-use Rattle.std.proofs.Common.{◌≡◌, ◌≢◌, ◌∙◌, ◌↔◌, ℕ, List, [], false, sym, ap, subst}
+use Rattle.std.proofs.Common.{◌≡◌, ◌≢◌, ◌↔◌, ℕ, List, [], false, sym, ap, subst}
 use Rattle.rdf_terms.specs.declared.terms.Triple.{Triple}
 use Rattle.tree_clock.specs.declared.dots.Dot.{Dot}
 use Rattle.tree_clock.specs.declared.dots.Range.{Range}
@@ -11,12 +11,12 @@ use Rattle.mld_ops.specs.Entry.{EntryValue}
 use Rattle.mld_ops.specs.Cut.{IsCutOf}
 use Rattle.mld_model.specs.CloneStep.{ArePairsOf}
 use Rattle.mld_model.specs.Local.{LocalClone, LocallyMakes, next_dot}
-use Rattle.clone_core.specs.CloneCalls.{Sets, RemovesPairs}
-use Rattle.clone_core.specs.Making.{IsDeletion}
+use Rattle.clone_core.specs.CloneCalls.{Sets}
+use Rattle.clone_plans.specs.Making.{IsDeletion}
 use Rattle.clone_core.specs.Takes.{MakesEntry, MakesDone}
 use Rattle.clone_core.specs.declared.answers.Done.{Done}
 use Rattle.clone_core.specs.declared.answers.Done.TheVariants as done
-use Rattle.clone_core.proofs.MakingLaws.{own_cut}
+use Rattle.clone_plans.proofs.MakingLaws.{own_cut}
 
 same_deletes : (deletes : List Tagged) (entry : EntryValue) → entry.deletes ≡ deletes → (pair : Tagged) → Has entry.deletes pair ↔ Has deletes pair
 same_deletes deletes entry is pair = (

@@ -5,7 +5,6 @@ use Rattle.mld_io.specs.Arm.{Meter, Metered}
 use Rattle.mld_io.specs.Disk.{Log, other_side}
 use Rattle.mld_io.specs.declared.banks.Side.{Side}
 use Rattle.tree_clock.specs.Lists.{Has}
-use Rattle.mld_ops.specs.declared.tagged.Tagged.{Tagged}
 use Rattle.mld_ops.specs.Entry.{EntryValue, IsEntry}
 use Rattle.mld_ops.specs.Ready.{last_dot}
 use Rattle.op_codec.specs.Stored.{IsShortEntry}
@@ -20,16 +19,17 @@ use Rattle.journal_store.specs.declared.faults.SwapFault.{SwapFault}
 use Rattle.journal_store.specs.declared.faults.SwapFault.TheVariants as swap
 use Rattle.journal_store.specs.declared.faults.Why.{Why}
 use Rattle.journal_store.specs.declared.faults.Why.TheVariants as why
-use Rattle.mld_model.specs.Local.{LocalClone, LeadsTo, IsLocal, LocallyCompacts}
+use Rattle.mld_model.specs.Local.{LocalClone, IsLocal, LocallyCompacts}
 use Rattle.mld_model.proofs.CompactedStands.{compacted_local}
-use Rattle.clone_core.specs.Appending.{KeepsIfTold, AreReadyEntries}
+use Rattle.clone_plans.specs.Replays.{AreReadyEntries}
+use Rattle.clone_core.specs.Appending.{KeepsIfTold}
 use Rattle.clone_core.specs.Banked.{BankedClone, head_of, kept_as, IsOnBanks}
 use Rattle.clone_core.specs.CloneFaults.{keep_fault_of}
 use Rattle.clone_core.specs.Closing.{Shuts}
 use Rattle.clone_core.specs.Keeping.{LeavesUnswapped, StopsKeep}
 use Rattle.clone_core.specs.declared.faults.KeepFault.{KeepFault}
 use Rattle.clone_core.specs.declared.faults.KeepFault.TheVariants as keep
-use Rattle.clone_core.proofs.AppendLaws.{ready_entries_same, known_leads}
+use Rattle.clone_plans.proofs.ReadyLaws.{leads_ready}
 use Rattle.clone_core.proofs.StopLaws.{none_some, err_same, Metered-as}
 
 -- ---- entries
@@ -38,16 +38,6 @@ use Rattle.clone_core.proofs.StopLaws.{none_some, err_same, Metered-as}
 pub good_entries : (ticks : List (List ℕ × ℕ)) (entries : List EntryValue) → AreReadyEntries ticks entries → AllByRecursion IsShortEntry entries → AreGoodEntries ticks entries
 good_entries ticks [] ready short = tt
 good_entries ticks (entry ∷ entries) ready short = (ready.0, short.0, good_entries (raised_to ticks (last_dot entry.range)) entries ready.1 short.1)
-
--- entries that lead somewhere are ready one after another
-pub leads_ready : (ticks : List (List ℕ × ℕ)) (pairs : List Tagged) (entries : List EntryValue) (after : List (List ℕ × ℕ)) (new : List Tagged)
-    → LeadsTo ticks pairs entries after new → AreReadyEntries ticks entries
-leads_ready ticks pairs [] after new leads = tt
-leads_ready ticks pairs (entry ∷ entries) after new leads =
-    let same = known_leads ticks ticks pairs (entry ∷ []) leads.0 leads.1 (λ path. refl) (leads.0, leads.1, leads.2, leads.3, leads.4, (refl, refl)) in (
-      leads.2,
-      ready_entries_same leads.0 (raised_to ticks (last_dot entry.range)) entries (λ path. sym (same path)) (leads_ready leads.0 leads.1 entries after new leads.5),
-    )
 
 -- ---- a clone whose journal is compacted
 
@@ -61,7 +51,7 @@ module _ (old : LocalClone) (entries : List EntryValue) (local : IsLocal old) (f
 
   -- its entries may stand behind its base
   pub compacted_ready : AreReadyEntries old.base entries
-  compacted_ready = leads_ready old.base old.base_pairs entries old.ticks old.pairs compacted_is_local.leads
+  compacted_ready = leads_ready old.base old.base old.base_pairs entries old.ticks old.pairs (λ path. refl) compacted_is_local.leads
 
 -- what its banks keep
 pub swapped_on_banks : (before now : Option Log) (was shut journal closed : Option Why) (side new_side : Side) (generation new_generation : ℕ) (old : LocalClone) (head : HeadValue)

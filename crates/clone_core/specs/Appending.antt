@@ -1,19 +1,19 @@
 -- Appends to the journal on a clone's banks, and the making of one.
-use Rattle.std.specs.Prelude.{◌≡◌, ◌⊎◌, ℕ, List, [], ◌∷◌, ◌++◌, Bool, false, Option, None, Some}
+use Rattle.std.specs.Prelude.{◌≡◌, ◌⊎◌, List, ◌++◌, Bool, false, Option, None, Some}
 use Rattle.mld_io.specs.Disk.{Log}
 use Rattle.mld_io.specs.declared.banks.Side.TheVariants.{A}
 use Rattle.mld_ops.specs.Entry.{EntryValue}
-use Rattle.mld_ops.specs.Ready.{last_dot, IsReadyEntry}
 use Rattle.op_codec.specs.Stored.{IsShort, IsShortSnapshot}
 use Rattle.journal_store.specs.Calls.{made, MayFork}
 use Rattle.journal_store.specs.Heads.{HeadValue}
 use Rattle.journal_store.specs.Pairs.{Kept}
-use Rattle.journal_store.specs.Records.{raised_to, known_after}
+use Rattle.journal_store.specs.Records.{known_after}
 use Rattle.journal_store.specs.Standing.{JournalValue, KeepsJust}
 use Rattle.journal_store.specs.declared.faults.AppendFault.{AppendFault}
 use Rattle.journal_store.specs.declared.faults.AppendFault.TheVariants as append
 use Rattle.journal_store.specs.declared.faults.Why.{Why}
 use Rattle.journal_store.specs.declared.faults.Why.TheVariants as why
+use Rattle.clone_plans.specs.Replays.{AreReadyEntries}
 
 -- banks that tell their log keep just this
 abbrev pub KeepsIfTold : Kept → Option Log → Type 0
@@ -22,11 +22,6 @@ KeepsIfTold kept now = (log : Log) → now ≡ Some log → KeepsJust kept log
 -- what is kept once entries are appended
 abbrev pub with_entries : List EntryValue → Kept → Kept
 with_entries entries kept = record kept { entries = kept.entries ++ entries }
-
--- entries each of which is ready, and not known, once those before it are taken
-abbrev pub AreReadyEntries : List (List ℕ × ℕ) → List EntryValue → Type 0
-AreReadyEntries ticks [] = Unit {0}
-AreReadyEntries ticks (entry ∷ entries) = IsReadyEntry ticks entry × AreReadyEntries (raised_to ticks (last_dot entry.range)) entries
 
 -- the entries may stand behind those that the banks keep, where they tell their log
 pub record MayAppendAll (now : Option Log) (entries : List EntryValue) : Type 0 where

@@ -1,11 +1,8 @@
 -- The clone of a head and of what the entries behind it lead to.
 use Rattle.std.specs.Prelude.{ℕ, List, []}
-use Rattle.tree_clock.specs.Clock.{Covers}
-use Rattle.tree_clock.specs.Lists.{Has}
-use Rattle.mld_ops.specs.declared.tagged.Tagged.{Tagged}
 use Rattle.journal_store.specs.Heads.{HeadValue}
 use Rattle.mld_model.specs.Local.{LocalClone}
-use Rattle.clone_core.specs.declared.mounts.Replayed.{Replayed}
+use Rattle.clone_plans.specs.declared.replays.Replayed.{Replayed}
 
 -- the clone at a path with a head, what was replayed behind it, and nothing held back
 abbrev pub found_clone : HeadValue → List ℕ → Replayed → LocalClone
@@ -36,7 +33,3 @@ begun_clone head = record {
   ticks = head.base.ticks;
   pairs = head.base.pairs;
 }
-
--- ticks cover the dots of pairs
-abbrev pub AreCovered : List (List ℕ × ℕ) → List Tagged → Type 0
-AreCovered ticks pairs = (pair : Tagged) → Has pairs pair → Covers ticks pair.dot

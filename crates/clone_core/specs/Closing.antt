@@ -1,5 +1,5 @@
 -- What a refused call leaves of a clone, and how many calls of its device a call makes.
-use Rattle.std.specs.Prelude.{◌≡◌, ◌⊎◌, ℕ, ◌*◌, None, Option, Some, Result, Ok, Err, length}
+use Rattle.std.specs.Prelude.{◌≡◌, ◌⊎◌, ℕ, ◌*◌, None, Some, Result, Ok, Err, length}
 use Rattle.journal_store.specs.declared.faults.MakeFault.{MakeFault}
 use Rattle.journal_store.specs.declared.faults.MakeFault.TheVariants as make
 use Rattle.journal_store.specs.declared.faults.Why.{Why}

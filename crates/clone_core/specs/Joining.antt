@@ -2,15 +2,10 @@
 use Rattle.std.specs.Prelude.{◌≡◌, ◌≢◌, ℕ, List, [], ◌∷◌, length, None}
 use Rattle.tree_clock.specs.Limits.{path_limit}
 use Rattle.tree_clock.specs.Lists.{Has}
-use Rattle.tree_clock.specs.Clock.{ClockValue, IsClock}
-use Rattle.chunked_list.specs.Room.{ChunkedValue}
-use Rattle.mld_ops.specs.declared.tagged.Tagged.{Tagged}
 use Rattle.mld_ops.specs.declared.messages.Give.{Give}
 use Rattle.mld_ops.specs.declared.messages.Message.{Message}
 use Rattle.mld_ops.specs.declared.messages.Message.TheVariants as message
-use Rattle.mld_ops.specs.declared.messages.Snapshot.{Snapshot}
-use Rattle.mld_ops.specs.Messages.{snapshot_value, give_value, message_value, IsGoodMessage}
-use Rattle.journal_store.specs.declared.faults.MakeFault.{MakeFault}
+use Rattle.mld_ops.specs.Messages.{give_value, message_value, IsGoodMessage}
 use Rattle.journal_store.specs.declared.faults.MakeFault.TheVariants as make
 use Rattle.mld_model.specs.Local.{LocalClone, LocalAsker, LocallyForks, joined_clone}
 use Rattle.clone_core.specs.Banked.{BankedAsker}
@@ -95,12 +90,3 @@ abbrev pub AdoptsWhole : {B : Type 0} → Adopted B → Type 0
 AdoptsWhole (adopted.Joined new) = Unit {0}
 AdoptsWhole (adopted.Ignored same) = Unit {0}
 AdoptsWhole (adopted.Refused fault banks) = ⊥
-
--- ---- the parts of joining
-
--- a copy of a snapshot for the base of a clone, and its clock and its pairs for the clone
-pub record AreBegunWith (snapshot : Snapshot) (parts : Snapshot × ClockValue × ChunkedValue Tagged) : Type 0 where
-  pub base : snapshot_value parts.0 ≡ snapshot_value snapshot
-  pub clock : parts.1.ticks ≡ parts.0.clock.ticks
-  pub pairs : parts.2.elements ≡ parts.0.tagged.items
-  pub is_clock : IsClock parts.0.clock.ticks

@@ -6,9 +6,7 @@ pub mod CloneFaults
 pub mod Closing
 pub mod Joining
 pub mod Keeping
-pub mod Making
 pub mod Opening
-pub mod Plans
 pub mod Stopping
 pub mod Takes
 pub mod View

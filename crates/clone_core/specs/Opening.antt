@@ -1,6 +1,5 @@
 -- What is found on banks where a clone is to run again.
-use Rattle.std.specs.Prelude.{◌≡◌, ◌≢◌, [], None}
-use Rattle.mld_io.specs.Disk.{Log}
+use Rattle.std.specs.Prelude.{◌≡◌, [], None}
 use Rattle.mld_io.specs.declared.banks.Side.{Side}
 use Rattle.journal_store.specs.Pairs.{PairReading, KeepsNone, Keeps, Damages}
 use Rattle.journal_store.specs.declared.faults.MountFault.TheVariants.{Damaged, Device, NoMemory}

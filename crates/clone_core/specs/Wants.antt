@@ -1,27 +1,17 @@
 -- Wants: what a clone answers to one who says which dots it knows.
-use Rattle.std.specs.Prelude.{◌≡◌, ◌≢◌, ℕ, List, [], map, Result}
+use Rattle.std.specs.Prelude.{◌≡◌, ◌≢◌, ℕ, List, [], Result}
 use Rattle.tree_clock.specs.Clock.{Covers}
 use Rattle.tree_clock.specs.declared.dots.Dot.{Dot}
 use Rattle.mld_ops.specs.declared.messages.Message.{Message}
 use Rattle.mld_ops.specs.declared.messages.Message.TheVariants as message
 use Rattle.mld_ops.specs.Entry.{EntryValue}
-use Rattle.mld_ops.specs.Messages.{CarriesEntry, message_value}
-use Rattle.mld_ops.specs.Picking.{DropsThose}
-use Rattle.mld_ops.specs.Ready.{IsKnownEntry}
 use Rattle.mld_model.specs.Local.{LocalClone, LocallyAnswersWant}
+use Rattle.clone_plans.specs.Carrying.{Carry}
 use Rattle.clone_core.specs.Closing.{ReceiveCalls}
 use Rattle.clone_core.specs.declared.answers.Got.{Got}
 use Rattle.clone_core.specs.declared.answers.Got.TheVariants as got
 use Rattle.clone_core.specs.declared.faults.ReceiveFault.{ReceiveFault}
 use Rattle.clone_core.specs.declared.faults.ReceiveFault.TheVariants as fault
-
--- the messages carry these entries, in order
-abbrev pub Carry : List Message → List EntryValue → Type 0
-Carry messages entries = map message_value messages ≡ map CarriesEntry entries
-
--- the messages carry those of the entries that aren't known by these ticks
-abbrev pub CarryUnknown : List (List ℕ × ℕ) → List EntryValue → List Message → Type 0
-CarryUnknown ticks entries messages = (unknown : List EntryValue) × DropsThose (IsKnownEntry ticks) entries unknown × Carry messages unknown
 
 -- what became of a want of one who knows these ticks: nothing of the journal is lacked; or each entry that isn't known is sent, in a
 -- message of its own

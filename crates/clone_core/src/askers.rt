@@ -1,20 +1,16 @@
 //! Who asks for a leaf, to become a clone.
-ghost use Rattle.std.specs.Prelude.{IfOk};
-ghost use Rattle.clone_core.specs.Joining.{AreBegunWith};
-ghost use Rattle.mld_ops.specs.Messages.{snapshot_value, IsGoodSnapshot};
-
 use crate::appending::create;
 use crate::clones::MldClone;
-use graph_index::Graph;
+use clone_plans::begun_with;
 use iri_rules::Text;
 use journal_store::{Blank, Head, MakeFault};
 use mld_io::{Banks, CrashBanks, Leave};
-use mld_ops::{Give, Message, Snapshot, copy_pairs, kept_properties};
+use mld_ops::{Give, Message, kept_properties};
 use rdf_terms::Iri;
-use std::alloc::{AllocError, Global};
+use std::alloc::Global;
 use std::marker::Model;
 use std::thread::Threads;
-use tree_clock::{Clock, Leaf};
+use tree_clock::Leaf;
 use uuid::Uuid;
 
 /// Who asks for a leaf: its id, domain and single-valued properties, and its banks, which keep nothing yet. It can't be copied: it
@@ -188,16 +184,4 @@ impl<B: CrashBanks> Asker<B> {
     {
         self.blank.arm(calls, leave);
     }
-}
-
-// A copy of a good snapshot for the base of a clone, and its clock and its pairs for the clone.
-fn begun_with(alloc: Global, snapshot: &Snapshot) -> Result<(Snapshot, Clock, Graph), AllocError>
-    requires { IsGoodSnapshot (snapshot_value snapshot.now) }
-    ensures { IfOk result (AreBegunWith snapshot.now) }
-{
-    let base = snapshot.copy_in(alloc)?;
-    let clock = snapshot.clock.copy_in(alloc)?;
-    let list = copy_pairs(alloc, snapshot.tagged.as_slice())?;
-    let pairs = Graph::from_list(alloc, list)?;
-    Ok((base, clock, pairs))
 }

@@ -1,15 +1,13 @@
 //! The clone.
 ghost use Rattle.std.specs.Prelude.{◌≡◌, ◌+◌, ◌≤◌, ◌++◌, MatchOption, vec_len, vec_capacity};
 ghost use Rattle.clone_core.specs.CloneCalls.{HasRange, LacksRange};
-ghost use Rattle.clone_core.specs.Plans.{left_of};
+ghost use Rattle.clone_plans.specs.Plans.{left_of};
 
 use crate::answers::{Covering, Done, Got};
 use crate::appending::{append_entries, append_fork, create};
 use crate::faults::{ReceiveFault, UpdateFault};
-use crate::making::{deletion, insertion};
-use crate::mounts::Replayed;
-use crate::plans::{prepare_own, prepare_plan};
 use causal_buffer::{Held, HeldFault, is_known, is_ready};
+use clone_plans::{Replayed, deletion, insertion, prepare_own, prepare_plan};
 use graph_index::Graph;
 use iri_rules::Text;
 use journal_store::{Blank, Head, Journal, MakeFault, Why};
@@ -71,7 +69,7 @@ impl<B: Banks> MldClone<B> {
     ghost use Rattle.mld_ops.specs.Messages.{snapshot_value, message_value, IsGoodSnapshot, IsGoodMessage};
     ghost use Rattle.mld_ops.specs.Properties.{AreKept};
     ghost use Rattle.clone_core.specs.CloneCalls.{Sets, LocallyReceives, ReceivesEntry, ReceivesAsk, Refuses, RemovesPairs, ComparesAs, HasRange, LacksRange};
-    ghost use Rattle.clone_core.specs.Making.{IsNextEntry};
+    ghost use Rattle.clone_plans.specs.Making.{IsNextEntry};
     ghost use Rattle.clone_core.specs.Stopping.{StopsUpdate, StopsReceive, StopsTaking};
     ghost use Rattle.clone_core.specs.Takes.{MakesDone, IsFullAt, RefusesEntry};
     ghost use Rattle.clone_core.specs.Wants.{MessageCalls};

@@ -15,19 +15,19 @@ ghost use Rattle.journal_store.specs.Calls.{swapped};
 ghost use Rattle.journal_store.specs.Heads.{head_value};
 ghost use Rattle.journal_store.specs.Pairs.{Kept};
 ghost use Rattle.journal_store.specs.StoredVolumes.{IsGoodHead, AreGoodEntries};
-ghost use Rattle.clone_core.specs.Appending.{KeepsIfTold, AreReadyEntries, LeavesOpen, AreShortParts};
+ghost use Rattle.clone_core.specs.Appending.{KeepsIfTold, LeavesOpen, AreShortParts};
 ghost use Rattle.clone_core.specs.Closing.{swap_calls};
 ghost use Rattle.clone_core.specs.Keeping.{HasNeighbours, AddsToRuns, GoesOn, FusesLast, IsSwapped, LeavesUnswapped};
+ghost use Rattle.clone_plans.specs.Replays.{AreReadyEntries};
 
 use crate::appending::is_short_head;
 use crate::clones::MldClone;
 use crate::faults::KeepFault;
 use journal_store::{Head, Journal, Why};
 use mld_io::Banks;
-use mld_ops::{Entry, copy_pairs};
+use mld_ops::{Entry, copy_pairs, copy_properties};
 use op_codec::is_short_entry;
 use op_fusion::{FuseFault, fuse};
-use rdf_terms::Iri;
 use std::alloc::{AllocError, Global};
 use tree_clock::Range;
 
@@ -95,17 +95,6 @@ impl<B: Banks> MldClone<B> {
             tagged: copy_pairs(alloc, &self.base_pairs)?,
         })
     }
-}
-
-// A copy of properties.
-fn copy_properties(alloc: Global, properties: &[Iri]) -> Result<Vec<Iri>, AllocError>
-    ensures { IfOk result (λ copies. copies.items ≡ properties.now) }
-{
-    let mut copies = Vec::with_capacity(alloc, properties.len())?;
-    for property in properties {
-        copies.push(property.copy_in(alloc)?)?;
-    }
-    Ok(copies)
 }
 
 // Whether some entry and the one right behind it have neighbouring ranges.

@@ -7,9 +7,7 @@ mod askers;
 mod clones;
 mod compacting;
 mod faults;
-mod making;
 mod mounts;
-mod plans;
 mod wants;
 
 pub use answers::{Covering, Done, Got};

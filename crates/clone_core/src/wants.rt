@@ -1,13 +1,10 @@
 //! Wants: what a clone asks others for, and what it answers to one who asks it.
-ghost use Rattle.std.specs.Prelude.{IfOk};
-ghost use Rattle.clone_core.specs.Wants.{CarryUnknown};
-
 use crate::answers::Got;
 use crate::clones::MldClone;
 use crate::faults::ReceiveFault;
-use causal_buffer::is_known;
+use clone_plans::unknown_by;
 use mld_io::Banks;
-use mld_ops::{Entry, Message, Messages};
+use mld_ops::{Message, Messages};
 use std::alloc::{AllocError, Global};
 use tree_clock::Clock;
 
@@ -48,17 +45,4 @@ impl<B: Banks> MldClone<B> {
         }
         Ok(Got::Answer(Messages::from_vec(messages)))
     }
-}
-
-/// Copies of the entries that aren't known by these dots, in order, each in a message.
-fn unknown_by(alloc: Global, known: &Clock, entries: &[Entry]) -> Result<Vec<Message>, AllocError>
-    ensures { IfOk result (λ messages. CarryUnknown known.now.ticks entries.now messages.items) }
-{
-    let mut messages = Vec::new(alloc);
-    for entry in entries {
-        if !is_known(known, entry) {
-            messages.push(Message::Range(entry.copy_in(alloc)?))?;
-        }
-    }
-    Ok(messages)
 }

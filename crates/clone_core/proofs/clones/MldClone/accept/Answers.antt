@@ -10,7 +10,7 @@ use Rattle.clone_core.specs.Banked.{BankedClone, kept_as}
 use Rattle.clone_core.specs.View.{local_of}
 use Rattle.clone_core.specs.declared.answers.Got.TheVariants as got
 use Rattle.clone_core.proofs.AppendLaws.{plan_may, taken_on_banks}
-use Rattle.clone_core.proofs.MakingLaws.{local_ascends, taken_by}
+use Rattle.clone_plans.proofs.MakingLaws.{local_ascends, taken_by}
 use Rattle.clone_core.proofs.StopLaws.{done_calls, stopped_calls}
 use Rattle.clone_core.proofs.Taking.{planned, planned_local, planned_accepts, ranges_length}
 use Rattle.clone_core.proofs.clones.MldClone.accept.Goals as goal

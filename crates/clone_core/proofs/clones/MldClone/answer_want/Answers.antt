@@ -1,6 +1,6 @@
 use Rattle.std.proofs.Common.{sym, subst}
 use Rattle.clone_core.specs.Joining.{AreGood}
-use Rattle.clone_core.proofs.Unknown.{carry_good}
+use Rattle.clone_core.proofs.Sending.{carry_good}
 use Rattle.clone_core.proofs.clones.MldClone.answer_want.Goals as goal
 
 pub returns-clause-good : goal.returns-clause-good

@@ -6,12 +6,12 @@ use Rattle.mld_ops.specs.Entry.{EntryValue}
 use Rattle.mld_model.specs.Local.{LocalClone, next_dot}
 use Rattle.clone_core.specs.Appending.{KeepsIfTold, with_entries, MayAppendAll}
 use Rattle.clone_core.specs.Banked.{BankedClone, kept_as}
-use Rattle.clone_core.specs.Making.{IsNextEntry}
+use Rattle.clone_plans.specs.Making.{IsNextEntry}
 use Rattle.clone_core.specs.Takes.{MakesDone}
 use Rattle.clone_core.specs.View.{local_of}
 use Rattle.clone_core.specs.declared.answers.Done.TheVariants as done
 use Rattle.clone_core.proofs.AppendLaws.{own_may, taken_on_banks}
-use Rattle.clone_core.proofs.MakingLaws.{path_is, taken_by}
+use Rattle.clone_plans.proofs.MakingLaws.{path_is, taken_by}
 use Rattle.clone_core.proofs.OwnEntries.{made_local, makes_done}
 use Rattle.clone_core.proofs.clones.MldClone.make.Goals as goal
 

@@ -7,10 +7,10 @@ use Rattle.graph_index.specs.Matching.{is_of}
 use Rattle.mld_ops.specs.declared.tagged.Tagged.{Tagged}
 use Rattle.mld_model.specs.CloneStep.{ArePairsOf}
 use Rattle.clone_core.specs.CloneCalls.{Sets}
-use Rattle.clone_core.specs.Making.{IsDeletion}
+use Rattle.clone_plans.specs.Making.{IsDeletion}
 use Rattle.clone_core.specs.Takes.{MakesDone}
 use Rattle.std.proofs.lemmas.Result.{err_from_is_err_and, IfOk-weaker}
-use Rattle.clone_core.proofs.Deleting.{filtered_pairs}
+use Rattle.clone_plans.proofs.Deleting.{filtered_pairs}
 use Rattle.clone_core.proofs.Removing.{removes_as}
 use Rattle.clone_core.proofs.StopLaws.{no_update_calls}
 use Rattle.clone_core.proofs.clones.MldClone.remove.Goals as goal

@@ -1,0 +1,5 @@
+pub mod Begun
+pub mod Carrying
+pub mod Making
+pub mod Plans
+pub mod Replays

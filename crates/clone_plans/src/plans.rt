@@ -1,0 +1,214 @@
+//! The plan of an update and of a delivery: the cut of the pairs, which entries are taken, and all room.
+ghost use Rattle.std.specs.Prelude.{◌≡◌, ◌+◌, ◌<◌, ◌≤◌, IfOk, OnOk, vec_len, vec_capacity};
+ghost use Rattle.clone_plans.specs.Plans.{left_of, IsPlanOf, TakesNothing, PlansEntry, PlansReleases};
+ghost use Rattle.mld_ops.specs.Applies.{Applies};
+ghost use Rattle.mld_ops.specs.Entry.{IsEntry};
+ghost use Rattle.mld_ops.specs.Ready.{IsReadyEntry};
+ghost use Rattle.mld_ops.specs.Tagged.{tagged_cmp};
+ghost use Rattle.op_fusion.specs.Cutting.{AreCuts, AreCutsBehind};
+ghost use Rattle.tree_clock.specs.Clock.{HasRoom, ticks_of};
+ghost use Rattle.tree_clock.specs.Lists.{IsAscending};
+
+use causal_buffer::Held;
+use graph_index::Graph;
+use mld_ops::{Cut, Entry};
+use op_fusion::cut;
+use std::alloc::{AllocError, Global};
+use tree_clock::{Clock, Dot, Ranges};
+
+/// What a clone has after a delivery, and which entries it takes.
+#[derive(Drop)]
+pub struct Plan {
+    /// The clock then.
+    pub clock: Clock,
+    /// What is held back then, where that changes.
+    pub left: Option<Held>,
+    /// The entries that are taken, in order.
+    pub entries: Vec<Entry>,
+    /// What taking all of them does to the pairs.
+    pub cut: Cut,
+    /// Their ranges.
+    pub ranges: Ranges,
+}
+
+/// A plan that grows by one entry after another: the clock, the entries and their ranges so far, and what taking them drops of the pairs
+/// and adds to them.
+#[derive(Drop)]
+pub(crate) struct Growing {
+    clock: Clock,
+    entries: Vec<Entry>,
+    ranges: Ranges,
+    drops: Graph,
+    adds: Graph,
+}
+
+/// The cut of an entry of the clone's own, once there is room for it and for the last dot of its range.
+pub fn prepare_own(
+    alloc: Global,
+    clock: &mut Clock,
+    entries: &mut Vec<Entry>,
+    pairs: &mut Graph,
+    entry: &Entry,
+) -> Result<Cut, AllocError>
+    ensures entry { IsEntry entry.now }
+    ensures cut { IfOk result (λ cut. AreCuts entry.now (ticks_of clock.old.ticks entry.now.range.path) pairs.old.elements cut.drops.items cut.adds.items) }
+    ensures ticks { clock.new.ticks ≡ clock.old.ticks }
+    ensures entries { entries.new.items ≡ entries.old.items }
+    ensures pairs { pairs.new.elements ≡ pairs.old.elements }
+    ensures clock_room { OnOk result (HasRoom clock.new entry.now.range.path) }
+    ensures entries_room { OnOk result (vec_len entries.new < vec_capacity entries.new) }
+    ensures pairs_room { IfOk result (λ cut. vec_len cut.adds ≤ pairs.new.room) }
+{
+    let range = entry.range();
+    let cut = cut(alloc, entry, clock, pairs)?;
+    pairs.prepare(alloc, &cut)?;
+    entries.reserve(1)?;
+    clock.reserve(&range.path)?;
+    Ok(cut)
+}
+
+/// The plan of an entry that is ready and of those held back that it releases, once there is room for them.
+pub fn prepare_plan(
+    alloc: Global,
+    clock: &Clock,
+    held: &Held,
+    entries: &mut Vec<Entry>,
+    pairs: &mut Graph,
+    entry: &Entry,
+) -> Result<Plan, AllocError>
+    requires pairs { IsAscending tagged_cmp pairs.old.elements }
+    requires ready { IsReadyEntry clock.now.ticks entry.now }
+    ensures plan { IfOk result (λ plan. IsPlanOf clock.now.ticks pairs.old.elements held.now entry.now plan) }
+    ensures entries { entries.new.items ≡ entries.old.items }
+    ensures pairs { pairs.new.elements ≡ pairs.old.elements }
+    ensures entries_room { IfOk result (λ plan. vec_len entries.new + vec_len plan.entries ≤ vec_capacity entries.new) }
+    ensures pairs_room { IfOk result (λ plan. vec_len plan.cut.adds ≤ pairs.new.room) }
+{
+    let mut plan = begin(alloc, clock)?;
+    take(alloc, &mut plan, pairs, entry.copy_in(alloc)?)?;
+    let left = release_held(alloc, &mut plan, pairs, held)?;
+    let cut = cut_of(alloc, &plan.drops, &plan.adds)?;
+    entries.reserve(plan.entries.len())?;
+    pairs.prepare(alloc, &cut)?;
+    Ok(Plan {
+        clock: plan.clock,
+        left,
+        entries: plan.entries,
+        cut,
+        ranges: plan.ranges,
+    })
+}
+
+// The plan that takes nothing yet.
+fn begin(alloc: Global, clock: &Clock) -> Result<Growing, AllocError>
+    ensures { IfOk result (TakesNothing clock.now.ticks) }
+{
+    Ok(Growing {
+        clock: clock.copy_in(alloc)?,
+        entries: Vec::new(alloc),
+        ranges: Ranges::new(alloc),
+        drops: Graph::empty(alloc),
+        adds: Graph::empty(alloc),
+    })
+}
+
+// The cut of what is dropped and what is added.
+fn cut_of(alloc: Global, drops: &Graph, adds: &Graph) -> Result<Cut, AllocError>
+    ensures drops { IfOk result (λ cut. cut.drops.items ≡ drops.now.elements) }
+    ensures adds { IfOk result (λ cut. cut.adds.items ≡ adds.now.elements) }
+{
+    Ok(Cut {
+        drops: drops.to_list(alloc)?,
+        adds: adds.to_list(alloc)?,
+    })
+}
+
+// Adds an entry that is ready then.
+fn take(alloc: Global, plan: &mut Growing, pairs: &Graph, entry: Entry) -> Result<(), AllocError>
+    requires { IsReadyEntry plan.old.clock.ticks entry }
+    ensures { OnOk result (PlansEntry pairs.now.elements plan.old entry plan.new) }
+{
+    let range = entry.range();
+    put_behind(
+        alloc,
+        &plan.clock,
+        &mut plan.drops,
+        &mut plan.adds,
+        pairs,
+        &entry,
+    )?;
+    plan.ranges.push(range)?;
+    plan.entries.push(entry)?;
+    plan.clock.reserve(&range.path)?;
+    plan.clock.raise(&Dot {
+        path: range.path,
+        tick: range.last,
+    });
+    Ok(())
+}
+
+// Puts the cut of an entry behind what is dropped and added so far: of the pairs it drops those that it makes go; of the adds those, and
+// its own come.
+fn put_behind(
+    alloc: Global,
+    clock: &Clock,
+    drops: &mut Graph,
+    adds: &mut Graph,
+    pairs: &Graph,
+    entry: &Entry,
+) -> Result<(), AllocError>
+    ensures { OnOk result (AreCutsBehind entry.now (ticks_of clock.now.ticks entry.now.range.path) pairs.now.elements drops.old.elements adds.old.elements drops.new.elements adds.new.elements) }
+{
+    let base = cut(alloc, entry, clock, pairs)?;
+    let own = cut(alloc, entry, clock, adds)?;
+    let more = Cut {
+        drops: Vec::new(alloc),
+        adds: base.drops,
+    };
+    change(alloc, drops, more)?;
+    change(alloc, adds, own)
+}
+
+// Applies a cut, once there is room for it.
+fn change(alloc: Global, pairs: &mut Graph, cut: Cut) -> Result<(), AllocError>
+    ensures { OnOk result (Applies cut.drops.items cut.adds.items pairs.old.elements pairs.new.elements) }
+{
+    pairs.prepare(alloc, &cut)?;
+    pairs.apply(cut);
+    Ok(())
+}
+
+// Adds the entries that its clock releases of those held back, and gives which are left, where any is released or dropped.
+fn release_held(
+    alloc: Global,
+    plan: &mut Growing,
+    pairs: &Graph,
+    held: &Held,
+) -> Result<Option<Held>, AllocError>
+    ensures { IfOk result (λ left. PlansReleases pairs.now.elements plan.old held.now plan.new (left_of left held.now)) }
+{
+    if held.is_settled(&plan.clock) {
+        return Ok(None);
+    }
+    let mut left = held.copy_in(alloc)?;
+    release(alloc, plan, pairs, &mut left)?;
+    Ok(Some(left))
+}
+
+// Adds the entries that its clock releases, one after another, and takes them out.
+fn release(
+    alloc: Global,
+    plan: &mut Growing,
+    pairs: &Graph,
+    held: &mut Held,
+) -> Result<(), AllocError>
+    ensures { OnOk result (PlansReleases pairs.now.elements plan.old held.old plan.new held.new) }
+{
+    loop {
+        held.drop_known(&plan.clock);
+        let Some(entry) = held.take_ready(&plan.clock) else {
+            return Ok(());
+        };
+        take(alloc, plan, pairs, entry)?;
+    }
+}
