@@ -1,9 +1,8 @@
 -- Keeping a journal compacted: what it makes of a clone and of what its banks keep, what a refusal leaves, and how many calls it makes.
-use Rattle.std.specs.Prelude.{◌≡◌, ◌⊎◌, ℕ, ◌+◌, ◌-◌, ◌^◌, List, [], ◌∷◌, ◌++◌, Option, None, Some}
+use Rattle.std.specs.Prelude.{◌≡◌, ◌⊎◌, ℕ, ◌+◌, ◌-◌, ◌^◌, List, Option, None, Some}
 use Rattle.mld_io.specs.Disk.{other_side}
 use Rattle.mld_ops.specs.Entry.{EntryValue}
-use Rattle.op_fusion.specs.Compacting.{AreFusedRuns}
-use Rattle.op_fusion.specs.Fusion.{AreNeighbours, Fused}
+use Rattle.op_fusion.specs.Compacting.{AreFusedRuns, HasNeighbours}
 use Rattle.journal_store.specs.Standing.{JournalValue}
 use Rattle.journal_store.specs.declared.faults.Why.{Why}
 use Rattle.journal_store.specs.declared.faults.Why.TheVariants as why
@@ -13,15 +12,6 @@ use Rattle.clone_core.specs.Banked.{BankedClone}
 use Rattle.clone_core.specs.Closing.{Shuts, StaysOrShuts, swap_calls}
 use Rattle.clone_core.specs.declared.faults.KeepFault.{KeepFault}
 use Rattle.clone_core.specs.declared.faults.KeepFault.TheVariants as keep
-
--- some entry and the one right behind it have neighbouring ranges
-pub record HasNeighbours (entries : List EntryValue) : Type 0 where
-  pub front : List EntryValue
-  pub first : EntryValue
-  pub second : EntryValue
-  pub rest : List EntryValue
-  pub stand : entries ≡ front ++ first ∷ second ∷ rest
-  pub near : AreNeighbours first.range second.range
 
 -- an open clone keeps its journal compacted: no two neighbours stand side by side, and nothing changes; or there are such, and what its
 -- banks keep is swapped for the compacted journal, of the next generation
@@ -54,27 +44,6 @@ pub record KeepCalls (entries : List EntryValue) (calls : ℕ) : Type 0 where
   pub stays : ¬ HasNeighbours entries → calls ≡ 0
 
 -- ---- the parts of it
-
--- the entry goes on from the last of the others
-pub record GoesOn (entries : List EntryValue) (entry : EntryValue) : Type 0 where
-  pub front : List EntryValue
-  pub last : EntryValue
-  pub stand : entries ≡ front ++ last ∷ []
-  pub near : AreNeighbours last.range entry.range
-
--- the last of the entries became the one that is fused of it and of the entry
-pub record FusesLast (old : List EntryValue) (entry : EntryValue) (new : List EntryValue) : Type 0 where
-  pub front : List EntryValue
-  pub last : EntryValue
-  pub fused : EntryValue
-  pub was : old ≡ front ++ last ∷ []
-  pub near : AreNeighbours last.range entry.range
-  pub fuses : Fused last entry fused
-  pub now : new ≡ front ++ fused ∷ []
-
--- an entry was added to runs: it went on from the last of them, or it begins another
-abbrev pub AddsToRuns : List EntryValue → EntryValue → List EntryValue → Type 0
-AddsToRuns old entry new = FusesLast old entry new ⊎ ((¬ GoesOn old entry) × (new ≡ old ++ entry ∷ []))
 
 -- a swap was done: the other side counts, of the next generation, and neither the journal nor the clone is closed
 pub record IsSwapped {B : Type 0} (old new : JournalValue B) (closed : Option Why) : Type 0 where

@@ -1,23 +1,20 @@
 //! Compacting a clone's journal, in memory and on its banks.
-ghost use Rattle.std.specs.Prelude.{◌≡◌, ◌+◌, ◌-◌, ◌^◌, ◌↔◌, ◌++◌, ◌∷◌, [], ℕ, None, IfOk, IfErr, IsOk, IsErrOf, IsTrue, OnOk, OnErr};
+ghost use Rattle.std.specs.Prelude.{◌≡◌, ◌-◌, ◌^◌, ◌↔◌, ℕ, None, IfOk, IfErr, IsOk, IsErrOf, IsTrue, OnOk, OnErr};
 ghost use Rattle.std.specs.List.{AllByRecursion};
 ghost use Rattle.iri_rules.specs.Domain.{is_domain};
 ghost use Rattle.mld_io.specs.Arm.{Metered};
 ghost use Rattle.mld_io.specs.Disk.{other_side};
-ghost use Rattle.mld_ops.specs.Entry.{EntryValue, IsEntry};
 ghost use Rattle.mld_ops.specs.Messages.{IsGoodSnapshot};
 ghost use Rattle.op_codec.specs.Stored.{IsShortEntry};
-ghost use Rattle.op_fusion.specs.Compacting.{AreFusedRuns};
-ghost use Rattle.op_fusion.specs.Fusion.{AreNeighbours, Fused};
 ghost use Rattle.rdf_terms.specs.Order.{iri_cmp};
-ghost use Rattle.tree_clock.specs.Lists.{Has, IsAscending};
+ghost use Rattle.tree_clock.specs.Lists.{IsAscending};
 ghost use Rattle.journal_store.specs.Calls.{swapped};
 ghost use Rattle.journal_store.specs.Heads.{head_value};
 ghost use Rattle.journal_store.specs.Pairs.{Kept};
 ghost use Rattle.journal_store.specs.StoredVolumes.{IsGoodHead, AreGoodEntries};
 ghost use Rattle.clone_core.specs.Appending.{KeepsIfTold, LeavesOpen, AreShortParts};
 ghost use Rattle.clone_core.specs.Closing.{swap_calls};
-ghost use Rattle.clone_core.specs.Keeping.{HasNeighbours, AddsToRuns, GoesOn, FusesLast, IsSwapped, LeavesUnswapped};
+ghost use Rattle.clone_core.specs.Keeping.{IsSwapped, LeavesUnswapped};
 ghost use Rattle.clone_plans.specs.Replays.{AreReadyEntries};
 
 use crate::appending::is_short_head;
@@ -27,9 +24,8 @@ use journal_store::{Head, Journal, Why};
 use mld_io::Banks;
 use mld_ops::{Entry, copy_pairs, copy_properties};
 use op_codec::is_short_entry;
-use op_fusion::{FuseFault, fuse};
+use op_fusion::{compacted, has_neighbours};
 use std::alloc::{AllocError, Global};
-use tree_clock::Range;
 
 impl<B: Banks> MldClone<B> {
     ghost use Rattle.std.specs.Prelude.{◌≡◌, ℕ, length, None, Some, IfOk, IfErr, IsOk, OnOk, IsErrOf};
@@ -38,7 +34,7 @@ impl<B: Banks> MldClone<B> {
     ghost use Rattle.journal_store.specs.declared.faults.Why.{Why};
     ghost use Rattle.clone_core.specs.Banked.{head_of};
     ghost use Rattle.clone_core.specs.Closing.{swap_calls};
-    ghost use Rattle.clone_core.specs.Keeping.{HasNeighbours, KeepsCompacted, StaysUnclosed, IsSpent, LeavesKeep, KeepCalls, SwapsCompacted, StopsKeep};
+    ghost use Rattle.clone_core.specs.Keeping.{KeepsCompacted, StaysUnclosed, IsSpent, LeavesKeep, KeepCalls, SwapsCompacted, StopsKeep};
 
     /// Compacts the journal: the entries of each run of neighbouring ranges are fused into one, and what the banks keep is swapped for
     /// that, by one swap. Where no two neighbours stand side by side, nothing changes and no device is called. Gives the number of
@@ -94,86 +90,6 @@ impl<B: Banks> MldClone<B> {
             base: self.base.copy_in(alloc)?,
             tagged: copy_pairs(alloc, &self.base_pairs)?,
         })
-    }
-}
-
-// Whether some entry and the one right behind it have neighbouring ranges.
-fn has_neighbours(entries: &[Entry]) -> bool
-    ensures { IsTrue result ↔ HasNeighbours entries.now }
-{
-    for place in 1..entries.len() {
-        if are_neighbours(&entries[place - 1].range(), &entries[place].range()) {
-            return true;
-        }
-    }
-    false
-}
-
-// Whether the ranges may be fused.
-fn are_neighbours(first: &Range, second: &Range) -> bool
-    ensures { IsTrue result ↔ AreNeighbours first.now second.now }
-{
-    first.path == second.path && first.last < second.last && second.first <= first.last + 1
-}
-
-// The entries fused of the runs, from the left.
-fn compacted(alloc: Global, entries: &[Entry]) -> Result<Vec<Entry>, AllocError>
-    ensures fused { IfOk result (λ runs. AreFusedRuns entries.now runs.items) }
-    ensures entries { OnOk result ((entry : EntryValue) → Has entries.now entry → IsEntry entry) }
-{
-    let mut runs = Vec::new(alloc);
-    for entry in entries {
-        add(alloc, &mut runs, entry)?;
-    }
-    Ok(runs)
-}
-
-// Fuses the last of the runs with an entry that goes on from it, or begins another.
-fn add(alloc: Global, runs: &mut Vec<Entry>, entry: &Entry) -> Result<(), AllocError>
-    ensures added { OnOk result (AddsToRuns runs.old.items entry.now runs.new.items) }
-    ensures entry { IsEntry entry.now }
-{
-    if goes_on(runs, entry) {
-        return fuse_last(alloc, runs, entry);
-    }
-    runs.push(entry.copy_in(alloc)?)?;
-    Ok(())
-}
-
-// Whether an entry goes on from the last of the runs.
-fn goes_on(runs: &[Entry], entry: &Entry) -> bool
-    ensures goes_on { IsTrue result ↔ GoesOn runs.now entry.now }
-    ensures entry { IsEntry entry.now }
-{
-    let range = entry.range();
-    match runs.split_last() {
-        Some((last, _)) => are_neighbours(&last.range(), &range),
-        None => false,
-    }
-}
-
-// Fuses the last of the runs with an entry that goes on from it.
-fn fuse_last(alloc: Global, runs: &mut Vec<Entry>, entry: &Entry) -> Result<(), AllocError>
-    requires { GoesOn runs.old.items entry.now }
-    ensures { OnOk result (FusesLast runs.old.items entry.now runs.new.items) }
-{
-    let Some(last) = runs.pop() else {
-        unreachable!()
-    };
-    let fused = fused_of(alloc, &last, entry)?;
-    runs.push(fused)?;
-    Ok(())
-}
-
-// The entry fused of two of neighbouring ranges.
-fn fused_of(alloc: Global, first: &Entry, second: &Entry) -> Result<Entry, AllocError>
-    requires { AreNeighbours first.now.range second.now.range }
-    ensures { IfOk result (λ fused. Fused first.now second.now fused) }
-{
-    match fuse(alloc, first, second) {
-        Ok(fused) => Ok(fused),
-        Err(FuseFault::NotAdjacent) => unreachable!(),
-        Err(FuseFault::NoMemory) => Err(AllocError),
     }
 }
 

@@ -1,7 +1,8 @@
 use Rattle.std.proofs.Common.{◌≡◌, ◌∙◌, List, length, true, false, refl, sym, ap, subst}
 use Rattle.mld_io.proofs.ArmLaws.{Metered-refused}
 use Rattle.mld_ops.specs.Entry.{EntryValue}
-use Rattle.clone_core.specs.Keeping.{HasNeighbours, nothing_to_fuse}
+use Rattle.op_fusion.specs.Compacting.{HasNeighbours}
+use Rattle.clone_core.specs.Keeping.{nothing_to_fuse}
 use Rattle.clone_core.proofs.FusedRuns.{unfused, calls_of}
 use Rattle.clone_core.proofs.clones.MldClone.compact.Goals as goal
 
