@@ -1,6 +1,6 @@
 -- What is written for a triple is UTF-8, since its texts are.
-use Rattle.std.specs.Prelude.{◌≡◌, ◌⊎◌, ℕ, zero, suc, ◌+◌, ◌<◌, ◌≤◌, List, [], ◌∷◌, ◌++◌, length, get_or, Bool, true, false, cond, ◌&&◌, ◌==◌, IsTrue}
-use Rattle.std.proofs.Common.{refl, sym, ap, ◌∙◌, subst, inl, inr, arith, append_assoc, append-nil, leb, lit<, ◌-◌}
+use Rattle.std.specs.Prelude.{◌≡◌, ℕ, zero, suc, ◌<◌, ◌≤◌, List, [], ◌∷◌, ◌++◌, length, get_or, Bool, true, false, cond, ◌==◌, IsTrue}
+use Rattle.std.proofs.Common.{refl, sym, ap, ◌∙◌, subst, inl, inr, arith, append_assoc, append-nil, leb, lit<}
 use lib.Utf8.{scalar, scalars, encode, encodes}
 use Rattle.std.specs.Str.{IsUtf8}
 use Rattle.std.proofs.lemmas.Bool.Decides.{nat_tests}
@@ -11,10 +11,10 @@ use Rattle.rdf_terms.specs.declared.terms.Term.{Term}
 use Rattle.rdf_terms.specs.declared.terms.Term.TheVariants as terms
 use Rattle.rdf_terms.specs.declared.terms.Triple.{Triple}
 use Rattle.rdf_terms.specs.Building.{IsSoundTerm}
-use Rattle.rdf_terms.specs.Grammar.{SpellsTriple, IsTripleWithin, IsTermWithin}
+use Rattle.rdf_terms.specs.Grammar.{SpellsTriple, IsTermWithin}
 use Rattle.rdf_terms.specs.Literal.{Typed, Tagged, xsd_string, is_same, lexical_limit}
-use Rattle.rdf_terms.specs.Spelling.{iri_text, escaped, escaped_byte, datatype_text, literal_text, term_text, triple_text}
-use Rattle.rdf_terms.specs.Written.{IsWritable, IsWritableTerm, IsUtf8Literal, IsUtf8Term, IsWrittenSo}
+use Rattle.rdf_terms.specs.Spelling.{iri_text, escaped, escaped_byte, datatype_text, term_text, triple_text}
+use Rattle.rdf_terms.specs.Written.{IsWritableTerm, IsUtf8Term, IsWrittenSo}
 use Rattle.rdf_terms.proofs.Written.{written_spelled}
 
 -- bytes one after another
