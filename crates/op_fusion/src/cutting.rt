@@ -1,11 +1,10 @@
 //! The cut of an entry.
 ghost use Rattle.std.specs.Prelude.{◌≡◌, ◌≤◌, ◌↔◌, IfOk};
-ghost use Rattle.mld_ops.specs.Applies.{IsOfRange};
 ghost use Rattle.mld_ops.specs.Cut.{IsSuperseded};
 ghost use Rattle.mld_ops.specs.Entry.{IsEntry};
 ghost use Rattle.mld_ops.specs.Tagged.{tagged_cmp};
 ghost use Rattle.mld_ops.specs.declared.tagged.Tagged.{Tagged};
-ghost use Rattle.op_fusion.specs.Cutting.{AreCuts, AreCutsBehind, Goes, IsDropped};
+ghost use Rattle.op_fusion.specs.Cutting.{AreCuts, IsDropped};
 ghost use Rattle.tree_clock.specs.Clock.{ticks_of};
 ghost use Rattle.tree_clock.specs.Lists.{Has, IsAscending};
 
@@ -30,88 +29,6 @@ pub fn cut<S: Tags>(
     let drops = dropped(alloc, entry, known, state)?;
     let adds = inserted_within(alloc, entry, known, range.last)?;
     Ok(Cut { drops, adds })
-}
-
-/// What taking an entry does behind another change of the same pairs: both changes as one, made to the pairs before the first. The number
-/// is the last tick that is known of the entry's path.
-pub fn cut_behind<S: Tags>(
-    alloc: Global,
-    before: Cut,
-    entry: &Entry,
-    known: u32,
-    state: &S,
-) -> Result<Cut, AllocError>
-    requires drops { IsAscending tagged_cmp before.drops.items }
-    requires adds { IsAscending tagged_cmp before.adds.items }
-    ensures { IfOk result (λ cut. AreCutsBehind entry.now known (S.pairs state.now) before.drops.items before.adds.items
-        cut.drops.items cut.adds.items) }
-{
-    let last = entry.range().last;
-    let dropped = dropped(alloc, entry, known, state)?;
-    let drops = merge(alloc, before.drops, dropped)?;
-    let stay = staying(alloc, entry, known, before.adds)?;
-    let added = inserted_within(alloc, entry, known, last)?;
-    let adds = merge(alloc, stay, added)?;
-    Ok(Cut { drops, adds })
-}
-
-// Those of the pairs that the entry doesn't make go.
-fn staying(
-    alloc: Global,
-    entry: &Entry,
-    known: u32,
-    pairs: Vec<Tagged>,
-) -> Result<Vec<Tagged>, AllocError>
-    requires entry { IsEntry entry.now }
-    requires pairs { IsAscending tagged_cmp pairs.items }
-    ensures ascending { IfOk result (λ kept. IsAscending tagged_cmp kept.items) }
-    ensures members { IfOk result (λ kept. (pair : Tagged) → Has kept.items pair
-        ↔ (Has pairs.items pair × ¬ Goes entry.now known pair)) }
-{
-    let kept = sift(alloc, pairs, entry.deletes(), false)?;
-    let outdated = outdated(alloc, entry, known, kept.as_slice())?;
-    let stay = sift(alloc, kept, outdated.as_slice(), false)?;
-    Ok(stay)
-}
-
-// Those of the pairs that the entry supersedes.
-fn outdated(
-    alloc: Global,
-    entry: &Entry,
-    known: u32,
-    pairs: &[Tagged],
-) -> Result<Vec<Tagged>, AllocError>
-    requires { IsAscending tagged_cmp pairs.now }
-    ensures ascending { IfOk result (λ outdated. IsAscending tagged_cmp outdated.items) }
-    ensures members { IfOk result (λ outdated. (pair : Tagged) → Has outdated.items pair
-        ↔ (Has pairs.now pair × IsSuperseded entry.now known pair)) }
-{
-    let range = entry.range();
-    if pairs.is_empty() || known < range.first {
-        return Ok(Vec::new(alloc));
-    }
-    let seen = Range {
-        path: range.path,
-        first: range.first,
-        last: known,
-    };
-    let had = inside(alloc, pairs, &seen)?;
-    let stay = inserted_within(alloc, entry, 0, known)?;
-    sift(alloc, had, &stay, false)
-}
-
-// The pairs whose dot is one of the range.
-fn inside(alloc: Global, pairs: &[Tagged], range: &Range) -> Result<Vec<Tagged>, AllocError>
-    requires { IsAscending tagged_cmp pairs.now }
-    ensures { IfOk result (λ found. IsOfRange range.now pairs.now found.items) }
-{
-    let mut found = Vec::new(alloc);
-    for pair in pairs {
-        if range.contains(&pair.dot) {
-            found.push(pair.copy_in(alloc)?)?;
-        }
-    }
-    Ok(found)
 }
 
 // The present pairs that go.

@@ -11,7 +11,7 @@ mod pairs;
 mod tests;
 
 pub use compacting::{compacted, has_neighbours};
-pub use cutting::{cut, cut_behind};
+pub use cutting::cut;
 pub use faults::FuseFault;
 pub use fusing::fuse;
 pub use laws::{compacted_entries, cut_pairs, fused_nets, taken_ranges};
