@@ -3,4 +3,6 @@
 #![tactic(auto)]
 
 #[cfg(test)]
+mod fusion_tests;
+#[cfg(test)]
 mod held_tests;

@@ -7,8 +7,6 @@ mod faults;
 mod fusing;
 mod laws;
 mod pairs;
-#[cfg(test)]
-mod tests;
 
 pub use compacting::{compacted, has_neighbours};
 pub use cutting::cut;

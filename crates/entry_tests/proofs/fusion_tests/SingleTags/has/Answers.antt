@@ -1,7 +1,7 @@
 use Rattle.std.proofs.Common.{inl, inr, sym, ◌∙◌, ap}
 use Rattle.std.specs.Ordering.{is_eq}
 use Rattle.op_fusion.proofs.Sifting.{same_pair}
-use Rattle.op_fusion.proofs.tests.SingleTags.has.Goals as goal
+use Rattle.entry_tests.proofs.fusion_tests.SingleTags.has.Goals as goal
 
 pub returns : goal.returns
 returns c =

@@ -1,5 +1,6 @@
-use crate::{FuseFault, compacted, cut, fuse, has_neighbours};
+//! Entries that are fused, compacted and cut.
 use mld_ops::{Cut, Entry, Tagged, Tags};
+use op_fusion::{FuseFault, compacted, cut, fuse, has_neighbours};
 use rdf_terms::{Iri, Term, Triple};
 use std::alloc::{AllocError, Global};
 use std::test::Fail;
