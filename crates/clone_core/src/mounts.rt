@@ -11,6 +11,7 @@ use clone_plans::replay;
 use journal_store::{Blank, Journal, JournalMounted, MountFault};
 use mld_io::Banks;
 use std::alloc::{AllocError, Global};
+use std::thread::Threads;
 use tree_clock::Leaf;
 
 /// What a mount of a clone's banks finds.
@@ -31,7 +32,7 @@ impl<B: Banks> MldClone<B> {
     ///
     /// `Damaged` where an open gate has something else behind it, with the place; `Device` where the device failed; `NoMemory`. The banks
     /// are given back.
-    pub fn mount(alloc: Global, banks: B) -> Mounted<B>
+    pub fn mount<R: Threads>(_rt: &R, alloc: Global, banks: B) -> Mounted<B>
         ensures tells { (l : Log) → B.log banks ≡ Some l → TellsClone result (read_banks (seen l)) }
         ensures opened { OpensClone result }
         ensures meter { Metered mount_calls (B.meter banks) (B.meter (banks_of_mounted result)) (SyncsBoth result) (FailsToOpen result) }

@@ -29,7 +29,7 @@ fn is_first(clone: &TestClone) -> bool {
 
 #[test]
 fn a_clone_tells_its_parts(rt: HostRuntime) -> Result<(), Fail> {
-    let clone = founded(rt.alloc(), iris(rt.alloc(), &MIXED)?)?;
+    let clone = founded(&rt, rt.alloc(), iris(rt.alloc(), &MIXED)?)?;
     assert!(rt; is_first(&clone));
     Ok(())
 }
@@ -64,7 +64,7 @@ fn finds_entries(clone: &TestClone) -> bool {
 
 #[test]
 fn a_clone_tells_what_it_made_and_took(rt: HostRuntime) -> Result<(), Fail> {
-    let mut clone = first(rt.alloc())?;
+    let mut clone = first(&rt, rt.alloc())?;
     assert!(rt; makes_and_takes(&mut clone, &rt, rt.alloc()) && finds_entries(&clone));
     Ok(())
 }
@@ -79,8 +79,8 @@ fn knows_more(clone: &mut TestClone, other: &TestClone, alloc: Global) -> bool {
 
 #[test]
 fn clones_are_compared_by_their_dots(rt: HostRuntime) -> Result<(), Fail> {
-    let mut clone = first(rt.alloc())?;
-    let other = first(rt.alloc())?;
+    let mut clone = first(&rt, rt.alloc())?;
+    let other = first(&rt, rt.alloc())?;
     assert!(rt; knows_more(&mut clone, &other, rt.alloc()));
     Ok(())
 }
@@ -95,9 +95,9 @@ fn makes_and_gives<R: Threads>(clone: &mut TestClone, rt: &R, alloc: Global) -> 
 }
 
 /// The clone that stops and runs again.
-fn again(clone: Box<TestClone>, alloc: Global) -> Result<Box<TestClone>, Fail> {
+fn again<R: Threads>(clone: Box<TestClone>, rt: &R, alloc: Global) -> Result<Box<TestClone>, Fail> {
     let banks = Box::into_inner(clone).stop();
-    match MldClone::mount(alloc, banks) {
+    match MldClone::mount(rt, alloc, banks) {
         Mounted::Live(clone) => Ok(Box::new(alloc, clone)?),
         Mounted::Empty(_) | Mounted::Refused(_, _) => Err("not live".into()),
     }
@@ -117,9 +117,9 @@ fn is_as_it_was(clone: &TestClone, alloc: Global) -> Result<bool, Fail> {
 
 #[test]
 fn a_stopped_clone_runs_again_as_it_was(rt: HostRuntime) -> Result<(), Fail> {
-    let mut clone = first(rt.alloc())?;
+    let mut clone = first(&rt, rt.alloc())?;
     let made = makes_and_gives(&mut clone, &rt, rt.alloc());
-    let clone = again(clone, rt.alloc())?;
+    let clone = again(clone, &rt, rt.alloc())?;
     assert!(rt; made && is_as_it_was(&clone, rt.alloc())?);
     Ok(())
 }
@@ -141,7 +141,7 @@ fn keeps_nothing(asker: Box<TestAsker>) -> bool {
 
 #[test]
 fn who_asks_tells_its_parts(rt: HostRuntime) -> Result<(), Fail> {
-    let asker = asker(rt.alloc(), iris(rt.alloc(), &MIXED)?)?;
+    let asker = asker(&rt, rt.alloc(), iris(rt.alloc(), &MIXED)?)?;
     assert!(rt; is_second(&asker) && keeps_nothing(asker));
     Ok(())
 }
@@ -189,7 +189,7 @@ fn uses_the_last_tick(clone: &mut TestClone, alloc: Global) -> bool {
 #[test]
 fn a_clone_that_joined_uses_the_last_tick(rt: HostRuntime) -> Result<(), Fail> {
     let given = given(rt.alloc())?;
-    let asker = asker(rt.alloc(), Vec::new(rt.alloc()))?;
+    let asker = asker(&rt, rt.alloc(), Vec::new(rt.alloc()))?;
     let mut clone = joined(asker, &rt, rt.alloc(), &given)?;
     assert!(rt; uses_the_last_tick(&mut clone, rt.alloc()));
     Ok(())

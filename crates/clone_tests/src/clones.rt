@@ -203,30 +203,38 @@ fn domain(alloc: Global) -> Result<Text, Fail>
 }
 
 /// Banks in memory that keep nothing.
-fn blank(alloc: Global) -> Result<Blank<MemoryBanks>, Fail> {
-    match MldClone::mount(alloc, MemoryBanks::blank(alloc)) {
+fn blank<R: Threads>(rt: &R, alloc: Global) -> Result<Blank<MemoryBanks>, Fail> {
+    match MldClone::mount(rt, alloc, MemoryBanks::blank(alloc)) {
         Mounted::Empty(blank) => Ok(blank),
         Mounted::Live(_) | Mounted::Refused(_, _) => Err("no blank".into()),
     }
 }
 
 /// The first clone of the domain `d`, with the id 0 and no properties.
-pub fn first(alloc: Global) -> Result<Box<TestClone>, Fail> {
-    founded(alloc, Vec::new(alloc))
+pub fn first<R: Threads>(rt: &R, alloc: Global) -> Result<Box<TestClone>, Fail> {
+    founded(rt, alloc, Vec::new(alloc))
 }
 
 /// The first clone of the domain `d`, with the id 0 and these properties.
-pub fn founded(alloc: Global, properties: Vec<Iri>) -> Result<Box<TestClone>, Fail> {
+pub fn founded<R: Threads>(
+    rt: &R,
+    alloc: Global,
+    properties: Vec<Iri>,
+) -> Result<Box<TestClone>, Fail> {
     let id = Uuid::from_u128(0);
-    match MldClone::genesis(alloc, blank(alloc)?, id, domain(alloc)?, properties) {
+    match MldClone::genesis(alloc, blank(rt, alloc)?, id, domain(alloc)?, properties) {
         Ok(clone) => Ok(Box::new(alloc, clone)?),
         Err(_) => Err("not founded".into()),
     }
 }
 
 /// One who asks by the id 2 for a leaf of the domain `d`, with these properties.
-pub fn asker(alloc: Global, properties: Vec<Iri>) -> Result<Box<TestAsker>, Fail> {
+pub fn asker<R: Threads>(
+    rt: &R,
+    alloc: Global,
+    properties: Vec<Iri>,
+) -> Result<Box<TestAsker>, Fail> {
     let id = Uuid::from_u128(2);
-    let asker = Asker::new(blank(alloc)?, id, domain(alloc)?, properties);
+    let asker = Asker::new(blank(rt, alloc)?, id, domain(alloc)?, properties);
     Ok(Box::new(alloc, asker)?)
 }

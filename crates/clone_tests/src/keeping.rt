@@ -11,8 +11,8 @@ use std::thread::Threads;
 use tree_clock::{Path, Range};
 
 // The first clone, which has added t and u.
-fn adding(alloc: Global) -> Result<Box<TestClone>, Fail> {
-    let mut clone = first(alloc)?;
+fn adding<R: Threads>(rt: &R, alloc: Global) -> Result<Box<TestClone>, Fail> {
+    let mut clone = first(rt, alloc)?;
     set(&mut clone, alloc, T, true);
     set(&mut clone, alloc, U, true);
     Ok(clone)
@@ -44,8 +44,8 @@ fn answered<R: Threads>(
 
 // How many messages the first clone, which has added two triples, answers to a new clone's want and to its own.
 fn answers<R: Threads>(rt: &R, alloc: Global) -> Result<(usize, usize), Fail> {
-    let new = first(alloc)?;
-    let mut clone = adding(alloc)?;
+    let new = first(rt, alloc)?;
+    let mut clone = adding(rt, alloc)?;
     let all = answered(&mut clone, rt, alloc, &*want(&new, alloc)?)?;
     let own = want(&clone, alloc)?;
     Ok((all, answered(&mut clone, rt, alloc, &own)?))
@@ -69,19 +69,19 @@ fn is_one(clone: &TestClone) -> bool {
 
 #[test]
 fn a_run_of_entries_is_fused(rt: HostRuntime) -> Result<(), Fail> {
-    let mut clone = adding(rt.alloc())?;
+    let mut clone = adding(&rt, rt.alloc())?;
     assert!(rt; matches!(clone.compact(rt.alloc()), Ok(1)));
     assert!(rt; is_one(&clone));
     Ok(())
 }
 
 // The clone that runs again once the first one, which had added two triples, was compacted twice.
-fn found(alloc: Global) -> Result<Box<TestClone>, Fail> {
-    let mut clone = adding(alloc)?;
+fn found<R: Threads>(rt: &R, alloc: Global) -> Result<Box<TestClone>, Fail> {
+    let mut clone = adding(rt, alloc)?;
     clone.compact(alloc)?;
     clone.compact(alloc)?;
     let banks = Box::into_inner(clone).stop();
-    match MldClone::mount(alloc, banks) {
+    match MldClone::mount(rt, alloc, banks) {
         Mounted::Live(clone) => Ok(Box::new(alloc, clone)?),
         Mounted::Empty(_) | Mounted::Refused(_, _) => Err("no clone".into()),
     }
@@ -89,7 +89,7 @@ fn found(alloc: Global) -> Result<Box<TestClone>, Fail> {
 
 #[test]
 fn a_compacted_journal_is_found_again(rt: HostRuntime) -> Result<(), Fail> {
-    let clone = found(rt.alloc())?;
+    let clone = found(&rt, rt.alloc())?;
     assert!(rt; is_one(&clone));
     Ok(())
 }

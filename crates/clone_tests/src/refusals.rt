@@ -33,7 +33,7 @@ fn snapshot(alloc: Global) -> Snapshot
 
 #[test]
 fn snapshots_are_ignored(rt: HostRuntime) -> Result<(), Fail> {
-    let mut clone = first(rt.alloc())?;
+    let mut clone = first(&rt, rt.alloc())?;
     let ignored = ignores(
         &mut clone,
         &rt,
@@ -65,7 +65,7 @@ fn is_cut(clone: &TestClone, alloc: Global) -> Result<bool, Fail> {
 
 #[test]
 fn an_entry_that_is_known_in_part_is_cut(rt: HostRuntime) -> Result<(), Fail> {
-    let mut clone = first(rt.alloc())?;
+    let mut clone = first(&rt, rt.alloc())?;
     assert!(rt; takes_in_part(&mut clone, &rt, rt.alloc()) && is_cut(&clone, rt.alloc())?);
     Ok(())
 }
@@ -100,7 +100,7 @@ fn stays_closed<R: Threads>(clone: &mut TestClone, rt: &R, alloc: Global) -> boo
 
 #[test]
 fn a_clone_is_closed_by_a_fault_of_its_device(rt: HostRuntime) -> Result<(), Fail> {
-    let mut clone = first(rt.alloc())?;
+    let mut clone = first(&rt, rt.alloc())?;
     assert!(rt;
         tells_a_foreign_use(&mut clone, &rt, rt.alloc())
             && is_closed_by_a_fault(&mut clone, rt.alloc())
@@ -127,7 +127,7 @@ fn refusal<R: Threads>(
 #[test]
 fn who_asks_becomes_no_clone_where_its_device_fails(rt: HostRuntime) -> Result<(), Fail> {
     let given = given(rt.alloc())?;
-    let mut asker = asker(rt.alloc(), Vec::new(rt.alloc()))?;
+    let mut asker = asker(&rt, rt.alloc(), Vec::new(rt.alloc()))?;
     asker.arm(0, Leave::Lose);
     assert!(rt; refusal(asker, &rt, rt.alloc(), &given) == Some(MakeFault::Device));
     Ok(())

@@ -11,6 +11,7 @@ use journal_store::{Blank, MountFault};
 use mld_io::{Banks, CrashBanks, IoFault, Side};
 use std::alloc::{AllocError, Global};
 use std::collections::VecDeque;
+use std::thread::Threads;
 
 /// Looks at each side of the banks, in order, for one that has bytes.
 pub fn find_filled<B: CrashBanks>(banks: &mut Vec<B>) -> Result<(), RunFault>
@@ -58,7 +59,8 @@ fn has_bytes<B: CrashBanks>(banks: &mut B, side: Side, number: u8) -> Result<boo
 
 /// The banks, none of which has a byte, as ones that keep nothing. Where the device of some fails, all are given back, in order; where
 /// memory runs out, none are.
-pub fn blanks_of<B: CrashBanks>(
+pub fn blanks_of<R: Threads, B: CrashBanks>(
+    rt: &R,
     alloc: Global,
     banks: Vec<B>,
 ) -> Result<Vec<Blank<B>>, (RunFault, Vec<B>)>
@@ -74,7 +76,7 @@ pub fn blanks_of<B: CrashBanks>(
     let mut rest = VecDeque::from_vec(banks);
     let mut number = 0;
     while let Some(one) = rest.pop_front() {
-        match blank_of(alloc, one) {
+        match blank_of(rt, alloc, one) {
             Ok(blank) => blanks.push_reserved(blank),
             Err(Some(one)) => {
                 let banks = all_back(back, blanks, one, rest);
@@ -89,13 +91,17 @@ pub fn blanks_of<B: CrashBanks>(
 
 /// Banks that have no byte, as ones that keep nothing. Where their device fails they are given back; where memory runs out they
 /// are not.
-fn blank_of<B: CrashBanks>(alloc: Global, banks: B) -> Result<Blank<B>, Option<B>>
+fn blank_of<R: Threads, B: CrashBanks>(
+    rt: &R,
+    alloc: Global,
+    banks: B,
+) -> Result<Blank<B>, Option<B>>
     requires { ¬ IsFilled (B.log banks) }
     ensures ok { IfOk result (λ blank. GoesOn (B.meter banks) (B.meter blank)) }
     ensures later { IfErr result (λ refused. IfSome refused (λ back. GoesOn (B.meter banks) (B.meter back))) }
     ensures failed { IfErr result (λ refused. IfSome refused (λ back. HadFault (B.meter banks) (B.meter back))) }
 {
-    match MldClone::mount(alloc, banks) {
+    match MldClone::mount(rt, alloc, banks) {
         Mounted::Empty(blank) => Ok(blank),
         Mounted::Refused(MountFault::Device, banks) => Err(Some(banks)),
         Mounted::Refused(MountFault::NoMemory, _) => Err(None),

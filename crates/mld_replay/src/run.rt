@@ -135,7 +135,7 @@ pub fn run<R: Threads, S: Source, K: Sink, B: CrashBanks>(
     if let Err(fault) = find_filled(&mut banks) {
         return ended(Some(fault), banks, None);
     }
-    match blanks_of(alloc, banks) {
+    match blanks_of(rt, alloc, banks) {
         Ok(blanks) => {
             let mut stage = Stage::Waiting(blanks);
             let fault = replay(rt, alloc, source, sink, &mut stage).err();

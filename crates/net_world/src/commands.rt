@@ -50,7 +50,7 @@ pub fn answer<R: Threads, B: CrashBanks>(
         Command::Ask(number) => tell(alloc, out, ask(alloc, parts, *number)),
         Command::Compact(number) => tell(alloc, out, compact(alloc, parts, *number)),
         Command::Stop(number) => tell(alloc, out, Ok(stop(parts, *number))),
-        Command::Open(number) => tell(alloc, out, open(alloc, parts, *number)),
+        Command::Open(number) => tell(alloc, out, open(rt, alloc, parts, *number)),
         Command::Show(number) => tell(alloc, out, Ok(show(parts, *number))),
         Command::Compare(number, other) => tell(alloc, out, Ok(compare(parts, *number, *other))),
     }

@@ -18,9 +18,11 @@ use journal_store::MountFault;
 use mld_io::{Banks, CrashBanks};
 use mld_model::CloneState;
 use std::alloc::Global;
+use std::thread::Threads;
 
 /// Clone `number`, which is down, runs again with what its banks keep; where they keep nothing, it asks for a leaf.
-pub fn open<B: CrashBanks>(
+pub fn open<R: Threads, B: CrashBanks>(
+    rt: &R,
     alloc: Global,
     parts: &mut Parts<B>,
     number: u8,
@@ -35,14 +37,15 @@ pub fn open<B: CrashBanks>(
     match &parts.clones[usize::from(number)] {
         CloneState::Down(_) => {
             let named = copy_named(alloc, &parts.domain, parts.properties.as_slice())?;
-            open_banks(alloc, &mut parts.clones, number, named)
+            open_banks(rt, alloc, &mut parts.clones, number, named)
         }
         standing => Ok(state_reply(standing)),
     }
 }
 
 /// The banks of clone `number`, which is down, are mounted: they aren't damaged.
-fn open_banks<B: CrashBanks>(
+fn open_banks<R: Threads, B: CrashBanks>(
+    rt: &R,
     alloc: Global,
     clones: &mut Vec<RunningClone<B>>,
     number: u8,
@@ -57,7 +60,7 @@ fn open_banks<B: CrashBanks>(
     let CloneState::Down(banks) = take_state(clones, number) else {
         unreachable!()
     };
-    let (state, reply) = opened_as(named, number, MldClone::mount(alloc, banks));
+    let (state, reply) = opened_as(named, number, MldClone::mount(rt, alloc, banks));
     put_state(clones, number, state);
     reply
 }

@@ -115,19 +115,19 @@ fn so_many_clones_are_ready(rt: HostRuntime) -> Result<(), Fail> {
 }
 
 /// Banks in memory that keep nothing, for each clone.
-fn blanks(alloc: Global) -> Result<Vec<Blank<MemoryBanks>>, Fail>
+fn blanks<R: Threads>(rt: &R, alloc: Global) -> Result<Vec<Blank<MemoryBanks>>, Fail>
     ensures { IfOk result (λ blanks. vec_len blanks ≡ clone_count) }
 {
     let mut blanks = Vec::with_capacity(alloc, usize::from(CLONE_COUNT))?;
     for _ in 0..CLONE_COUNT {
-        blanks.push_reserved(blank(alloc)?);
+        blanks.push_reserved(blank(rt, alloc)?);
     }
     Ok(blanks)
 }
 
 /// Banks in memory that keep nothing.
-fn blank(alloc: Global) -> Result<Blank<MemoryBanks>, Fail> {
-    match MldClone::mount(alloc, MemoryBanks::blank(alloc)) {
+fn blank<R: Threads>(rt: &R, alloc: Global) -> Result<Blank<MemoryBanks>, Fail> {
+    match MldClone::mount(rt, alloc, MemoryBanks::blank(alloc)) {
         Mounted::Empty(blank) => Ok(blank),
         Mounted::Live(_) | Mounted::Refused(_, _) => Err("no blank".into()),
     }
@@ -144,7 +144,7 @@ fn two_clones<R: Threads>(rt: &R, alloc: Global) -> Result<Box<TestWorld>, Fail>
         clones: 2,
         props: Vec::new(alloc),
     };
-    match World::found(rt, alloc, &setup, blanks(alloc)?) {
+    match World::found(rt, alloc, &setup, blanks(rt, alloc)?) {
         Ok(world) => Ok(Box::new(alloc, world)?),
         Err(_) => Err("not founded".into()),
     }
