@@ -16,7 +16,7 @@ use Rattle.net_world.specs.declared.faults.WorldFault.{WorldFault}
 use Rattle.net_world.specs.declared.parts.Parts.{Parts}
 use Rattle.net_world.specs.declared.replies.Reply.{Reply as CodeReply}
 use Rattle.net_world.specs.declared.replies.Reply.TheVariants as replies
-use Rattle.net_world.specs.Compacting.{CompactsAs}
+use Rattle.net_world.specs.CompactingClones.{CompactsAs}
 use Rattle.net_world.specs.Replies.{reply_value}
 use Rattle.net_world.specs.States.{HasState, Becomes}
 use Rattle.net_world.specs.WorldBanks.{BankedState, in_memory, memory_of, is_next}

@@ -16,4 +16,4 @@ pub mod StoppedClones
 pub mod OpeningBanks
 pub mod WorldEnds
 pub mod Unbuilt
-pub mod Compacting
+pub mod CompactingClones

@@ -1,7 +1,7 @@
 //! The command `compact`.
 ghost use Rattle.std.specs.Prelude.{◌≡◌, ◌≢◌, ◌<◌, ◌^◌, ◌-◌, vec_len, None, IfOk, IfErr, OnOk};
 ghost use Rattle.schedule_model.specs.declared.Command.TheVariants as commands;
-ghost use Rattle.net_world.specs.Compacting.{CompactsAs};
+ghost use Rattle.net_world.specs.CompactingClones.{CompactsAs};
 ghost use Rattle.net_world.specs.WorldBanks.{GoesOn, FailsAt};
 ghost use Rattle.net_world.specs.WorldParts.{HasStepLeft, KeepsDomain, HasFaultCause, Does};
 

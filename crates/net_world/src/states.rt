@@ -14,6 +14,7 @@ use iri_rules::Text;
 use journal_store::Blank;
 use mld_io::Banks;
 use mld_model::CloneState;
+use mld_ops::copy_properties;
 use rdf_terms::Iri;
 use std::alloc::{AllocError, Global};
 use uuid::Uuid;
@@ -103,15 +104,4 @@ pub fn put_state<B: Banks>(clones: &mut Vec<RunningClone<B>>, number: u8, state:
     if clones.insert(usize::from(number), state).is_err() {
         unreachable!()
     }
-}
-
-/// A copy of properties.
-pub fn copy_properties(alloc: Global, properties: &[Iri]) -> Result<Vec<Iri>, AllocError>
-    ensures { IfOk result (λ copies. copies.items ≡ properties.now) }
-{
-    let mut copies = Vec::with_capacity(alloc, properties.len())?;
-    for property in properties {
-        copies.push(property.copy_in(alloc)?)?;
-    }
-    Ok(copies)
 }
