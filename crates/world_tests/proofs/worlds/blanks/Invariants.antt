@@ -5,4 +5,4 @@ use Rattle.world_tests.proofs.worlds.blanks.Given as goal
 
 -- as many as were counted, with room for all
 abbrev pub invariant-loop : goal.invariant-loop
-invariant-loop l = (vec_len l.blanks ≡ l.counter) × (clone_count ≤ vec_capacity l.blanks)
+invariant-loop g l = (vec_len l.blanks ≡ l.counter) × (clone_count ≤ vec_capacity l.blanks)
