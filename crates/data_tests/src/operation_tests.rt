@@ -1,3 +1,6 @@
+ghost use Rattle.mld_ops.specs.Tagged.{tagged_cmp};
+ghost use Rattle.tree_clock.specs.Lists.{IsAscending};
+
 use mld_ops::{Entry, Operation, Tagged, copy_pairs, has_pair, insert_pair, meaning, remove_pairs};
 use rdf_terms::{Triple, read_triple};
 use std::alloc::Global;
@@ -98,8 +101,11 @@ fn what_is_not_known_deletes_nothing(rt: HostRuntime) -> Result<(), Fail> {
     Ok(())
 }
 
-// Puts the pairs of these objects into a list, one after another.
-fn insert_each(alloc: Global, objects: &[&str], pairs: &mut Vec<Tagged>) -> Result<(), Fail> {
+// Puts the pairs of these objects into an ascending list, one after another.
+fn insert_each(alloc: Global, objects: &[&str], pairs: &mut Vec<Tagged>) -> Result<(), Fail>
+    requires { IsAscending tagged_cmp pairs.old.items }
+    ensures { IsAscending tagged_cmp pairs.new.items }
+{
     for object in objects {
         insert_pair(pairs, pair(alloc, object, &left(1))?)?;
     }
@@ -137,7 +143,8 @@ fn a_pair_is_taken_out_and_the_other_stays(rt: HostRuntime) -> Result<(), Fail> 
 
 // Whether a pair of this object is found in a list that has one pair, of the object b.
 fn has_object(alloc: Global, object: &str) -> Result<bool, Fail> {
-    let list = Box::new(alloc, pairs(alloc, "b", &left(1))?)?;
+    let mut list = Box::new(alloc, Vec::new(alloc))?;
+    insert_each(alloc, &["b"], &mut list)?;
     let wanted = Box::new(alloc, pair(alloc, object, &left(1))?)?;
     Ok(has_pair(&list, &wanted))
 }
