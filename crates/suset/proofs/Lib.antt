@@ -1,0 +1,6 @@
+pub mod JoinedStates
+mod Steps
+mod Walking
+mod Joining
+mod Filling
+mod Ranging

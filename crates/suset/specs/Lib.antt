@@ -1,0 +1,3 @@
+pub mod StateJoin
+pub mod Walks
+pub mod JoinLaws

@@ -1,0 +1,14 @@
+//! The laws of joins, for all lawful histories. This function does nothing: its clauses are the laws.
+ghost use Rattle.suset.specs.JoinLaws.{JoinIsOne, JoinIsClosed, JoinIsMeaning, JoinCommutes, JoinAssociates, JoinIsIdempotent};
+
+/// What a join is. Two lists and two clocks have one. Where each side knows a closed set of dots, and has their meaning, the dots of
+/// both together are closed, and the join is their meaning. So the order and the grouping of joins make no difference, and what is
+/// joined with itself stays as it was.
+pub fn joined_states()
+    ensures one { JoinIsOne }
+    ensures closed { JoinIsClosed }
+    ensures meaning { JoinIsMeaning }
+    ensures commutes { JoinCommutes }
+    ensures associates { JoinAssociates }
+    ensures idempotent { JoinIsIdempotent }
+{}
