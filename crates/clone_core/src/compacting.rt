@@ -84,7 +84,7 @@ impl<B: Banks> MldClone<B> {
     {
         Ok(Head {
             id: self.id,
-            domain: self.domain.copy_in(alloc)?,
+            domain: self.domain.share()?,
             props: copy_properties(alloc, &self.properties)?,
             path: self.leaf.path(),
             base: self.base.copy_in(alloc)?,

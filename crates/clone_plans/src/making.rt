@@ -22,7 +22,7 @@ pub fn insertion(
     time.reserve(&dot.path)?;
     time.raise(dot);
     let mut inserts = Vec::new(alloc);
-    inserts.push((triple.copy_in(alloc)?, dot.tick))?;
+    inserts.push((triple.share()?, dot.tick))?;
     Ok(Entry::new(range_of(dot), time, Vec::new(alloc), inserts).unwrap())
 }
 

@@ -30,7 +30,7 @@ impl Tags for Single {
     fn of_range(&self, alloc: Global, range: &Range) -> Result<Vec<Tagged>, AllocError> {
         let mut found = Vec::new(alloc);
         if range.contains(&self.pair.dot) {
-            found.push(self.pair.copy_in(alloc)?)?;
+            found.push(self.pair.share()?)?;
         }
         Ok(found)
     }

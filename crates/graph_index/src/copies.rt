@@ -16,17 +16,17 @@ pub(crate) fn copy_chunks(
 {
     let mut list = Vec::new(alloc);
     for chunk in chunks {
-        add_copies(alloc, &mut list, chunk.as_slice())?;
+        add_copies(&mut list, chunk.as_slice())?;
     }
     Ok(list)
 }
 
 // Adds copies of pairs.
-fn add_copies(alloc: Global, list: &mut Vec<Tagged>, pairs: &[Tagged]) -> Result<(), AllocError>
+fn add_copies(list: &mut Vec<Tagged>, pairs: &[Tagged]) -> Result<(), AllocError>
     ensures { OnOk result (list.new.items ≡ list.old.items ++ pairs.now) }
 {
     for pair in pairs {
-        list.push(pair.copy_in(alloc)?)?;
+        list.push(pair.share()?)?;
     }
     Ok(())
 }
@@ -37,7 +37,7 @@ pub(crate) fn copy_found(alloc: Global, found: &[&Tagged]) -> Result<Vec<Tagged>
 {
     let mut list = Vec::new(alloc);
     for pair in found {
-        list.push(pair.copy_in(alloc)?)?;
+        list.push(pair.share()?)?;
     }
     Ok(list)
 }

@@ -115,5 +115,5 @@ pub fn resolve(alloc: Global, base: &str, reference: &str) -> Result<Text, IriFa
     if !is_absolute(text.as_str()) {
         return Err(IriFault::NotIri);
     }
-    Ok(Text::from(text))
+    Ok(Text::from_string(text)?)
 }

@@ -3,37 +3,51 @@ ghost use Rattle.std.specs.Prelude.{◌≡◌, ◌==◌, IfOk, length};
 
 use std::alloc::{AllocError, Global};
 use std::marker::Model;
+use std::rc::RcStr;
 
-/// A text, which contracts see as the list of its bytes.
+/// A text, which contracts see as the list of its bytes. Its copies share them.
 #[derive(Debug, Drop)]
 pub struct Text {
-    inner: String,
+    inner: RcStr,
 }
 
 impl Model for Text {
     ghost use Rattle.std.specs.Prelude.{List, ℕ};
-    ghost use Rattle.std.specs.String.{string_bytes};
+    ghost use Rattle.std.specs.Rc.{rc_str_bytes};
 
     ghost Value = { List ℕ };
 
-    ghost view = { λ t. string_bytes t.inner };
+    ghost view = { λ t. rc_str_bytes t.inner };
 }
 
 impl Text {
+    ghost use Rattle.std.specs.String.{string_bytes};
+
     /// A copy of the text.
     pub fn new(alloc: Global, text: &str) -> Result<Text, AllocError>
         ensures { IfOk result (λ t. t ≡ text.now) }
     {
         Ok(Text {
-            inner: String::from_str(alloc, text)?,
+            inner: RcStr::from_str(alloc, text)?,
         })
     }
 
-    /// A copy of the text.
-    pub fn copy_in(&self, alloc: Global) -> Result<Text, AllocError>
+    /// The text of a string, which is moved.
+    pub fn from_string(text: String) -> Result<Text, AllocError>
+        ensures { IfOk result (λ t. t ≡ string_bytes text) }
+    {
+        Ok(Text {
+            inner: RcStr::from_string(text)?,
+        })
+    }
+
+    /// A copy of the text, which shares its bytes.
+    pub fn share(&self) -> Result<Text, AllocError>
         ensures { IfOk result (λ copy. copy ≡ self.now) }
     {
-        Text::new(alloc, self.as_str())
+        Ok(Text {
+            inner: self.inner.clone()?,
+        })
     }
 
     /// How many bytes the text has.
@@ -55,18 +69,6 @@ impl Text {
         ensures { result.now ≡ self.now }
     {
         self.inner.as_str()
-    }
-}
-
-impl From<String> for Text {
-    ghost use Rattle.std.specs.Prelude.{◌≡◌};
-    ghost use Rattle.std.specs.String.{string_bytes};
-
-    ghost from_gives = { λ string text. text ≡ string_bytes string };
-
-    /// The text of a string, which is moved.
-    fn from(inner: String) -> Text {
-        Text { inner }
     }
 }
 

@@ -111,7 +111,7 @@ fn copy_inserts(alloc: Global, inserts: &[(Triple, u32)]) -> Result<Vec<(Triple,
 {
     let mut copy = Vec::with_capacity(alloc, inserts.len())?;
     for (triple, tick) in inserts {
-        copy.push((triple.copy_in(alloc)?, *tick))?;
+        copy.push((triple.share()?, *tick))?;
     }
     Ok(copy)
 }

@@ -47,7 +47,7 @@ pub fn meaning(
     let mut pairs = Vec::new(alloc);
     for operation in history {
         if is_known(known, operation) {
-            insert_kept(alloc, &mut pairs, history, known, operation)?;
+            insert_kept(&mut pairs, history, known, operation)?;
         }
     }
     Ok(pairs)
@@ -55,7 +55,6 @@ pub fn meaning(
 
 // Puts in the pairs of the operation that no known operation deletes.
 fn insert_kept(
-    alloc: Global,
     pairs: &mut Vec<Tagged>,
     history: &[Operation],
     known: &[Range],
@@ -66,19 +65,11 @@ fn insert_kept(
     ensures ok { OnOk result ((pair : Tagged) → Has pairs.new.items pair
         ↔ (Has pairs.old.items pair ⊎ IsOf history.now known.now operation.now.dot operation.now.inserts pair)) }
 {
-    insert_triples(
-        alloc,
-        pairs,
-        history,
-        known,
-        &operation.dot,
-        &operation.inserts,
-    )
+    insert_triples(pairs, history, known, &operation.dot, &operation.inserts)
 }
 
 // Puts in the triples with the dot, each unless a known operation deletes that pair.
 fn insert_triples(
-    alloc: Global,
     pairs: &mut Vec<Tagged>,
     history: &[Operation],
     known: &[Range],
@@ -92,7 +83,7 @@ fn insert_triples(
 {
     for triple in triples {
         let pair = Tagged {
-            triple: triple.copy_in(alloc)?,
+            triple: triple.share()?,
             dot: *dot,
         };
         insert_unless_deleted(pairs, history, known, pair)?;

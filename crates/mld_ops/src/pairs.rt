@@ -63,7 +63,7 @@ pub fn copy_pairs(alloc: Global, pairs: &[Tagged]) -> Result<Vec<Tagged>, AllocE
 {
     let mut copy = Vec::with_capacity(alloc, pairs.len())?;
     for pair in pairs {
-        copy.push(pair.copy_in(alloc)?)?;
+        copy.push(pair.share()?)?;
     }
     Ok(copy)
 }

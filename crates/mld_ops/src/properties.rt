@@ -21,7 +21,7 @@ pub fn copy_properties(alloc: Global, properties: &[Iri]) -> Result<Vec<Iri>, Al
 {
     let mut copies = Vec::with_capacity(alloc, properties.len())?;
     for property in properties {
-        copies.push(property.copy_in(alloc)?)?;
+        copies.push(property.share()?)?;
     }
     Ok(copies)
 }

@@ -1,6 +1,6 @@
 //! Tagged triples.
 use rdf_terms::Triple;
-use std::alloc::{AllocError, Global};
+use std::alloc::AllocError;
 use tree_clock::Dot;
 
 /// A triple with the dot of the operation that inserted it. Pairs are ordered by triple, then by dot.
@@ -15,12 +15,12 @@ pub struct Tagged {
 impl Tagged {
     ghost use Rattle.std.specs.Prelude.{◌≡◌, IfOk};
 
-    /// A copy of the pair.
-    pub fn copy_in(&self, alloc: Global) -> Result<Tagged, AllocError>
+    /// A copy of the pair, which shares its texts.
+    pub fn share(&self) -> Result<Tagged, AllocError>
         ensures { IfOk result (λ copy. copy ≡ self.now) }
     {
         Ok(Tagged {
-            triple: self.triple.copy_in(alloc)?,
+            triple: self.triple.share()?,
             dot: self.dot,
         })
     }

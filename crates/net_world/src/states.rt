@@ -79,7 +79,7 @@ pub fn copy_named(alloc: Global, domain: &Text, properties: &[Iri]) -> Result<Na
     ensures properties { IfOk result (λ named. named.properties.items ≡ properties.now) }
 {
     Ok(Named {
-        domain: domain.copy_in(alloc)?,
+        domain: domain.share()?,
         properties: copy_properties(alloc, properties)?,
     })
 }

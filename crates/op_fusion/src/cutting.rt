@@ -58,7 +58,7 @@ fn present<S: Tags>(alloc: Global, pairs: &[Tagged], state: &S) -> Result<Vec<Ta
     let mut present = Vec::new(alloc);
     for pair in pairs {
         if state.has(pair) {
-            present.push(pair.copy_in(alloc)?)?;
+            present.push(pair.share()?)?;
         }
     }
     Ok(present)

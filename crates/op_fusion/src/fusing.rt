@@ -91,7 +91,7 @@ fn outside(alloc: Global, pairs: &[Tagged], range: &Range) -> Result<Vec<Tagged>
     let mut kept = Vec::new(alloc);
     for pair in pairs {
         if !range.contains(&pair.dot) {
-            kept.push(pair.copy_in(alloc)?)?;
+            kept.push(pair.share()?)?;
         }
     }
     Ok(kept)

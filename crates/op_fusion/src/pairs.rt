@@ -30,7 +30,7 @@ pub fn inserted_within(
     for (triple, tick) in entry.inserts() {
         if low < *tick && *tick <= high {
             let dot = Dot { path, tick: *tick };
-            let triple = triple.copy_in(alloc)?;
+            let triple = triple.share()?;
             pairs.push(Tagged { triple, dot })?;
         }
     }

@@ -80,5 +80,5 @@ pub fn read_body(
 {
     let mut value = String::new(alloc);
     let next = read_pieces(&mut value, text, at, spot)?;
-    Ok((Text::from(value), next))
+    Ok((Text::from_string(value)?, next))
 }

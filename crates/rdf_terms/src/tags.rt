@@ -56,5 +56,5 @@ pub fn lower_tag(alloc: Global, tag: &str) -> Result<Text, AllocError>
     for byte in tag.as_bytes() {
         inner.push(char::from(byte.to_ascii_lowercase()))?;
     }
-    Ok(Text::from(inner))
+    Text::from_string(inner)
 }

@@ -51,12 +51,12 @@ impl Iri {
         Iri { text }
     }
 
-    /// A copy of the IRI.
-    pub fn copy_in(&self, alloc: Global) -> Result<Iri, AllocError>
+    /// A copy of the IRI, which shares its text.
+    pub fn share(&self) -> Result<Iri, AllocError>
         ensures { IfOk result (λ copy. copy ≡ self.now) }
     {
         Ok(Iri {
-            text: self.text.copy_in(alloc)?,
+            text: self.text.share()?,
         })
     }
 
@@ -107,13 +107,13 @@ pub(crate) enum Kind {
 impl Kind {
     ghost use Rattle.std.specs.Prelude.{◌≡◌, IfOk};
 
-    /// A copy of the datatype or the tag.
-    fn copy_in(&self, alloc: Global) -> Result<Kind, AllocError>
+    /// A copy of the datatype or the tag, which shares its text.
+    fn share(&self) -> Result<Kind, AllocError>
         ensures { IfOk result (λ copy. copy ≡ self.now) }
     {
         match self {
-            Kind::Datatype(iri) => Ok(Kind::Datatype(iri.copy_in(alloc)?)),
-            Kind::Language(tag) => Ok(Kind::Language(tag.copy_in(alloc)?)),
+            Kind::Datatype(iri) => Ok(Kind::Datatype(iri.share()?)),
+            Kind::Language(tag) => Ok(Kind::Language(tag.share()?)),
         }
     }
 }
@@ -166,7 +166,7 @@ impl Literal {
         if lexical.len() > LEXICAL_LIMIT {
             return Err(TermFault::TooLong);
         }
-        let datatype = datatype.copy_in(alloc)?;
+        let datatype = datatype.share()?;
         Ok(Literal::from_typed(Text::new(alloc, lexical)?, datatype))
     }
 
@@ -208,12 +208,12 @@ impl Literal {
         Literal { lexical, kind }
     }
 
-    /// A copy of the literal.
-    pub fn copy_in(&self, alloc: Global) -> Result<Literal, AllocError>
+    /// A copy of the literal, which shares its texts.
+    pub fn share(&self) -> Result<Literal, AllocError>
         ensures { IfOk result (λ copy. copy ≡ self.now) }
     {
-        let lexical = self.lexical.copy_in(alloc)?;
-        let kind = self.kind.copy_in(alloc)?;
+        let lexical = self.lexical.share()?;
+        let kind = self.kind.share()?;
         Ok(Literal { lexical, kind })
     }
 }
@@ -230,13 +230,13 @@ pub enum Term {
 impl Term {
     ghost use Rattle.std.specs.Prelude.{◌≡◌, IfOk};
 
-    /// A copy of the term.
-    pub fn copy_in(&self, alloc: Global) -> Result<Term, AllocError>
+    /// A copy of the term, which shares its texts.
+    pub fn share(&self) -> Result<Term, AllocError>
         ensures { IfOk result (λ copy. copy ≡ self.now) }
     {
         match self {
-            Term::Iri(iri) => Ok(Term::Iri(iri.copy_in(alloc)?)),
-            Term::Literal(literal) => Ok(Term::Literal(literal.copy_in(alloc)?)),
+            Term::Iri(iri) => Ok(Term::Iri(iri.share()?)),
+            Term::Literal(literal) => Ok(Term::Literal(literal.share()?)),
         }
     }
 }
@@ -255,13 +255,13 @@ pub struct Triple {
 impl Triple {
     ghost use Rattle.std.specs.Prelude.{◌≡◌, IfOk};
 
-    /// A copy of the triple.
-    pub fn copy_in(&self, alloc: Global) -> Result<Triple, AllocError>
+    /// A copy of the triple, which shares its texts.
+    pub fn share(&self) -> Result<Triple, AllocError>
         ensures { IfOk result (λ copy. copy ≡ self.now) }
     {
-        let s = self.s.copy_in(alloc)?;
-        let p = self.p.copy_in(alloc)?;
-        let o = self.o.copy_in(alloc)?;
+        let s = self.s.share()?;
+        let p = self.p.share()?;
+        let o = self.o.share()?;
         Ok(Triple { s, p, o })
     }
 }

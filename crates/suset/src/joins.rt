@@ -36,7 +36,7 @@ pub(crate) fn joined(
     let mut other = other;
     while let Some(step) = next_step(own, mine, other, theirs) {
         if step.stays {
-            new.push(step.pair.copy_in(alloc)?)?;
+            new.push(step.pair.share()?)?;
         }
         mine = step.mine;
         other = step.other;

@@ -113,7 +113,7 @@ fn inside(alloc: Global, pairs: &[Tagged], range: &Range) -> Result<Vec<Tagged>,
     let mut found = Vec::new(alloc);
     for pair in pairs {
         if range.contains(&pair.dot) {
-            found.push(pair.copy_in(alloc)?)?;
+            found.push(pair.share()?)?;
         }
     }
     Ok(found)

@@ -30,7 +30,7 @@ fn absolute_iris_are_tested(rt: HostRuntime) {
 #[test]
 fn texts_are_copied(rt: HostRuntime) -> Result<(), Fail> {
     let text = Text::new(rt.alloc(), "x")?;
-    let copy = text.copy_in(rt.alloc())?;
+    let copy = text.share()?;
     assert!(rt; text == copy);
     assert!(rt; text.len() == 1 && !text.is_empty() && text.as_str() == "x");
     Ok(())

@@ -33,7 +33,7 @@ fn lexical_forms_are_limited(rt: HostRuntime) -> Result<(), Fail> {
 #[test]
 fn iris_are_made_and_copied(rt: HostRuntime) -> Result<(), Fail> {
     let iri = Box::new(rt.alloc(), Iri::new(rt.alloc(), "http://d/a")?)?;
-    let copy = Box::new(rt.alloc(), iri.copy_in(rt.alloc())?)?;
+    let copy = Box::new(rt.alloc(), iri.share()?)?;
     assert!(rt; *iri == *copy && iri.as_str() == "http://d/a");
     assert!(rt; cmp_iris(&iri, &copy) == Ordering::Equal);
     assert!(rt; matches!(Iri::new(rt.alloc(), "a"), Err(TermFault::BadIri)));
@@ -53,7 +53,7 @@ fn are_same(first: &Term, second: &Term) -> bool {
 
 /// Whether a term and its copy are the same.
 fn is_copied(alloc: Global, term: &Term) -> Result<bool, Fail> {
-    let copy = Box::new(alloc, term.copy_in(alloc)?)?;
+    let copy = Box::new(alloc, term.share()?)?;
     Ok(are_same(&copy, term))
 }
 
@@ -92,7 +92,7 @@ fn bad_datatypes_and_tags_are_refused(rt: HostRuntime) -> Result<(), Fail> {
 /// Whether a triple and its copy are the same.
 fn is_triple_copied(alloc: Global, triple: &Triple) -> Result<bool, Fail> {
     triple.kept();
-    let copy = Box::new(alloc, triple.copy_in(alloc)?)?;
+    let copy = Box::new(alloc, triple.share()?)?;
     Ok(*copy == *triple)
 }
 

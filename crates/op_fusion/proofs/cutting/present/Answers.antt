@@ -5,7 +5,7 @@ use Rattle.mld_ops.specs.Tagged.{tagged_cmp}
 use Rattle.mld_ops.specs.declared.tagged.Tagged.{Tagged}
 use Rattle.op_fusion.proofs.Lists.{picks_none, picks_more, picks_skip, picks_all, picked_same}
 use Rattle.op_fusion.proofs.cutting.present.Goals as goal
-use Rattle.op_fusion.proofs.cutting.present.Goals.{then-has+in_ok-copy_in+in_ok-push, else-has}
+use Rattle.op_fusion.proofs.cutting.present.Goals.{then-has+in_ok-share+in_ok-push, else-has}
 
 pub loop-pair-init : goal.loop-pair-init
 loop-pair-init g c =
@@ -14,9 +14,9 @@ loop-pair-init g c =
 pub loop-pair-preserved : goal.loop-pair-preserved
 loop-pair-preserved g c =
     elim c.if-has.branch [
-      | then-has+in_ok-copy_in+in_ok-push w ↦ rw (w.present-is, w.in_ok-push.ensures.items)
+      | then-has+in_ok-share+in_ok-push w ↦ rw (w.present-is, w.in_ok-push.ensures.items)
           (picks_more tagged_cmp (λ (pair : Tagged). pair) (λ (pair : Tagged). Has (g.S.Tags.pairs c.args.state.now) pair) tagged_cmp (λ a b h. h) c.args.pairs.now c.loop-pair.pair-index c.pair-item.result
-          c.loop-pair.present.items w.in_ok-copy_in.field-0 c.requires c.loop-pair-test.true c.pair-item.is w.in_ok-copy_in.ensures (c.has.ensures.0 w.if-has.true) c.loop-pair.invariant)
+          c.loop-pair.present.items w.in_ok-share.field-0 c.requires c.loop-pair-test.true c.pair-item.is w.in_ok-share.ensures (c.has.ensures.0 w.if-has.true) c.loop-pair.invariant)
       | else-has w ↦ rw w.present-is
           (picks_skip tagged_cmp (λ (pair : Tagged). pair) (λ (pair : Tagged). Has (g.S.Tags.pairs c.args.state.now) pair) c.args.pairs.now c.loop-pair.pair-index c.pair-item.result c.loop-pair.present.items
           c.loop-pair-test.true c.pair-item.is (λ h. false≢true (sym w.if-has.false ∙ c.has.ensures.1 h)) c.loop-pair.invariant)
