@@ -1,5 +1,5 @@
 -- Steps of the loop that looks for the first place where two texts differ, and ranks at a place.
-use Rattle.std.proofs.Common.{◌≡◌, ◌≢◌, ℕ, zero, suc, ◌+◌, ◌<◌, ◌≤◌, List, [], ◌∷◌, length, get_or, drop, min, refl, inl, inr, arith}
+use Rattle.std.proofs.Common.{◌≡◌, ◌≢◌, ℕ, zero, suc, ◌+◌, ◌<◌, ◌≤◌, List, [], ◌∷◌, length, get_or, drop, min, refl, ap, inl, inr, arith}
 use Rattle.std.proofs.lemmas.List.{drop_more, drop_all}
 use Rattle.std.proofs.lemmas.Bool.{eq-eqb, ne_eqb, cases_lt}
 use Rattle.std.proofs.Common.{◌++◌, true, false}
@@ -7,10 +7,11 @@ use Rattle.std.specs.Cmp.Lexicographic.{slice_cmp, nat_list_cmp_total}
 use Rattle.std.specs.Ordering.{nat_cmp, ordering_reverse}
 use Rattle.std.specs.declared.cmp.Ordering.TheVariants.{Less, Equal, Greater}
 use Rattle.rdf_terms.specs.declared.terms.Kind.{Kind}
-use Rattle.rdf_terms.specs.declared.terms.Kind.TheVariants.{Datatype, Language}
+use Rattle.rdf_terms.specs.declared.terms.Kind.TheVariants.{Plain, Datatype, Language}
 use Rattle.rdf_terms.specs.Literal.{LiteralValue, Typed, Tagged, xsd_string, is_same}
 use Rattle.rdf_terms.specs.LiteralView.{literal_of}
 use Rattle.rdf_terms.specs.Spelling.{iri_text, datatype_text, escaped, literal_text}
+use Rattle.rdf_terms.proofs.Plain.{xsd_string_unwritten}
 use Rattle.rdf_terms.specs.Compare.{common, rank, rank_at, suffix_text}
 
 pub rank_at_read : (xs : List ℕ) (i : ℕ) → i < length xs → rank_at xs i ≡ rank (get_or xs i 0)
@@ -63,12 +64,24 @@ other_tag a tag h = rw h refl
 pub tag_turned : (a tag : List ℕ) → slice_cmp nat_cmp (64 ∷ tag) (datatype_text a) ≡ ordering_reverse (slice_cmp nat_cmp (datatype_text a) (64 ∷ tag))
 tag_turned a tag = nat_list_cmp_total.antisymm (64 ∷ tag) (datatype_text a)
 
+-- what is written for a datatype beside nothing, which is written for xsd:string
+pub plain_nothing : (a : List ℕ) → is_same a xsd_string ≡ true → slice_cmp nat_cmp (datatype_text a) [] ≡ Equal
+plain_nothing a h = rw h refl
+
+pub other_nothing : (a : List ℕ) → is_same a xsd_string ≡ false → slice_cmp nat_cmp (datatype_text a) [] ≡ Greater
+other_nothing a h = rw h refl
+
+pub plain_turned : (a : List ℕ) → slice_cmp nat_cmp [] (datatype_text a) ≡ ordering_reverse (slice_cmp nat_cmp (datatype_text a) [])
+plain_turned a = nat_list_cmp_total.antisymm [] (datatype_text a)
+
 -- a literal is written as its lexical form and what is behind its quotes
+pub literal_parts : (a : List ℕ) (k : Kind) → literal_text (literal_of a k) ≡ 34 ∷ (escaped a ++ 34 ∷ suffix_text k)
+literal_parts a Plain = ap (λ (l : List ℕ). 34 ∷ (escaped a ++ 34 ∷ l)) xsd_string_unwritten
+literal_parts a (Datatype i) = refl
+literal_parts a (Language t) = refl
+
 pub literals_cmp : (a b : List ℕ) (k l : Kind) → slice_cmp nat_cmp (literal_text (literal_of a k)) (literal_text (literal_of b l)) ≡ slice_cmp nat_cmp (escaped a ++ 34 ∷ suffix_text k) (escaped b ++ 34 ∷ suffix_text l)
-literals_cmp a b (Datatype i) (Datatype j) = refl
-literals_cmp a b (Datatype i) (Language t) = refl
-literals_cmp a b (Language t) (Datatype j) = refl
-literals_cmp a b (Language t) (Language u) = refl
+literals_cmp a b k l = rw (literal_parts a k, literal_parts b l) refl
 
 -- a literal comes before an IRI
 pub literal_first : (l : LiteralValue) (iri : List ℕ) → slice_cmp nat_cmp (literal_text l) (iri_text iri) ≡ Less

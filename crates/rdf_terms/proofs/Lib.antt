@@ -1,3 +1,4 @@
+pub mod Plain
 pub mod Comparing
 pub mod Blocks
 pub mod TagLemmas

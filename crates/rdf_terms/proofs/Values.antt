@@ -1,5 +1,5 @@
 -- From the lengths of a triple that a text spells to a value that may be made.
-use Rattle.std.proofs.Common.{◌≡◌, ℕ, ◌-◌, ◌≤◌, List, length, true, false, ◌&&◌, not, IsTrue, refl, sym, subst, ap, ◌∙◌, leb, inl, inr, arith}
+use Rattle.std.proofs.Common.{◌≡◌, ℕ, ◌-◌, ◌≤◌, List, length, true, false, ◌&&◌, not, IsTrue, sym, subst, ap, ◌∙◌, leb, inl, inr, arith}
 use Rattle.std.specs.Str.{str_to_ascii_lowercase}
 use Rattle.std.proofs.lemmas.Bool.{and_parts, and_from, leb-true, le-leb, false≢true}
 use Rattle.iri_rules.specs.Iri.{is_iri, is_absolute, iri_limit}
@@ -10,8 +10,9 @@ use Rattle.rdf_terms.specs.declared.terms.Term.TheVariants as terms
 use Rattle.rdf_terms.specs.declared.terms.Triple.{Triple}
 use Rattle.rdf_terms.specs.Building.{is_term_within, is_within, IsSoundTerm, IsSoundTriple, IsNoTriple, RefusesTriple}
 use Rattle.rdf_terms.specs.Grammar.{SpellsObject, SpellsTriple, IsTripleWithin, IsTermWithin}
-use Rattle.rdf_terms.specs.Literal.{Typed, Tagged, xsd_string, rdf_lang_string, is_same, is_language_tag, lexical_limit}
+use Rattle.rdf_terms.specs.Literal.{Typed, Tagged, rdf_lang_string, is_same, is_language_tag, lexical_limit}
 use Rattle.rdf_terms.specs.TripleReading.{run, Before, Subject, Spelled, StopsAt}
+use Rattle.rdf_terms.proofs.Plain.{string_absolute, string_typed}
 use Rattle.rdf_terms.proofs.Sound.{read_spelled}
 use Rattle.rdf_terms.proofs.Stopping.{stopped_exactly}
 use Rattle.rdf_terms.proofs.TagLemmas.{lower_tag, lower_lower}
@@ -45,14 +46,6 @@ test_from_IsWithin t h =
 
 absolute : (iri : List ℕ) → length iri ≤ iri_limit → IsTrue (is_iri iri) → IsTrue (is_absolute iri)
 absolute iri h g = and_from (leb (length iri) iri_limit) (is_iri iri) (le-leb (length iri) iri_limit h) g
-
-string_absolute : IsTrue (is_iri xsd_string)
-unfolding xsd_string is_iri
-string_absolute = refl
-
-string_typed : IsTrue (not (is_same xsd_string rdf_lang_string))
-unfolding xsd_string rdf_lang_string
-string_typed = refl
 
 object_is_sound : (w : List ℕ) (o : Term) → SpellsObject w o → IsTermWithin o → IsSoundTerm o
 object_is_sound w (terms.Iri iri) s h = absolute iri h s.absolute

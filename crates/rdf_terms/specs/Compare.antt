@@ -1,7 +1,7 @@
 -- How written forms are compared without being written: the first place where two texts differ decides.
 use Rattle.std.specs.Prelude.{ℕ, suc, zero, List, [], ◌∷◌, ◌*◌, ◌==◌, if◌then◌else◌}
 use Rattle.rdf_terms.specs.declared.terms.Kind.{Kind}
-use Rattle.rdf_terms.specs.declared.terms.Kind.TheVariants.{Datatype, Language}
+use Rattle.rdf_terms.specs.declared.terms.Kind.TheVariants.{Plain, Datatype, Language}
 use Rattle.rdf_terms.specs.Marks.{line_feed, carriage_return, quote, at_sign, backslash}
 use Rattle.rdf_terms.specs.Spelling.{datatype_text}
 
@@ -27,5 +27,6 @@ rank_at (byte ∷ bytes) (suc place) = rank_at bytes place
 
 -- what is written behind the quotes of a literal
 abbrev pub suffix_text : Kind → List ℕ
+suffix_text Plain = []
 suffix_text (Datatype iri) = datatype_text iri
 suffix_text (Language tag) = at_sign ∷ tag

@@ -26,6 +26,7 @@ impl Literal {
     {
         let _lexical = self.lexical.as_str();
         match &self.kind {
+            Kind::Plain => {}
             Kind::Datatype(iri) => iri.kept(),
             Kind::Language(tag) => {
                 let _tag = tag.as_str();

@@ -1,5 +1,5 @@
 //! The order of terms and triples: by the bytes of what is written for them, with no memory taken.
-ghost use Rattle.std.specs.Prelude.{◌≡◌, ℕ, List, ◌∷◌};
+ghost use Rattle.std.specs.Prelude.{◌≡◌, ℕ, List, [], ◌∷◌};
 ghost use Rattle.std.specs.Cmp.{IsTotalOrder, partial_equiv_from_equiv, eq_by_cmp_equiv, partial_order_from_total};
 ghost use Rattle.std.specs.Cmp.Lexicographic.{slice_cmp};
 ghost use Rattle.std.specs.Cmp.Rules.{comparing};
@@ -7,14 +7,13 @@ ghost use Rattle.std.proofs.Common.{rules};
 ghost use Rattle.std.proofs.lemmas.Map.Lookups.{CmpEqualImpliesEq};
 ghost use Rattle.std.specs.Ordering.{nat_cmp, eq_by_cmp, as_partial_cmp};
 ghost use Rattle.rdf_terms.specs.Compare.{suffix_text};
-ghost use Rattle.rdf_terms.specs.Literal.{is_same, xsd_string};
 ghost use Rattle.rdf_terms.specs.Spelling.{iri_text, datatype_text, literal_text};
 ghost use Rattle.rdf_terms.specs.Marks.{at_sign};
 ghost use Rattle.rdf_terms.specs.Order.{iri_cmp, term_cmp, triple_cmp};
 ghost use Rattle.rdf_terms.specs.OrderLaws.{term_total, triple_total};
 
 use crate::compare::{cmp_closed, cmp_escaped};
-use crate::terms::{Iri, Kind, Literal, Term, Triple, XSD_STRING};
+use crate::terms::{Iri, Kind, Literal, Term, Triple, is_string_type};
 use std::cmp::Ordering;
 
 /// Compares two IRIs by their bytes as they are written, so that `<http://d/a#>` comes before `<http://d/a>`.
@@ -22,14 +21,6 @@ pub fn cmp_iris(a: &Iri, b: &Iri) -> Ordering
     ensures { result ≡ iri_cmp a.now b.now }
 {
     cmp_closed(a.as_str().as_bytes(), b.as_str().as_bytes())
-}
-
-/// Whether a literal of this datatype is written without it.
-#[tactic(auto, unfolding(crate::specs::Literal::xsd_string))]
-pub fn is_string_type(datatype: &Iri) -> bool
-    ensures { result ≡ is_same datatype.now xsd_string }
-{
-    datatype.as_str() == XSD_STRING
 }
 
 /// Compares what is written for two datatypes: nothing for xsd:string.
@@ -46,15 +37,32 @@ fn cmp_datatypes(a: &Iri, b: &Iri) -> Ordering
 }
 
 /// Compares what is written behind the quotes of two literals.
-#[tactic(auto, using(crate::proofs::Comparing::tag_turned))]
+#[tactic(auto, using(crate::proofs::Comparing::tag_turned, crate::proofs::Comparing::plain_turned))]
 fn cmp_suffixes(a: &Kind, b: &Kind) -> Ordering
     ensures { result ≡ slice_cmp nat_cmp (suffix_text a.now) (suffix_text b.now) }
 {
     match (a, b) {
+        (Kind::Plain, Kind::Plain) => Ordering::Equal,
+        (Kind::Plain, Kind::Datatype(other)) => cmp_with_plain(other).reverse(),
+        (Kind::Plain, Kind::Language(_)) => Ordering::Less,
+        (Kind::Datatype(datatype), Kind::Plain) => cmp_with_plain(datatype),
+        (Kind::Language(_), Kind::Plain) => Ordering::Greater,
         (Kind::Datatype(datatype), Kind::Datatype(other)) => cmp_datatypes(datatype, other),
         (Kind::Datatype(datatype), Kind::Language(_)) => cmp_with_tag(datatype),
         (Kind::Language(_), Kind::Datatype(other)) => cmp_with_tag(other).reverse(),
         (Kind::Language(tag), Kind::Language(other)) => tag.as_str().cmp(&other.as_str()),
+    }
+}
+
+/// Compares what is written for a datatype with nothing, which is written for xsd:string.
+#[tactic(auto, using(crate::proofs::Comparing::plain_nothing, crate::proofs::Comparing::other_nothing))]
+fn cmp_with_plain(datatype: &Iri) -> Ordering
+    ensures { result ≡ slice_cmp nat_cmp (datatype_text datatype.now) [] }
+{
+    if is_string_type(datatype) {
+        Ordering::Equal
+    } else {
+        Ordering::Greater
     }
 }
 

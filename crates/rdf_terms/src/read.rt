@@ -14,16 +14,19 @@ use crate::faults::TripleFault;
 use crate::places::has_byte;
 use crate::spots::Spot;
 use crate::tags::lower_tag;
-use crate::terms::{XSD_STRING, is_lang_string};
+use crate::terms::is_lang_string;
 use iri_rules::Text;
 use iri_rules::characters::{is_digit, is_letter};
 use std::alloc::Global;
 
-/// An object that was read, of any lengths: an IRI, a lexical form with its datatype, or one with its tag in lower case.
+/// An object that was read, of any lengths: an IRI, a lexical form that names no datatype, one with its datatype, or one
+/// with its tag in lower case.
 #[derive(Debug, Drop)]
 pub enum ObjectParts {
     /// An IRI.
     Iri(Text),
+    /// A lexical form alone, whose datatype is xsd:string.
+    Plain(Text),
     /// A lexical form and a datatype.
     Typed(Text, Text),
     /// A lexical form and a language tag.
@@ -183,8 +186,7 @@ fn read_suffix(
     if has_byte(text, at, b'^') {
         return read_datatype(alloc, text, at + 1, lexical);
     }
-    let datatype = Text::new(alloc, XSD_STRING)?;
-    Ok((ObjectParts::Typed(lexical, datatype), at))
+    Ok((ObjectParts::Plain(lexical), at))
 }
 
 /// Reads a literal behind its first quote.

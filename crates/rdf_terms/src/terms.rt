@@ -1,6 +1,6 @@
 //! IRIs, literals, terms and triples (RDF 1.1 Concepts, section 3).
 ghost use Rattle.std.specs.Prelude.{◌≡◌};
-ghost use Rattle.rdf_terms.specs.Literal.{is_same, rdf_lang_string};
+ghost use Rattle.rdf_terms.specs.Literal.{is_same, rdf_lang_string, xsd_string};
 
 use crate::faults::TermFault;
 use crate::limits::LEXICAL_LIMIT;
@@ -90,7 +90,7 @@ impl Eq for Iri {
 }
 
 /// xsd:string, the datatype of a literal that names none.
-pub(crate) const XSD_STRING: &str = "http://www.w3.org/2001/XMLSchema#string";
+const XSD_STRING: &str = "http://www.w3.org/2001/XMLSchema#string";
 
 /// rdf:langString, the datatype of literals with a language tag, which none names.
 pub(crate) const RDF_LANG_STRING: &str = "http://www.w3.org/1999/02/22-rdf-syntax-ns#langString";
@@ -98,6 +98,8 @@ pub(crate) const RDF_LANG_STRING: &str = "http://www.w3.org/1999/02/22-rdf-synta
 /// What a literal has beside its lexical form.
 #[derive(Debug, Drop)]
 pub(crate) enum Kind {
+    /// xsd:string, which literals that name none have.
+    Plain,
     /// A datatype other than rdf:langString.
     Datatype(Iri),
     /// A language tag in lower case.
@@ -112,10 +114,19 @@ impl Kind {
         ensures { IfOk result (λ copy. copy ≡ self.now) }
     {
         match self {
+            Kind::Plain => Ok(Kind::Plain),
             Kind::Datatype(iri) => Ok(Kind::Datatype(iri.share()?)),
             Kind::Language(tag) => Ok(Kind::Language(tag.share()?)),
         }
     }
+}
+
+/// Whether a literal of this datatype is written without it.
+#[tactic(auto, unfolding(crate::specs::Literal::xsd_string))]
+pub(crate) fn is_string_type(datatype: &Iri) -> bool
+    ensures { result ≡ is_same datatype.now xsd_string }
+{
+    datatype.as_str() == XSD_STRING
 }
 
 /// Whether a datatype is rdf:langString.
@@ -149,10 +160,11 @@ impl Literal {
     ghost use Rattle.std.specs.Prelude.{◌≡◌, ◌↔◌, ◌<◌, ◌≤◌, IsTrue, IfOk, IfErr, IsErrOf, not, length};
     ghost use Rattle.std.specs.Str.{str_to_ascii_lowercase};
     ghost use Rattle.rdf_terms.specs.TermFaults.{MayRefuseTyped, MayRefuseTagged};
-    ghost use Rattle.rdf_terms.specs.Literal.{Typed, Tagged, IsLiteral, is_same, rdf_lang_string, is_language_tag, lexical_limit};
+    ghost use Rattle.rdf_terms.specs.Literal.{Typed, Tagged, IsLiteral, is_same, xsd_string, rdf_lang_string, is_language_tag, lexical_limit};
 
     /// The literal of a lexical form and a datatype, refused with `BadType` where the datatype is rdf:langString,
     /// else with `TooLong` where the lexical form has more than 1,048,576 bytes.
+    #[tactic(auto, using(crate::proofs::Plain::is_xsd_string, crate::proofs::Plain::plain_literal))]
     pub fn new(alloc: Global, lexical: &str, datatype: &Iri) -> Result<Literal, TermFault>
         ensures ok { IfOk result (λ literal. literal ≡ Typed lexical.now datatype.now) }
         ensures bad_type { IsErrOf result TermFault.BadType ↔ IsTrue (is_same datatype.now rdf_lang_string) }
@@ -166,8 +178,11 @@ impl Literal {
         if lexical.len() > LEXICAL_LIMIT {
             return Err(TermFault::TooLong);
         }
-        let datatype = datatype.share()?;
-        Ok(Literal::from_typed(Text::new(alloc, lexical)?, datatype))
+        let lexical = Text::new(alloc, lexical)?;
+        if is_string_type(datatype) {
+            return Ok(Literal::plain(lexical));
+        }
+        Ok(Literal::from_typed(lexical, datatype.share()?))
     }
 
     /// The literal of a lexical form and a language tag, which it keeps in lower case, refused with `BadTag`
@@ -188,6 +203,15 @@ impl Literal {
         }
         let tag = lower_tag(alloc, tag)?;
         Ok(Literal::from_tagged(Text::new(alloc, lexical)?, tag))
+    }
+
+    /// The literal of a lexical form that is not too long and the datatype xsd:string, which takes no memory for it.
+    pub(crate) fn plain(lexical: Text) -> Literal
+        requires { IsLiteral (Typed lexical xsd_string) }
+        ensures { result ≡ Typed lexical xsd_string }
+    {
+        let kind = Kind::Plain;
+        Literal { lexical, kind }
     }
 
     /// The literal of a lexical form that is not too long and a datatype that literals may have.

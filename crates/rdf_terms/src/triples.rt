@@ -19,6 +19,7 @@ fn is_object_within(object: &ObjectParts) -> bool
 {
     match object {
         ObjectParts::Iri(iri) => iri.len() <= IRI_LIMIT,
+        ObjectParts::Plain(lexical) => lexical.len() <= LEXICAL_LIMIT,
         ObjectParts::Typed(lexical, datatype) => {
             lexical.len() <= LEXICAL_LIMIT && datatype.len() <= IRI_LIMIT
         }
@@ -41,6 +42,7 @@ fn build_object(object: ObjectParts) -> Term
 {
     match object {
         ObjectParts::Iri(iri) => Term::Iri(Iri::from_absolute(iri)),
+        ObjectParts::Plain(lexical) => Term::Literal(Literal::plain(lexical)),
         ObjectParts::Typed(lexical, datatype) => {
             Term::Literal(Literal::from_typed(lexical, Iri::from_absolute(datatype)))
         }

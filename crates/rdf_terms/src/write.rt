@@ -1,5 +1,5 @@
 //! Triples as they are written (N-Triples 1.1, canonical form).
-#![tactic(auto, using(std::proofs::lemmas::Grind::common_steps, crate::proofs::Appending::keeps_same, crate::proofs::Appending::keeps_more, crate::proofs::Appending::keeps_further))]
+#![tactic(auto, using(std::proofs::lemmas::Grind::common_steps, crate::proofs::Appending::keeps_same, crate::proofs::Appending::keeps_more, crate::proofs::Appending::keeps_further, crate::proofs::Comparing::literal_parts))]
 
 ghost use Rattle.std.specs.Prelude.{◌≡◌, [], ◌∷◌, ◌++◌, OnOk, OnErr, MatchOption};
 ghost use Rattle.rdf_terms.specs.Compare.{suffix_text};
@@ -7,8 +7,7 @@ ghost use Rattle.rdf_terms.specs.Kept.{KeepsStart};
 ghost use Rattle.rdf_terms.specs.Marks.{space, backslash};
 ghost use Rattle.rdf_terms.specs.Spelling.{iri_text, escaped, escaped_byte, datatype_text, literal_text, term_text, triple_text};
 
-use crate::order::is_string_type;
-use crate::terms::{Iri, Kind, Literal, Term, Triple};
+use crate::terms::{Iri, Kind, Literal, Term, Triple, is_string_type};
 use std::alloc::AllocError;
 
 /// The byte that stands behind a backslash for a byte that is escaped.
@@ -85,6 +84,7 @@ fn append_suffix(out: &mut Vec<u8>, kind: &Kind) -> Result<(), AllocError>
     ensures err { OnErr result (KeepsStart out.old.items out.new.items) }
 {
     match kind {
+        Kind::Plain => Ok(()),
         Kind::Datatype(datatype) => append_datatype(out, datatype),
         Kind::Language(tag) => {
             out.extend_from_slice(b"@")?;

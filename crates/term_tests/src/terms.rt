@@ -70,6 +70,22 @@ fn literals_are_made_and_copied(rt: HostRuntime) -> Result<(), Fail> {
     Ok(())
 }
 
+const STRING: &str = "http://www.w3.org/2001/XMLSchema#string";
+
+#[test]
+fn strings_are_the_same_however_named(rt: HostRuntime) -> Result<(), Fail> {
+    let alloc = rt.alloc();
+    let unnamed = "<http://d/a> <http://d/p> \"x\" .";
+    let unnamed = Box::new(alloc, read_triple(alloc, unnamed)?)?;
+    let named = format!(in alloc; "<http://d/a> <http://d/p> \"x\"^^<{STRING}> .")?;
+    let named = Box::new(alloc, read_triple(alloc, named.as_str())?)?;
+    let made = Box::new(alloc, Term::Literal(typed(alloc, STRING)?))?;
+    assert!(rt; are_same(&unnamed.o, &named.o) && are_same(&named.o, &unnamed.o));
+    assert!(rt; are_same(&unnamed.o, &made) && are_same(&made, &named.o));
+    assert!(rt; is_copied(alloc, &made)?);
+    Ok(())
+}
+
 /// Whether a datatype is refused.
 fn is_no_datatype(alloc: Global, text: &str) -> Result<bool, Fail> {
     let datatype = Box::new(alloc, Iri::new(alloc, text)?)?;

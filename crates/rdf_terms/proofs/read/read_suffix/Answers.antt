@@ -1,9 +1,6 @@
-use Rattle.std.proofs.Common.{◌+◌, List, ℕ, [], false, subst, sym, arith}
-use Rattle.rdf_terms.specs.declared.terms.Term.TheVariants as terms
-use Rattle.rdf_terms.specs.Literal.{Typed, xsd_string}
+use Rattle.std.proofs.Common.{◌+◌, [], false, arith}
 use Rattle.rdf_terms.specs.Parts.{object_value}
 use Rattle.rdf_terms.specs.TripleReading.{Quoted, Tag, Hat}
-use Rattle.rdf_terms.specs.TripleReads.{IsObject}
 use Rattle.rdf_terms.proofs.ReadLemmas.{object_ends, at_leads, hat_leads, quoted_other, boundary_behind_byte}
 use Rattle.rdf_terms.proofs.read.read_suffix.Goals as goal
 
@@ -23,7 +20,4 @@ returns-then-has_byte-2 c =
     (λ s p. hat_leads c.args.text.now c.args.at c.args.lexical s p here) c.read_datatype.ensures
 
 pub returns : goal.returns
-unfolding xsd_string
-returns c =
-    subst (λ (d : List ℕ). IsObject c.args.text.now c.args.at (λ s p. Quoted s p c.args.lexical) (terms.Literal (Typed c.args.lexical d)) c.args.at) (sym c.in_ok-datatype.ensures)
-    (quoted_other c.args.text.now c.args.at c.args.lexical c.requires c.if-has_byte.ensures c.if-has_byte-2.ensures)
+returns c = quoted_other c.args.text.now c.args.at c.args.lexical c.requires c.if-has_byte.ensures c.if-has_byte-2.ensures

@@ -6,7 +6,7 @@ use Rattle.rdf_terms.specs.Parts.{triple_value}
 use Rattle.rdf_terms.proofs.Sound.{read_spelled}
 use Rattle.rdf_terms.proofs.Values.{sound_from_read, too_long_from_read, refused_from_read}
 use Rattle.rdf_terms.proofs.triples.read_triple.Goals as goal
-use Rattle.rdf_terms.proofs.triples.read_triple.Goals.{in-Iri-1, in-Typed-1, in-Tagged-1}
+use Rattle.rdf_terms.proofs.triples.read_triple.Goals.{in-Iri-1, in-Plain-1, in-Typed-1, in-Tagged-1}
 
 pub build_triple-requires : goal.build_triple-requires
 build_triple-requires c = sound_from_read c.args.text.now (triple_value c.in_ok-parts.parts) c.in_ok-parts.ensures (sym c.is_within.ensures ∙ c.if-not-is_within.false)
@@ -20,6 +20,7 @@ pub returns-then-not-is_within-clause-refusals : goal.returns-then-not-is_within
 returns-then-not-is_within-clause-refusals c =
     elim c.match-parts.branch [
       | in-Iri-1 w ↦ too_long_from_read c.args.text.now (triple_value c.in_ok-parts.parts) c.in_ok-parts.ensures (sym c.is_within.ensures ∙ c.if-not-is_within.true)
+      | in-Plain-1 w ↦ too_long_from_read c.args.text.now (triple_value c.in_ok-parts.parts) c.in_ok-parts.ensures (sym c.is_within.ensures ∙ c.if-not-is_within.true)
       | in-Typed-1 w ↦ too_long_from_read c.args.text.now (triple_value c.in_ok-parts.parts) c.in_ok-parts.ensures (sym c.is_within.ensures ∙ c.if-not-is_within.true)
       | in-Tagged-1 w ↦ too_long_from_read c.args.text.now (triple_value c.in_ok-parts.parts) c.in_ok-parts.ensures (sym c.is_within.ensures ∙ c.if-not-is_within.true)
     ]
