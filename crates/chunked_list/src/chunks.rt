@@ -10,7 +10,7 @@ use crate::limits::{CHUNK_LIMIT, HALF};
 use std::alloc::{AllocError, Global};
 use std::marker::Model;
 
-/// At most 128 elements, with room for as many. Contracts see it as a list.
+/// At most 64 elements, with room for as many. Contracts see it as a list.
 #[derive(Drop)]
 pub struct Chunk<T> {
     elements: Vec<T>,

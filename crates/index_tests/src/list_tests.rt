@@ -103,28 +103,28 @@ fn has_all(list: &Chunked<u32>, end: u32) -> bool {
 fn chunks_split_at_their_limit(rt: HostRuntime) -> Result<(), Fail> {
     let alloc = rt.alloc();
     let mut list = Box::new(alloc, Chunked::new(alloc))?;
-    assert!(rt; fill(alloc, &mut list, 0, 2, 127) && has_chunk(&list, 1, 0, (0, 252), 127));
-    assert!(rt; fill(alloc, &mut list, 254, 2, 1) && has_chunk(&list, 2, 1, (128, 254), 64));
-    assert!(rt; fill(alloc, &mut list, 256, 2, 1) && has_chunk(&list, 2, 1, (128, 256), 65));
+    assert!(rt; fill(alloc, &mut list, 0, 2, 63) && has_chunk(&list, 1, 0, (0, 124), 63));
+    assert!(rt; fill(alloc, &mut list, 126, 2, 1) && has_chunk(&list, 2, 1, (64, 126), 32));
+    assert!(rt; fill(alloc, &mut list, 128, 2, 1) && has_chunk(&list, 2, 1, (64, 128), 33));
     // The even numbers below 500, then the odd ones.
-    assert!(rt; fill(alloc, &mut list, 258, 2, 121) && has_chunk(&list, 3, 2, (256, 498), 122));
-    assert!(rt; fill(alloc, &mut list, 1, 2, 250) && has_chunk(&list, 7, 4, (256, 371), 116));
+    assert!(rt; fill(alloc, &mut list, 130, 2, 185) && has_chunk(&list, 7, 6, (384, 498), 58));
+    assert!(rt; fill(alloc, &mut list, 1, 2, 250) && has_chunk(&list, 15, 12, (384, 435), 52));
     assert!(rt; has_all(&list, 500) && fill(alloc, &mut list, 0, 7, 70) && has_all(&list, 500));
     assert!(rt; loses_a_chunk(&mut list));
     Ok(())
 }
 
-// The numbers of the second of seven chunks are taken out of all numbers below 500.
+// The numbers of the second of fifteen chunks are taken out of all numbers below 500.
 fn loses_a_chunk(list: &mut Chunked<u32>) -> bool
     requires { IsAscending nat_cmp list.old.elements }
 {
-    cut_out(list, 64, 128);
-    list.len() == 436
-        && has_chunk(list, 6, 1, (128, 191), 64)
-        && list.contains(&BySize, &63)
-        && !list.contains(&BySize, &64)
-        && !list.contains(&BySize, &127)
-        && list.contains(&BySize, &128)
+    cut_out(list, 32, 64);
+    list.len() == 468
+        && has_chunk(list, 14, 1, (64, 95), 32)
+        && list.contains(&BySize, &31)
+        && !list.contains(&BySize, &32)
+        && !list.contains(&BySize, &63)
+        && list.contains(&BySize, &64)
 }
 
 #[test]
@@ -150,13 +150,13 @@ fn lists_of_vectors_about_the_limit(rt: HostRuntime) -> Result<(), Fail> {
     let alloc = rt.alloc();
     let none = Box::new(alloc, numbers_to(alloc, 0)?)?;
     assert!(rt; has_all(&none, 0) && none.is_empty() && none.chunks().is_empty());
-    let full = Box::new(alloc, numbers_to(alloc, 127)?)?;
-    assert!(rt; has_all(&full, 127) && has_chunk(&full, 1, 0, (0, 126), 127));
-    let split = Box::new(alloc, numbers_to(alloc, 128)?)?;
-    assert!(rt; has_all(&split, 128) && has_chunk(&split, 2, 0, (0, 63), 64));
-    assert!(rt; has_chunk(&split, 2, 1, (64, 127), 64));
-    let more = Box::new(alloc, numbers_to(alloc, 129)?)?;
-    assert!(rt; has_all(&more, 129) && has_chunk(&more, 2, 1, (64, 128), 65));
+    let full = Box::new(alloc, numbers_to(alloc, 63)?)?;
+    assert!(rt; has_all(&full, 63) && has_chunk(&full, 1, 0, (0, 62), 63));
+    let split = Box::new(alloc, numbers_to(alloc, 64)?)?;
+    assert!(rt; has_all(&split, 64) && has_chunk(&split, 2, 0, (0, 31), 32));
+    assert!(rt; has_chunk(&split, 2, 1, (32, 63), 32));
+    let more = Box::new(alloc, numbers_to(alloc, 65)?)?;
+    assert!(rt; has_all(&more, 65) && has_chunk(&more, 2, 1, (32, 64), 33));
     Ok(())
 }
 
@@ -164,13 +164,13 @@ fn lists_of_vectors_about_the_limit(rt: HostRuntime) -> Result<(), Fail> {
 fn a_chunk_splits_at_its_first_and_last_place(rt: HostRuntime) -> Result<(), Fail> {
     let alloc = rt.alloc();
     let mut list = Box::new(alloc, Chunked::new(alloc))?;
-    assert!(rt; fill(alloc, &mut list, 1, 1, 127) && has_chunk(&list, 1, 0, (1, 127), 127));
-    assert!(rt; fill(alloc, &mut list, 0, 1, 1) && has_all(&list, 128));
-    assert!(rt; has_chunk(&list, 2, 0, (0, 63), 64) && has_chunk(&list, 2, 1, (64, 127), 64));
+    assert!(rt; fill(alloc, &mut list, 1, 1, 63) && has_chunk(&list, 1, 0, (1, 63), 63));
+    assert!(rt; fill(alloc, &mut list, 0, 1, 1) && has_all(&list, 64));
+    assert!(rt; has_chunk(&list, 2, 0, (0, 31), 32) && has_chunk(&list, 2, 1, (32, 63), 32));
     // The second one is filled, and gets a last element that splits it.
-    assert!(rt; fill(alloc, &mut list, 128, 1, 63) && has_chunk(&list, 2, 1, (64, 190), 127));
-    assert!(rt; fill(alloc, &mut list, 191, 1, 1) && has_all(&list, 192));
-    assert!(rt; has_chunk(&list, 3, 1, (64, 127), 64) && has_chunk(&list, 3, 2, (128, 191), 64));
+    assert!(rt; fill(alloc, &mut list, 64, 1, 31) && has_chunk(&list, 2, 1, (32, 94), 63));
+    assert!(rt; fill(alloc, &mut list, 95, 1, 1) && has_all(&list, 96));
+    assert!(rt; has_chunk(&list, 3, 1, (32, 63), 32) && has_chunk(&list, 3, 2, (64, 95), 32));
     Ok(())
 }
 
@@ -178,15 +178,15 @@ fn a_chunk_splits_at_its_first_and_last_place(rt: HostRuntime) -> Result<(), Fai
 fn a_chunk_goes_with_its_last_element(rt: HostRuntime) -> Result<(), Fail> {
     let alloc = rt.alloc();
     let mut list = Box::new(alloc, Chunked::new(alloc))?;
-    assert!(rt; fill(alloc, &mut list, 0, 1, 192));
+    assert!(rt; fill(alloc, &mut list, 0, 1, 96));
     // The last element of a chunk goes, and comes back to its end.
-    cut_out(&mut list, 63, 64);
-    assert!(rt; has_chunk(&list, 3, 0, (0, 62), 63) && !list.contains(&BySize, &63));
-    assert!(rt; fill(alloc, &mut list, 63, 1, 1) && has_chunk(&list, 3, 0, (0, 63), 64));
+    cut_out(&mut list, 31, 32);
+    assert!(rt; has_chunk(&list, 3, 0, (0, 30), 31) && !list.contains(&BySize, &31));
+    assert!(rt; fill(alloc, &mut list, 31, 1, 1) && has_chunk(&list, 3, 0, (0, 31), 32));
     // All elements of the chunk in the middle go, and then those on both sides.
-    cut_out(&mut list, 64, 128);
-    assert!(rt; has_chunk(&list, 2, 1, (128, 191), 64) && list.len() == 128);
-    cut_out(&mut list, 0, 192);
+    cut_out(&mut list, 32, 64);
+    assert!(rt; has_chunk(&list, 2, 1, (64, 95), 32) && list.len() == 64);
+    cut_out(&mut list, 0, 96);
     assert!(rt; has_all(&list, 0) && list.is_empty() && list.chunks().is_empty());
     assert!(rt; fill(alloc, &mut list, 0, 1, 1) && has_chunk(&list, 1, 0, (0, 0), 1));
     Ok(())
@@ -219,17 +219,17 @@ fn are_same(found: &[&u32], wanted: &[u32]) -> bool {
     true
 }
 
-// The even numbers from 0 to 398 stand in three chunks, of which the first two have 64 of them.
+// The even numbers from 0 to 398 stand in six chunks, of which the first five have 32 of them.
 #[test]
 fn elements_between_two_places(rt: HostRuntime) -> Result<(), Fail> {
     let alloc = rt.alloc();
     let mut list = Box::new(alloc, Chunked::new(alloc))?;
-    assert!(rt; fill(alloc, &mut list, 0, 2, 200) && has_chunk(&list, 3, 0, (0, 126), 64));
-    assert!(rt; has_chunk(&list, 3, 1, (128, 254), 64));
-    assert!(rt; has_between(alloc, &list, (124, 131), &[124, 126, 128, 130])?);
-    assert!(rt; has_between(alloc, &list, (127, 129), &[128])?);
-    assert!(rt; has_between(alloc, &list, (125, 127), &[126])?);
-    assert!(rt; has_between(alloc, &list, (127, 127), &[])?);
+    assert!(rt; fill(alloc, &mut list, 0, 2, 200) && has_chunk(&list, 6, 0, (0, 62), 32));
+    assert!(rt; has_chunk(&list, 6, 1, (64, 126), 32));
+    assert!(rt; has_between(alloc, &list, (60, 67), &[60, 62, 64, 66])?);
+    assert!(rt; has_between(alloc, &list, (63, 65), &[64])?);
+    assert!(rt; has_between(alloc, &list, (61, 63), &[62])?);
+    assert!(rt; has_between(alloc, &list, (63, 63), &[])?);
     assert!(rt; has_between(alloc, &list, (5, 3), &[])?);
     assert!(rt; has_between(alloc, &list, (0, 1), &[0])?);
     assert!(rt; has_between(alloc, &list, (396, 1000), &[396, 398])?);
