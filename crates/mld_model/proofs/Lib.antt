@@ -16,3 +16,7 @@ pub mod LeafLaws
 pub mod SoundLaws
 pub mod JoiningLaws
 pub mod FoundedLaws
+pub mod MergedLaws
+pub mod LeadsLaws
+pub mod TruncatedStands
+pub mod MergedStands

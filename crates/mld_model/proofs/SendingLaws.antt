@@ -10,7 +10,7 @@ use Rattle.mld_model.proofs.LeafLaws.{given_before}
 use Rattle.mld_model.proofs.SoundLaws.{live_sound}
 
 -- one message was sent
-said_sound : (world : World) (message : Message) → IsSound world → IsSoundMessage world.history message
+pub said_sound : (world : World) (message : Message) → IsSound world → IsSoundMessage world.history message
     → ((id : ℕ) (path : List ℕ) (dots : List Range) → ¬ (message ≡ JoinGive id path dots)) → IsSound (record world { messages = world.messages ++ message ∷ [] })
 said_sound world message sound good none =
     let was_open : (place id : ℕ) (path : List ℕ) (dots : List Range) → IsOpenGive (record world { messages = world.messages ++ message ∷ [] }) place id path dots

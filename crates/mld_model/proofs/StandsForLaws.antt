@@ -6,19 +6,19 @@ use Rattle.std.proofs.lemmas.Bool.{cases_eq}
 use Rattle.std.proofs.lemmas.List.{get_or-set_same, get_or-set_other, length-set, set-get_or}
 use Rattle.tree_clock.specs.declared.dots.Range.{Range}
 use Rattle.tree_clock.specs.Lists.{Has}
-use Rattle.mld_ops.specs.History.{Operation, IsNext}
+use Rattle.mld_ops.specs.History.{Operation, IsClosed, IsNext}
 use Rattle.mld_ops.proofs.MeaningLaws.{meaning_with_unknown}
 use Rattle.std.specs.List.{AllZip}
 use Rattle.mld_ops.proofs.PickingLaws.{pairs_as}
-use Rattle.mld_ops.specs.Messages.{MessageValue, CarriesEntry, CarriesWant, CarriesAsk, CarriesGive, IsGoodMessage}
+use Rattle.mld_ops.specs.Messages.{MessageValue, CarriesEntry, CarriesWant, CarriesSnapshot, CarriesAsk, CarriesGive, SnapshotValue, IsGoodSnapshot, IsGoodMessage}
 use Rattle.mld_model.specs.Clone.{Clone, Absent, Asking, Empty, Down, Live, Stored}
-use Rattle.mld_model.specs.World.{World, Message, RangeOf, Want, JoinAsk, JoinGive, clone_at, clone_count}
+use Rattle.mld_model.specs.World.{World, Message, RangeOf, Want, SnapshotOf, JoinAsk, JoinGive, clone_at, clone_count}
 use Rattle.mld_model.specs.Local.{LocalAsker, LocalClone, CloneValue, IsSameClone}
 use Rattle.mld_model.proofs.PairsLaws.{PairAt, pair_at}
 use Rattle.mld_model.specs.declared.NoDevice.{NoDevice}
 use Rattle.mld_model.specs.Sound.{IsSoundMessage, IsSound}
 use Rattle.mld_model.specs.declared.CloneState.TheVariants as states
-use Rattle.mld_model.specs.StandsFor.{RunningClone, RunningWorld, IsCloneOf, IsAskerOf, LocalStandsFor, CloneStandsFor, MessageStandsFor, StandsFor, id_of}
+use Rattle.mld_model.specs.StandsFor.{RunningClone, RunningWorld, IsCloneOf, IsAskerOf, LocalStandsFor, CloneStandsFor, SnapshotStandsFor, MessageStandsFor, StandsFor, id_of}
 use Rattle.mld_model.proofs.SoundLaws.{live_sound}
 use Rattle.mld_model.proofs.JournalLaws.{journal_done}
 use Rattle.mld_model.proofs.HistoryLaws.{done_not_fresh}
@@ -168,18 +168,24 @@ clones_still_stand running world next operation stands sound is_next history dom
 
 -- a history, and an operation that comes next
 module _ (history : List Operation) (next : Operation) where
+  -- a snapshot of closed dots stands for them in the longer history too
+  snapshot_still_stands : (snapshot : SnapshotValue) (dots : List Range) → IsNext history next → IsClosed history dots → SnapshotStandsFor history snapshot dots
+      → SnapshotStandsFor (next ∷ history) snapshot dots
+  snapshot_still_stands snapshot dots is_next closed stands = record {
+    known = stands.known;
+    pairs = meaning_with_unknown history dots next snapshot.pairs stands.pairs (λ k. done_not_fresh history next next.dot is_next (closed.done next.dot k) refl);
+  }
+
   message_still_stands : (message : MessageValue) (other : Message) → IsNext history next → IsSoundMessage history other → MessageStandsFor history message other
       → MessageStandsFor (next ∷ history) message other
   message_still_stands (CarriesEntry entry) (RangeOf range) is_next sound stands = entry_still_stands history next entry range is_next sound stands
   message_still_stands (CarriesWant ticks) (Want dots) is_next sound stands = stands
+  message_still_stands (CarriesSnapshot snapshot) (SnapshotOf dots) is_next sound stands = snapshot_still_stands snapshot dots is_next sound stands
   message_still_stands (CarriesAsk id) (JoinAsk number) is_next sound stands = stands
   message_still_stands (CarriesGive give) (JoinGive number path dots) is_next sound stands = record {
     id = stands.id;
     leaf = stands.leaf;
-    snapshot = record {
-      known = stands.snapshot.known;
-      pairs = meaning_with_unknown history dots next give.snapshot.pairs stands.snapshot.pairs (λ k. done_not_fresh history next next.dot is_next (sound.1.done next.dot k) refl);
-    };
+    snapshot = snapshot_still_stands give.snapshot dots is_next sound.1 stands.snapshot;
   }
   message_still_stands message other is_next sound stands = absurd stands
 
@@ -190,12 +196,17 @@ module _ (history : List Operation) (next : Operation) where
       pairs_as (MessageStandsFor history) (MessageStandsFor (next ∷ history)) messages others all
       (λ message other h stands. message_still_stands message other is_next (sound other h) stands)
 
--- a message that stands for one of the model is a good one: a leaf that is given comes with a good snapshot
-good_message : (history : List Operation) (message : MessageValue) (other : Message) → MessageStandsFor history message other → IsGoodMessage message
-good_message history (CarriesGive give) (JoinGive number path dots) stands = record {
-  ascending = stands.snapshot.pairs.ascending;
-  covered = λ pair h. (stands.snapshot.known pair.dot).1 (stands.snapshot.pairs.sound pair h).covered;
+-- a snapshot that stands for dots is a good one
+pub good_snapshot : (history : List Operation) (snapshot : SnapshotValue) (dots : List Range) → SnapshotStandsFor history snapshot dots → IsGoodSnapshot snapshot
+good_snapshot history snapshot dots stands = record {
+  ascending = stands.pairs.ascending;
+  covered = λ pair h. (stands.known pair.dot).1 (stands.pairs.sound pair h).covered;
 }
+
+-- a message that stands for one of the model is a good one: its snapshot is, where it has one
+good_message : (history : List Operation) (message : MessageValue) (other : Message) → MessageStandsFor history message other → IsGoodMessage message
+good_message history (CarriesSnapshot snapshot) (SnapshotOf dots) stands = good_snapshot history snapshot dots stands
+good_message history (CarriesGive give) (JoinGive number path dots) stands = good_snapshot history give.snapshot dots stands.snapshot
 good_message history (CarriesEntry entry) other stands = tt
 good_message history (CarriesWant ticks) other stands = tt
 good_message history (CarriesAsk id) other stands = tt

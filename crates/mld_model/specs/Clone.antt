@@ -1,6 +1,6 @@
 -- The model of a clone: its path and the dots that it knows, by its base and its journal. It has no content: the
 -- history says what the dots mean.
-use Rattle.std.specs.Prelude.{◌≡◌, ℕ, ◌-◌, List, [], ◌∷◌, ◌++◌, ◌⊎◌, Option, Some, None}
+use Rattle.std.specs.Prelude.{◌≡◌, ℕ, ◌-◌, List, [], ◌∷◌, ◌++◌, ◌⊎◌, Option, Some, None, length, take, drop}
 use Rattle.tree_clock.specs.declared.dots.Dot.{Dot}
 use Rattle.tree_clock.specs.declared.dots.Range.{Range}
 use Rattle.tree_clock.specs.Dot.{IsIn, Knows}
@@ -38,6 +38,18 @@ known_of stored = stored.base ++ stored.journal
 -- the clone with the range at the end of its journal
 abbrev pub with_range : Stored → Range → Stored
 with_range stored range = record { path = stored.path; base = stored.base; journal = stored.journal ++ range ∷ [] }
+
+-- what a clone keeps that merges what one has who knows these dots: its base is all that both know, and it has no journal
+abbrev pub merged_with : Stored → List Range → Stored
+merged_with stored dots = record { path = stored.path; base = known_of stored ++ dots; journal = [] }
+
+-- what a clone keeps where so many ranges stay at the end of its journal, or all where it has fewer: the dots of the others join its base
+abbrev pub truncated_to : Stored → ℕ → Stored
+truncated_to stored keep = record {
+  path = stored.path;
+  base = stored.base ++ take (length stored.journal - keep) stored.journal;
+  journal = drop (length stored.journal - keep) stored.journal;
+}
 
 -- the range is known: its last dot is
 abbrev pub IsKnown : List Range → Range → Type 0

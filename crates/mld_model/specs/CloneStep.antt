@@ -14,10 +14,10 @@ use Rattle.mld_ops.specs.Effect.{range_of}
 use Rattle.mld_ops.specs.Meaning.{IsMeaning}
 use Rattle.mld_ops.specs.Picking.{DropsThose}
 use Rattle.op_fusion.specs.Compacting.{AreCompacted}
-use Rattle.mld_model.specs.Clone.{Clone, Absent, Asking, Empty, Down, Live, Stored, known_of, with_range, IsKnown, IsReady, IsHeldBack, AreKnownTo, Releases}
+use Rattle.mld_model.specs.Clone.{Clone, Absent, Asking, Empty, Down, Live, Stored, known_of, with_range, merged_with, truncated_to, IsKnown, IsReady, IsHeldBack, AreKnownTo, Releases}
 use Rattle.mld_ops.specs.Held.{held_limit}
-use Rattle.mld_model.specs.World.{World, Message, RangeOf, Want, JoinAsk, JoinGive, with_clone}
-use Rattle.mld_model.specs.Reply.{Reply, Did, NoOperation, Took, Held, HeldFull, AlreadyKnown, Shows, Same, Less, More, Apart, Sent, Answer, NothingToSend, Kept, Joined, Deep, Ignored, IsAbsent, IsAsking, IsDown, IsLive, Stopped, Opened}
+use Rattle.mld_model.specs.World.{World, Message, RangeOf, Want, SnapshotOf, JoinAsk, JoinGive, with_clone}
+use Rattle.mld_model.specs.Reply.{Reply, Did, NoOperation, Took, Merged, Held, HeldFull, AlreadyKnown, Shows, Same, Less, More, Apart, Sent, Answer, NothingToSend, Kept, Joined, Deep, Ignored, IsAbsent, IsAsking, IsDown, IsLive, Stopped, Opened}
 
 -- a reply that changes nothing
 abbrev pub Answers : World → Reply → Reply → World → Type 0
@@ -150,22 +150,39 @@ abbrev pub AskerTakes : World → ℕ → Message → Reply → World → Type 0
 AskerTakes world number (JoinGive id path dots) reply next = TakesLeaf world number id path dots reply next
 AskerTakes world number message reply next = Answers world Ignored reply next
 
--- a live clone is asked for what one lacks who knows these dots, among them all of its base: the ranges of its journal that aren't
--- known by them are sent, each in a message of its own, or there are none
+-- a live clone is asked for what one lacks who knows these dots. Where all dots of its base are among them, the ranges of its journal
+-- that aren't known by them are sent, each in a message of its own, or there are none. Else one snapshot is sent of all that it knows
 pub data TakesWant (world : World) (dots : List Range) (stored : Stored) (reply : Reply) (next : World) : Type 0 where
   lacks_nothing : AreKnownTo stored.base dots → DropsThose (IsKnown dots) stored.journal [] → Answers world NothingToSend reply next
       → TakesWant world dots stored reply next
   sends_ranges : (ranges : List Range) → AreKnownTo stored.base dots → DropsThose (IsKnown dots) stored.journal ranges → ranges ≢ []
       → reply ≡ Answer (range_with_len (length world.messages + 1) (length ranges))
       → next ≡ record world { messages = world.messages ++ map RangeOf ranges } → TakesWant world dots stored reply next
+  sends_snapshot : ¬ AreKnownTo stored.base dots → reply ≡ Answer ((length world.messages + 1) ∷ [])
+      → next ≡ record world { messages = world.messages ++ SnapshotOf (known_of stored) ∷ [] } → TakesWant world dots stored reply next
 
--- a message comes to a live clone; what one lacks is not told yet to who lacks dots of the base, and snapshots are never sent yet
+-- a live clone merges what one has who knows dots that it lacks, and then takes those ranges held back that this releases
+pub record Merges (world : World) (number : ℕ) (stored : Stored) (held dots : List Range) (reply : Reply) (next : World) : Type 0 where
+  pub lacks : ¬ AreKnownTo dots (known_of stored)
+  pub taken : List Range
+  pub after : Stored
+  pub left : List Range
+  pub releases : Releases world.history (merged_with stored dots) held taken after left
+  pub replies : reply ≡ Merged taken
+  pub changes : next ≡ with_clone world number (Live after left)
+
+-- a snapshot of these dots comes to a live clone: it knows them all, or it merges
+pub data TakesSnapshot (world : World) (number : ℕ) (stored : Stored) (held dots : List Range) (reply : Reply) (next : World) : Type 0 where
+  knows_all : AreKnownTo dots (known_of stored) → Answers world AlreadyKnown reply next → TakesSnapshot world number stored held dots reply next
+  merges : Merges world number stored held dots reply next → TakesSnapshot world number stored held dots reply next
+
+-- a message comes to a live clone
 abbrev pub LiveTakes : World → ℕ → Message → Stored → List Range → Reply → World → Type 0
 LiveTakes world number (RangeOf range) stored held reply next = TakesRange world number stored held range reply next
 LiveTakes world number (Want dots) stored held reply next = TakesWant world dots stored reply next
 LiveTakes world number (JoinAsk id) stored held reply next = TakesAsk world number stored held id reply next
+LiveTakes world number (SnapshotOf dots) stored held reply next = TakesSnapshot world number stored held dots reply next
 LiveTakes world number (JoinGive id path dots) stored held reply next = Answers world Ignored reply next
-LiveTakes world number message stored held reply next = ⊥
 
 -- a message comes to a clone
 abbrev pub Takes : World → ℕ → Message → Clone → Reply → World → Type 0
@@ -196,6 +213,11 @@ abbrev pub Compacts : World → ℕ → Clone → Reply → World → Type 0
 Compacts world number clone reply next = IfLive world clone reply next (λ stored held.
     (ranges : List Range) × AreCompacted stored.journal ranges × (reply ≡ Kept (length ranges))
     × (next ≡ with_clone world number (Live (record stored { journal = ranges }) held)))
+
+-- a live clone truncates its journal to so many ranges
+abbrev pub Truncates : World → ℕ → ℕ → Clone → Reply → World → Type 0
+Truncates world number keep clone reply next = IfLive world clone reply next (λ stored held.
+    (reply ≡ Kept (length (truncated_to stored keep).journal)) × (next ≡ with_clone world number (Live (truncated_to stored keep) held)))
 
 -- the pairs of a clone: the meaning of the dots that it knows
 abbrev pub Lists : World → Clone → Reply → World → Type 0

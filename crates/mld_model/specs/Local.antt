@@ -1,5 +1,5 @@
 -- One clone alone: what it has of its own, without the history, and its steps.
-use Rattle.std.specs.Prelude.{◌≡◌, ℕ, ◌+◌, ◌<◌, ◌≤◌, List, [], ◌∷◌, ◌++◌, ◌⊎◌, ◌↔◌, IsTrue, length}
+use Rattle.std.specs.Prelude.{◌≡◌, ℕ, ◌+◌, ◌-◌, ◌<◌, ◌≤◌, List, [], ◌∷◌, ◌++◌, ◌⊎◌, ◌↔◌, IsTrue, length, take, drop}
 use Rattle.iri_rules.specs.Domain.{is_domain}
 use Rattle.rdf_terms.specs.declared.terms.Triple.{Triple}
 use Rattle.rdf_terms.specs.Order.{iri_cmp}
@@ -20,6 +20,7 @@ use Rattle.mld_ops.specs.Ready.{last_dot, IsKnownEntry, IsReadyEntry}
 use Rattle.mld_ops.specs.Cut.{IsCutOf}
 use Rattle.mld_ops.specs.Held.{held_limit, ranges_of}
 use Rattle.op_fusion.specs.Compacting.{AreFusedRuns}
+use Rattle.snapshot.specs.SnapshotJoin.{IsJoinedWith}
 
 -- a clone alone: its id, domain, single-valued properties and path; the clock and the pairs of its base; the entries of its
 -- journal; and those that it holds back, in order of arrival. Its own clock and pairs follow from these (`IsLocal`)
@@ -99,7 +100,7 @@ blank_clone id domain properties path = record {
   pairs = [];
 }
 
--- what no step but joining and merging changes: who the clone is, and its base
+-- what no step but joining, merging and truncating changes: who the clone is, and its base
 pub record IsSameClone (old new : LocalClone) : Type 0 where
   pub id : new.id ≡ old.id
   pub domain : new.domain ≡ old.domain
@@ -179,6 +180,42 @@ pub record LocallyForks (old : LocalClone) (id : List ℕ) (new : LocalClone) (g
 pub record LocallyCompacts (old new : LocalClone) : Type 0 where
   pub fused : AreFusedRuns old.entries new.entries
   pub rest : new ≡ record old { entries = new.entries }
+
+-- the clone truncates its journal: so many entries stay at its end, or all where it has fewer; its base is what the others lead to
+pub record LocallyTruncates (old : LocalClone) (keep : ℕ) (new : LocalClone) : Type 0 where
+  pub leads : LeadsTo old.base old.base_pairs (take (length old.entries - keep) old.entries) new.base new.base_pairs
+  pub rest : new ≡ record old { base = new.base; base_pairs = new.base_pairs; entries = drop (length old.entries - keep) old.entries }
+
+-- a snapshot has more ticks of the clone's own path than the clone: another one has used its leaf
+abbrev pub IsForeignSnapshot : LocalClone → SnapshotValue → Type 0
+IsForeignSnapshot clone snapshot = ticks_of clone.ticks clone.path < ticks_of snapshot.ticks clone.path
+
+-- the clone knows each dot of the snapshot
+abbrev pub KnowsSnapshot : LocalClone → SnapshotValue → Type 0
+KnowsSnapshot clone snapshot = (dot : Dot) → Covers snapshot.ticks dot → Covers clone.ticks dot
+
+-- who the clone is stays the same
+pub record IsSameOne (old new : LocalClone) : Type 0 where
+  pub id : new.id ≡ old.id
+  pub domain : new.domain ≡ old.domain
+  pub properties : new.properties ≡ old.properties
+  pub path : new.path ≡ old.path
+
+-- the clone merges a snapshot that has dots which it lacks: its base is what both know and have; then it takes those entries held back
+-- that this releases, and its journal is these
+pub record LocallyMerges (old : LocalClone) (snapshot : SnapshotValue) (new : LocalClone) (ranges : List Range) : Type 0 where
+  pub lacks : ¬ KnowsSnapshot old snapshot
+  pub same : IsSameOne old new
+  pub clock : IsClock new.base
+  pub joined : IsJoinedWith old.ticks old.pairs snapshot new.base new.base_pairs
+  pub releases : LocallyReleases new.base old.held new.entries new.ticks new.held
+  pub leads : LeadsTo new.base new.base_pairs new.entries new.ticks new.pairs
+  pub told : ranges ≡ ranges_of new.entries
+
+-- the clone answers who knows these ticks, and lacks a dot of its base: by a snapshot of all that it knows and has
+pub record LocallyAnswersBehind (clone : LocalClone) (ticks : List (List ℕ × ℕ)) (snapshot : SnapshotValue) : Type 0 where
+  pub behind : ¬ ((dot : Dot) → Covers clone.base dot → Covers ticks dot)
+  pub whole : snapshot ≡ snapshot_of clone
 
 -- the clone answers who knows these ticks, among them all dots of its base: by the entries of its journal that aren't known by them
 pub record LocallyAnswersWant (clone : LocalClone) (ticks : List (List ℕ × ℕ)) (entries : List EntryValue) : Type 0 where

@@ -14,11 +14,13 @@ pub data Reply : Type 0 where
   NoOperation : Reply
   -- the ranges were taken, in this order
   Took : List Range → Reply
+  -- a snapshot was merged, and then these ranges were taken that had been held back, in this order
+  Merged : List Range → Reply
   -- the range is held back
   Held : Reply
   -- the range would be held back, and too many are
   HeldFull : Reply
-  -- the range was known
+  -- the range was known, or all that the snapshot has
   AlreadyKnown : Reply
   -- these are the pairs of the clone
   Shows : List Tagged → Reply
@@ -33,7 +35,7 @@ pub data Reply : Type 0 where
   Answer : List ℕ → Reply
   -- who asked lacks nothing of what the clone keeps in its journal
   NothingToSend : Reply
-  -- the journal was compacted, and so many ranges are kept in it
+  -- the journal was compacted or truncated, and so many ranges are kept in it
   Kept : ℕ → Reply
   -- the clone is live at the path
   Joined : List ℕ → Reply

@@ -11,7 +11,7 @@ use Rattle.tree_clock.specs.Clock.{Covers}
 use Rattle.mld_ops.specs.Entry.{EntryValue}
 use Rattle.mld_ops.specs.History.{Operation}
 use Rattle.mld_ops.specs.Meaning.{IsMeaning}
-use Rattle.mld_ops.specs.Messages.{SnapshotValue, GiveValue, MessageValue, CarriesEntry, CarriesWant, CarriesAsk, CarriesGive}
+use Rattle.mld_ops.specs.Messages.{SnapshotValue, GiveValue, MessageValue, CarriesEntry, CarriesWant, CarriesSnapshot, CarriesAsk, CarriesGive}
 use Rattle.mld_ops.specs.Net.{IsNet}
 use Rattle.std.specs.List.{AllZip}
 use Rattle.mld_model.specs.declared.CloneState.{CloneState}
@@ -19,7 +19,7 @@ use Rattle.mld_model.specs.declared.CloneState.TheVariants as states
 use Rattle.mld_model.specs.declared.NoDevice.{NoDevice}
 use Rattle.mld_model.specs.Clone.{Clone, Absent, Asking, Empty, Down, Live, Stored, known_of}
 use Rattle.mld_model.specs.Local.{LocalAsker, LocalClone, CloneValue, LocalStored, stored_of, blank_clone}
-use Rattle.mld_model.specs.World.{World, Message, RangeOf, Want, JoinAsk, JoinGive, clone_at, founded_path, clone_count}
+use Rattle.mld_model.specs.World.{World, Message, RangeOf, Want, SnapshotOf, JoinAsk, JoinGive, clone_at, founded_path, clone_count}
 
 -- a clone as it runs
 abbrev pub RunningClone : Type 0
@@ -104,10 +104,11 @@ pub record GiveStandsFor (history : List Operation) (give : GiveValue) (number :
   pub leaf : give.path ≡ path
   pub snapshot : SnapshotStandsFor history give.snapshot dots
 
--- a message that was sent stands for one of the model; snapshots are never sent yet
+-- a message that was sent stands for one of the model
 abbrev pub MessageStandsFor : List Operation → MessageValue → Message → Type 0
 MessageStandsFor history (CarriesEntry entry) (RangeOf range) = EntryStandsFor history entry range
 MessageStandsFor history (CarriesWant ticks) (Want dots) = (dot : Dot) → Covers ticks dot ↔ Knows dots dot
+MessageStandsFor history (CarriesSnapshot snapshot) (SnapshotOf dots) = SnapshotStandsFor history snapshot dots
 MessageStandsFor history (CarriesAsk id) (JoinAsk number) = id ≡ id_of number
 MessageStandsFor history (CarriesGive give) (JoinGive number path dots) = GiveStandsFor history give number path dots
 MessageStandsFor history message other = ⊥
