@@ -1,23 +1,24 @@
 -- What an answer that tells of a dot promises is kept by each step, and so by each run.
-use Rattle.std.specs.Prelude.{◌≡◌, ℕ, ◌<◌, List, [], ◌∷◌, ◌++◌, Option, Some, None, MatchOption, length}
-use Rattle.std.proofs.Common.{refl, sym, ◌∙◌, ap, subst, inl, inr, get_or, set}
+use Rattle.std.specs.Prelude.{◌≡◌, ℕ, ◌<◌, List, [], ◌∷◌, ◌++◌, ◌-◌, Option, Some, None, MatchOption, length, take, drop}
+use Rattle.std.proofs.Common.{refl, sym, ◌∙◌, ap, subst, inl, inr, get_or, set, append_assoc}
 use Rattle.std.proofs.lemmas.Bool.{cases_eq}
-use Rattle.std.proofs.lemmas.List.{get_or-set_same, get_or-set_other}
+use Rattle.std.proofs.lemmas.List.{get_or-set_same, get_or-set_other, take-append-drop}
 use Rattle.rdf_terms.specs.declared.terms.Triple.{Triple}
 use Rattle.tree_clock.specs.declared.dots.Dot.{Dot}
 use Rattle.tree_clock.specs.declared.dots.Range.{Range}
 use Rattle.tree_clock.specs.Lists.{Has}
 use Rattle.tree_clock.specs.Dot.{Knows}
+use Rattle.tree_clock.specs.DotLaws.{Knows-append}
 use Rattle.mld_ops.specs.declared.tagged.Tagged.{Tagged}
 use Rattle.mld_ops.specs.History.{Operation, dot_at}
 use Rattle.mld_ops.specs.Meaning.{IsMeaning}
 use Rattle.mld_ops.specs.Effect.{range_of}
 use Rattle.mld_ops.proofs.OperationLaws.{range_of_has}
-use Rattle.schedule_model.specs.declared.Command.TheVariants.{Add, Remove, Deliver, Show, Compare, Join, Ask, Compact, Stop, Open}
-use Rattle.mld_model.specs.Clone.{Clone, Absent, Asking, Down, Live, Stored, kept_of, known_of, with_range}
-use Rattle.mld_model.specs.World.{World, Message, RangeOf, Want, JoinAsk, JoinGive, message_at, clone_at, with_clone}
+use Rattle.schedule_model.specs.declared.Command.TheVariants.{Add, Remove, Deliver, Show, Compare, Join, Ask, Compact, Truncate, Stop, Open}
+use Rattle.mld_model.specs.Clone.{Clone, Absent, Asking, Down, Live, Stored, kept_of, known_of, with_range, merged_with, truncated_to}
+use Rattle.mld_model.specs.World.{World, Message, RangeOf, Want, SnapshotOf, JoinAsk, JoinGive, message_at, clone_at, with_clone}
 use Rattle.mld_model.specs.Reply.{Reply, Did, NoMessage, IsAbsent, IsDown}
-use Rattle.mld_model.specs.CloneStep.{Answers, Makes, Adds, ArePairsOf, Deletes, finds_none, deletes_all, Removes, holds_already, holds_too_many, holds_from_now, TakesRange, knows_already, accepts, holds_back, Asks, Joins, left_half, TakesAsk, asked_itself, is_too_deep, forks, joined_with, TakesLeaf, becomes_live, leaves_it, AskerTakes, LiveTakes, Takes, Stops, Reopens, Lists, Compares, same_dots, fewer_dots, more_dots, dots_apart, ComparesWith, Weighs, TakesWant, lacks_nothing, sends_ranges, Wants, Compacts}
+use Rattle.mld_model.specs.CloneStep.{Answers, Makes, Adds, ArePairsOf, Deletes, finds_none, deletes_all, Removes, holds_already, holds_too_many, holds_from_now, TakesRange, knows_already, accepts, holds_back, Asks, Joins, left_half, TakesAsk, asked_itself, is_too_deep, forks, joined_with, TakesLeaf, becomes_live, leaves_it, AskerTakes, LiveTakes, Takes, Stops, Reopens, Lists, Compares, same_dots, fewer_dots, more_dots, dots_apart, ComparesWith, Weighs, TakesWant, lacks_nothing, sends_ranges, sends_snapshot, TakesSnapshot, knows_all, merges, Wants, Compacts, Truncates}
 use Rattle.mld_model.proofs.StateLaws.{by_state, IsState, is_absent, is_asking, is_down, if_live, IsStanding, stands_absent, stands_asking, stands_live, if_opens}
 use Rattle.schedule_model.specs.Step.{Step}
 use Rattle.schedule_model.specs.Runs.{Stage, Waiting, SetUp, Running, Commands, Acts, says_nothing, commands, Runs}
@@ -150,6 +151,12 @@ module _ (world next : World) (dot : Dot) (message : ℕ) where
   wants_taken_tell_none : (dots : List Range) (stored : Stored) → ¬ TakesWant world dots stored (Did dot message) next
   wants_taken_tell_none dots stored (lacks_nothing known none p) = cc (p.0)
   wants_taken_tell_none dots stored (sends_ranges ranges known drops some told is) = cc told
+  wants_taken_tell_none dots stored (sends_snapshot behind told is) = cc told
+
+  -- and so is a snapshot
+  takes_snapshot_tell_none : (number : ℕ) (stored : Stored) (held dots : List Range) → ¬ TakesSnapshot world number stored held dots (Did dot message) next
+  takes_snapshot_tell_none number stored held dots (knows_all known p) = cc (p.0)
+  takes_snapshot_tell_none number stored held dots (merges p) = cc (p.replies)
 
   -- a leaf that comes to a clone that asks
   adopts_tell_none : (number id : ℕ) (path : List ℕ) (dots : List Range) → ¬ TakesLeaf world number id path dots (Did dot message) next
@@ -166,8 +173,8 @@ module _ (world next : World) (dot : Dot) (message : ℕ) where
   live_takes_tell_none number (RangeOf range) stored held p = receives_tell_none number stored held range p
   live_takes_tell_none number (Want dots) stored held p = wants_taken_tell_none dots stored p
   live_takes_tell_none number (JoinAsk id) stored held p = gives_tell_none number stored held id p
+  live_takes_tell_none number (SnapshotOf dots) stored held p = takes_snapshot_tell_none number stored held dots p
   live_takes_tell_none number (JoinGive id path dots) stored held p = cc (p.0)
-  live_takes_tell_none number sent stored held p = p
 
   -- to any clone
   takes_tell_none : (number : ℕ) (sent : Message) (clone : Clone) → ¬ Takes world number sent clone (Did dot message) next
@@ -200,6 +207,11 @@ module _ (world next : World) (dot : Dot) (message : ℕ) where
   compacts_tell_none : (number : ℕ) (clone : Clone) → ¬ Compacts world number clone (Did dot message) next
   compacts_tell_none number clone =
       if_live ⊥ world clone (Did dot message) next _ (λ answer state. state_tells_none answer state) (λ stored held live p. cc (p.2))
+
+  -- a `truncate`
+  truncates_tell_none : (number keep : ℕ) (clone : Clone) → ¬ Truncates world number keep clone (Did dot message) next
+  truncates_tell_none number keep clone =
+      if_live ⊥ world clone (Did dot message) next _ (λ answer state. state_tells_none answer state) (λ stored held live p. cc (p.0))
 
   -- a `stop`
   stops_tell_none : (number : ℕ) (clone : Clone) → ¬ Stops world number clone (Did dot message) next
@@ -247,11 +259,23 @@ did_remembers world (Show number) dot message next p = absurd (lists_tell_none w
 did_remembers world (Join number) dot message next p = absurd (joins_tell_none world next dot message number (clone_at world number) p)
 did_remembers world (Ask number) dot message next p = absurd (wants_tell_none world next dot message (clone_at world number) p)
 did_remembers world (Compact number) dot message next p = absurd (compacts_tell_none world next dot message number (clone_at world number) p)
+did_remembers world (Truncate number keep) dot message next p = absurd (truncates_tell_none world next dot message number keep (clone_at world number) p)
 did_remembers world (Stop number) dot message next p = absurd (stops_tell_none world next dot message number (clone_at world number) p)
 did_remembers world (Open number) dot message next p = absurd (opens_tell_none world next dot message number (clone_at world number) p)
 did_remembers world (Compare number other) dot message next p = absurd (weighs_tell_none world next dot message (clone_at world number) (clone_at world other) p)
 
 -- ---- the steps behind it
+
+-- a clone that merges knows what it knew
+merged_knows : (stored : Stored) (dots : List Range) (dot : Dot) → Knows (known_of stored) dot → Knows (known_of (merged_with stored dots)) dot
+merged_knows stored dots dot known =
+    (Knows-append (known_of stored ++ dots) [] dot).1 (inl ((Knows-append (known_of stored) dots dot).1 (inl known)))
+
+-- and so does one that truncates its journal
+truncated_knows : (stored : Stored) (keep : ℕ) → known_of (truncated_to stored keep) ≡ known_of stored
+truncated_knows stored keep =
+    let cut : ℕ = length stored.journal - keep in
+    append_assoc stored.base (take cut stored.journal) (drop cut stored.journal) ∙ ap (λ (ranges : List Range). stored.base ++ ranges) (take-append-drop cut stored.journal)
 
 -- what is remembered before a step is remembered after it
 module _ (world next : World) (number : ℕ) (operation : Operation) (remembers : Remembers world number operation) where
@@ -396,6 +420,15 @@ module _ (world next : World) (number : ℕ) (operation : Operation) (remembers 
   wants_taken_keep dots stored reply (lacks_nothing known none p) = same_remembers p.1
   wants_taken_keep dots stored reply (sends_ranges ranges known drops some told same) =
       told_remembers (ap (λ (w : World). w.clones) same) (ap (λ (w : World). w.history) same)
+  wants_taken_keep dots stored reply (sends_snapshot behind told same) =
+      told_remembers (ap (λ (w : World). w.clones) same) (ap (λ (w : World). w.history) same)
+
+  -- where a snapshot comes to a live clone: one that merges knows what it knew
+  takes_snapshot_keep : (taker : ℕ) (stored : Stored) (held dots : List Range) (reply : Reply) → clone_at world taker ≡ Live stored held
+      → TakesSnapshot world taker stored held dots reply next → Remembers next number operation
+  takes_snapshot_keep taker stored held dots reply is (knows_all known p) = same_remembers p.1
+  takes_snapshot_keep taker stored held dots reply is (merges p) =
+      grown_remembers taker stored p.after held p.left is (ap (λ (w : World). w.clones) p.changes) (λ dot known. releases_known world.history (merged_with stored dots) held p.taken p.after p.left p.releases dot (merged_knows stored dots dot known)) (λ other stands. subst (λ (w : World). Has w.history other) (sym p.changes) stands)
 
   -- where a clone asks for what it lacks
   wants_keep : (clone : Clone) (reply : Reply) → Wants world clone reply next → Remembers next number operation
@@ -410,6 +443,14 @@ module _ (world next : World) (number : ℕ) (operation : Operation) (remembers 
       if_live (Remembers next number operation) world clone reply next _ (λ answer state p. same_remembers p.1)
       (λ stored held live p. grown_remembers compacter stored (record stored { journal = p.0 }) held held (is ∙ live) (ap (λ (w : World). w.clones) p.3)
       (λ dot known. (known_compacted stored p.0 dot p.1).0 known) (λ other stands. subst (λ (w : World). Has w.history other) (sym p.3) stands))
+
+  -- where it truncates it
+  truncates_keep : (truncater keep : ℕ) (clone : Clone) (reply : Reply) → clone_at world truncater ≡ clone → Truncates world truncater keep clone reply next
+      → Remembers next number operation
+  truncates_keep truncater keep clone reply is =
+      if_live (Remembers next number operation) world clone reply next _ (λ answer state p. same_remembers p.1)
+      (λ stored held live p. grown_remembers truncater stored (truncated_to stored keep) held held (is ∙ live) (ap (λ (w : World). w.clones) p.1)
+      (λ dot known. subst (λ (dots : List Range). Knows dots dot) (sym (truncated_knows stored keep)) known) (λ other stands. subst (λ (w : World). Has w.history other) (sym p.1) stands))
 
   -- where a leaf comes to a clone that asks
   adopts_keep : (taker id : ℕ) (path : List ℕ) (dots : List Range) (reply : Reply) → clone_at world taker ≡ Asking → TakesLeaf world taker id path dots reply next
@@ -430,8 +471,8 @@ module _ (world next : World) (number : ℕ) (operation : Operation) (remembers 
   live_takes_keep taker (RangeOf range) stored held reply is p = receives_keep taker stored held range reply is p
   live_takes_keep taker (Want dots) stored held reply is p = wants_taken_keep dots stored reply p
   live_takes_keep taker (JoinAsk id) stored held reply is p = gives_keep taker stored held id reply is p
+  live_takes_keep taker (SnapshotOf dots) stored held reply is p = takes_snapshot_keep taker stored held dots reply is p
   live_takes_keep taker (JoinGive id path dots) stored held reply is p = same_remembers p.1
-  live_takes_keep taker message stored held reply is p = absurd p
 
   -- to any clone
   takes_keep : (taker : ℕ) (message : Message) (clone : Clone) (reply : Reply) → clone_at world taker ≡ clone → Takes world taker message clone reply next
@@ -464,6 +505,8 @@ step_remembers world number operation (Ask asker) reply next remembers p =
     wants_keep world next number operation remembers (clone_at world asker) reply p
 step_remembers world number operation (Compact compacter) reply next remembers p =
     compacts_keep world next number operation remembers compacter (clone_at world compacter) reply refl p
+step_remembers world number operation (Truncate truncater keep) reply next remembers p =
+    truncates_keep world next number operation remembers truncater keep (clone_at world truncater) reply refl p
 step_remembers world number operation (Stop stopper) reply next remembers p =
     stops_keep world next number operation remembers stopper (clone_at world stopper) reply refl p
 step_remembers world number operation (Open opener) reply next remembers p =

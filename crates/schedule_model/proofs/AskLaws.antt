@@ -10,7 +10,7 @@ use Rattle.tree_clock.specs.Clock.{Covers}
 use Rattle.mld_ops.specs.Entry.{EntryValue}
 use Rattle.mld_ops.specs.Held.{ranges_of}
 use Rattle.mld_ops.specs.History.{Operation}
-use Rattle.mld_ops.specs.Messages.{MessageValue, CarriesEntry, CarriesWant}
+use Rattle.mld_ops.specs.Messages.{MessageValue, CarriesEntry, CarriesWant, CarriesSnapshot}
 use Rattle.mld_ops.specs.Picking.{DropsThose}
 use Rattle.mld_ops.specs.Ready.{IsKnownEntry}
 use Rattle.mld_ops.proofs.PickingLaws.{kept_members, pairs_drop}
@@ -18,11 +18,11 @@ use Rattle.op_fusion.specs.Compacting.{AreCompacted}
 use Rattle.schedule_model.specs.declared.Command.TheVariants.{Deliver, Ask, Compact}
 use Rattle.mld_model.specs.declared.CloneState.TheVariants as states
 use Rattle.mld_model.specs.Clone.{Live, Stored, known_of, IsKnown, AreKnownTo}
-use Rattle.mld_model.specs.World.{World, Message, RangeOf, Want, message_at, clone_at, with_clone}
-use Rattle.mld_model.specs.CloneStep.{lacks_nothing, sends_ranges}
+use Rattle.mld_model.specs.World.{World, Message, RangeOf, Want, SnapshotOf, message_at, clone_at, with_clone}
+use Rattle.mld_model.specs.CloneStep.{lacks_nothing, sends_ranges, sends_snapshot}
 use Rattle.mld_model.specs.Reply.{Reply, Sent, Answer, NothingToSend, Kept}
 use Rattle.mld_model.specs.Sound.{IsSoundClone, IsSound}
-use Rattle.mld_model.specs.Local.{LocalClone, CloneValue, LocallyCompacts, LocallyAnswersWant}
+use Rattle.mld_model.specs.Local.{LocalClone, CloneValue, snapshot_of, LocallyCompacts, LocallyAnswersWant}
 use Rattle.mld_model.specs.StandsFor.{RunningClone, RunningWorld, EntryStandsFor, LocalStandsFor, IsCloneOf, MessageStandsFor, StandsFor}
 use Rattle.mld_model.proofs.StateLaws.{live_does}
 use Rattle.mld_model.proofs.JournalLaws.{journal_done}
@@ -31,11 +31,10 @@ use Rattle.mld_model.proofs.SendingLaws.{wanted_sound, ranges_sent_sound}
 use Rattle.mld_model.proofs.CompactedJournals.{compacted_sound}
 use Rattle.mld_model.proofs.CompactedStands.{journal_compacted, compacted_stands}
 use Rattle.mld_model.proofs.LocalLaws.{kept_by, known_alike}
+use Rattle.mld_model.proofs.MergedLaws.{snapshot_sent_sound}
 use Rattle.mld_model.proofs.PairsLaws.{pairs_count, pairs_append}
 use Rattle.mld_model.proofs.StandsForLaws.{LiveAt, live_at, clone_stands_as}
-use Rattle.schedule_model.specs.Schedule.{SpellsCommand}
 use Rattle.schedule_model.specs.Step.{Step}
-use Rattle.schedule_model.specs.Runs.{DeliversFromBehind}
 use Rattle.schedule_model.specs.WorldStep.{stepped, stepped_with, stepped_saying, sent_message, Follows, IsMissingReply}
 use Rattle.schedule_model.proofs.WorldLaws.{stepped_stands, missing_replies, staying_follows, taking_follows, SentAs, sent_as, changed_stands}
 
@@ -167,24 +166,22 @@ module _ (running : RunningWorld) (world : World) (stands : StandsFor running wo
       journal_done world.history at.base at.journal whole.journal range (kept_members (IsKnown s.dots) at.journal left.0 left.1 range h)))
       (saying_stands (map CarriesEntry entries) (map RangeOf left.0) (entries_sent world.history entries left.0 left.2))
 
-  -- one who lacks dots of the base would have to be sent a snapshot
-  pub want_behind : (line : List ℕ) (message number : ℕ) (ticks : List (List ℕ × ℕ)) (live : CloneValue) → SpellsCommand line (Deliver message number)
+  -- one who lacks dots of the base is sent a snapshot of all that the clone knows and has
+  pub want_snapshot : (message number : ℕ) (ticks : List (List ℕ × ℕ)) (live : CloneValue)
       → sent_message running message ≡ Some (CarriesWant ticks) → slice_get running.clones number ≡ Some (states.Live live)
-      → ¬ ((dot : Dot) → Covers live.local.base dot → Covers ticks dot) → DeliversFromBehind world line
-  want_behind line message number ticks live spells told is behind =
+      → ¬ ((dot : Dot) → Covers live.local.base dot → Covers ticks dot)
+      → Follows world (Deliver message number) (Answer ((length running.messages + 1) ∷ [])) (stepped_saying running (CarriesSnapshot (snapshot_of live.local) ∷ []))
+  want_snapshot message number ticks live told is behind =
       let s : SentWant world ticks message = sent_want message ticks told in
       let at : LiveAt world number live.local = live_at running world stands number live is in
-      record {
-        message = message;
-        number = number;
-        spells = spells;
-        dots = s.dots;
-        sent = s.at;
-        stored = kept_by live.local at.base at.journal;
-        held = at.held;
-        live = at.live;
-        behind = λ known. behind (λ dot covered. (s.alike dot).1 (known dot ((at.stands.kept.base dot).0 covered)));
-      }
+      let stored : Stored = kept_by live.local at.base at.journal in
+      let next : World = record world { messages = world.messages ++ SnapshotOf (known_of stored) ∷ [] } in
+      taking_follows (stepped_saying running (CarriesSnapshot (snapshot_of live.local) ∷ [])) world next message number (Want s.dots) (Live stored at.held)
+      (Answer ((length running.messages + 1) ∷ [])) s.at at.live
+      (sends_snapshot (λ known. behind (λ dot covered. (s.alike dot).1 (known dot ((at.stands.kept.base dot).0 covered))))
+      (λ i. Answer ((said_count i + 1) ∷ [])) (refl {a = next}))
+      (snapshot_sent_sound world number stored at.held sound at.live)
+      (saying_stands (CarriesSnapshot (snapshot_of live.local) ∷ []) (SnapshotOf (known_of stored) ∷ []) (record { known = at.stands.known; pairs = at.stands.pairs }, tt))
 
   -- ---- compact
 

@@ -11,14 +11,14 @@ use Rattle.mld_ops.specs.declared.tagged.Tagged.{Tagged}
 use Rattle.mld_ops.specs.History.{Operation, IsInserted, IsNext, dot_at}
 use Rattle.mld_ops.specs.Meaning.{IsMeaning}
 use Rattle.schedule_model.specs.declared.Command.{Command}
-use Rattle.schedule_model.specs.declared.Command.TheVariants.{Add, Remove, Deliver, Show, Compare, Join, Ask, Compact, Stop, Open}
-use Rattle.mld_model.specs.Clone.{Clone, Absent, Asking, Down, Live, Stored, known_of}
-use Rattle.mld_model.specs.World.{World, Message, RangeOf, Want, JoinAsk, JoinGive, message_at, clone_at, with_clone}
+use Rattle.schedule_model.specs.declared.Command.TheVariants.{Add, Remove, Deliver, Show, Compare, Join, Ask, Compact, Truncate, Stop, Open}
+use Rattle.mld_model.specs.Clone.{Clone, Absent, Asking, Down, Live, Stored, known_of, truncated_to}
+use Rattle.mld_model.specs.World.{World, Message, RangeOf, Want, SnapshotOf, JoinAsk, JoinGive, message_at, clone_at, with_clone}
 use Rattle.mld_model.specs.Local.{LocalStored}
 use Rattle.mld_model.specs.Reply.{Reply, NoMessage}
 use Rattle.mld_model.specs.Sound.{Keeps, IsSoundClone, IsSound}
 use Rattle.mld_model.specs.StandsFor.{StoredStandsFor}
-use Rattle.mld_model.specs.CloneStep.{Answers, Makes, Adds, ArePairsOf, Deletes, finds_none, deletes_all, Removes, holds_already, holds_too_many, holds_from_now, TakesRange, knows_already, accepts, holds_back, Asks, Joins, left_half, TakesAsk, asked_itself, is_too_deep, forks, joined_with, TakesLeaf, becomes_live, leaves_it, AskerTakes, LiveTakes, Takes, Stops, Reopens, TakesWant, lacks_nothing, sends_ranges, Wants, Compacts}
+use Rattle.mld_model.specs.CloneStep.{Answers, Makes, Adds, ArePairsOf, Deletes, finds_none, deletes_all, Removes, holds_already, holds_too_many, holds_from_now, TakesRange, knows_already, accepts, holds_back, Asks, Joins, left_half, TakesAsk, asked_itself, is_too_deep, forks, joined_with, TakesLeaf, becomes_live, leaves_it, AskerTakes, LiveTakes, Takes, Stops, Reopens, TakesWant, lacks_nothing, sends_ranges, sends_snapshot, TakesSnapshot, knows_all, merges, Wants, Compacts, Truncates}
 use Rattle.mld_model.proofs.StateLaws.{by_state, if_live, if_opens}
 use Rattle.mld_model.proofs.SoundLaws.{made_is_next, live_sound}
 use Rattle.mld_model.proofs.StoredLaws.{stored_still_stands}
@@ -125,6 +125,12 @@ module _ (world next : World) (number : ℕ) where
   wants_taken_change : (dots : List Range) (stored : Stored) (reply : Reply) → TakesWant world dots stored reply next → Changes world next number
   wants_taken_change dots stored reply (lacks_nothing known none p) = same_changes p.1
   wants_taken_change dots stored reply (sends_ranges ranges known drops some told same) = told_changes _ same
+  wants_taken_change dots stored reply (sends_snapshot behind told same) = told_changes _ same
+
+  -- a snapshot comes to one
+  takes_snapshot_change : (stored : Stored) (held dots : List Range) (reply : Reply) → TakesSnapshot world number stored held dots reply next → Changes world next number
+  takes_snapshot_change stored held dots reply (knows_all known p) = same_changes p.1
+  takes_snapshot_change stored held dots reply (merges p) = clone_changes (Live p.after p.left) world.messages p.changes
 
   -- a leaf comes to a clone that asks
   adopts_change : (id : ℕ) (path : List ℕ) (dots : List Range) (reply : Reply) → TakesLeaf world number id path dots reply next → Changes world next number
@@ -142,8 +148,8 @@ module _ (world next : World) (number : ℕ) where
   live_takes_change (RangeOf range) stored held reply p = receives_change stored held range reply p
   live_takes_change (Want dots) stored held reply p = wants_taken_change dots stored reply p
   live_takes_change (JoinAsk id) stored held reply p = gives_change stored held id reply p
+  live_takes_change (SnapshotOf dots) stored held reply p = takes_snapshot_change stored held dots reply p
   live_takes_change (JoinGive id path dots) stored held reply p = same_changes p.1
-  live_takes_change message stored held reply p = absurd p
 
   -- to any clone
   takes_change : (message : Message) (clone : Clone) (reply : Reply) → Takes world number message clone reply next → Changes world next number
@@ -179,6 +185,12 @@ module _ (world next : World) (number : ℕ) where
       if_live (Changes world next number) world clone reply next _ (λ answer state p. same_changes p.1)
       (λ stored held live p. clone_changes (Live (record stored { journal = p.0 }) held) world.messages p.3)
 
+  -- a `truncate`
+  truncates_change : (keep : ℕ) (clone : Clone) (reply : Reply) → Truncates world number keep clone reply next → Changes world next number
+  truncates_change keep clone reply =
+      if_live (Changes world next number) world clone reply next _ (λ answer state p. same_changes p.1)
+      (λ stored held live p. clone_changes (Live (truncated_to stored keep) held) world.messages p.1)
+
   -- a `stop`
   stops_change : (clone : Clone) (reply : Reply) → Stops world number clone reply next → Changes world next number
   stops_change clone reply =
@@ -202,6 +214,7 @@ step_changes world (Show number) reply next p = same_changes world next number (
 step_changes world (Join number) reply next p = joins_change world next number (clone_at world number) reply p
 step_changes world (Ask number) reply next p = wants_change world next number (clone_at world number) reply p
 step_changes world (Compact number) reply next p = compacts_change world next number (clone_at world number) reply p
+step_changes world (Truncate number keep) reply next p = truncates_change world next number keep (clone_at world number) reply p
 step_changes world (Stop number) reply next p = stops_change world next number (clone_at world number) reply p
 step_changes world (Open number) reply next p = opens_change world next number (clone_at world number) reply p
 step_changes world (Compare number other) reply next p =

@@ -1,24 +1,25 @@
 -- The durable steps of a command lead to the next world.
-use Rattle.std.specs.Prelude.{◌≡◌, ◌≢◌, ℕ, ◌<◌, List, [], ◌∷◌, ◌++◌, ◌+◌, Option, Some, None, MatchOption, map, length}
+use Rattle.std.specs.Prelude.{◌≡◌, ◌≢◌, ℕ, ◌<◌, List, [], ◌∷◌, ◌++◌, ◌⊎◌, ◌+◌, ◌-◌, ◌≤◌, Option, Some, None, MatchOption, map, length, take, drop}
 use Rattle.std.proofs.Common.{refl, sym, ◌∙◌, ap, arith, subst, inl, inr, get_or, set, append-nil, append_assoc}
-use Rattle.std.proofs.lemmas.List.{get_or-set_same, get_or-set_other}
+use Rattle.std.proofs.lemmas.Bool.{cases_order}
+use Rattle.std.proofs.lemmas.List.{get_or-set_same, get_or-set_other, length-drop}
 use Rattle.rdf_terms.specs.declared.terms.Triple.{Triple}
 use Rattle.tree_clock.specs.declared.dots.Range.{Range}
 use Rattle.mld_ops.specs.declared.tagged.Tagged.{Tagged}
 use Rattle.mld_ops.specs.History.{Operation, dot_at}
 use Rattle.schedule_model.specs.declared.Command.{Command}
-use Rattle.schedule_model.specs.declared.Command.TheVariants.{Add, Remove, Deliver, Show, Compare, Join, Ask, Compact, Stop, Open}
-use Rattle.mld_model.specs.Clone.{Clone, Absent, Asking, Empty, Down, Live, Stored, known_of, with_range, Releases, kept_of}
-use Rattle.mld_model.specs.World.{World, Message, RangeOf, Want, JoinAsk, JoinGive, message_at, clone_count, clone_at, with_clone}
-use Rattle.mld_model.specs.Reply.{Reply, Did, Took, Answer, Joined, NoMessage, Ignored, IsAbsent, IsDown}
-use Rattle.mld_model.specs.CloneStep.{Answers, Makes, Adds, Deletes, finds_none, deletes_all, Removes, Accepts, HoldsBack, holds_already, holds_too_many, holds_from_now, TakesRange, knows_already, accepts, holds_back, Asks, Joins, left_half, TakesAsk, asked_itself, is_too_deep, forks, joined_with, TakesLeaf, becomes_live, leaves_it, AskerTakes, LiveTakes, Takes, Stops, Reopens, TakesWant, lacks_nothing, sends_ranges, Wants, Compacts}
+use Rattle.schedule_model.specs.declared.Command.TheVariants.{Add, Remove, Deliver, Show, Compare, Join, Ask, Compact, Truncate, Stop, Open}
+use Rattle.mld_model.specs.Clone.{Clone, Absent, Asking, Empty, Down, Live, Stored, known_of, with_range, merged_with, truncated_to, Releases, kept_of}
+use Rattle.mld_model.specs.World.{World, Message, RangeOf, Want, SnapshotOf, JoinAsk, JoinGive, message_at, clone_count, clone_at, with_clone}
+use Rattle.mld_model.specs.Reply.{Reply, Did, Took, Merged, AlreadyKnown, Answer, Joined, NoMessage, Ignored, IsAbsent, IsDown}
+use Rattle.mld_model.specs.CloneStep.{Answers, Makes, Adds, Deletes, finds_none, deletes_all, Removes, Accepts, HoldsBack, holds_already, holds_too_many, holds_from_now, TakesRange, knows_already, accepts, holds_back, Asks, Joins, left_half, TakesAsk, asked_itself, is_too_deep, forks, joined_with, TakesLeaf, becomes_live, leaves_it, AskerTakes, LiveTakes, Takes, Stops, Reopens, TakesWant, lacks_nothing, sends_ranges, sends_snapshot, Merges, TakesSnapshot, knows_all, merges, Wants, Compacts, Truncates}
 use Rattle.mld_model.proofs.StateLaws.{by_state, IsState, is_absent, is_asking, is_down, if_live, if_opens}
 use Rattle.op_fusion.specs.Compacting.{AreCompacted}
 use Rattle.mld_model.proofs.CompactedJournals.{compacted_shrinks}
 use Rattle.schedule_model.proofs.StepSoundLaws.{lists_same, weighs_same}
 use Rattle.mld_model.specs.Durable.{DurableStep, AppendsMade, AppendsTaken, Swaps, kept_after, history_after}
 use Rattle.schedule_model.specs.Step.{Step, number_of_clone}
-use Rattle.schedule_model.specs.DurableSteps.{SwapsDurably, keeps_the_same, swaps_it, MakesDurably, taking_steps, giving_steps, joining_steps, message_steps, DurableSteps, LeadsDurably, DurableStepsLead, OneDurableList}
+use Rattle.schedule_model.specs.DurableSteps.{SwapsDurably, keeps_the_same, swaps_it, MakesDurably, taking_steps, giving_steps, joining_steps, merging_steps, message_steps, DurableSteps, LeadsDurably, DurableStepsLead, OneDurableList}
 
 -- ---- what durable steps lead to
 
@@ -57,25 +58,73 @@ taking_history history (range ∷ taken) = taking_history history taken
 abbrev MakesAndLeads : World → ℕ → Reply → World → Type 0
 MakesAndLeads world number reply next = (steps : List DurableStep) × MakesDurably world reply next steps × Leads world number steps next
 
--- an answer that has no steps for any kind of message has none for this one
-quiet : (message : Message) (answer : Reply) → taking_steps answer ≡ [] → giving_steps answer ≡ []
-    → ((path : List ℕ) (dots : List Range) → joining_steps path dots answer ≡ []) → message_steps message answer ≡ []
-quiet (RangeOf range) answer takes gives joins = takes
-quiet (JoinAsk id) answer takes gives joins = gives
-quiet (JoinGive id path dots) answer takes gives joins = joins path dots
-quiet message answer takes gives joins = refl
+-- an answer of a clone that has no steps for any kind of message
+record IsQuiet (clone : Clone) (answer : Reply) : Type 0 where
+  takes : taking_steps answer ≡ []
+  gives : giving_steps answer ≡ []
+  joins : (path : List ℕ) (dots : List Range) → joining_steps path dots answer ≡ []
+  merges : (dots : List Range) → merging_steps clone dots answer ≡ []
 
--- the durable steps of a `deliver` of this message, if there is one
-abbrev DeliversDurably : Option Message → Reply → List DurableStep → Type 0
-DeliversDurably sent reply steps = MatchOption sent (steps ≡ []) (λ message. steps ≡ message_steps message reply)
+-- has none for this one
+quiet : (clone : Clone) (message : Message) (answer : Reply) → IsQuiet clone answer → message_steps clone message answer ≡ []
+quiet clone (RangeOf range) answer none = none.takes
+quiet clone (JoinAsk id) answer none = none.gives
+quiet clone (JoinGive id path dots) answer none = none.joins path dots
+quiet clone (SnapshotOf dots) answer none = none.merges dots
+quiet clone (Want dots) answer none = refl
 
--- there are durable steps of a compaction that lead to the next world
+-- the state of a clone tells of no merging
+down_merges : (clone : Clone) (dots : List Range) → merging_steps clone dots IsDown ≡ []
+down_merges (Live stored held) dots = refl
+down_merges clone dots = refl
+
+absent_merges : (clone : Clone) (dots : List Range) → merging_steps clone dots IsAbsent ≡ []
+absent_merges (Live stored held) dots = refl
+absent_merges clone dots = refl
+
+-- the durable steps of a `deliver` of this message, if there is one, to this clone
+abbrev DeliversDurably : Clone → Option Message → Reply → List DurableStep → Type 0
+DeliversDurably clone sent reply steps = MatchOption sent (steps ≡ []) (λ message. steps ≡ message_steps clone message reply)
+
+-- there are durable steps that swap what is kept and lead to the next world
 abbrev SwapsAndLeads : World → World → ℕ → Type 0
 SwapsAndLeads world next number = (steps : List DurableStep) × SwapsDurably world next number steps × Leads world number steps next
 
 -- what is kept is one thing
 one_kept : (one other : Stored) → Some one ≡ Some other → one ≡ other
 one_kept one other same = cc
+
+-- a journal of no more ranges than are to be left is truncated to what it was
+none_cut : (stored : Stored) (keep : ℕ) → length stored.journal ≤ keep → truncated_to stored keep ≡ stored
+none_cut stored keep few =
+    let none : length stored.journal - keep ≡ 0 = omega (arith, few) in
+    let base : stored.base ++ take (length stored.journal - keep) stored.journal ≡ stored.base =
+    ap (λ (n : ℕ). stored.base ++ take n stored.journal) none ∙ append-nil stored.base in
+    let journal : drop (length stored.journal - keep) stored.journal ≡ stored.journal = ap (λ (n : ℕ). drop n stored.journal) none in
+    λ i. record { path = stored.path; base = base i; journal = journal i }
+
+-- one of more ranges is truncated to another
+some_cut : (stored : Stored) (keep : ℕ) → keep < length stored.journal → truncated_to stored keep ≢ stored
+some_cut stored keep more same =
+    let left : length (drop (length stored.journal - keep) stored.journal) ≡ length stored.journal - (length stored.journal - keep) =
+    length-drop (length stored.journal - keep) stored.journal in
+    omega (arith, more, left, ap (λ (s : Stored). length s.journal) same)
+
+-- so it stays, or is another
+cut_or_not : (stored : Stored) (keep : ℕ) → (truncated_to stored keep ≡ stored) ⊎ (truncated_to stored keep ≢ stored)
+cut_or_not stored keep = elim (cases_order keep (length stored.journal)) [
+  | inl same ↦ inl (none_cut stored keep (omega (arith, same)))
+  | inr (inl below) ↦ inr (some_cut stored keep below)
+  | inr (inr above) ↦ inl (none_cut stored keep (omega (arith, above)))
+]
+
+-- and so does one that is compacted
+compacted_or_not : (stored : Stored) (ranges : List Range) → AreCompacted stored.journal ranges
+    → (record stored { journal = ranges } ≡ stored) ⊎ (record stored { journal = ranges } ≢ stored)
+compacted_or_not stored ranges compacted = elim (compacted_shrinks stored.journal ranges compacted) [
+  | inl stays ↦ inl (λ i. record { path = stored.path; base = stored.base; journal = stays i })
+  | inr shorter ↦ inr (λ same. omega (arith, shorter, ap (λ (s : Stored). length s.journal) same))
+]
 
 -- ---- by the kind of command
 
@@ -195,10 +244,26 @@ module _ (world next : World) (number : ℕ) where
       subst (λ (r : Reply). Leads world number (giving_steps r) next) (sym told)
       (changed_leads (giving_steps (Answer ((length world.messages + 1) ∷ []))) (Live stored held) (Live (left_half stored) held) inside is (ap (λ (w : World). w.clones) same) refl (ap (λ (w : World). w.history) (sym same)))
 
+  -- one that merges leads there by the swap of what it keeps, and the appends of all that is taken then
+  merges_lead : (stored : Stored) (held dots : List Range) (reply : Reply) → number < length world.clones → clone_at world number ≡ Live stored held
+      → Merges world number stored held dots reply next → Leads world number (merging_steps (Live stored held) dots reply) next
+  merges_lead stored held dots reply inside is p =
+      subst (λ (r : Reply). Leads world number (merging_steps (Live stored held) dots r) next) (sym p.replies)
+      (changed_leads (merging_steps (Live stored held) dots (Merged p.taken)) (Live stored held) (Live p.after p.left) inside is (ap (λ (w : World). w.clones) p.changes) (releases_kept world.history (merged_with stored dots) held p.taken p.after p.left p.releases) (taking_history world.history p.taken ∙ ap (λ (w : World). w.history) (sym p.changes)))
+
+  -- so a snapshot that comes to a live clone leads there by these steps, or by none where all of it is known
+  takes_snapshot_lead : (stored : Stored) (held dots : List Range) (reply : Reply) → number < length world.clones → clone_at world number ≡ Live stored held
+      → TakesSnapshot world number stored held dots reply next → Leads world number (merging_steps (Live stored held) dots reply) next
+  takes_snapshot_lead stored held dots reply inside is (knows_all known p) =
+      answered_leads (merging_steps (Live stored held) dots) AlreadyKnown reply refl p
+  takes_snapshot_lead stored held dots reply inside is (merges p) = merges_lead stored held dots reply inside is p
+
   -- one that is asked for what another lacks leads there by none
   wants_taken_lead : (dots : List Range) (stored : Stored) (reply : Reply) → TakesWant world dots stored reply next → Leads world number [] next
   wants_taken_lead dots stored reply (lacks_nothing known none p) = same_leads p.1
   wants_taken_lead dots stored reply (sends_ranges ranges known drops some told same) =
+      told_leads (ap (λ (w : World). w.clones) same) (ap (λ (w : World). w.history) same)
+  wants_taken_lead dots stored reply (sends_snapshot behind told same) =
       told_leads (ap (λ (w : World). w.clones) same) (ap (λ (w : World). w.history) same)
 
   -- one who asks and takes a leaf leads there by creating what it keeps
@@ -210,40 +275,44 @@ module _ (world next : World) (number : ℕ) where
   adopts_lead id path dots reply inside is (leaves_it differs p) = answered_leads (joining_steps path dots) _ reply refl p
 
   -- a reply without steps that a message has from a clone
-  quiet_leads : (message : Message) (answer reply : Reply) → taking_steps answer ≡ [] → giving_steps answer ≡ []
-      → ((path : List ℕ) (dots : List Range) → joining_steps path dots answer ≡ []) → Answers world answer reply next → Leads world number (message_steps message reply) next
-  quiet_leads message answer reply takes gives joins = answered_leads (message_steps message) answer reply (quiet message answer takes gives joins)
+  quiet_leads : (clone : Clone) (message : Message) (answer reply : Reply) → IsQuiet clone answer → Answers world answer reply next
+      → Leads world number (message_steps clone message reply) next
+  quiet_leads clone message answer reply none = answered_leads (message_steps clone message) answer reply (quiet clone message answer none)
 
   -- a message that comes to a clone that asks leads there by its steps
   asker_takes_lead : (message : Message) (reply : Reply) → number < length world.clones → clone_at world number ≡ Asking
-      → AskerTakes world number message reply next → Leads world number (message_steps message reply) next
+      → AskerTakes world number message reply next → Leads world number (message_steps Asking message reply) next
   asker_takes_lead (JoinGive id path dots) reply inside is p = adopts_lead id path dots reply inside is p
-  asker_takes_lead message reply inside is p = quiet_leads message Ignored reply refl refl (λ path dots. refl) p
+  asker_takes_lead message reply inside is p =
+      quiet_leads Asking message Ignored reply (record { takes = refl; gives = refl; joins = λ path dots. refl; merges = λ dots. refl }) p
 
   -- and so does one that comes to a live clone
   live_takes_lead : (message : Message) (stored : Stored) (held : List Range) (reply : Reply) → number < length world.clones → clone_at world number ≡ Live stored held
-      → LiveTakes world number message stored held reply next → Leads world number (message_steps message reply) next
+      → LiveTakes world number message stored held reply next → Leads world number (message_steps (Live stored held) message reply) next
   live_takes_lead (RangeOf range) stored held reply inside is p = receives_lead stored held range reply inside is p
   live_takes_lead (Want dots) stored held reply inside is p = wants_taken_lead dots stored reply p
   live_takes_lead (JoinAsk id) stored held reply inside is p = gives_lead stored held id reply inside is p
+  live_takes_lead (SnapshotOf dots) stored held reply inside is p = takes_snapshot_lead stored held dots reply inside is p
   live_takes_lead (JoinGive id path dots) stored held reply inside is p = answered_leads (joining_steps path dots) Ignored reply refl p
-  live_takes_lead message stored held reply inside is p = absurd p
 
   -- whatever the state of the clone is
   takes_lead : (message : Message) (clone : Clone) (reply : Reply) → number < length world.clones → clone_at world number ≡ clone
-      → Takes world number message clone reply next → Leads world number (message_steps message reply) next
+      → Takes world number message clone reply next → Leads world number (message_steps clone message reply) next
   takes_lead message clone reply inside is =
-      by_state (Leads world number (message_steps message reply) next) clone _ _ _ _
-      (λ state. quiet_leads message IsAbsent reply refl refl (λ path dots. refl)) (λ asks. asker_takes_lead message reply inside (is ∙ asks))
-      (quiet_leads message IsDown reply refl refl (λ path dots. refl)) (λ stored held live. live_takes_lead message stored held reply inside (is ∙ live))
+      by_state (Leads world number (message_steps clone message reply) next) clone _ _ _ _
+      (λ state. quiet_leads clone message IsAbsent reply (record { takes = refl; gives = refl; joins = λ path dots. refl; merges = absent_merges clone }))
+      (λ asks p. subst (λ (c : Clone). Leads world number (message_steps c message reply) next) (sym asks) (asker_takes_lead message reply inside (is ∙ asks) p))
+      (quiet_leads clone message IsDown reply (record { takes = refl; gives = refl; joins = λ path dots. refl; merges = down_merges clone }))
+      (λ stored held live p. subst (λ (c : Clone). Leads world number (message_steps c message reply) next) (sym live)
+      (live_takes_lead message stored held reply inside (is ∙ live) p))
 
   -- a `deliver` has durable steps that lead to the next world
   delivers_lead : (sent : Option Message) (reply : Reply) → number < length world.clones
       → MatchOption sent (Answers world NoMessage reply next) (λ message. Takes world number message (clone_at world number) reply next)
-      → (steps : List DurableStep) × DeliversDurably sent reply steps × Leads world number steps next
+      → (steps : List DurableStep) × DeliversDurably (clone_at world number) sent reply steps × Leads world number steps next
   delivers_lead None reply inside p = ([], refl, same_leads p.1)
   delivers_lead (Some message) reply inside p =
-      (message_steps message reply, refl, takes_lead message (clone_at world number) reply inside refl p)
+      (message_steps (clone_at world number) message reply, refl, takes_lead message (clone_at world number) reply inside refl p)
 
   -- ---- asking
 
@@ -260,7 +329,7 @@ module _ (world next : World) (number : ℕ) where
       by_state (Leads world number [] next) clone _ _ _ _ (λ state. asks_lead Absent reply inside (is ∙ state) refl)
       (λ state. asks_lead Asking reply inside (is ∙ state) refl) (λ p. same_leads p.1) (λ stored held live p. same_leads p.1)
 
-  -- ---- asking for what is lacked, and compacting
+  -- ---- asking for what is lacked, compacting and truncating
 
   -- a clone that asks for what it lacks leads there by none
   wants_lead : (clone : Clone) (reply : Reply) → Wants world clone reply next → Leads world number [] next
@@ -268,40 +337,47 @@ module _ (world next : World) (number : ℕ) where
       if_live (Leads world number [] next) world clone reply next _ (λ answer state p. same_leads p.1)
       (λ stored held live p. told_leads (ap (λ (w : World). w.clones) p.1) (ap (λ (w : World). w.history) p.1))
 
-  -- a clone whose journal is compacted leads there by the swap of what it keeps, unless the journal stays as it is
-  compacted_leads : (stored : Stored) (held ranges : List Range) → number < length world.clones → clone_at world number ≡ Live stored held
-      → AreCompacted stored.journal ranges → next ≡ with_clone world number (Live (record stored { journal = ranges }) held)
-      → SwapsAndLeads world next number
-  compacted_leads stored held ranges inside is compacted same =
-      let now : Stored = record stored { journal = ranges } in
+  -- a live clone that keeps something from then on leads there by the swap of what it keeps, unless that stays as it is
+  swapped_leads : (stored now : Stored) (held : List Range) → number < length world.clones → clone_at world number ≡ Live stored held
+      → (now ≡ stored) ⊎ (now ≢ stored) → next ≡ with_clone world number (Live now held) → SwapsAndLeads world next number
+  swapped_leads stored now held inside is stays_or_not same =
       let kept : kept_of (clone_at world number) ≡ Some stored = ap kept_of is in
       let kept_then : kept_of (clone_at next number) ≡ Some now =
       ap (λ (w : World). kept_of (clone_at w number)) same ∙ ap kept_of (get_or-set_same world.clones number (Live now held) Absent inside) in
       let clones : next.clones ≡ set world.clones number (Live now held) = ap (λ (w : World). w.clones) same in
       let history : world.history ≡ next.history = ap (λ (w : World). w.history) (sym same) in
-      elim (compacted_shrinks stored.journal ranges compacted) [
-        | inl stays ↦
-            let as_it_was : now ≡ stored = λ i. record { path = stored.path; base = stored.base; journal = stays i } in (
-              [],
-              keeps_the_same (kept_then ∙ ap (λ (s : Stored). Some s) as_it_was ∙ sym kept) refl,
-              changed_leads [] (Live stored held) (Live now held) inside is clones (ap (λ (s : Stored). Some s) (sym as_it_was)) history,
-            )
-        | inr shorter ↦ (
+      elim stays_or_not [
+        | inl stays ↦ (
+          [],
+          keeps_the_same (kept_then ∙ ap (λ (s : Stored). Some s) stays ∙ sym kept) refl,
+          changed_leads [] (Live stored held) (Live now held) inside is clones (ap (λ (s : Stored). Some s) (sym stays)) history,
+        )
+        | inr differs ↦ (
           Swaps now ∷ [],
-          swaps_it now kept_then (λ stays.
-              let as_it_was : now ≡ stored = one_kept now stored (sym kept_then ∙ stays ∙ kept) in
-              omega (arith, shorter, ap (λ (s : Stored). length s.journal) as_it_was)) refl,
+          swaps_it now kept_then (λ again. differs (one_kept now stored (sym kept_then ∙ again ∙ kept))) refl,
           changed_leads (Swaps now ∷ []) (Live stored held) (Live now held) inside is clones refl history,
         )
       ]
+
+  -- where a clone that isn't live replies with its state nothing is swapped
+  state_swaps : (answer reply : Reply) → Answers world answer reply next → SwapsAndLeads world next number
+  state_swaps answer reply p = ([], keeps_the_same (ap (λ (w : World). kept_of (clone_at w number)) p.1) refl, same_leads p.1)
 
   -- so one that compacts leads there by that step or by none
   compacts_lead : (clone : Clone) (reply : Reply) → number < length world.clones → clone_at world number ≡ clone → Compacts world number clone reply next
       → SwapsAndLeads world next number
   compacts_lead clone reply inside is =
       if_live (SwapsAndLeads world next number) world clone reply next _
-      (λ answer state p. ([], keeps_the_same (ap (λ (w : World). kept_of (clone_at w number)) p.1) refl, same_leads p.1))
-      (λ stored held live p. compacted_leads stored held p.0 inside (is ∙ live) p.1 p.3)
+      (λ answer state. state_swaps answer reply)
+      (λ stored held live p. swapped_leads stored (record stored { journal = p.0 }) held inside (is ∙ live) (compacted_or_not stored p.0 p.1) p.3)
+
+  -- and so does one that truncates
+  truncates_lead : (keep : ℕ) (clone : Clone) (reply : Reply) → number < length world.clones → clone_at world number ≡ clone
+      → Truncates world number keep clone reply next → SwapsAndLeads world next number
+  truncates_lead keep clone reply inside is =
+      if_live (SwapsAndLeads world next number) world clone reply next _
+      (λ answer state. state_swaps answer reply)
+      (λ stored held live p. swapped_leads stored (truncated_to stored keep) held inside (is ∙ live) (cut_or_not stored keep) p.1)
 
   -- ---- stopping and opening
 
@@ -353,6 +429,9 @@ durable_steps_lead world (Ask number) reply next small count p =
 durable_steps_lead world (Compact number) reply next small count p =
     let swapped = compacts_lead world next number (clone_at world number) reply (place_of world number small count) refl p in
     leads_durably world (Compact number) reply next swapped.0 swapped.1 swapped.2
+durable_steps_lead world (Truncate number keep) reply next small count p =
+    let swapped = truncates_lead world next number keep (clone_at world number) reply (place_of world number small count) refl p in
+    leads_durably world (Truncate number keep) reply next swapped.0 swapped.1 swapped.2
 durable_steps_lead world (Stop number) reply next small count p =
     leads_durably world (Stop number) reply next [] refl (stops_lead world next number (clone_at world number) reply (place_of world number small count) refl p)
 durable_steps_lead world (Open number) reply next small count p =
@@ -372,12 +451,12 @@ makes_once world (Did dot message) next steps other p q =
 makes_once world reply next steps other p q = p ∙ sym q
 
 -- and so are those of a `deliver`
-delivers_once : (sent : Option Message) (reply : Reply) (steps other : List DurableStep)
-    → DeliversDurably sent reply steps → DeliversDurably sent reply other → steps ≡ other
-delivers_once None reply steps other p q = p ∙ sym q
-delivers_once (Some message) reply steps other p q = p ∙ sym q
+delivers_once : (clone : Clone) (sent : Option Message) (reply : Reply) (steps other : List DurableStep)
+    → DeliversDurably clone sent reply steps → DeliversDurably clone sent reply other → steps ≡ other
+delivers_once clone None reply steps other p q = p ∙ sym q
+delivers_once clone (Some message) reply steps other p q = p ∙ sym q
 
--- and those of a compaction
+-- and those that swap what is kept
 swaps_once : (world next : World) (number : ℕ) (steps other : List DurableStep) → SwapsDurably world next number steps → SwapsDurably world next number other
     → steps ≡ other
 swaps_once world next number steps other (keeps_the_same same p) (keeps_the_same too q) = p ∙ sym q
@@ -391,11 +470,12 @@ pub one_durable_list : OneDurableList
 unfolding DurableSteps
 one_durable_list world (Add number triple) reply next steps other p q = makes_once world reply next steps other p q
 one_durable_list world (Remove number triple) reply next steps other p q = makes_once world reply next steps other p q
-one_durable_list world (Deliver message number) reply next steps other p q = delivers_once (message_at world message) reply steps other p q
+one_durable_list world (Deliver message number) reply next steps other p q = delivers_once (clone_at world number) (message_at world message) reply steps other p q
 one_durable_list world (Show number) reply next steps other p q = p ∙ sym q
 one_durable_list world (Join number) reply next steps other p q = p ∙ sym q
 one_durable_list world (Ask number) reply next steps other p q = p ∙ sym q
 one_durable_list world (Compact number) reply next steps other p q = swaps_once world next number steps other p q
+one_durable_list world (Truncate number keep) reply next steps other p q = swaps_once world next number steps other p q
 one_durable_list world (Stop number) reply next steps other p q = p ∙ sym q
 one_durable_list world (Open number) reply next steps other p q = p ∙ sym q
 one_durable_list world (Compare number second) reply next steps other p q = p ∙ sym q

@@ -6,14 +6,14 @@ use Rattle.tree_clock.specs.Limits.{path_limit}
 use Rattle.tree_clock.specs.Path.{zero_letter, one_letter}
 use Rattle.tree_clock.specs.declared.dots.Range.{Range}
 use Rattle.tree_clock.specs.Lists.{Has}
-use Rattle.mld_ops.specs.Messages.{GiveValue, MessageValue, CarriesEntry, CarriesWant, CarriesAsk, CarriesGive}
+use Rattle.mld_ops.specs.Messages.{GiveValue, MessageValue, CarriesEntry, CarriesWant, CarriesSnapshot, CarriesAsk, CarriesGive}
 use Rattle.mld_model.specs.declared.NoDevice.{NoDevice}
 use Rattle.mld_ops.specs.History.{Operation}
 use Rattle.mld_ops.proofs.PickingLaws.{pairs_more}
 use Rattle.schedule_model.specs.declared.Command.TheVariants.{Deliver, Join}
 use Rattle.mld_model.specs.declared.CloneState.TheVariants as states
 use Rattle.mld_model.specs.Clone.{Clone, Absent, Asking, Empty, Down, Live, Stored, known_of}
-use Rattle.mld_model.specs.World.{World, Message, RangeOf, Want, JoinAsk, JoinGive, message_at, clone_at, clone_count, with_clone}
+use Rattle.mld_model.specs.World.{World, Message, RangeOf, Want, SnapshotOf, JoinAsk, JoinGive, message_at, clone_at, clone_count, with_clone}
 use Rattle.schedule_model.specs.Step.{Step}
 use Rattle.mld_model.specs.CloneStep.{Joins, asked_itself, is_too_deep, forks, becomes_live, leaves_it, Takes, after_asking, after_fork, left_half, joined_with}
 use Rattle.mld_model.specs.Reply.{Sent, Answer, Joined, Deep, Ignored, IsDown, IsLive}
@@ -116,6 +116,7 @@ passed_over : (world : World) (number : ℕ) (asker : LocalAsker) (what : Messag
 passed_over world number asker (CarriesGive give) (JoinGive id path dots) is none relates = leaves_it (λ same. none give refl (relates.id ∙ ap id_of same ∙ sym is.id)) (refl, refl)
 passed_over world number asker (CarriesEntry entry) (RangeOf range) is none relates = (refl, refl)
 passed_over world number asker (CarriesWant ticks) (Want dots) is none relates = (refl, refl)
+passed_over world number asker (CarriesSnapshot snapshot) (SnapshotOf dots) is none relates = (refl, refl)
 passed_over world number asker (CarriesAsk id) (JoinAsk asked) is none relates = (refl, refl)
 passed_over world number asker what other is none relates = absurd relates
 

@@ -1,9 +1,9 @@
 -- Laws of texts that lack a byte, and of texts that are split at the first byte of a kind.
-use Rattle.std.specs.Prelude.{◌≡◌, ◌≢◌, ℕ, ◌+◌, ◌%◌, ◌^◌, ◌<◌, List, [], ◌∷◌, ◌++◌, Bool, false, true, ◌==◌, IsTrue, nat_eq}
-use Rattle.std.specs.List.{list_all, list_any}
+use Rattle.std.specs.Prelude.{◌≡◌, ◌≢◌, ℕ, ◌+◌, ◌%◌, ◌^◌, ◌<◌, List, [], ◌∷◌, ◌++◌, Bool, false, true, IsTrue, nat_eq}
+use Rattle.std.specs.List.{list_all}
 use Rattle.std.specs.Fmt.{decimal}
 use Rattle.std.proofs.Common.{refl, sym, ◌∙◌, subst, arith}
-use Rattle.std.proofs.lemmas.Bool.{false≢true, and_parts, ne_eqb, eq-eqb}
+use Rattle.std.proofs.lemmas.Bool.{false≢true, and_parts, eq-eqb}
 use Rattle.std.proofs.lemmas.Fmt.{decimal_by_steps}
 use Rattle.schedule_model.specs.Characters.{space}
 pub use Rattle.schedule_model.specs.Lacking.{Lacks}
@@ -33,11 +33,6 @@ Lacks-decimal byte other = decimal_by_steps (λ n ds. Lacks byte ds) (λ n h. (o
 -- so numbers are written without spaces
 pub no_space : (number : ℕ) → number < 2 ^ 64 → Lacks space (decimal number)
 no_space = Lacks-decimal space (λ digit h e. omega arith)
-
--- as a test
-pub list_any-Lacks : (byte : ℕ) (text : List ℕ) → Lacks byte text → list_any (λ b. b == byte) text ≡ false
-list_any-Lacks byte [] h = refl
-list_any-Lacks byte (first ∷ rest) h = rw (ne_eqb first byte h.0) (list_any-Lacks byte rest h.1)
 
 -- a text is split at its first such byte in one way
 pub one_split : (byte : ℕ) (a b x y : List ℕ) → Lacks byte a → Lacks byte b → a ++ byte ∷ x ≡ b ++ byte ∷ y → (a ≡ b) × (x ≡ y)

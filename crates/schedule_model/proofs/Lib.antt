@@ -4,6 +4,7 @@ pub mod JoinLaws
 pub mod ChangesLaws
 pub mod StopLaws
 pub mod AskLaws
+pub mod SnapshotLaws
 pub mod ScheduleLaws
 pub mod StepLaws
 pub mod RunsLaws

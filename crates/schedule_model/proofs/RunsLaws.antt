@@ -1,17 +1,13 @@
 -- A line acts in one way at each stage, a run has one end, and the lines of a schedule have one verdict.
-use Rattle.std.specs.Prelude.{◌≡◌, ℕ, suc, ◌+◌, List, [], ◌∷◌, ◌++◌, length, Option, MatchOption}
-use Rattle.std.proofs.Common.{refl, sym, ◌∙◌, subst, subst₂, ap, arith, inl, inr}
-use Rattle.tree_clock.specs.declared.dots.Range.{Range}
+use Rattle.std.specs.Prelude.{◌≡◌, ℕ, suc, ◌+◌, List, [], ◌∷◌, ◌++◌, length}
+use Rattle.std.proofs.Common.{refl, sym, ◌∙◌, subst, subst₂, ap, arith}
 use Rattle.schedule_model.specs.declared.Command.{Command}
-use Rattle.schedule_model.specs.declared.Command.TheVariants.{Deliver}
-use Rattle.mld_model.specs.Clone.{Clone, Stored, AreKnownTo}
-use Rattle.mld_model.specs.World.{World, Message, Want, clone_at}
-use Rattle.mld_model.specs.CloneStep.{Answers, TakesWant, lacks_nothing, sends_ranges, Takes}
-use Rattle.mld_model.specs.Reply.{Reply, Ready, NoMessage}
+use Rattle.mld_model.specs.World.{World}
+use Rattle.mld_model.specs.Reply.{Ready}
 use Rattle.schedule_model.specs.ReplyText.{reply_text}
 use Rattle.schedule_model.specs.Step.{Step}
-use Rattle.schedule_model.specs.Schedule.{Setup, SpellsCommand}
-use Rattle.schedule_model.specs.Runs.{Stage, Waiting, SetUp, Running, founded_by, IsWorldOf, SetsUp, Commands, Acts, says_nothing, sets_up, commands, Runs, DeliversFromBehind, WantsSnapshot, IsUnbuilt, IsBad, IsFirst, IsBadRest, bad_line, no_domain, Outcome, Finished, BadLine, UnbuiltLine, Verdict}
+use Rattle.schedule_model.specs.Schedule.{Setup}
+use Rattle.schedule_model.specs.Runs.{Stage, Waiting, SetUp, Running, founded_by, IsWorldOf, SetsUp, Commands, Acts, says_nothing, sets_up, commands, Runs, IsUnbuilt, IsBad, IsFirst, IsBadRest, bad_line, no_domain, Outcome, Finished, BadLine, UnbuiltLine, Verdict}
 use Rattle.schedule_model.specs.Laws.{OneAct, OneOutcome, OneRun, OneVerdict}
 use Rattle.schedule_model.proofs.ScheduleLaws.{one_kind, one_setup, one_command}
 use Rattle.schedule_model.proofs.StepLaws.{one_step}
@@ -62,48 +58,14 @@ acts_bad Waiting line text next (commands p) bad = absurd p.founds
 acts_bad (SetUp setup) line text next (commands p) bad = bad.2 p.command p.spells
 acts_bad (Running world) line text next (commands p) bad = bad.2 p.command p.spells
 
--- a want that was answered came from no one behind the base
-answered_known : (world : World) (dots : List Range) (stored : Stored) (reply : Reply) (next : World) → TakesWant world dots stored reply next
-    → AreKnownTo stored.base dots
-answered_known world dots stored reply next (lacks_nothing known none p) = known
-answered_known world dots stored reply next (sends_ranges ranges known drops some told is) = known
-
--- so where a line would have a snapshot sent no step is made
-delivers_known : (world : World) (line : List ℕ) (reply : Reply) (next : World) → (from : DeliversFromBehind world line)
-    → ¬ Step world (Deliver from.message from.number) reply next
-unfolding Step
-delivers_known world line reply next from steps =
-    let P : Option Message → Type 0 = λ o. MatchOption o (Answers world NoMessage reply next) (λ sent. Takes world from.number sent (clone_at world from.number) reply next) in
-    let Q : Clone → Type 0 = λ c. Takes world from.number (Want from.dots) c reply next in
-    from.behind (answered_known world from.dots from.stored reply next (subst Q from.live (subst P from.sent steps)))
-
--- a command that is done has no snapshot sent
-commands_snapshot : (stage : Stage) (line text : List ℕ) (next : Stage) → Commands stage line text next → ¬ WantsSnapshot stage line
-commands_snapshot Waiting line text next p from = absurd from
-commands_snapshot (SetUp setup) line text next p from = absurd from
-commands_snapshot (Running world) line text next p from =
-    let command = one_command line p.command (Deliver from.message from.number) p.spells from.spells in
-    delivers_known world line p.reply p.after from
-    (subst₂ (λ (world : World) (command : Command). Step world command p.reply p.after) p.founds command p.steps)
-
--- a line that would is a command
-snapshot_spells : (stage : Stage) (line : List ℕ) → WantsSnapshot stage line → (command : Command) × SpellsCommand line command
-snapshot_spells Waiting line from = absurd from
-snapshot_spells (SetUp setup) line from = absurd from
-snapshot_spells (Running world) line from = (Deliver from.message from.number, from.spells)
-
 -- what acts is built
-acts_unbuilt : (stage : Stage) (line text : List ℕ) (next : Stage) → Acts stage line text next → ¬ IsUnbuilt stage line
-acts_unbuilt stage line text next (says_nothing h none is) (inl word) = (one_kind line).nothing_unbuilt h word
-acts_unbuilt stage line text next (says_nothing h none is) (inr from) =
-    let spelled = snapshot_spells stage line from in (one_kind line).nothing_command h spelled.0 spelled.1
-acts_unbuilt stage line text next (sets_up p) (inl word) = (one_kind line).unbuilt_setup word p.setup p.spells
-acts_unbuilt stage line text next (sets_up p) (inr from) = absurd from
-acts_unbuilt stage line text next (commands p) (inl word) = (one_kind line).unbuilt_command word p.command p.spells
-acts_unbuilt stage line text next (commands p) (inr from) = commands_snapshot stage line text next p from
+acts_unbuilt : (stage : Stage) (line text : List ℕ) (next : Stage) → Acts stage line text next → ¬ IsUnbuilt line
+acts_unbuilt stage line text next (says_nothing h none is) word = (one_kind line).nothing_unbuilt h word
+acts_unbuilt stage line text next (sets_up p) word = (one_kind line).unbuilt_setup word p.setup p.spells
+acts_unbuilt stage line text next (commands p) word = (one_kind line).unbuilt_command word p.command p.spells
 
 -- what is outside the grammar isn't among the lines that will be built
-bad_unbuilt : (stage : Stage) (line : List ℕ) → IsBad stage line → ¬ IsUnbuilt stage line
+bad_unbuilt : (stage : Stage) (line : List ℕ) → IsBad stage line → ¬ IsUnbuilt line
 bad_unbuilt stage line bad u = bad.1 u
 
 -- each line has at most one of these outcomes at each stage
@@ -144,7 +106,7 @@ record ReadsOn (stage : Stage) (line : List ℕ) (after : Stage → Outcome → 
 -- what becomes of a line and those after it
 data ReadsLine (stage : Stage) (line : List ℕ) (after : Stage → Outcome → Type 0) (outcome : Outcome) : Type 0 where
   stops_bad : IsBad stage line → outcome ≡ BadLine 1 [] stage → ReadsLine stage line after outcome
-  stops_unbuilt : IsUnbuilt stage line → outcome ≡ UnbuiltLine 1 [] stage → ReadsLine stage line after outcome
+  stops_unbuilt : IsUnbuilt line → outcome ≡ UnbuiltLine 1 [] stage → ReadsLine stage line after outcome
   reads_on : ReadsOn stage line after outcome → ReadsLine stage line after outcome
 
 -- what becomes of lines that are read from the stage on, by the lines
@@ -218,7 +180,7 @@ reads_bad (line ∷ front) rest stage text next runs h = reads_on (record {
 
 -- a run over the lines before one that isn't built reads as far as that one
 reads_unbuilt : (front rest : List (List ℕ)) (stage : Stage) (text : List ℕ) (next : Stage) → Runs stage front text next
-    → (line : List ℕ) → IsFirst line rest → IsUnbuilt next line → Reads (front ++ rest) stage (UnbuiltLine (length front + 1) text next)
+    → (line : List ℕ) → IsFirst line rest → IsUnbuilt line → Reads (front ++ rest) stage (UnbuiltLine (length front + 1) text next)
 unfolding later
 reads_unbuilt [] rest stage text next runs line first h =
     let now : Reads rest next (UnbuiltLine 1 [] next) =

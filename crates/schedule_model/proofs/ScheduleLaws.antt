@@ -10,7 +10,7 @@ use Rattle.rdf_terms.specs.Grammar.{SpellsTriple}
 use Rattle.schedule_model.specs.Characters.{space, hash_mark}
 use Rattle.mld_model.specs.World.{clone_count}
 use Rattle.schedule_model.specs.declared.Command.{Command}
-use Rattle.schedule_model.specs.declared.Command.TheVariants.{Add, Remove, Deliver, Show, Compare, Join, Ask, Compact, Stop, Open}
+use Rattle.schedule_model.specs.declared.Command.TheVariants.{Add, Remove, Deliver, Show, Compare, Join, Ask, Compact, Truncate, Stop, Open}
 use Rattle.schedule_model.specs.Schedule.{IsNothing, empty, comment, is_unbuilt, Setup, SpellsSetup, SpellsCommand}
 use Rattle.schedule_model.proofs.LackingLaws.{Lacks, Lacks-from_test, one_split, apart, no_space}
 use Rattle.rdf_terms.proofs.Complete.{one_spelled}
@@ -31,7 +31,7 @@ nothing_apart h e other = elim (nothing_begins h) [
   | inr some ↦ apart some.1 e other
 ]
 
--- the first byte of a command: `a`, `r`, `d`, `s`, `j`, `o` or `c`
+-- the first byte of a command: `a`, `r`, `d`, `s`, `j`, `o`, `c` or `t`
 begins : Command → ℕ
 begins (Add number triple) = 97
 begins (Remove number triple) = 114
@@ -40,6 +40,7 @@ begins (Show number) = 115
 begins (Join number) = 106
 begins (Ask number) = 97
 begins (Compact number) = 99
+begins (Truncate number keep) = 116
 begins (Stop number) = 115
 begins (Open number) = 111
 begins (Compare number other) = 99
@@ -54,6 +55,7 @@ command_begins line (Show number) h = (_, h.0)
 command_begins line (Join number) h = (_, h.0)
 command_begins line (Ask number) h = (_, h.0)
 command_begins line (Compact number) h = (_, h.0)
+command_begins line (Truncate number keep) h = (_, h.0)
 command_begins line (Stop number) h = (_, h.0)
 command_begins line (Open number) h = (_, h.0)
 command_begins line (Compare number other) h = (_, h.0)
@@ -68,6 +70,7 @@ begins_apart (Show number) = refl
 begins_apart (Join number) = refl
 begins_apart (Ask number) = refl
 begins_apart (Compact number) = refl
+begins_apart (Truncate number keep) = refl
 begins_apart (Stop number) = refl
 begins_apart (Open number) = refl
 begins_apart (Compare number other) = refl
@@ -87,6 +90,7 @@ spells_numbers line (Show number) h = h.1
 spells_numbers line (Join number) h = h.1
 spells_numbers line (Ask number) h = h.1
 spells_numbers line (Compact number) h = h.1
+spells_numbers line (Truncate number keep) h = h.1
 spells_numbers line (Stop number) h = h.1
 spells_numbers line (Open number) h = h.1
 spells_numbers line (Compare number other) h = (h.1, h.2)
@@ -127,6 +131,7 @@ unbuilt_command line (Show number) u h = false≢true (subst (λ (l : List ℕ).
 unbuilt_command line (Join number) u h = false≢true (subst (λ (l : List ℕ). is_unbuilt l ≡ true) h.0 u)
 unbuilt_command line (Ask number) u h = false≢true (subst (λ (l : List ℕ). is_unbuilt l ≡ true) h.0 u)
 unbuilt_command line (Compact number) u h = false≢true (subst (λ (l : List ℕ). is_unbuilt l ≡ true) h.0 u)
+unbuilt_command line (Truncate number keep) u h = false≢true (subst (λ (l : List ℕ). is_unbuilt l ≡ true) h.0 u)
 unbuilt_command line (Stop number) u h = false≢true (subst (λ (l : List ℕ). is_unbuilt l ≡ true) h.0 u)
 unbuilt_command line (Open number) u h = false≢true (subst (λ (l : List ℕ). is_unbuilt l ≡ true) h.0 u)
 unbuilt_command line (Compare number other) u h = false≢true (subst (λ (l : List ℕ). is_unbuilt l ≡ true) h.0 u)
@@ -142,6 +147,7 @@ setup_command line setup (Show number) p q = apart p.whole q.0 refl
 setup_command line setup (Join number) p q = apart p.whole q.0 refl
 setup_command line setup (Ask number) p q = apart p.whole q.0 refl
 setup_command line setup (Compact number) p q = apart p.whole q.0 refl
+setup_command line setup (Truncate number keep) p q = apart p.whole q.0 refl
 setup_command line setup (Stop number) p q = apart p.whole q.0 refl
 setup_command line setup (Open number) p q = apart p.whole q.0 refl
 setup_command line setup (Compare number other) p q = apart p.whole q.0 refl
@@ -194,6 +200,10 @@ one_command line (Ask number) (Ask other) p q =
     ap Ask (decimal_injective number other (small p.1) (small q.1) (ap (drop 4) (sym p.0 ∙ q.0)))
 one_command line (Compact number) (Compact other) p q =
     ap Compact (decimal_injective number other (small p.1) (small q.1) (ap (drop 8) (sym p.0 ∙ q.0)))
+one_command line (Truncate number keep) (Truncate other second) p q =
+    let parts = one_number number other (decimal keep) (decimal second) (small p.1) (small q.1) (ap (drop 9) (sym p.0 ∙ q.0)) in
+    let same = decimal_injective keep second p.2 q.2 parts.1 in
+    cc (parts.0, same)
 one_command line (Add number triple) (Ask other) p q = absurd (apart (ap (drop 1) p.1) (ap (drop 1) q.0) refl)
 one_command line (Ask number) (Add other triple) p q = absurd (apart (ap (drop 1) p.0) (ap (drop 1) q.1) refl)
 one_command line (Compare number with) (Compact other) p q = absurd (apart (ap (drop 5) p.0) (ap (drop 5) q.0) refl)

@@ -12,12 +12,12 @@ use Rattle.mld_ops.specs.Tagged.{tagged_cmp}
 use Rattle.mld_ops.proofs.TaggedLaws.{tagged_total, tagged_exact}
 use Rattle.mld_ops.proofs.AscendingLaws.{same_ascending}
 use Rattle.mld_ops.proofs.MeaningLaws.{one_meaning}
-use Rattle.schedule_model.specs.declared.Command.TheVariants.{Add, Remove, Deliver, Show, Compare, Join, Ask, Compact, Stop, Open}
+use Rattle.schedule_model.specs.declared.Command.TheVariants.{Add, Remove, Deliver, Show, Compare, Join, Ask, Compact, Truncate, Stop, Open}
 use Rattle.mld_ops.proofs.PickingLaws.{drops_one}
-use Rattle.mld_model.specs.Clone.{Clone, Live, Stored, known_of, with_range, IsKnown}
-use Rattle.mld_model.specs.World.{World, Message, RangeOf, Want, JoinAsk, JoinGive, message_at, clone_at, with_clone}
-use Rattle.mld_model.specs.Reply.{Reply, Did, Took, Shows, Answer, Kept, NoMessage}
-use Rattle.mld_model.specs.CloneStep.{Answers, IsNextTick, after_operation, Makes, Adds, ArePairsOf, Deletes, finds_none, deletes_all, Removes, Accepts, HoldsBack, holds_already, holds_too_many, holds_from_now, TakesRange, knows_already, accepts, holds_back, Joins, TakesAsk, asked_itself, is_too_deep, forks, TakesLeaf, becomes_live, leaves_it, AskerTakes, LiveTakes, Takes, Stops, Lists, Compares, same_dots, fewer_dots, more_dots, dots_apart, ComparesWith, Weighs, TakesWant, lacks_nothing, sends_ranges, Wants, Compacts}
+use Rattle.mld_model.specs.Clone.{Clone, Live, Stored, known_of, with_range, merged_with, IsKnown}
+use Rattle.mld_model.specs.World.{World, Message, RangeOf, Want, SnapshotOf, JoinAsk, JoinGive, message_at, clone_at, with_clone}
+use Rattle.mld_model.specs.Reply.{Reply, Did, Took, Merged, Shows, Answer, Kept, NoMessage}
+use Rattle.mld_model.specs.CloneStep.{Answers, IsNextTick, after_operation, Makes, Adds, ArePairsOf, Deletes, finds_none, deletes_all, Removes, Accepts, HoldsBack, holds_already, holds_too_many, holds_from_now, TakesRange, knows_already, accepts, holds_back, Joins, TakesAsk, asked_itself, is_too_deep, forks, TakesLeaf, becomes_live, leaves_it, AskerTakes, LiveTakes, Takes, Stops, Lists, Compares, same_dots, fewer_dots, more_dots, dots_apart, ComparesWith, Weighs, TakesWant, lacks_nothing, sends_ranges, sends_snapshot, Merges, TakesSnapshot, knows_all, merges, Wants, Compacts, Truncates}
 use Rattle.mld_model.proofs.StateLaws.{by_one_state, AreSame, answers_once, once_if_live, opens_once}
 use Rattle.schedule_model.specs.Step.{Step}
 use Rattle.mld_model.proofs.ReleaseLaws.{releases_once}
@@ -183,6 +183,7 @@ module _ (world : World) (number : ℕ) (reply other : Reply) (next after : Worl
   wants_taken_once dots stored (lacks_nothing known none p) (lacks_nothing too nothing q) = answers_once p q
   wants_taken_once dots stored (lacks_nothing known none p) (sends_ranges ranges too drops some told is) =
       absurd (some (drops_one (IsKnown dots) stored.journal ranges [] drops none))
+  wants_taken_once dots stored (lacks_nothing known none p) (sends_snapshot behind told is) = absurd (behind known)
   wants_taken_once dots stored (sends_ranges ranges known drops some told is) (lacks_nothing too none q) =
       absurd (some (drops_one (IsKnown dots) stored.journal ranges [] drops none))
   wants_taken_once dots stored (sends_ranges ranges known drops some told is) (sends_ranges others too left more said was) =
@@ -190,6 +191,27 @@ module _ (world : World) (number : ℕ) (reply other : Reply) (next after : Worl
         told ∙ ap (λ (rs : List Range). Answer (range_with_len (length world.messages + 1) (length rs))) same ∙ sym said,
         is ∙ ap (λ (rs : List Range). record world { messages = world.messages ++ map RangeOf rs }) same ∙ sym was,
       )
+  wants_taken_once dots stored (sends_ranges ranges known drops some told is) (sends_snapshot behind said was) = absurd (behind known)
+  wants_taken_once dots stored (sends_snapshot behind told is) (lacks_nothing known none q) = absurd (behind known)
+  wants_taken_once dots stored (sends_snapshot behind told is) (sends_ranges ranges known drops some said was) = absurd (behind known)
+  wants_taken_once dots stored (sends_snapshot behind told is) (sends_snapshot too said was) = (told ∙ sym said, is ∙ sym was)
+
+  -- a snapshot that is merged has one outcome
+  merges_once : (stored : Stored) (held dots : List Range) → Merges world number stored held dots reply next → Merges world number stored held dots other after
+      → AreSame reply next other after
+  merges_once stored held dots p q =
+      let same = releases_once world.history (merged_with stored dots) held p.taken q.taken p.after q.after p.left q.left p.releases q.releases in (
+        p.replies ∙ ap Merged same.0 ∙ sym q.replies,
+        p.changes ∙ (λ i. with_clone world number (Live (same.1 i) (same.2 i))) ∙ sym q.changes,
+      )
+
+  -- a snapshot that comes to a live clone has one outcome: all of it is known, or it is merged
+  takes_snapshot_once : (stored : Stored) (held dots : List Range) → TakesSnapshot world number stored held dots reply next
+      → TakesSnapshot world number stored held dots other after → AreSame reply next other after
+  takes_snapshot_once stored held dots (knows_all known p) (knows_all too q) = answers_once p q
+  takes_snapshot_once stored held dots (knows_all known p) (merges q) = absurd (q.lacks known)
+  takes_snapshot_once stored held dots (merges p) (knows_all known q) = absurd (p.lacks known)
+  takes_snapshot_once stored held dots (merges p) (merges q) = merges_once stored held dots p q
 
   -- a message that comes to a clone that asks has one outcome
   asker_takes_once : (message : Message) → AskerTakes world number message reply next → AskerTakes world number message other after → AreSame reply next other after
@@ -202,8 +224,8 @@ module _ (world : World) (number : ℕ) (reply other : Reply) (next after : Worl
   live_takes_once (RangeOf range) stored held p q = receives_once stored held range p q
   live_takes_once (Want dots) stored held p q = wants_taken_once dots stored p q
   live_takes_once (JoinAsk id) stored held p q = gives_once stored held id p q
+  live_takes_once (SnapshotOf dots) stored held p q = takes_snapshot_once stored held dots p q
   live_takes_once (JoinGive id path dots) stored held p q = answers_once p q
-  live_takes_once message stored held p q = absurd p
 
   -- whatever the state of the clone is
   takes_once : (message : Message) (clone : Clone) → Takes world number message clone reply next → Takes world number message clone other after
@@ -224,6 +246,12 @@ module _ (world : World) (number : ℕ) (reply other : Reply) (next after : Worl
         p.2 ∙ ap (λ (ranges : List Range). Kept (length ranges)) same ∙ sym q.2,
         p.3 ∙ ap (λ (ranges : List Range). with_clone world number (Live (record stored { journal = ranges }) held)) same ∙ sym q.3,
       ))
+
+  -- and so has one that truncates it
+  truncates_once : (keep : ℕ) (clone : Clone) → Truncates world number keep clone reply next → Truncates world number keep clone other after
+      → AreSame reply next other after
+  truncates_once keep clone =
+      once_if_live world clone reply other next after _ _ (λ stored held p q. (p.0 ∙ sym q.0, p.1 ∙ sym q.1))
 
   -- a clone that is told to stop has one outcome
   stops_once : (clone : Clone) → Stops world number clone reply next → Stops world number clone other after → AreSame reply next other after
@@ -246,6 +274,7 @@ one_step world (Show number) reply other next after p q = lists_once world (clon
 one_step world (Join number) reply other next after p q = joins_once world number reply other next after (clone_at world number) p q
 one_step world (Ask number) reply other next after p q = asks_once world number reply other next after (clone_at world number) p q
 one_step world (Compact number) reply other next after p q = compacts_once world number reply other next after (clone_at world number) p q
+one_step world (Truncate number keep) reply other next after p q = truncates_once world number reply other next after keep (clone_at world number) p q
 one_step world (Stop number) reply other next after p q = stops_once world number reply other next after (clone_at world number) p q
 one_step world (Open number) reply other next after p q = opens_once world number (clone_at world number) reply other next after p q
 one_step world (Compare number second) reply other next after p q =

@@ -7,11 +7,11 @@ use Rattle.tree_clock.specs.Lists.{Has}
 use Rattle.mld_ops.specs.declared.tagged.Tagged.{Tagged}
 use Rattle.mld_ops.specs.Meaning.{IsMeaning}
 use Rattle.mld_ops.proofs.MeaningLaws.{one_meaning, same_known}
-use Rattle.schedule_model.specs.declared.Command.TheVariants.{Add, Remove, Deliver, Show, Compare, Join, Ask, Compact, Stop, Open}
+use Rattle.schedule_model.specs.declared.Command.TheVariants.{Add, Remove, Deliver, Show, Compare, Join, Ask, Compact, Truncate, Stop, Open}
 use Rattle.mld_model.specs.Clone.{Clone, Absent, Asking, Live, Stored, known_of, IsKnown}
-use Rattle.mld_model.specs.World.{World, Message, RangeOf, Want, JoinAsk, JoinGive, message_at, clone_count, clone_at}
+use Rattle.mld_model.specs.World.{World, Message, RangeOf, Want, SnapshotOf, JoinAsk, JoinGive, message_at, clone_count, clone_at}
 use Rattle.mld_model.specs.Reply.{Reply, NoMessage}
-use Rattle.mld_model.specs.CloneStep.{Answers, Makes, Adds, ArePairsOf, Deletes, finds_none, deletes_all, Removes, holds_already, holds_too_many, holds_from_now, TakesRange, knows_already, accepts, holds_back, Asks, Joins, TakesAsk, asked_itself, is_too_deep, forks, TakesLeaf, becomes_live, leaves_it, AskerTakes, LiveTakes, Takes, Stops, Reopens, Lists, ComparesWith, Weighs, TakesWant, lacks_nothing, sends_ranges, Wants, Compacts}
+use Rattle.mld_model.specs.CloneStep.{Answers, Makes, Adds, ArePairsOf, Deletes, finds_none, deletes_all, Removes, holds_already, holds_too_many, holds_from_now, TakesRange, knows_already, accepts, holds_back, Asks, Joins, TakesAsk, asked_itself, is_too_deep, forks, TakesLeaf, becomes_live, leaves_it, AskerTakes, LiveTakes, Takes, Stops, Reopens, Lists, ComparesWith, Weighs, TakesWant, lacks_nothing, sends_ranges, sends_snapshot, TakesSnapshot, knows_all, merges, Wants, Compacts, Truncates}
 use Rattle.mld_model.proofs.StateLaws.{by_state, if_live, if_opens}
 use Rattle.schedule_model.specs.Step.{Step}
 use Rattle.schedule_model.specs.Runs.{Stage, Waiting, SetUp, Running, IsWorldOf, Commands, Acts, says_nothing, sets_up, commands, Runs}
@@ -22,6 +22,7 @@ use Rattle.mld_model.proofs.JournalLaws.{journal_done}
 use Rattle.mld_model.proofs.SoundLaws.{made_sound, taken_sound, holding_sound, live_sound}
 use Rattle.mld_model.proofs.SendingLaws.{wanted_sound, ranges_sent_sound}
 use Rattle.mld_model.proofs.CompactedJournals.{compacted_sound}
+use Rattle.mld_model.proofs.MergedLaws.{truncated_sound, merged_sound, snapshot_sent_sound}
 use Rattle.mld_model.proofs.StoredLaws.{stopped_sound, opened_sound, opened_empty_sound}
 use Rattle.mld_model.proofs.JoiningLaws.{asked_sound, forked_sound, stands_at, joined_sound, place_of_message}
 use Rattle.schedule_model.proofs.ScheduleLaws.{spells_numbers}
@@ -95,6 +96,16 @@ module _ (world next : World) (reply : Reply) (sound : IsSound world) where
       subst IsSound (sym same) (ranges_sent_sound ranges world sound (λ range h.
       journal_done world.history stored.base stored.journal (live_sound world number stored held sound is).journal range
       (kept_members (IsKnown dots) stored.journal ranges drops range h)))
+  wants_taken_sound number dots stored held is (sends_snapshot behind told same) =
+      subst IsSound (sym same) (snapshot_sent_sound world number stored held sound is)
+
+  -- and so does a snapshot that comes to one
+  takes_snapshot_sound : (number : ℕ) (stored : Stored) (held dots : List Range) → clone_at world number ≡ Live stored held
+      → Has world.messages (SnapshotOf dots) → TakesSnapshot world number stored held dots reply next → IsSound next
+  takes_snapshot_sound number stored held dots is sent (knows_all known p) = same_sound world next sound p.1
+  takes_snapshot_sound number stored held dots is sent (merges p) =
+      subst IsSound (sym p.changes)
+      (merged_sound world number stored held dots p.taken p.after p.left sound is (sound.messages (SnapshotOf dots) sent) p.releases)
 
   -- and a leaf that comes to a clone that asks
   adopts_sound : (number place id : ℕ) (path : List ℕ) (dots : List Range) → clone_at world number ≡ Asking → slice_get world.messages place ≡ Some (JoinGive id path dots)
@@ -116,8 +127,9 @@ module _ (world next : World) (reply : Reply) (sound : IsSound world) where
   live_takes_sound number (RangeOf range) stored held is sent p = receives_sound number stored held range is (stands_at world.messages sent.0 (RangeOf range) sent.1) p
   live_takes_sound number (Want dots) stored held is sent p = wants_taken_sound number dots stored held is p
   live_takes_sound number (JoinAsk id) stored held is sent p = gives_sound number stored held id is (stands_at world.messages sent.0 (JoinAsk id) sent.1) p
+  live_takes_sound number (SnapshotOf dots) stored held is sent p =
+      takes_snapshot_sound number stored held dots is (stands_at world.messages sent.0 (SnapshotOf dots) sent.1) p
   live_takes_sound number (JoinGive id path dots) stored held is sent p = same_sound world next sound p.1
-  live_takes_sound number message stored held is sent p = absurd p
 
   -- to any clone
   takes_sound : (number : ℕ) (message : Message) (clone : Clone) → clone_at world number ≡ clone → (sent : (place : ℕ) × (slice_get world.messages place ≡ Some message))
@@ -144,6 +156,12 @@ module _ (world next : World) (reply : Reply) (sound : IsSound world) where
   compacts_sound number clone is =
       if_live (IsSound next) world clone reply next _ (λ answer state p. same_sound world next sound p.1)
       (λ stored held live p. subst IsSound (sym p.3) (compacted_sound world number stored held p.0 sound (is ∙ live) p.1))
+
+  -- or truncates it
+  truncates_sound : (number keep : ℕ) (clone : Clone) → clone_at world number ≡ clone → Truncates world number keep clone reply next → IsSound next
+  truncates_sound number keep clone is =
+      if_live (IsSound next) world clone reply next _ (λ answer state p. same_sound world next sound p.1)
+      (λ stored held live p. subst IsSound (sym p.1) (truncated_sound world number stored held keep sound (is ∙ live)))
 
   -- a clone that is told to stop leads to a sound world
   stops_sound : (number : ℕ) (clone : Clone) → clone_at world number ≡ clone → Stops world number clone reply next → IsSound next
@@ -181,6 +199,7 @@ step_sound world (Show number) reply next small sound p = same_sound world next 
 step_sound world (Join number) reply next small sound p = joins_sound world next reply sound number (clone_at world number) small refl p
 step_sound world (Ask number) reply next small sound p = wants_sound world next reply sound number (clone_at world number) refl p
 step_sound world (Compact number) reply next small sound p = compacts_sound world next reply sound number (clone_at world number) refl p
+step_sound world (Truncate number keep) reply next small sound p = truncates_sound world next reply sound number keep (clone_at world number) refl p
 step_sound world (Stop number) reply next small sound p = stops_sound world next reply sound number (clone_at world number) refl p
 step_sound world (Open number) reply next small sound p = opens_sound world next reply sound number (clone_at world number) refl p
 step_sound world (Compare number other) reply next small sound p =

@@ -3,11 +3,11 @@ use Rattle.std.specs.Prelude.{◌≡◌, ◌≢◌, ℕ, List, [], ◌∷◌, ma
 use Rattle.tree_clock.specs.declared.dots.Range.{Range}
 use Rattle.mld_ops.specs.History.{Operation}
 use Rattle.schedule_model.specs.declared.Command.{Command}
-use Rattle.schedule_model.specs.declared.Command.TheVariants.{Add, Remove, Deliver, Show, Compare, Join, Ask, Compact, Stop, Open}
-use Rattle.mld_model.specs.Clone.{Stored, kept_of}
+use Rattle.schedule_model.specs.declared.Command.TheVariants.{Add, Remove, Deliver, Show, Compare, Join, Ask, Compact, Truncate, Stop, Open}
+use Rattle.mld_model.specs.Clone.{Clone, Live, Stored, kept_of, merged_with}
 use Rattle.mld_model.specs.CloneStep.{joined_with}
 use Rattle.mld_model.specs.World.{World, Message, RangeOf, Want, SnapshotOf, JoinAsk, JoinGive, message_at, clone_at, clone_count}
-use Rattle.mld_model.specs.Reply.{Reply, Did, Took, Answer, Joined}
+use Rattle.mld_model.specs.Reply.{Reply, Did, Took, Merged, Answer, Joined}
 use Rattle.mld_model.specs.Durable.{DurableStep, AppendsMade, AppendsTaken, AppendsFork, Creates, Swaps, kept_after, history_after}
 use Rattle.schedule_model.specs.Step.{HasCloneNumbers, number_of_clone, Step}
 
@@ -37,14 +37,18 @@ abbrev pub joining_steps : List ℕ → List Range → Reply → List DurableSte
 joining_steps path dots (Joined leaf) = Creates (joined_with path dots) ∷ []
 joining_steps path dots reply = []
 
--- the steps of a clone that a message came to, by its reply; it keeps what it kept where it answers a want, and snapshots are never
--- sent yet
-abbrev pub message_steps : Message → Reply → List DurableStep
-message_steps (RangeOf range) reply = taking_steps reply
-message_steps (JoinAsk id) reply = giving_steps reply
-message_steps (JoinGive id path dots) reply = joining_steps path dots reply
-message_steps (Want dots) reply = []
-message_steps (SnapshotOf dots) reply = []
+-- what a live clone keeps is swapped for what it keeps that merges these dots, and then the ranges that the reply tells of are appended
+abbrev pub merging_steps : Clone → List Range → Reply → List DurableStep
+merging_steps (Live stored held) dots (Merged ranges) = Swaps (merged_with stored dots) ∷ map (λ range. AppendsTaken range) ranges
+merging_steps clone dots reply = []
+
+-- the steps of a clone that a message came to, by its reply; it keeps what it kept where it answers a want
+abbrev pub message_steps : Clone → Message → Reply → List DurableStep
+message_steps clone (RangeOf range) reply = taking_steps reply
+message_steps clone (JoinAsk id) reply = giving_steps reply
+message_steps clone (JoinGive id path dots) reply = joining_steps path dots reply
+message_steps clone (SnapshotOf dots) reply = merging_steps clone dots reply
+message_steps clone (Want dots) reply = []
 
 -- what the clone of the number keeps is swapped for what it keeps then, unless that is the same
 pub data SwapsDurably (world next : World) (number : ℕ) (steps : List DurableStep) : Type 0 where
@@ -57,11 +61,12 @@ unfoldable pub DurableSteps : World → Command → Reply → World → List Dur
 DurableSteps world (Add number triple) reply next steps = MakesDurably world reply next steps
 DurableSteps world (Remove number triple) reply next steps = MakesDurably world reply next steps
 DurableSteps world (Deliver message number) reply next steps =
-    MatchOption (message_at world message) (steps ≡ []) (λ sent. steps ≡ message_steps sent reply)
+    MatchOption (message_at world message) (steps ≡ []) (λ sent. steps ≡ message_steps (clone_at world number) sent reply)
 DurableSteps world (Show number) reply next steps = steps ≡ []
 DurableSteps world (Join number) reply next steps = steps ≡ []
 DurableSteps world (Ask number) reply next steps = steps ≡ []
 DurableSteps world (Compact number) reply next steps = SwapsDurably world next number steps
+DurableSteps world (Truncate number keep) reply next steps = SwapsDurably world next number steps
 DurableSteps world (Stop number) reply next steps = steps ≡ []
 DurableSteps world (Open number) reply next steps = steps ≡ []
 DurableSteps world (Compare number other) reply next steps = steps ≡ []

@@ -51,8 +51,8 @@ OneAct = (stage : Stage) (line text other : List ℕ) (next after : Stage) → A
 -- a line that says nothing or acts is neither outside the grammar nor unbuilt, and no line is both of these
 pub record IsOfOneOutcome (stage : Stage) (line : List ℕ) : Type 0 where
   pub acts_bad : (text : List ℕ) (next : Stage) → Acts stage line text next → ¬ IsBad stage line
-  pub acts_unbuilt : (text : List ℕ) (next : Stage) → Acts stage line text next → ¬ IsUnbuilt stage line
-  pub bad_unbuilt : IsBad stage line → ¬ IsUnbuilt stage line
+  pub acts_unbuilt : (text : List ℕ) (next : Stage) → Acts stage line text next → ¬ IsUnbuilt line
+  pub bad_unbuilt : IsBad stage line → ¬ IsUnbuilt line
 
 -- each line has at most one of these outcomes at each stage
 abbrev pub OneOutcome : Type 0

@@ -7,7 +7,7 @@ use Rattle.tree_clock.specs.declared.dots.Range.{Range}
 use Rattle.tree_clock.specs.Path.{path_text}
 use Rattle.tree_clock.specs.Dot.{dot_text, range_text}
 use Rattle.mld_ops.specs.declared.tagged.Tagged.{Tagged}
-use Rattle.mld_model.specs.Reply.{Reply, Ready, Did, NoOperation, Took, Held, HeldFull, AlreadyKnown, Shows, Same, Less, More, Apart, Sent, Answer, NothingToSend, Kept, Joined, Deep, NoMessage, Ignored, IsAbsent, IsAsking, IsDown, IsLive, Stopped, Opened}
+use Rattle.mld_model.specs.Reply.{Reply, Ready, Did, NoOperation, Took, Merged, Held, HeldFull, AlreadyKnown, Shows, Same, Less, More, Apart, Sent, Answer, NothingToSend, Kept, Joined, Deep, NoMessage, Ignored, IsAbsent, IsAsking, IsDown, IsLive, Stopped, Opened}
 use Rattle.schedule_model.specs.Characters.{space, line_end}
 
 -- the line of a pair
@@ -28,6 +28,7 @@ reply_text (Ready count) = codes "ready " ++ (decimal count ++ line_end ∷ [])
 reply_text (Did dot number) = codes "did " ++ (dot_text dot ++ (codes " m" ++ (decimal number ++ line_end ∷ [])))
 reply_text NoOperation = codes "none\n"
 reply_text (Took ranges) = codes "took" ++ (flat_map spaced_range ranges ++ line_end ∷ [])
+reply_text (Merged ranges) = codes "merged" ++ (flat_map spaced_range ranges ++ line_end ∷ [])
 reply_text Held = codes "held\n"
 reply_text HeldFull = codes "held full\n"
 reply_text AlreadyKnown = codes "known\n"

@@ -1,10 +1,7 @@
 -- Runs of the model over lines, and the verdict on the lines of a schedule.
-use Rattle.std.specs.Prelude.{◌≡◌, ℕ, ◌+◌, List, [], ◌∷◌, ◌++◌, ◌⊎◌, Some, IsTrue, length}
-use Rattle.tree_clock.specs.declared.dots.Range.{Range}
+use Rattle.std.specs.Prelude.{◌≡◌, ℕ, ◌+◌, List, [], ◌∷◌, ◌++◌, IsTrue, length}
 use Rattle.schedule_model.specs.declared.Command.{Command}
-use Rattle.schedule_model.specs.declared.Command.TheVariants.{Deliver}
-use Rattle.mld_model.specs.Clone.{Live, Stored, AreKnownTo}
-use Rattle.mld_model.specs.World.{World, Want, message_at, clone_at, founded}
+use Rattle.mld_model.specs.World.{World, founded}
 use Rattle.mld_model.specs.Reply.{Reply, Ready}
 use Rattle.schedule_model.specs.ReplyText.{reply_text}
 use Rattle.schedule_model.specs.Step.{Step}
@@ -60,27 +57,9 @@ Runs stage [] text next = (text ≡ []) × (next ≡ stage)
 Runs stage (line ∷ lines) text next =
     (front : List ℕ) × (rest : List ℕ) × (middle : Stage) × Acts stage line front middle × Runs middle lines rest next × (text ≡ front ++ rest)
 
--- the line delivers to a live clone a want of one who lacks dots of the clone's base; what it lacks can't be told it by ranges alone
-pub record DeliversFromBehind (world : World) (line : List ℕ) : Type 0 where
-  pub message : ℕ
-  pub number : ℕ
-  pub spells : SpellsCommand line (Deliver message number)
-  pub dots : List Range
-  pub sent : message_at world message ≡ Some (Want dots)
-  pub stored : Stored
-  pub held : List Range
-  pub live : clone_at world number ≡ Live stored held
-  pub behind : ¬ AreKnownTo stored.base dots
-
--- the line would have a clone of the world that runs send a snapshot
-abbrev pub WantsSnapshot : Stage → List ℕ → Type 0
-WantsSnapshot Waiting line = ⊥
-WantsSnapshot (SetUp setup) line = ⊥
-WantsSnapshot (Running world) line = DeliversFromBehind world line
-
--- the line isn't built yet: by its first word, whatever the stage is, or since it would have a snapshot sent
-abbrev pub IsUnbuilt : Stage → List ℕ → Type 0
-IsUnbuilt stage line = IsTrue (is_unbuilt line) ⊎ WantsSnapshot stage line
+-- the line isn't built yet: by its first word, whatever the stage is
+abbrev pub IsUnbuilt : List ℕ → Type 0
+IsUnbuilt line = IsTrue (is_unbuilt line)
 
 -- the line spells none of what may come at this stage: a domain line while a schedule waits, and then a command
 abbrev pub SpellsNone : Stage → List ℕ → Type 0
@@ -90,7 +69,7 @@ SpellsNone (Running world) line = (command : Command) → ¬ SpellsCommand line 
 
 -- the line is outside the grammar at this stage, and isn't one that will be built
 abbrev pub IsBad : Stage → List ℕ → Type 0
-IsBad stage line = ¬ IsNothing line × ¬ IsUnbuilt stage line × SpellsNone stage line
+IsBad stage line = ¬ IsNothing line × ¬ IsUnbuilt line × SpellsNone stage line
 
 -- the lines before a line, what they write and the stage that they lead to
 pub record RunsBefore (lines : List (List ℕ)) (number : ℕ) (text : List ℕ) (stage : Stage) : Type 0 where
@@ -120,7 +99,7 @@ pub record StopsUnbuilt (lines : List (List ℕ)) (number : ℕ) (text : List �
   pub before : RunsBefore lines number text stage
   pub line : List ℕ
   pub first : IsFirst line before.rest
-  pub unbuilt : IsUnbuilt stage line
+  pub unbuilt : IsUnbuilt line
 
 -- what becomes of a schedule: its last line is done, with the world that it leads to; or a line is the first bad one, or the
 -- first unbuilt one, with the stage that the lines before it lead to; each with the text that those lines write

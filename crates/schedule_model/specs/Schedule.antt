@@ -10,7 +10,7 @@ use Rattle.schedule_model.specs.Characters.{space, hash_mark}
 use Rattle.mld_model.specs.Local.{IsNamed}
 use Rattle.mld_model.specs.World.{clone_count}
 use Rattle.schedule_model.specs.declared.Command.{Command}
-use Rattle.schedule_model.specs.declared.Command.TheVariants.{Add, Remove, Deliver, Show, Compare, Join, Ask, Compact, Stop, Open}
+use Rattle.schedule_model.specs.declared.Command.TheVariants.{Add, Remove, Deliver, Show, Compare, Join, Ask, Compact, Truncate, Stop, Open}
 
 -- an empty line, or a comment: `#` first, and UTF-8 throughout
 pub data IsNothing : List ℕ → Type 0 where
@@ -27,7 +27,7 @@ is_word = pointwise nat_eq
 
 -- the first words of lines that aren't built yet
 abbrev pub unbuilt_words : List (List ℕ)
-unbuilt_words = codes "truncate" ∷ codes "query" ∷ codes "update" ∷ codes "single" ∷ codes "crash" ∷ []
+unbuilt_words = codes "query" ∷ codes "update" ∷ codes "single" ∷ codes "crash" ∷ []
 
 -- a line that isn't built yet, whatever its rest is: one of those words first
 unfoldable pub is_unbuilt : List ℕ → Bool
@@ -72,6 +72,8 @@ SpellsCommand line (Show number) = (line ≡ codes "show " ++ decimal number) ×
 SpellsCommand line (Join number) = (line ≡ codes "join " ++ decimal number) × IsCloneNumber number
 SpellsCommand line (Ask number) = (line ≡ codes "ask " ++ decimal number) × IsCloneNumber number
 SpellsCommand line (Compact number) = (line ≡ codes "compact " ++ decimal number) × IsCloneNumber number
+SpellsCommand line (Truncate number keep) =
+    (line ≡ codes "truncate " ++ (decimal number ++ space ∷ decimal keep)) × IsCloneNumber number × (keep < 2 ^ 64)
 SpellsCommand line (Stop number) = (line ≡ codes "stop " ++ decimal number) × IsCloneNumber number
 SpellsCommand line (Open number) = (line ≡ codes "open " ++ decimal number) × IsCloneNumber number
 SpellsCommand line (Compare number other) =

@@ -1,8 +1,8 @@
 -- One step of the world: a command, its reply, and the world after it.
 use Rattle.std.specs.Prelude.{ℕ, ◌<◌, MatchOption}
 use Rattle.schedule_model.specs.declared.Command.{Command}
-use Rattle.schedule_model.specs.declared.Command.TheVariants.{Add, Remove, Deliver, Show, Compare, Join, Ask, Compact, Stop, Open}
-use Rattle.mld_model.specs.CloneStep.{Answers, Adds, Removes, Takes, Lists, Joins, Wants, Compacts, Stops, Reopens, Weighs}
+use Rattle.schedule_model.specs.declared.Command.TheVariants.{Add, Remove, Deliver, Show, Compare, Join, Ask, Compact, Truncate, Stop, Open}
+use Rattle.mld_model.specs.CloneStep.{Answers, Adds, Removes, Takes, Lists, Joins, Wants, Compacts, Truncates, Stops, Reopens, Weighs}
 use Rattle.mld_model.specs.World.{World, message_at, clone_at, clone_count}
 use Rattle.mld_model.specs.Reply.{Reply, NoMessage}
 
@@ -15,6 +15,7 @@ HasCloneNumbers (Show number) = number < clone_count
 HasCloneNumbers (Join number) = number < clone_count
 HasCloneNumbers (Ask number) = number < clone_count
 HasCloneNumbers (Compact number) = number < clone_count
+HasCloneNumbers (Truncate number keep) = number < clone_count
 HasCloneNumbers (Stop number) = number < clone_count
 HasCloneNumbers (Open number) = number < clone_count
 HasCloneNumbers (Compare number other) = (number < clone_count) × (other < clone_count)
@@ -28,6 +29,7 @@ number_of_clone (Show number) = number
 number_of_clone (Join number) = number
 number_of_clone (Ask number) = number
 number_of_clone (Compact number) = number
+number_of_clone (Truncate number keep) = number
 number_of_clone (Stop number) = number
 number_of_clone (Open number) = number
 number_of_clone (Compare number other) = number
@@ -42,6 +44,7 @@ Step world (Show number) reply next = Lists world (clone_at world number) reply 
 Step world (Join number) reply next = Joins world number (clone_at world number) reply next
 Step world (Ask number) reply next = Wants world (clone_at world number) reply next
 Step world (Compact number) reply next = Compacts world number (clone_at world number) reply next
+Step world (Truncate number keep) reply next = Truncates world number keep (clone_at world number) reply next
 Step world (Stop number) reply next = Stops world number (clone_at world number) reply next
 Step world (Open number) reply next = Reopens world number (clone_at world number) reply next
 Step world (Compare number other) reply next = Weighs world (clone_at world number) (clone_at world other) reply next

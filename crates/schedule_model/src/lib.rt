@@ -30,6 +30,8 @@ pub enum Command {
     Ask(u8),
     /// `compact C`: clone C fuses the neighbours in its journal.
     Compact(u8),
+    /// `truncate C M`: clone C keeps the last M ranges of its journal, and the others become a part of its base.
+    Truncate(u8, u64),
     /// `stop C`: clone C stops, and forgets what it holds back.
     Stop(u8),
     /// `open C`: clone C, which is down, runs again with what its banks keep.
