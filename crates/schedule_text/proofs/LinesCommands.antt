@@ -12,10 +12,10 @@ use Rattle.rdf_terms.specs.declared.faults.TripleFault.TheVariants.{NotTriple, T
 use Rattle.schedule_model.specs.Characters.{space}
 use Rattle.mld_model.specs.World.{clone_count}
 use Rattle.schedule_model.specs.declared.Command.{Command}
-use Rattle.schedule_model.specs.declared.Command.TheVariants.{Add, Remove, Deliver, Show, Compare, Join, Ask, Compact, Stop, Open}
+use Rattle.schedule_model.specs.declared.Command.TheVariants.{Add, Remove, Deliver, Show, Compare, Join, Ask, Compact, Truncate, Stop, Open}
 use Rattle.schedule_model.proofs.LackingLaws.{Lacks, apart}
 use Rattle.schedule_model.specs.Schedule.{SpellsCommand}
-use Rattle.schedule_text.specs.ReadLines.{IsTripleText, IsCloneAndTriple, IsAddRest, IsRemoveRest, IsDeliverRest, IsShowRest, IsCompareRest, IsJoinRest, IsAskRest, IsCompactRest, IsStopRest, IsOpenRest}
+use Rattle.schedule_text.specs.ReadLines.{IsTripleText, IsCloneAndTriple, IsAddRest, IsRemoveRest, IsDeliverRest, IsShowRest, IsCompareRest, IsJoinRest, IsAskRest, IsCompactRest, IsTruncateRest, IsStopRest, IsOpenRest}
 use Rattle.schedule_text.proofs.LinesText.{has_space}
 use Rattle.schedule_text.proofs.LinesNumbers.{small, number_first}
 
@@ -48,6 +48,7 @@ add_back line rest e (Compare number other) h = absurd (apart e h.0 refl)
 add_back line rest e (Join number) h = absurd (apart e h.0 refl)
 add_back line rest e (Ask number) h = absurd (apart (ap (drop 1) e) (ap (drop 1) h.0) refl)
 add_back line rest e (Compact number) h = absurd (apart e h.0 refl)
+add_back line rest e (Truncate number keep) h = absurd (apart e h.0 refl)
 add_back line rest e (Stop number) h = absurd (apart e h.0 refl)
 add_back line rest e (Open number) h = absurd (apart e h.0 refl)
 
@@ -68,6 +69,7 @@ remove_back line rest e (Compare number other) h = absurd (apart e h.0 refl)
 remove_back line rest e (Join number) h = absurd (apart e h.0 refl)
 remove_back line rest e (Ask number) h = absurd (apart e h.0 refl)
 remove_back line rest e (Compact number) h = absurd (apart e h.0 refl)
+remove_back line rest e (Truncate number keep) h = absurd (apart e h.0 refl)
 remove_back line rest e (Stop number) h = absurd (apart e h.0 refl)
 remove_back line rest e (Open number) h = absurd (apart e h.0 refl)
 
@@ -87,6 +89,7 @@ deliver_back line rest e (Compare number other) h = absurd (apart e h.0 refl)
 deliver_back line rest e (Join number) h = absurd (apart e h.0 refl)
 deliver_back line rest e (Ask number) h = absurd (apart e h.0 refl)
 deliver_back line rest e (Compact number) h = absurd (apart e h.0 refl)
+deliver_back line rest e (Truncate number keep) h = absurd (apart e h.0 refl)
 deliver_back line rest e (Stop number) h = absurd (apart e h.0 refl)
 deliver_back line rest e (Open number) h = absurd (apart e h.0 refl)
 
@@ -106,6 +109,7 @@ show_back line rest e (Compare number other) h = absurd (apart e h.0 refl)
 show_back line rest e (Join number) h = absurd (apart e h.0 refl)
 show_back line rest e (Ask number) h = absurd (apart e h.0 refl)
 show_back line rest e (Compact number) h = absurd (apart e h.0 refl)
+show_back line rest e (Truncate number keep) h = absurd (apart e h.0 refl)
 show_back line rest e (Stop number) h = absurd (apart (ap (drop 1) e) (ap (drop 1) h.0) refl)
 show_back line rest e (Open number) h = absurd (apart e h.0 refl)
 
@@ -125,6 +129,7 @@ compare_back line rest e (Compare number other) h = (number, other, refl, ap (dr
 compare_back line rest e (Join number) h = absurd (apart e h.0 refl)
 compare_back line rest e (Ask number) h = absurd (apart e h.0 refl)
 compare_back line rest e (Compact number) h = absurd (apart (ap (drop 5) e) (ap (drop 5) h.0) refl)
+compare_back line rest e (Truncate number keep) h = absurd (apart e h.0 refl)
 compare_back line rest e (Stop number) h = absurd (apart e h.0 refl)
 compare_back line rest e (Open number) h = absurd (apart e h.0 refl)
 
@@ -144,6 +149,7 @@ join_back line rest e (Compare number other) h = absurd (apart e h.0 refl)
 join_back line rest e (Join number) h = (number, refl, ap (drop 5) (sym e ∙ h.0), h.1)
 join_back line rest e (Ask number) h = absurd (apart e h.0 refl)
 join_back line rest e (Compact number) h = absurd (apart e h.0 refl)
+join_back line rest e (Truncate number keep) h = absurd (apart e h.0 refl)
 join_back line rest e (Stop number) h = absurd (apart e h.0 refl)
 join_back line rest e (Open number) h = absurd (apart e h.0 refl)
 
@@ -163,6 +169,7 @@ ask_back line rest e (Compare number other) h = absurd (apart e h.0 refl)
 ask_back line rest e (Join number) h = absurd (apart e h.0 refl)
 ask_back line rest e (Ask number) h = (number, refl, ap (drop 4) (sym e ∙ h.0), h.1)
 ask_back line rest e (Compact number) h = absurd (apart e h.0 refl)
+ask_back line rest e (Truncate number keep) h = absurd (apart e h.0 refl)
 ask_back line rest e (Stop number) h = absurd (apart e h.0 refl)
 ask_back line rest e (Open number) h = absurd (apart e h.0 refl)
 
@@ -182,11 +189,32 @@ compact_back line rest e (Compare number other) h = absurd (apart (ap (drop 5) e
 compact_back line rest e (Join number) h = absurd (apart e h.0 refl)
 compact_back line rest e (Ask number) h = absurd (apart e h.0 refl)
 compact_back line rest e (Compact number) h = (number, refl, ap (drop 8) (sym e ∙ h.0), h.1)
+compact_back line rest e (Truncate number keep) h = absurd (apart e h.0 refl)
 compact_back line rest e (Stop number) h = absurd (apart e h.0 refl)
 compact_back line rest e (Open number) h = absurd (apart e h.0 refl)
 
 pub compact_behind : (line rest : List ℕ) → line ≡ codes "compact " ++ rest → (command : Command) → IsCompactRest rest command ↔ SpellsCommand line command
 compact_behind line rest e command = (compact_there line rest e command, compact_back line rest e command)
+
+truncate_there : (line rest : List ℕ) → line ≡ codes "truncate " ++ rest → (command : Command) → IsTruncateRest rest command → SpellsCommand line command
+truncate_there line rest e command h =
+    subst (λ (k : Command). SpellsCommand line k) (sym h.2) (e ∙ ap (λ (r : List ℕ). codes "truncate " ++ r) h.3, h.4, h.5)
+
+truncate_back : (line rest : List ℕ) → line ≡ codes "truncate " ++ rest → (command : Command) → SpellsCommand line command → IsTruncateRest rest command
+truncate_back line rest e (Add number triple) h = absurd (apart e h.1 refl)
+truncate_back line rest e (Remove number triple) h = absurd (apart e h.1 refl)
+truncate_back line rest e (Deliver message number) h = absurd (apart e h.0 refl)
+truncate_back line rest e (Show number) h = absurd (apart e h.0 refl)
+truncate_back line rest e (Compare number other) h = absurd (apart e h.0 refl)
+truncate_back line rest e (Join number) h = absurd (apart e h.0 refl)
+truncate_back line rest e (Ask number) h = absurd (apart e h.0 refl)
+truncate_back line rest e (Compact number) h = absurd (apart e h.0 refl)
+truncate_back line rest e (Truncate number keep) h = (number, keep, refl, ap (drop 9) (sym e ∙ h.0), h.1, h.2)
+truncate_back line rest e (Stop number) h = absurd (apart e h.0 refl)
+truncate_back line rest e (Open number) h = absurd (apart e h.0 refl)
+
+pub truncate_behind : (line rest : List ℕ) → line ≡ codes "truncate " ++ rest → (command : Command) → IsTruncateRest rest command ↔ SpellsCommand line command
+truncate_behind line rest e command = (truncate_there line rest e command, truncate_back line rest e command)
 
 stop_there : (line rest : List ℕ) → line ≡ codes "stop " ++ rest → (command : Command) → IsStopRest rest command → SpellsCommand line command
 stop_there line rest e command h =
@@ -201,6 +229,7 @@ stop_back line rest e (Compare number other) h = absurd (apart e h.0 refl)
 stop_back line rest e (Join number) h = absurd (apart e h.0 refl)
 stop_back line rest e (Ask number) h = absurd (apart e h.0 refl)
 stop_back line rest e (Compact number) h = absurd (apart e h.0 refl)
+stop_back line rest e (Truncate number keep) h = absurd (apart e h.0 refl)
 stop_back line rest e (Stop number) h = (number, refl, ap (drop 5) (sym e ∙ h.0), h.1)
 stop_back line rest e (Open number) h = absurd (apart e h.0 refl)
 
@@ -220,6 +249,7 @@ open_back line rest e (Compare number other) h = absurd (apart e h.0 refl)
 open_back line rest e (Join number) h = absurd (apart e h.0 refl)
 open_back line rest e (Ask number) h = absurd (apart e h.0 refl)
 open_back line rest e (Compact number) h = absurd (apart e h.0 refl)
+open_back line rest e (Truncate number keep) h = absurd (apart e h.0 refl)
 open_back line rest e (Stop number) h = absurd (apart e h.0 refl)
 open_back line rest e (Open number) h = (number, refl, ap (drop 5) (sym e ∙ h.0), h.1)
 
@@ -267,6 +297,17 @@ no_compare_number rest front behind e lacks none command h = none h.0 h.4 (numbe
 pub no_compare_other : (rest front behind : List ℕ) → rest ≡ front ++ space ∷ behind → Lacks space front → ((number : ℕ) → number < clone_count → behind ≢ decimal number)
     → (command : Command) → ¬ IsCompareRest rest command
 no_compare_other rest front behind e lacks none command h = none h.1 h.5 (number_first rest front behind (decimal h.1) h.0 lacks e (small h.4) h.3).1
+
+pub no_truncate_split : (rest : List ℕ) → Lacks space rest → (command : Command) → ¬ IsTruncateRest rest command
+no_truncate_split rest lacks command h = has_space rest (decimal h.0) (decimal h.1) lacks h.3
+
+pub no_truncate_number : (rest front behind : List ℕ) → rest ≡ front ++ space ∷ behind → Lacks space front → ((number : ℕ) → number < clone_count → front ≢ decimal number)
+    → (command : Command) → ¬ IsTruncateRest rest command
+no_truncate_number rest front behind e lacks none command h = none h.0 h.4 (number_first rest front behind (decimal h.1) h.0 lacks e (small h.4) h.3).0
+
+pub no_truncate_keep : (rest front behind : List ℕ) → rest ≡ front ++ space ∷ behind → Lacks space front → ((number : ℕ) → number < 2 ^ 64 → behind ≢ decimal number)
+    → (command : Command) → ¬ IsTruncateRest rest command
+no_truncate_keep rest front behind e lacks none command h = none h.1 h.5 (number_first rest front behind (decimal h.1) h.0 lacks e (small h.4) h.3).1
 
 -- ---- triples
 

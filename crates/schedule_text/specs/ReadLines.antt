@@ -5,7 +5,7 @@ use Rattle.std.specs.Fmt.{decimal}
 use Rattle.rdf_terms.specs.declared.terms.Triple.{Triple}
 use Rattle.rdf_terms.specs.Grammar.{SpellsTriple, IsTripleWithin}
 use Rattle.schedule_model.specs.Characters.{space}
-use Rattle.schedule_model.specs.declared.Command.TheVariants.{Add, Remove, Deliver, Show, Compare, Join, Ask, Compact, Stop, Open}
+use Rattle.schedule_model.specs.declared.Command.TheVariants.{Add, Remove, Deliver, Show, Compare, Join, Ask, Compact, Truncate, Stop, Open}
 use Rattle.schedule_model.specs.declared.Command.{Command}
 use Rattle.schedule_model.specs.Schedule.{Setup as ModelSetup, IsNothing, is_unbuilt, SpellsSetup, SpellsCommand, IsCloneNumber}
 use Rattle.schedule_model.specs.Runs.{IsBad, IsUnbuilt, Waiting}
@@ -33,7 +33,7 @@ IsBadSetup line (Some setup) = ⊥
 
 -- no domain line has come, and the line isn't built yet
 abbrev pub IsUnbuiltSetup : List ℕ → Option Setup → Type 0
-IsUnbuiltSetup line None = IsUnbuilt Waiting line
+IsUnbuiltSetup line None = IsUnbuilt line
 IsUnbuiltSetup line (Some setup) = ⊥
 
 -- a line that was read behind the domain line: it says nothing, or it is a command
@@ -87,6 +87,11 @@ IsAskRest rest command = (number : ℕ) × (command ≡ Ask number) × (rest ≡
 -- the rest of a `compact` line
 abbrev pub IsCompactRest : List ℕ → Command → Type 0
 IsCompactRest rest command = (number : ℕ) × (command ≡ Compact number) × (rest ≡ decimal number) × IsCloneNumber number
+
+-- the rest of a `truncate` line
+abbrev pub IsTruncateRest : List ℕ → Command → Type 0
+IsTruncateRest rest command = (number : ℕ) × (keep : ℕ) × (command ≡ Truncate number keep) × (rest ≡ decimal number ++ space ∷ decimal keep)
+    × IsCloneNumber number × (keep < 2 ^ 64)
 
 -- the rest of a `stop` line
 abbrev pub IsStopRest : List ℕ → Command → Type 0

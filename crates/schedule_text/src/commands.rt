@@ -4,7 +4,7 @@ ghost use Rattle.iri_rules.specs.Domain.{is_domain};
 ghost use Rattle.rdf_terms.specs.declared.terms.Triple.{Triple};
 ghost use Rattle.schedule_model.specs.Schedule.{is_unbuilt, SpellsCommand};
 ghost use Rattle.schedule_model.specs.declared.Command.{Command};
-ghost use Rattle.schedule_text.specs.ReadLines.{CommandIs, IsBadCommand, IsTripleText, IsCloneAndTriple, IsAddRest, IsRemoveRest, IsDeliverRest, IsShowRest, IsCompareRest, IsJoinRest, IsAskRest, IsCompactRest, IsStopRest, IsOpenRest};
+ghost use Rattle.schedule_text.specs.ReadLines.{CommandIs, IsBadCommand, IsTripleText, IsCloneAndTriple, IsAddRest, IsRemoveRest, IsDeliverRest, IsShowRest, IsCompareRest, IsJoinRest, IsAskRest, IsCompactRest, IsTruncateRest, IsStopRest, IsOpenRest};
 
 use crate::numbers::{read_clone, read_number};
 use crate::refusals::LineRefusal;
@@ -63,6 +63,9 @@ fn command_of(alloc: Global, line: &[u8]) -> Result<Option<Command>, AllocError>
     }
     if let Some(rest) = behind(line, b"compact ") {
         return Ok(read_compact(rest));
+    }
+    if let Some(rest) = behind(line, b"truncate ") {
+        return Ok(read_truncate(rest));
     }
     if let Some(rest) = behind(line, b"stop ") {
         return Ok(read_stop(rest));
@@ -160,6 +163,16 @@ fn read_compact(rest: &[u8]) -> Option<Command>
     ensures { MatchOption result ((command : Command) → ¬ IsCompactRest rest.now command) (λ command. IsCompactRest rest.now command) }
 {
     Some(Command::Compact(read_clone(rest)?))
+}
+
+/// What follows `truncate` and a space: a clone's number, a space, and how many ranges its journal keeps.
+fn read_truncate(rest: &[u8]) -> Option<Command>
+    ensures { MatchOption result ((command : Command) → ¬ IsTruncateRest rest.now command) (λ command. IsTruncateRest rest.now command) }
+{
+    let (number, keep) = split_at_space(rest)?;
+    let number = read_clone(number)?;
+    let keep = read_number(keep)?;
+    Some(Command::Truncate(number, keep))
 }
 
 /// What follows `stop` and a space: a clone's number.

@@ -1,6 +1,6 @@
 use Rattle.schedule_model.specs.Schedule.{SpellsCommand}
-use Rattle.schedule_text.specs.ReadLines.{IsAddRest, IsRemoveRest, IsDeliverRest, IsShowRest, IsCompareRest, IsJoinRest, IsAskRest, IsCompactRest, IsStopRest, IsOpenRest}
-use Rattle.schedule_text.proofs.LinesCommands.{read_behind, found_behind, add_behind, remove_behind, deliver_behind, show_behind, compare_behind, join_behind, ask_behind, compact_behind, stop_behind, open_behind}
+use Rattle.schedule_text.specs.ReadLines.{IsAddRest, IsRemoveRest, IsDeliverRest, IsShowRest, IsCompareRest, IsJoinRest, IsAskRest, IsCompactRest, IsTruncateRest, IsStopRest, IsOpenRest}
+use Rattle.schedule_text.proofs.LinesCommands.{read_behind, found_behind, add_behind, remove_behind, deliver_behind, show_behind, compare_behind, join_behind, ask_behind, compact_behind, truncate_behind, stop_behind, open_behind}
 use Rattle.schedule_text.proofs.commands.command_of.Goals as goal
 
 pub returns-in-Some : goal.returns-in-Some
@@ -45,10 +45,15 @@ returns-in-Some-behind-7 c =
 
 pub returns-in-Some-behind-8 : goal.returns-in-Some-behind-8
 returns-in-Some-behind-8 c =
-    found_behind (λ command. IsStopRest c.in-Some-behind-8.rest.now command) (λ command. SpellsCommand c.args.line.now command) c.read_stop.result
-    (stop_behind c.args.line.now c.in-Some-behind-8.rest.now c.in-Some-behind-8.ensures) c.read_stop.ensures
+    found_behind (λ command. IsTruncateRest c.in-Some-behind-8.rest.now command) (λ command. SpellsCommand c.args.line.now command) c.read_truncate.result
+    (truncate_behind c.args.line.now c.in-Some-behind-8.rest.now c.in-Some-behind-8.ensures) c.read_truncate.ensures
 
 pub returns-in-Some-behind-9 : goal.returns-in-Some-behind-9
 returns-in-Some-behind-9 c =
-    found_behind (λ command. IsOpenRest c.in-Some-behind-9.rest.now command) (λ command. SpellsCommand c.args.line.now command) c.read_open.result
-    (open_behind c.args.line.now c.in-Some-behind-9.rest.now c.in-Some-behind-9.ensures) c.read_open.ensures
+    found_behind (λ command. IsStopRest c.in-Some-behind-9.rest.now command) (λ command. SpellsCommand c.args.line.now command) c.read_stop.result
+    (stop_behind c.args.line.now c.in-Some-behind-9.rest.now c.in-Some-behind-9.ensures) c.read_stop.ensures
+
+pub returns-in-Some-behind-10 : goal.returns-in-Some-behind-10
+returns-in-Some-behind-10 c =
+    found_behind (λ command. IsOpenRest c.in-Some-behind-10.rest.now command) (λ command. SpellsCommand c.args.line.now command) c.read_open.result
+    (open_behind c.args.line.now c.in-Some-behind-10.rest.now c.in-Some-behind-10.ensures) c.read_open.ensures
