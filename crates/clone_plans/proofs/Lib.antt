@@ -4,3 +4,4 @@ pub mod Planning
 pub mod ReadyLaws
 pub mod Replaying
 pub mod Carried
+pub mod Merging

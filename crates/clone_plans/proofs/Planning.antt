@@ -170,7 +170,7 @@ applies_none pairs new a h = same_ascending tagged_cmp tagged_total tagged_exact
     (λ pair k. (h.members pair).1 (inl (k, λ n. n)))
 
 -- a plan that takes nothing yet leads nowhere
-nothing_from : (ticks : List (List ℕ × ℕ)) (pairs : List Tagged) (empty : Growing) → IsAscending tagged_cmp pairs → TakesNothing ticks empty → IsGrownFrom ticks pairs empty
+pub nothing_from : (ticks : List (List ℕ × ℕ)) (pairs : List Tagged) (empty : Growing) → IsAscending tagged_cmp pairs → TakesNothing ticks empty → IsGrownFrom ticks pairs empty
 nothing_from ticks pairs empty a e = record {
   are_entries = subst (λ (es : List EntryValue). AllByRecursion IsEntry es) (sym e.entries) tt;
   leads = λ new h. subst (λ (es : List EntryValue). LeadsTo ticks pairs es empty.clock.ticks new) (sym e.entries)

@@ -6,8 +6,9 @@ use Rattle.mld_ops.specs.declared.tagged.Tagged.{Tagged}
 use Rattle.mld_ops.specs.Cut.{IsCutOf}
 use Rattle.mld_ops.specs.Entry.{EntryValue, IsEntry}
 use Rattle.mld_ops.specs.Ready.{last_dot}
+use Rattle.snapshot.specs.SnapshotJoin.{CoversAll}
 use Rattle.mld_model.specs.Local.{LeadsTo}
-use Rattle.clone_plans.specs.Replays.{AreReadyEntries, AreCovered}
+use Rattle.clone_plans.specs.Replays.{AreReadyEntries}
 use Rattle.clone_plans.proofs.MakingLaws.{cut_covered, leads_append}
 use Rattle.clone_plans.proofs.ReadyLaws.{ready_rest}
 
@@ -16,7 +17,7 @@ module _ (base : List (List ℕ × ℕ)) (first : List Tagged) (all : List Entry
   pub record IsReplaying (i : ℕ) (ticks : List (List ℕ × ℕ)) (pairs : List Tagged) : Type 0 where
     pub leads : LeadsTo base first (take i all) ticks pairs
     pub ready : AreReadyEntries ticks (drop i all)
-    pub covered : AreCovered ticks pairs
+    pub covered : CoversAll ticks pairs
 
   -- one more
   pub replaying_more : (i : ℕ) (ticks next : List (List ℕ × ℕ)) (pairs new : List Tagged) (entry : EntryValue) → i < length all → entry ≡ get_or all i entry

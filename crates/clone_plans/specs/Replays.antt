@@ -1,8 +1,5 @@
--- Entries that are taken one after another, and clocks that have the dots of pairs.
+-- Entries that are taken one after another.
 use Rattle.std.specs.Prelude.{ℕ, List, [], ◌∷◌}
-use Rattle.tree_clock.specs.Clock.{Covers}
-use Rattle.tree_clock.specs.Lists.{Has}
-use Rattle.mld_ops.specs.declared.tagged.Tagged.{Tagged}
 use Rattle.mld_ops.specs.Entry.{EntryValue}
 use Rattle.mld_ops.specs.Ready.{last_dot, IsReadyEntry}
 use Rattle.journal_store.specs.Records.{raised_to}
@@ -11,7 +8,3 @@ use Rattle.journal_store.specs.Records.{raised_to}
 abbrev pub AreReadyEntries : List (List ℕ × ℕ) → List EntryValue → Type 0
 AreReadyEntries ticks [] = Unit {0}
 AreReadyEntries ticks (entry ∷ entries) = IsReadyEntry ticks entry × AreReadyEntries (raised_to ticks (last_dot entry.range)) entries
-
--- ticks cover the dots of pairs
-abbrev pub AreCovered : List (List ℕ × ℕ) → List Tagged → Type 0
-AreCovered ticks pairs = (pair : Tagged) → Has pairs pair → Covers ticks pair.dot

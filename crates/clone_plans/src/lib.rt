@@ -3,12 +3,14 @@
 
 mod begun;
 mod making;
+mod merges;
 mod plans;
 mod replays;
 mod unknown;
 
 pub use begun::begun_with;
 pub use making::{deletion, insertion};
+pub use merges::{Merge, Released, prepare_merge};
 pub use plans::{Plan, prepare_own, prepare_plan};
-pub use replays::{Replayed, replay};
+pub use replays::{Replayed, led_to, replay, tell_clock};
 pub use unknown::unknown_by;

@@ -6,7 +6,7 @@ ghost use Rattle.mld_ops.specs.Entry.{IsEntry};
 ghost use Rattle.mld_ops.specs.Ready.{IsReadyEntry};
 ghost use Rattle.mld_ops.specs.Tagged.{tagged_cmp};
 ghost use Rattle.op_fusion.specs.Cutting.{AreCuts, AreCutsBehind};
-ghost use Rattle.tree_clock.specs.Clock.{HasRoom, ticks_of};
+ghost use Rattle.tree_clock.specs.Clock.{HasRoom, IsClock, ticks_of};
 ghost use Rattle.tree_clock.specs.Lists.{IsAscending};
 
 use causal_buffer::Held;
@@ -35,11 +35,11 @@ pub struct Plan {
 /// and adds to them.
 #[derive(Drop)]
 pub(crate) struct Growing {
-    clock: Clock,
-    entries: Vec<Entry>,
-    ranges: Ranges,
-    drops: Graph,
-    adds: Graph,
+    pub(crate) clock: Clock,
+    pub(crate) entries: Vec<Entry>,
+    pub(crate) ranges: Ranges,
+    pub(crate) drops: Graph,
+    pub(crate) adds: Graph,
 }
 
 /// The cut of an entry of the clone's own, once there is room for it and for the last dot of its range.
@@ -100,8 +100,9 @@ pub fn prepare_plan(
 }
 
 // The plan that takes nothing yet.
-fn begin(alloc: Global, clock: &Clock) -> Result<Growing, AllocError>
-    ensures { IfOk result (TakesNothing clock.now.ticks) }
+pub(crate) fn begin(alloc: Global, clock: &Clock) -> Result<Growing, AllocError>
+    ensures nothing { IfOk result (TakesNothing clock.now.ticks) }
+    ensures clock { IfOk result (λ _. IsClock clock.now.ticks) }
 {
     Ok(Growing {
         clock: clock.copy_in(alloc)?,
@@ -113,7 +114,7 @@ fn begin(alloc: Global, clock: &Clock) -> Result<Growing, AllocError>
 }
 
 // The cut of what is dropped and what is added.
-fn cut_of(alloc: Global, drops: &Graph, adds: &Graph) -> Result<Cut, AllocError>
+pub(crate) fn cut_of(alloc: Global, drops: &Graph, adds: &Graph) -> Result<Cut, AllocError>
     ensures drops { IfOk result (λ cut. cut.drops.items ≡ drops.now.elements) }
     ensures adds { IfOk result (λ cut. cut.adds.items ≡ adds.now.elements) }
 {
@@ -170,7 +171,7 @@ fn put_behind(
 }
 
 // Applies a cut, once there is room for it.
-fn change(alloc: Global, pairs: &mut Graph, cut: Cut) -> Result<(), AllocError>
+pub(crate) fn change(alloc: Global, pairs: &mut Graph, cut: Cut) -> Result<(), AllocError>
     ensures { OnOk result (Applies cut.drops.items cut.adds.items pairs.old.elements pairs.new.elements) }
 {
     pairs.prepare(alloc, &cut)?;
@@ -179,7 +180,7 @@ fn change(alloc: Global, pairs: &mut Graph, cut: Cut) -> Result<(), AllocError>
 }
 
 // Adds the entries that its clock releases of those held back, and gives which are left, where any is released or dropped.
-fn release_held(
+pub(crate) fn release_held(
     alloc: Global,
     plan: &mut Growing,
     pairs: &Graph,

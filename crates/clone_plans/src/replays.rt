@@ -1,17 +1,20 @@
 //! What the entries of a journal lead to, taken one after another.
 ghost use Rattle.std.specs.Prelude.{◌≡◌, IfOk, OnOk};
-ghost use Rattle.clone_plans.specs.Replays.{AreReadyEntries, AreCovered};
+ghost use Rattle.clone_plans.specs.Replays.{AreReadyEntries};
 ghost use Rattle.journal_store.specs.Heads.{head_value};
 ghost use Rattle.journal_store.specs.StoredVolumes.{IsGoodHead, AreGoodEntries};
 ghost use Rattle.mld_model.specs.Local.{LeadsTo};
+ghost use Rattle.mld_ops.specs.Tagged.{tagged_cmp};
+ghost use Rattle.snapshot.specs.SnapshotJoin.{CoversAll};
 ghost use Rattle.tree_clock.specs.Clock.{IsClock};
+ghost use Rattle.tree_clock.specs.Lists.{IsAscending};
 
 use graph_index::Graph;
 use journal_store::Head;
-use mld_ops::{Entry, copy_pairs};
+use mld_ops::{Entry, Tagged, copy_pairs};
 use op_fusion::cut;
 use std::alloc::{AllocError, Global};
-use tree_clock::{Clock, Dot};
+use tree_clock::{Clock, Dot, Path};
 
 /// What a clone has in memory whose journal has entries.
 #[derive(Drop)]
@@ -31,7 +34,7 @@ pub fn replay(alloc: Global, head: &Head, entries: Vec<Entry>) -> Result<Replaye
     ensures clock { IfOk result (λ _. IsClock head.now.base.ticks) }
     ensures entries { IfOk result (λ replayed. replayed.entries.items ≡ entries.items) }
     ensures leads { IfOk result (λ replayed. LeadsTo head.now.base.ticks head.now.tagged.items entries.items replayed.clock.ticks replayed.pairs.elements) }
-    ensures covered { IfOk result (λ replayed. AreCovered replayed.clock.ticks replayed.pairs.elements) }
+    ensures covered { IfOk result (λ replayed. CoversAll replayed.clock.ticks replayed.pairs.elements) }
 {
     let mut clock = head.base.copy_in(alloc)?;
     let list = copy_pairs(alloc, head.tagged.as_slice())?;
@@ -44,6 +47,37 @@ pub fn replay(alloc: Global, head: &Head, entries: Vec<Entry>) -> Result<Replaye
     })
 }
 
+/// What entries lead to from a clock and ascending pairs on, each of which is ready once those before it are taken.
+pub fn led_to(
+    alloc: Global,
+    base: &Clock,
+    pairs: &[Tagged],
+    entries: &[Entry],
+) -> Result<(Clock, Vec<Tagged>), AllocError>
+    requires ascending { IsAscending tagged_cmp pairs.now }
+    requires covered { CoversAll base.now.ticks pairs.now }
+    requires ready { AreReadyEntries base.now.ticks entries.now }
+    ensures leads { IfOk result (λ led. LeadsTo base.now.ticks pairs.now entries.now led.0.ticks led.1.items) }
+    ensures covered { IfOk result (λ led. CoversAll led.0.ticks led.1.items) }
+    ensures ascending { IfOk result (λ led. IsAscending tagged_cmp led.1.items) }
+    ensures clock { IfOk result (λ led. IsClock led.0.ticks) }
+{
+    let mut clock = base.copy_in(alloc)?;
+    let list = copy_pairs(alloc, pairs)?;
+    let mut graph = Graph::from_list(alloc, list)?;
+    take_all(alloc, &mut clock, &mut graph, entries)?;
+    let led = graph.to_list(alloc)?;
+    tell_clock(&clock);
+    Ok((clock, led))
+}
+
+/// Tells that the ticks of a clock are a clock's: its clause is what it is for. It takes no memory.
+pub fn tell_clock(clock: &Clock)
+    ensures { IsClock clock.now.ticks }
+{
+    clock.ticks(&Path::root());
+}
+
 // Takes entries one after another, each of which is ready once those before it are taken.
 fn take_all(
     alloc: Global,
@@ -52,9 +86,9 @@ fn take_all(
     entries: &[Entry],
 ) -> Result<(), AllocError>
     requires ready { AreReadyEntries clock.old.ticks entries.now }
-    requires covered { AreCovered clock.old.ticks pairs.old.elements }
+    requires covered { CoversAll clock.old.ticks pairs.old.elements }
     ensures leads { OnOk result (LeadsTo clock.old.ticks pairs.old.elements entries.now clock.new.ticks pairs.new.elements) }
-    ensures covered { OnOk result (AreCovered clock.new.ticks pairs.new.elements) }
+    ensures covered { OnOk result (CoversAll clock.new.ticks pairs.new.elements) }
 {
     for entry in entries {
         let range = entry.range();

@@ -3,8 +3,9 @@ use Rattle.tree_clock.specs.Lists.{IsAscending}
 use Rattle.mld_ops.specs.declared.tagged.Tagged.{Tagged}
 use Rattle.mld_ops.specs.Entry.{EntryValue}
 use Rattle.mld_ops.specs.Tagged.{tagged_cmp}
+use Rattle.snapshot.specs.SnapshotJoin.{CoversAll}
 use Rattle.mld_model.specs.Local.{LeadsTo}
-use Rattle.clone_plans.specs.Replays.{AreReadyEntries, AreCovered}
+use Rattle.clone_plans.specs.Replays.{AreReadyEntries}
 use Rattle.clone_plans.proofs.ReadyLaws.{good_ready}
 use Rattle.clone_plans.proofs.replays.replay.Goals as goal
 
@@ -22,8 +23,8 @@ take_all-requires-clause-ready c =
 pub take_all-requires-clause-covered : goal.take_all-requires-clause-covered
 take_all-requires-clause-covered c =
     let same : c.in_ok-pairs.pairs.elements ≡ c.args.head.now.tagged.items = c.in_ok-pairs.ensures ∙ c.in_ok-list.ensures ∙ c.as_slice.ensures.value in
-    subst (λ (ps : List Tagged). AreCovered c.in_ok-clock.clock.ticks ps) (sym same)
-    (subst (λ (ts : List (List ℕ × ℕ)). AreCovered ts c.args.head.now.tagged.items) (sym c.in_ok-clock.ensures.ok) c.requires.head.base.covered)
+    subst (λ (ps : List Tagged). CoversAll c.in_ok-clock.clock.ticks ps) (sym same)
+    (subst (λ (ts : List (List ℕ × ℕ)). CoversAll ts c.args.head.now.tagged.items) (sym c.in_ok-clock.ensures.ok) c.requires.head.base.covered)
 
 pub returns-clause-leads : goal.returns-clause-leads
 returns-clause-leads c =
