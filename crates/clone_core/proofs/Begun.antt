@@ -8,7 +8,7 @@ use Rattle.mld_ops.specs.Held.{held_limit}
 use Rattle.mld_ops.specs.Messages.{IsGoodSnapshot}
 use Rattle.journal_store.specs.Heads.{HeadValue}
 use Rattle.mld_model.specs.Local.{IsLocal, IsNamed, LeadsTo}
-use Rattle.clone_plans.specs.Replays.{AreCovered}
+use Rattle.snapshot.specs.SnapshotJoin.{CoversAll}
 use Rattle.clone_core.specs.Beginning.{found_clone}
 use Rattle.clone_plans.specs.declared.replays.Replayed.{Replayed}
 
@@ -17,7 +17,7 @@ none_held = omega arith
 
 -- a clone that has what the entries behind its head lead to
 pub found_local : (head : HeadValue) (path : List ℕ) (replayed : Replayed) → IsNamed head.domain head.props → IsClock head.base.ticks → IsGoodSnapshot head.base
-    → LeadsTo head.base.ticks head.base.pairs replayed.entries.items replayed.clock.ticks replayed.pairs.elements → AreCovered replayed.clock.ticks replayed.pairs.elements
+    → LeadsTo head.base.ticks head.base.pairs replayed.entries.items replayed.clock.ticks replayed.pairs.elements → CoversAll replayed.clock.ticks replayed.pairs.elements
     → IsLocal (found_clone head path replayed)
 found_local head path replayed named clock base leads covered = record {
   named = named;

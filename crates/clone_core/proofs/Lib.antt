@@ -10,3 +10,6 @@ pub mod Mounting
 pub mod FusedRuns
 pub mod Sending
 pub mod Swapping
+pub mod Cutting
+pub mod Answering
+pub mod Merged

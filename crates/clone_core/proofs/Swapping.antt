@@ -53,18 +53,19 @@ module _ (old : LocalClone) (entries : List EntryValue) (local : IsLocal old) (f
   pub compacted_ready : AreReadyEntries old.base entries
   compacted_ready = leads_ready old.base old.base old.base_pairs entries old.ticks old.pairs (λ path. refl) compacted_is_local.leads
 
--- what its banks keep
-pub swapped_on_banks : (before now : Option Log) (was shut journal closed : Option Why) (side new_side : Side) (generation new_generation : ℕ) (old : LocalClone) (head : HeadValue)
-    (entries : List EntryValue) → IsOnBanks before was shut side generation old → shut ≡ None → head ≡ head_of old
-    → ((kept : Kept) → KeepsIfTold kept before → KeepsIfTold (swapped head entries kept) now) → journal ≡ None → new_side ≡ other_side side
-    → new_generation ≡ generation + 1 → IsOnBanks now journal closed new_side new_generation (record old { entries = entries })
-swapped_on_banks before now was shut journal closed side new_side generation new_generation old head entries banks is_open head_is keeps journal_open side_is generation_is = record {
+-- ---- what the banks keep of a clone whose journal is swapped
+
+pub swapped_on_banks : (before now : Option Log) (was shut journal closed : Option Why) (side new_side : Side) (generation new_generation : ℕ) (old new : LocalClone) (head : HeadValue)
+    → IsOnBanks before was shut side generation old → shut ≡ None → head ≡ head_of new
+    → ((kept : Kept) → KeepsIfTold kept before → KeepsIfTold (swapped head new.entries kept) now) → journal ≡ None → new_side ≡ other_side side
+    → new_generation ≡ generation + 1 → IsOnBanks now journal closed new_side new_generation new
+swapped_on_banks before now was shut journal closed side new_side generation new_generation old new head banks is_open head_is keeps journal_open side_is generation_is = record {
   opened = λ _. journal_open;
   keeps = λ log e _. subst (λ (k : Kept). KeepsJust k log) same (keeps (kept_as side generation old) (λ l f. banks.keeps l f is_open) log e);
 }
   where
-    same : swapped head entries (kept_as side generation old) ≡ kept_as new_side new_generation (record old { entries = entries })
-    same i = record { side = sym side_is i; generation = sym generation_is i; head = head_is i; entries = entries }
+    same : swapped head new.entries (kept_as side generation old) ≡ kept_as new_side new_generation new
+    same i = record { side = sym side_is i; generation = sym generation_is i; head = head_is i; entries = new.entries }
 
 -- ---- what a refusal leaves
 

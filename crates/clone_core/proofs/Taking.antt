@@ -25,7 +25,7 @@ use Rattle.clone_plans.proofs.Planning.{drops_shorter, first_shorter}
 -- ---- an entry that is taken
 
 -- no more are held back once some are released
-releases_shorter : (ticks : List (List ℕ × ℕ)) (held taken : List EntryValue) (after : List (List ℕ × ℕ)) (left : List EntryValue)
+pub releases_shorter : (ticks : List (List ℕ × ℕ)) (held taken : List EntryValue) (after : List (List ℕ × ℕ)) (left : List EntryValue)
     → LocallyReleases ticks held taken after left → length left ≤ length held
 releases_shorter ticks held [] after left r = drops_shorter (IsKnownEntry ticks) held left r.0
 releases_shorter ticks held (entry ∷ taken) after left r =

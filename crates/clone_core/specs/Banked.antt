@@ -1,5 +1,6 @@
 -- Clones on banks: what contracts see of them, and what their banks keep.
-use Rattle.std.specs.Prelude.{◌≡◌, ℕ, Option, Some, None}
+use Rattle.std.specs.Prelude.{◌≡◌, ℕ, List, Option, Some, None}
+use Rattle.mld_ops.specs.declared.tagged.Tagged.{Tagged}
 use Rattle.mld_io.specs.Disk.{Log}
 use Rattle.mld_io.specs.declared.banks.Side.{Side}
 use Rattle.journal_store.specs.Heads.{HeadValue}
@@ -30,6 +31,10 @@ head_of clone = record {
   path = clone.path;
   base = record { ticks = clone.base; pairs = clone.base_pairs };
 }
+
+-- and over another base, with this clock and these pairs
+abbrev pub head_over : LocalClone → List (List ℕ × ℕ) → List Tagged → HeadValue
+head_over clone ticks pairs = record (head_of clone) { base = record { ticks = ticks; pairs = pairs } }
 
 -- what banks keep of a clone, where this side counts and has this generation
 abbrev pub kept_as : Side → ℕ → LocalClone → Kept

@@ -9,11 +9,13 @@ use Rattle.mld_ops.specs.declared.messages.Message.{Message}
 use Rattle.mld_ops.specs.declared.messages.Message.TheVariants as message
 use Rattle.mld_ops.specs.declared.tagged.Tagged.{Tagged}
 use Rattle.mld_ops.specs.Entry.{EntryValue}
+use Rattle.mld_ops.specs.Messages.{snapshot_value}
 use Rattle.mld_ops.specs.Ready.{IsKnownEntry}
 use Rattle.mld_model.specs.CloneStep.{ArePairsOf}
-use Rattle.mld_model.specs.Local.{LocalClone, LocallyMakes, LocallyAccepts, MustBeHeld, LocallyHolds, IsForeign}
+use Rattle.mld_model.specs.Local.{LocalClone, LocallyMakes, LocallyAccepts, MustBeHeld, LocallyHolds, IsForeign, IsForeignSnapshot}
 use Rattle.clone_core.specs.Joining.{LocallyGives, RefusesAsk}
 use Rattle.clone_core.specs.Takes.{RefusesEntry}
+use Rattle.clone_core.specs.Merging.{ReceivesSnapshot, RefusesSnapshot}
 use Rattle.clone_core.specs.Wants.{AnswersWant, RefusesWant}
 use Rattle.clone_core.specs.declared.answers.Covering.{Covering}
 use Rattle.clone_core.specs.declared.answers.Covering.TheVariants as covering
@@ -45,6 +47,7 @@ abbrev pub ReceivesEntry : LocalClone → EntryValue → Got → LocalClone → 
 ReceivesEntry old entry got.Known new = IsKnownEntry old.ticks entry × (new ≡ old)
 ReceivesEntry old entry (got.Took ranges) new = LocallyAccepts old entry new ranges
 ReceivesEntry old entry got.Held new = MustBeHeld old entry × LocallyHolds old entry new
+ReceivesEntry old entry (got.Merged ranges) new = ⊥
 ReceivesEntry old entry (got.Answer messages) new = ⊥
 ReceivesEntry old entry got.Nothing new = ⊥
 ReceivesEntry old entry got.Ignored new = ⊥
@@ -55,23 +58,24 @@ ReceivesAsk old id got.Ignored new = (id ≡ old.id) × (new ≡ old)
 ReceivesAsk old id (got.Answer messages) new = (id ≢ old.id) × LocallyGives old id messages new
 ReceivesAsk old id other new = ⊥
 
--- what became of a message: an entry that isn't foreign was received, an ask for a leaf was, a want was answered, and messages of the
--- other kinds are ignored
+-- what became of a message: an entry or a snapshot that isn't foreign was received, an ask for a leaf was, a want was answered, and a leaf
+-- that is given is ignored
 abbrev pub LocallyReceives : LocalClone → Message → Got → LocalClone → Type 0
 LocallyReceives old (message.Range entry) answer new = ¬ IsForeign old entry × ReceivesEntry old entry answer new
 LocallyReceives old (message.JoinAsk id) answer new = ReceivesAsk old id answer new
 LocallyReceives old (message.Want clock) answer new = AnswersWant old clock.ticks answer new
-LocallyReceives old other answer new = (answer ≡ got.Ignored) × (new ≡ old)
+LocallyReceives old (message.Snapshot snapshot) answer new =
+    ¬ IsForeignSnapshot old (snapshot_value snapshot) × ReceivesSnapshot old (snapshot_value snapshot) answer new
+LocallyReceives old (message.JoinGive give) answer new = (answer ≡ got.Ignored) × (new ≡ old)
 
--- why a message was refused: its entry was, or the ask for a leaf, or the want; or the clone is closed, the device failed, or memory ran out
+-- why a message was refused: its entry was, or the ask for a leaf, the want, or the snapshot; or the clone is closed
 abbrev pub Refuses : LocalClone → Message → ReceiveFault → Type 0
 Refuses old (message.Range entry) refused = RefusesEntry old entry refused
 Refuses old (message.JoinAsk id) refused = RefusesAsk old id refused
-Refuses old (message.Want clock) refused = RefusesWant old clock.ticks refused
-Refuses old other (fault.Closed why) = Unit {0}
-Refuses old other fault.Device = Unit {0}
-Refuses old other fault.NoMemory = Unit {0}
-Refuses old other refused = ⊥
+Refuses old (message.Want clock) refused = RefusesWant refused
+Refuses old (message.Snapshot snapshot) refused = RefusesSnapshot old (snapshot_value snapshot) refused
+Refuses old (message.JoinGive give) (fault.Closed why) = Unit {0}
+Refuses old (message.JoinGive give) refused = ⊥
 
 -- the entry is one of the list, and has the range
 pub record HasRange (entries : List EntryValue) (range : Range) (entry : EntryValue) : Type 0 where

@@ -27,6 +27,13 @@ abbrev pub receive_fault_of : Why → ReceiveFault
 receive_fault_of why.Device = fault.Device
 receive_fault_of why.NoMemory = fault.NoMemory
 
+-- why a snapshot is refused whose swap was not done
+abbrev pub receive_fault_of_keep : KeepFault → ReceiveFault
+receive_fault_of_keep (keep.Closed reason) = fault.Closed reason
+receive_fault_of_keep keep.GenerationsSpent = fault.GenerationsSpent
+receive_fault_of_keep keep.Device = fault.Device
+receive_fault_of_keep keep.NoMemory = fault.NoMemory
+
 -- the fault of a swap as a clone tells it
 abbrev pub keep_fault_of : SwapFault → KeepFault
 keep_fault_of (swap.Closed reason) = keep.Closed reason

@@ -37,7 +37,7 @@ abbrev pub RefusesAsk : LocalClone → List ℕ → ReceiveFault → Type 0
 RefusesAsk old id (fault.ForeignTick said own) = ⊥
 RefusesAsk old id fault.HeldFull = ⊥
 RefusesAsk old id fault.Deep = (id ≢ old.id) × (length old.path ≡ path_limit)
-RefusesAsk old id fault.FromBehind = ⊥
+RefusesAsk old id fault.GenerationsSpent = ⊥
 RefusesAsk old id (fault.Closed why) = Unit {0}
 RefusesAsk old id fault.Device = Unit {0}
 RefusesAsk old id fault.NoMemory = Unit {0}

@@ -6,6 +6,7 @@ pub mod CloneFaults
 pub mod Closing
 pub mod Joining
 pub mod Keeping
+pub mod Merging
 pub mod Opening
 pub mod Stopping
 pub mod Takes

@@ -36,7 +36,7 @@ RefusesEntry old entry (fault.ForeignTick said own) =
     IsForeign old entry × (said ≡ entry.range.last) × (own ≡ ticks_of old.ticks old.path)
 RefusesEntry old entry fault.HeldFull = ¬ IsForeign old entry × MustBeHeld old entry × IsFullFor old entry
 RefusesEntry old entry fault.Deep = ⊥
-RefusesEntry old entry fault.FromBehind = ⊥
+RefusesEntry old entry fault.GenerationsSpent = ⊥
 RefusesEntry old entry (fault.Closed why) = Unit {0}
 RefusesEntry old entry fault.Device = Unit {0}
 RefusesEntry old entry fault.NoMemory = Unit {0}

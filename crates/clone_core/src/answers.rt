@@ -16,11 +16,13 @@ pub enum Done {
 pub enum Got {
     /// The entries of these ranges were taken, in this order.
     Took(Ranges),
+    /// The snapshot was merged, and then the entries of these ranges were taken, in this order, that had been held.
+    Merged(Ranges),
     /// The entry is held until what it rests on is known.
     Held,
-    /// The entry was known.
+    /// The entry was known, or all dots of the snapshot were.
     Known,
-    /// These messages are for who asked: the leaf that was forked for them, or what they lack of the journal.
+    /// These messages are for who asked: the leaf that was forked for them; or what they lack of the journal, or a snapshot.
     Answer(Messages),
     /// Who asked lacks nothing of what the journal has.
     Nothing,

@@ -51,7 +51,7 @@ pub(crate) fn append_entries<B: Banks>(
 }
 
 /// Whether the lists of each entry have counts of four bytes; not where there is no memory to tell.
-fn are_short(alloc: Global, entries: &[Entry]) -> bool
+pub(crate) fn are_short(alloc: Global, entries: &[Entry]) -> bool
     ensures { IsTrue result → AllByRecursion IsShortEntry entries.now }
 {
     for entry in entries {

@@ -32,10 +32,10 @@ pub struct MldClone<B: Banks> {
     pub(crate) leaf: Leaf,
     pub(crate) base: Clock,
     pub(crate) base_pairs: Vec<Tagged>,
-    clock: Clock,
+    pub(crate) clock: Clock,
     pub(crate) entries: Vec<Entry>,
-    held: Held,
-    pairs: Graph,
+    pub(crate) held: Held,
+    pub(crate) pairs: Graph,
     pub(crate) journal: Journal<B>,
     pub(crate) closed: Option<Why>,
 }
@@ -62,7 +62,7 @@ impl<B: Banks> MldClone<B> {
     ghost use Rattle.clone_core.specs.Appending.{BeginsJournal};
     ghost use Rattle.clone_core.specs.Banked.{IsOnBanks, KeepsClone};
     ghost use Rattle.clone_core.specs.Beginning.{begun_clone, found_clone};
-    ghost use Rattle.clone_core.specs.Closing.{Shuts, StaysOrShuts, StaysOpen, LeavesUpdate, LeavesReceive, append_calls, create_calls, UpdateCalls, ReceiveCalls, banks_of_made, FailsToFound};
+    ghost use Rattle.clone_core.specs.Closing.{Shuts, StaysOrShuts, StaysOpen, LeavesUpdate, append_calls, create_calls, UpdateCalls, ReceiveCalls, banks_of_made, FailsToFound};
     ghost use Rattle.clone_core.specs.Joining.{LocallyGives, AreGood, AnswersGood, RefusesAsk};
     ghost use Rattle.iri_rules.specs.Domain.{is_domain};
     ghost use Rattle.rdf_terms.specs.Order.{iri_cmp};
@@ -72,7 +72,7 @@ impl<B: Banks> MldClone<B> {
     ghost use Rattle.clone_plans.specs.Making.{IsNextEntry};
     ghost use Rattle.clone_core.specs.Stopping.{StopsUpdate, StopsReceive, StopsTaking};
     ghost use Rattle.clone_core.specs.Takes.{MakesDone, IsFullAt, RefusesEntry};
-    ghost use Rattle.clone_core.specs.Wants.{MessageCalls};
+    ghost use Rattle.clone_core.specs.Merging.{StaysOpenBy, IsMessageSpent, LeavesMessage, MessageCalls};
     ghost use Rattle.mld_model.specs.Local.{IsLocal, IsNamed, blank_clone, joined_clone, snapshot_of, next_dot, LocallyMakes, LocallyAccepts, LocallyHolds, IsForeign};
     ghost use Rattle.mld_ops.specs.Ready.{IsReadyEntry};
     ghost use Rattle.mld_ops.specs.Tagged.{tagged_cmp};
@@ -399,15 +399,17 @@ impl<B: Banks> MldClone<B> {
     }
 
     /// Takes an entry that is ready, and then those held back that this releases; or holds it back. Forks the leaf for who asks for one.
-    /// Answers a want by the entries of the journal that it lacks. Messages of other kinds are ignored. A snapshot in the message is one
-    /// that may be taken. Each entry that is taken is appended to the journal on the banks, in order, and so is a fork, before anything
-    /// is handed out.
+    /// Answers a want by the entries of the journal that it lacks, or by a snapshot where it lacks dots of the base. Merges a snapshot
+    /// that has dots which the clone lacks, and then takes the entries held back that this releases. A leaf that is given is ignored. A
+    /// snapshot in the message is one that may be taken. What the banks keep is swapped for what was merged, and each entry that is taken
+    /// is appended to the journal on the banks, in order, and so is a fork, before anything is handed out.
     ///
     /// # Errors
     ///
-    /// In this order: `Closed` where an earlier call closed the clone; `ForeignTick`; `HeldFull`; `Deep`; `FromBehind`; `Device` where the
-    /// device failed, which closes the clone: the appends that were done stand on the banks. `NoMemory` leaves it as it was, or closes it
-    /// where a call of the device was done. After the others it is as it was.
+    /// In this order: `Closed` where an earlier call closed the clone; `ForeignTick`; `HeldFull`; `Deep`; `GenerationsSpent` where a
+    /// snapshot would be merged at the generation 2^64 - 1; `Device` where the device failed, which closes the clone: the swap and the
+    /// appends that were done stand on the banks. `NoMemory` leaves it as it was, or closes it where a call of the device was done. After
+    /// the others it is as it was.
     pub fn receive<R: Threads>(
         &mut self,
         _rt: &R,
@@ -417,10 +419,11 @@ impl<B: Banks> MldClone<B> {
         requires { IsGoodMessage (message_value message.now) }
         ensures ok { IfOk result (λ got. LocallyReceives self.old.local message.now got self.new.local) }
         ensures good { IfOk result AnswersGood }
-        ensures opened { OnOk result (StaysOpen self.old self.new) }
+        ensures opened { IfOk result (StaysOpenBy self.old self.new) }
         ensures closed { (why : Why) → IsErrOf result (ReceiveFault.Closed why) ↔ (self.old.closed ≡ Some why) }
         ensures err { IfErr result (Refuses self.old.local message.now) }
-        ensures left { IfErr result (LeavesReceive self.old self.new) }
+        ensures spent { IsErrOf result ReceiveFault.GenerationsSpent ↔ (IsMessageSpent self.old message.now × ¬ IsErrOf result ReceiveFault.NoMemory) }
+        ensures left { IfErr result (LeavesMessage self.old message.now self.new) }
         ensures meter { (calls : ℕ) × MessageCalls message.now result calls × Metered calls (B.meter self.old.banks) (B.meter self.new.banks) (IsOk result) (IsErrOf result ReceiveFault.Device) }
     {
         if let Some(why) = self.closed {
@@ -430,7 +433,8 @@ impl<B: Banks> MldClone<B> {
             Message::Range(entry) => self.receive_entry(alloc, entry),
             Message::JoinAsk(id) => self.receive_ask(alloc, id),
             Message::Want(known) => self.answer_want(alloc, known),
-            Message::Snapshot(_) | Message::JoinGive(_) => Ok(Got::Ignored),
+            Message::Snapshot(snapshot) => self.receive_snapshot(alloc, snapshot),
+            Message::JoinGive(_) => Ok(Got::Ignored),
         }
     }
 
@@ -478,8 +482,9 @@ impl<B: Banks> MldClone<B> {
     }
 
     // A copy of what the clone knows and has.
-    fn snapshot(&self, alloc: Global) -> Result<Snapshot, AllocError>
-        ensures { IfOk result (λ snapshot. snapshot_value snapshot ≡ snapshot_of self.now.local) }
+    pub(crate) fn snapshot(&self, alloc: Global) -> Result<Snapshot, AllocError>
+        ensures copy { IfOk result (λ snapshot. snapshot_value snapshot ≡ snapshot_of self.now.local) }
+        ensures local { IsLocal self.now.local }
     {
         Ok(Snapshot {
             clock: self.clock.copy_in(alloc)?,
@@ -591,7 +596,7 @@ fn push_all(journal: &mut Vec<Entry>, entries: Vec<Entry>)
 }
 
 // Puts another list in place of what is held, if there is one.
-fn replace_held(held: &mut Held, left: Option<Held>)
+pub(crate) fn replace_held(held: &mut Held, left: Option<Held>)
     ensures { held.new ≡ left_of left held.old }
 {
     if let Some(left) = left {

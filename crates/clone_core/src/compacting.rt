@@ -17,22 +17,22 @@ ghost use Rattle.clone_core.specs.Closing.{swap_calls};
 ghost use Rattle.clone_core.specs.Keeping.{IsSwapped, LeavesUnswapped};
 ghost use Rattle.clone_plans.specs.Replays.{AreReadyEntries};
 
-use crate::appending::is_short_head;
+use crate::appending::{are_short, is_short_head};
 use crate::clones::MldClone;
 use crate::faults::KeepFault;
 use journal_store::{Head, Journal, Why};
 use mld_io::Banks;
-use mld_ops::{Entry, copy_pairs, copy_properties};
-use op_codec::is_short_entry;
+use mld_ops::{Entry, Tagged, copy_pairs, copy_properties};
 use op_fusion::{compacted, has_neighbours};
 use std::alloc::{AllocError, Global};
+use tree_clock::Clock;
 
 impl<B: Banks> MldClone<B> {
     ghost use Rattle.std.specs.Prelude.{◌≡◌, ℕ, length, None, Some, IfOk, IfErr, IsOk, OnOk, IsErrOf};
     ghost use Rattle.mld_io.specs.Arm.{Metered};
     ghost use Rattle.journal_store.specs.Heads.{head_value};
     ghost use Rattle.journal_store.specs.declared.faults.Why.{Why};
-    ghost use Rattle.clone_core.specs.Banked.{head_of};
+    ghost use Rattle.clone_core.specs.Banked.{head_over};
     ghost use Rattle.clone_core.specs.Closing.{swap_calls};
     ghost use Rattle.clone_core.specs.Keeping.{KeepsCompacted, StaysUnclosed, IsSpent, LeavesKeep, KeepCalls, SwapsCompacted, StopsKeep};
 
@@ -72,30 +72,37 @@ impl<B: Banks> MldClone<B> {
         ensures meter { Metered swap_calls (B.meter self.old.banks) (B.meter self.new.banks) (IsOk result) (IsErrOf result KeepFault.Device) }
     {
         let entries = compacted(alloc, &self.entries)?;
-        let head = self.head(alloc)?;
+        let base = self.base.copy_in(alloc)?;
+        let pairs = copy_pairs(alloc, &self.base_pairs)?;
+        let head = self.head_over(alloc, base, pairs)?;
         swap_kept(alloc, &mut self.journal, &mut self.closed, &head, &entries)?;
         self.entries = entries;
         Ok(())
     }
 
-    // What the banks have in front of the clone's entries.
-    fn head(&self, alloc: Global) -> Result<Head, AllocError>
-        ensures { IfOk result (λ head. head_value head ≡ head_of self.now.local) }
+    // What the banks have in front of the clone's entries, over a base with this clock and these pairs.
+    pub(crate) fn head_over(
+        &self,
+        alloc: Global,
+        base: Clock,
+        pairs: Vec<Tagged>,
+    ) -> Result<Head, AllocError>
+        ensures { IfOk result (λ head. head_value head ≡ head_over self.now.local base.ticks pairs.items) }
     {
         Ok(Head {
             id: self.id,
             domain: self.domain.share()?,
             props: copy_properties(alloc, &self.properties)?,
             path: self.leaf.path(),
-            base: self.base.copy_in(alloc)?,
-            tagged: copy_pairs(alloc, &self.base_pairs)?,
+            base,
+            tagged: pairs,
         })
     }
 }
 
 // Swaps what an open journal keeps for a head, which may be written where its lists are short, and entries that are ready one after
 // another. Where that fails behind a call of the device, the clone is closed.
-fn swap_kept<B: Banks>(
+pub(crate) fn swap_kept<B: Banks>(
     alloc: Global,
     journal: &mut Journal<B>,
     closed: &mut Option<Why>,
@@ -116,10 +123,10 @@ fn swap_kept<B: Banks>(
     ensures same { OnErr result (journal.new.generation ≡ journal.old.generation) }
     ensures meter { Metered swap_calls (B.meter journal.old.banks) (B.meter journal.new.banks) (IsOk result) (IsErrOf result KeepFault.Device) }
 {
-    match are_short_parts(alloc, head, entries) {
-        Ok(true) => swap_short(alloc, journal, closed, head, entries),
-        Ok(false) | Err(AllocError) => Err(KeepFault::NoMemory),
+    if !are_short_parts(alloc, head, entries) {
+        return Err(KeepFault::NoMemory);
     }
+    swap_short(alloc, journal, closed, head, entries)
 }
 
 // Swaps what an open journal keeps for a head and entries of short lists.
@@ -149,22 +156,30 @@ fn swap_short<B: Banks>(
     }
 }
 
-// Whether the lists of a head and of entries have counts of four bytes.
-fn are_short_parts(alloc: Global, head: &Head, entries: &[Entry]) -> Result<bool, AllocError>
-    ensures head { IfOk result (λ short. IsTrue short → AreShortParts (head_value head.now)) }
-    ensures entries { IfOk result (λ short. IsTrue short → AllByRecursion IsShortEntry entries.now) }
+// Whether the lists of a head and of entries have counts of four bytes; not where there is no memory to tell.
+fn are_short_parts(alloc: Global, head: &Head, entries: &[Entry]) -> bool
+    ensures head { IsTrue result → AreShortParts (head_value head.now) }
+    ensures entries { IsTrue result → AllByRecursion IsShortEntry entries.now }
 {
-    Ok(is_short_head(alloc, head)? && are_short_entries(alloc, entries)?)
+    let Ok(true) = is_short_head(alloc, head) else {
+        return false;
+    };
+    are_short(alloc, entries)
 }
 
-// Whether the lists of entries have counts of four bytes.
-fn are_short_entries(alloc: Global, entries: &[Entry]) -> Result<bool, AllocError>
-    ensures { IfOk result (λ short. IsTrue short → AllByRecursion IsShortEntry entries.now) }
+// Puts what a head has in place of a base.
+pub(crate) fn replace_base(base: &mut Clock, pairs: &mut Vec<Tagged>, head: Head)
+    ensures base { base.new.ticks ≡ head.base.ticks }
+    ensures pairs { pairs.new.items ≡ head.tagged.items }
 {
-    for entry in entries {
-        if !is_short_entry(alloc, entry)? {
-            return Ok(false);
-        }
-    }
-    Ok(true)
+    let Head {
+        id: _,
+        domain: _,
+        props: _,
+        path: _,
+        base: clock,
+        tagged,
+    } = head;
+    *base = clock;
+    *pairs = tagged;
 }

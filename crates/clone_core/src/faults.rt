@@ -33,11 +33,11 @@ pub enum ReceiveFault {
         /// Why it did.
         why: Why,
     },
-    /// The entry is of the clone's own path, and goes beyond the ticks that the clone has used: another one has used its
-    /// leaf.
+    /// The entry is of the clone's own path and goes beyond the ticks that the clone has used, or the snapshot has more of that
+    /// path: another one has used its leaf.
     #[error("another one has used the leaf: tick {said} of {own}")]
     ForeignTick {
-        /// The last tick of the entry.
+        /// The last tick of the entry, or the ticks of the snapshot.
         said: u32,
         /// The ticks that the clone has used.
         own: u32,
@@ -48,9 +48,9 @@ pub enum ReceiveFault {
     /// The leaf that was asked for can't be forked, since its path has as many letters as it may.
     #[error("the leaf is too deep to be forked")]
     Deep,
-    /// The want comes from one who lacks dots of the clone's base, and snapshots aren't sent yet.
-    #[error("snapshots are not sent yet")]
-    FromBehind,
+    /// The snapshot would be merged, and the generation of the journal is the greatest that there is.
+    #[error("no generation is left")]
+    GenerationsSpent,
     /// The device failed, which closes the clone.
     #[error("the device failed")]
     Device,
@@ -59,7 +59,7 @@ pub enum ReceiveFault {
     NoMemory,
 }
 
-/// Why a journal was not compacted.
+/// Why a journal was not compacted or truncated.
 #[derive(Clone, Copy, Debug, PartialEq, Eq, Error)]
 pub enum KeepFault {
     /// An earlier call closed the clone.
@@ -124,6 +124,22 @@ impl From<SwapFault> for KeepFault {
             SwapFault::GenerationsSpent => KeepFault::GenerationsSpent,
             SwapFault::Device => KeepFault::Device,
             SwapFault::NoMemory => KeepFault::NoMemory,
+        }
+    }
+}
+
+impl From<KeepFault> for ReceiveFault {
+    ghost use Rattle.clone_core.specs.CloneFaults.{receive_fault_of_keep};
+    ghost use Rattle.std.specs.Prelude.{◌≡◌};
+
+    ghost from_gives = { λ keep fault. fault ≡ receive_fault_of_keep keep };
+
+    fn from(fault: KeepFault) -> ReceiveFault {
+        match fault {
+            KeepFault::Closed { why } => ReceiveFault::Closed { why },
+            KeepFault::GenerationsSpent => ReceiveFault::GenerationsSpent,
+            KeepFault::Device => ReceiveFault::Device,
+            KeepFault::NoMemory => ReceiveFault::NoMemory,
         }
     }
 }

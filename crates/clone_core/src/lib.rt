@@ -7,7 +7,9 @@ mod askers;
 mod clones;
 mod compacting;
 mod faults;
+mod merging;
 mod mounts;
+mod truncating;
 mod wants;
 
 pub use answers::{Covering, Done, Got};

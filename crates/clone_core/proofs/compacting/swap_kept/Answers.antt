@@ -3,4 +3,4 @@ use Rattle.clone_core.proofs.compacting.swap_kept.Goals as goal
 
 pub swap_short-requires-clause-entries : goal.swap_short-requires-clause-entries
 swap_short-requires-clause-entries g c =
-    good_entries c.args.head.now.base.ticks c.args.entries.now c.requires.ready (c.in-Ok-true.ensures.entries c.in-Ok-true.field-0-test)
+    good_entries c.args.head.now.base.ticks c.args.entries.now c.requires.ready (c.are_short_parts.ensures.entries c.if-not-are_short_parts.false)

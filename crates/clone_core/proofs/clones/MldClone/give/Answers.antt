@@ -54,7 +54,7 @@ module _ (g : Over) (c : goal.After-from_vec g) where
       let id = c.args.id.now in
       let snapshot = c.in_ok-snapshot.snapshot in
       let room = subst (λ (clone : BankedClone _). length clone.local.path < path_limit) (sym c.self.view_is) c.requires.room in
-      let have = subst (λ (clone : BankedClone _). snapshot_value snapshot ≡ snapshot_of clone.local) (sym c.self.view_is) c.in_ok-snapshot.ensures in
+      let have = subst (λ (clone : BankedClone _). snapshot_value snapshot ≡ snapshot_of clone.local) (sym c.self.view_is) c.in_ok-snapshot.ensures.copy in
       let left = rw c.unwrap-right.ensures at c.give.ensures.left in
       let right = rw c.unwrap-right.ensures at c.give.ensures.right in
       let given = message.JoinGive (record { id = id; path = c.path.result; snapshot = snapshot }) in

@@ -1,0 +1,81 @@
+//! Truncating a clone's journal, in memory and on its banks.
+ghost use Rattle.std.specs.Prelude.{◌≡◌, ◌≤◌, drop, vec_len};
+
+use crate::clones::MldClone;
+use crate::compacting::{replace_base, swap_kept};
+use crate::faults::KeepFault;
+use clone_plans::{led_to, tell_clock};
+use mld_io::Banks;
+use mld_ops::Entry;
+use std::alloc::Global;
+
+impl<B: Banks> MldClone<B> {
+    ghost use Rattle.std.specs.Prelude.{◌≡◌, ◌<◌, ◌-◌, ◌^◌, ◌↔◌, ℕ, length, None, Some, IfOk, IfErr, IsOk, OnOk, IsErrOf};
+    ghost use Rattle.mld_io.specs.Arm.{Metered};
+    ghost use Rattle.journal_store.specs.declared.faults.Why.{Why};
+    ghost use Rattle.clone_core.specs.Closing.{swap_calls};
+    ghost use Rattle.clone_core.specs.Keeping.{KeepsTruncated, StaysUnclosed, IsCutSpent, LeavesKeep, CutCalls, SwapsTruncated, StopsKeep};
+
+    /// Truncates the journal: its last `keep` entries stay, or all where it has fewer, and the clone's base is what the others led to. What
+    /// the banks keep is swapped for that, by one swap. Where the journal has no more entries than that, nothing changes and no device is
+    /// called. Gives the number of entries that the journal has then.
+    ///
+    /// # Errors
+    ///
+    /// In this order: `Closed` where an earlier call closed the clone; `GenerationsSpent` where the generation is 2^64 - 1; `Device` where
+    /// the device failed, which closes the clone. `NoMemory` leaves it as it was, or closes it where a call of the device was done. After
+    /// the others it is as it was.
+    pub fn truncate(&mut self, alloc: Global, keep: u64) -> Result<u64, KeepFault>
+        ensures ok { IfOk result (λ count. KeepsTruncated self.old keep self.new × (count ≡ length self.new.local.entries)) }
+        ensures opened { OnOk result (StaysUnclosed self.old self.new) }
+        ensures closed { (why : Why) → IsErrOf result (KeepFault.Closed why) ↔ (self.old.closed ≡ Some why) }
+        ensures spent { IsErrOf result KeepFault.GenerationsSpent ↔ (IsCutSpent self.old keep × ¬ IsErrOf result KeepFault.NoMemory) }
+        ensures left { IfErr result (LeavesKeep self.old self.new) }
+        ensures meter { (calls : ℕ) × CutCalls self.old.local.entries keep calls × Metered calls (B.meter self.old.banks) (B.meter self.new.banks) (IsOk result) (IsErrOf result KeepFault.Device) }
+    {
+        if let Some(why) = self.closed {
+            return Err(KeepFault::Closed { why });
+        }
+        let count = self.journal().len();
+        if count as u64 <= keep {
+            return Ok(count as u64);
+        }
+        self.swap_truncated(alloc, keep as usize)?;
+        Ok(keep)
+    }
+
+    // Swaps what the banks keep for a journal of the last entries, of which there are more, over what the others led to.
+    fn swap_truncated(&mut self, alloc: Global, keep: usize) -> Result<(), KeepFault>
+        requires opened { self.old.closed ≡ None }
+        requires more { keep < length self.old.local.entries }
+        ensures ok { OnOk result (SwapsTruncated self.old keep self.new) }
+        ensures spent { IsErrOf result KeepFault.GenerationsSpent ↔ ((self.old.generation ≡ 2 ^ 64 - 1) × ¬ IsErrOf result KeepFault.NoMemory) }
+        ensures left { IfErr result (StopsKeep self.old self.new) }
+        ensures meter { Metered swap_calls (B.meter self.old.banks) (B.meter self.new.banks) (IsOk result) (IsErrOf result KeepFault.Device) }
+    {
+        let cut = self.entries.len() - keep;
+        let (base, pairs) = led_to(alloc, &self.base, &self.base_pairs, &self.entries[..cut])?;
+        tell_clock(&self.clock);
+        let head = self.head_over(alloc, base, pairs)?;
+        swap_kept(
+            alloc,
+            &mut self.journal,
+            &mut self.closed,
+            &head,
+            &self.entries[cut..],
+        )?;
+        replace_base(&mut self.base, &mut self.base_pairs, head);
+        drop_front(&mut self.entries, cut);
+        Ok(())
+    }
+}
+
+// Drops the first of entries, so many. It takes no memory.
+fn drop_front(entries: &mut Vec<Entry>, count: usize)
+    requires { count ≤ vec_len entries.old }
+    ensures { entries.new.items ≡ drop count entries.old.items }
+{
+    let left = entries.len() - count;
+    entries.rotate_left(count);
+    entries.truncate(left);
+}
