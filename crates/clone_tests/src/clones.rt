@@ -38,6 +38,8 @@ pub enum Word {
     Nothing,
     /// So many ranges were taken.
     Took(usize),
+    /// A snapshot was merged, and so many ranges were taken.
+    Merged(usize),
     Held,
     Known,
     /// So many messages answer it.
@@ -57,9 +59,11 @@ fn word_of_done(done: Result<Done, UpdateFault>) -> Word {
     }
 }
 
-fn word_of_got(got: Result<Got, ReceiveFault>) -> Word {
+/// What became of a message, in plain words.
+pub fn word_of_got(got: Result<Got, ReceiveFault>) -> Word {
     match got {
         Ok(Got::Took(ranges)) => Word::Took(ranges.len()),
+        Ok(Got::Merged(ranges)) => Word::Merged(ranges.len()),
         Ok(Got::Held) => Word::Held,
         Ok(Got::Known) => Word::Known,
         Ok(Got::Answer(messages)) => Word::Answer(messages.len()),

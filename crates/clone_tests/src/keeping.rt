@@ -1,10 +1,12 @@
-//! Wants, and journals that are compacted.
+//! Wants, journals that are compacted or truncated, and snapshots that are merged.
 ghost use Rattle.std.specs.Prelude.{IfOk};
 ghost use Rattle.mld_ops.specs.Messages.{message_value, IsGoodMessage};
 
-use crate::clones::{T, TestClone, U, count_of_pairs, first, set};
+use crate::clones::{
+    T, TestClone, U, Word, clock, count_of_pairs, first, parts, receive_bare, set, word_of_got,
+};
 use clone_core::{Got, MldClone, Mounted, ReceiveFault};
-use mld_ops::Message;
+use mld_ops::{Message, Snapshot};
 use std::alloc::Global;
 use std::test::Fail;
 use std::thread::Threads;
@@ -91,5 +93,71 @@ fn found<R: Threads>(rt: &R, alloc: Global) -> Result<Box<TestClone>, Fail> {
 fn a_compacted_journal_is_found_again(rt: HostRuntime) -> Result<(), Fail> {
     let clone = found(&rt, rt.alloc())?;
     assert!(rt; is_one(&clone));
+    Ok(())
+}
+
+// Whether one entry of two is left once the first one went into the base.
+fn truncates(clone: &mut TestClone, alloc: Global) -> bool {
+    matches!(clone.truncate(alloc, 1), Ok(1))
+        && matches!(clone.truncate(alloc, 1), Ok(1))
+        && parts(clone) == (1, 0, 2, 2)
+        && clone.base().ticks(&Path::root()) == 1
+        && clone.base_pairs().len() == 1
+}
+
+// Whether a clone answers a want by one snapshot.
+fn sends_snapshot<R: Threads>(clone: &mut TestClone, rt: &R, alloc: Global, want: &Message) -> bool
+    requires { IsGoodMessage (message_value want.now) }
+{
+    match clone.receive(rt, alloc, want) {
+        Ok(Got::Answer(messages)) => matches!(messages.as_slice(), [Message::Snapshot(_)]),
+        _ => false,
+    }
+}
+
+#[test]
+fn who_lacks_the_base_gets_a_snapshot(rt: HostRuntime) -> Result<(), Fail> {
+    let new = first(&rt, rt.alloc())?;
+    let want = want(&new, rt.alloc())?;
+    let mut clone = adding(&rt, rt.alloc())?;
+    let cut = truncates(&mut clone, rt.alloc());
+    assert!(rt; cut && sends_snapshot(&mut clone, &rt, rt.alloc(), &want));
+    Ok(())
+}
+
+// A snapshot with the first tick of r1 and no pairs.
+fn said(alloc: Global) -> Result<Box<Message>, Fail>
+    ensures { IfOk result (λ said. IsGoodMessage (message_value said.value)) }
+{
+    let snapshot = Snapshot {
+        clock: clock(alloc, &Path::root().child(true), 1)?,
+        tagged: Vec::new(alloc),
+    };
+    Ok(Box::new(alloc, Message::Snapshot(snapshot))?)
+}
+
+// Whether a clone takes the entry that it holds back once it merged what came before it.
+fn merges<R: Threads>(clone: &mut TestClone, rt: &R, alloc: Global, said: &Message) -> bool
+    requires { IsGoodMessage (message_value said.now) }
+{
+    let path = Path::root().child(true);
+    let second = Range {
+        path,
+        first: 2,
+        last: 2,
+    };
+    receive_bare(clone, rt, alloc, second) == Word::Held
+        && word_of_got(clone.receive(rt, alloc, said)) == Word::Merged(1)
+        && parts(clone) == (1, 0, 2, 2)
+        && clone.base().ticks(&path) == 1
+        && clone.known().ticks(&path) == 2
+        && clone.base_pairs().len() == 2
+}
+
+#[test]
+fn a_snapshot_releases_what_is_held(rt: HostRuntime) -> Result<(), Fail> {
+    let said = said(rt.alloc())?;
+    let mut clone = adding(&rt, rt.alloc())?;
+    assert!(rt; merges(&mut clone, &rt, rt.alloc(), &said));
     Ok(())
 }

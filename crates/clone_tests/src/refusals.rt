@@ -31,16 +31,23 @@ fn snapshot(alloc: Global) -> Snapshot
     }
 }
 
+/// Whether a live clone knows all that the message says.
+fn knows<R: Threads>(clone: &mut TestClone, rt: &R, alloc: Global, message: &Message) -> bool
+    requires { IsGoodMessage (message_value message.now) }
+{
+    matches!(clone.receive(rt, alloc, message), Ok(Got::Known))
+}
+
 #[test]
-fn snapshots_are_ignored(rt: HostRuntime) -> Result<(), Fail> {
+fn an_empty_snapshot_is_known(rt: HostRuntime) -> Result<(), Fail> {
     let mut clone = first(&rt, rt.alloc())?;
-    let ignored = ignores(
+    let known = knows(
         &mut clone,
         &rt,
         rt.alloc(),
         &Message::Snapshot(snapshot(rt.alloc())),
     );
-    assert!(rt; ignored);
+    assert!(rt; known);
     Ok(())
 }
 
