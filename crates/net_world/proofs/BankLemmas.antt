@@ -19,7 +19,7 @@ use Rattle.mld_model.specs.World.{World, Message, clone_at, message_at}
 use Rattle.clone_core.specs.Banked.{BankedClone}
 use Rattle.clone_core.specs.Closing.{StaysOpen}
 use Rattle.schedule_model.specs.declared.Command.{Command}
-use Rattle.schedule_model.specs.declared.Command.TheVariants.{Add, Remove, Deliver, Show, Compare, Join, Ask, Compact, Stop, Open}
+use Rattle.schedule_model.specs.declared.Command.TheVariants.{Add, Remove, Deliver, Show, Compare, Join, Ask, Compact, Truncate, Stop, Open}
 use Rattle.schedule_model.specs.Step.{Step, number_of_clone}
 use Rattle.schedule_model.specs.WorldStep.{Follows}
 use Rattle.schedule_model.proofs.ChangesLaws.{step_keeps_domain, step_keeps_others, kept_still_stands}
@@ -28,7 +28,7 @@ use Rattle.net_world.specs.declared.faults.WorldFault.TheVariants as faults
 use Rattle.net_world.specs.declared.replies.Reply.{Reply as CodeReply}
 use Rattle.net_world.specs.Replies.{FailsToTell}
 use Rattle.net_world.specs.States.{HasState, Becomes}
-use Rattle.net_world.specs.WorldBanks.{BankedState, BankedWorld, in_memory, banks_of_state, memory_of, KeepsNoneNow, KeepsStored, BanksStandFor, IsReached, IsDownOn, IsOpenAt, IsBacked, StandsOnBanks, GoesOn, MetersGoOn, FailsAt, FailsAmong, IsNextGeneration, is_first, is_next, IsOpenNext, IsCarried, IsCarriedAt}
+use Rattle.net_world.specs.WorldBanks.{BankedState, BankedWorld, in_memory, banks_of_state, memory_of, KeepsNoneNow, KeepsStored, BanksStandFor, IsReached, IsDownOn, IsOpenAt, IsBacked, StandsOnBanks, GoesOn, MetersGoOn, FailsAt, FailsAmong, StaysOpenNext, IsNextGeneration, is_first, is_next, IsOpenNext, IsCarried, IsCarriedAt}
 use Rattle.net_world.specs.Worlds.{Moves, MovesOnBanks}
 use Rattle.net_world.proofs.Places.{here_at, other_at}
 
@@ -106,7 +106,6 @@ module _ {B : Type 0} (meter : B → Meter) where
   pub fails_set : (old new : List (BankedState B)) (number : ℕ) (before after : BankedState B) (fault : WorldFault) → Becomes old new number before after
       → FailsAt number (meter (banks_of_state before)) (meter (banks_of_state after)) fault → FailsAmong meter old new fault
   fails_set old new number before after faults.NoMemory becomes fails = tt
-  fails_set old new number before after faults.Unbuilt becomes fails = absurd fails
   fails_set old new number before after (faults.Device clone) becomes fails = λ was now had has unarmed.
       let now_is : map banks_of_state new ≡ set (map banks_of_state old) number (banks_of_state after) =
       ap (λ (l : List (BankedState B)). map banks_of_state l) becomes.now ∙ map-set banks_of_state old number after in
@@ -184,6 +183,7 @@ down_stays world next (Show number) reply shut stands step = (down_by world numb
 down_stays world next (Join number) reply shut stands step = (down_by world number (clone_at world number) _ _ _ _ stands step).1
 down_stays world next (Ask number) reply shut stands step = (down_by world number (clone_at world number) _ _ _ _ stands step).1
 down_stays world next (Compact number) reply shut stands step = (down_by world number (clone_at world number) _ _ _ _ stands step).1
+down_stays world next (Truncate number keep) reply shut stands step = (down_by world number (clone_at world number) _ _ _ _ stands step).1
 down_stays world next (Stop number) reply shut stands step = (down_by world number (clone_at world number) _ _ _ _ stands step).1
 down_stays world next (Open number) reply shut stands step = absurd shut
 down_stays world next (Compare number other) reply shut stands step = (down_by world number (clone_at world number) _ _ _ _ stands step).1
@@ -193,6 +193,10 @@ down_stays world next (Compare number other) reply shut stands step = (down_by w
 -- a live clone that stayed open keeps its generation
 pub stays_next : {B : Type 0} (old : List (BankedState B)) (number : ℕ) (was now : BankedClone B) → HasState old number (states.Live was) → StaysOpen was now → IsOpenNext old number now
 stays_next old number was now at stays = record { opened = stays.opened; next = is_next was at (omega (arith, stays.generation)) }
+
+-- one that stayed open has its generation or the next one
+pub next_open : {B : Type 0} (old : List (BankedState B)) (number : ℕ) (was now : BankedClone B) → HasState old number (states.Live was) → StaysOpenNext was now → IsOpenNext old number now
+next_open old number was now at stays = record { opened = stays.opened; next = is_next was at stays.next }
 
 module _ {B : Type 0} (log : B → Option Log) (old new : BankedWorld B) (command : Command) (reply : Reply) (later : new.steps ≡ old.steps + 1) where
   -- what was known of a live clone, and of one that is down

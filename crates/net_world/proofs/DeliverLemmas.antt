@@ -1,34 +1,33 @@
 -- What `deliver` does is the model's step.
-use Rattle.std.proofs.Common.{◌≡◌, ◌≢◌, ℕ, zero, suc, ◌+◌, ◌-◌, List, [], ◌∷◌, ◌++◌, inl, inr, refl, sym, ◌∙◌, ap, arith, subst, length, map, set, get_or, Some, None, Option, Result, Ok, IfOk, IfErr, OnOk}
+use Rattle.std.proofs.Common.{◌≡◌, ◌≢◌, ℕ, zero, suc, ◌+◌, ◌-◌, List, [], ◌∷◌, ◌++◌, inl, inr, refl, sym, ◌∙◌, ap, arith, subst, length, map, set, Some, None, Option, Result, Ok, IfOk, IfErr, OnOk}
 use Rattle.std.specs.List.{range_with_len}
 use Rattle.mld_ops.specs.Entry.{EntryValue}
-use Rattle.mld_ops.specs.Messages.{GiveValue, MessageValue, CarriesEntry, CarriesWant, CarriesSnapshot, CarriesAsk, CarriesGive, give_value, message_value, snapshot_value, IsGoodMessage}
+use Rattle.mld_ops.specs.Messages.{GiveValue, MessageValue, CarriesEntry, CarriesWant, CarriesSnapshot, CarriesAsk, CarriesGive, SnapshotValue, give_value, message_value, snapshot_value, IsGoodMessage}
 use Rattle.mld_ops.specs.declared.messages.Give.{Give}
 use Rattle.mld_ops.specs.declared.messages.Message.{Message}
+use Rattle.mld_ops.specs.declared.messages.Snapshot.{Snapshot}
 use Rattle.mld_ops.specs.declared.messages.Message.TheVariants as kinds
 use Rattle.mld_model.specs.declared.CloneState.TheVariants as states
-use Rattle.mld_model.specs.World.{World, Message as ModelMessage, Want, message_at}
+use Rattle.mld_model.specs.World.{World}
 use Rattle.mld_model.specs.Reply as model
 use Rattle.mld_model.specs.Local.{LocalClone, CloneValue}
 use Rattle.mld_model.specs.Sound.{IsSound}
-use Rattle.mld_model.specs.StandsFor.{RunningClone, RunningWorld, MessageStandsFor, StandsFor}
-use Rattle.mld_model.proofs.LocalLaws.{kept_by}
-use Rattle.mld_model.proofs.StandsForLaws.{good_sent, LiveAt, live_at}
+use Rattle.mld_model.specs.StandsFor.{RunningClone, RunningWorld, StandsFor}
+use Rattle.mld_model.proofs.StandsForLaws.{good_sent}
 use Rattle.schedule_model.specs.declared.Command.TheVariants.{Deliver}
 use Rattle.schedule_model.specs.WorldStep.{Follows, IsAwayReply, stepped_saying}
-use Rattle.schedule_model.proofs.AskLaws.{want_nothing, want_answered}
-use Rattle.schedule_model.proofs.WorldLaws.{stepped, stepped_with, sent_message, SentAs, sent_as, never_foreign, deliver_nothing, deliver_missing, deliver_known, deliver_taken, deliver_held, deliver_held_already, deliver_full}
-use Rattle.schedule_model.proofs.JoinLaws.{stepped_telling, deliver_ask_own, deliver_deep, deliver_ask, deliver_give_live, deliver_joined, deliver_asking}
+use Rattle.schedule_model.proofs.AskLaws.{want_nothing, want_answered, want_snapshot}
+use Rattle.schedule_model.proofs.SnapshotLaws.{deliver_snapshot_known, deliver_merged, never_foreign_snapshot}
+use Rattle.schedule_model.proofs.WorldLaws.{stepped, stepped_with, sent_message, never_foreign, deliver_nothing, deliver_missing, deliver_known, deliver_taken, deliver_held, deliver_held_already, deliver_full}
+use Rattle.schedule_model.proofs.JoinLaws.{deliver_ask_own, deliver_deep, deliver_ask, deliver_give_live, deliver_joined, deliver_asking}
 use Rattle.mld_io.specs.Arm.{Meter, Metered, Unarmed}
 use Rattle.mld_io.specs.Disk.{Log}
 use Rattle.mld_io.specs.Faults.{Rose}
 use Rattle.journal_store.specs.declared.faults.MakeFault.{MakeFault}
 use Rattle.journal_store.specs.declared.faults.MakeFault.TheVariants as make
 use Rattle.clone_core.specs.Banked.{BankedAsker, BankedClone}
-use Rattle.clone_core.specs.CloneCalls.{Refuses}
-use Rattle.clone_core.specs.declared.faults.ReceiveFault.TheVariants as fault
-use Rattle.tree_clock.specs.Clock.{Covers, ClockValue}
-use Rattle.tree_clock.specs.declared.dots.Dot.{Dot}
+use Rattle.clone_core.specs.Wants.{SendsLacked, sends_entries, sends_snapshot}
+use Rattle.tree_clock.specs.Clock.{ClockValue}
 use Rattle.std.proofs.lemmas.List.{length-map}
 use Rattle.clone_core.specs.Joining.{LocallyAdopts, banks_of_adopted, adopting_calls, AdoptsWhole, FailsToAdopt}
 use Rattle.clone_core.specs.declared.askers.Adopted.{Adopted}
@@ -40,17 +39,16 @@ use Rattle.net_world.specs.declared.deliver.Received.TheVariants as received
 use Rattle.net_world.specs.declared.replies.Reply.{Reply}
 use Rattle.net_world.specs.declared.replies.Reply.TheVariants as replies
 use Rattle.net_world.specs.declared.parts.Parts.{Parts}
-use Rattle.net_world.specs.Unbuilt.{IsFromBehind, LeavesParts}
-use Rattle.net_world.specs.Delivering.{IsFitFor, ReceivesLive, StaysBehind, ReceivesAsking, StaysAway, IsToldOf, ReceivesAt, WhereAway, WhereLive, WhereAsking, SendsAnswers}
+use Rattle.net_world.specs.Delivering.{IsForeignTo, IsFitFor, ReceivesLive, ReceivesAsking, StaysAway, IsToldOf, ReceivesAt, WhereAway, WhereLive, WhereAsking, SendsAnswers}
 use Rattle.mld_model.specs.World.{numbered}
 use Rattle.net_world.specs.WorldParts.{running_of, HasStepLeft, Does}
 use Rattle.net_world.specs.Replies.{reply_value, numbers_between}
 use Rattle.net_world.specs.States.{HasState, Becomes, reply_of_state}
 use Rattle.net_world.specs.WorldBanks.{BankedState, in_memory, banks_of_state, memory_of, GoesOn, FailsAt, is_first, IsCarried, IsCarriedAt}
 use Rattle.net_world.specs.Worlds.{Moves}
-use Rattle.net_world.proofs.Places.{set_again, read_back}
+use Rattle.net_world.proofs.Places.{set_again}
 use Rattle.net_world.proofs.BankLemmas.{memory_at, memory_becomes, goes_on, rose_unarmed}
-use Rattle.net_world.proofs.WorldLemmas.{after_step, moved, is_open, does_carried, does_still}
+use Rattle.net_world.proofs.WorldLemmas.{after_step, moved, is_open, has_generation, does_carried, does_still}
 
 -- the message of a number, where it is one
 same_message : (running : RunningWorld) (number : ℕ) → numbered running.messages number ≡ sent_message running number
@@ -76,6 +74,13 @@ good_at : (running : RunningWorld) (world : World) → StandsFor running world �
 good_at running world stands sound zero what is = absurd (cc (is))
 good_at running world stands sound (suc before) what is = good_sent running world stands sound before what is
 
+-- a message that was sent is foreign to no live clone
+own_at : (running : RunningWorld) (world : World) → StandsFor running world → IsSound world → (message number : ℕ) (what : MessageValue) (live : CloneValue)
+    → sent_message running message ≡ Some what → HasState running.clones number (states.Live live) → ¬ IsForeignTo live.local what
+own_at running world stands sound message number (CarriesEntry entry) live is at = never_foreign running world stands sound message number entry live is at
+own_at running world stands sound message number (CarriesSnapshot snapshot) live is at = never_foreign_snapshot running world stands sound message number snapshot live is at
+own_at running world stands sound message number what live is at = λ foreign. foreign
+
 -- each message of parts that stand for a sound world is fit for each clone
 pub is_fit : {B : Type 0} (log : B → Option Log) (parts : Parts B) (message number : ℕ) (what : Message) → HasStepLeft log parts → numbered parts.messages.items message ≡ Some what
     → IsFitFor parts.clones.items number (message_value what)
@@ -85,10 +90,11 @@ is_fit log parts message number what left told =
     let stands : StandsFor running world = left.standing.stands.memory in
     let is : sent_message running message ≡ Some (message_value what) = sym (same_message running message) ∙ value_at parts.messages.items message what told in
     record {
-      own = λ live entry live_is same.
-          never_foreign running world stands left.standing.sound message number entry (record { local = live.local })
-          (is ∙ ap (λ (m : MessageValue). Some m) same) (memory_at parts.clones.items number (states.Live live) live_is);
+      own = λ live live_is.
+          own_at running world stands left.standing.sound message number (message_value what) (record { local = live.local }) is
+          (memory_at parts.clones.items number (states.Live live) live_is);
       opened = λ live live_is. is_open log parts number live left live_is;
+      left = λ live live_is. has_generation log parts number live left live_is;
       good = good_at running world stands left.standing.sound message (message_value what) is;
     }
 
@@ -108,23 +114,10 @@ away_carried clones number (states.Asking asking) at none = tt
 away_carried clones number (states.Down banks) at none = at
 away_carried clones number (states.Live live) at none = absurd (none live refl)
 
--- where a snapshot would have to be sent, the clones are as they were
-pub behind_set : {B : Type 0} (clones : List (BankedState B)) (place : ℕ) (read : BankedState B) (before after : BankedClone B) (answer : Received) → read ≡ get_or clones place read
-    → read ≡ states.Live before → StaysBehind before after answer → StaysBehind clones (set clones place (states.Live after)) answer
-behind_set clones place read before after received.FromBehind is live same =
-    ap (λ (c : BankedClone _). set clones place (states.Live c)) same ∙ ap (λ (s : BankedState _). set clones place s) (sym live) ∙ read_back clones place read is
-behind_set clones place read before after (received.Told reply) is live same = tt
-behind_set clones place read before after (received.Sends answers) is live same = tt
-
 -- a live clone that is as it was
 unchanged : (clones new : List RunningClone) (number : ℕ) (before after : CloneValue) → Becomes clones new number (states.Live before) (states.Live after) → after.local ≡ before.local → new ≡ clones
 unchanged clones new number before after becomes same =
     becomes.now ∙ ap (λ (l : LocalClone). set clones number (states.Live (record { local = l }))) same ∙ set_again clones number (states.Live before) becomes.was
-
--- snapshots are never sent yet
-never_sent : (running : RunningWorld) (world : World) → StandsFor running world → (number : ℕ) (what : MessageValue) → sent_message running number ≡ Some what
-    → ((other : ModelMessage) → ¬ MessageStandsFor world.history what other) → ⊥
-never_sent running world stands number what sent none = let s : SentAs world what number = sent_as running world stands number what sent in none s.other s.relates
 
 -- a message whose value gives a leaf is one that does
 gives_as : (what : Message) (leaf : GiveValue) → message_value what ≡ CarriesGive leaf → (give : Give) × (what ≡ kinds.JoinGive give) × (give_value give ≡ leaf)
@@ -134,25 +127,11 @@ gives_as (kinds.Want clock) leaf same = absurd (cc (same))
 gives_as (kinds.Snapshot snapshot) leaf same = absurd (cc (same))
 gives_as (kinds.JoinAsk id) leaf same = absurd (cc (same))
 
--- one whose want lacks dots of a live clone's base is behind
-behind_want : (world : World) (message number : ℕ) (ticks : List (List ℕ × ℕ)) (live : LocalClone) (other : ModelMessage) → LiveAt world number live → message_at world message ≡ Some other
-    → MessageStandsFor world.history (CarriesWant ticks) other → ¬ ((dot : Dot) → Covers live.base dot → Covers ticks dot) → IsFromBehind world message number
-behind_want world message number ticks live (Want dots) at told relates behind = record {
-  dots = dots;
-  sent = told;
-  stored = kept_by live at.base at.journal;
-  held = at.held;
-  live = at.live;
-  behind = λ known. behind (λ dot covered. (relates dot).1 (known dot ((at.stands.kept.base dot).0 covered)));
-}
-behind_want world message number ticks live other at told relates behind = absurd relates
-
 module _ (running : RunningWorld) (message number : ℕ) (new : List RunningClone) (sent : List MessageValue) where
   -- the answer is the reply, and nothing is sent; or what it sends is sent, and the reply tells of that
   abbrev pub Tells : Received → Reply → Type 0
   Tells (received.Told told) reply = (reply ≡ told) × (sent ≡ running.messages)
   Tells (received.Sends answers) reply = SendsAnswers running.messages answers sent reply
-  Tells received.FromBehind reply = ⊥
 
   abbrev pub Ends : Reply → Type 0
   Ends reply = Moves running (Deliver message number) (reply_value reply) (after_step running new sent)
@@ -169,17 +148,17 @@ module _ (running : RunningWorld) (message number : ℕ) (new : List RunningClon
       moved running (Deliver message number) (reply_value told) (reply_value reply) (set running.clones number (states.Live now)) new running.messages sent (ap reply_value (sym tells.0)) (sym same) (sym tells.1) moves
 
   -- an answer of one message
-  answering : (answers : List Message) (give : Give) (state : RunningClone) (reply : Reply) → answers ≡ kinds.JoinGive give ∷ [] → SendsAnswers running.messages answers sent reply
-      → new ≡ set running.clones number state
-      → Moves running (Deliver message number) (model.Answer ((length running.messages + 1) ∷ [])) (stepped_telling running number state (CarriesGive (give_value give))) → Ends reply
-  answering answers give state (replies.Answer first end) one sends same moves =
+  answering : (answers : List Message) (told : Message) (clones : List RunningClone) (reply : Reply) → answers ≡ told ∷ [] → SendsAnswers running.messages answers sent reply
+      → new ≡ clones
+      → Moves running (Deliver message number) (model.Answer ((length running.messages + 1) ∷ [])) (after_step running clones (running.messages ++ message_value told ∷ [])) → Ends reply
+  answering answers told clones (replies.Answer first end) one sends same moves =
       let counted : end ≡ length running.messages + 2 = sends.2 ∙ ap (λ (f : ℕ). f + length answers) sends.1 ∙ ap (λ (a : List Message). length running.messages + 1 + length a) one ∙ omega arith in
       let few : end - first ≡ 1 = omega (arith, counted, sends.1) in
       let numbers : (length running.messages + 1) ∷ [] ≡ numbers_between first end = ap (λ (f : ℕ). f ∷ []) (sym sends.1) ∙ ap (λ (n : ℕ). range_with_len first n) (sym few) in
       moved running (Deliver message number) (model.Answer ((length running.messages + 1) ∷ [])) (model.Answer (numbers_between first end))
-      (set running.clones number state) new (running.messages ++ CarriesGive (give_value give) ∷ []) sent (ap (λ (n : List ℕ). model.Answer n) numbers) (sym same)
+      clones new (running.messages ++ message_value told ∷ []) sent (ap (λ (n : List ℕ). model.Answer n) numbers) (sym same)
       (sym (sends.0 ∙ ap (λ (a : List Message). running.messages ++ map message_value a) one)) moves
-  answering answers give state reply one sends same moves = absurd sends
+  answering answers told clones reply one sends same moves = absurd sends
 
   -- a live clone answers an entry
   entry_answered : (entry : EntryValue) (answer : Received) (reply : Reply) (before after : CloneValue) → sent_message running message ≡ Some (CarriesEntry entry)
@@ -201,7 +180,7 @@ module _ (running : RunningWorld) (message number : ℕ) (new : List RunningClon
       (λ world stands sound. deliver_full running world stands sound message number entry before is becomes.was h.0.1 h.0.2)
   entry_answered entry (received.Told replies.Ignored) reply before after is becomes h told = absurd h.1
   entry_answered entry (received.Told replies.Nothing) reply before after is becomes h told = absurd h.1
-  entry_answered entry received.FromBehind reply before after is becomes h told = absurd told
+  entry_answered entry (received.Told (replies.Merged ranges)) reply before after is becomes h told = absurd h.1
   entry_answered entry (received.Told replies.Deep) reply before after is becomes h told = absurd h.0
   entry_answered entry (received.Sends answers) reply before after is becomes h told = absurd h.1
   entry_answered entry answer reply before after is becomes h told = absurd h
@@ -213,13 +192,12 @@ module _ (running : RunningWorld) (message number : ℕ) (new : List RunningClon
       calm replies.Ignored reply told (unchanged running.clones new number before after becomes h.1)
       (λ world stands sound. deliver_ask_own running world stands sound message number id before is becomes.was h.0)
   ask_answered id (received.Sends answers) reply before after is becomes h told =
-      answering answers h.1.0 (states.Live after) reply h.1.1 told becomes.now
+      answering answers (kinds.JoinGive h.1.0) (set running.clones number (states.Live after)) reply h.1.1 told becomes.now
       (λ world stands sound. deliver_ask running world stands sound message number id before after (give_value h.1.0) is becomes.was h.0 h.1.2)
   ask_answered id (received.Told replies.Deep) reply before after is becomes h told =
       calm replies.Deep reply told (unchanged running.clones new number before after becomes h.1)
       (λ world stands sound. deliver_deep running world stands sound message number id before is becomes.was h.0.0 (omega (arith, h.0.1)))
   ask_answered id (received.Told replies.HeldFull) reply before after is becomes h told = absurd h.0
-  ask_answered id received.FromBehind reply before after is becomes h told = absurd told
   ask_answered id answer reply before after is becomes h told = absurd h
 
   -- a live clone takes no leaf
@@ -229,11 +207,11 @@ module _ (running : RunningWorld) (message number : ℕ) (new : List RunningClon
       calm replies.Ignored reply told (unchanged running.clones new number before after becomes h.1)
       (λ world stands sound. deliver_give_live running world stands sound message number (give_value give) before is becomes.was)
   give_answered give (received.Told (replies.Took ranges)) reply before after is becomes h told = absurd (cc (h.0))
+  give_answered give (received.Told (replies.Merged ranges)) reply before after is becomes h told = absurd (cc (h.0))
   give_answered give (received.Told replies.Held) reply before after is becomes h told = absurd (cc (h.0))
   give_answered give (received.Told replies.Known) reply before after is becomes h told = absurd (cc (h.0))
   give_answered give (received.Sends answers) reply before after is becomes h told = absurd (cc (h.0))
   give_answered give (received.Told replies.Nothing) reply before after is becomes h told = absurd (cc (h.0))
-  give_answered give received.FromBehind reply before after is becomes h told = absurd told
   give_answered give (received.Told replies.HeldFull) reply before after is becomes h told = absurd h.0
   give_answered give (received.Told replies.Deep) reply before after is becomes h told = absurd h.0
   give_answered give answer reply before after is becomes h told = absurd h
@@ -250,6 +228,17 @@ module _ (running : RunningWorld) (message number : ℕ) (new : List RunningClon
       (sym (sends.0 ∙ ap (λ (l : List MessageValue). running.messages ++ l) carry)) moves
   sending answers entries reply carry sends same moves = absurd sends
 
+  -- a live clone tells one who lacks something
+  lacked_sent : (clock : ClockValue) (answers : List Message) (reply : Reply) (before : CloneValue) → sent_message running message ≡ Some (CarriesWant clock.ticks)
+      → HasState running.clones number (states.Live before) → SendsLacked before.local clock.ticks answers → new ≡ running.clones → SendsAnswers running.messages answers sent reply → Ends reply
+  lacked_sent clock answers reply before is at (sends_entries entries unknown some carry) same told =
+      sending answers entries reply carry told same
+      (λ world stands sound. want_answered running world stands sound message number clock.ticks before entries is at unknown some)
+  lacked_sent clock answers reply before is at (sends_snapshot snapshot lacks one) same told =
+      answering answers (kinds.Snapshot snapshot) running.clones reply one told same
+      (λ world stands sound. subst (λ (s : SnapshotValue). Follows world (Deliver message number) (model.Answer ((length running.messages + 1) ∷ [])) (stepped_saying running (CarriesSnapshot s ∷ [])))
+      (sym lacks.whole) (want_snapshot running world stands sound message number clock.ticks before is at lacks.behind))
+
   -- a live clone answers a want
   want_told : (clock : ClockValue) (answer : Received) (reply : Reply) (before after : CloneValue) → sent_message running message ≡ Some (CarriesWant clock.ticks)
       → Becomes running.clones new number (states.Live before) (states.Live after) → ReceivesLive before.local (kinds.Want clock) after.local answer → Tells answer reply → Ends reply
@@ -257,16 +246,28 @@ module _ (running : RunningWorld) (message number : ℕ) (new : List RunningClon
       calm replies.Nothing reply told (unchanged running.clones new number before after becomes h.1)
       (λ world stands sound. want_nothing running world stands sound message number clock.ticks before is becomes.was h.0)
   want_told clock (received.Sends answers) reply before after is becomes h told =
-      sending answers h.0 reply h.3 told (unchanged running.clones new number before after becomes h.4)
-      (λ world stands sound. want_answered running world stands sound message number clock.ticks before h.0 is becomes.was h.1 h.2)
+      lacked_sent clock answers reply before is becomes.was h.0 (unchanged running.clones new number before after becomes h.1) told
   want_told clock (received.Told replies.HeldFull) reply before after is becomes h told = absurd h.0
   want_told clock (received.Told replies.Deep) reply before after is becomes h told = absurd h.0
-  want_told clock received.FromBehind reply before after is becomes h told = absurd told
   want_told clock answer reply before after is becomes h told = absurd h
 
-  -- a message of another kind was never sent
-  unsent : (what : MessageValue) (reply : Reply) → sent_message running message ≡ Some what → ((world : World) (other : ModelMessage) → ¬ MessageStandsFor world.history what other) → Ends reply
-  unsent what reply is none world stands sound = absurd (never_sent running world stands message what is (none world))
+  -- a live clone receives a snapshot
+  snapshot_told : (snapshot : Snapshot) (answer : Received) (reply : Reply) (before after : CloneValue) → sent_message running message ≡ Some (CarriesSnapshot (snapshot_value snapshot))
+      → Becomes running.clones new number (states.Live before) (states.Live after) → ReceivesLive before.local (kinds.Snapshot snapshot) after.local answer → Tells answer reply → Ends reply
+  snapshot_told snapshot (received.Told replies.Known) reply before after is becomes h told =
+      calm replies.Known reply told (unchanged running.clones new number before after becomes h.1.1)
+      (λ world stands sound. deliver_snapshot_known running world stands sound message number (snapshot_value snapshot) before is becomes.was h.1.0)
+  snapshot_told snapshot (received.Told (replies.Merged ranges)) reply before after is becomes h told =
+      moving (replies.Merged ranges) reply after told becomes.now
+      (λ world stands sound. deliver_merged running world stands sound message number (snapshot_value snapshot) before after ranges is becomes.was h.1)
+  snapshot_told snapshot (received.Told (replies.Took ranges)) reply before after is becomes h told = absurd h.1
+  snapshot_told snapshot (received.Told replies.Held) reply before after is becomes h told = absurd h.1
+  snapshot_told snapshot (received.Told replies.Ignored) reply before after is becomes h told = absurd h.1
+  snapshot_told snapshot (received.Told replies.Nothing) reply before after is becomes h told = absurd h.1
+  snapshot_told snapshot (received.Told replies.HeldFull) reply before after is becomes h told = absurd h.0
+  snapshot_told snapshot (received.Told replies.Deep) reply before after is becomes h told = absurd h.0
+  snapshot_told snapshot (received.Sends answers) reply before after is becomes h told = absurd h.1
+  snapshot_told snapshot answer reply before after is becomes h told = absurd h
 
   -- a live clone answers
   live_answered : (what : Message) (answer : Received) (reply : Reply) (before after : CloneValue) → sent_message running message ≡ Some (message_value what)
@@ -275,7 +276,7 @@ module _ (running : RunningWorld) (message number : ℕ) (new : List RunningClon
   live_answered (kinds.JoinAsk id) answer reply before after is becomes h told = ask_answered id answer reply before after is becomes h told
   live_answered (kinds.JoinGive give) answer reply before after is becomes h told = give_answered give answer reply before after is becomes h told
   live_answered (kinds.Want clock) answer reply before after is becomes h told = want_told clock answer reply before after is becomes h told
-  live_answered (kinds.Snapshot snapshot) answer reply before after is becomes h told = unsent (CarriesSnapshot (snapshot_value snapshot)) reply is (λ world other stands. stands)
+  live_answered (kinds.Snapshot snapshot) answer reply before after is becomes h told = snapshot_told snapshot answer reply before after is becomes h told
 
   -- one who asks answers
   asker_answered : (what : Message) (answer : Received) (reply : Reply) (before after : RunningClone) → sent_message running message ≡ Some (message_value what)
@@ -301,7 +302,6 @@ module _ (running : RunningWorld) (message number : ℕ) (new : List RunningClon
   away_answered what (received.Told told) reply state is at away same tells =
       calm told reply tells same (λ world stands sound. deliver_missing running world stands sound message number (message_value what) state (reply_value told) is at away)
   away_answered what (received.Sends answers) reply state is at away same tells = absurd away
-  away_answered what received.FromBehind reply state is at away same tells = absurd away
 
   -- the clone of the number answers, whatever its state is
   pub answered : (what : Message) (answer : Received) (reply : Reply) → numbered running.messages message ≡ Some (message_value what) → ReceivesAt running.clones new number what answer
@@ -309,23 +309,6 @@ module _ (running : RunningWorld) (message number : ℕ) (new : List RunningClon
   answered what answer reply is (WhereAway state at away same) tells = away_answered what answer reply state (sym (same_message running message) ∙ is) at away same tells
   answered what answer reply is (WhereLive before after becomes h) tells = live_answered what answer reply before after (sym (same_message running message) ∙ is) becomes h tells
   answered what answer reply is (WhereAsking before after becomes h) tells = asker_answered what answer reply before after (sym (same_message running message) ∙ is) becomes h tells
-
-  -- a live clone would have to send a snapshot
-  live_behind : (what : Message) (before : CloneValue) → sent_message running message ≡ Some (message_value what) → HasState running.clones number (states.Live before)
-      → Refuses before.local what fault.FromBehind → (world : World) → StandsFor running world → IsFromBehind world message number
-  live_behind (kinds.Want clock) before is at refused world stands =
-      let s : SentAs world (CarriesWant clock.ticks) message = sent_as running world stands message (CarriesWant clock.ticks) is in
-      behind_want world message number clock.ticks before.local s.other (live_at running world stands number before at) s.at s.relates refused
-  live_behind (kinds.Range entry) before is at refused world stands = absurd refused
-  live_behind (kinds.JoinAsk id) before is at refused world stands = absurd refused
-  live_behind (kinds.JoinGive give) before is at refused world stands = absurd refused
-  live_behind (kinds.Snapshot snapshot) before is at refused world stands = absurd refused
-
-  pub is_behind : (what : Message) → numbered running.messages message ≡ Some (message_value what) → ReceivesAt running.clones new number what received.FromBehind
-      → (world : World) → StandsFor running world → IsFromBehind world message number
-  is_behind what is (WhereAway state at away same) world stands = absurd away
-  is_behind what is (WhereLive before after becomes h) world stands = live_behind what before (sym (same_message running message) ∙ is) becomes.was h.0 world stands
-  is_behind what is (WhereAsking before after becomes h) world stands = absurd h
 
   -- no message has the number
   pub no_message : numbered running.messages message ≡ None → Moves running (Deliver message number) model.NoMessage (stepped running)
@@ -344,25 +327,6 @@ module _ {B : Type 0} (log : B → Option Log) (meter : B → Meter) (old new : 
       (λ steps. answered (memory_of (running_of old steps)) message number (map in_memory new.clones.items) (map message_value new.messages.items) what answer reply
       (value_at old.messages.items message what is) received (tells steps))
       tt carried
-
-  -- or would have to send a snapshot, and all is as it was
-  pub deliver_behind : (what : Message) → numbered old.messages.items message ≡ Some what
-      → ReceivesAt (map in_memory old.clones.items) (map in_memory new.clones.items) number what received.FromBehind → new.clones.items ≡ old.clones.items
-      → new.messages.items ≡ old.messages.items → LeavesParts log old (Deliver message number) new
-  deliver_behind what is received same sent = record {
-    leaves = λ steps. record {
-      lacks = λ world stands sound.
-          is_behind (memory_of (running_of old steps)) message number (map in_memory new.clones.items) (map message_value new.messages.items) what
-          (value_at old.messages.items message what is) received world stands.memory;
-      same = λ i. record {
-        domain = domain i;
-        properties = (properties i).items;
-        clones = same i;
-        messages = map message_value (sent i);
-        steps = steps;
-      };
-    };
-  }
 
   -- there is no such message
   pub deliver_none : new.clones.items ≡ old.clones.items → new.messages.items ≡ old.messages.items → numbered old.messages.items message ≡ None → Does log old (Deliver message number) new replies.NoMessage
@@ -423,12 +387,6 @@ module _ {B : Type 0} (meter : B → Meter) (old new : List (BankedState B)) (nu
       (record { state = states.Asking same; now = now ∙ ap (λ (s : BankedState B). set old number s) is.0; carried = tt })
   asking_carried (adopted.Refused fault banks) told at now adopts is =
       subst (λ (x : Result Received WorldFault). OnOk x (IsCarriedAt old new number)) (sym is.1) tt
-
-  -- no snapshot is asked of it
-  pub asking_behind : (what : Adopted B) (told : BankedState B × Result Received WorldFault) → IsToldOf number what told → IfOk told.1 (StaysBehind old new)
-  asking_behind (adopted.Joined clone) told is = subst (λ (x : Result Received WorldFault). IfOk x (StaysBehind old new)) (sym is.1) tt
-  asking_behind (adopted.Ignored same) told is = subst (λ (x : Result Received WorldFault). IfOk x (StaysBehind old new)) (sym is.1) tt
-  asking_behind (adopted.Refused fault banks) told is = subst (λ (x : Result Received WorldFault). IfOk x (StaysBehind old new)) (sym is.1) tt
 
   -- its meter
   pub asking_on : (what : Adopted B) (told : BankedState B × Result Received WorldFault) → IsToldOf number what told

@@ -66,14 +66,12 @@ module _ {B : Type 0} (meter : B → Meter) where
   pub fails_then : (old mid new : List (BankedState B)) (fault : WorldFault) → MetersGoOn meter (map banks_of_state old) (map banks_of_state mid) → FailsAmong meter old mid fault
       → MetersGoOn meter (map banks_of_state mid) (map banks_of_state new) → FailsAmong meter old new fault
   fails_then old mid new faults.NoMemory first fails second = tt
-  fails_then old mid new faults.Unbuilt first fails second = absurd fails
   fails_then old mid new (faults.Device clone) first fails second =
       failed_then (map banks_of_state old) (map banks_of_state mid) (map banks_of_state new) clone first fails second
 
   pub then_fails : (old mid new : List (BankedState B)) (fault : WorldFault) → MetersGoOn meter (map banks_of_state old) (map banks_of_state mid) → FailsAmong meter mid new fault
       → FailsAmong meter old new fault
   then_fails old mid new faults.NoMemory first fails = tt
-  then_fails old mid new faults.Unbuilt first fails = absurd fails
   then_fails old mid new (faults.Device clone) first fails =
       then_failed (map banks_of_state old) (map banks_of_state mid) (map banks_of_state new) clone first fails
 

@@ -13,3 +13,4 @@ pub mod FaultLemmas
 pub mod EndLemmas
 pub mod AskLemmas
 pub mod CompactLemmas
+pub mod TruncateLemmas

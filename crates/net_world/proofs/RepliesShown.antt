@@ -10,7 +10,7 @@ use Rattle.tree_clock.specs.declared.dots.Range.{Range}
 use Rattle.mld_ops.specs.declared.tagged.Tagged.{Tagged}
 use Rattle.schedule_model.specs.Characters.{line_end}
 use Rattle.schedule_model.specs.ReplyText.{reply_text, pair_line, spaced_range, spaced_message}
-use Rattle.mld_model.specs.Reply.{Shows, Took, Answer}
+use Rattle.mld_model.specs.Reply.{Shows, Answer}
 
 -- a head and a line for each pair, in two steps
 pub pairs_shown : (old mid out head : List ℕ) (pairs : List Tagged)
@@ -35,16 +35,15 @@ lines_more old mid out chunks i chunk l e m o =
     ∙ ap (λ w. old ++ w) (sym (flat_map-append pair_line before chunk) ∙ ap (λ ps. flat_map pair_line ps) (sym (joined_more chunks i chunk l e)))
 
 -- a word, each range behind a space, and the end of the line, in three steps
-pub ranges_shown : (old mid out new head : List ℕ) (ranges : List Range) (i : ℕ) → length ranges ≤ i
-    → mid ≡ old ++ head → head ≡ codes "took" → out ≡ mid ++ flat_map spaced_range (take i ranges) → new ≡ out ++ line_end ∷ []
-    → new ≡ old ++ reply_text (Took ranges)
-unfolding reply_text
-ranges_shown old mid out new head ranges i l m h o n =
+pub ranges_shown : (old mid out new word : List ℕ) (ranges : List Range) (i : ℕ) → length ranges ≤ i
+    → mid ≡ old ++ word → out ≡ mid ++ flat_map spaced_range (take i ranges) → new ≡ out ++ line_end ∷ []
+    → new ≡ old ++ (word ++ (flat_map spaced_range ranges ++ line_end ∷ []))
+ranges_shown old mid out new word ranges i l m o n =
     let text : List ℕ = flat_map spaced_range ranges in
-    n ∙ ap (λ w. w ++ line_end ∷ []) (o ∙ ap (λ w. w ++ flat_map spaced_range (take i ranges)) (m ∙ ap (λ w. old ++ w) h)
-    ∙ ap (λ rs. (old ++ codes "took") ++ flat_map spaced_range rs) (take_all i ranges l))
-    ∙ append_assoc (old ++ codes "took") text (line_end ∷ [])
-    ∙ append_assoc old (codes "took") (text ++ line_end ∷ [])
+    n ∙ ap (λ w. w ++ line_end ∷ []) (o ∙ ap (λ w. w ++ flat_map spaced_range (take i ranges)) m
+    ∙ ap (λ rs. (old ++ word) ++ flat_map spaced_range rs) (take_all i ranges l))
+    ∙ append_assoc (old ++ word) text (line_end ∷ [])
+    ∙ append_assoc old word (text ++ line_end ∷ [])
 
 -- the numbers of messages, one more of them
 pub numbers_more : (first n : ℕ) → flat_map spaced_message (range_with_len first (n + 1)) ≡ flat_map spaced_message (range_with_len first n) ++ spaced_message (first + n)

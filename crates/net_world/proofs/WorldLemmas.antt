@@ -1,5 +1,5 @@
 -- What commands do with the parts of a running world is the model's step.
-use Rattle.std.proofs.Common.{◌≡◌, ◌≢◌, ℕ, ◌+◌, ◌-◌, ◌^◌, ◌<◌, List, Option, None, Result, Ok, Err, IfErr, refl, sym, ◌∙◌, ap, arith, subst, length, map, set}
+use Rattle.std.proofs.Common.{◌≡◌, ◌≢◌, ℕ, ◌+◌, ◌-◌, ◌^◌, ◌<◌, List, Option, None, refl, sym, ◌∙◌, ap, arith, subst, length, map, set}
 use Rattle.std.proofs.lemmas.List.{length-map, length-set}
 use Rattle.mld_io.specs.Arm.{Meter}
 use Rattle.mld_io.specs.Disk.{Log}
@@ -24,9 +24,8 @@ use Rattle.net_world.specs.declared.faults.WorldFault.TheVariants as faults
 use Rattle.net_world.specs.declared.parts.Parts.{Parts}
 use Rattle.net_world.specs.declared.replies.Reply.{Reply as CodeReply}
 use Rattle.net_world.specs.Commands.{Answered}
-use Rattle.net_world.specs.Unbuilt.{LeavesUnbuilt, LeavesParts, HasStopCause}
 use Rattle.net_world.specs.WorldParts.{running_of, HasStepLeft, KeepsDomain, HasFaultCause, Does}
-use Rattle.net_world.specs.Replies.{reply_value, FailsToTell}
+use Rattle.net_world.specs.Replies.{reply_value}
 use Rattle.net_world.specs.States.{HasState, Becomes, reply_of_state}
 use Rattle.net_world.specs.WorldBanks.{BankedState, BankedWorld, in_memory, banks_of_state, memory_of, banks_of, IsOpenAt, IsBacked, StandsOnBanks, GoesOn, MetersGoOn, HasFailed, IsCarriedAt}
 use Rattle.net_world.specs.Worlds.{IsStanding, Moves, FollowsOnBanks, Stepped}
@@ -60,41 +59,10 @@ step_meters {B = B} meter old new running steps is keeps =
 
 -- and a device that failed is that of the clone that the fault names
 pub step_device : {B : Type 0} (log : B → Option Log) (meter : B → Meter) (old : Parts B) (command : Command) (new : Parts B) (running : BankedWorld B) (steps : ℕ) → running_of old steps ≡ running → (fault : WorldFault)
-    → HasStopCause log meter old command new fault → (clone : ℕ) → fault ≡ faults.Device clone → HasFailed meter clone (banks_of running) (map banks_of_state new.clones.items)
+    → HasFaultCause meter old new fault → (clone : ℕ) → fault ≡ faults.Device clone → HasFailed meter clone (banks_of running) (map banks_of_state new.clones.items)
 step_device {B = B} log meter old command new running steps is fault cause clone same =
     subst (λ (w : BankedWorld B). HasFailed meter clone (banks_of w) (map banks_of_state new.clones.items)) is
-    (subst (λ (f : WorldFault). HasStopCause log meter old command new f) same cause)
-
--- where a snapshot would have to be sent, nothing changed
-pub step_unbuilt : {B : Type 0} (log : B → Option Log) (meter : B → Meter) (old : Parts B) (command : Command) (new : Parts B) (running : BankedWorld B) (steps : ℕ) → running_of old steps ≡ running → (fault : WorldFault)
-    → HasStopCause log meter old command new fault → fault ≡ faults.Unbuilt → LeavesUnbuilt log running command (running_of new steps)
-step_unbuilt {B = B} log meter old command new running steps is fault cause same =
-    let leaves : LeavesParts log old command new = subst (λ (f : WorldFault). HasStopCause log meter old command new f) same cause in
-    subst (λ (w : BankedWorld B). LeavesUnbuilt log w command (running_of new steps)) is (leaves.leaves steps)
-
--- the cause of a fault of banks or memory is one of a command
-pub stop_cause : {B : Type 0} (log : B → Option Log) (meter : B → Meter) (old : Parts B) (command : Command) (new : Parts B) (fault : WorldFault) → HasFaultCause meter old new fault
-    → HasStopCause log meter old command new fault
-stop_cause log meter old command new (faults.Device clone) cause = cause
-stop_cause log meter old command new faults.NoMemory cause = cause
-stop_cause log meter old command new faults.Unbuilt cause = absurd cause
-
-pub stop_causes : {B T : Type 0} (log : B → Option Log) (meter : B → Meter) (old : Parts B) (command : Command) (new : Parts B) (r : Result T WorldFault) → IfErr r (HasFaultCause meter old new)
-    → IfErr r (HasStopCause log meter old command new)
-stop_causes log meter old command new (Ok reply) cause = tt
-stop_causes log meter old command new (Err fault) cause = stop_cause log meter old command new fault cause
-
--- the fault of a command is told, or there is no memory to tell its reply
-pub told_stop : {B T : Type 0} (log : B → Option Log) (meter : B → Meter) (old : Parts B) (command : Command) (new : Parts B) (reply : Result CodeReply WorldFault) (told : Result T WorldFault)
-    → IfErr reply (HasStopCause log meter old command new) → IfErr told (FailsToTell reply) → IfErr told (HasStopCause log meter old command new)
-told_stop log meter old command new reply (Ok done) fails tells = tt
-told_stop log meter old command new (Ok reply) (Err fault) fails tells = subst (λ (f : WorldFault). HasStopCause log meter old command new f) (sym tells) tt
-told_stop log meter old command new (Err refused) (Err fault) fails tells = subst (λ (f : WorldFault). HasStopCause log meter old command new f) (sym tells) fails
-
-pub told_fault : {B T : Type 0} (log : B → Option Log) (meter : B → Meter) (old : Parts B) (command : Command) (new : Parts B) (reply : Result CodeReply WorldFault) (told : Result T WorldFault)
-    → IfErr reply (HasFaultCause meter old new) → IfErr told (FailsToTell reply) → IfErr told (HasStopCause log meter old command new)
-told_fault log meter old command new (Ok reply) told fails tells = told_stop log meter old command new (Ok reply) told tt tells
-told_fault log meter old command new (Err refused) told fails tells = told_stop log meter old command new (Err refused) told (stop_cause log meter old command new refused fails) tells
+    (subst (λ (f : WorldFault). HasFaultCause meter old new f) same cause)
 
 -- a clone of parts that stand for a sound world with a step left has a tick left
 pub has_next_tick : {B : Type 0} (log : B → Option Log) (parts : Parts B) (number : ℕ) (live : BankedClone B) → HasStepLeft log parts

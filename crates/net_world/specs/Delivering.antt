@@ -1,11 +1,10 @@
 -- What a clone does with a message that comes to it, by what it answers.
-use Rattle.std.specs.Prelude.{◌≡◌, ℕ, ◌+◌, List, ◌++◌, None, length, map, Result, Ok, Err}
-use Rattle.mld_ops.specs.Entry.{EntryValue}
-use Rattle.mld_ops.specs.Messages.{MessageValue, CarriesEntry, give_value, message_value, IsGoodMessage}
+use Rattle.std.specs.Prelude.{◌≡◌, ◌≢◌, ℕ, ◌+◌, ◌-◌, ◌^◌, List, ◌++◌, None, length, map, Result, Ok, Err}
+use Rattle.mld_ops.specs.Messages.{MessageValue, CarriesEntry, CarriesSnapshot, give_value, message_value, IsGoodMessage}
 use Rattle.mld_ops.specs.declared.messages.Give.{Give}
 use Rattle.mld_ops.specs.declared.messages.Message.{Message}
 use Rattle.mld_model.specs.declared.CloneState.TheVariants as states
-use Rattle.mld_model.specs.Local.{LocalAsker, LocalClone, CloneValue, IsForeign, joined_clone}
+use Rattle.mld_model.specs.Local.{LocalAsker, LocalClone, CloneValue, IsForeign, IsForeignSnapshot, joined_clone}
 use Rattle.mld_model.specs.StandsFor.{RunningClone}
 use Rattle.schedule_model.specs.WorldStep.{IsAwayReply}
 use Rattle.clone_core.specs.Banked.{BankedClone}
@@ -25,16 +24,24 @@ use Rattle.net_world.specs.States.{HasState, Becomes}
 use Rattle.net_world.specs.WorldFaults.{fault_of_made}
 use Rattle.net_world.specs.WorldBanks.{BankedState}
 
--- the message, where it is an entry, says no more of the path of the clone of the number than that clone knows, and that clone is open;
--- and the message's snapshot, where it has one, is a good one
+-- the message says more of the clone's own path than the clone knows, by its entry or its snapshot: another one has used its leaf
+abbrev pub IsForeignTo : LocalClone → MessageValue → Type 0
+IsForeignTo clone (CarriesEntry entry) = IsForeign clone entry
+IsForeignTo clone (CarriesSnapshot snapshot) = IsForeignSnapshot clone snapshot
+IsForeignTo clone other = ⊥
+
+-- the message says no more of the path of the clone of the number than that clone knows, which is open and has a generation left; and the
+-- message's snapshot, where it has one, is a good one
 pub record IsFitFor {B : Type 0} (clones : List (BankedState B)) (number : ℕ) (sent : MessageValue) : Type 0 where
-  pub own : (live : BankedClone B) (entry : EntryValue) → HasState clones number (states.Live live) → sent ≡ CarriesEntry entry → ¬ IsForeign live.local entry
+  pub own : (live : BankedClone B) → HasState clones number (states.Live live) → ¬ IsForeignTo live.local sent
   pub opened : (live : BankedClone B) → HasState clones number (states.Live live) → live.closed ≡ None
+  pub left : (live : BankedClone B) → HasState clones number (states.Live live) → live.generation ≢ 2 ^ 64 - 1
   pub good : IsGoodMessage sent
 
 -- what a live clone does with a message
 abbrev pub ReceivesLive : LocalClone → Message → LocalClone → Received → Type 0
 ReceivesLive old sent new (received.Told (replies.Took ranges)) = LocallyReceives old sent (got.Took ranges) new
+ReceivesLive old sent new (received.Told (replies.Merged ranges)) = LocallyReceives old sent (got.Merged ranges) new
 ReceivesLive old sent new (received.Told replies.Held) = LocallyReceives old sent got.Held new
 ReceivesLive old sent new (received.Told replies.Known) = LocallyReceives old sent got.Known new
 ReceivesLive old sent new (received.Told replies.Ignored) = LocallyReceives old sent got.Ignored new
@@ -42,13 +49,7 @@ ReceivesLive old sent new (received.Told replies.Nothing) = LocallyReceives old 
 ReceivesLive old sent new (received.Told replies.HeldFull) = Refuses old sent fault.HeldFull × (new ≡ old)
 ReceivesLive old sent new (received.Told replies.Deep) = Refuses old sent fault.Deep × (new ≡ old)
 ReceivesLive old sent new (received.Sends answers) = LocallyReceives old sent (got.Answer answers) new
-ReceivesLive old sent new received.FromBehind = Refuses old sent fault.FromBehind × (new ≡ old)
 ReceivesLive old sent new other = ⊥
-
--- what is as it was where a snapshot would have to be sent
-abbrev pub StaysBehind : {X : Type 0} → X → X → Received → Type 0
-StaysBehind old new received.FromBehind = new ≡ old
-StaysBehind old new other = Unit {0}
 
 -- one who asks took the leaf that the message gives it, and lives at the path
 pub record LivesAt (old new : RunningClone) (sent : Message) (path : List ℕ) : Type 0 where

@@ -58,7 +58,6 @@ pub record AreFounded {B : Type 0} (setup : Setup) (clones : List (BankedState B
 -- given back, in order
 abbrev pub RefusesFounding : {B : Type 0} → (B → Meter) → List B → WorldFault → List B → Type 0
 RefusesFounding meter blanks faults.NoMemory banks = banks ≡ []
-RefusesFounding meter blanks faults.Unbuilt banks = ⊥
 RefusesFounding meter blanks (faults.Device clone) banks = MetersGoOn meter blanks banks × HasFailed meter clone blanks banks
 
 -- ---- the parts of founding

@@ -15,5 +15,5 @@ pub mod WorldFaults
 pub mod StoppedClones
 pub mod OpeningBanks
 pub mod WorldEnds
-pub mod Unbuilt
 pub mod CompactingClones
+pub mod TruncatingClones

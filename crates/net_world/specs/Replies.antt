@@ -18,6 +18,7 @@ reply_value (replies.Ready count) = model.Ready count
 reply_value (replies.Did dot message) = model.Did dot message
 reply_value replies.NoOperation = model.NoOperation
 reply_value (replies.Took ranges) = model.Took ranges
+reply_value (replies.Merged ranges) = model.Merged ranges
 reply_value replies.Held = model.Held
 reply_value replies.HeldFull = model.HeldFull
 reply_value replies.Known = model.AlreadyKnown

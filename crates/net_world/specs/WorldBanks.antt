@@ -136,16 +136,19 @@ HasFailed {B = B} meter number old new = (was now : B) → slice_get old number 
 -- the fault of a clone's banks: it names this number, and they had a real fault, where they were not armed
 abbrev pub FailsAt : ℕ → Meter → Meter → WorldFault → Type 0
 FailsAt number before now (faults.Device clone) = (clone ≡ number) × (before.arm ≡ Unarmed → Rose before.real_faults now.real_faults)
-FailsAt number before now faults.Unbuilt = ⊥
 FailsAt number before now faults.NoMemory = Unit {0}
 
 -- why a call at one of these clones was refused: the banks of a clone had a real fault, or memory ran out
 abbrev pub FailsAmong : {B : Type 0} → (B → Meter) → List (BankedState B) → List (BankedState B) → WorldFault → Type 0
 FailsAmong meter old new (faults.Device clone) = HasFailed meter clone (map banks_of_state old) (map banks_of_state new)
-FailsAmong meter old new faults.Unbuilt = ⊥
 FailsAmong meter old new faults.NoMemory = Unit {0}
 
 -- ---- one clone changes
+
+-- a live clone is open after a call, with its generation or the next one
+pub record StaysOpenNext {B : Type 0} (old new : BankedClone B) : Type 0 where
+  pub opened : new.closed ≡ None
+  pub next : new.generation ≤ old.generation + 1
 
 -- the generation of the live clone of the number after one call: it is a clone's first, or at most the next one
 pub data IsNextGeneration {B : Type 0} (old : List (BankedState B)) (number generation : ℕ) : Type 0 where

@@ -4,8 +4,7 @@ ghost use Rattle.mld_model.specs.Local.{IsNamed};
 ghost use Rattle.mld_model.specs.World.{clone_count};
 ghost use Rattle.schedule_model.specs.Step.{HasCloneNumbers};
 ghost use Rattle.net_world.specs.Commands.{Answered};
-ghost use Rattle.net_world.specs.Unbuilt.{HasStopCause};
-ghost use Rattle.net_world.specs.WorldParts.{HasStepLeft, KeepsDomain};
+ghost use Rattle.net_world.specs.WorldParts.{HasStepLeft, KeepsDomain, HasFaultCause};
 
 use crate::ask::ask;
 use crate::changes::{add, remove};
@@ -19,6 +18,7 @@ use crate::parts::Parts;
 use crate::replies::tell;
 use crate::show::show;
 use crate::stopping::stop;
+use crate::truncate::truncate;
 use mld_io::{Banks, CrashBanks};
 use schedule_model::Command;
 use std::alloc::Global;
@@ -38,7 +38,7 @@ pub fn answer<R: Threads, B: CrashBanks>(
     requires numbers { HasCloneNumbers command.now }
     ensures keeps { KeepsDomain B.meter parts.old parts.new }
     ensures done { OnOk result (Answered B.log parts.old command.now parts.new out.old.items out.new.items) }
-    ensures cause { IfErr result (HasStopCause B.log B.meter parts.old command.now parts.new) }
+    ensures cause { IfErr result (HasFaultCause B.meter parts.old parts.new) }
 {
     match command {
         Command::Add(number, triple) => tell(alloc, out, add(alloc, parts, *number, triple)),
@@ -49,6 +49,9 @@ pub fn answer<R: Threads, B: CrashBanks>(
         Command::Join(number) => tell(alloc, out, join(alloc, parts, *number)),
         Command::Ask(number) => tell(alloc, out, ask(alloc, parts, *number)),
         Command::Compact(number) => tell(alloc, out, compact(alloc, parts, *number)),
+        Command::Truncate(number, keep) => {
+            tell(alloc, out, truncate(alloc, parts, *number, *keep))
+        }
         Command::Stop(number) => tell(alloc, out, Ok(stop(parts, *number))),
         Command::Open(number) => tell(alloc, out, open(rt, alloc, parts, *number)),
         Command::Show(number) => tell(alloc, out, Ok(show(parts, *number))),

@@ -1,20 +1,15 @@
 //! The command `deliver`.
-ghost use Rattle.std.specs.Prelude.{◌≡◌, ◌<◌, None, vec_len, map, option_copied, IfOk, IfErr, OnOk};
-ghost use Rattle.mld_ops.specs.Entry.{EntryValue};
+ghost use Rattle.std.specs.Prelude.{◌≡◌, ◌≢◌, ◌<◌, ◌^◌, ◌-◌, None, vec_len, map, option_copied, IfOk, IfErr, OnOk};
 ghost use Rattle.mld_ops.specs.Messages.{message_value, IsGoodMessage};
-ghost use Rattle.mld_ops.specs.declared.messages.Message.TheVariants as messages;
 ghost use Rattle.mld_model.specs.declared.CloneState.TheVariants as kinds;
-ghost use Rattle.mld_model.specs.Local.{IsForeign};
 ghost use Rattle.schedule_model.specs.declared.Command.TheVariants as commands;
 ghost use Rattle.clone_core.specs.Banked.{BankedAsker};
-ghost use Rattle.clone_core.specs.Closing.{StaysOpen};
-ghost use Rattle.net_world.specs.Delivering.{IsFitFor, ReceivesAt, ReceivesLive, StaysBehind, IsToldOf, SendsAnswers};
+ghost use Rattle.net_world.specs.Delivering.{IsForeignTo, IsFitFor, ReceivesAt, ReceivesLive, IsToldOf, SendsAnswers};
 ghost use Rattle.net_world.specs.States.{HasState};
-ghost use Rattle.net_world.specs.WorldBanks.{in_memory, banks_of_state, MetersGoOn, GoesOn, FailsAt, FailsAmong, IsCarriedAt};
+ghost use Rattle.net_world.specs.WorldBanks.{in_memory, banks_of_state, MetersGoOn, GoesOn, FailsAt, FailsAmong, StaysOpenNext, IsCarriedAt};
 ghost use Rattle.mld_model.specs.World.{numbered};
 ghost use Rattle.net_world.specs.declared.faults.WorldFault.TheVariants.{NoMemory};
-ghost use Rattle.net_world.specs.Unbuilt.{HasStopCause};
-ghost use Rattle.net_world.specs.WorldParts.{HasStepLeft, KeepsDomain, Does};
+ghost use Rattle.net_world.specs.WorldParts.{HasStepLeft, KeepsDomain, HasFaultCause, Does};
 
 use crate::faults::{WorldFault, made_fault};
 use crate::parts::Parts;
@@ -34,8 +29,6 @@ enum Received {
     Told(Reply<'static>),
     /// It sends messages.
     Sends(Messages),
-    /// It would have to send a snapshot, to one who lacks dots of its base.
-    FromBehind,
 }
 
 /// Message `message` comes to clone `number`.
@@ -50,7 +43,7 @@ pub fn deliver<R: Threads, B: CrashBanks>(
     requires number { number < vec_len parts.old.clones }
     ensures keeps { KeepsDomain B.meter parts.old parts.new }
     ensures done { IfOk result (Does B.log parts.old (commands.Deliver message number) parts.new) }
-    ensures cause { IfErr result (HasStopCause B.log B.meter parts.old (commands.Deliver message number) parts.new) }
+    ensures cause { IfErr result (HasFaultCause B.meter parts.old parts.new) }
 {
     let Some(message) = message_at(parts.messages.as_slice(), message) else {
         return Ok(Reply::NoMessage);
@@ -58,7 +51,6 @@ pub fn deliver<R: Threads, B: CrashBanks>(
     match receive_at(rt, alloc, &mut parts.clones, number, message) {
         Ok(Received::Told(reply)) => Ok(reply),
         Ok(Received::Sends(answers)) => send_answers(&mut parts.messages, answers),
-        Ok(Received::FromBehind) => Err(WorldFault::Unbuilt),
         Err(error) => Err(error),
     }
 }
@@ -82,7 +74,6 @@ fn receive_at<R: Threads, B: CrashBanks>(
     requires number { number < vec_len clones.old }
     requires fit { IsFitFor clones.old.items number (message_value message.now) }
     ensures ok { IfOk result (ReceivesAt (map in_memory clones.old.items) (map in_memory clones.new.items) number message.now) }
-    ensures behind { IfOk result (StaysBehind clones.old.items clones.new.items) }
     ensures carried { OnOk result (IsCarriedAt clones.old.items clones.new.items number) }
     ensures meters { MetersGoOn B.meter (map banks_of_state clones.old.items) (map banks_of_state clones.new.items) }
     ensures cause { IfErr result (FailsAmong B.meter clones.old.items clones.new.items) }
@@ -94,7 +85,7 @@ fn receive_at<R: Threads, B: CrashBanks>(
     }
 }
 
-/// A live clone receives a message.
+/// A live clone, which has a generation left, receives a message.
 fn receive_live<R: Threads, B: CrashBanks>(
     rt: &R,
     alloc: Global,
@@ -102,17 +93,18 @@ fn receive_live<R: Threads, B: CrashBanks>(
     clone: &mut MldClone<B>,
     message: &Message,
 ) -> Result<Received, WorldFault>
-    requires own { (entry : EntryValue) → message.now ≡ messages.Range entry → ¬ IsForeign clone.old.local entry }
+    requires own { ¬ IsForeignTo clone.old.local (message_value message.now) }
     requires opened { clone.old.closed ≡ None }
+    requires left { clone.old.generation ≢ 2 ^ 64 - 1 }
     requires good { IsGoodMessage (message_value message.now) }
     ensures ok { IfOk result (ReceivesLive clone.old.local message.now clone.new.local) }
-    ensures behind { IfOk result (StaysBehind clone.old clone.new) }
-    ensures opened { OnOk result (StaysOpen clone.old clone.new) }
+    ensures opened { OnOk result (StaysOpenNext clone.old clone.new) }
     ensures meter { GoesOn (B.meter clone.old.banks) (B.meter clone.new.banks) }
     ensures cause { IfErr result (FailsAt number (B.meter clone.old.banks) (B.meter clone.new.banks)) }
 {
     match clone.receive(rt, alloc, message) {
         Ok(Got::Took(ranges)) => Ok(Received::Told(Reply::Took(ranges))),
+        Ok(Got::Merged(ranges)) => Ok(Received::Told(Reply::Merged(ranges))),
         Ok(Got::Held) => Ok(Received::Told(Reply::Held)),
         Ok(Got::Known) => Ok(Received::Told(Reply::Known)),
         Ok(Got::Nothing) => Ok(Received::Told(Reply::Nothing)),
@@ -120,11 +112,11 @@ fn receive_live<R: Threads, B: CrashBanks>(
         Ok(Got::Answer(answers)) => Ok(Received::Sends(answers)),
         Err(ReceiveFault::HeldFull) => Ok(Received::Told(Reply::HeldFull)),
         Err(ReceiveFault::Deep) => Ok(Received::Told(Reply::Deep)),
-        Err(ReceiveFault::FromBehind) => Ok(Received::FromBehind),
         Err(ReceiveFault::NoMemory) => Err(WorldFault::NoMemory),
         Err(ReceiveFault::Device) => Err(WorldFault::Device { clone: number }),
         Err(ReceiveFault::Closed { .. }) => unreachable!(),
         Err(ReceiveFault::ForeignTick { .. }) => unreachable!(),
+        Err(ReceiveFault::GenerationsSpent) => unreachable!(),
     }
 }
 
@@ -139,7 +131,6 @@ fn receive_asking<R: Threads, B: CrashBanks>(
     requires asks { (asking : BankedAsker B) × HasState clones.old.items number (kinds.Asking asking) }
     requires good { IsGoodMessage (message_value message.now) }
     ensures ok { IfOk result (ReceivesAt (map in_memory clones.old.items) (map in_memory clones.new.items) number message.now) }
-    ensures behind { IfOk result (StaysBehind clones.old.items clones.new.items) }
     ensures carried { OnOk result (IsCarriedAt clones.old.items clones.new.items number) }
     ensures meters { MetersGoOn B.meter (map banks_of_state clones.old.items) (map banks_of_state clones.new.items) }
     ensures cause { IfErr result (FailsAmong B.meter clones.old.items clones.new.items) }

@@ -15,9 +15,6 @@ pub enum WorldFault {
         /// The number of the clone.
         clone: u8,
     },
-    /// A clone would have to send a snapshot, to one who lacks dots of its base.
-    #[error("this is not built yet")]
-    Unbuilt,
     /// Memory ran out.
     #[error("out of memory")]
     NoMemory,

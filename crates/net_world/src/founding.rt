@@ -43,7 +43,6 @@ pub fn found_clones<R: Threads, B: CrashBanks>(
     match found_each(rt, alloc, setup, &mut clones) {
         Ok(()) => Ok(clones),
         Err(WorldFault::NoMemory) => Err((WorldFault::NoMemory, Vec::new(alloc))),
-        Err(WorldFault::Unbuilt) => unreachable!(),
         Err(WorldFault::Device { clone }) => {
             stop_all(clones, &mut back);
             Err((WorldFault::Device { clone }, back))
@@ -217,7 +216,7 @@ fn given_leaf<R: Threads, B: CrashBanks>(
         Err(ReceiveFault::ForeignTick { .. }) => unreachable!(),
         Err(ReceiveFault::HeldFull) => unreachable!(),
         Err(ReceiveFault::Deep) => unreachable!(),
-        Err(ReceiveFault::FromBehind) => unreachable!(),
+        Err(ReceiveFault::GenerationsSpent) => unreachable!(),
     }
 }
 

@@ -17,6 +17,7 @@ mod show;
 mod states;
 mod stopping;
 mod summaries;
+mod truncate;
 mod worlds;
 
 pub use faults::WorldFault;

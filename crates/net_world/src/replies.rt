@@ -1,8 +1,9 @@
 //! Replies, and their text: lines that end with LF, added at the end of an output.
-ghost use Rattle.std.specs.Prelude.{◌≡◌, ◌++◌, OnOk, IfErr};
+ghost use Rattle.std.specs.Prelude.{◌≡◌, ◌++◌, ◌∷◌, [], OnOk, IfErr};
 ghost use Rattle.std.specs.List.{flat_map, range_with_len};
 ghost use Rattle.chunked_list.specs.Joined.{joined_chunks};
-ghost use Rattle.mld_model.specs.Reply.{Ready, Did, Took, Sent, Answer, Kept, Joined, Shows};
+ghost use Rattle.mld_model.specs.Reply.{Ready, Did, Sent, Answer, Kept, Joined, Shows};
+ghost use Rattle.schedule_model.specs.Characters.{line_end};
 ghost use Rattle.schedule_model.specs.ReplyText.{reply_text, pair_line, spaced_range, spaced_message};
 ghost use Rattle.net_world.specs.Replies.{reply_value, TellsReply, FailsToTell, numbers_between};
 
@@ -30,11 +31,13 @@ pub enum Reply<'a> {
     NoOperation,
     /// `took`, then each range: the ranges were taken, in this order.
     Took(Ranges),
+    /// `merged`, then each range: a snapshot was merged, and these ranges were taken then that had been held back, in this order.
+    Merged(Ranges),
     /// `held`: the range is held back.
     Held,
     /// `held full`: the range would be held back, and too many are.
     HeldFull,
-    /// `known`: the range was known.
+    /// `known`: the range was known, or all that the snapshot has.
     Known,
     /// `has K`, then a line of dot and triple for each pair: these are the pairs of the clone.
     Shows(&'a Graph),
@@ -57,7 +60,7 @@ pub enum Reply<'a> {
     },
     /// `nothing`: who asked lacks nothing of what the clone keeps in its journal.
     Nothing,
-    /// `kept K`: the journal was compacted, and so many ranges are kept in it.
+    /// `kept K`: the journal was compacted or truncated, and so many ranges are kept in it.
     Kept(u64),
     /// `joined P`: the clone is live at the path.
     Joined(Path),
@@ -104,7 +107,8 @@ pub fn push_reply(alloc: Global, out: &mut Vec<u8>, reply: &Reply<'_>) -> Result
         Reply::Ready(count) => push_ready(alloc, out, *count),
         Reply::Did { dot, message } => push_did(alloc, out, dot, *message),
         Reply::NoOperation => out.extend_from_slice(b"none\n"),
-        Reply::Took(ranges) => push_took(alloc, out, ranges.as_slice()),
+        Reply::Took(ranges) => push_ranges(alloc, out, b"took", ranges.as_slice()),
+        Reply::Merged(ranges) => push_ranges(alloc, out, b"merged", ranges.as_slice()),
         Reply::Held => out.extend_from_slice(b"held\n"),
         Reply::HeldFull => out.extend_from_slice(b"held full\n"),
         Reply::Known => out.extend_from_slice(b"known\n"),
@@ -195,11 +199,16 @@ fn push_message(alloc: Global, out: &mut Vec<u8>, number: usize) -> Result<(), A
     out.extend_from_slice(number.as_bytes())
 }
 
-/// `took`, then each range.
-fn push_took(alloc: Global, out: &mut Vec<u8>, ranges: &[Range]) -> Result<(), AllocError>
-    ensures { OnOk result (out.new.items ≡ out.old.items ++ reply_text (Took ranges.now)) }
+/// A word, then each range.
+fn push_ranges(
+    alloc: Global,
+    out: &mut Vec<u8>,
+    word: &[u8],
+    ranges: &[Range],
+) -> Result<(), AllocError>
+    ensures { OnOk result (out.new.items ≡ out.old.items ++ (word.now ++ (flat_map spaced_range ranges.now ++ line_end ∷ []))) }
 {
-    out.extend_from_slice(b"took")?;
+    out.extend_from_slice(word)?;
     for range in ranges {
         push_range(alloc, out, range)?;
     }

@@ -43,7 +43,6 @@ impl<B: CrashBanks> World<B> {
     ghost use Rattle.iri_rules.specs.Domain.{is_domain};
     ghost use Rattle.mld_model.specs.World.{World as ModelWorld, clone_count};
     ghost use Rattle.net_world.specs.Founding.{RefusesFounding};
-    ghost use Rattle.net_world.specs.Unbuilt.{LeavesUnbuilt};
     ghost use Rattle.net_world.specs.WorldBanks.{StandsOnBanks, AllBanksStandFor, banks_of, MetersGoOn, HasFailed, memory_of};
     ghost use Rattle.schedule_model.specs.Runs.{founded_by};
     ghost use Rattle.schedule_model.specs.Schedule.{IsSetup};
@@ -117,8 +116,7 @@ impl<B: CrashBanks> World<B> {
     ///
     /// # Errors
     ///
-    /// `Device` where the device of the clone failed; `Unbuilt` where a clone would have to send a snapshot, and the world is as it
-    /// was; and `NoMemory`.
+    /// `Device` where the device of the clone failed; and `NoMemory`.
     pub fn step<R: Threads>(
         &mut self,
         rt: &R,
@@ -133,7 +131,6 @@ impl<B: CrashBanks> World<B> {
         ensures standing { OnOk result (IsStanding B.log self.new) }
         ensures steps { OnOk result (self.new.steps ≡ self.old.steps + 1) }
         ensures meters { MetersGoOn B.meter (banks_of self.old) (banks_of self.new) }
-        ensures unbuilt { IsErrOf result WorldFault.Unbuilt → LeavesUnbuilt B.log self.old command.now self.new }
         ensures device { (clone : ℕ) → IsErrOf result (WorldFault.Device clone) → HasFailed B.meter clone (banks_of self.old) (banks_of self.new) }
     {
         answer(rt, alloc, &mut self.parts, command, out)?;

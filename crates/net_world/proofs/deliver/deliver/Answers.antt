@@ -2,14 +2,13 @@ use Rattle.std.proofs.Common.{◌∙◌, List, ap, sym, subst, refl, map}
 use Rattle.std.proofs.lemmas.Result.{IfOk-weaker}
 use Rattle.mld_ops.specs.declared.messages.Message.{Message}
 use Rattle.mld_model.specs.World.{numbered}
-use Rattle.schedule_model.specs.declared.Command.TheVariants.{Deliver}
 use Rattle.net_world.specs.declared.deliver.Received.{Received}
 use Rattle.net_world.specs.declared.deliver.Received.TheVariants as received
-use Rattle.net_world.specs.Delivering.{ReceivesAt, StaysBehind}
+use Rattle.net_world.specs.Delivering.{ReceivesAt}
 use Rattle.net_world.specs.WorldBanks.{in_memory}
 use Rattle.net_world.proofs.BankLemmas.{cause_memory}
-use Rattle.net_world.proofs.DeliverLemmas.{is_fit, deliver_done, deliver_behind, deliver_none}
-use Rattle.net_world.proofs.WorldLemmas.{keeps_meters, keeps_still, stop_cause, stop_causes}
+use Rattle.net_world.proofs.DeliverLemmas.{is_fit, deliver_done, deliver_none}
+use Rattle.net_world.proofs.WorldLemmas.{keeps_meters, keeps_still}
 use Rattle.net_world.proofs.deliver.deliver.Goals as goal
 
 pub returns-in_default : goal.returns-in_default
@@ -46,25 +45,12 @@ returns-in-Ok-Sends g c =
           (sym (c.in-Some.ensures ∙ ap (λ (ms : List Message). numbered ms c.args.message) c.as_slice.ensures.value))
           (subst P c.in-Ok-Sends.field-0-is c.in-Ok-Sends.ensures.ok) (λ steps. h) c.in-Ok-Sends.ensures.carried)
           c.send_answers.ensures.sent;
-      cause = stop_causes g.B.Banks.log g.B.Banks.meter c.args.parts.now (Deliver c.args.message c.args.number) _ c.send_answers.result
-          (cause_memory g.B.Banks.meter c.args.parts.now.clones.items c.receive_at.new.clones.items c.send_answers.result c.send_answers.ensures.memory);
-    }
-
-pub returns-in-Ok-FromBehind : goal.returns-in-Ok-FromBehind
-returns-in-Ok-FromBehind g c =
-    let P : Received → Type 0 = λ answer. ReceivesAt (map in_memory c.args.parts.now.clones.items) (map in_memory c.receive_at.new.clones.items) c.args.number c.in-Some.message.now answer in
-    let Q : Received → Type 0 = λ answer. StaysBehind c.args.parts.now.clones.items c.receive_at.new.clones.items answer in
-    record {
-      keeps = keeps_meters g.B.Banks.log g.B.Banks.meter c.args.parts.now _ refl refl c.receive_at.ensures.meters;
-      done = tt;
-      cause = deliver_behind g.B.Banks.log g.B.Banks.meter c.args.parts.now _ refl refl c.args.message c.args.number c.in-Some.message.now
-          (sym (c.in-Some.ensures ∙ ap (λ (ms : List Message). numbered ms c.args.message) c.as_slice.ensures.value))
-          (subst P c.in-Ok-FromBehind.field-0-is c.in-Ok-FromBehind.ensures.ok) (subst Q c.in-Ok-FromBehind.field-0-is c.in-Ok-FromBehind.ensures.behind) refl;
+      cause = cause_memory g.B.Banks.meter c.args.parts.now.clones.items c.receive_at.new.clones.items c.send_answers.result c.send_answers.ensures.memory;
     }
 
 pub returns-in-Err : goal.returns-in-Err
 returns-in-Err g c = record {
   keeps = keeps_meters g.B.Banks.log g.B.Banks.meter c.args.parts.now _ refl refl c.receive_at.ensures.meters;
   done = tt;
-  cause = stop_cause g.B.Banks.log g.B.Banks.meter c.args.parts.now (Deliver c.args.message c.args.number) _ c.in-Err.error c.in-Err.ensures.cause;
+  cause = c.in-Err.ensures.cause;
 }

@@ -1,6 +1,6 @@
 use Rattle.std.proofs.Common.{◌≡◌, ◌∙◌, set}
 use Rattle.mld_model.specs.declared.CloneState.TheVariants as states
-use Rattle.net_world.proofs.DeliverLemmas.{asking_becomes, asking_received, asking_behind, asking_carried, asking_on, asking_fails}
+use Rattle.net_world.proofs.DeliverLemmas.{asking_becomes, asking_received, asking_carried, asking_on, asking_fails}
 use Rattle.net_world.proofs.BankLemmas.{meters_set, cause_set}
 use Rattle.net_world.proofs.deliver.receive_asking.Goals as goal
 
@@ -19,7 +19,6 @@ returns g c =
     let becomes = asking_becomes meter old new number asking sent told at now in
     record {
       ok = asking_received meter old new number asking sent what told at now c.receive.ensures.adopts c.told_of-state.ensures;
-      behind = asking_behind meter old new number asking sent what told c.told_of-state.ensures;
       carried = asking_carried meter old new number asking sent what told at now c.receive.ensures.adopts c.told_of-state.ensures;
       meters = meters_set meter old new number (states.Asking asking) told.0 becomes (asking_on meter old new number asking sent what told c.told_of-state.ensures c.receive.ensures.meter);
       cause = cause_set meter old new number (states.Asking asking) told.0 told.1 becomes (asking_fails meter old new number asking sent what told c.told_of-state.ensures c.receive.ensures.meter);

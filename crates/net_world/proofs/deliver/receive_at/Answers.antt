@@ -1,23 +1,22 @@
 use Rattle.std.proofs.Common.{arith, ap, refl, sym, subst, List, ℕ, map, set}
 use Rattle.std.proofs.lemmas.Result.{IfOk-weaker, on_ok_weaker}
-use Rattle.mld_ops.specs.Messages.{message_value}
-use Rattle.mld_ops.specs.declared.messages.Message.{Message}
 use Rattle.mld_model.specs.declared.CloneState.TheVariants as states
 use Rattle.net_world.specs.Delivering.{WhereAway, WhereLive}
 use Rattle.net_world.specs.Replies.{reply_value}
 use Rattle.net_world.specs.States.{HasState, Becomes}
 use Rattle.net_world.specs.WorldBanks.{BankedState, in_memory, banks_of_state}
 use Rattle.net_world.proofs.Places.{place_read, read_back}
-use Rattle.net_world.proofs.BankLemmas.{memory_at, memory_becomes, meters_set, cause_set, goes_on_same, stays_next}
-use Rattle.net_world.proofs.DeliverLemmas.{away_reply, away_carried, behind_set}
+use Rattle.net_world.proofs.BankLemmas.{memory_at, memory_becomes, meters_set, cause_set, goes_on_same, next_open}
+use Rattle.net_world.proofs.DeliverLemmas.{away_reply, away_carried}
 use Rattle.net_world.proofs.deliver.receive_at.Goals as goal
 
 pub receive_live-requires : goal.receive_live-requires
 receive_live-requires g c =
     let at = place_read c.args.clones.now.items c.args.number c.from.result c.index_mut.result.now (states.Live c.in-Live.clone) c.from.ensures (omega (arith, c.requires.number)) c.index_mut.ensures.value c.in-Live.is in
     record {
-      own = λ entry is. c.requires.fit.own c.in-Live.clone entry at (ap (λ (m : Message). message_value m) is);
+      own = c.requires.fit.own c.in-Live.clone at;
       opened = c.requires.fit.opened c.in-Live.clone at;
+      left = c.requires.fit.left c.in-Live.clone at;
       good = c.requires.fit.good;
     }
 
@@ -41,11 +40,8 @@ returns-in-Live g c =
           (λ answer h. WhereLive (record { local = before.local }) (record { local = after.local })
           (memory_becomes old (set old c.from.result (states.Live after)) number (states.Live before) (states.Live after) becomes) h)
           c.receive_live.ensures.ok;
-      behind = IfOk-weaker c.receive_live.result _ _ (λ answer same.
-          behind_set old c.from.result c.index_mut.result.now before after answer c.index_mut.ensures.value c.in-Live.is same)
-          c.receive_live.ensures.behind;
       carried = on_ok_weaker c.receive_live.result
-          (λ opened. record { state = states.Live after; now = becomes.now; carried = stays_next old number before after becomes.was opened }) c.receive_live.ensures.opened;
+          (λ opened. record { state = states.Live after; now = becomes.now; carried = next_open old number before after becomes.was opened }) c.receive_live.ensures.opened;
       meters = meters_set g.B.Banks.meter old (set old c.from.result (states.Live after)) number (states.Live before) (states.Live after) becomes c.receive_live.ensures.meter;
       cause = cause_set g.B.Banks.meter old (set old c.from.result (states.Live after)) number (states.Live before) (states.Live after) c.receive_live.result becomes c.receive_live.ensures.cause;
     }
@@ -63,7 +59,6 @@ returns-in_default g c =
       ok = WhereAway (in_memory state) (memory_at old number state becomes.was)
           (away_reply state (reply_value c.state_reply.result) c.state_reply.ensures c.in_default.not-Live c.in_default.not-Asking)
           (ap (λ (l : List (BankedState g.row.B.Denot)). map in_memory l) (read_back old c.from.result state c.index_mut.ensures.value));
-      behind = tt;
       carried = record { state = state; now = becomes.now; carried = away_carried old number state becomes.was c.in_default.not-Live };
       meters = meters_set g.B.Banks.meter old (set old c.from.result state) number state state becomes (goes_on_same (g.B.Banks.meter (banks_of_state state)));
       cause = tt;

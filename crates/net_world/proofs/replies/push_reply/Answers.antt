@@ -75,3 +75,11 @@ returns-in-Nothing c = word_pushed c.extend_from_slice-in-Nothing.result c.args.
 pub returns-in-Opened : goal.returns-in-Opened
 unfolding reply_text
 returns-in-Opened c = word_pushed c.extend_from_slice-in-Opened.result c.args.out.now.items _ _ _ c.extend_from_slice-in-Opened.ensures.items (sym (ap (λ w. reply_text (reply_value w)) c.in-Opened.is))
+
+pub returns-in-Took : goal.returns-in-Took
+unfolding reply_text
+returns-in-Took c = search rules
+
+pub returns-in-Merged : goal.returns-in-Merged
+unfolding reply_text
+returns-in-Merged c = search rules
