@@ -251,12 +251,12 @@ stops_bad log given left rest before now size grown running done line way takes 
 
 -- a line that was taken isn't built
 pub stops_unbuilt : {B : Type 0} (log : B → Option Log) (given left rest before now : Option (List ℕ)) (size grown : ℕ) (running : RunningStage B) (done : ℕ) (line : List ℕ) → IsUnderWay log given left before now size running done
-    → ((bytes : List ℕ) → left ≡ Some bytes → TakesLine size bytes rest grown (Some line)) → ((stage : Stage) → StageStands log running stage → IsUnbuilt stage line)
+    → ((bytes : List ℕ) → left ≡ Some bytes → TakesLine size bytes rest grown (Some line)) → IsUnbuilt line
     → (bytes : List ℕ) → given ≡ Some bytes → StopsAtUnbuilt bytes (done + 1) before now
 unfolding Verdict
 stops_unbuilt log given left rest before now size grown running done line way takes unbuilt bytes is =
     let b = before_line log given left rest before now size grown running done line way takes bytes is in
-    record { text = way.text; stage = way.stage; verdict = record { before = b.0; line = line; first = b.1; unbuilt = unbuilt way.stage way.stands }; fits = b.2; written = way.written }
+    record { text = way.text; stage = way.stage; verdict = record { before = b.0; line = line; first = b.1; unbuilt = unbuilt }; fits = b.2; written = way.written }
 
 -- the line of the number is too large
 pub stops_large : {B : Type 0} (log : B → Option Log) (given left before now : Option (List ℕ)) (size : ℕ) (running : RunningStage B) (done number : ℕ) → IsUnderWay log given left before now size running done → number ≡ done + 1
@@ -334,7 +334,7 @@ stops_bad_at {B = B} log given left rest before now size grown running done take
 
 pub stops_unbuilt_at : {B : Type 0} (log : B → Option Log) (given left rest before now : Option (List ℕ)) (size grown : ℕ) (running : RunningStage B) (done : ℕ) (taken : Option (List ℕ)) (piece line : List ℕ) (at : ℕ)
     → IsUnderWay log given left before now size running done → taken ≡ Some piece → line ≡ piece → ((bytes : List ℕ) → left ≡ Some bytes → TakesLine size bytes rest grown taken)
-    → at ≡ done + 1 → ((stage : Stage) → StageStands log running stage → IsUnbuilt stage line)
+    → at ≡ done + 1 → IsUnbuilt line
     → (bytes : List ℕ) → given ≡ Some bytes → StopsAtUnbuilt bytes at before now
 stops_unbuilt_at log given left rest before now size grown running done taken piece line at way is same takes counts unbuilt bytes told =
     let P : ℕ → Type 0 = λ n. StopsAtUnbuilt bytes n before now in

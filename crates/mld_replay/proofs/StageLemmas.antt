@@ -1,33 +1,25 @@
 -- What a line makes of a schedule's state, and what its end does.
-use Rattle.std.proofs.Common.{◌≡◌, ℕ, List, [], zero, suc, inl, inr, refl, sym, subst, length, Option, None, Some, Vec, Global}
-use Rattle.std.specs.Prelude.{Result, Ok, Err, IfOk, IfErr}
+use Rattle.std.proofs.Common.{◌≡◌, ℕ, List, [], refl, sym, subst, length, Option, None, Some, Vec, Global}
+use Rattle.std.specs.Prelude.{Result, Ok, Err, IfOk}
 use Rattle.mld_io.specs.Disk.{Log}
 use Rattle.schedule_model.specs.declared.Command.{Command}
-use Rattle.schedule_model.specs.declared.Command.TheVariants.{Deliver}
 use Rattle.mld_model.specs.World.{World, clone_count}
 use Rattle.mld_model.specs.Reply.{Ready}
 use Rattle.mld_model.specs.Sound.{IsSound}
 use Rattle.mld_model.proofs.FoundedLaws.{founded_sound}
 use Rattle.schedule_model.specs.ReplyText.{reply_text}
-use Rattle.schedule_model.specs.Runs.{Stage, Waiting, SetUp, Running, founded_by, IsWorldOf, says_nothing, sets_up, commands, DeliversFromBehind, IsBad}
-use Rattle.schedule_text.specs.declared.refusals.LineRefusal.{LineRefusal}
-use Rattle.schedule_text.specs.declared.refusals.LineRefusal.TheVariants as refusals
+use Rattle.schedule_model.specs.Runs.{Stage, Waiting, SetUp, Running, founded_by, IsWorldOf, says_nothing, sets_up, commands}
 use Rattle.schedule_text.specs.declared.setups.Setup.{Setup}
 use Rattle.schedule_text.specs.declared.setups.SetupLine.{SetupLine}
 use Rattle.schedule_text.specs.declared.setups.SetupLine.TheVariants as lines
 use Rattle.schedule_model.specs.Schedule.{Setup as ModelSetup, SpellsSetup, SpellsCommand, IsSetup}
 use Rattle.rdf_terms.specs.Order.{iri_cmp}
 use Rattle.tree_clock.specs.Lists.{IsAscending}
-use Rattle.schedule_text.specs.ReadLines.{setup_of, SetupIs, CommandIs, IsBadCommand}
+use Rattle.schedule_text.specs.ReadLines.{setup_of, SetupIs, CommandIs}
 use Rattle.net_world.specs.WorldBanks.{BankedWorld, StandsOnBanks}
-use Rattle.net_world.specs.Unbuilt.{LacksSnapshot, LeavesUnbuilt}
 use Rattle.net_world.specs.Worlds.{Stepped, FollowsOnBanks}
-use Rattle.net_world.specs.declared.faults.WorldFault.{WorldFault}
-use Rattle.net_world.specs.declared.faults.WorldFault.TheVariants as worlds
-use Rattle.mld_replay.specs.Stages.{StageStands, IsStandingStage, IsSetUpState, IsWorldStop, IsCommandStop, ActsWell, EndsWell}
-use Rattle.mld_replay.specs.Stops.{stop_of, stop_of_world}
+use Rattle.mld_replay.specs.Stages.{StageStands, IsStandingStage, ActsWell, EndsWell}
 use Rattle.mld_replay.specs.declared.stops.LineStop.{LineStop}
-use Rattle.mld_replay.specs.declared.stops.LineStop.TheVariants as stops
 use Rattle.mld_replay.specs.declared.stages.Stage.{Stage as RunningStage}
 use Rattle.mld_replay.specs.declared.stages.Stage.TheVariants as stages
 
@@ -119,88 +111,6 @@ pub nothing_said : {B : Type 0} (log : B → Option Log) (stage : Stage) (line :
 nothing_said log stage line read running is reads stands =
     let P : Option Command → Type 0 = λ c. CommandIs line c in
     record { next = stage; acts = says_nothing (subst P is reads) refl refl; stands = stands }
-
--- ---- a line that isn't done
-
--- it is bad, whether the clones are founded or not
-pub bad_set_up : (line : List ℕ) → IsBadCommand line → (setup : ModelSetup) → IsBad (SetUp setup) line
-bad_set_up line bad setup = (bad.0, λ unbuilt. elim unbuilt [ inl word ↦ bad.1 word | inr none ↦ none ], bad.2)
-
-pub bad_running : (line : List ℕ) → IsBadCommand line → (world : World) → IsBad (Running world) line
-bad_running line bad world = (
-  bad.0,
-  λ unbuilt. elim unbuilt [ inl word ↦ bad.1 word | inr wants ↦ bad.2 (Deliver wants.message wants.number) wants.spells ],
-  bad.2,
-)
-
--- its command would have a snapshot sent
-behind_line : (world : World) (line : List ℕ) (command : Command) → SpellsCommand line command → LacksSnapshot world command → DeliversFromBehind world line
-behind_line world line (Deliver message number) spells lacks = record {
-  message = message;
-  number = number;
-  spells = spells;
-  dots = lacks.dots;
-  sent = lacks.sent;
-  stored = lacks.stored;
-  held = lacks.held;
-  live = lacks.live;
-  behind = lacks.behind;
-}
-behind_line world line command spells lacks = absurd lacks
-
-pub unbuilt_line : {B : Type 0} (log : B → Option Log) (line : List ℕ) (read : Option Command) (command : Command) (old new : BankedWorld B) → read ≡ Some command → CommandIs line read
-    → LeavesUnbuilt log old command new → (world : World) → StandsOnBanks log old world → IsSound world → DeliversFromBehind world line
-unbuilt_line log line read command old new is reads leaves world stands sound =
-    behind_line world line command (spells_read line read command is reads) (leaves.lacks world stands sound)
-
--- no snapshot is asked of clones that were just founded: no message is sent yet
-founded_lacks : (setup : ModelSetup) (command : Command) → ¬ LacksSnapshot (founded_by setup) command
-founded_lacks setup (Deliver zero number) lacks = cc (lacks.sent)
-founded_lacks setup (Deliver (suc before) number) lacks = cc (lacks.sent)
-founded_lacks setup command lacks = lacks
-
-started_built : {B : Type 0} (log : B → Option Log) (state : RunningStage B) (command : Command) (world new : BankedWorld B) → IsStandingStage log state → IsSetUpState state
-    → ((stage : Stage) → StageStands log state stage → EndsWell log stage (stages.Running world)) → ¬ LeavesUnbuilt log world command new
-started_built {B = B} log (stages.SetUp setup blanks) command world new standing set_up ends leaves = at standing.stage standing.stands
-  where
-    at : (stage : Stage) → StageStands log (stages.SetUp setup blanks) stage → ⊥
-    at Waiting stands = absurd stands
-    at (Running model) stands = absurd stands
-    at (SetUp model) stands =
-        let ended : EndsWell log (SetUp model) (stages.Running world) = ends (SetUp model) stands in
-        founded_lacks model command (subst (λ w. LacksSnapshot w command) ended.founds (leaves.lacks ended.world ended.stands.0 ended.stands.1))
-started_built log (stages.Waiting blanks) command world new standing set_up ends leaves = set_up
-started_built log (stages.Running running) command world new standing set_up ends leaves = set_up
-started_built log (stages.Over banks) command world new standing set_up ends leaves = set_up
-
--- so their first command isn't refused as one that isn't built
-pub first_stop : {B T : Type 0} (log : B → Option Log) (result : Result T LineStop) (state : RunningStage B) (command : Command) (world new : BankedWorld B) → IsStandingStage log state → IsSetUpState state
-    → ((stage : Stage) → StageStands log state stage → EndsWell log stage (stages.Running world)) → (result ≡ Err stops.Unbuilt → LeavesUnbuilt log world command new)
-    → IfErr result IsCommandStop → IfErr result IsWorldStop
-first_stop log (Ok done) state command world new standing set_up ends unbuilt other = tt
-first_stop log (Err (stops.Device clone)) state command world new standing set_up ends unbuilt other = tt
-first_stop log (Err stops.NoMemory) state command world new standing set_up ends unbuilt other = tt
-first_stop log (Err stops.BadLine) state command world new standing set_up ends unbuilt other = absurd other
-first_stop log (Err stops.Unbuilt) state command world new standing set_up ends unbuilt other = absurd (started_built log state command world new standing set_up ends (unbuilt refl))
-
--- a line that wasn't read was refused so
-pub bad_refusal : {T U : Type 0} (result : Result T LineStop) (passed : LineStop) (refusal : LineRefusal) → result ≡ Err passed → passed ≡ stop_of refusal → result ≡ Err stops.BadLine
-    → ◌≡◌ {A = Result U LineRefusal} (Err refusal) (Err refusals.BadLine)
-bad_refusal result passed refusals.BadLine is from same = refl
-bad_refusal result passed refusals.Unbuilt is from same = absurd (cc (is, from, same))
-bad_refusal result passed refusals.NoMemory is from same = absurd (cc (is, from, same))
-
-pub unbuilt_refusal : {T U : Type 0} (result : Result T LineStop) (passed : LineStop) (refusal : LineRefusal) → result ≡ Err passed → passed ≡ stop_of refusal → result ≡ Err stops.Unbuilt
-    → ◌≡◌ {A = Result U LineRefusal} (Err refusal) (Err refusals.Unbuilt)
-unbuilt_refusal result passed refusals.Unbuilt is from same = refl
-unbuilt_refusal result passed refusals.BadLine is from same = absurd (cc (is, from, same))
-unbuilt_refusal result passed refusals.NoMemory is from same = absurd (cc (is, from, same))
-
--- a world's command isn't built where the line isn't
-pub unbuilt_world : (fault : WorldFault) (stop : LineStop) → stop ≡ stop_of_world fault → stop ≡ stops.Unbuilt → fault ≡ worlds.Unbuilt
-unbuilt_world worlds.Unbuilt stop is same = refl
-unbuilt_world (worlds.Device clone) stop is same = absurd (cc (is, same))
-unbuilt_world worlds.NoMemory stop is same = absurd (cc (is, same))
 
 -- ---- the stage that a state stands for
 

@@ -39,16 +39,11 @@ abbrev pub IsSetUpState : {B : Type 0} → RunningStage B → Type 0
 IsSetUpState (stages.SetUp setup blanks) = Unit {0}
 IsSetUpState state = ⊥
 
--- why a world isn't founded, or its first command not done: a device failed, or there was want of memory
+-- why a world isn't founded, or a command of it not done: a device failed, or there was want of memory
 abbrev pub IsWorldStop : LineStop → Type 0
 IsWorldStop (stops.Device clone) = Unit {0}
 IsWorldStop stops.NoMemory = Unit {0}
 IsWorldStop stop = ⊥
-
--- why any command isn't done: so, or it isn't built
-abbrev pub IsCommandStop : LineStop → Type 0
-IsCommandStop stops.BadLine = ⊥
-IsCommandStop stop = Unit {0}
 
 -- there is a stage that the state stands for
 pub record IsStandingStage {B : Type 0} (log : B → Option Log) (running : RunningStage B) : Type 0 where

@@ -18,7 +18,6 @@ stop_of refusals.NoMemory = stops.NoMemory
 -- nor is one that a world refuses
 abbrev pub stop_of_world : WorldFault → LineStop
 stop_of_world (worlds.Device clone) = stops.Device clone
-stop_of_world worlds.Unbuilt = stops.Unbuilt
 stop_of_world worlds.NoMemory = stops.NoMemory
 
 -- the run ends at the line of the number

@@ -309,7 +309,7 @@ fn do_line<R: Threads, B: CrashBanks>(
     ensures steps { OnOk result (steps_of stage.new ≤ steps_of stage.old + 1) }
     ensures bad { (at : ℕ) → IsErrOf result (RunFault.BadLine at) → (at ≡ number) × ((model : ModelStage) → StageStands B.log stage.old model → IsBad model line.now) }
     ensures kept { (at : ℕ) → IsErrOf result (RunFault.BadLine at) → stage.new ≡ stage.old }
-    ensures unbuilt { (at : ℕ) → IsErrOf result (RunFault.Unbuilt at) → (at ≡ number) × ((model : ModelStage) → StageStands B.log stage.old model → IsUnbuilt model line.now) }
+    ensures unbuilt { (at : ℕ) → IsErrOf result (RunFault.Unbuilt at) → (at ≡ number) × IsUnbuilt line.now }
     ensures meters { ¬ IsErrOf result RunFault.NoMemory → MetersGoOn B.meter (banks_of_stage stage.old) (banks_of_stage stage.new) }
     ensures device { (clone : ℕ) → IsErrOf result (RunFault.Device clone) → HasFailed B.meter clone (banks_of_stage stage.old) (banks_of_stage stage.new) }
     ensures other { IfErr result IsLineFault }

@@ -6,10 +6,9 @@ ghost use Rattle.net_world.specs.WorldBanks.{StandsOnBanks, banks_of, MetersGoOn
 ghost use Rattle.schedule_model.specs.Runs.{Stage as ModelStage, Waiting, Running, IsBad, IsUnbuilt};
 ghost use Rattle.schedule_model.specs.Schedule.{SpellsCommand};
 ghost use Rattle.schedule_model.specs.Step.{HasCloneNumbers};
-ghost use Rattle.net_world.specs.Unbuilt.{LeavesUnbuilt};
 ghost use Rattle.net_world.specs.Worlds.{IsStanding, Stepped};
 ghost use Rattle.tree_clock.specs.Limits.{tick_limit};
-ghost use Rattle.mld_replay.specs.Stages.{StageStands, IsStandingStage, IsSetUpState, IsWorldStop, IsCommandStop, steps_of, banks_of_stage, ActsWell, EndsWell};
+ghost use Rattle.mld_replay.specs.Stages.{StageStands, IsStandingStage, IsSetUpState, IsWorldStop, steps_of, banks_of_stage, ActsWell, EndsWell};
 ghost use Rattle.mld_replay.specs.declared.stages.Stage.TheVariants as stages;
 
 use crate::stops::LineStop;
@@ -47,7 +46,7 @@ pub fn act<R: Threads, B: CrashBanks>(
     ensures steps { OnOk result (steps_of stage.new ≤ steps_of stage.old + 1) }
     ensures bad { IsErrOf result LineStop.BadLine → (model : ModelStage) → StageStands B.log stage.old model → IsBad model line.now }
     ensures kept { IsErrOf result LineStop.BadLine → stage.new ≡ stage.old }
-    ensures unbuilt { IsErrOf result LineStop.Unbuilt → (model : ModelStage) → StageStands B.log stage.old model → IsUnbuilt model line.now }
+    ensures unbuilt { IsErrOf result LineStop.Unbuilt → IsUnbuilt line.now }
     ensures meters { ¬ IsErrOf result LineStop.NoMemory → MetersGoOn B.meter (banks_of_stage stage.old) (banks_of_stage stage.new) }
     ensures device { (clone : ℕ) → IsErrOf result (LineStop.Device clone) → HasFailed B.meter clone (banks_of_stage stage.old) (banks_of_stage stage.new) }
 {
@@ -72,7 +71,7 @@ fn set_up<B: CrashBanks>(
     ensures ok { IfOk result (λ text. ActsWell B.log Waiting line.now text.items stage.new) }
     ensures steps { OnOk result (steps_of stage.new ≡ 0) }
     ensures bad { IsErrOf result LineStop.BadLine → IsBad Waiting line.now }
-    ensures unbuilt { IsErrOf result LineStop.Unbuilt → IsUnbuilt Waiting line.now }
+    ensures unbuilt { IsErrOf result LineStop.Unbuilt → IsUnbuilt line.now }
     ensures kept { OnErr result (stage.new ≡ stage.old) }
     ensures banks { banks_of_stage stage.new ≡ banks_of_stage stage.old }
     ensures device { (clone : ℕ) → ¬ IsErrOf result (LineStop.Device clone) }
@@ -174,7 +173,7 @@ fn command<R: Threads, B: CrashBanks>(
     ensures steps { OnOk result (world.new.steps ≤ world.old.steps + 1) }
     ensures bad { IsErrOf result LineStop.BadLine → (model : ModelWorld) → IsBad (Running model) line.now }
     ensures kept { IsErrOf result LineStop.BadLine → world.new ≡ world.old }
-    ensures unbuilt { IsErrOf result LineStop.Unbuilt → (model : ModelWorld) → StandsOnBanks B.log world.old model → IsSound model → IsUnbuilt (Running model) line.now }
+    ensures unbuilt { IsErrOf result LineStop.Unbuilt → IsUnbuilt line.now }
     ensures meters { MetersGoOn B.meter (banks_of world.old) (banks_of world.new) }
     ensures device { (clone : ℕ) → IsErrOf result (LineStop.Device clone) → HasFailed B.meter clone (banks_of world.old) (banks_of world.new) }
 {
@@ -198,8 +197,7 @@ fn step<R: Threads, B: CrashBanks>(
     ensures steps { OnOk result (world.new.steps ≡ world.old.steps + 1) }
     ensures meters { MetersGoOn B.meter (banks_of world.old) (banks_of world.new) }
     ensures device { (clone : ℕ) → IsErrOf result (LineStop.Device clone) → HasFailed B.meter clone (banks_of world.old) (banks_of world.new) }
-    ensures unbuilt { IsErrOf result LineStop.Unbuilt → LeavesUnbuilt B.log world.old command.now world.new }
-    ensures other { IfErr result IsCommandStop }
+    ensures other { IfErr result IsWorldStop }
 {
     let mut text = Vec::new(alloc);
     world.step(rt, alloc, command, &mut text)?;

@@ -45,7 +45,6 @@ impl From<WorldFault> for LineStop {
     fn from(fault: WorldFault) -> LineStop {
         match fault {
             WorldFault::Device { clone } => LineStop::Device(clone),
-            WorldFault::Unbuilt => LineStop::Unbuilt,
             WorldFault::NoMemory => LineStop::NoMemory,
         }
     }

@@ -1,5 +1,5 @@
 use Rattle.std.proofs.Common.{subst}
-use Rattle.schedule_model.specs.Runs.{IsBad, IsUnbuilt}
+use Rattle.schedule_model.specs.Runs.{IsBad}
 use Rattle.mld_replay.specs.Stages.{StageStands}
 use Rattle.mld_replay.specs.declared.stages.Stage.TheVariants as stages
 use Rattle.mld_replay.proofs.StageLemmas.{running_stage, nothing_said}
@@ -13,7 +13,3 @@ returns-in-None-clause-ok g c = λ model stands.
 pub returns-in-Running-clause-bad : goal.returns-in-Running-clause-bad
 returns-in-Running-clause-bad g c = λ is.
     running_stage g.B.Banks.log (λ stage. IsBad stage c.args.line.now) c.args.stage.now c.in-Running.world c.in-Running.is (λ model stands sound. c.command.ensures.bad is model)
-
-pub returns-in-Running-clause-unbuilt : goal.returns-in-Running-clause-unbuilt
-returns-in-Running-clause-unbuilt g c = λ is.
-    running_stage g.B.Banks.log (λ stage. IsUnbuilt stage c.args.line.now) c.args.stage.now c.in-Running.world c.in-Running.is (λ model stands sound. c.command.ensures.unbuilt is model stands sound)

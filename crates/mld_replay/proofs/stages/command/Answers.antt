@@ -1,7 +1,6 @@
-use Rattle.std.proofs.lemmas.Result.{err_from_is_err_and}
 use Rattle.schedule_model.specs.Runs.{Running}
 use Rattle.mld_replay.specs.declared.stages.Stage.TheVariants as stages
-use Rattle.mld_replay.proofs.StageLemmas.{commanded_all, spells_read, nothing_said, bad_running, bad_refusal}
+use Rattle.mld_replay.proofs.StageLemmas.{commanded_all, spells_read, nothing_said}
 use Rattle.mld_replay.proofs.stages.command.Goals as goal
 
 pub returns-in-None-clause-ok : goal.returns-in-None-clause-ok
@@ -12,8 +11,3 @@ pub returns-in-Some-clause-ok : goal.returns-in-Some-clause-ok
 returns-in-Some-clause-ok g c =
     commanded_all g.B.Banks.log c.step.result c.args.line.now c.in-Some.command c.args.world.now c.step.new.world
     (spells_read c.args.line.now c.in_ok-read_command.field-0 c.in-Some.command c.in-Some.is c.in_ok-read_command.ensures.ok) c.step.ensures.ok
-
-pub returns-in_err-read_command-clause-bad : goal.returns-in_err-read_command-clause-bad
-returns-in_err-read_command-clause-bad g c = λ is model.
-    let p = err_from_is_err_and c.from_residual.result c.from_residual.ensures.1 in
-    bad_running c.args.line.now (c.in_err-read_command.ensures.bad (bad_refusal c.from_residual.result p.0 c.in_err-read_command.field-0.0 p.1 p.2 is)) model

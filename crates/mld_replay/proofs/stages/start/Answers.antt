@@ -1,17 +1,12 @@
 use Rattle.net_world.specs.WorldBanks.{banks_of}
 use Rattle.mld_replay.specs.Stages.{banks_of_stage}
 use Rattle.mld_replay.proofs.MeterLemmas.{meters_then, failed_later}
-use Rattle.mld_replay.proofs.StageLemmas.{started_all, first_stop}
+use Rattle.mld_replay.proofs.StageLemmas.{started_all}
 use Rattle.mld_replay.proofs.stages.start.Goals as goal
 
 pub returns-clause-ok : goal.returns-clause-ok
 returns-clause-ok g c =
     started_all g.B.Banks.log c.step-done.result c.args.stage.now c.args.command.now c.in_ok-world.world c.step-done.new.world c.step-done.ensures.ok c.in_ok-world.ensures.ok
-
-pub returns-clause-other : goal.returns-clause-other
-returns-clause-other g c =
-    first_stop g.B.Banks.log c.step-done.result c.args.stage.now c.args.command.now c.in_ok-world.world c.step-done.new.world c.requires.standing c.requires.set_up c.in_ok-world.ensures.ok
-    c.step-done.ensures.unbuilt c.step-done.ensures.other
 
 pub returns-clause-meters : goal.returns-clause-meters
 returns-clause-meters g c = λ differs.
