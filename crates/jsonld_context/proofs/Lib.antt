@@ -1,0 +1,10 @@
+pub mod Colons
+pub mod Fronts
+pub mod FirstFaults
+pub mod Domains
+pub mod Contexts
+pub mod TermObjects
+pub mod TermNames
+pub mod Least
+pub mod TextLaws
+pub mod GivenBack

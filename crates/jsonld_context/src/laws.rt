@@ -1,0 +1,15 @@
+//! Laws of contexts. They hold for all contexts and IRIs.
+ghost use Rattle.std.specs.Prelude.{◌≡◌, ℕ, List, None, Ok, IsTrue};
+ghost use Rattle.iri_rules.specs.Iri.{is_absolute};
+ghost use Rattle.jsonld_context.specs.ShortForms.{compact_key, compact_id};
+ghost use Rattle.jsonld_context.specs.Context.{ContextValue, IsContext, prefix_of};
+ghost use Rattle.jsonld_context.specs.Expanding.{expand_key, expand_id};
+ghost use Rattle.jsonld_context.specs.Texts.{before_colon};
+
+/// Expanding gives an IRI back that was compacted, as a key and as an id, wherever its scheme is no prefix of the context.
+pub fn expanding_gives_back()
+    ensures keys { (context : ContextValue) (iri : List ℕ) → IsContext context → IsTrue (is_absolute iri)
+        → prefix_of context.terms (before_colon iri) ≡ None → expand_key context (compact_key context iri) ≡ Ok iri }
+    ensures ids { (context : ContextValue) (iri : List ℕ) → IsContext context → IsTrue (is_absolute iri)
+        → prefix_of context.terms (before_colon iri) ≡ None → expand_id context (compact_id context iri) ≡ Ok iri }
+{}
