@@ -4,11 +4,11 @@ use Rattle.std.specs.List.{slice_split, concat}
 use Rattle.std.specs.Str.{bytes_eq}
 use Rattle.iri_rules.specs.References.{slash, is_slash}
 
--- section 3.3: the segments of a path stand between its slashes
+-- RFC 3986 section 3.3: the segments of a path stand between its slashes
 abbrev pub segments : List ℕ → List (List ℕ)
 segments path = slice_split is_slash path
 
--- section 3.3: the first of the dot segments, `.` and `..`
+-- RFC 3986 section 3.3: the first of the dot segments, `.` and `..`
 abbrev pub is_dot : List ℕ → Bool
 is_dot segment = bytes_eq segment (codes ".")
 
@@ -20,7 +20,7 @@ is_two_dots segment = bytes_eq segment (codes "..")
 abbrev pub is_dots : List ℕ → Bool
 is_dots segment = is_dot segment || is_two_dots segment
 
--- rules A and D: dot segments in front go
+-- rules A and D of RFC 3986 section 5.2.4: dot segments in front go
 abbrev pub without_front : List (List ℕ) → List (List ℕ)
 without_front [] = []
 without_front (segment ∷ others) = if is_dots segment then without_front others else segment ∷ others
@@ -41,6 +41,6 @@ abbrev pub kept_text : List (List ℕ) → List ℕ
 kept_text [] = []
 kept_text (first ∷ others) = concat (reverse (keep_all (first ∷ []) others))
 
--- section 5.2.4
+-- RFC 3986 section 5.2.4
 unfoldable pub remove_dot_segments : List ℕ → List ℕ
 remove_dot_segments path = kept_text (without_front (segments path))

@@ -4,7 +4,7 @@ use Rattle.std.specs.List.{before_first, after_first, position, position_or_len,
 use Rattle.std.specs.Option.{option_map}
 use Rattle.iri_rules.specs.Iri.{has_scheme}
 
--- section 3: what a reference is made of; an absent part isn't an empty one, and the path is always there
+-- RFC 3986 section 3: what a reference is made of; an absent part isn't an empty one, and the path is always there
 pub record Parts : Type 0 where
   pub scheme : Option (List ℕ)
   pub authority : Option (List ℕ)
@@ -12,7 +12,7 @@ pub record Parts : Type 0 where
   pub query : Option (List ℕ)
   pub fragment : Option (List ℕ)
 
--- section 2.2, the delimiters: `/` between the segments of a path
+-- RFC 3986 section 2.2, the delimiters: `/` between the segments of a path
 abbrev pub slash : ℕ
 slash = 47
 
@@ -35,7 +35,7 @@ is_hash byte = byte == 35
 abbrev pub behind : (ℕ → Bool) → List ℕ → Option (List ℕ)
 behind test text = option_map (λ place. drop (place + 1) text) (position test text)
 
--- section 3.1: a scheme stands before the first `:`
+-- RFC 3986 section 3.1: a scheme stands before the first `:`
 abbrev pub scheme_of : List ℕ → Option (List ℕ)
 scheme_of text = if has_scheme text then Some (before_first is_colon text) else None
 
@@ -43,7 +43,7 @@ scheme_of text = if has_scheme text then Some (before_first is_colon text) else 
 abbrev pub behind_scheme : List ℕ → List ℕ
 behind_scheme text = if has_scheme text then after_first is_colon text else text
 
--- section 3.2: an authority stands behind `//`, up to the next `/`
+-- RFC 3986 section 3.2: an authority stands behind `//`, up to the next `/`
 abbrev pub begins_authority : List ℕ → Bool
 begins_authority text = starts_with nat_eq text (codes "//")
 
@@ -51,11 +51,11 @@ begins_authority text = starts_with nat_eq text (codes "//")
 abbrev pub authority_of : List ℕ → Option (List ℕ)
 authority_of text = if begins_authority text then Some (before_first is_slash (drop 2 text)) else None
 
--- section 3.3: the path is the rest
+-- RFC 3986 section 3.3: the path is the rest
 abbrev pub path_of : List ℕ → List ℕ
 path_of text = if begins_authority text then drop (position_or_len is_slash (drop 2 text)) (drop 2 text) else text
 
--- appendix B: the fragment stands behind the first `#`, and the query behind the first `?` before that
+-- RFC 3986 appendix B: the fragment stands behind the first `#`, and the query behind the first `?` before that
 unfoldable pub split : List ℕ → Parts
 split text =
     let no_fragment = before_first is_hash text in
@@ -73,7 +73,7 @@ abbrev pub delimited : List ℕ → Option (List ℕ) → List ℕ → List ℕ
 delimited front None back = []
 delimited front (Some part) back = front ++ (part ++ back)
 
--- section 5.3: the text of the parts
+-- RFC 3986 section 5.3: the text of the parts
 unfoldable pub recomposed : Parts → List ℕ
 recomposed parts =
     delimited [] parts.scheme (codes ":")

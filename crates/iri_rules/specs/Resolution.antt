@@ -20,7 +20,7 @@ abbrev pub directory : List ℕ → List ℕ
 directory [] = []
 directory (byte ∷ bytes) = if list_any is_slash (byte ∷ bytes) then byte ∷ directory bytes else []
 
--- section 5.2.3: a path in place of the last segment of the base's
+-- RFC 3986 section 5.2.3: a path in place of the last segment of the base's
 abbrev pub merged : Parts → List ℕ → List ℕ
 merged base path = if is_some base.authority && is_empty base.path then slash ∷ path else directory base.path ++ path
 
@@ -28,7 +28,7 @@ merged base path = if is_some base.authority && is_empty base.path then slash �
 abbrev pub full_path : Parts → List ℕ → List ℕ
 full_path base path = if is_rooted path then path else merged base path
 
--- section 5.2.2, strict: what a reference leaves out comes from the base
+-- RFC 3986 section 5.2.2, strict: what a reference leaves out comes from the base
 unfoldable pub transformed : Parts → Parts → Parts
 transformed base reference =
     if is_some reference.scheme then record reference { path = remove_dot_segments reference.path }
