@@ -14,6 +14,7 @@ pub mod Sound
 pub mod Complete
 pub mod Progress
 pub mod Opening
+pub mod LiteralParts
 pub mod Live
 pub mod Stopping
 pub mod Stops

@@ -1,6 +1,6 @@
 -- Literals: a lexical form with a datatype other than rdf:langString, or with a language tag
 -- (RDF 1.1 Concepts section 3.3). Tags are kept in lower case.
-use Rattle.std.specs.Prelude.{◌≡◌, ℕ, List, [], ◌∷◌, Bool, true, false, ◌&&◌, ◌||◌, not, nat_le, nat_eq, ◌==◌, IsTrue, length, if◌then◌else◌, codes}
+use Rattle.std.specs.Prelude.{◌≡◌, ℕ, List, [], ◌∷◌, Bool, true, false, ◌&&◌, ◌||◌, not, nat_le, nat_eq, ◌==◌, IsTrue, Option, Some, None, length, if◌then◌else◌, codes}
 use Rattle.std.specs.Cmp.Lexicographic.{pointwise}
 use Rattle.std.specs.Str.{str_to_ascii_lowercase}
 use Rattle.rdf_terms.specs.declared.limits.TheConstants.{LEXICAL_LIMIT}
@@ -19,6 +19,21 @@ xsd_string = codes "http://www.w3.org/2001/XMLSchema#string"
 -- rdf:langString, the datatype of literals with a language tag
 unfoldable pub rdf_lang_string : List ℕ
 rdf_lang_string = codes "http://www.w3.org/1999/02/22-rdf-syntax-ns#langString"
+
+-- the lexical form of a literal
+abbrev pub lexical_form : LiteralValue → List ℕ
+lexical_form (Typed lexical datatype) = lexical
+lexical_form (Tagged lexical tag) = lexical
+
+-- its datatype, where it has no language tag
+abbrev pub datatype_of : LiteralValue → Option (List ℕ)
+datatype_of (Typed lexical datatype) = Some datatype
+datatype_of (Tagged lexical tag) = None
+
+-- its language tag, where it has one
+abbrev pub language_of : LiteralValue → Option (List ℕ)
+language_of (Typed lexical datatype) = None
+language_of (Tagged lexical tag) = Some tag
 
 -- two texts are the same
 abbrev pub is_same : List ℕ → List ℕ → Bool

@@ -160,7 +160,8 @@ impl Literal {
     ghost use Rattle.std.specs.Prelude.{◌≡◌, ◌↔◌, ◌<◌, ◌≤◌, IsTrue, IfOk, IfErr, IsErrOf, not, length};
     ghost use Rattle.std.specs.Str.{str_to_ascii_lowercase};
     ghost use Rattle.rdf_terms.specs.TermFaults.{MayRefuseTyped, MayRefuseTagged};
-    ghost use Rattle.rdf_terms.specs.Literal.{Typed, Tagged, IsLiteral, is_same, xsd_string, rdf_lang_string, is_language_tag, lexical_limit};
+    ghost use Rattle.std.specs.Option.{option_copied};
+    ghost use Rattle.rdf_terms.specs.Literal.{Typed, Tagged, IsLiteral, lexical_form, datatype_of, language_of, is_same, xsd_string, rdf_lang_string, is_language_tag, lexical_limit};
 
     /// The literal of a lexical form and a datatype, refused with `BadType` where the datatype is rdf:langString,
     /// else with `TooLong` where the lexical form has more than 1,048,576 bytes.
@@ -230,6 +231,36 @@ impl Literal {
     {
         let kind = Kind::Language(tag);
         Literal { lexical, kind }
+    }
+
+    /// The lexical form.
+    #[tactic(auto, using(crate::proofs::LiteralParts::kept_form))]
+    pub fn lexical(&self) -> &str
+        ensures { result.now ≡ lexical_form self.now }
+    {
+        self.lexical.as_str()
+    }
+
+    /// The IRI of the datatype, where the literal has no language tag.
+    #[tactic(auto, unfolding(crate::specs::Literal::xsd_string))]
+    pub fn datatype(&self) -> Option<&str>
+        ensures { option_copied result ≡ datatype_of self.now }
+    {
+        match &self.kind {
+            Kind::Plain => Some(XSD_STRING),
+            Kind::Datatype(iri) => Some(iri.as_str()),
+            Kind::Language(_) => None,
+        }
+    }
+
+    /// The language tag, in lower case, where the literal has one.
+    pub fn language(&self) -> Option<&str>
+        ensures { option_copied result ≡ language_of self.now }
+    {
+        match &self.kind {
+            Kind::Language(tag) => Some(tag.as_str()),
+            _ => None,
+        }
     }
 
     /// A copy of the literal, which shares its texts.
