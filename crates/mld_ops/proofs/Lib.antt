@@ -5,6 +5,7 @@ pub mod OperationLaws
 pub mod NetLaws
 pub mod MeaningLaws
 pub mod AscendingLaws
+pub mod PlaceLaws
 pub mod Searching
 pub mod Walking
 pub mod Equality

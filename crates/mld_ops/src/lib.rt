@@ -8,6 +8,7 @@ mod limits;
 mod messages;
 mod operations;
 mod pairs;
+mod places;
 mod properties;
 mod tagged;
 
@@ -18,5 +19,6 @@ pub use limits::HELD_LIMIT;
 pub use messages::{Give, Message, Messages, Snapshot};
 pub use operations::{Operation, meaning};
 pub use pairs::{copy_pairs, has_pair, insert_pair, remove_pair, remove_pairs};
+pub use places::{skip_below, stands_at};
 pub use properties::{copy_properties, kept_properties};
 pub use tagged::Tagged;

@@ -1,79 +1,14 @@
 -- A list of pairs that is gone over beside another.
-use Rattle.std.proofs.Common.{◌≡◌, ℕ, ◌+◌, ◌<◌, ◌≤◌, List, [], ◌∷◌, ◌++◌, length, get_or, take, drop, suc, Bool, true, false, IsTrue, ltb, ◌⊎◌, ◌↔◌, inl, inr, refl, sym, ◌∙◌, ap, subst, arith, add-one}
-use Rattle.std.specs.Ordering.{is_eq, is_lt}
+use Rattle.std.proofs.Common.{◌≡◌, ℕ, ◌≤◌, List, [], ◌∷◌, ◌++◌, length, Bool, true, false, IsTrue, ◌⊎◌, ◌↔◌, inl, inr, refl, sym, subst, arith}
 use Rattle.std.proofs.lemmas.Bool.{true≢false, false≢true}
-use Rattle.std.proofs.lemmas.Bool.Decides.{Decides-ltb}
-use Rattle.std.proofs.lemmas.Cmp.{tied_itself}
-use Rattle.std.proofs.lemmas.List.{take_all, take-append-drop}
-use Rattle.std.proofs.Math.Seq.{drop-cons}
-use Rattle.std.specs.declared.cmp.Ordering.{Ordering}
-use Rattle.std.specs.declared.cmp.Ordering.TheVariants.{Less, Equal, Greater}
+use Rattle.std.specs.declared.cmp.Ordering.TheVariants.{Less}
 use Rattle.tree_clock.specs.Lists.{Has, IsAscending}
 use Rattle.mld_ops.specs.declared.tagged.Tagged.{Tagged}
 use Rattle.mld_ops.specs.Tagged.{tagged_cmp}
-use Rattle.mld_ops.proofs.TaggedLaws.{tagged_total, tagged_exact}
-use Rattle.mld_ops.proofs.AscendingLaws.{has_append, has_left, has_right, has_at, below_member, ascending_append, ascending_back, has_take_more, not_below_itself}
-use Rattle.op_fusion.specs.FusionPairs.{IsAsWanted, AllBelow}
-
--- two pairs compare as equal where they are the same
-pub same_pair : (a b : Tagged) → (is_eq (tagged_cmp a b) ≡ true) ↔ (a ≡ b)
-same_pair a b = (λ h. tagged_exact a b (tied (tagged_cmp a b) h), λ e. ap is_eq (ap (tagged_cmp a) (sym e) ∙ tied_itself tagged_total a))
-  where
-    tied : (o : Ordering) → is_eq o ≡ true → o ≡ Equal
-    tied Less h = absurd (false≢true h)
-    tied Equal h = refl
-    tied Greater h = absurd (false≢true h)
-
--- ---- the place of a pair
-
-pub less_from : (o : Ordering) → is_lt o ≡ true → o ≡ Less
-less_from Less h = refl
-less_from Equal h = absurd (false≢true h)
-less_from Greater h = absurd (false≢true h)
-
--- one more pair is below
-pub all_below_more : (others : List Tagged) (place : ℕ) (pair other : Tagged) → place < length others → other ≡ get_or others place other
-    → tagged_cmp other pair ≡ Less → AllBelow others place pair → AllBelow others (place + 1) pair
-all_below_more others place pair other l e below all x h =
-    elim ((has_take_more others place other x l).0 h) [
-      | inl k ↦ all x k
-      | inr k ↦ subst (λ (w : Tagged). tagged_cmp w pair ≡ Less) (e ∙ k) below
-    ]
-
--- all that is below a pair is below a later one
-pub all_below_later : (others : List Tagged) (place : ℕ) (pair later : Tagged) → tagged_cmp pair later ≡ Less → AllBelow others place pair → AllBelow others place later
-all_below_later others place pair later l all x h = tagged_total.trans x pair later (all x h) l
-
--- where all are below the pair, the list lacks it
-pub lacks_below : (others : List Tagged) (place : ℕ) (pair : Tagged) → length others ≤ place → AllBelow others place pair → ¬ Has others pair
-lacks_below others place pair l all h =
-    not_below_itself tagged_cmp tagged_total pair (all pair (subst (λ (xs : List Tagged). Has xs pair) (sym (take_all place others l)) h))
-
--- a place behind the end isn't below it
-pub not_below_end : (others : List Tagged) (place : ℕ) → length others ≤ place → ¬ IsTrue (ltb place (length others))
-not_below_end others place l h = let below : place < length others = (Decides-ltb place (length others)).0 h in omega arith
-
--- the list has the pair where it has it at the place before which all are below it, and not below it itself
-pub stands_there : (others : List Tagged) (place : ℕ) (pair other : Tagged) → IsAscending tagged_cmp others → place < length others → other ≡ get_or others place other
-    → ¬ (tagged_cmp other pair ≡ Less) → AllBelow others place pair → (is_eq (tagged_cmp other pair) ≡ true) ↔ Has others pair
-stands_there others place pair other a l e stops all = (
-  λ h. subst (λ (w : Tagged). Has others w) (sym e ∙ (same_pair other pair).0 h) (has_at others place other l),
-  λ h. elim (has_append (take place others) (drop place others) pair (subst (λ (xs : List Tagged). Has xs pair) (sym (take-append-drop place others)) h)) [
-    | inl k ↦ absurd (not_below_itself tagged_cmp tagged_total pair (all pair k))
-    | inr k ↦ behind (subst (λ (xs : List Tagged). Has xs pair) there k)
-  ],
-)
-  where
-    there : drop place others ≡ other ∷ drop (place + 1) others
-    there = rw (add-one) (drop-cons others place other l ∙ ap (λ (w : Tagged). w ∷ drop (suc place) others) (sym e))
-
-    ascends : IsAscending tagged_cmp (other ∷ drop (place + 1) others)
-    ascends = subst (λ (xs : List Tagged). IsAscending tagged_cmp xs) there
-        (ascending_back tagged_cmp (take place others) (drop place others) (subst (λ (xs : List Tagged). IsAscending tagged_cmp xs) (sym (take-append-drop place others)) a))
-
-    behind : Has (other ∷ drop (place + 1) others) pair → is_eq (tagged_cmp other pair) ≡ true
-    behind (inl same) = (same_pair other pair).1 same
-    behind (inr k) = absurd (stops (below_member tagged_cmp other (drop (place + 1) others) pair ascends.0 k))
+use Rattle.mld_ops.proofs.AscendingLaws.{has_append, has_left, has_right, below_member, ascending_append}
+use Rattle.mld_ops.specs.Places.{AreBelow}
+use Rattle.mld_ops.proofs.PlaceLaws.{below_later}
+use Rattle.op_fusion.specs.FusionPairs.{IsAsWanted}
 
 -- ---- whether a pair is as wanted
 
@@ -97,7 +32,7 @@ pub record IsSifting (wanted : Bool) (others begun rest kept : List Tagged) (at 
   pub kept_ascends : IsAscending tagged_cmp kept
   pub within : at ≤ length others
   pub below : (x y : Tagged) → Has kept x → Has rest y → tagged_cmp x y ≡ Less
-  pub passed : (y : Tagged) → Has rest y → AllBelow others at y
+  pub passed : (y : Tagged) → Has rest y → AreBelow others at y
   pub members : (x : Tagged) → (Has kept x ⊎ (Has rest x × IsAsWanted wanted others x)) ↔ (Has begun x × IsAsWanted wanted others x)
 
 pub sifting_begins : (wanted : Bool) (others begun rest kept : List Tagged) → IsAscending tagged_cmp begun → rest ≡ begun → kept ≡ [] → IsSifting wanted others begun rest kept 0
@@ -111,12 +46,12 @@ sifting_begins wanted others begun rest kept a e f = rw (e, f) (record {
 })
 
 module _ (wanted : Bool) (others begun rest more kept : List Tagged) (at next : ℕ) (pair : Tagged) (first : rest ≡ pair ∷ more)
-    (s : IsSifting wanted others begun rest kept at) (within : next ≤ length others) (all : AllBelow others next pair) where
+    (s : IsSifting wanted others begun rest kept at) (within : next ≤ length others) (all : AreBelow others next pair) where
   was : IsSifting wanted others begun (pair ∷ more) kept at
   was = subst (λ (xs : List Tagged). IsSifting wanted others begun xs kept at) first s
 
-  later : (y : Tagged) → Has more y → AllBelow others next y
-  later y h = all_below_later others next pair y (below_member tagged_cmp pair more y was.rest_ascends.0 h) all
+  later : (y : Tagged) → Has more y → AreBelow others next y
+  later y h = below_later others next pair y (below_member tagged_cmp pair more y was.rest_ascends.0 h) all
 
   sifting_keeps : IsAsWanted wanted others pair → IsSifting wanted others begun more (kept ++ pair ∷ []) next
   sifting_keeps w = record {
@@ -167,7 +102,7 @@ module _ (wanted : Bool) (others begun rest more kept : List Tagged) (at next : 
 
 -- before the place the others are below the pair that comes next
 pub sifting_passed : (wanted : Bool) (others begun rest more kept : List Tagged) (at : ℕ) (pair : Tagged) → rest ≡ pair ∷ more → IsSifting wanted others begun rest kept at
-    → AllBelow others at pair
+    → AreBelow others at pair
 sifting_passed wanted others begun rest more kept at pair first s = s.passed pair (subst (λ (xs : List Tagged). Has xs pair) (sym first) (inl refl))
 
 -- a pair is kept or not, as it is wanted
@@ -178,7 +113,7 @@ bool_cases false true = inr false≢true
 bool_cases false false = inl refl
 
 pub sifting_next : (wanted : Bool) (others begun rest more kept after : List Tagged) (at next : ℕ) (pair : Tagged) (stands : Bool) → rest ≡ pair ∷ more
-    → IsSifting wanted others begun rest kept at → next ≤ length others → AllBelow others next pair → IsTrue stands ↔ Has others pair
+    → IsSifting wanted others begun rest kept at → next ≤ length others → AreBelow others next pair → IsTrue stands ↔ Has others pair
     → (stands ≡ wanted → after ≡ kept ++ pair ∷ []) → (¬ (stands ≡ wanted) → after ≡ kept) → IsSifting wanted others begun more after next
 sifting_next wanted others begun rest more kept after at next pair stands first s within all d same other =
     elim (bool_cases stands wanted) [

@@ -1,5 +1,5 @@
 -- Parts of ascending lists of pairs, as the program goes over them.
-use Rattle.std.specs.Prelude.{◌≡◌, ℕ, ◌<◌, ◌≤◌, List, [], ◌∷◌, Bool, ◌⊎◌, ◌↔◌, MatchBool, take}
+use Rattle.std.specs.Prelude.{◌≡◌, ℕ, ◌<◌, ◌≤◌, List, [], ◌∷◌, Bool, ◌⊎◌, ◌↔◌, MatchBool}
 use Rattle.std.specs.declared.cmp.Ordering.{Ordering}
 use Rattle.std.specs.declared.cmp.Ordering.TheVariants.{Less, Greater}
 use Rattle.tree_clock.specs.Lists.{Has, IsAscending}
@@ -17,10 +17,6 @@ pub record InsertsWithin (entry : EntryValue) (low high : ℕ) (pair : Tagged) :
 -- the list has the pair, or it lacks it, as is wanted
 abbrev pub IsAsWanted : Bool → List Tagged → Tagged → Type 0
 IsAsWanted wanted others pair = MatchBool wanted (Has others pair) (¬ Has others pair)
-
--- each pair of the list before a place is below a pair
-abbrev pub AllBelow : List Tagged → ℕ → Tagged → Type 0
-AllBelow pairs place pair = (other : Tagged) → Has (take place pairs) other → tagged_cmp other pair ≡ Less
 
 -- which of two ascending lists begins with the lesser pair; a list that has ended begins with none
 abbrev pub first_cmp : List Tagged → List Tagged → Ordering

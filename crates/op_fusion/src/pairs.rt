@@ -4,10 +4,10 @@ ghost use Rattle.std.specs.declared.cmp.Ordering.TheVariants.{Less};
 ghost use Rattle.mld_ops.specs.Entry.{IsEntry};
 ghost use Rattle.mld_ops.specs.Tagged.{tagged_cmp};
 ghost use Rattle.mld_ops.specs.declared.tagged.Tagged.{Tagged};
-ghost use Rattle.op_fusion.specs.FusionPairs.{InsertsWithin, IsAsWanted, AllBelow, first_cmp, TakesLeast};
+ghost use Rattle.op_fusion.specs.FusionPairs.{InsertsWithin, IsAsWanted, first_cmp, TakesLeast};
 ghost use Rattle.tree_clock.specs.Lists.{Has, IsAscending};
 
-use mld_ops::{Entry, Tagged};
+use mld_ops::{Entry, Tagged, skip_below, stands_at};
 use std::alloc::{AllocError, Global};
 use std::cmp::Ordering;
 use std::collections::VecDeque;
@@ -75,31 +75,6 @@ fn push_wanted(
         pairs.push(pair)?;
     }
     Ok(())
-}
-
-// The first place from a given one on whose pair isn't below a pair.
-fn skip_below(others: &[Tagged], place: usize, pair: &Tagged) -> usize
-    requires place { place ≤ length others.now }
-    requires below { AllBelow others.now place pair.now }
-    ensures place { result ≤ length others.now }
-    ensures below { AllBelow others.now result pair.now }
-    ensures stops { result < length others.now → ¬ (tagged_cmp (slice_index_or others.now result pair.now) pair.now ≡ Less) }
-{
-    let mut place = place;
-    while place < others.len() && others[place].cmp(pair).is_lt() {
-        place += 1;
-    }
-    place
-}
-
-// Whether the pair is the one at a place before which all are below it, and which isn't below it.
-fn stands_at(others: &[Tagged], place: usize, pair: &Tagged) -> bool
-    requires others { IsAscending tagged_cmp others.now }
-    requires below { AllBelow others.now place pair.now }
-    requires stops { place < length others.now → ¬ (tagged_cmp (slice_index_or others.now place pair.now) pair.now ≡ Less) }
-    ensures { IsTrue result ↔ Has others.now pair.now }
-{
-    place < others.len() && others[place].cmp(pair).is_eq()
 }
 
 /// The pairs of both lists, each once.

@@ -1,20 +1,15 @@
 -- The walk of a change: the least of the old and the added pairs, one after another, with a place in the dropped ones.
-use Rattle.std.proofs.Common.{◌≡◌, ℕ, ◌+◌, ◌<◌, ◌≤◌, List, [], ◌∷◌, ◌++◌, length, get_or, take, drop, suc, Bool, true, false, not, ◌||◌, IsTrue, ltb, ◌⊎◌, ◌↔◌, inl, inr, refl, sym, ◌∙◌, ap, subst, arith, add-one}
+use Rattle.std.proofs.Common.{◌≡◌, ℕ, ◌≤◌, List, [], ◌∷◌, ◌++◌, length, drop, Bool, true, false, not, ◌||◌, IsTrue, ◌⊎◌, ◌↔◌, inl, inr, refl, sym, ◌∙◌, subst, arith}
 use Rattle.std.proofs.lemmas.Bool.{false≢true}
-use Rattle.std.proofs.lemmas.Bool.Decides.{Decides-ltb}
-use Rattle.std.proofs.lemmas.Cmp.{tied_itself}
-use Rattle.std.proofs.lemmas.List.{take_all, take-append-drop}
-use Rattle.std.proofs.Math.Seq.{drop-cons}
-use Rattle.std.specs.Ordering.{is_eq, is_lt}
-use Rattle.std.specs.declared.cmp.Ordering.{Ordering}
 use Rattle.std.specs.declared.cmp.Ordering.TheVariants.{Less, Equal, Greater}
 use Rattle.tree_clock.specs.Lists.{Has, IsBelowAll, IsAscending}
 use Rattle.mld_ops.specs.declared.tagged.Tagged.{Tagged}
 use Rattle.mld_ops.specs.Applies.{Applies}
 use Rattle.mld_ops.specs.Tagged.{tagged_cmp}
-use Rattle.mld_ops.proofs.TaggedLaws.{tagged_total, tagged_exact}
-use Rattle.mld_ops.proofs.AscendingLaws.{has_append, has_at, below_member, ascending_back, has_take_more, not_below_itself}
-use Rattle.suset.specs.Walks.{fronts_cmp, IsLeastOf, IsAddStep, AreBelow}
+use Rattle.mld_ops.proofs.TaggedLaws.{tagged_exact}
+use Rattle.mld_ops.specs.Places.{AreBelow}
+use Rattle.mld_ops.proofs.PlaceLaws.{below_later}
+use Rattle.suset.specs.Walks.{fronts_cmp, IsLeastOf, IsAddStep}
 use Rattle.suset.proofs.Steps.{less_turned, lacks_lower, below_list, least_left, least_right, least_both}
 use Rattle.suset.proofs.Walking.{Comes, IsWalking, walking_begins, walking_keeps, walking_skips, walking_ends}
 
@@ -74,66 +69,6 @@ pub takes_both : (left right : List Tagged) (pair : Tagged) (more rest : List Ta
 takes_both left right pair more rest a b d e h =
     subst (λ (xs : List Tagged). IsAddStep left xs pair true more rest) (sym e)
     (shared_step left pair more rest a (subst (λ (xs : List Tagged). IsAscending tagged_cmp xs) e b) d (subst (λ (xs : List Tagged). fronts_cmp left xs ≡ Equal) e h))
-
--- ---- the place in the dropped pairs
-
--- two pairs compare as equal where they are the same
-same_pair : (a b : Tagged) → (is_eq (tagged_cmp a b) ≡ true) ↔ (a ≡ b)
-same_pair a b = (λ h. tagged_exact a b (tied (tagged_cmp a b) h), λ e. ap is_eq (ap (tagged_cmp a) (sym e) ∙ tied_itself tagged_total a))
-  where
-    tied : (o : Ordering) → is_eq o ≡ true → o ≡ Equal
-    tied Less h = absurd (false≢true h)
-    tied Equal h = refl
-    tied Greater h = absurd (false≢true h)
-
-pub less_from : (o : Ordering) → is_lt o ≡ true → o ≡ Less
-less_from Less h = refl
-less_from Equal h = absurd (false≢true h)
-less_from Greater h = absurd (false≢true h)
-
--- one more pair is below
-pub below_more : (others : List Tagged) (place : ℕ) (pair other : Tagged) → place < length others → other ≡ get_or others place other → tagged_cmp other pair ≡ Less
-    → AreBelow others place pair → AreBelow others (place + 1) pair
-below_more others place pair other l e below all x h =
-    elim ((has_take_more others place other x l).0 h) [
-      | inl k ↦ all x k
-      | inr k ↦ subst (λ (w : Tagged). tagged_cmp w pair ≡ Less) (e ∙ k) below
-    ]
-
--- all that is below a pair is below a later one
-below_later : (others : List Tagged) (place : ℕ) (pair later : Tagged) → tagged_cmp pair later ≡ Less → AreBelow others place pair → AreBelow others place later
-below_later others place pair later l all x h = tagged_total.trans x pair later (all x h) l
-
--- where all are below the pair, the list lacks it
-pub lacks_below : (others : List Tagged) (place : ℕ) (pair : Tagged) → length others ≤ place → AreBelow others place pair → ¬ Has others pair
-lacks_below others place pair l all h =
-    not_below_itself tagged_cmp tagged_total pair (all pair (subst (λ (xs : List Tagged). Has xs pair) (sym (take_all place others l)) h))
-
--- a place behind the end isn't below it
-pub not_below_end : (others : List Tagged) (place : ℕ) → length others ≤ place → ¬ IsTrue (ltb place (length others))
-not_below_end others place l h = let below : place < length others = (Decides-ltb place (length others)).0 h in omega arith
-
--- the list has the pair where it has it at the place before which all are below it, and not below it itself
-pub stands_there : (others : List Tagged) (place : ℕ) (pair other : Tagged) → IsAscending tagged_cmp others → place < length others → other ≡ get_or others place other
-    → ¬ (tagged_cmp other pair ≡ Less) → AreBelow others place pair → (is_eq (tagged_cmp other pair) ≡ true) ↔ Has others pair
-stands_there others place pair other a l e stops all = (
-  λ h. subst (λ (w : Tagged). Has others w) (sym e ∙ (same_pair other pair).0 h) (has_at others place other l),
-  λ h. elim (has_append (take place others) (drop place others) pair (subst (λ (xs : List Tagged). Has xs pair) (sym (take-append-drop place others)) h)) [
-    | inl k ↦ absurd (not_below_itself tagged_cmp tagged_total pair (all pair k))
-    | inr k ↦ behind (subst (λ (xs : List Tagged). Has xs pair) there k)
-  ],
-)
-  where
-    there : drop place others ≡ other ∷ drop (place + 1) others
-    there = rw (add-one) (drop-cons others place other l ∙ ap (λ (w : Tagged). w ∷ drop (suc place) others) (sym e))
-
-    ascends : IsAscending tagged_cmp (other ∷ drop (place + 1) others)
-    ascends = subst (λ (xs : List Tagged). IsAscending tagged_cmp xs) there
-        (ascending_back tagged_cmp (take place others) (drop place others) (subst (λ (xs : List Tagged). IsAscending tagged_cmp xs) (sym (take-append-drop place others)) a))
-
-    behind : Has (other ∷ drop (place + 1) others) pair → is_eq (tagged_cmp other pair) ≡ true
-    behind (inl same) = (same_pair other pair).1 same
-    behind (inr k) = absurd (stops (below_member tagged_cmp other (drop (place + 1) others) pair ascends.0 k))
 
 -- ---- the walk
 

@@ -1,5 +1,5 @@
 -- Two ascending lists of pairs, as the program goes over them side by side.
-use Rattle.std.specs.Prelude.{◌≡◌, ℕ, List, [], ◌∷◌, Bool, IsTrue, ◌⊎◌, ◌↔◌, take}
+use Rattle.std.specs.Prelude.{◌≡◌, ℕ, List, [], ◌∷◌, Bool, IsTrue, ◌⊎◌, ◌↔◌}
 use Rattle.std.specs.declared.cmp.Ordering.{Ordering}
 use Rattle.std.specs.declared.cmp.Ordering.TheVariants.{Less, Greater}
 use Rattle.tree_clock.specs.Lists.{Has, IsAscending}
@@ -36,7 +36,3 @@ pub record IsJoinStep (own : List (List ℕ × ℕ)) (mine other : List Tagged) 
 pub record IsAddStep (old adds : List Tagged) (pair : Tagged) (added : Bool) (more_old more_adds : List Tagged) : Type 0 where
   pub least : IsLeastOf old adds pair more_old more_adds
   pub tells : IsTrue added ↔ Has adds pair
-
--- each pair of the list before a place is below a pair
-abbrev pub AreBelow : List Tagged → ℕ → Tagged → Type 0
-AreBelow pairs place pair = (other : Tagged) → Has (take place pairs) other → tagged_cmp other pair ≡ Less

@@ -4,8 +4,8 @@ use Rattle.std.specs.declared.cmp.Ordering.TheVariants.{Less}
 use Rattle.std.specs.Ordering.{is_eq}
 use Rattle.mld_ops.specs.declared.tagged.Tagged.{Tagged}
 use Rattle.mld_ops.specs.Tagged.{tagged_cmp}
-use Rattle.op_fusion.proofs.Sifting.{lacks_below, stands_there, not_below_end}
-use Rattle.op_fusion.proofs.pairs.stands_at.Goals as goal
+use Rattle.mld_ops.proofs.PlaceLaws.{lacks_below, stands_there, not_below_end}
+use Rattle.mld_ops.proofs.places.stands_at.Goals as goal
 
 pub returns-then-place-others : goal.returns-then-place-others
 returns-then-place-others c =

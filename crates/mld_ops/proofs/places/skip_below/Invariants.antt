@@ -1,6 +1,6 @@
 use Rattle.std.proofs.Common.{length, ◌-◌, ◌≤◌}
-use Rattle.suset.specs.Walks.{AreBelow}
-use Rattle.suset.proofs.changes.skip_below.Given as goal
+use Rattle.mld_ops.specs.Places.{AreBelow}
+use Rattle.mld_ops.proofs.places.skip_below.Given as goal
 
 abbrev pub invariant-loop-place : goal.invariant-loop-place
 invariant-loop-place l = record {

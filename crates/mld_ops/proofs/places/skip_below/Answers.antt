@@ -1,7 +1,7 @@
 use Rattle.std.proofs.Common.{rules, arith}
 use Rattle.mld_ops.specs.Tagged.{tagged_cmp}
-use Rattle.suset.proofs.Filling.{below_more, less_from}
-use Rattle.suset.proofs.changes.skip_below.Goals as goal
+use Rattle.mld_ops.proofs.PlaceLaws.{below_more, less_from}
+use Rattle.mld_ops.proofs.places.skip_below.Goals as goal
 
 pub loop-place-preserved : goal.loop-place-preserved
 loop-place-preserved c = record {
