@@ -3,6 +3,7 @@
 use crate::sequences::Sequence;
 use iri_rules::Text;
 use rdf_terms::Term;
+use std::alloc::AllocError;
 
 /// What stands in a place of a pattern.
 #[derive(Debug, PartialEq, Eq, Drop)]
@@ -13,6 +14,21 @@ pub enum Slot {
     Var(u16),
     /// The fresh subject of this number, in an insert alone.
     Fresh(u32),
+}
+
+impl Slot {
+    ghost use Rattle.std.specs.Prelude.{◌≡◌, IfOk};
+
+    /// A copy of what stands there, which shares the texts of a term.
+    pub fn share(&self) -> Result<Slot, AllocError>
+        ensures { IfOk result (λ copy. copy ≡ self.now) }
+    {
+        match self {
+            Slot::Term(term) => Ok(Slot::Term(term.share()?)),
+            Slot::Var(number) => Ok(Slot::Var(*number)),
+            Slot::Fresh(number) => Ok(Slot::Fresh(*number)),
+        }
+    }
 }
 
 /// A triple with variables.
