@@ -178,7 +178,7 @@ fn has_type(outcome: &Outcome, key: &str, datatype: &str) -> bool {
     };
     match context.type_of(key) {
         Some(TermType::Id) => datatype == "id",
-        Some(TermType::Datatype(iri)) => iri.as_str() == datatype,
+        Some(TermType::Datatype(iri)) => iri.iri().as_str() == datatype,
         None => datatype == "none",
     }
 }

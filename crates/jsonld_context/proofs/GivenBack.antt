@@ -23,11 +23,11 @@ use Rattle.jsonld_context.proofs.TextLaws.{same, itself, differ, less_differ, be
 
 -- ---- options
 
-mapped : {X : Type 0} (f : X → List ℕ) (found : Option X) (text : List ℕ) → option_map f found ≡ Some text → (x : X) × (found ≡ Some x) × (f x ≡ text)
+pub mapped : {X : Type 0} (f : X → List ℕ) (found : Option X) (text : List ℕ) → option_map f found ≡ Some text → (x : X) × (found ≡ Some x) × (f x ≡ text)
 mapped f None text h = cc h
 mapped f (Some x) text h = (x, refl, cc h)
 
-followed : (f : List ℕ → Option (List ℕ)) (found : Option (List ℕ)) (text : List ℕ) → option_and_then f found ≡ Some text
+pub followed : (f : List ℕ → Option (List ℕ)) (found : Option (List ℕ)) (text : List ℕ) → option_and_then f found ≡ Some text
     → (x : List ℕ) × (found ≡ Some x) × (f x ≡ Some text)
 followed f None text h = cc h
 followed f (Some x) text h = (x, refl, h)
@@ -36,11 +36,11 @@ passes_at : (passes : Bool) (text found : List ℕ) → cond passes (Some text) 
 passes_at true text found h = (refl, cc h)
 passes_at false text found h = cc h
 
-passing : (test : List ℕ → Bool) (text found : List ℕ) → if_passes test text ≡ Some found → (test text ≡ true) × (text ≡ found)
+pub passing : (test : List ℕ → Bool) (text found : List ℕ) → if_passes test text ≡ Some found → (test text ≡ true) × (text ≡ found)
 passing test text found h = passes_at (test text) text found h
 
 -- the first of three that is there, or a last one
-pick : (P : List ℕ → Type 0) (one two three : Option (List ℕ)) (last : List ℕ) → ((text : List ℕ) → one ≡ Some text → P text)
+pub pick : (P : List ℕ → Type 0) (one two three : Option (List ℕ)) (last : List ℕ) → ((text : List ℕ) → one ≡ Some text → P text)
     → ((text : List ℕ) → two ≡ Some text → P text) → ((text : List ℕ) → three ≡ Some text → P text) → P last
     → P (unwrap_or (option_or one (option_or two three)) last)
 pick P (Some text) two three last first second third other = first text refl
@@ -58,21 +58,21 @@ find_at Q test true first found later is here rest h =
 find_at Q test false first found later is here rest h = rest h
 
 -- what is found has what all have, and passes
-found_has : (Q : Definition → Type 0) (test : Definition → Bool) (terms : List Definition) (found : Definition) → AllByRecursion Q terms
+pub found_has : (Q : Definition → Type 0) (test : Definition → Bool) (terms : List Definition) (found : Definition) → AllByRecursion Q terms
     → find test terms ≡ Some found → Q found × (test found ≡ true)
 found_has Q test [] found all h = cc h
 found_has Q test (first ∷ terms) found all h =
     find_at Q test (test first) first found (find test terms) refl all.0 (λ later. found_has Q test terms found all.1 later) h
 
 -- a text with a colon is no term
-no_term : (terms : List Definition) (text : List ℕ) → AreTerms terms → has_colon text ≡ true → find_term terms text ≡ None
+pub no_term : (terms : List Definition) (text : List ℕ) → AreTerms terms → has_colon text ≡ true → find_term terms text ≡ None
 no_term [] text are colon = refl
 no_term (first ∷ terms) text are colon =
     let apart : is_same first.name text ≡ false =
     differ first.name text (λ e. both_ways (has_colon text) (ap has_colon (sym e) ∙ term_no_colon first.name are.0) colon) in
     ap (λ b. cond b (Some first) (find_term terms text)) apart ∙ no_term terms text are.1 colon
 
-abbrev IsFoundIn : List Definition → Definition → Type 0
+abbrev pub IsFoundIn : List Definition → Definition → Type 0
 IsFoundIn terms term = find_term terms term.name ≡ Some term
 
 found_later : (first : Definition) (terms all : List Definition) → AllByRecursion (λ name. slice_cmp nat_cmp first.name name ≡ Less) (names terms)
@@ -82,7 +82,7 @@ found_later first (term ∷ terms) all below found =
     (ap (λ b. cond b (Some first) (find_term all term.name)) (less_differ first.name term.name below.0) ∙ found.0, found_later first terms all below.1 found.1)
 
 -- each term is found by its name
-all_found : (terms : List Definition) → IsStrictlySortedBy (slice_cmp nat_cmp) (names terms) → AllByRecursion (IsFoundIn terms) terms
+pub all_found : (terms : List Definition) → IsStrictlySortedBy (slice_cmp nat_cmp) (names terms) → AllByRecursion (IsFoundIn terms) terms
 unfolding IsStrictlySortedBy
 all_found [] h = tt
 all_found (first ∷ terms) h =
@@ -99,7 +99,7 @@ fold_has P [] first here all = here
 fold_has P (text ∷ texts) first here all =
     fold_has P texts (lesser first text) (lesser_has P first text (is_lt (slice_cmp nat_cmp text first)) here all.0) all.1
 
-least_has : (P : List ℕ → Type 0) (texts : List (List ℕ)) (text : List ℕ) → AllByRecursion P texts → reduce lesser texts ≡ Some text → P text
+pub least_has : (P : List ℕ → Type 0) (texts : List (List ℕ)) (text : List ℕ) → AllByRecursion P texts → reduce lesser texts ≡ Some text → P text
 least_has P [] text all h = cc h
 least_has P (first ∷ texts) text all h =
     let e : fold lesser first texts ≡ text = cc h in

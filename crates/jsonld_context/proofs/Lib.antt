@@ -8,3 +8,5 @@ pub mod TermNames
 pub mod Least
 pub mod TextLaws
 pub mod GivenBack
+pub mod Halves
+pub mod PlainEnds

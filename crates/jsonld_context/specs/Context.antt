@@ -18,6 +18,10 @@ pub record ContextValue : Type 0 where
   pub vocabulary : List ℕ
   pub terms : List Definition
 
+-- terms that ascend by their names, so that a name stands for one of them at most
+abbrev pub AscendByName : List Definition → Type 0
+AscendByName terms = IsStrictlySortedBy (slice_cmp nat_cmp) (map (λ term. term.name) terms)
+
 -- the term of a name
 abbrev pub find_term : List Definition → List ℕ → Option Definition
 find_term terms name = find (λ term. is_same term.name name) terms
@@ -39,4 +43,4 @@ pub record IsContext (context : ContextValue) : Type 0 where
   pub base : IsTrue (is_absolute context.base)
   pub vocabulary : IsTrue (is_absolute context.vocabulary)
   pub names : AllByRecursion (λ term. IsTrue (is_term_name term.name)) context.terms
-  pub ascending : IsStrictlySortedBy (slice_cmp nat_cmp) (map (λ term. term.name) context.terms)
+  pub ascending : AscendByName context.terms

@@ -7,7 +7,7 @@ ghost use Rattle.iri_rules.specs.Iri.{is_absolute};
 ghost use Rattle.iri_rules.specs.Resolution.{resolved};
 ghost use Rattle.rdf_terms.specs.Literal.{is_same};
 ghost use Rattle.jsonld_context.specs.ShortForms.{term_for, plain_key, plain_id, is_rest, if_passes, rest_behind, compact_by, lesser, least_with, least_compact, key_form, id_form};
-ghost use Rattle.jsonld_context.specs.Context.{prefix_iri};
+ghost use Rattle.jsonld_context.specs.Context.{AscendByName, prefix_iri};
 
 use crate::definitions::Definition;
 use crate::expanding::find_term;
@@ -27,6 +27,7 @@ fn term_for<'a>(terms: &'a [Definition], iri: &str) -> Option<&'a Text>
 
 /// The plain text behind the vocabulary, which is no term.
 fn plain_key<'a>(vocabulary: &str, terms: &[Definition], iri: &'a str) -> Option<&'a str>
+    requires { AscendByName terms.now }
     ensures { option_copied result ≡ plain_key vocabulary.now terms.now iri.now }
 {
     let Some(text) = rest_behind(vocabulary, iri) else {
@@ -170,6 +171,7 @@ pub(crate) fn compact_key(
     terms: &[Definition],
     iri: &str,
 ) -> Result<Text, AllocError>
+    requires { AscendByName terms.now }
     ensures { IfOk result (λ text. text ≡ key_form vocabulary.now terms.now iri.now) }
 {
     if let Some(name) = term_for(terms, iri) {

@@ -1,4 +1,6 @@
 //! What a context says of a term.
+
+use crate::datatypes::Datatype;
 use iri_rules::Text;
 use rdf_terms::Iri;
 
@@ -7,8 +9,8 @@ use rdf_terms::Iri;
 pub enum TermType {
     /// They are ids.
     Id,
-    /// They are literals of this datatype, which isn't rdf:langString.
-    Datatype(Iri),
+    /// They are literals of this datatype.
+    Datatype(Datatype),
 }
 
 /// A term with its IRI.

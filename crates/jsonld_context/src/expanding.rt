@@ -4,7 +4,7 @@ ghost use Rattle.std.specs.Option.{option_copied};
 ghost use Rattle.std.specs.String.{string_bytes};
 ghost use Rattle.iri_rules.specs.Iri.{is_absolute};
 ghost use Rattle.iri_rules.specs.Resolution.{resolved};
-ghost use Rattle.jsonld_context.specs.Context.{find_term, prefix_of, type_of};
+ghost use Rattle.jsonld_context.specs.Context.{AscendByName, find_term, prefix_of, type_of};
 ghost use Rattle.jsonld_context.specs.Expanding.{absolute_or_fault, key_without_term, key_iri, id_iri};
 ghost use Rattle.jsonld_context.specs.Prefixes.{expanded};
 ghost use Rattle.jsonld_context.specs.Telling.{IsToldBy};
@@ -17,16 +17,28 @@ use crate::texts::has_colon;
 use iri_rules::{IriFault, Text, resolve};
 use rdf_terms::{Iri, TermFault};
 use std::alloc::{AllocError, Global};
+use std::cmp::Ordering;
 
-/// The term of a name.
+/// The term of a name, looked for by halves.
 pub(crate) fn find_term<'a>(terms: &'a [Definition], name: &str) -> Option<&'a Definition>
+    requires ascending { AscendByName terms.now }
     ensures { option_copied result ≡ find_term terms.now name.now }
 {
-    terms.iter().find(|term| term.name.as_str() == name)
+    if terms.is_empty() {
+        return None;
+    }
+    let middle = terms.len() / 2;
+    let term = &terms[middle];
+    match term.name.as_str().cmp(name) {
+        Ordering::Less => find_term(&terms[middle + 1..], name),
+        Ordering::Equal => Some(term),
+        Ordering::Greater => find_term(&terms[..middle], name),
+    }
 }
 
 /// The IRI of the prefix of a name.
 fn prefix_of<'a>(terms: &'a [Definition], name: &str) -> Option<&'a str>
+    requires { AscendByName terms.now }
     ensures { option_copied result ≡ prefix_of terms.now name.now }
 {
     let term = find_term(terms, name)?;
@@ -39,6 +51,7 @@ fn prefix_of<'a>(terms: &'a [Definition], name: &str) -> Option<&'a str>
 
 /// The type of the values of a key, where it is a term that has one.
 pub(crate) fn type_of<'a>(terms: &'a [Definition], key: &str) -> Option<&'a TermType>
+    requires { AscendByName terms.now }
     ensures { option_copied result ≡ type_of terms.now key.now }
 {
     let term = find_term(terms, key)?;
@@ -47,6 +60,7 @@ pub(crate) fn type_of<'a>(terms: &'a [Definition], key: &str) -> Option<&'a Term
 
 /// What a text with a colon stands for.
 fn expanded(alloc: Global, terms: &[Definition], text: &str) -> Result<String, AllocError>
+    requires { AscendByName terms.now }
     ensures { IfOk result (λ iri. string_bytes iri ≡ expanded (prefix_of terms.now) text.now) }
 {
     let Some((front, rest)) = cut_prefix(text) else {
@@ -77,6 +91,7 @@ fn key_text(
     terms: &[Definition],
     text: &str,
 ) -> Result<String, AllocError>
+    requires { AscendByName terms.now }
     ensures { IfOk result (λ iri. string_bytes iri ≡ key_without_term vocabulary.now terms.now text.now) }
 {
     if has_colon(text) {
@@ -94,6 +109,7 @@ pub(crate) fn expand_key(
     terms: &[Definition],
     text: &str,
 ) -> Result<Iri, JsonFault>
+    requires { AscendByName terms.now }
     ensures ok { IfOk result (λ iri. key_iri vocabulary.now terms.now text.now ≡ Ok iri) }
     ensures err { IfErr result (IsToldBy (key_iri vocabulary.now terms.now text.now)) }
 {
@@ -123,7 +139,8 @@ pub(crate) fn expand_id(
     terms: &[Definition],
     text: &str,
 ) -> Result<Iri, JsonFault>
-    requires { IsTrue (is_absolute base.now) }
+    requires base { IsTrue (is_absolute base.now) }
+    requires ascending { AscendByName terms.now }
     ensures ok { IfOk result (λ iri. id_iri base.now terms.now text.now ≡ Ok iri) }
     ensures err { IfErr result (IsToldBy (id_iri base.now terms.now text.now)) }
 {

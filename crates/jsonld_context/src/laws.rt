@@ -1,10 +1,11 @@
 //! Laws of contexts. They hold for all contexts and IRIs.
-ghost use Rattle.std.specs.Prelude.{◌≡◌, ℕ, List, None, Ok, IsTrue};
+ghost use Rattle.std.specs.Prelude.{◌≡◌, ℕ, List, None, Some, Ok, IsTrue};
 ghost use Rattle.iri_rules.specs.Iri.{is_absolute};
-ghost use Rattle.jsonld_context.specs.ShortForms.{compact_key, compact_id};
+ghost use Rattle.iri_rules.specs.Resolution.{resolved};
+ghost use Rattle.jsonld_context.specs.ShortForms.{compact_key, compact_id, plain_id};
 ghost use Rattle.jsonld_context.specs.Context.{ContextValue, IsContext, prefix_of};
 ghost use Rattle.jsonld_context.specs.Expanding.{expand_key, expand_id};
-ghost use Rattle.jsonld_context.specs.Texts.{before_colon};
+ghost use Rattle.jsonld_context.specs.Texts.{before_colon, is_plain, plain_end};
 
 /// Expanding gives an IRI back that was compacted, as a key and as an id, wherever its scheme is no prefix of the context.
 pub fn expanding_gives_back()
@@ -12,4 +13,10 @@ pub fn expanding_gives_back()
         → prefix_of context.terms (before_colon iri) ≡ None → expand_key context (compact_key context iri) ≡ Ok iri }
     ensures ids { (context : ContextValue) (iri : List ℕ) → IsContext context → IsTrue (is_absolute iri)
         → prefix_of context.terms (before_colon iri) ≡ None → expand_id context (compact_id context iri) ≡ Ok iri }
+{}
+
+/// A plain text is the plain end of what any base resolves it to, so the id of that IRI is found: no other plain text stands for it.
+pub fn plain_id_is_the_end()
+    ensures end { (base : List ℕ) (text : List ℕ) → IsTrue (is_plain text) → plain_end (resolved base text) ≡ text }
+    ensures found { (base : List ℕ) (text : List ℕ) → IsTrue (is_plain text) → plain_id base (resolved base text) ≡ Some text }
 {}

@@ -3,6 +3,7 @@
 
 mod compacting;
 mod context;
+mod datatypes;
 mod definitions;
 mod expanding;
 mod faults;
@@ -12,7 +13,9 @@ mod reading;
 mod texts;
 
 pub use context::Context;
+pub use datatypes::Datatype;
 pub use definitions::TermType;
 pub use faults::JsonFault;
-pub use laws::expanding_gives_back;
-pub use texts::is_variable;
+pub use laws::{expanding_gives_back, plain_id_is_the_end};
+pub use reading::{is_id_key, is_type_key};
+pub use texts::{begins_as_keyword, is_variable};

@@ -18,6 +18,7 @@ ghost use Rattle.jsonld_context.specs.ContextReading.{is_base_key, is_vocabulary
 ghost use Rattle.jsonld_context.specs.Telling.{IsFaultOf, IsReadAs};
 ghost use Rattle.jsonld_context.specs.declared.faults.JsonFault.TheVariants as faults;
 
+use crate::datatypes::Datatype;
 use crate::definitions::{Definition, TermType};
 use crate::faults::JsonFault;
 use crate::prefixes::{cut_prefix, joined};
@@ -41,14 +42,14 @@ fn is_keyword(key: &str) -> bool
 }
 
 /// Whether this is `@id`.
-fn is_id_key(key: &str) -> bool
+pub fn is_id_key(key: &str) -> bool
     ensures { result ≡ is_id_key key.now }
 {
     key == "@id"
 }
 
 /// Whether this is `@type`.
-fn is_type_key(key: &str) -> bool
+pub fn is_type_key(key: &str) -> bool
     ensures { result ≡ is_type_key key.now }
 {
     key == "@type"
@@ -267,7 +268,7 @@ fn read_type(alloc: Global, all: &Members, term: &str, text: &str) -> Result<Ter
         return Err(bad_context(alloc, term));
     }
     match iri_of(alloc, iri.as_str(), text) {
-        Ok(iri) => Ok(TermType::Datatype(iri)),
+        Ok(iri) => Ok(TermType::Datatype(Datatype::from_iri(iri))),
         Err(fault) => Err(fault),
     }
 }

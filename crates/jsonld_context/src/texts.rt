@@ -53,8 +53,8 @@ pub(crate) fn ends_in_delimiter(text: &str) -> bool
     }
 }
 
-/// Whether a text begins with `@`.
-fn begins_as_keyword(text: &str) -> bool
+/// Whether a text begins with `@`, as keywords do.
+pub fn begins_as_keyword(text: &str) -> bool
     ensures { result ≡ begins_as_keyword text.now }
 {
     match text.as_bytes() {
