@@ -1,0 +1,4 @@
+pub mod VariableNames
+pub mod Literals
+pub mod ValueObjects
+pub mod TermWriting

@@ -1,0 +1,16 @@
+//! Values of JSON-LD subjects that are neither arrays nor subjects, both ways, and the variables and subjects that a text meets.
+#![tactic(auto)]
+
+mod datatypes;
+mod faults;
+mod literals;
+mod names;
+mod plain_numbers;
+mod value_objects;
+mod writing;
+
+pub use faults::{bad_subject, unsupported};
+pub use literals::{boolean_object, number_object, string_object};
+pub use names::Names;
+pub use value_objects::value_object;
+pub use writing::write_term;
