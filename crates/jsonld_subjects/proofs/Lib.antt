@@ -1,0 +1,9 @@
+pub mod ShortKeys
+pub mod WholeNumbers
+pub mod WrittenTerms
+pub mod KeyedMembers
+pub mod IdMembers
+pub mod SubjectsGivenBack
+pub mod Runs
+pub mod Putting
+pub mod MemberLaws

@@ -1,0 +1,5 @@
+pub mod SubjectReading
+pub mod SubjectWriting
+pub mod GivingBack
+pub mod KeyRuns
+pub mod MemberReading

@@ -1,0 +1,137 @@
+//! Terms under the keys of a subject.
+ghost use Rattle.std.specs.Prelude.{◌≡◌, IfOk, codes, if◌then◌else◌};
+ghost use Rattle.rdf_terms.specs.Literal.{is_same};
+ghost use Rattle.serde_json.specs.Data.{string};
+ghost use Rattle.serde_json.specs.View.{view};
+ghost use Rattle.jsonld_context.specs.ShortForms.{compact_key};
+ghost use Rattle.jsonld_subjects.specs.SubjectReading.{rdf_type};
+ghost use Rattle.jsonld_subjects.specs.SubjectWriting.{key_of, keyed_of, keyed_cmp, data_under};
+
+use crate::ids::RDF_TYPE;
+use iri_rules::Text;
+use jsonld_context::Context;
+use jsonld_values::write_term;
+use rdf_terms::{Iri, Term, Triple, cmp_terms};
+use serde_json::Value;
+use std::alloc::{AllocError, Global};
+use std::cmp::Ordering;
+use std::marker::Model;
+
+/// The key of types.
+const TYPE_KEY: &str = "@type";
+
+/// A value of a subject: the key under which it stands, and the term that it is.
+#[derive(Debug, Drop)]
+pub(crate) struct KeyedTerm {
+    key: Text,
+    term: Term,
+}
+
+impl Model for KeyedTerm {
+    ghost use Rattle.jsonld_subjects.specs.SubjectWriting.{KeyedTerm as KeyedValue};
+
+    ghost Value = { KeyedValue };
+
+    ghost view = { λ keyed. record { key = keyed.key; term = keyed.term } };
+}
+
+impl KeyedTerm {
+    /// The object of a triple under its key.
+    pub(crate) fn of_triple(
+        alloc: Global,
+        triple: &Triple,
+        context: &Context,
+    ) -> Result<KeyedTerm, AllocError>
+        ensures { IfOk result (λ keyed. keyed ≡ keyed_of context.now triple.now) }
+    {
+        let key = key_of(alloc, &triple.p, &triple.o, context)?;
+        let term = triple.o.share()?;
+        Ok(KeyedTerm { key, term })
+    }
+
+    /// The key.
+    pub(crate) fn key(&self) -> &str
+        ensures { result.now ≡ self.now.key }
+    {
+        self.key.as_str()
+    }
+
+    /// The JSON value of the term under the key.
+    pub(crate) fn write(&self, alloc: Global, context: &Context) -> Result<Value, AllocError>
+        ensures { IfOk result (λ value. view value ≡ data_under context.now self.now.key self.now.term) }
+    {
+        write_under(alloc, self.key.as_str(), &self.term, context)
+    }
+
+    /// Compares by keys, and under one key by terms.
+    pub(crate) fn compare(&self, other: &KeyedTerm) -> Ordering
+        ensures { result ≡ keyed_cmp self.now other.now }
+    {
+        self.key
+            .as_str()
+            .cmp(&other.key.as_str())
+            .then_with(|| cmp_terms(&self.term, &other.term))
+    }
+}
+
+/// Whether a property is rdf:type.
+#[tactic(auto, unfolding(crate::specs::SubjectReading::rdf_type))]
+fn is_type(property: &Iri) -> bool
+    ensures { result ≡ is_same property.now rdf_type }
+{
+    property.as_str() == RDF_TYPE
+}
+
+/// The key of an object of a property.
+fn key_of(alloc: Global, property: &Iri, term: &Term, context: &Context) -> Result<Text, AllocError>
+    ensures { IfOk result (λ key. key ≡ key_of context.now property.now term.now) }
+{
+    match term {
+        Term::Iri(_) => key_of_iri(alloc, property, context),
+        Term::Literal(_) => context.compact_key(alloc, property),
+    }
+}
+
+/// The key of an IRI that is the object of a property.
+fn key_of_iri(alloc: Global, property: &Iri, context: &Context) -> Result<Text, AllocError>
+    ensures { IfOk result (λ key. key ≡ (if is_same property.now rdf_type then codes "@type" else compact_key context.now property.now)) }
+{
+    if is_type(property) {
+        return Text::new(alloc, TYPE_KEY);
+    }
+    context.compact_key(alloc, property)
+}
+
+/// The JSON value of a term under a key.
+fn write_under(
+    alloc: Global,
+    key: &str,
+    term: &Term,
+    context: &Context,
+) -> Result<Value, AllocError>
+    ensures { IfOk result (λ value. view value ≡ data_under context.now key.now term.now) }
+{
+    match term {
+        Term::Iri(iri) => {
+            if key == TYPE_KEY {
+                return write_type(alloc, iri, context);
+            }
+            write_term(alloc, term, context)
+        }
+        Term::Literal(_) => write_term(alloc, term, context),
+    }
+}
+
+/// An IRI as a value of `@type`.
+fn write_type(alloc: Global, iri: &Iri, context: &Context) -> Result<Value, AllocError>
+    ensures { IfOk result (λ value. view value ≡ string (compact_key context.now iri.now)) }
+{
+    text_value(alloc, context.compact_key(alloc, iri)?.as_str())
+}
+
+/// A text as a JSON string.
+pub(crate) fn text_value(alloc: Global, text: &str) -> Result<Value, AllocError>
+    ensures { IfOk result (λ value. view value ≡ string text.now) }
+{
+    Ok(Value::String(String::from_str(alloc, text)?))
+}
