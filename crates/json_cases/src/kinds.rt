@@ -1,0 +1,29 @@
+//! The kinds of lines, by their first words. Each kind has a module with a function that says what a line of it gives, as text; `None`
+//! where the line isn't one of its kind.
+use crate::held::Held;
+use crate::lines::Line;
+use crate::{contexts, expanding, shorts, subjects, types, variables, written};
+use std::alloc::{AllocError, Global};
+
+/// What a line gives.
+pub fn given_by(
+    alloc: Global,
+    held: &mut Held,
+    line: &Line<'_>,
+) -> Result<Option<String>, AllocError> {
+    let input = line.input;
+    match line.word {
+        "context" => contexts::given_by(alloc, held, input),
+        "printed" => contexts::printed_by(alloc, input),
+        "key" => expanding::key_given_by(alloc, held, input),
+        "id" => expanding::id_given_by(alloc, held, input),
+        "type" => types::given_by(alloc, held, input),
+        "short" => shorts::given_by(alloc, held, input),
+        "variable" => variables::given_by(alloc, input),
+        "pattern" | "insert" => subjects::given_by(alloc, held, line.word, input),
+        "count" => subjects::count_given_by(alloc, held, input),
+        "written" => written::written_given_by(alloc, held, input),
+        "again" => written::again_given_by(alloc, held, input),
+        _ => Ok(None),
+    }
+}

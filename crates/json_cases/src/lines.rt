@@ -1,0 +1,45 @@
+//! Lines: a word, what is given behind it, and what that has to give.
+
+/// What stands before the part that says what is wanted.
+const ARROW: &str = " => ";
+
+/// A case.
+#[derive(Clone, Copy)]
+pub struct Line<'a> {
+    /// Its first word, which says the kind.
+    pub word: &'a str,
+    /// What is given.
+    pub input: &'a str,
+    /// What it has to give; empty where nothing is said of it.
+    pub wanted: &'a str,
+}
+
+/// The case of a line; `None` where it is empty or a comment.
+pub fn line_of(text: &str) -> Option<Line<'_>> {
+    if text.is_empty() || text.starts_with('#') {
+        return None;
+    }
+    let (front, wanted) = cut_arrow(text);
+    let (word, input) = cut_word(front);
+    Some(Line {
+        word,
+        input,
+        wanted,
+    })
+}
+
+/// What stands before the last arrow, and what behind it.
+fn cut_arrow(text: &str) -> (&str, &str) {
+    match text.rsplit_once(ARROW) {
+        Some(parts) => parts,
+        None => (text, ""),
+    }
+}
+
+/// The first word of a text, and what stands behind its space.
+pub fn cut_word(text: &str) -> (&str, &str) {
+    match text.split_once(' ') {
+        Some(parts) => parts,
+        None => (text, ""),
+    }
+}

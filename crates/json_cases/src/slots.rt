@@ -1,0 +1,87 @@
+//! Triples with variables as lines: IRIs, literals, variables and subjects without an id.
+use jrql_ast::{PatternTriple, Slot, VARIABLE_LIMIT};
+use jsonld_values::Names;
+use rdf_terms::{Literal, Term};
+use std::alloc::{AllocError, Global};
+use std::fmt::Write;
+
+/// xsd:string, which is left out.
+const XSD_STRING: &str = "http://www.w3.org/2001/XMLSchema#string";
+
+/// The triples as lines without their last dot, in the order of bytes.
+pub fn lines_of(
+    alloc: Global,
+    triples: &[PatternTriple],
+    names: &Names,
+) -> Result<Vec<String>, AllocError> {
+    let mut lines = Vec::new(alloc);
+    for triple in triples {
+        lines.push(line_of(alloc, triple, names)?)?;
+    }
+    lines.sort()?;
+    Ok(lines)
+}
+
+/// A triple as a line.
+fn line_of(alloc: Global, triple: &PatternTriple, names: &Names) -> Result<String, AllocError> {
+    let mut line = String::new(alloc);
+    put_slot(&mut line, &triple.s, names)?;
+    line.push(' ')?;
+    put_slot(&mut line, &triple.p, names)?;
+    line.push(' ')?;
+    put_slot(&mut line, &triple.o, names)?;
+    Ok(line)
+}
+
+/// Puts what stands in a place at the end of a line.
+fn put_slot(line: &mut String, slot: &Slot, names: &Names) -> Result<(), AllocError> {
+    match slot {
+        Slot::Term(Term::Iri(iri)) => put_iri(line, iri.as_str()),
+        Slot::Term(Term::Literal(literal)) => put_literal(line, literal),
+        Slot::Var(number) => put_variable(line, usize::from(*number), names),
+        Slot::Fresh(number) => put_nameless(line, u64::from(*number)),
+    }
+}
+
+/// Puts an IRI.
+fn put_iri(line: &mut String, iri: &str) -> Result<(), AllocError> {
+    line.push('<')?;
+    line.push_str(iri)?;
+    line.push('>')?;
+    Ok(())
+}
+
+/// Puts a literal, its lexical form as it is.
+fn put_literal(line: &mut String, literal: &Literal) -> Result<(), AllocError> {
+    line.push('"')?;
+    line.push_str(literal.lexical())?;
+    line.push('"')?;
+    if let Some(tag) = literal.language() {
+        line.push('@')?;
+        line.push_str(tag)?;
+    }
+    match literal.datatype() {
+        None => Ok(()),
+        Some(XSD_STRING) => Ok(()),
+        Some(datatype) => {
+            line.push_str("^^")?;
+            put_iri(line, datatype)
+        }
+    }
+}
+
+/// Puts a variable: its name, or where it has none its number among those that have none.
+fn put_variable(line: &mut String, number: usize, names: &Names) -> Result<(), AllocError> {
+    match names.name(number) {
+        Some(name) => {
+            line.push_str(name)?;
+            Ok(())
+        }
+        None => put_nameless(line, number.saturating_sub(VARIABLE_LIMIT) as u64),
+    }
+}
+
+/// Puts the number of a subject without an id.
+fn put_nameless(line: &mut String, number: u64) -> Result<(), AllocError> {
+    write!(line, "_:{number}")
+}
