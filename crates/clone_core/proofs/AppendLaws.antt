@@ -8,64 +8,25 @@ use Rattle.tree_clock.specs.Limits.{path_limit}
 use Rattle.tree_clock.specs.Path.{zero_letter}
 use Rattle.tree_clock.specs.declared.dots.Dot.{Dot}
 use Rattle.op_fusion.proofs.Applied.{applied}
-use Rattle.journal_store.proofs.Mounted.{told_before}
 use Rattle.journal_store.proofs.Ready.{ready_same}
-use Rattle.journal_store.proofs.RecordReading.{known_more}
-use Rattle.journal_store.specs.Calls.{KeptBy, MayAppend, MayFork}
-use Rattle.journal_store.specs.Pairs.{Kept, Keeps, with_entry, with_fork}
+use Rattle.journal_store.specs.Pairs.{Kept, with_fork}
 use Rattle.journal_store.specs.Records.{known_after}
-use Rattle.journal_store.specs.Standing.{JournalValue, KeepsJust, KeepsNow}
+use Rattle.journal_store.specs.Standing.{JournalValue, KeepsJust}
+use Rattle.journal_store.specs.declared.faults.SwapFault.{SwapFault}
+use Rattle.journal_store.specs.declared.faults.SwapFault.TheVariants as swap
 use Rattle.journal_store.specs.declared.faults.Why.{Why}
 use Rattle.journal_store.specs.declared.faults.Why.TheVariants as why
 use Rattle.clone_plans.specs.Making.{IsNextEntry}
 use Rattle.clone_plans.specs.Plans.{IsPlanFrom}
-use Rattle.clone_plans.specs.Replays.{AreReadyEntries}
 use Rattle.clone_plans.specs.declared.plans.Plan.{Plan}
 use Rattle.clone_plans.proofs.MakingLaws.{local_ascends, own_ready}
 use Rattle.clone_plans.proofs.ReadyLaws.{SameTicks, known_leads, leads_ready}
-use Rattle.clone_core.specs.Appending.{KeepsIfTold, with_entries, MayAppendAll, MayForkNow, LeavesStopped}
+use Rattle.clone_banks.specs.Appending.{KeepsIfTold, with_entries, MayAppendAll, MayForkNow, LeavesStopped}
+use Rattle.clone_banks.specs.Swapping.{LeavesUnmerged}
 use Rattle.clone_core.specs.Banked.{head_of, kept_as, IsOnBanks}
-use Rattle.clone_core.proofs.StopLaws.{none_some}
+use Rattle.clone_banks.proofs.RefusedLaws.{none_some}
 
--- ---- what banks keep
-
-same_log : (now : Option Log) (a b : Log) → now ≡ Some a → now ≡ Some b → a ≡ b
-same_log now a b x y = cc
-
--- a call that keeps something else where banks tell their log
-pub keeps_next : (before now : Option Log) (closed : Option Why) (kept next : Kept) → closed ≡ None → (before ≡ None → now ≡ None)
-    → KeepsIfTold kept before → (KeptBy before closed kept → KeepsNow next now) → KeepsIfTold next now
-keeps_next before now closed kept next is_open untold keeps told log e =
-    told_before before now log untold e (λ old is.
-    let just = keeps old is in
-    let news = told (record { log = old; now_is = is; opened = is_open; reads = just.reads }) in
-    subst (λ (l : Log). KeepsJust next l) (same_log now news.log log news.now_is e) news.keeps)
-
--- what is kept is one thing
-kept_same : (a b : Kept) → Keeps a ≡ Keeps b → a ≡ b
-kept_same a b e = cc
-
-pub kept_is : (now : Option Log) (closed : Option Why) (kept other : Kept) → KeepsIfTold kept now → KeptBy now closed other → other ≡ kept
-kept_is now closed kept other keeps by = kept_same other kept (sym by.reads ∙ (keeps by.log by.now_is).reads)
-
--- the first entry that may be appended
-pub may_append : (now : Option Log) (closed : Option Why) (entry : EntryValue) (entries : List EntryValue) → MayAppendAll now (entry ∷ entries)
-    → (kept : Kept) → KeptBy now closed kept → MayAppend entry kept
-may_append now closed entry entries may kept by =
-    subst (λ (k : Kept). MayAppend entry k) (sym (kept_is now closed may.kept kept may.keeps by)) may.ready.0
-
--- and a fork
-pub may_fork : (now : Option Log) (closed : Option Why) → MayForkNow now → (kept : Kept) → KeptBy now closed kept → MayFork kept
-may_fork now closed may kept by = subst (λ (k : Kept). MayFork k) (sym (kept_is now closed may.kept kept may.keeps by)) may.room
-
--- those behind it may be appended once it is
-pub may_rest : (before now : Option Log) (entry : EntryValue) (entries : List EntryValue) → MayAppendAll before (entry ∷ entries)
-    → ((kept : Kept) → KeepsIfTold kept before → KeepsIfTold (with_entry entry kept) now) → MayAppendAll now entries
-may_rest before now entry entries may keeps = record {
-  kept = with_entry entry may.kept;
-  keeps = keeps may.kept may.keeps;
-  ready = subst (λ (ts : List (List ℕ × ℕ)). AreReadyEntries ts entries) (sym (known_more may.kept.head.base.ticks may.kept.entries entry)) may.ready.1;
-}
+-- ---- what may be appended
 
 -- what a clone's banks keep is what it knows
 banks_know : (clone : LocalClone) → IsLocal clone → SameTicks clone.ticks (known_after clone.base clone.entries)
@@ -135,12 +96,28 @@ module _ (now : Option Log) (journal closed : Option Why) (was side : Side) (had
       λ i. record { side = sym at i; generation = sym of i; head = sym head i; entries = sym is i } in
       open_on_banks now journal closed side generation new (with_entries entries (kept_as was had clone)) is_open keeps same
 
+-- a call was refused that changed nothing
+unchanged_on_banks : {B : Type 0} (log : B → Option Log) (was now : JournalValue B) (closed : Option Why) (clone : LocalClone)
+    → IsOnBanks (log was.banks) was.closed None was.side was.generation clone → now ≡ was → closed ≡ None
+    → IsOnBanks (log now.banks) now.closed closed now.side now.generation clone
+unchanged_on_banks log was now closed clone banks same is_open =
+    subst (λ (c : Option Why). IsOnBanks (log now.banks) now.closed c now.side now.generation clone) (sym is_open)
+    (subst (λ (j : JournalValue _). IsOnBanks (log j.banks) j.closed None j.side j.generation clone) (sym same) banks)
+
 -- an append was refused
 pub stopped_on_banks : {B : Type 0} (log : B → Option Log) (was now : JournalValue B) (closed : Option Why) (told : Why) (clone : LocalClone)
     → IsOnBanks (log was.banks) was.closed None was.side was.generation clone → LeavesStopped false was now closed told
     → IsOnBanks (log now.banks) now.closed closed now.side now.generation clone
 stopped_on_banks log was now closed why.Device clone banks h = shut_on_banks (log now.banks) now.closed closed why.Device now.side now.generation clone h
 stopped_on_banks log was now closed why.NoMemory clone banks (inr h) = shut_on_banks (log now.banks) now.closed closed why.NoMemory now.side now.generation clone h
-stopped_on_banks log was now closed why.NoMemory clone banks (inl h) =
-    subst (λ (c : Option Why). IsOnBanks (log now.banks) now.closed c now.side now.generation clone) (sym h.2)
-    (subst (λ (j : JournalValue _). IsOnBanks (log j.banks) j.closed None j.side j.generation clone) (sym h.1) banks)
+stopped_on_banks log was now closed why.NoMemory clone banks (inl h) = unchanged_on_banks log was now closed clone banks h.1 h.2
+
+-- a swap, or an append behind it, was refused
+pub unmerged_on_banks : {B : Type 0} (log : B → Option Log) (was now : JournalValue B) (closed : Option Why) (told : SwapFault) (clone : LocalClone)
+    → IsOnBanks (log was.banks) was.closed None was.side was.generation clone → LeavesUnmerged was now closed told
+    → IsOnBanks (log now.banks) now.closed closed now.side now.generation clone
+unmerged_on_banks log was now closed (swap.Closed reason) clone banks h = absurd h
+unmerged_on_banks log was now closed swap.GenerationsSpent clone banks h = unchanged_on_banks log was now closed clone banks h.0 h.1
+unmerged_on_banks log was now closed swap.Device clone banks h = shut_on_banks (log now.banks) now.closed closed why.Device now.side now.generation clone h.0
+unmerged_on_banks log was now closed swap.NoMemory clone banks (inl h) = unchanged_on_banks log was now closed clone banks h.0 h.1
+unmerged_on_banks log was now closed swap.NoMemory clone banks (inr h) = shut_on_banks (log now.banks) now.closed closed why.NoMemory now.side now.generation clone h.0

@@ -1,8 +1,6 @@
 -- Journals that are truncated.
-use Rattle.std.proofs.Common.{◌≡◌, ◌∙◌, ℕ, zero, suc, ◌-◌, ◌<◌, ◌≤◌, List, [], ◌∷◌, ◌++◌, length, take, drop, inl, inr, refl, sym, ap, arith}
-use Rattle.std.proofs.Math.Seq.{take-append_seam}
+use Rattle.std.proofs.Common.{ℕ, zero, suc, ◌-◌, ◌<◌, ◌≤◌, List, [], ◌∷◌, length, take, drop, inl, inr, refl, arith}
 use Rattle.std.proofs.lemmas.Bool.{cases_lt}
-use Rattle.std.proofs.lemmas.List.{length-drop}
 use Rattle.tree_clock.specs.Clock.{IsClock}
 use Rattle.mld_ops.specs.declared.tagged.Tagged.{Tagged}
 use Rattle.mld_ops.specs.Entry.{EntryValue}
@@ -13,7 +11,7 @@ use Rattle.mld_model.specs.Local.{LocalClone, IsLocal, LeadsTo, LocallyTruncates
 use Rattle.mld_model.proofs.TruncatedStands.{truncated_local}
 use Rattle.clone_plans.specs.Replays.{AreReadyEntries}
 use Rattle.clone_plans.proofs.ReadyLaws.{leads_ready}
-use Rattle.clone_core.specs.Closing.{swap_calls}
+use Rattle.clone_banks.specs.BankCalls.{swap_calls}
 use Rattle.clone_core.specs.Keeping.{CutCalls}
 
 none_both : (keep count : ℕ) → keep < count → ¬ (count ≤ keep)
@@ -52,9 +50,3 @@ module _ (old : LocalClone) (keep : ℕ) (base : List (List ℕ × ℕ)) (pairs 
   -- its entries may stand behind its base
   pub rest_ready : IsLocal cut_clone → AreReadyEntries base (drop (length old.entries - keep) old.entries)
   rest_ready local = leads_ready base base pairs (drop (length old.entries - keep) old.entries) old.ticks old.pairs (λ path. refl) local.leads
-
--- entries that are turned until the first of them stand last, and then cut off there
-pub turned_front : (count : ℕ) (entries : List EntryValue) → take (length entries - count) (drop count entries ++ take count entries) ≡ drop count entries
-turned_front count entries =
-    let back = drop count entries in
-    ap (λ (n : ℕ). take n (back ++ take count entries)) (sym (length-drop count entries)) ∙ take-append_seam back (take count entries)

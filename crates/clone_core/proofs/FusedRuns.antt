@@ -9,7 +9,7 @@ use Rattle.mld_ops.specs.Entry.{EntryValue}
 use Rattle.op_fusion.specs.Compacting.{alone, AreFusedRuns, HasNeighbours}
 use Rattle.op_fusion.specs.Fusion.{AreNeighbours}
 use Rattle.op_fusion.proofs.Rows.{behind_first, few_lack}
-use Rattle.clone_core.specs.Closing.{swap_calls}
+use Rattle.clone_banks.specs.BankCalls.{swap_calls}
 use Rattle.clone_core.specs.Keeping.{KeepCalls}
 
 -- entries of which no two neighbours stand side by side are fused runs as they are

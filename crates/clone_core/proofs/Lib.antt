@@ -3,7 +3,6 @@ pub mod Taking
 pub mod Joining
 pub mod AppendLaws
 pub mod StopLaws
-pub mod Appended
 pub mod Begun
 pub mod Removing
 pub mod Mounting

@@ -4,6 +4,8 @@ use Rattle.mld_io.specs.Arm.{Meter, Metered}
 use Rattle.mld_ops.specs.Entry.{EntryValue}
 use Rattle.mld_ops.specs.Messages.{SnapshotValue}
 use Rattle.journal_store.specs.Standing.{JournalValue}
+use Rattle.journal_store.specs.declared.faults.SwapFault.{SwapFault}
+use Rattle.journal_store.specs.declared.faults.SwapFault.TheVariants as swap
 use Rattle.journal_store.specs.declared.faults.Why.{Why}
 use Rattle.mld_model.specs.Local.{LocalClone, IsLocal, LocallyReleases, LocallyMerges, KnowsSnapshot}
 use Rattle.mld_model.proofs.MergedStands.{merged_local}
@@ -12,11 +14,14 @@ use Rattle.clone_plans.specs.Plans.{left_of}
 use Rattle.clone_plans.specs.Replays.{AreReadyEntries}
 use Rattle.clone_plans.specs.declared.merges.Merge.{Merge}
 use Rattle.clone_plans.proofs.ReadyLaws.{leads_ready}
-use Rattle.clone_core.specs.Merging.{LeavesUnmerged, MergeCalls}
+use Rattle.clone_banks.specs.Swapping.{LeavesUnmerged}
+use Rattle.clone_banks.proofs.MeterLaws.{Metered-none, Metered-as}
+use Rattle.clone_banks.proofs.RefusedLaws.{err_same, ok_err}
+use Rattle.clone_core.specs.CloneFaults.{receive_fault_of_swap}
+use Rattle.clone_core.specs.Merging.{MergeCalls}
 use Rattle.clone_core.specs.declared.answers.Got.{Got}
 use Rattle.clone_core.specs.declared.faults.ReceiveFault.{ReceiveFault}
 use Rattle.clone_core.specs.declared.faults.ReceiveFault.TheVariants as fault
-use Rattle.clone_core.proofs.StopLaws.{Metered-none, Metered-as, err_same, ok_err}
 use Rattle.clone_core.proofs.Taking.{releases_shorter}
 
 -- ---- the clone
@@ -60,12 +65,24 @@ module _ (old : LocalClone) (snapshot : SnapshotValue) (merge : Merge) (of : IsM
 -- ---- what a refusal tells
 
 -- it tells of generations what the swap tells
-pub spent_as : {T U : Type 0} (told : ReceiveFault) (had generation : ℕ) → had ≡ generation
-    → IsErrOf {T = T} (Err told) fault.GenerationsSpent ↔ ((had ≡ 2 ^ 64 - 1) × ¬ IsErrOf {T = T} (Err told) fault.NoMemory)
-    → IsErrOf {T = U} (Err told) fault.GenerationsSpent ↔ ((generation ≡ 2 ^ 64 - 1) × ¬ IsErrOf {T = U} (Err told) fault.NoMemory)
+spent_of : (told : SwapFault) → receive_fault_of_swap told ≡ fault.GenerationsSpent → told ≡ swap.GenerationsSpent
+spent_of (swap.Closed reason) e = absurd cc
+spent_of swap.GenerationsSpent e = refl
+spent_of swap.Device e = absurd cc
+spent_of swap.NoMemory e = absurd cc
+
+memory_of : (told : SwapFault) → receive_fault_of_swap told ≡ fault.NoMemory → told ≡ swap.NoMemory
+memory_of (swap.Closed reason) e = absurd cc
+memory_of swap.GenerationsSpent e = absurd cc
+memory_of swap.Device e = absurd cc
+memory_of swap.NoMemory e = refl
+
+pub spent_as : {T U : Type 0} (told : SwapFault) (had generation : ℕ) → had ≡ generation
+    → IsErrOf {T = T} (Err told) swap.GenerationsSpent ↔ ((had ≡ 2 ^ 64 - 1) × ¬ IsErrOf {T = T} (Err told) swap.NoMemory)
+    → IsErrOf {T = U} (Err (receive_fault_of_swap told)) fault.GenerationsSpent ↔ ((generation ≡ 2 ^ 64 - 1) × ¬ IsErrOf {T = U} (Err (receive_fault_of_swap told)) fault.NoMemory)
 spent_as told had generation same spent = (
-  λ e. let has = spent.0 (ap Err (err_same e)) in (sym same ∙ has.0, λ n. has.1 (ap Err (err_same n))),
-  λ has. ap Err (err_same (spent.1 (same ∙ has.0, λ n. has.1 (ap Err (err_same n))))),
+  λ e. let has = spent.0 (ap Err (spent_of told (err_same e))) in (sym same ∙ has.0, λ n. has.1 (ap Err (memory_of told (err_same n)))),
+  λ has. ap Err (ap receive_fault_of_swap (err_same (spent.1 (same ∙ has.0, λ n. has.1 (ap Err (ap receive_fault_of_swap (err_same n))))))),
 )
 
 -- ---- calls of the device
@@ -80,29 +97,26 @@ moved {D = D} {F = F} n had before now same h = subst (λ k. Metered n k now D F
 
 -- those of a swap and appends that were done
 pub merged_calls : {U : Type 0} (n : ℕ) (had before now : Meter) → had ≡ before → (x : U) (got : Got)
-    → Metered n had now (IsOk {T = U} {E = ReceiveFault} (Ok x)) (IsErrOf {T = U} {E = ReceiveFault} (Ok x) fault.Device)
+    → Metered n had now (IsOk {T = U} {E = SwapFault} (Ok x)) (IsErrOf {T = U} {E = SwapFault} (Ok x) swap.Device)
     → Metered n before now (IsOk {T = Got} {E = ReceiveFault} (Ok got)) (IsErrOf {T = Got} {E = ReceiveFault} (Ok got) fault.Device)
 merged_calls n had before now same x got m =
     moved n had before now same (Metered-as n had now m (λ d. refl) (λ e. absurd (ok_err e)) (λ e. absurd (ok_err e)))
 
 -- and of those that were refused
 module _ {B U : Type 0} (meter : B → Meter) (n : ℕ) (was now : JournalValue B) (shut : Option Why) (before : Meter) (same : meter was.banks ≡ before) where
-  pub unmerged_calls : (told : ReceiveFault) → LeavesUnmerged was now shut told
-      → Metered n (meter was.banks) (meter now.banks) (IsOk {T = U} {E = ReceiveFault} (Err told)) (IsErrOf {T = U} (Err told) fault.Device)
-      → (calls : ℕ) × MergeCalls (Err told) calls
-      × Metered calls before (meter now.banks) (IsOk {T = Got} {E = ReceiveFault} (Err told)) (IsErrOf {T = Got} (Err told) fault.Device)
-  unmerged_calls fault.Device leaves m =
+  pub unmerged_calls : (told : SwapFault) → LeavesUnmerged was now shut told
+      → Metered n (meter was.banks) (meter now.banks) (IsOk {T = U} {E = SwapFault} (Err told)) (IsErrOf {T = U} (Err told) swap.Device)
+      → (calls : ℕ) × MergeCalls (Err (receive_fault_of_swap told)) calls
+      × Metered calls before (meter now.banks) (IsOk {T = Got} {E = ReceiveFault} (Err (receive_fault_of_swap told))) (IsErrOf {T = Got} (Err (receive_fault_of_swap told)) fault.Device)
+  unmerged_calls swap.Device leaves m =
       (n, tt, moved n (meter was.banks) before (meter now.banks) same (Metered-as n (meter was.banks) (meter now.banks) m (λ e. absurd cc) (λ e. refl) (λ e. refl)))
-  unmerged_calls fault.NoMemory leaves m =
+  unmerged_calls swap.NoMemory leaves m =
       (n, tt, moved n (meter was.banks) before (meter now.banks) same (Metered-as n (meter was.banks) (meter now.banks) m (λ e. absurd cc) (λ e. absurd cc) (λ e. absurd cc)))
-  unmerged_calls fault.GenerationsSpent leaves m =
+  unmerged_calls swap.GenerationsSpent leaves m =
       let stays : before ≡ meter now.banks = sym same ∙ ap (λ (j : JournalValue B). meter j.banks) (sym leaves.0) in (
         0,
         refl,
         subst (λ (k : Meter). Metered 0 before k (IsOk {T = Got} {E = ReceiveFault} (Err fault.GenerationsSpent)) (IsErrOf {T = Got} {E = ReceiveFault} (Err fault.GenerationsSpent) fault.Device)) stays
             (Metered-none before (λ f. absurd cc)),
       )
-  unmerged_calls fault.HeldFull leaves m = absurd leaves
-  unmerged_calls fault.Deep leaves m = absurd leaves
-  unmerged_calls (fault.Closed reason) leaves m = absurd leaves
-  unmerged_calls (fault.ForeignTick said own) leaves m = absurd leaves
+  unmerged_calls (swap.Closed reason) leaves m = absurd leaves

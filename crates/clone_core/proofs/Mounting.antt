@@ -11,7 +11,7 @@ use Rattle.mld_model.specs.Local.{LocalClone}
 use Rattle.clone_core.specs.Banked.{kept_as, IsOnBanks}
 use Rattle.clone_core.specs.Beginning.{found_clone}
 use Rattle.clone_plans.specs.declared.replays.Replayed.{Replayed}
-use Rattle.clone_core.proofs.StopLaws.{none_some}
+use Rattle.clone_banks.proofs.RefusedLaws.{none_some}
 
 some_same : {X : Type 0} {x y : X} → ◌≡◌ {A = Option X} (Some x) (Some y) → x ≡ y
 some_same e = cc

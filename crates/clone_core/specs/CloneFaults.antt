@@ -28,13 +28,13 @@ receive_fault_of why.Device = fault.Device
 receive_fault_of why.NoMemory = fault.NoMemory
 
 -- why a snapshot is refused whose swap was not done
-abbrev pub receive_fault_of_keep : KeepFault → ReceiveFault
-receive_fault_of_keep (keep.Closed reason) = fault.Closed reason
-receive_fault_of_keep keep.GenerationsSpent = fault.GenerationsSpent
-receive_fault_of_keep keep.Device = fault.Device
-receive_fault_of_keep keep.NoMemory = fault.NoMemory
+abbrev pub receive_fault_of_swap : SwapFault → ReceiveFault
+receive_fault_of_swap (swap.Closed reason) = fault.Closed reason
+receive_fault_of_swap swap.GenerationsSpent = fault.GenerationsSpent
+receive_fault_of_swap swap.Device = fault.Device
+receive_fault_of_swap swap.NoMemory = fault.NoMemory
 
--- the fault of a swap as a clone tells it
+-- why a journal was not compacted or truncated whose swap was not done
 abbrev pub keep_fault_of : SwapFault → KeepFault
 keep_fault_of (swap.Closed reason) = keep.Closed reason
 keep_fault_of swap.GenerationsSpent = keep.GenerationsSpent

@@ -4,6 +4,7 @@ use Rattle.journal_store.specs.declared.faults.MakeFault.{MakeFault}
 use Rattle.journal_store.specs.declared.faults.MakeFault.TheVariants as make
 use Rattle.journal_store.specs.declared.faults.Why.{Why}
 use Rattle.journal_store.specs.declared.faults.Why.TheVariants as why
+use Rattle.clone_banks.specs.BankCalls.{append_calls}
 use Rattle.clone_core.specs.Banked.{BankedClone}
 use Rattle.clone_core.specs.declared.answers.Done.{Done}
 use Rattle.clone_core.specs.declared.answers.Done.TheVariants as done
@@ -45,16 +46,7 @@ pub record StaysOpen {B : Type 0} (old new : BankedClone B) : Type 0 where
 
 -- ---- how many calls that write or sync
 
--- an append makes four calls of the device, a create and a swap six, a mount two
-abbrev pub append_calls : ℕ
-append_calls = 4
-
-abbrev pub create_calls : ℕ
-create_calls = 6
-
-abbrev pub swap_calls : ℕ
-swap_calls = 6
-
+-- a mount makes two
 abbrev pub mount_calls : ℕ
 mount_calls = 2
 

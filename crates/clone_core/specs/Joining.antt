@@ -8,8 +8,8 @@ use Rattle.mld_ops.specs.declared.messages.Message.TheVariants as message
 use Rattle.mld_ops.specs.Messages.{give_value, message_value, IsGoodMessage}
 use Rattle.journal_store.specs.declared.faults.MakeFault.TheVariants as make
 use Rattle.mld_model.specs.Local.{LocalClone, LocalAsker, LocallyForks, joined_clone}
+use Rattle.clone_banks.specs.BankCalls.{create_calls}
 use Rattle.clone_core.specs.Banked.{BankedAsker}
-use Rattle.clone_core.specs.Closing.{create_calls}
 use Rattle.clone_core.specs.declared.askers.Adopted.{Adopted}
 use Rattle.clone_core.specs.declared.askers.Adopted.TheVariants as adopted
 use Rattle.clone_core.specs.declared.answers.Got.{Got}

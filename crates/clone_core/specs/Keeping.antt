@@ -1,15 +1,12 @@
 -- Keeping a journal compacted or truncated: what it makes of a clone and of what its banks keep, what a refusal leaves, and how many calls it makes.
-use Rattle.std.specs.Prelude.{◌≡◌, ◌⊎◌, ◌<◌, ◌≤◌, ℕ, ◌+◌, ◌-◌, ◌^◌, List, Option, None, Some, length}
-use Rattle.mld_io.specs.Disk.{other_side}
+use Rattle.std.specs.Prelude.{◌≡◌, ◌<◌, ◌≤◌, ℕ, ◌+◌, ◌-◌, ◌^◌, List, None, length}
 use Rattle.mld_ops.specs.Entry.{EntryValue}
 use Rattle.op_fusion.specs.Compacting.{AreFusedRuns, HasNeighbours}
-use Rattle.journal_store.specs.Standing.{JournalValue}
-use Rattle.journal_store.specs.declared.faults.Why.{Why}
 use Rattle.journal_store.specs.declared.faults.Why.TheVariants as why
 use Rattle.mld_model.specs.Local.{LocallyCompacts, LocallyTruncates}
-use Rattle.clone_core.specs.Appending.{LeavesOpen}
+use Rattle.clone_banks.specs.BankCalls.{swap_calls}
 use Rattle.clone_core.specs.Banked.{BankedClone}
-use Rattle.clone_core.specs.Closing.{Shuts, StaysOrShuts, swap_calls}
+use Rattle.clone_core.specs.Closing.{Shuts, StaysOrShuts}
 use Rattle.clone_core.specs.declared.faults.KeepFault.{KeepFault}
 use Rattle.clone_core.specs.declared.faults.KeepFault.TheVariants as keep
 
@@ -62,19 +59,6 @@ pub record CutCalls (entries : List EntryValue) (keep calls : ℕ) : Type 0 wher
   pub stays : length entries ≤ keep → calls ≡ 0
 
 -- ---- the parts of it
-
--- a swap was done: the other side counts, of the next generation, and neither the journal nor the clone is closed
-pub record IsSwapped {B : Type 0} (old new : JournalValue B) (closed : Option Why) : Type 0 where
-  pub opened : LeavesOpen new closed
-  pub side : new.side ≡ other_side old.side
-  pub generation : new.generation ≡ old.generation + 1
-
--- what a swap leaves that was refused, of an open journal and of whether its clone is closed
-abbrev pub LeavesUnswapped : {B : Type 0} → JournalValue B → JournalValue B → Option Why → KeepFault → Type 0
-LeavesUnswapped old new closed (keep.Closed reason) = ⊥
-LeavesUnswapped old new closed keep.GenerationsSpent = (new ≡ old) × (closed ≡ None)
-LeavesUnswapped old new closed keep.Device = closed ≡ Some why.Device
-LeavesUnswapped old new closed keep.NoMemory = ((new ≡ old) × (closed ≡ None)) ⊎ (closed ≡ Some why.NoMemory)
 
 -- a clone whose journal was swapped for one of so many entries
 pub record SwapsTruncated {B : Type 0} (old : BankedClone B) (keep : ℕ) (new : BankedClone B) : Type 0 where

@@ -1,4 +1,3 @@
-pub mod Appending
 pub mod Banked
 pub mod Beginning
 pub mod CloneCalls

@@ -1,18 +1,15 @@
 -- Merging a snapshot: what becomes of it, what a refusal leaves, and how many calls of the device it makes.
-use Rattle.std.specs.Prelude.{◌≡◌, ◌⊎◌, ℕ, ◌+◌, ◌*◌, ◌-◌, ◌^◌, Option, None, Some, Result, Ok, Err, length}
+use Rattle.std.specs.Prelude.{◌≡◌, ◌⊎◌, ℕ, ◌+◌, ◌*◌, ◌-◌, ◌^◌, None, Some, Result, Ok, Err, length}
 use Rattle.tree_clock.specs.Clock.{ticks_of}
 use Rattle.mld_ops.specs.declared.messages.Message.{Message}
 use Rattle.mld_ops.specs.declared.messages.Message.TheVariants as message
 use Rattle.mld_ops.specs.Messages.{SnapshotValue, snapshot_value}
-use Rattle.mld_io.specs.Disk.{Log}
-use Rattle.journal_store.specs.Pairs.{Kept}
-use Rattle.journal_store.specs.Standing.{JournalValue}
 use Rattle.journal_store.specs.declared.faults.Why.{Why}
 use Rattle.journal_store.specs.declared.faults.Why.TheVariants as why
 use Rattle.mld_model.specs.Local.{LocalClone, LocallyMerges, IsForeignSnapshot, KnowsSnapshot}
-use Rattle.clone_core.specs.Appending.{KeepsIfTold}
+use Rattle.clone_banks.specs.BankCalls.{append_calls, swap_calls}
 use Rattle.clone_core.specs.Banked.{BankedClone}
-use Rattle.clone_core.specs.Closing.{StaysOpen, LeavesReceive, ReceiveCalls, append_calls, swap_calls}
+use Rattle.clone_core.specs.Closing.{StaysOpen, LeavesReceive, ReceiveCalls}
 use Rattle.clone_core.specs.declared.answers.Got.{Got}
 use Rattle.clone_core.specs.declared.answers.Got.TheVariants as got
 use Rattle.clone_core.specs.declared.faults.ReceiveFault.{ReceiveFault}
@@ -91,30 +88,6 @@ StopsMerge old new other = ⊥
 abbrev pub LeavesMessage : {B : Type 0} → BankedClone B → Message → BankedClone B → ReceiveFault → Type 0
 LeavesMessage old (message.Snapshot snapshot) new refused = LeavesMerge old new refused
 LeavesMessage old other new refused = LeavesReceive old new refused
-
--- ---- the parts of it
-
--- banks keep something, where they tell their log
-pub record KeepsSome (now : Option Log) : Type 0 where
-  pub kept : Kept
-  pub keeps : KeepsIfTold kept now
-
--- a refusal behind a swap closes the clone for its reason
-abbrev pub ClosesBy : Option Why → ReceiveFault → Type 0
-ClosesBy closed fault.Device = closed ≡ Some why.Device
-ClosesBy closed fault.NoMemory = closed ≡ Some why.NoMemory
-ClosesBy closed other = ⊥
-
--- what a swap and the appends behind it leave where they were refused, of an open journal and of whether its clone is closed; the swap was
--- done, or it wasn't
-abbrev pub LeavesUnmerged : {B : Type 0} → JournalValue B → JournalValue B → Option Why → ReceiveFault → Type 0
-LeavesUnmerged old new closed fault.GenerationsSpent = (new ≡ old) × (closed ≡ None)
-LeavesUnmerged old new closed fault.Device =
-    (closed ≡ Some why.Device) × ((new.generation ≡ old.generation) ⊎ (new.generation ≡ old.generation + 1))
-LeavesUnmerged old new closed fault.NoMemory =
-    ((new ≡ old) × (closed ≡ None))
-    ⊎ ((closed ≡ Some why.NoMemory) × ((new.generation ≡ old.generation) ⊎ (new.generation ≡ old.generation + 1)))
-LeavesUnmerged old new closed other = ⊥
 
 -- ---- how many calls of the device
 

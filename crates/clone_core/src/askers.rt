@@ -1,6 +1,6 @@
 //! Who asks for a leaf, to become a clone.
-use crate::appending::create;
 use crate::clones::MldClone;
+use clone_banks::create;
 use clone_plans::begun_with;
 use iri_rules::Text;
 use journal_store::{Blank, Head, MakeFault};

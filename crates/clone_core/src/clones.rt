@@ -1,12 +1,12 @@
 //! The clone.
-ghost use Rattle.std.specs.Prelude.{◌≡◌, ◌+◌, ◌≤◌, ◌++◌, MatchOption, vec_len, vec_capacity};
+ghost use Rattle.std.specs.Prelude.{◌≡◌, MatchOption};
 ghost use Rattle.clone_core.specs.CloneCalls.{HasRange, LacksRange};
 ghost use Rattle.clone_plans.specs.Plans.{left_of};
 
 use crate::answers::{Covering, Done, Got};
-use crate::appending::{append_entries, append_fork, create};
 use crate::faults::{ReceiveFault, UpdateFault};
 use causal_buffer::{Held, HeldFault, is_known, is_ready};
+use clone_banks::{append_entries, append_fork, create, push_all};
 use clone_plans::{Replayed, deletion, insertion, prepare_own, prepare_plan};
 use graph_index::Graph;
 use iri_rules::Text;
@@ -15,7 +15,6 @@ use mld_io::{Banks, CrashBanks, Leave};
 use mld_ops::{Entry, Give, Message, Messages, Snapshot, Tagged, kept_properties};
 use rdf_terms::{Iri, Triple};
 use std::alloc::{AllocError, Global};
-use std::collections::VecDeque;
 use std::marker::Model;
 use std::slice;
 use std::thread::Threads;
@@ -59,10 +58,11 @@ impl<B: Banks> MldClone<B> {
     ghost use Rattle.mld_io.specs.Disk.{Log};
     ghost use Rattle.journal_store.specs.declared.faults.Why.{Why};
     ghost use Rattle.journal_store.specs.Heads.{head_value};
-    ghost use Rattle.clone_core.specs.Appending.{BeginsJournal};
+    ghost use Rattle.clone_banks.specs.Appending.{BeginsJournal};
+    ghost use Rattle.clone_banks.specs.BankCalls.{append_calls, create_calls};
     ghost use Rattle.clone_core.specs.Banked.{IsOnBanks, KeepsClone};
     ghost use Rattle.clone_core.specs.Beginning.{begun_clone, found_clone};
-    ghost use Rattle.clone_core.specs.Closing.{Shuts, StaysOrShuts, StaysOpen, LeavesUpdate, append_calls, create_calls, UpdateCalls, ReceiveCalls, banks_of_made, FailsToFound};
+    ghost use Rattle.clone_core.specs.Closing.{Shuts, StaysOrShuts, StaysOpen, LeavesUpdate, UpdateCalls, ReceiveCalls, banks_of_made, FailsToFound};
     ghost use Rattle.clone_core.specs.Joining.{LocallyGives, AreGood, AnswersGood, RefusesAsk};
     ghost use Rattle.iri_rules.specs.Domain.{is_domain};
     ghost use Rattle.rdf_terms.specs.Order.{iri_cmp};
@@ -390,6 +390,7 @@ impl<B: Banks> MldClone<B> {
             alloc,
             &mut self.journal,
             &mut self.closed,
+            false,
             slice::from_ref(&entry),
         )?;
         self.clock.raise(dot);
@@ -548,7 +549,13 @@ impl<B: Banks> MldClone<B> {
             &mut self.pairs,
             entry,
         )?;
-        append_entries(alloc, &mut self.journal, &mut self.closed, &plan.entries)?;
+        append_entries(
+            alloc,
+            &mut self.journal,
+            &mut self.closed,
+            false,
+            &plan.entries,
+        )?;
         self.pairs.apply(plan.cut);
         push_all(&mut self.entries, plan.entries);
         self.clock = plan.clock;
@@ -582,17 +589,6 @@ fn entry_in<'a>(entries: &'a [Entry], range: &Range) -> Option<&'a Entry>
         }
     }
     None
-}
-
-// Puts entries behind a journal that has room for them.
-fn push_all(journal: &mut Vec<Entry>, entries: Vec<Entry>)
-    requires { vec_len journal.old + vec_len entries ≤ vec_capacity journal.old }
-    ensures { journal.new.items ≡ journal.old.items ++ entries.items }
-{
-    let mut rest = VecDeque::from_vec(entries);
-    while let Some(entry) = rest.pop_front() {
-        journal.push_reserved(entry);
-    }
 }
 
 // Puts another list in place of what is held, if there is one.

@@ -128,18 +128,18 @@ impl From<SwapFault> for KeepFault {
     }
 }
 
-impl From<KeepFault> for ReceiveFault {
-    ghost use Rattle.clone_core.specs.CloneFaults.{receive_fault_of_keep};
+impl From<SwapFault> for ReceiveFault {
+    ghost use Rattle.clone_core.specs.CloneFaults.{receive_fault_of_swap};
     ghost use Rattle.std.specs.Prelude.{◌≡◌};
 
-    ghost from_gives = { λ keep fault. fault ≡ receive_fault_of_keep keep };
+    ghost from_gives = { λ swap fault. fault ≡ receive_fault_of_swap swap };
 
-    fn from(fault: KeepFault) -> ReceiveFault {
+    fn from(fault: SwapFault) -> ReceiveFault {
         match fault {
-            KeepFault::Closed { why } => ReceiveFault::Closed { why },
-            KeepFault::GenerationsSpent => ReceiveFault::GenerationsSpent,
-            KeepFault::Device => ReceiveFault::Device,
-            KeepFault::NoMemory => ReceiveFault::NoMemory,
+            SwapFault::Closed { why } => ReceiveFault::Closed { why },
+            SwapFault::GenerationsSpent => ReceiveFault::GenerationsSpent,
+            SwapFault::Device => ReceiveFault::Device,
+            SwapFault::NoMemory => ReceiveFault::NoMemory,
         }
     }
 }

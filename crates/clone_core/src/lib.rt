@@ -2,7 +2,6 @@
 #![tactic(auto)]
 
 mod answers;
-mod appending;
 mod askers;
 mod clones;
 mod compacting;

@@ -1,19 +1,16 @@
 //! Truncating a clone's journal, in memory and on its banks.
-ghost use Rattle.std.specs.Prelude.{◌≡◌, ◌≤◌, drop, vec_len};
-
 use crate::clones::MldClone;
-use crate::compacting::{replace_base, swap_kept};
 use crate::faults::KeepFault;
+use clone_banks::{drop_front, replace_base, swap_kept};
 use clone_plans::{led_to, tell_clock};
 use mld_io::Banks;
-use mld_ops::Entry;
 use std::alloc::Global;
 
 impl<B: Banks> MldClone<B> {
     ghost use Rattle.std.specs.Prelude.{◌≡◌, ◌<◌, ◌-◌, ◌^◌, ◌↔◌, ℕ, length, None, Some, IfOk, IfErr, IsOk, OnOk, IsErrOf};
     ghost use Rattle.mld_io.specs.Arm.{Metered};
     ghost use Rattle.journal_store.specs.declared.faults.Why.{Why};
-    ghost use Rattle.clone_core.specs.Closing.{swap_calls};
+    ghost use Rattle.clone_banks.specs.BankCalls.{swap_calls};
     ghost use Rattle.clone_core.specs.Keeping.{KeepsTruncated, StaysUnclosed, IsCutSpent, LeavesKeep, CutCalls, SwapsTruncated, StopsKeep};
 
     /// Truncates the journal: its last `keep` entries stay, or all where it has fewer, and the clone's base is what the others led to. What
@@ -68,14 +65,4 @@ impl<B: Banks> MldClone<B> {
         drop_front(&mut self.entries, cut);
         Ok(())
     }
-}
-
-// Drops the first of entries, so many. It takes no memory.
-fn drop_front(entries: &mut Vec<Entry>, count: usize)
-    requires { count ≤ vec_len entries.old }
-    ensures { entries.new.items ≡ drop count entries.old.items }
-{
-    let left = entries.len() - count;
-    entries.rotate_left(count);
-    entries.truncate(left);
 }

@@ -1,7 +1,7 @@
 use Rattle.std.proofs.Common.{◌∙◌, arith, ap, sym, subst, set}
 use Rattle.std.proofs.lemmas.Result.{on_ok_weaker, IfErr-weaker, IfOk-at_ok}
 use Rattle.mld_model.specs.declared.CloneState.TheVariants as kinds
-use Rattle.clone_core.specs.Closing.{create_calls}
+use Rattle.clone_banks.specs.BankCalls.{create_calls}
 use Rattle.schedule_text.specs.ReadLines.{setup_of}
 use Rattle.net_world.specs.States.{Becomes}
 use Rattle.net_world.specs.declared.faults.WorldFault.{WorldFault}

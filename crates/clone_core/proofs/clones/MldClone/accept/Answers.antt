@@ -5,7 +5,7 @@ use Rattle.mld_ops.specs.Applies.{Applies}
 use Rattle.mld_ops.specs.Entry.{EntryValue}
 use Rattle.mld_ops.specs.Ready.{IsReadyEntry}
 use Rattle.mld_model.specs.Local.{LocallyAccepts}
-use Rattle.clone_core.specs.Appending.{KeepsIfTold, with_entries, MayAppendAll}
+use Rattle.clone_banks.specs.Appending.{KeepsIfTold, with_entries, MayAppendAll}
 use Rattle.clone_core.specs.Banked.{BankedClone, kept_as}
 use Rattle.clone_core.specs.View.{local_of}
 use Rattle.clone_core.specs.declared.answers.Got.TheVariants as got

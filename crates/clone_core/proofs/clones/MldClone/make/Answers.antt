@@ -4,7 +4,7 @@ use Rattle.mld_ops.specs.declared.tagged.Tagged.{Tagged}
 use Rattle.mld_ops.specs.Applies.{Applies}
 use Rattle.mld_ops.specs.Entry.{EntryValue}
 use Rattle.mld_model.specs.Local.{LocalClone, next_dot}
-use Rattle.clone_core.specs.Appending.{KeepsIfTold, with_entries, MayAppendAll}
+use Rattle.clone_banks.specs.Appending.{KeepsIfTold, with_entries, MayAppendAll}
 use Rattle.clone_core.specs.Banked.{BankedClone, kept_as}
 use Rattle.clone_plans.specs.Making.{IsNextEntry}
 use Rattle.clone_core.specs.Takes.{MakesDone}

@@ -1,4 +1,4 @@
-use Rattle.std.proofs.Common.{◌≡◌, ◌∙◌, ℕ, ◌+◌, ◌*◌, List, None, Err, length, sym, ap, subst}
+use Rattle.std.proofs.Common.{◌≡◌, ◌∙◌, ℕ, ◌+◌, ◌*◌, List, Option, None, Err, length, sym, ap, subst}
 use Rattle.std.proofs.lemmas.Result.{err_from_is_err_and}
 use Rattle.mld_ops.specs.Entry.{EntryValue}
 use Rattle.mld_ops.specs.Messages.{snapshot_value}
@@ -6,12 +6,14 @@ use Rattle.mld_model.specs.Local.{LocalClone, IsLocal, KnowsSnapshot}
 use Rattle.journal_store.specs.Calls.{swapped}
 use Rattle.journal_store.specs.Heads.{HeadValue, head_value}
 use Rattle.journal_store.specs.Pairs.{Kept}
+use Rattle.journal_store.specs.declared.faults.Why.{Why}
 use Rattle.clone_plans.specs.Replays.{AreReadyEntries}
-use Rattle.clone_core.specs.Appending.{KeepsIfTold}
-use Rattle.clone_core.specs.Banked.{BankedClone, head_over, kept_as}
-use Rattle.clone_core.specs.Closing.{append_calls, swap_calls}
+use Rattle.clone_banks.specs.Appending.{KeepsIfTold}
+use Rattle.clone_core.specs.Banked.{BankedClone, head_over, kept_as, IsOnBanks}
+use Rattle.clone_banks.specs.BankCalls.{append_calls, swap_calls}
 use Rattle.clone_core.specs.View.{local_of}
 use Rattle.clone_core.specs.declared.answers.Got.TheVariants as got
+use Rattle.clone_core.proofs.AppendLaws.{unmerged_on_banks}
 use Rattle.clone_core.proofs.Merged.{released_ready, merged_clone, merged_is_local, spent_as, no_merge_calls, merged_calls, unmerged_calls}
 use Rattle.clone_core.proofs.Swapping.{swapped_on_banks}
 use Rattle.clone_core.proofs.Taking.{ranges_length}
@@ -50,6 +52,16 @@ returns-in_err-swap_and_append-clause-meter g c =
     (unmerged_calls {U = Unit {0}} (λ banks. g.B.Banks.meter banks) (swap_calls + append_calls * length c.deref.result.now) c.self.inside.journal c.swap_and_append.new.journal
     c.swap_and_append.new.closed (g.B.Banks.meter c.args.self.now.banks) (ap (λ v. g.B.Banks.meter v.banks) c.self.view_is) told c.in_err-swap_and_append.ensures.err
     c.in_err-swap_and_append.ensures.meter)
+
+pub invariant_of-self : goal.invariant_of-self
+invariant_of-self g c =
+    let old = local_of c.self.inside in
+    let was = c.self.inside.journal in
+    let is_open : c.self.inside.closed ≡ None = ap (λ v. v.closed) c.self.view_is ∙ c.requires.opened in
+    let banks = subst (λ (closed : Option Why). IsOnBanks (g.B.Banks.log was.banks) was.closed closed was.side was.generation old) is_open c.self.invariant.1 in (
+      c.self.invariant.0,
+      unmerged_on_banks g.B.Banks.log was c.swap_and_append.new.journal c.swap_and_append.new.closed c.in_err-swap_and_append.field-0.0 old banks c.in_err-swap_and_append.ensures.err,
+    )
 
 pub invariant_of-self-2 : goal.invariant_of-self-2
 invariant_of-self-2 g c =

@@ -6,7 +6,7 @@ use Rattle.journal_store.specs.Calls.{swapped}
 use Rattle.journal_store.specs.Heads.{HeadValue, head_value}
 use Rattle.journal_store.specs.Pairs.{Kept}
 use Rattle.clone_plans.specs.Replays.{AreReadyEntries}
-use Rattle.clone_core.specs.Appending.{KeepsIfTold}
+use Rattle.clone_banks.specs.Appending.{KeepsIfTold}
 use Rattle.clone_core.specs.Banked.{BankedClone, head_of, head_over}
 use Rattle.clone_core.specs.View.{local_of}
 use Rattle.clone_core.proofs.Swapping.{compacted_is_local, compacted_ready, swapped_on_banks}

@@ -1,0 +1,5 @@
+pub mod MeterLaws
+pub mod RefusedLaws
+pub mod Appended
+pub mod SwapLaws
+pub mod Turning
