@@ -14,10 +14,10 @@ use Rattle.schedule_model.proofs.AskLaws.{ask_follows, ask_missing}
 use Rattle.clone_core.specs.Banked.{BankedClone}
 use Rattle.net_world.specs.declared.faults.WorldFault.{WorldFault}
 use Rattle.net_world.specs.declared.parts.Parts.{Parts}
-use Rattle.net_world.specs.declared.replies.Reply.{Reply as CodeReply}
-use Rattle.net_world.specs.declared.replies.Reply.TheVariants as replies
+use Rattle.schedule_replies.specs.declared.replies.Reply.{Reply as CodeReply}
+use Rattle.schedule_replies.specs.declared.replies.Reply.TheVariants as replies
 use Rattle.net_world.specs.Asking.{SendsQuestion}
-use Rattle.net_world.specs.Replies.{reply_value}
+use Rattle.schedule_replies.specs.Replies.{reply_value}
 use Rattle.net_world.specs.States.{HasState}
 use Rattle.net_world.specs.WorldBanks.{BankedState, in_memory, memory_of}
 use Rattle.net_world.specs.WorldParts.{running_of, Does}

@@ -25,8 +25,8 @@ use Rattle.schedule_model.specs.WorldStep.{Follows}
 use Rattle.schedule_model.proofs.ChangesLaws.{step_keeps_domain, step_keeps_others, kept_still_stands}
 use Rattle.net_world.specs.declared.faults.WorldFault.{WorldFault}
 use Rattle.net_world.specs.declared.faults.WorldFault.TheVariants as faults
-use Rattle.net_world.specs.declared.replies.Reply.{Reply as CodeReply}
-use Rattle.net_world.specs.Replies.{FailsToTell}
+use Rattle.schedule_replies.specs.declared.replies.Reply.{Reply as CodeReply}
+use Rattle.net_world.specs.Commands.{FailsToTell}
 use Rattle.net_world.specs.States.{HasState, Becomes}
 use Rattle.net_world.specs.WorldBanks.{BankedState, BankedWorld, in_memory, banks_of_state, memory_of, KeepsNoneNow, KeepsStored, BanksStandFor, IsReached, IsDownOn, IsOpenAt, IsBacked, StandsOnBanks, GoesOn, MetersGoOn, FailsAt, FailsAmong, StaysOpenNext, IsNextGeneration, is_first, is_next, IsOpenNext, IsCarried, IsCarriedAt}
 use Rattle.net_world.specs.Worlds.{Moves, MovesOnBanks}

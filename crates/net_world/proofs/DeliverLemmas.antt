@@ -36,13 +36,13 @@ use Rattle.net_world.specs.declared.faults.WorldFault.{WorldFault}
 use Rattle.net_world.specs.WorldFaults.{fault_of_made}
 use Rattle.net_world.specs.declared.deliver.Received.{Received}
 use Rattle.net_world.specs.declared.deliver.Received.TheVariants as received
-use Rattle.net_world.specs.declared.replies.Reply.{Reply}
-use Rattle.net_world.specs.declared.replies.Reply.TheVariants as replies
+use Rattle.schedule_replies.specs.declared.replies.Reply.{Reply}
+use Rattle.schedule_replies.specs.declared.replies.Reply.TheVariants as replies
 use Rattle.net_world.specs.declared.parts.Parts.{Parts}
 use Rattle.net_world.specs.Delivering.{IsForeignTo, IsFitFor, ReceivesLive, ReceivesAsking, StaysAway, IsToldOf, ReceivesAt, WhereAway, WhereLive, WhereAsking, SendsAnswers}
 use Rattle.mld_model.specs.World.{numbered}
 use Rattle.net_world.specs.WorldParts.{running_of, HasStepLeft, Does}
-use Rattle.net_world.specs.Replies.{reply_value, numbers_between}
+use Rattle.schedule_replies.specs.Replies.{reply_value, numbers_between}
 use Rattle.net_world.specs.States.{HasState, Becomes, reply_of_state}
 use Rattle.net_world.specs.WorldBanks.{BankedState, in_memory, banks_of_state, memory_of, GoesOn, FailsAt, is_first, IsCarried, IsCarriedAt}
 use Rattle.net_world.specs.Worlds.{Moves}

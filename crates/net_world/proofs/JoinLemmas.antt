@@ -18,11 +18,11 @@ use Rattle.schedule_model.proofs.JoinLaws.{join_absent, join_again, join_live, j
 use Rattle.clone_core.specs.Banked.{BankedAsker}
 use Rattle.net_world.specs.declared.faults.WorldFault.{WorldFault}
 use Rattle.net_world.specs.declared.parts.Parts.{Parts}
-use Rattle.net_world.specs.declared.replies.Reply.{Reply as CodeReply}
-use Rattle.net_world.specs.declared.replies.Reply.TheVariants as replies
+use Rattle.schedule_replies.specs.declared.replies.Reply.{Reply as CodeReply}
+use Rattle.schedule_replies.specs.declared.replies.Reply.TheVariants as replies
 use Rattle.net_world.specs.Asking.{AsksFirst, SendsQuestion}
 use Rattle.net_world.specs.Founding.{IsNewAsker}
-use Rattle.net_world.specs.Replies.{reply_value}
+use Rattle.schedule_replies.specs.Replies.{reply_value}
 use Rattle.net_world.specs.States.{HasState, reply_of_state}
 use Rattle.net_world.specs.WorldBanks.{BankedState, in_memory, memory_of, GoesOn}
 use Rattle.net_world.specs.WorldParts.{running_of, KeepsDomain, Does}

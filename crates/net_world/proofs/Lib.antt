@@ -1,4 +1,3 @@
-pub mod RepliesShown
 pub mod WorldLemmas
 pub mod ChangeLemmas
 pub mod DeliverLemmas
@@ -12,5 +11,4 @@ pub mod BankLemmas
 pub mod FaultLemmas
 pub mod EndLemmas
 pub mod AskLemmas
-pub mod CompactLemmas
-pub mod TruncateLemmas
+pub mod KeepLemmas

@@ -13,10 +13,10 @@ use Rattle.schedule_model.specs.declared.Command.TheVariants.{Show, Compare}
 use Rattle.schedule_model.proofs.WorldLaws.{LocallyCompares, stepped, show_follows, show_missing, compare_follows, compare_missing_first, compare_missing_second}
 use Rattle.clone_core.specs.Banked.{BankedClone}
 use Rattle.net_world.specs.declared.parts.Parts.{Parts}
-use Rattle.net_world.specs.declared.replies.Reply.{Reply as CodeReply}
-use Rattle.net_world.specs.declared.replies.Reply.TheVariants as replies
+use Rattle.schedule_replies.specs.declared.replies.Reply.{Reply as CodeReply}
+use Rattle.schedule_replies.specs.declared.replies.Reply.TheVariants as replies
 use Rattle.net_world.specs.Comparing.{IsHowTheyCompare}
-use Rattle.net_world.specs.Replies.{reply_value}
+use Rattle.schedule_replies.specs.Replies.{reply_value}
 use Rattle.net_world.specs.States.{HasState, IsMissingAt}
 use Rattle.net_world.specs.WorldBanks.{in_memory, memory_of}
 use Rattle.net_world.specs.WorldParts.{running_of, Does}

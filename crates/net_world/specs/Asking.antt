@@ -5,8 +5,8 @@ use Rattle.mld_ops.specs.declared.messages.Message.{Message}
 use Rattle.mld_ops.specs.declared.messages.Message.TheVariants as kinds
 use Rattle.mld_model.specs.declared.CloneState.TheVariants as states
 use Rattle.clone_core.specs.Banked.{BankedAsker}
-use Rattle.net_world.specs.declared.replies.Reply.{Reply}
-use Rattle.net_world.specs.declared.replies.Reply.TheVariants as replies
+use Rattle.schedule_replies.specs.declared.replies.Reply.{Reply}
+use Rattle.schedule_replies.specs.declared.replies.Reply.TheVariants as replies
 use Rattle.net_world.specs.Founding.{IsNewAsker}
 use Rattle.net_world.specs.States.{Becomes}
 use Rattle.net_world.specs.WorldBanks.{BankedState}

@@ -7,8 +7,8 @@ use Rattle.mld_ops.specs.Ready.{last_dot}
 use Rattle.mld_model.specs.Local.{LocalClone}
 use Rattle.clone_core.specs.CloneCalls.{Sets}
 use Rattle.clone_core.specs.declared.answers.Done.TheVariants as done
-use Rattle.net_world.specs.declared.replies.Reply.{Reply}
-use Rattle.net_world.specs.declared.replies.Reply.TheVariants as replies
+use Rattle.schedule_replies.specs.declared.replies.Reply.{Reply}
+use Rattle.schedule_replies.specs.declared.replies.Reply.TheVariants as replies
 
 -- the entry is the next message, and the reply names its dot and its number
 abbrev pub SendsEntry : List MessageValue → EntryValue → List MessageValue → Reply → Type 0

@@ -2,8 +2,8 @@
 use Rattle.mld_model.specs.Local.{LocalClone}
 use Rattle.clone_core.specs.CloneCalls.{ComparesAs}
 use Rattle.clone_core.specs.declared.answers.Covering.TheVariants as covering
-use Rattle.net_world.specs.declared.replies.Reply.{Reply}
-use Rattle.net_world.specs.declared.replies.Reply.TheVariants as replies
+use Rattle.schedule_replies.specs.declared.replies.Reply.{Reply}
+use Rattle.schedule_replies.specs.declared.replies.Reply.TheVariants as replies
 
 -- the dots that the two know compare as the reply says
 abbrev pub IsHowTheyCompare : LocalClone → LocalClone → Reply → Type 0

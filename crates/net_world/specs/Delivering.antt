@@ -17,9 +17,9 @@ use Rattle.clone_core.specs.declared.faults.ReceiveFault.TheVariants as fault
 use Rattle.net_world.specs.declared.deliver.Received.{Received}
 use Rattle.net_world.specs.declared.deliver.Received.TheVariants as received
 use Rattle.net_world.specs.declared.faults.WorldFault.{WorldFault}
-use Rattle.net_world.specs.declared.replies.Reply.{Reply}
-use Rattle.net_world.specs.declared.replies.Reply.TheVariants as replies
-use Rattle.net_world.specs.Replies.{reply_value}
+use Rattle.schedule_replies.specs.declared.replies.Reply.{Reply}
+use Rattle.schedule_replies.specs.declared.replies.Reply.TheVariants as replies
+use Rattle.schedule_replies.specs.Replies.{reply_value}
 use Rattle.net_world.specs.States.{HasState, Becomes}
 use Rattle.net_world.specs.WorldFaults.{fault_of_made}
 use Rattle.net_world.specs.WorldBanks.{BankedState}

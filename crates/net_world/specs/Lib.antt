@@ -1,4 +1,3 @@
-pub mod Replies
 pub mod States
 pub mod Founding
 pub mod Worlds
@@ -15,5 +14,4 @@ pub mod WorldFaults
 pub mod StoppedClones
 pub mod OpeningBanks
 pub mod WorldEnds
-pub mod CompactingClones
-pub mod TruncatingClones
+pub mod KeptJournals

@@ -11,8 +11,8 @@ use Rattle.clone_core.specs.declared.mounts.Mounted.{Mounted}
 use Rattle.clone_core.specs.declared.mounts.Mounted.TheVariants as mounted
 use Rattle.net_world.specs.declared.faults.WorldFault.{WorldFault}
 use Rattle.net_world.specs.declared.faults.WorldFault.TheVariants as faults
-use Rattle.net_world.specs.declared.replies.Reply.{Reply}
-use Rattle.net_world.specs.declared.replies.Reply.TheVariants as replies
+use Rattle.schedule_replies.specs.declared.replies.Reply.{Reply}
+use Rattle.schedule_replies.specs.declared.replies.Reply.TheVariants as replies
 use Rattle.net_world.specs.Founding.{IsNewAsker}
 use Rattle.net_world.specs.States.{HasState, Becomes}
 use Rattle.net_world.specs.WorldBanks.{BankedState}

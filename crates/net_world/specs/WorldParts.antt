@@ -7,8 +7,8 @@ use Rattle.mld_ops.specs.Messages.{message_value}
 use Rattle.schedule_model.specs.declared.Command.{Command}
 use Rattle.net_world.specs.declared.faults.WorldFault.{WorldFault}
 use Rattle.net_world.specs.declared.parts.Parts.{Parts}
-use Rattle.net_world.specs.declared.replies.Reply.{Reply}
-use Rattle.net_world.specs.Replies.{reply_value}
+use Rattle.schedule_replies.specs.declared.replies.Reply.{Reply}
+use Rattle.schedule_replies.specs.Replies.{reply_value}
 use Rattle.net_world.specs.WorldBanks.{BankedWorld, banks_of_state, MetersGoOn, FailsAmong}
 use Rattle.net_world.specs.Worlds.{IsStanding, MovesOnBanks}
 

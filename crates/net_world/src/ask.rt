@@ -6,10 +6,10 @@ ghost use Rattle.net_world.specs.WorldParts.{KeepsDomain, HasFaultCause, Does};
 use crate::faults::WorldFault;
 use crate::join::send_question;
 use crate::parts::Parts;
-use crate::replies::Reply;
 use crate::states::state_reply;
 use mld_io::{Banks, CrashBanks};
 use mld_model::CloneState;
+use schedule_replies::Reply;
 use std::alloc::Global;
 
 /// Clone `number`, which is live, asks whoever gets its message for what it lacks.

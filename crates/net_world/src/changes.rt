@@ -11,13 +11,13 @@ ghost use Rattle.net_world.specs.WorldBanks.{GoesOn, FailsAt};
 
 use crate::faults::WorldFault;
 use crate::parts::{Parts, send};
-use crate::replies::Reply;
 use crate::states::state_reply;
 use clone_core::{Done, MldClone, UpdateFault};
 use mld_io::{Banks, CrashBanks};
 use mld_model::CloneState;
 use mld_ops::{Entry, Message};
 use rdf_terms::Triple;
+use schedule_replies::Reply;
 use std::alloc::{AllocError, Global};
 use tree_clock::Dot;
 

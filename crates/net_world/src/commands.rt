@@ -3,24 +3,23 @@ ghost use Rattle.std.specs.Prelude.{◌≡◌, vec_len, IfErr, OnOk};
 ghost use Rattle.mld_model.specs.Local.{IsNamed};
 ghost use Rattle.mld_model.specs.World.{clone_count};
 ghost use Rattle.schedule_model.specs.Step.{HasCloneNumbers};
-ghost use Rattle.net_world.specs.Commands.{Answered};
+ghost use Rattle.net_world.specs.Commands.{Answered, TellsReply, FailsToTell};
 ghost use Rattle.net_world.specs.WorldParts.{HasStepLeft, KeepsDomain, HasFaultCause};
 
 use crate::ask::ask;
 use crate::changes::{add, remove};
-use crate::compact::compact;
 use crate::compare::compare;
 use crate::deliver::deliver;
 use crate::faults::WorldFault;
 use crate::join::join;
+use crate::keeping::{Keeping, keep};
 use crate::opening::open;
 use crate::parts::Parts;
-use crate::replies::tell;
 use crate::show::show;
 use crate::stopping::stop;
-use crate::truncate::truncate;
 use mld_io::{Banks, CrashBanks};
 use schedule_model::Command;
+use schedule_replies::{Reply, push_reply};
 use std::alloc::Global;
 use std::thread::Threads;
 
@@ -48,13 +47,31 @@ pub fn answer<R: Threads, B: CrashBanks>(
         }
         Command::Join(number) => tell(alloc, out, join(alloc, parts, *number)),
         Command::Ask(number) => tell(alloc, out, ask(alloc, parts, *number)),
-        Command::Compact(number) => tell(alloc, out, compact(alloc, parts, *number)),
-        Command::Truncate(number, keep) => {
-            tell(alloc, out, truncate(alloc, parts, *number, *keep))
+        Command::Compact(number) => {
+            tell(alloc, out, keep(alloc, parts, *number, Keeping::Compacted))
+        }
+        Command::Truncate(number, count) => {
+            let last = Keeping::Last(*count);
+            tell(alloc, out, keep(alloc, parts, *number, last))
         }
         Command::Stop(number) => tell(alloc, out, Ok(stop(parts, *number))),
         Command::Open(number) => tell(alloc, out, open(rt, alloc, parts, *number)),
         Command::Show(number) => tell(alloc, out, Ok(show(parts, *number))),
         Command::Compare(number, other) => tell(alloc, out, Ok(compare(parts, *number, *other))),
+    }
+}
+
+/// Adds the text of a reply that was found to an output.
+fn tell(
+    alloc: Global,
+    out: &mut Vec<u8>,
+    reply: Result<Reply<'_>, WorldFault>,
+) -> Result<(), WorldFault>
+    ensures told { OnOk result (TellsReply reply.entry out.old.items out.new.items) }
+    ensures cause { IfErr result (FailsToTell reply.entry) }
+{
+    match reply {
+        Ok(reply) => Ok(push_reply(alloc, out, &reply)?),
+        Err(fault) => Err(fault),
     }
 }

@@ -5,10 +5,10 @@ ghost use Rattle.net_world.specs.Comparing.{IsHowTheyCompare};
 ghost use Rattle.net_world.specs.WorldParts.{Does};
 
 use crate::parts::Parts;
-use crate::replies::Reply;
 use crate::states::live_at;
 use clone_core::{Covering, MldClone};
 use mld_io::{Banks, CrashBanks};
+use schedule_replies::Reply;
 
 /// How the dots compare that clones `number` and `other` know.
 pub fn compare<'a, B: CrashBanks>(parts: &'a Parts<B>, number: u8, other: u8) -> Reply<'a>

@@ -13,12 +13,12 @@ ghost use Rattle.net_world.specs.WorldParts.{HasStepLeft, KeepsDomain, HasFaultC
 
 use crate::faults::{WorldFault, made_fault};
 use crate::parts::Parts;
-use crate::replies::Reply;
 use crate::states::{RunningClone, put_state, state_reply, take_state};
 use clone_core::{Adopted, Got, MldClone, ReceiveFault};
 use mld_io::{Banks, CrashBanks};
 use mld_model::CloneState;
 use mld_ops::{Message, Messages};
+use schedule_replies::Reply;
 use std::alloc::Global;
 use std::thread::Threads;
 

@@ -12,13 +12,13 @@ ghost use Rattle.net_world.specs.WorldParts.{KeepsDomain, HasFaultCause, Does};
 
 use crate::faults::WorldFault;
 use crate::parts::{Parts, send};
-use crate::replies::Reply;
 use crate::states::{
     Named, RunningClone, copy_named, new_asker, put_state, state_reply, take_state,
 };
 use mld_io::{Banks, CrashBanks};
 use mld_model::CloneState;
 use mld_ops::Message;
+use schedule_replies::Reply;
 use std::alloc::Global;
 
 /// Clone `number`, which has no leaf yet, asks for one; it may ask again.

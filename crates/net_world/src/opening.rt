@@ -9,7 +9,6 @@ ghost use Rattle.net_world.specs.WorldParts.{HasStepLeft, KeepsDomain, HasFaultC
 
 use crate::faults::WorldFault;
 use crate::parts::Parts;
-use crate::replies::Reply;
 use crate::states::{
     Named, RunningClone, copy_named, new_asker, put_state, state_reply, take_state,
 };
@@ -17,6 +16,7 @@ use clone_core::{MldClone, Mounted};
 use journal_store::MountFault;
 use mld_io::{Banks, CrashBanks};
 use mld_model::CloneState;
+use schedule_replies::Reply;
 use std::alloc::Global;
 use std::thread::Threads;
 

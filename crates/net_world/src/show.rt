@@ -4,9 +4,9 @@ ghost use Rattle.schedule_model.specs.declared.Command.TheVariants as commands;
 ghost use Rattle.net_world.specs.WorldParts.{Does};
 
 use crate::parts::Parts;
-use crate::replies::Reply;
 use crate::states::live_at;
 use mld_io::{Banks, CrashBanks};
+use schedule_replies::Reply;
 
 /// The pairs of clone `number`.
 pub fn show<'a, B: CrashBanks>(parts: &'a Parts<B>, number: u8) -> Reply<'a>

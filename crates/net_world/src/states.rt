@@ -4,11 +4,10 @@ ghost use Rattle.iri_rules.specs.Domain.{is_domain};
 ghost use Rattle.mld_model.specs.StandsFor.{id_of};
 ghost use Rattle.mld_model.specs.declared.CloneState.TheVariants as kinds;
 ghost use Rattle.net_world.specs.Founding.{IsNewAsker};
-ghost use Rattle.net_world.specs.Replies.{reply_value};
+ghost use Rattle.schedule_replies.specs.Replies.{reply_value};
 ghost use Rattle.net_world.specs.States.{HasState, IsMissingAt, reply_of_state};
 ghost use Rattle.net_world.specs.WorldBanks.{BankedState, in_memory};
 
-use crate::replies::Reply;
 use clone_core::{Asker, MldClone};
 use iri_rules::Text;
 use journal_store::Blank;
@@ -16,6 +15,7 @@ use mld_io::Banks;
 use mld_model::CloneState;
 use mld_ops::copy_properties;
 use rdf_terms::Iri;
+use schedule_replies::Reply;
 use std::alloc::{AllocError, Global};
 use uuid::Uuid;
 

@@ -10,10 +10,10 @@ ghost use Rattle.net_world.specs.WorldEnds.{KeepsState, KeepAll};
 ghost use Rattle.net_world.specs.WorldParts.{KeepsDomain, Does};
 
 use crate::parts::Parts;
-use crate::replies::Reply;
 use crate::states::{RunningClone, put_state, state_reply, take_state};
 use mld_io::{Banks, CrashBanks};
 use mld_model::CloneState;
+use schedule_replies::Reply;
 
 /// Clone `number` stops: what its banks keep stays, and what it holds back is forgotten.
 pub fn stop<B: CrashBanks>(parts: &mut Parts<B>, number: u8) -> Reply<'static>

@@ -1,6 +1,6 @@
 use Rattle.std.proofs.Common.{arith, refl}
 use Rattle.mld_model.specs.declared.CloneState.TheVariants as states
-use Rattle.net_world.specs.Replies.{reply_value}
+use Rattle.schedule_replies.specs.Replies.{reply_value}
 use Rattle.net_world.proofs.AskLemmas.{ask_done, ask_missing_done}
 use Rattle.net_world.proofs.Places.{place_read}
 use Rattle.net_world.proofs.WorldLemmas.{keeps_still, missing_reply}

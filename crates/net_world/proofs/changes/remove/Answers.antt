@@ -1,6 +1,6 @@
 use Rattle.std.proofs.Common.{arith, ap, set, ℕ, refl}
 use Rattle.mld_model.specs.declared.CloneState.TheVariants as states
-use Rattle.net_world.specs.Replies.{reply_value}
+use Rattle.schedule_replies.specs.Replies.{reply_value}
 use Rattle.net_world.specs.States.{Becomes}
 use Rattle.net_world.proofs.ChangeLemmas.{remove_done, remove_missing_done}
 use Rattle.net_world.proofs.BankLemmas.{cause_set}

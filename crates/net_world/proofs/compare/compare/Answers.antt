@@ -1,6 +1,6 @@
 use Rattle.std.proofs.Common.{List, subst, map}
 use Rattle.mld_model.specs.declared.CloneState.TheVariants as states
-use Rattle.net_world.specs.Replies.{reply_value}
+use Rattle.schedule_replies.specs.Replies.{reply_value}
 use Rattle.net_world.specs.States.{HasState, IsMissingAt}
 use Rattle.net_world.specs.WorldBanks.{BankedState, in_memory}
 use Rattle.net_world.proofs.LookLemmas.{compare_done, compare_first_missing_done, compare_second_missing_done}

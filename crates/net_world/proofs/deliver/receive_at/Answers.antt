@@ -2,7 +2,7 @@ use Rattle.std.proofs.Common.{arith, ap, refl, sym, subst, List, ℕ, map, set}
 use Rattle.std.proofs.lemmas.Result.{IfOk-weaker, on_ok_weaker}
 use Rattle.mld_model.specs.declared.CloneState.TheVariants as states
 use Rattle.net_world.specs.Delivering.{WhereAway, WhereLive}
-use Rattle.net_world.specs.Replies.{reply_value}
+use Rattle.schedule_replies.specs.Replies.{reply_value}
 use Rattle.net_world.specs.States.{HasState, Becomes}
 use Rattle.net_world.specs.WorldBanks.{BankedState, in_memory, banks_of_state}
 use Rattle.net_world.proofs.Places.{place_read, read_back}

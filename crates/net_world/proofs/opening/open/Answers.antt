@@ -3,7 +3,7 @@ use Rattle.std.proofs.lemmas.Result.{IfOk-weaker}
 use Rattle.iri_rules.specs.Domain.{is_domain}
 use Rattle.mld_model.specs.declared.CloneState.TheVariants as states
 use Rattle.net_world.specs.OpeningBanks.{OpensBanks}
-use Rattle.net_world.specs.Replies.{reply_value}
+use Rattle.schedule_replies.specs.Replies.{reply_value}
 use Rattle.net_world.proofs.Places.{place_read, set_again}
 use Rattle.net_world.proofs.StopLemmas.{open_done, open_standing_done, standing_reply, whole_at}
 use Rattle.net_world.proofs.WorldLemmas.{keeps_meters, keeps_still}

@@ -1,7 +1,7 @@
 use Rattle.std.proofs.Common.{Ok, refl, sym, subst}
 use Rattle.clone_core.specs.declared.mounts.Mounted.{Mounted}
 use Rattle.mld_model.specs.declared.CloneState.TheVariants as states
-use Rattle.net_world.specs.declared.replies.Reply.TheVariants as replies
+use Rattle.schedule_replies.specs.declared.replies.Reply.TheVariants as replies
 use Rattle.net_world.specs.OpeningBanks.{IsOpenedAs}
 use Rattle.net_world.proofs.opening.opened_as.Goals as goal
 

@@ -1,5 +1,5 @@
 use Rattle.std.proofs.Common.{refl, arith}
-use Rattle.net_world.specs.Replies.{reply_value}
+use Rattle.schedule_replies.specs.Replies.{reply_value}
 use Rattle.net_world.specs.WorldBanks.{in_memory}
 use Rattle.net_world.proofs.Places.{place_read}
 use Rattle.net_world.proofs.BankLemmas.{memory_at}

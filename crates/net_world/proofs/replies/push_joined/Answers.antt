@@ -1,8 +1,0 @@
-use Rattle.std.proofs.Common.{rules}
-use Rattle.std.proofs.lemmas.List.{append_assoc}
-use Rattle.schedule_model.specs.ReplyText.{reply_text}
-use Rattle.net_world.proofs.replies.push_joined.Goals as goal
-
-pub returns : goal.returns
-unfolding reply_text
-returns c = search (rules, append_assoc)

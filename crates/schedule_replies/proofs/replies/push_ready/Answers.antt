@@ -1,0 +1,8 @@
+use Rattle.std.proofs.Common.{rules}
+use Rattle.std.proofs.lemmas.List.{append_assoc}
+use Rattle.schedule_model.specs.ReplyText.{reply_text}
+use Rattle.schedule_replies.proofs.replies.push_ready.Goals as goal
+
+pub returns : goal.returns
+unfolding reply_text
+returns c = search (rules, append_assoc)

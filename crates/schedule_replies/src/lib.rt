@@ -1,0 +1,6 @@
+//! The replies of a schedule's steps, and their text.
+#![tactic(auto)]
+
+mod replies;
+
+pub use replies::{Reply, push_ready, push_reply};
