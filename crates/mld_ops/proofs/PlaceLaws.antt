@@ -10,7 +10,7 @@ use Rattle.std.specs.declared.cmp.Ordering.{Ordering}
 use Rattle.std.specs.declared.cmp.Ordering.TheVariants.{Less, Equal, Greater}
 use Rattle.tree_clock.specs.Lists.{Has, IsAscending}
 use Rattle.mld_ops.specs.declared.tagged.Tagged.{Tagged}
-use Rattle.mld_ops.specs.Places.{AreBelow}
+use Rattle.mld_ops.specs.AscendingPlaces.{AreBelow}
 use Rattle.mld_ops.specs.Tagged.{tagged_cmp}
 use Rattle.mld_ops.proofs.TaggedLaws.{tagged_total, tagged_exact}
 use Rattle.mld_ops.proofs.AscendingLaws.{has_append, has_at, below_member, ascending_back, has_take_more, not_below_itself}

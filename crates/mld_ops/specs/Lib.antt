@@ -13,4 +13,4 @@ pub mod Applies
 pub mod Messages
 pub mod Held
 pub mod Properties
-pub mod Places
+pub mod AscendingPlaces

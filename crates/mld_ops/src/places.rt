@@ -1,7 +1,7 @@
 //! Places in an ascending list of pairs that is gone over beside other pairs.
 ghost use Rattle.std.specs.Prelude.{◌≡◌, ◌<◌, ◌≤◌, ◌↔◌, IsTrue, length, slice_index_or};
 ghost use Rattle.std.specs.declared.cmp.Ordering.TheVariants.{Less};
-ghost use Rattle.mld_ops.specs.Places.{AreBelow};
+ghost use Rattle.mld_ops.specs.AscendingPlaces.{AreBelow};
 ghost use Rattle.mld_ops.specs.Tagged.{tagged_cmp};
 ghost use Rattle.tree_clock.specs.Lists.{Has, IsAscending};
 

@@ -6,7 +6,7 @@ use Rattle.tree_clock.specs.Lists.{Has, IsAscending}
 use Rattle.mld_ops.specs.declared.tagged.Tagged.{Tagged}
 use Rattle.mld_ops.specs.Tagged.{tagged_cmp}
 use Rattle.mld_ops.proofs.AscendingLaws.{has_append, has_left, has_right, below_member, ascending_append}
-use Rattle.mld_ops.specs.Places.{AreBelow}
+use Rattle.mld_ops.specs.AscendingPlaces.{AreBelow}
 use Rattle.mld_ops.proofs.PlaceLaws.{below_later}
 use Rattle.op_fusion.specs.FusionPairs.{IsAsWanted}
 

@@ -7,7 +7,7 @@ use Rattle.mld_ops.specs.declared.tagged.Tagged.{Tagged}
 use Rattle.mld_ops.specs.Applies.{Applies}
 use Rattle.mld_ops.specs.Tagged.{tagged_cmp}
 use Rattle.mld_ops.proofs.TaggedLaws.{tagged_exact}
-use Rattle.mld_ops.specs.Places.{AreBelow}
+use Rattle.mld_ops.specs.AscendingPlaces.{AreBelow}
 use Rattle.mld_ops.proofs.PlaceLaws.{below_later}
 use Rattle.suset.specs.Walks.{fronts_cmp, IsLeastOf, IsAddStep}
 use Rattle.suset.proofs.Steps.{less_turned, lacks_lower, below_list, least_left, least_right, least_both}

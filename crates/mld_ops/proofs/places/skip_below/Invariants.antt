@@ -1,5 +1,5 @@
 use Rattle.std.proofs.Common.{length, ◌-◌, ◌≤◌}
-use Rattle.mld_ops.specs.Places.{AreBelow}
+use Rattle.mld_ops.specs.AscendingPlaces.{AreBelow}
 use Rattle.mld_ops.proofs.places.skip_below.Given as goal
 
 abbrev pub invariant-loop-place : goal.invariant-loop-place

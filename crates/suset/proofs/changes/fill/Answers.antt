@@ -1,7 +1,7 @@
 use Rattle.std.proofs.Common.{◌≡◌, ◌≤◌, List, length, Bool, not, ◌||◌, IsTrue, ◌↔◌, refl, sym, ◌∙◌, ap, subst, arith}
 use Rattle.tree_clock.specs.Lists.{Has}
 use Rattle.mld_ops.specs.declared.tagged.Tagged.{Tagged}
-use Rattle.mld_ops.specs.Places.{AreBelow}
+use Rattle.mld_ops.specs.AscendingPlaces.{AreBelow}
 use Rattle.suset.proofs.Filling.{filling_next}
 use Rattle.suset.proofs.changes.fill.Goals as goal
 use Rattle.suset.proofs.changes.fill.Goals.{then-added, else-added}
