@@ -13,7 +13,7 @@ use std::simd::prelude::*;
 const LANES: usize = 16;
 
 /// How many bytes two texts have in common from their starts.
-fn common_len(a: &[u8], b: &[u8]) -> usize
+pub fn common_len(a: &[u8], b: &[u8]) -> usize
     ensures { result ≡ common a.now b.now }
 {
     let shorter = a.len().min(b.len());

@@ -17,6 +17,7 @@ mod terms;
 mod triples;
 mod write;
 
+pub use compare::common_len;
 pub use faults::{TermFault, TripleFault};
 pub use laws::{one_place, one_triple, written_again};
 pub use limits::LEXICAL_LIMIT;
