@@ -1,5 +1,5 @@
--- Which groups, queries and plans are in form, and which answers are of a query's kind (SPARQL 1.1 Query Language sections 5, 7,
--- 15 to 17; SPARQL 1.1 Update section 3.1.3).
+-- Which groups, queries and plans are in form, and which answers are of a query's kind
+-- (SPARQL 1.1 Query Language sections 5, 7, 15 to 17; SPARQL 1.1 Update section 3.1.3).
 use Rattle.std.specs.Prelude.{◌≢◌, ℕ, ◌+◌, ◌≡◌, ◌<◌, ◌≤◌, length}
 use Rattle.std.specs.List.{All, AllPairs}
 use Rattle.jrql_ast.specs.declared.answers.Answer.{Answer}

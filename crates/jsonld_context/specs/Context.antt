@@ -11,8 +11,8 @@ use Rattle.jsonld_context.specs.Texts.{is_term_name}
 use Rattle.jsonld_context.specs.declared.definitions.Definition.{Definition}
 use Rattle.jsonld_context.specs.declared.definitions.TermType.{TermType}
 
--- the IRI against which ids are resolved (section 4.1.3), the one that stands before plain keys (section 4.1.2), and the terms, in
--- the order of their names
+-- the IRI against which ids are resolved (JSON-LD 1.1 section 4.1.3), the one that stands before plain keys (JSON-LD 1.1 section 4.1.2),
+-- and the terms, in the order of their names
 pub record ContextValue : Type 0 where
   pub base : List ℕ
   pub vocabulary : List ℕ
@@ -26,7 +26,7 @@ AscendByName terms = IsStrictlySortedBy (slice_cmp nat_cmp) (map (λ term. term.
 abbrev pub find_term : List Definition → List ℕ → Option Definition
 find_term terms name = find (λ term. is_same term.name name) terms
 
--- the IRI of a term that is a prefix (section 4.1.5)
+-- the IRI of a term that is a prefix (JSON-LD 1.1 section 4.1.5)
 abbrev pub prefix_iri : Definition → Option (List ℕ)
 prefix_iri term = if term.is_prefix then Some term.iri else None
 
@@ -34,7 +34,7 @@ prefix_iri term = if term.is_prefix then Some term.iri else None
 abbrev pub prefix_of : List Definition → List ℕ → Option (List ℕ)
 prefix_of terms name = option_and_then prefix_iri (find_term terms name)
 
--- the type of a key's values, where it is a term that has one (section 4.2.3)
+-- the type of a key's values, where it is a term that has one (JSON-LD 1.1 section 4.2.3)
 abbrev pub type_of : List Definition → List ℕ → Option TermType
 type_of terms key = option_and_then (λ term. term.coercion) (find_term terms key)
 

@@ -1,5 +1,5 @@
--- What a JSON value says as a context, or its first fault (JSON-LD 1.1 sections 4.1, 4.2.3 and 9.15; JSON-LD 1.1 API sections 4.1,
--- Context Processing, and 4.2, Create Term Definition). Members are read in the byte order of their keys.
+-- What a JSON value says as a context, or its first fault (JSON-LD 1.1 sections 4.1, 4.2.3 and 9.15;
+-- JSON-LD 1.1 API sections 4.1, Context Processing, and 4.2, Create Term Definition). Members are read in the byte order of their keys.
 use Rattle.std.specs.Prelude.{ℕ, List, [], ◌∷◌, ◌++◌, Bool, false, ◌&&◌, ◌||◌, not, Option, Some, None, Result, Ok, Err, codes, if◌then◌else◌}
 use Rattle.std.specs.Option.{option_map, option_map_or, option_and_then, option_or, is_some, unwrap_or}
 use Rattle.iri_rules.specs.Iri.{is_absolute}
@@ -15,7 +15,7 @@ use Rattle.jsonld_context.specs.declared.definitions.TermType.TheVariants as typ
 use Rattle.jsonld_context.specs.declared.faults.JsonFault.{JsonFault}
 use Rattle.jsonld_context.specs.declared.faults.JsonFault.TheVariants as faults
 
--- ---- keywords (section 9.15)
+-- ---- keywords (JSON-LD 1.1 section 9.15)
 
 -- `@base`
 abbrev pub is_base_key : List ℕ → Bool
@@ -46,7 +46,7 @@ domain_vocabulary domain = codes "http://" ++ domain ++ codes "/#"
 abbrev pub string_at : List ℕ → Members → Option (List ℕ)
 string_at key members = option_and_then as_str (get_member key members)
 
--- the string of a prefix: an absolute IRI that ends as prefixes do (section 4.1.5)
+-- the string of a prefix: an absolute IRI that ends as prefixes do (JSON-LD 1.1 section 4.1.5)
 abbrev pub is_prefix_string : List ℕ → Bool
 is_prefix_string text = is_absolute text && ends_in_delimiter text
 
@@ -66,7 +66,7 @@ meant all text = expanded (prefix_among all) text
 abbrev pub object_iri : List ℕ → Members → List ℕ → Option (List ℕ) → List ℕ
 object_iri vocabulary all term id = option_map_or (meant all) id (vocabulary ++ term)
 
--- the type of a term's values: `@id`, or a datatype (section 4.2.3)
+-- the type of a term's values: `@id`, or a datatype (JSON-LD 1.1 section 4.2.3)
 abbrev pub type_meant : Members → List ℕ → TermType
 type_meant all text = if is_id_key text then types.Id else types.Datatype (meant all text)
 

@@ -1,5 +1,5 @@
--- Compact IRIs: `prefix:rest`, where the prefix is one of the context and the rest doesn't begin with `//` (JSON-LD 1.1 section
--- 4.1.5; JSON-LD 1.1 API section 5.2, IRI Expansion).
+-- Compact IRIs: `prefix:rest`, where the prefix is one of the context and the rest doesn't begin with `//`
+-- (JSON-LD 1.1 section 4.1.5; JSON-LD 1.1 API section 5.2, IRI Expansion).
 use Rattle.std.specs.Prelude.{ℕ, List, ◌++◌, ◌&&◌, not, Option, None, if◌then◌else◌}
 use Rattle.std.specs.Option.{option_map_or}
 use Rattle.iri_rules.specs.References.{begins_authority}

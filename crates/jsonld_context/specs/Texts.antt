@@ -1,5 +1,5 @@
--- The forms of texts in JSON-LD: terms, variables, plain texts, and what may end a prefix's IRI (JSON-LD 1.1 sections 4.1.5, 9.1
--- and 9.15; RFC 3986 section 2.2).
+-- The forms of texts in JSON-LD: terms, variables, plain texts, and what may end a prefix's IRI
+-- (JSON-LD 1.1 sections 4.1.5, 9.1 and 9.15; RFC 3986 section 2.2).
 use Rattle.std.specs.Prelude.{ℕ, List, [], ◌∷◌, Bool, false, ◌&&◌, ◌||◌, not, ◌==◌, ◌-◌, length, drop}
 use Rattle.std.specs.List.{list_any, list_all, before_first, after_first, slice_get, suffix_len}
 use Rattle.std.specs.Option.{option_map_or}

@@ -1,5 +1,5 @@
--- Subjects as triples (JSON-LD 1.1 sections 3.3, Node Identifiers, 3.5, Specifying the Type, 4.5, Embedding, and 9.2, Node Objects; JSON-LD
--- 1.1 API sections 5.1.2, Expansion, and 8.1.2, Deserialize JSON-LD to RDF). Members are read in the byte order of their keys.
+-- Subjects as triples (JSON-LD 1.1 sections 3.3, Node Identifiers, 3.5, Specifying the Type, 4.5, Embedding, and 9.2, Node Objects;
+-- JSON-LD 1.1 API sections 5.1.2, Expansion, and 8.1.2, Deserialize JSON-LD to RDF). Members are read in the byte order of their keys.
 use Rattle.std.specs.Prelude.{ℕ, List, [], ◌∷◌, ◌++◌, Option, Some, None, Result, Ok, Err, codes, map, if◌then◌else◌}
 use Rattle.jrql_ast.specs.declared.patterns.PatternTriple.{PatternTriple}
 use Rattle.jrql_ast.specs.declared.patterns.Slot.{Slot}

@@ -1,5 +1,5 @@
--- Strings, booleans and numbers as objects of triples (JSON-LD 1.1 section 4.2.3, Type Coercion; JSON-LD 1.1 API sections 5.3.2, Value
--- Expansion, and 8.2.2, Object to RDF Conversion).
+-- Strings, booleans and numbers as objects of triples (JSON-LD 1.1 section 4.2.3, Type Coercion;
+-- JSON-LD 1.1 API sections 5.3.2, Value Expansion, and 8.2.2, Object to RDF Conversion).
 use Rattle.std.specs.Prelude.{ℕ, List, Bool, true, false, not, nat_le, length, decimal, IsTrue, Option, Some, None, Result, Ok, Err, codes, if◌then◌else◌}
 use Rattle.std.specs.Fmt.{signed_decimal}
 use Rattle.jrql_ast.specs.declared.patterns.Slot.{Slot}
