@@ -129,7 +129,14 @@ impl Context {
     pub fn compact_key(&self, alloc: Global, iri: &Iri) -> Result<Text, AllocError>
         ensures { IfOk result (λ text. text ≡ compact_key self.now iri.now) }
     {
-        compacting::compact_key(alloc, self.vocabulary.as_str(), &self.terms, iri.as_str())
+        self.compact_key_text(alloc, iri.as_str())
+    }
+
+    /// The same, of the text of an IRI.
+    pub fn compact_key_text(&self, alloc: Global, iri: &str) -> Result<Text, AllocError>
+        ensures { IfOk result (λ text. text ≡ compact_key self.now iri.now) }
+    {
+        compacting::compact_key(alloc, self.vocabulary.as_str(), &self.terms, iri)
     }
 
     /// The id of an IRI.

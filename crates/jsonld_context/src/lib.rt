@@ -17,5 +17,5 @@ pub use datatypes::Datatype;
 pub use definitions::TermType;
 pub use faults::JsonFault;
 pub use laws::{expanding_gives_back, plain_id_is_the_end};
-pub use reading::{is_id_key, is_type_key};
+pub use reading::{is_id_key, is_type_key, member_at, string_at};
 pub use texts::{begins_as_keyword, is_variable};

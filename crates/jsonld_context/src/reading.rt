@@ -123,15 +123,15 @@ fn between(alloc: Global, front: &str, text: &str, back: &str) -> Result<String,
     Ok(whole)
 }
 
-/// The member with a key.
-fn member_at<'a>(members: &'a Members, key: &str) -> Option<&'a Value>
+/// The member with a key. It takes no memory.
+pub fn member_at<'a>(members: &'a Map<String, Value>, key: &str) -> Option<&'a Value>
     ensures { option_map (λ value. view value.now) result ≡ get_member key.now (members_view members.now.entries) }
 {
     members.get(key)
 }
 
-/// The string of the member with a key, where it is one.
-pub(crate) fn string_at<'a>(members: &'a Members, key: &str) -> Option<&'a str>
+/// The string of the member with a key, where it is one. It takes no memory.
+pub fn string_at<'a>(members: &'a Map<String, Value>, key: &str) -> Option<&'a str>
     ensures { option_copied result ≡ string_at key.now (members_view members.now.entries) }
 {
     match member_at(members, key) {
