@@ -1,6 +1,7 @@
 //! The datatypes of literals that are made from JSON, and the literals (XML Schema Part 2; JSON-LD 1.1 API, section 8.2.2).
 ghost use Rattle.std.specs.Prelude.{◌≡◌, ◌≤◌, length, not, IsTrue, IfOk};
 ghost use Rattle.std.specs.Option.{option_copied};
+ghost use Rattle.iri_rules.specs.Iri.{is_absolute};
 ghost use Rattle.rdf_terms.specs.Literal.{Typed, is_same, rdf_lang_string, xsd_string, lexical_limit};
 ghost use Rattle.jsonld_values.specs.Literals.{IsDatatype, datatype_under, xsd_boolean, xsd_integer, xsd_double};
 
@@ -66,9 +67,9 @@ pub(crate) fn is_lang_string(datatype: &str) -> bool
     datatype == RDF_LANG_STRING
 }
 
-/// The IRI of a datatype that literals may have.
-pub(crate) fn datatype_iri(alloc: Global, text: &str) -> Result<Iri, AllocError>
-    requires { IsDatatype text.now }
+/// The IRI of a text that is known to be one: only memory may be wanting.
+pub fn known_iri(alloc: Global, text: &str) -> Result<Iri, AllocError>
+    requires { IsTrue (is_absolute text.now) }
     ensures { IfOk result (λ iri. iri ≡ text.now) }
 {
     match Iri::new(alloc, text) {
@@ -93,8 +94,8 @@ pub(crate) fn datatype_under(
 {
     match kind {
         Some(TermType::Datatype(datatype)) => datatype.iri().share(),
-        Some(TermType::Id) => datatype_iri(alloc, other),
-        None => datatype_iri(alloc, other),
+        Some(TermType::Id) => known_iri(alloc, other),
+        None => known_iri(alloc, other),
     }
 }
 

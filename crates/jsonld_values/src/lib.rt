@@ -9,8 +9,9 @@ mod plain_numbers;
 mod value_objects;
 mod writing;
 
+pub use datatypes::known_iri;
 pub use faults::{bad_subject, unsupported};
 pub use literals::{boolean_object, number_object, string_object};
 pub use names::Names;
-pub use value_objects::value_object;
+pub use value_objects::{has_member, value_object};
 pub use writing::write_term;

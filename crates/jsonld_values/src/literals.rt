@@ -10,7 +10,7 @@ ghost use Rattle.jsonld_context.specs.Telling.{IsToldBy};
 ghost use Rattle.jsonld_values.specs.Literals.{iri_slot, literal_slot, made_of, literal_object, string_object, boolean_text, boolean_object, whole_text, number_object};
 
 use crate::datatypes::{
-    boolean_type, datatype_iri, datatype_under, integer_type, is_double_type, string_type,
+    boolean_type, datatype_under, integer_type, is_double_type, known_iri, string_type,
     typed_literal,
 };
 use crate::faults::{bad_subject, unsupported};
@@ -83,7 +83,7 @@ fn plain_object(alloc: Global, key: &str, text: &str) -> Result<Slot, JsonFault>
     ensures ok { IfOk result (λ slot. literal_object key.now text.now xsd_string ≡ Ok slot) }
     ensures err { IfErr result (IsToldBy (literal_object key.now text.now xsd_string)) }
 {
-    let datatype = datatype_iri(alloc, string_type())?;
+    let datatype = known_iri(alloc, string_type())?;
     literal_object(alloc, key, text, &datatype)
 }
 

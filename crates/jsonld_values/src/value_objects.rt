@@ -1,12 +1,10 @@
 //! Value objects (JSON-LD 1.1, section 9.5).
 ghost use Rattle.std.specs.Prelude.{◌≡◌, ◌≢◌, ◌≤◌, length, not, codes, None, Some, Ok, IfOk, IfErr, IsTrue};
-ghost use Rattle.std.specs.Option.{option_copied, option_map};
 ghost use Rattle.std.specs.Str.{str_to_ascii_lowercase};
 ghost use Rattle.rdf_terms.specs.Literal.{Tagged, is_same, is_language_tag, lexical_limit, rdf_lang_string};
 ghost use Rattle.serde_json.specs.Data.{number};
-ghost use Rattle.serde_json.specs.Find.{get_member};
 ghost use Rattle.serde_json.specs.View.{view, members_view, number_view};
-ghost use Rattle.jsonld_context.specs.ContextReading.{first_fault, string_at};
+ghost use Rattle.jsonld_context.specs.ContextReading.{first_fault};
 ghost use Rattle.jsonld_context.specs.Expanding.{key_meant, expand_key};
 ghost use Rattle.jsonld_context.specs.Telling.{IsToldBy, IsReadAs};
 ghost use Rattle.jsonld_context.specs.declared.faults.JsonFault.TheVariants as faults;
@@ -14,13 +12,13 @@ ghost use Rattle.jsonld_values.specs.Literals.{IsDatatype, xsd_integer, xsd_doub
 ghost use Rattle.jsonld_values.specs.ValueObjects.{has_member, is_language_key, is_value_key, datatype_said, fault_of_language, fault_of_datatype, fault_of_typing, fault_of_length, fault_of_boolean, fault_of_written, fault_of_value_part, fault_of_value_object, literal_beside, literal_said, literal_meant, value_object};
 
 use crate::datatypes::{
-    boolean_type, datatype_iri, integer_type, is_double_type, is_lang_string, string_type,
+    boolean_type, integer_type, is_double_type, is_lang_string, known_iri, string_type,
     typed_literal,
 };
 use crate::faults::{bad_subject, unsupported};
 use crate::literals::{boolean_text, whole_text};
 use jrql_ast::Slot;
-use jsonld_context::{Context, JsonFault, is_type_key, is_variable};
+use jsonld_context::{Context, JsonFault, is_type_key, is_variable, member_at, string_at};
 use rdf_terms::{Iri, LEXICAL_LIMIT, Literal, Term, TermFault, is_language_tag};
 use serde_json::{Map, Number, Value};
 use std::alloc::{AllocError, Global};
@@ -28,28 +26,11 @@ use std::alloc::{AllocError, Global};
 /// The members of a JSON object.
 type Members = Map<String, Value>;
 
-/// The member with a key.
-fn member_at<'a>(members: &'a Members, key: &str) -> Option<&'a Value>
-    ensures { option_map (λ value. view value.now) result ≡ get_member key.now (members_view members.now.entries) }
-{
-    members.get(key)
-}
-
-/// Whether there is a member with a key.
-fn has_member(members: &Members, key: &str) -> bool
+/// Whether there is a member with a key. It takes no memory.
+pub fn has_member(members: &Map<String, Value>, key: &str) -> bool
     ensures { result ≡ has_member key.now (members_view members.now.entries) }
 {
     member_at(members, key).is_some()
-}
-
-/// The string of the member with a key, where it is one.
-fn string_at<'a>(members: &'a Members, key: &str) -> Option<&'a str>
-    ensures { option_copied result ≡ string_at key.now (members_view members.now.entries) }
-{
-    match member_at(members, key) {
-        Some(value) => value.as_str(),
-        None => None,
-    }
 }
 
 /// Whether this is `@language`.
@@ -264,7 +245,7 @@ fn datatype_said(
     ensures allowed { IfOk result (λ iri. IsTrue (not (is_same iri rdf_lang_string))) }
 {
     let Some(text) = string_at(parts, "@type") else {
-        return datatype_iri(alloc, other);
+        return known_iri(alloc, other);
     };
     match context.expand_key(alloc, text) {
         Ok(iri) => Ok(iri),

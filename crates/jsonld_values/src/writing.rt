@@ -3,13 +3,12 @@ ghost use Rattle.std.specs.Prelude.{◌≡◌, IfOk, codes};
 ghost use Rattle.serde_json.specs.Data.{string};
 ghost use Rattle.serde_json.specs.View.{view};
 ghost use Rattle.rdf_terms.specs.Literal.{Typed, is_same, xsd_string};
-ghost use Rattle.jsonld_context.specs.ShortForms.{compact_key, compact_id};
+ghost use Rattle.jsonld_context.specs.ShortForms.{compact_id};
 ghost use Rattle.jsonld_values.specs.Literals.{xsd_boolean, xsd_integer};
 ghost use Rattle.jsonld_values.specs.TermWriting.{term_data, one_member, two_members, literal_data, typed_data, string_data, boolean_data, integer_data};
 
 use crate::datatypes::{XSD_BOOLEAN, XSD_INTEGER, XSD_STRING};
 use crate::plain_numbers::plain_number;
-use iri_rules::Text;
 use jsonld_context::{Context, is_variable};
 use rdf_terms::{Iri, Literal, Term};
 use serde_json::{Value, json};
@@ -39,16 +38,6 @@ fn is_integer(datatype: &str) -> bool
     datatype == XSD_INTEGER
 }
 
-/// The key of a datatype. That of a literal is an absolute IRI, so only memory can be wanting.
-fn datatype_key(alloc: Global, context: &Context, datatype: &str) -> Result<Text, AllocError>
-    ensures { IfOk result (λ key. key ≡ compact_key context.now datatype.now) }
-{
-    match Iri::new(alloc, datatype) {
-        Ok(iri) => context.compact_key(alloc, &iri),
-        Err(_) => Err(AllocError),
-    }
-}
-
 /// An object with a lexical form and its type.
 fn typed_value(
     alloc: Global,
@@ -58,7 +47,7 @@ fn typed_value(
 ) -> Result<Value, AllocError>
     ensures { IfOk result (λ value. view value ≡ typed_data context.now lexical.now datatype.now) }
 {
-    let key = datatype_key(alloc, context, datatype)?;
+    let key = context.compact_key_text(alloc, datatype)?;
     json!(in alloc; {"@type": key.as_str(), "@value": lexical})
 }
 
