@@ -7,3 +7,4 @@ pub mod SubjectsGivenBack
 pub mod Runs
 pub mod Putting
 pub mod MemberLaws
+pub mod TypeProperty

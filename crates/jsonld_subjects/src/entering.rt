@@ -1,33 +1,16 @@
 //! Where a subject begins.
 ghost use Rattle.std.specs.Prelude.{◌≡◌, Ok, IfOk, IfErr};
-ghost use Rattle.std.specs.Option.{option_map};
-ghost use Rattle.serde_json.specs.Find.{get_member};
-ghost use Rattle.serde_json.specs.View.{view, members_view};
+ghost use Rattle.serde_json.specs.View.{members_view};
 ghost use Rattle.jsonld_context.specs.Telling.{IsToldBy};
-ghost use Rattle.jsonld_values.specs.ValueObjects.{has_member};
 ghost use Rattle.jsonld_subjects.specs.SubjectReading.{begun, entered};
 
 use crate::found::{Found, meet_subject};
 use crate::open_subjects::OpenSubject;
 use crate::places::Place;
 use jsonld_context::JsonFault;
-use jsonld_values::unsupported;
+use jsonld_values::{has_member, unsupported};
 use serde_json::{Map, Value};
 use std::alloc::Global;
-
-/// The member with a key.
-fn member_at<'a>(members: &'a Map<String, Value>, key: &str) -> Option<&'a Value>
-    ensures { option_map (λ value. view value.now) result ≡ get_member key.now (members_view members.now.entries) }
-{
-    members.get(key)
-}
-
-/// Whether there is a member with a key.
-pub(crate) fn has_member(members: &Map<String, Value>, key: &str) -> bool
-    ensures { result ≡ has_member key.now (members_view members.now.entries) }
-{
-    member_at(members, key).is_some()
-}
 
 /// A subject with these members, of which nothing was read yet.
 fn begun(

@@ -1,5 +1,6 @@
 //! What a subject is: its id and its types (JSON-LD 1.1, sections 3.3 and 3.5).
-ghost use Rattle.std.specs.Prelude.{◌≡◌, Ok, IfOk, IfErr};
+ghost use Rattle.std.specs.Prelude.{◌≡◌, Ok, IfOk, IfErr, IsTrue};
+ghost use Rattle.iri_rules.specs.Iri.{is_absolute};
 ghost use Rattle.serde_json.specs.View.{view, items_view};
 ghost use Rattle.jsonld_context.specs.Expanding.{expand_id};
 ghost use Rattle.jsonld_context.specs.Telling.{IsToldBy};
@@ -9,23 +10,29 @@ ghost use Rattle.jsonld_subjects.specs.SubjectReading.{with_names, slot_of, prop
 use crate::open_subjects::OpenSubject;
 use jrql_ast::Slot;
 use jsonld_context::{Context, JsonFault, is_variable};
-use jsonld_values::bad_subject;
-use rdf_terms::{Iri, Term};
+use jsonld_values::{bad_subject, known_iri};
+use rdf_terms::Term;
 use serde_json::Value;
 use std::alloc::{AllocError, Global};
 
 /// rdf:type, the property of types.
 pub(crate) const RDF_TYPE: &str = "http://www.w3.org/1999/02/22-rdf-syntax-ns#type";
 
-/// The slot of rdf:type, which is an IRI, so that only memory may be wanting.
+/// The text of rdf:type.
 #[tactic(auto, unfolding(crate::specs::SubjectReading::rdf_type))]
+fn type_text() -> &'static str
+    ensures text { result.now ≡ rdf_type }
+    ensures absolute { IsTrue (is_absolute result.now) }
+{
+    RDF_TYPE
+}
+
+/// The slot of rdf:type.
 fn rdf_type(alloc: Global) -> Result<Slot, AllocError>
     ensures { IfOk result (λ slot. slot ≡ iri_slot rdf_type) }
 {
-    match Iri::new(alloc, RDF_TYPE) {
-        Ok(iri) => Ok(Slot::Term(Term::Iri(iri))),
-        Err(_) => Err(AllocError),
-    }
+    let iri = known_iri(alloc, type_text())?;
+    Ok(Slot::Term(Term::Iri(iri)))
 }
 
 /// Meets a key, or a value of `@type`.

@@ -6,14 +6,14 @@ ghost use Rattle.jsonld_context.specs.Telling.{IsToldBy};
 ghost use Rattle.jsonld_subjects.specs.MemberReading.{read_member, read_object};
 ghost use Rattle.jsonld_subjects.specs.SubjectReading.{read_single, read_each, read_values, read_members};
 
-use crate::entering::{entered, has_member};
+use crate::entering::entered;
 use crate::ids::{meet_key, read_id, read_types};
 use crate::open_subjects::OpenSubject;
 use crate::places::Place;
 use crate::plain_values::read_plain;
 use jrql_ast::Slot;
 use jsonld_context::{Context, JsonFault, TermType, begins_as_keyword, is_id_key, is_type_key};
-use jsonld_values::{unsupported, value_object};
+use jsonld_values::{has_member, unsupported, value_object};
 use serde_json::{Map, Value};
 use std::alloc::Global;
 
