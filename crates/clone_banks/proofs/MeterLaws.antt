@@ -2,6 +2,7 @@
 use Rattle.std.proofs.Common.{◌≡◌, ℕ, ◌+◌, ◌-◌, ◌*◌, refl, ap, subst, arith}
 use Rattle.mld_io.specs.Arm.{Arm, Unarmed, Armed, Caught, Meter, LowersBy, Metered}
 use Rattle.mld_io.proofs.ArmLaws.{LowersAtMost-none, Metered-then}
+use Rattle.journal_store.proofs.Reading.{metered_as}
 
 -- no call was made
 none_lowers : (arm : Arm) → LowersBy 0 arm arm
@@ -22,21 +23,9 @@ Metered-none meter not_failed = record {
 }
 
 -- the same calls, told otherwise
-pub Metered-as : {D F D' F' : Type 0} (n : ℕ) (before now : Meter) → Metered n before now D F → (D' → D) → (F' → F) → (F → F') → Metered n before now D' F'
-Metered-as n before now m is_done is_told is_failed = record {
-  later = m.later;
-  real_later = m.real_later;
-  lowered = m.lowered;
-  done = λ d. m.done (is_done d);
-  failed = λ f. m.failed (is_told f);
-  cause = λ f. m.cause (is_told f);
-  quiet = λ none. m.quiet (λ f. none (is_failed f));
-  caught = m.caught;
-}
-
 -- one append more was done
 pub append_done : {D F : Type 0} (i : ℕ) (before mid now : Meter) → Metered (4 * i) before mid (Unit {0}) ⊥ → Metered 4 mid now D F → D → ¬ F → Metered (4 * (i + 1)) before now (Unit {0}) ⊥
 append_done i before mid now first second done not_failed =
     let e : 4 * i + 4 ≡ 4 * (i + 1) = omega arith in
     subst (λ n. Metered n before now (Unit {0}) ⊥) e
-    (Metered-as (4 * i + 4) before now (Metered-then (4 * i) 4 before mid now first tt second) (λ u. done) (λ f. absurd f) not_failed)
+    (metered_as (4 * i + 4) before now (λ u. done) (λ f. absurd f) not_failed (Metered-then (4 * i) 4 before mid now first tt second))

@@ -8,7 +8,7 @@ use Rattle.journal_store.specs.declared.faults.AppendFault.TheVariants as append
 use Rattle.journal_store.specs.declared.faults.Why.{Why}
 use Rattle.journal_store.specs.declared.faults.Why.TheVariants as why
 use Rattle.clone_banks.specs.Appending.{LeavesStopped, IsRefusedBy}
-use Rattle.clone_banks.proofs.MeterLaws.{Metered-as}
+use Rattle.journal_store.proofs.Reading.{metered_as}
 
 pub none_some : {X : Type 0} {x : X} → ¬ (◌≡◌ {A = Option X} None (Some x))
 none_some e = cc
@@ -55,4 +55,4 @@ ok_err e = cc
 pub refused_metered : {T U : Type 0} (n : ℕ) (before now : Meter) (fault : AppendFault) (told : Why) → IsRefusedBy fault told → ((reason : Why) → ¬ (fault ≡ append.Closed reason))
     → Metered n before now (IsOk {T = T} {E = AppendFault} (Err fault)) (IsErrOf {T = T} (Err fault) append.Device) → Metered n before now (IsOk {T = U} {E = Why} (Err told)) (IsErrOf {T = U} (Err told) why.Device)
 refused_metered n before now fault told is not_closed m =
-    Metered-as n before now m (λ e. absurd cc) (λ e. ap Err (refused_device fault told is not_closed (err_same e))) (λ e. ap Err (refused_failed fault told is (err_same e)))
+    metered_as n before now (λ e. absurd cc) (λ e. ap Err (refused_device fault told is not_closed (err_same e))) (λ e. ap Err (refused_failed fault told is (err_same e))) m

@@ -15,7 +15,8 @@ use Rattle.clone_plans.specs.Replays.{AreReadyEntries}
 use Rattle.clone_plans.specs.declared.merges.Merge.{Merge}
 use Rattle.clone_plans.proofs.ReadyLaws.{leads_ready}
 use Rattle.clone_banks.specs.Swapping.{LeavesUnmerged}
-use Rattle.clone_banks.proofs.MeterLaws.{Metered-none, Metered-as}
+use Rattle.clone_banks.proofs.MeterLaws.{Metered-none}
+use Rattle.journal_store.proofs.Reading.{metered_as}
 use Rattle.clone_banks.proofs.RefusedLaws.{err_same, ok_err}
 use Rattle.clone_core.specs.CloneFaults.{receive_fault_of_swap}
 use Rattle.clone_core.specs.Merging.{MergeCalls}
@@ -100,7 +101,7 @@ pub merged_calls : {U : Type 0} (n : ℕ) (had before now : Meter) → had ≡ b
     → Metered n had now (IsOk {T = U} {E = SwapFault} (Ok x)) (IsErrOf {T = U} {E = SwapFault} (Ok x) swap.Device)
     → Metered n before now (IsOk {T = Got} {E = ReceiveFault} (Ok got)) (IsErrOf {T = Got} {E = ReceiveFault} (Ok got) fault.Device)
 merged_calls n had before now same x got m =
-    moved n had before now same (Metered-as n had now m (λ d. refl) (λ e. absurd (ok_err e)) (λ e. absurd (ok_err e)))
+    moved n had before now same (metered_as n had now (λ d. refl) (λ e. absurd (ok_err e)) (λ e. absurd (ok_err e)) m)
 
 -- and of those that were refused
 module _ {B U : Type 0} (meter : B → Meter) (n : ℕ) (was now : JournalValue B) (shut : Option Why) (before : Meter) (same : meter was.banks ≡ before) where
@@ -109,9 +110,9 @@ module _ {B U : Type 0} (meter : B → Meter) (n : ℕ) (was now : JournalValue 
       → (calls : ℕ) × MergeCalls (Err (receive_fault_of_swap told)) calls
       × Metered calls before (meter now.banks) (IsOk {T = Got} {E = ReceiveFault} (Err (receive_fault_of_swap told))) (IsErrOf {T = Got} (Err (receive_fault_of_swap told)) fault.Device)
   unmerged_calls swap.Device leaves m =
-      (n, tt, moved n (meter was.banks) before (meter now.banks) same (Metered-as n (meter was.banks) (meter now.banks) m (λ e. absurd cc) (λ e. refl) (λ e. refl)))
+      (n, tt, moved n (meter was.banks) before (meter now.banks) same (metered_as n (meter was.banks) (meter now.banks) (λ e. absurd cc) (λ e. refl) (λ e. refl) m))
   unmerged_calls swap.NoMemory leaves m =
-      (n, tt, moved n (meter was.banks) before (meter now.banks) same (Metered-as n (meter was.banks) (meter now.banks) m (λ e. absurd cc) (λ e. absurd cc) (λ e. absurd cc)))
+      (n, tt, moved n (meter was.banks) before (meter now.banks) same (metered_as n (meter was.banks) (meter now.banks) (λ e. absurd cc) (λ e. absurd cc) (λ e. absurd cc) m))
   unmerged_calls swap.GenerationsSpent leaves m =
       let stays : before ≡ meter now.banks = sym same ∙ ap (λ (j : JournalValue B). meter j.banks) (sym leaves.0) in (
         0,

@@ -5,7 +5,8 @@ use Rattle.mld_io.proofs.ArmLaws.{Metered-refused}
 use Rattle.journal_store.specs.declared.faults.Why.{Why}
 use Rattle.journal_store.specs.declared.faults.Why.TheVariants as why
 use Rattle.clone_banks.specs.BankCalls.{append_calls}
-use Rattle.clone_banks.proofs.MeterLaws.{Metered-none, Metered-as}
+use Rattle.clone_banks.proofs.MeterLaws.{Metered-none}
+use Rattle.journal_store.proofs.Reading.{metered_as}
 use Rattle.clone_banks.proofs.RefusedLaws.{ok_err}
 use Rattle.clone_core.specs.CloneFaults.{receive_fault_of}
 use Rattle.clone_core.specs.Closing.{UpdateCalls, ReceiveCalls}
@@ -28,14 +29,14 @@ module _ {U : Type 0} (n : ℕ) (had before now : Meter) (same : had ≡ before)
   pub stopped_calls : (told : Why) → Metered n had now (IsOk {T = U} {E = Why} (Err told)) (IsErrOf {T = U} (Err told) why.Device)
       → (calls : ℕ) × ReceiveCalls (Err (receive_fault_of told)) calls
       × Metered calls before now (IsOk {T = Got} {E = ReceiveFault} (Err (receive_fault_of told))) (IsErrOf {T = Got} (Err (receive_fault_of told)) receive.Device)
-  stopped_calls why.Device m = (n, tt, moved n had before now same (Metered-as n had now m (λ e. absurd cc) (λ e. refl) (λ e. refl)))
-  stopped_calls why.NoMemory m = (n, tt, moved n had before now same (Metered-as n had now m (λ e. absurd cc) (λ e. absurd cc) (λ e. absurd cc)))
+  stopped_calls why.Device m = (n, tt, moved n had before now same (metered_as n had now (λ e. absurd cc) (λ e. refl) (λ e. refl) m))
+  stopped_calls why.NoMemory m = (n, tt, moved n had before now same (metered_as n had now (λ e. absurd cc) (λ e. absurd cc) (λ e. absurd cc) m))
 
   pub done_calls : (x : U) (got : Got) → Metered n had now (IsOk {T = U} {E = Why} (Ok x)) (IsErrOf {T = U} (Ok x) why.Device)
       → Metered n before now (IsOk {T = Got} {E = ReceiveFault} (Ok got)) (IsErrOf {T = Got} (Ok got) receive.Device)
   done_calls x got m =
-      Metered-as n before now (subst (λ k. Metered n k now (IsOk {T = U} {E = Why} (Ok x)) (IsErrOf {T = U} (Ok x) why.Device)) same m)
-      (λ d. refl) (λ e. absurd (ok_err e)) (λ e. absurd (ok_err e))
+      metered_as n before now (λ d. refl) (λ e. absurd (ok_err e)) (λ e. absurd (ok_err e))
+      (subst (λ k. Metered n k now (IsOk {T = U} {E = Why} (Ok x)) (IsErrOf {T = U} (Ok x) why.Device)) same m)
 
 -- ---- calls that found no memory before any call of the device
 
