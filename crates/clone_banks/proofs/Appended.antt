@@ -6,8 +6,8 @@ use Rattle.mld_io.specs.Arm.{Meter, Metered}
 use Rattle.mld_io.specs.Disk.{Log}
 use Rattle.mld_ops.specs.Entry.{EntryValue}
 use Rattle.op_codec.specs.Stored.{IsShortEntry}
-use Rattle.journal_store.proofs.RecordReading.{known_more}
-use Rattle.journal_store.specs.Pairs.{Kept, with_entry}
+use Rattle.journal_sides.proofs.RecordReading.{known_more}
+use Rattle.journal_sides.specs.Pairs.{Kept, with_entry}
 use Rattle.journal_store.specs.Standing.{JournalValue}
 use Rattle.journal_store.specs.declared.faults.Why.{Why}
 use Rattle.clone_plans.specs.Replays.{AreReadyEntries}

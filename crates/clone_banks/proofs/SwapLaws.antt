@@ -4,10 +4,10 @@ use Rattle.std.specs.List.{AllByRecursion}
 use Rattle.mld_ops.specs.Entry.{EntryValue}
 use Rattle.mld_ops.specs.Ready.{last_dot}
 use Rattle.op_codec.specs.Stored.{IsShortEntry}
+use Rattle.journal_sides.specs.Records.{raised_to}
+use Rattle.journal_sides.specs.StoredVolumes.{AreGoodEntries}
 use Rattle.journal_store.specs.Calls.{StaysOrCloses}
-use Rattle.journal_store.specs.Records.{raised_to}
 use Rattle.journal_store.specs.Standing.{JournalValue}
-use Rattle.journal_store.specs.StoredVolumes.{AreGoodEntries}
 use Rattle.journal_store.specs.declared.faults.SwapFault.{SwapFault}
 use Rattle.journal_store.specs.declared.faults.SwapFault.TheVariants as swap
 use Rattle.journal_store.specs.declared.faults.Why.{Why}

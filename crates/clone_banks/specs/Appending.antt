@@ -4,10 +4,10 @@ use Rattle.mld_io.specs.Disk.{Log}
 use Rattle.mld_io.specs.declared.banks.Side.TheVariants.{A}
 use Rattle.mld_ops.specs.Entry.{EntryValue}
 use Rattle.op_codec.specs.Stored.{IsShort, IsShortSnapshot}
+use Rattle.journal_sides.specs.Heads.{HeadValue}
+use Rattle.journal_sides.specs.Pairs.{Kept}
+use Rattle.journal_sides.specs.Records.{known_after}
 use Rattle.journal_store.specs.Calls.{made, MayFork}
-use Rattle.journal_store.specs.Heads.{HeadValue}
-use Rattle.journal_store.specs.Pairs.{Kept}
-use Rattle.journal_store.specs.Records.{known_after}
 use Rattle.journal_store.specs.Standing.{JournalValue, KeepsJust}
 use Rattle.journal_store.specs.declared.faults.AppendFault.{AppendFault}
 use Rattle.journal_store.specs.declared.faults.AppendFault.TheVariants as append

@@ -1,7 +1,7 @@
 -- Swaps of what a clone's banks keep, and appends behind a swap: what they do, and what a refusal leaves.
 use Rattle.std.specs.Prelude.{◌≡◌, ◌⊎◌, ◌+◌, Option, None, Some}
 use Rattle.mld_io.specs.Disk.{Log, other_side}
-use Rattle.journal_store.specs.Pairs.{Kept}
+use Rattle.journal_sides.specs.Pairs.{Kept}
 use Rattle.journal_store.specs.Standing.{JournalValue}
 use Rattle.journal_store.specs.declared.faults.SwapFault.{SwapFault}
 use Rattle.journal_store.specs.declared.faults.SwapFault.TheVariants as swap

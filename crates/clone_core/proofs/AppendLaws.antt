@@ -8,9 +8,9 @@ use Rattle.tree_clock.specs.Limits.{path_limit}
 use Rattle.tree_clock.specs.Path.{zero_letter}
 use Rattle.tree_clock.specs.declared.dots.Dot.{Dot}
 use Rattle.op_fusion.proofs.Applied.{applied}
-use Rattle.journal_store.proofs.Ready.{ready_same}
-use Rattle.journal_store.specs.Pairs.{Kept, with_fork}
-use Rattle.journal_store.specs.Records.{known_after}
+use Rattle.journal_sides.proofs.Ready.{ready_same}
+use Rattle.journal_sides.specs.Pairs.{Kept, with_fork}
+use Rattle.journal_sides.specs.Records.{known_after}
 use Rattle.journal_store.specs.Standing.{JournalValue, KeepsJust}
 use Rattle.journal_store.specs.declared.faults.SwapFault.{SwapFault}
 use Rattle.journal_store.specs.declared.faults.SwapFault.TheVariants as swap

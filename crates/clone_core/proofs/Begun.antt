@@ -6,7 +6,7 @@ use Rattle.mld_ops.specs.declared.tagged.Tagged.{Tagged}
 use Rattle.mld_ops.specs.Entry.{EntryValue}
 use Rattle.mld_ops.specs.Held.{held_limit}
 use Rattle.mld_ops.specs.Messages.{IsGoodSnapshot}
-use Rattle.journal_store.specs.Heads.{HeadValue}
+use Rattle.journal_sides.specs.Heads.{HeadValue}
 use Rattle.mld_model.specs.Local.{IsLocal, IsNamed, LeadsTo}
 use Rattle.snapshot.specs.SnapshotJoin.{CoversAll}
 use Rattle.clone_core.specs.Beginning.{found_clone}

@@ -3,9 +3,9 @@ use Rattle.std.proofs.Common.{◌≡◌, ◌∙◌, ℕ, List, Option, None, Som
 use Rattle.mld_io.specs.Disk.{Log, seen, IsSettled}
 use Rattle.mld_io.specs.declared.banks.Side.{Side}
 use Rattle.mld_ops.specs.Entry.{EntryValue}
-use Rattle.journal_store.specs.Heads.{HeadValue}
+use Rattle.journal_sides.specs.Heads.{HeadValue}
+use Rattle.journal_sides.specs.Pairs.{Kept, Keeps, read_banks}
 use Rattle.journal_store.specs.Mounting.{IsSynced}
-use Rattle.journal_store.specs.Pairs.{Kept, Keeps, read_banks}
 use Rattle.journal_store.specs.declared.faults.Why.{Why}
 use Rattle.mld_model.specs.Local.{LocalClone}
 use Rattle.clone_core.specs.Banked.{kept_as, IsOnBanks}

@@ -5,9 +5,9 @@ use Rattle.mld_io.specs.declared.banks.Side.{Side}
 use Rattle.tree_clock.specs.Lists.{Has}
 use Rattle.mld_ops.specs.Entry.{EntryValue, IsEntry}
 use Rattle.op_fusion.specs.Compacting.{AreFusedRuns}
+use Rattle.journal_sides.specs.Heads.{HeadValue}
+use Rattle.journal_sides.specs.Pairs.{Kept}
 use Rattle.journal_store.specs.Calls.{swapped}
-use Rattle.journal_store.specs.Heads.{HeadValue}
-use Rattle.journal_store.specs.Pairs.{Kept}
 use Rattle.journal_store.specs.Standing.{KeepsJust}
 use Rattle.journal_store.specs.declared.faults.Why.{Why}
 use Rattle.mld_model.specs.Local.{LocalClone, IsLocal, LocallyCompacts}

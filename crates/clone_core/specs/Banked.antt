@@ -3,8 +3,8 @@ use Rattle.std.specs.Prelude.{◌≡◌, ℕ, List, Option, Some, None}
 use Rattle.mld_ops.specs.declared.tagged.Tagged.{Tagged}
 use Rattle.mld_io.specs.Disk.{Log}
 use Rattle.mld_io.specs.declared.banks.Side.{Side}
-use Rattle.journal_store.specs.Heads.{HeadValue}
-use Rattle.journal_store.specs.Pairs.{Kept}
+use Rattle.journal_sides.specs.Heads.{HeadValue}
+use Rattle.journal_sides.specs.Pairs.{Kept}
 use Rattle.journal_store.specs.Standing.{KeepsJust}
 use Rattle.journal_store.specs.declared.faults.Why.{Why}
 use Rattle.mld_model.specs.Local.{LocalAsker, LocalClone}

@@ -1,6 +1,6 @@
 -- The clone of a head and of what the entries behind it lead to.
 use Rattle.std.specs.Prelude.{ℕ, List, []}
-use Rattle.journal_store.specs.Heads.{HeadValue}
+use Rattle.journal_sides.specs.Heads.{HeadValue}
 use Rattle.mld_model.specs.Local.{LocalClone}
 use Rattle.clone_plans.specs.declared.replays.Replayed.{Replayed}
 

@@ -1,7 +1,7 @@
 -- What is found on banks where a clone is to run again.
 use Rattle.std.specs.Prelude.{◌≡◌, [], None}
 use Rattle.mld_io.specs.declared.banks.Side.{Side}
-use Rattle.journal_store.specs.Pairs.{PairReading, KeepsNone, Keeps, Damages}
+use Rattle.journal_sides.specs.Pairs.{PairReading, KeepsNone, Keeps, Damages}
 use Rattle.journal_store.specs.declared.faults.MountFault.TheVariants.{Damaged, Device, NoMemory}
 use Rattle.mld_model.specs.Local.{IsLocal}
 use Rattle.clone_core.specs.Banked.{BankedClone, kept_as}

@@ -56,8 +56,8 @@ impl<B: Banks> MldClone<B> {
     ghost use Rattle.std.specs.Prelude.{◌≡◌, ◌≢◌, ◌<◌, ◌↔◌, ◌∷◌, [], ℕ, true, false, length, None, Some, IsTrue, IfOk, IfErr, IsOk, OnOk, OnErr, IsErrOf, MatchOption};
     ghost use Rattle.mld_io.specs.Arm.{Metered};
     ghost use Rattle.mld_io.specs.Disk.{Log};
+    ghost use Rattle.journal_sides.specs.Heads.{head_value};
     ghost use Rattle.journal_store.specs.declared.faults.Why.{Why};
-    ghost use Rattle.journal_store.specs.Heads.{head_value};
     ghost use Rattle.clone_banks.specs.Appending.{BeginsJournal};
     ghost use Rattle.clone_banks.specs.BankCalls.{append_calls, create_calls};
     ghost use Rattle.clone_core.specs.Banked.{IsOnBanks, KeepsClone};

@@ -12,7 +12,7 @@ use tree_clock::Clock;
 impl<B: Banks> MldClone<B> {
     ghost use Rattle.std.specs.Prelude.{◌≡◌, ◌-◌, ◌^◌, ◌↔◌, ℕ, length, None, Some, IfOk, IfErr, IsOk, OnOk, IsErrOf};
     ghost use Rattle.mld_io.specs.Arm.{Metered};
-    ghost use Rattle.journal_store.specs.Heads.{head_value};
+    ghost use Rattle.journal_sides.specs.Heads.{head_value};
     ghost use Rattle.journal_store.specs.declared.faults.Why.{Why};
     ghost use Rattle.clone_core.specs.Banked.{head_over};
     ghost use Rattle.clone_banks.specs.BankCalls.{swap_calls};

@@ -2,7 +2,7 @@
 ghost use Rattle.std.specs.Prelude.{◌≡◌, Some};
 ghost use Rattle.mld_io.specs.Arm.{Metered};
 ghost use Rattle.mld_io.specs.Disk.{Log, seen};
-ghost use Rattle.journal_store.specs.Pairs.{read_banks};
+ghost use Rattle.journal_sides.specs.Pairs.{read_banks};
 ghost use Rattle.clone_core.specs.Closing.{mount_calls};
 ghost use Rattle.clone_core.specs.Opening.{TellsClone, OpensClone, banks_of_mounted, SyncsBoth, FailsToOpen};
 

@@ -1,8 +1,8 @@
 //! What the entries of a journal lead to, taken one after another.
 ghost use Rattle.std.specs.Prelude.{◌≡◌, IfOk, OnOk};
 ghost use Rattle.clone_plans.specs.Replays.{AreReadyEntries};
-ghost use Rattle.journal_store.specs.Heads.{head_value};
-ghost use Rattle.journal_store.specs.StoredVolumes.{IsGoodHead, AreGoodEntries};
+ghost use Rattle.journal_sides.specs.Heads.{head_value};
+ghost use Rattle.journal_sides.specs.StoredVolumes.{IsGoodHead, AreGoodEntries};
 ghost use Rattle.mld_model.specs.Local.{LeadsTo};
 ghost use Rattle.mld_ops.specs.Tagged.{tagged_cmp};
 ghost use Rattle.snapshot.specs.SnapshotJoin.{CoversAll};
@@ -10,7 +10,7 @@ ghost use Rattle.tree_clock.specs.Clock.{IsClock};
 ghost use Rattle.tree_clock.specs.Lists.{IsAscending};
 
 use graph_index::Graph;
-use journal_store::Head;
+use journal_sides::Head;
 use mld_ops::{Entry, Tagged, copy_pairs};
 use op_fusion::cut;
 use std::alloc::{AllocError, Global};

@@ -1,8 +1,8 @@
 //! The parts of a run.
 ghost use Rattle.std.specs.Prelude.{IfOk};
 ghost use Rattle.op_codec.specs.Stored.{IsShortEntry};
-ghost use Rattle.journal_store.specs.Heads.{head_value};
-ghost use Rattle.journal_store.specs.StoredVolumes.{IsGoodHead};
+ghost use Rattle.journal_sides.specs.Heads.{head_value};
+ghost use Rattle.journal_sides.specs.StoredVolumes.{IsGoodHead};
 
 use crate::faults::CostFault;
 use crate::parts::Parts;

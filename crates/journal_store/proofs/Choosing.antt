@@ -4,13 +4,14 @@ use Rattle.std.proofs.lemmas.Bool.Decides.{eqb_tells, leb_tells}
 use Rattle.mld_io.specs.Disk.{Sides, bytes_of, other_side}
 use Rattle.mld_io.specs.declared.banks.Side.{Side}
 use Rattle.mld_io.specs.declared.banks.Side.TheVariants.{A, B}
+use Rattle.journal_sides.specs.declared.side_reading.Found.{Found}
+use Rattle.journal_sides.specs.Format.{generation_place}
+use Rattle.journal_sides.specs.FoundVolumes.{kept_found, IsFoundOn}
+use Rattle.journal_sides.specs.Pairs.{Kept, Keeps, Damages, kept_on, pair_of, read_banks}
+use Rattle.journal_sides.specs.SideReadings.{SideReading, IsClosed, IsOpen, IsDamaged, Volume, read_side}
 use Rattle.journal_store.specs.declared.faults.MountFault.{MountFault}
 use Rattle.journal_store.specs.declared.faults.MountFault.TheVariants.{Damaged, Device, NoMemory}
-use Rattle.journal_store.specs.declared.side_reading.Found.{Found}
-use Rattle.journal_store.specs.Format.{generation_place}
-use Rattle.journal_store.specs.Found.{kept_found, IsFoundOn, TellsSide, Counts, TellsBoth}
-use Rattle.journal_store.specs.Pairs.{Kept, Keeps, Damages, kept_on, pair_of, read_banks}
-use Rattle.journal_store.specs.SideReadings.{SideReading, IsClosed, IsOpen, IsDamaged, Volume, read_side}
+use Rattle.journal_store.specs.Found.{TellsSide, Counts, TellsBoth}
 use Rattle.journal_store.specs.Standing.{IsBehind}
 
 -- what both sides say together, from what each says

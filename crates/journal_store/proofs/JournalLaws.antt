@@ -7,20 +7,21 @@ use Rattle.mld_io.proofs.DiskLaws.{sides_from_bytes}
 use Rattle.mld_io.specs.declared.banks.Side.{Side}
 use Rattle.mld_io.specs.declared.banks.Side.TheVariants.{A, B}
 use Rattle.mld_ops.specs.Entry.{EntryValue}
+use Rattle.journal_sides.specs.Heads.{HeadValue}
+use Rattle.journal_sides.specs.Pairs.{Kept, PairReading, KeepsNone, Keeps, Damages, kept_on, greater_of, pair_of, read_banks, with_entry, with_fork}
+use Rattle.journal_sides.specs.Records.{RecordValue, EntryRecord, ForkRecord}
+use Rattle.journal_sides.specs.SideReadings.{SideReading, IsClosed, IsOpen, IsDamaged, Volume, read_side}
+use Rattle.journal_sides.specs.StoredVolumes.{EndsAt, IsVolume, IsStoredRecord}
+use Rattle.journal_sides.specs.WrittenRecords.{volume_of, with_record}
+use Rattle.journal_sides.proofs.RecordReading.{entries_more, path_more, entries_forked, path_forked}
+use Rattle.journal_sides.proofs.WrittenLaws.{volume_more, entries_of-records, path_after-records}
 use Rattle.journal_store.specs.declared.faults.Why.{Why}
 use Rattle.journal_store.specs.Calls.{KeptBy, swapped}
 use Rattle.journal_store.specs.Crashes.{ReadsEither, LeavesEither}
-use Rattle.journal_store.specs.Heads.{HeadValue}
-use Rattle.journal_store.specs.Pairs.{Kept, PairReading, KeepsNone, Keeps, Damages, kept_on, greater_of, pair_of, read_banks, with_entry, with_fork}
-use Rattle.journal_store.specs.Records.{RecordValue, EntryRecord, ForkRecord}
-use Rattle.journal_store.specs.SideReadings.{SideReading, IsClosed, IsOpen, IsDamaged, Volume, read_side}
-use Rattle.journal_store.specs.Standing.{EndsAt, IsBehind, Stands, IsJournal, KeepsNothing, IsBlankLog, KeepsNow}
-use Rattle.journal_store.specs.StoredVolumes.{IsVolume, IsStoredRecord}
-use Rattle.journal_store.specs.WrittenRecords.{volume_of, with_record, HasVolume, IsAppendingTo, IsWritingTo}
+use Rattle.journal_store.specs.Standing.{IsBehind, Stands, IsJournal, KeepsNothing, IsBlankLog, KeepsNow}
+use Rattle.journal_store.specs.WrittenSides.{HasVolume, IsAppendingTo, IsWritingTo}
 use Rattle.journal_store.proofs.DeviceLaws.{weaken_moments, no_moments}
-use Rattle.journal_store.proofs.RecordReading.{entries_more, path_more, entries_forked, path_forked}
 use Rattle.journal_store.proofs.ReadLaws.{ends_reads}
-use Rattle.journal_store.proofs.WrittenLaws.{volume_more, entries_of-records, path_after-records}
 
 -- ---- pairs
 

@@ -1,17 +1,7 @@
-pub mod FieldTrips
-pub mod FieldReading
-pub mod HeadTrips
-pub mod Ready
-pub mod RecordTrips
-pub mod RecordReading
 pub mod Reading
 pub mod Mounted
-pub mod SideTrips
-pub mod SideReading
 pub mod Choosing
 pub mod DeviceLaws
-pub mod WrittenLaws
 pub mod ReadLaws
 pub mod JournalLaws
 pub mod SettlingLaws
-pub mod GoodLaws

@@ -1,12 +1,13 @@
 -- What a mount finds stands.
 use Rattle.std.proofs.Common.{◌≡◌, Option, Some, None, refl, sym, ap, ◌∙◌, subst}
 use Rattle.mld_io.specs.Disk.{Log, Sides, bytes_of, other_side, seen}
-use Rattle.journal_store.specs.declared.side_reading.Found.{Found}
+use Rattle.journal_sides.specs.declared.side_reading.Found.{Found}
+use Rattle.journal_sides.specs.Pairs.{Kept, KeepsNone, read_banks}
+use Rattle.journal_sides.specs.SideReadings.{read_side}
+use Rattle.journal_sides.specs.StoredVolumes.{EndsAt}
 use Rattle.journal_store.specs.Found.{Counts}
 use Rattle.journal_store.specs.Mounting.{IsSynced}
-use Rattle.journal_store.specs.Pairs.{Kept, KeepsNone, read_banks}
-use Rattle.journal_store.specs.SideReadings.{read_side}
-use Rattle.journal_store.specs.Standing.{EndsAt, IsBehind, Stands, KeepsNothing}
+use Rattle.journal_store.specs.Standing.{IsBehind, Stands, KeepsNothing}
 
 -- a log that is told is one
 same_log : (now : Option Log) (a b : Log) → now ≡ Some a → now ≡ Some b → a ≡ b

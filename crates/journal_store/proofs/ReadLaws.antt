@@ -7,17 +7,17 @@ use Rattle.mld_io.specs.Disk.{Call, Log, Sides, bytes_of, other_side, written, s
 use Rattle.mld_io.specs.Disk.Call.{Wrote, Broke, Synced, Cut}
 use Rattle.mld_io.proofs.DiskLaws.{bytes_of-with_bytes, bytes_of-with_bytes_other}
 use Rattle.mld_io.specs.declared.banks.Side.{Side}
+use Rattle.journal_sides.specs.Format.{open_gate, closed_gate}
+use Rattle.journal_sides.specs.Records.{RecordValue, record_bytes}
+use Rattle.journal_sides.specs.SideReadings.{IsClosed, IsOpen, Volume, volume_bytes, read_side}
+use Rattle.journal_sides.specs.StoredVolumes.{EndsAt, IsVolume}
+use Rattle.journal_sides.specs.WrittenRecords.{with_record}
+use Rattle.journal_sides.proofs.SideTrips.{side_back}
+use Rattle.journal_sides.proofs.WrittenLaws.{volume_bytes_more}
 use Rattle.journal_store.specs.Crashes.{OpensGate}
 use Rattle.journal_store.specs.Device.{HasOpened, KeepsGate, HasBehind, IsAppending, appended, HasBytes, IsFilling, filled}
-use Rattle.journal_store.specs.Format.{open_gate, closed_gate}
-use Rattle.journal_store.specs.Records.{RecordValue, record_bytes}
-use Rattle.journal_store.specs.SideReadings.{IsClosed, IsOpen, Volume, volume_bytes, read_side}
-use Rattle.journal_store.specs.Standing.{EndsAt}
-use Rattle.journal_store.specs.StoredVolumes.{IsVolume}
-use Rattle.journal_store.specs.WrittenRecords.{with_record, HasVolume, IsAppendingTo, IsWritingTo}
+use Rattle.journal_store.specs.WrittenSides.{HasVolume, IsAppendingTo, IsWritingTo}
 use Rattle.journal_store.proofs.DeviceLaws.{behind_written, front_written, front_without_gate}
-use Rattle.journal_store.proofs.SideTrips.{side_back}
-use Rattle.journal_store.proofs.WrittenLaws.{volume_bytes_more}
 
 -- the write of just this gate is one of a gate of the side
 pub gate_opened : (side : Side) (gate : ℕ) (calls : List Call) → HasOpened side gate calls → OpensGate side calls

@@ -7,13 +7,14 @@ use Rattle.mld_io.specs.declared.banks.Side.{Side}
 use Rattle.mld_io.specs.declared.faults.IoFault.{IoFault}
 use Rattle.mld_io.specs.declared.faults.IoFault.TheVariants as io
 use Rattle.std.specs.Prelude.{IsOk, IsErrOf}
+use Rattle.journal_sides.specs.FoundVolumes.{BeginsOpen}
+use Rattle.journal_sides.specs.declared.side_reading.Found.{Found}
+use Rattle.journal_sides.proofs.SideReading.{closed_side}
 use Rattle.journal_store.specs.Crashes.{LeavesNoMore}
-use Rattle.journal_store.specs.Found.{BeginsOpen, ReadsSame, TellsSide, IsQuiet, IsFailed}
+use Rattle.journal_store.specs.Found.{ReadsSame, TellsSide, IsQuiet, IsFailed}
 use Rattle.journal_store.specs.Mounting.{IsSynced}
 use Rattle.journal_store.specs.declared.faults.MountFault.{MountFault}
 use Rattle.journal_store.specs.declared.faults.MountFault.TheVariants.{Damaged, Device, NoMemory}
-use Rattle.journal_store.specs.declared.side_reading.Found.{Found}
-use Rattle.journal_store.proofs.SideReading.{closed_side}
 
 -- what calls do to a meter, under other names of their ends
 pub metered_as : {D F D' F' : Type 0} (n : ℕ) (before now : Meter) → (D' → D) → (F' → F) → (F → F') → Metered n before now D F → Metered n before now D' F'

@@ -5,13 +5,13 @@ use Rattle.mld_io.specs.declared.banks.Side.TheVariants.{A}
 use Rattle.mld_ops.specs.Entry.{EntryValue}
 use Rattle.mld_ops.specs.Ready.{IsReadyEntry}
 use Rattle.tree_clock.specs.Limits.{path_limit}
+use Rattle.journal_sides.specs.Heads.{HeadValue}
+use Rattle.journal_sides.specs.Pairs.{Kept, Keeps, read_banks}
+use Rattle.journal_sides.specs.Records.{known_after}
 use Rattle.journal_store.specs.declared.faults.MakeFault.{MakeFault}
 use Rattle.journal_store.specs.declared.faults.MakeFault.TheVariants as make
 use Rattle.journal_store.specs.declared.faults.Why.{Why}
 use Rattle.journal_store.specs.declared.faults.Why.TheVariants as why
-use Rattle.journal_store.specs.Heads.{HeadValue}
-use Rattle.journal_store.specs.Pairs.{Kept, Keeps, read_banks}
-use Rattle.journal_store.specs.Records.{known_after}
 use Rattle.journal_store.specs.Standing.{JournalValue}
 
 -- an open journal over banks that tell their log keeps this

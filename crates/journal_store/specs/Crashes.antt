@@ -4,8 +4,8 @@ use Rattle.mld_io.specs.Disk.{Call, Log, Sides, MayLeave, LeavesMeanwhile}
 use Rattle.mld_io.specs.Disk.Call.{Wrote, Broke}
 use Rattle.mld_io.specs.declared.banks.Side.{Side}
 use Rattle.tree_clock.specs.Lists.{Has}
-use Rattle.journal_store.specs.Format.{open_gate}
-use Rattle.journal_store.specs.Pairs.{PairReading, read_banks}
+use Rattle.journal_sides.specs.Format.{open_gate}
+use Rattle.journal_sides.specs.Pairs.{PairReading, read_banks}
 
 -- the write of an open gate on this side was issued, whether it was done or failed
 abbrev pub OpensGate : Side → List Call → Type 0

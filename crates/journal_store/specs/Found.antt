@@ -1,50 +1,22 @@
--- What the program finds on a side and on both, and when it tells what the bytes say.
-use Rattle.std.specs.Prelude.{◌≡◌, ◌⊎◌, ℕ, ◌+◌, ◌^◌, ◌<◌, List, ◌∷◌, Option, Some, None, Result, Ok, Err}
+-- When what the program finds on a side of banks, and on both, tells what the bytes say; and the faults of a device.
+use Rattle.std.specs.Prelude.{◌≡◌, ◌⊎◌, ℕ, List, Option, Some, None, Result, Ok, Err}
 use Rattle.mld_io.specs.Disk.{Sides, bytes_of, other_side}
 use Rattle.mld_io.specs.declared.banks.Side.{Side}
 use Rattle.op_codec.specs.declared.faults.CodecFault.{CodecFault}
 use Rattle.op_codec.specs.declared.faults.CodecFault.TheVariants as codec
 use Rattle.mld_io.specs.declared.faults.IoFault.{IoFault}
 use Rattle.mld_io.specs.declared.faults.IoFault.TheVariants as io
+use Rattle.journal_sides.specs.declared.side_reading.Found.{Found}
+use Rattle.journal_sides.specs.FoundVolumes.{kept_found, IsFoundOn}
+use Rattle.journal_sides.specs.Pairs.{KeepsNone, Keeps, Damages, read_banks}
+use Rattle.journal_sides.specs.SideReadings.{IsClosed, IsDamaged, read_side}
 use Rattle.journal_store.specs.declared.faults.MountFault.{MountFault}
 use Rattle.journal_store.specs.declared.faults.MountFault.TheVariants as mount
-use Rattle.journal_store.specs.declared.side_reading.Found.{Found}
-use Rattle.journal_store.specs.Format.{open_gate}
-use Rattle.journal_store.specs.Heads.{head_value}
-use Rattle.journal_store.specs.Pairs.{Kept, KeepsNone, Keeps, Damages, read_banks, kept_on}
-use Rattle.journal_store.specs.SideReadings.{IsClosed, IsOpen, IsDamaged, Volume, read_side}
-use Rattle.journal_store.specs.Standing.{EndsAt, IsBehind}
-use Rattle.journal_store.specs.StoredVolumes.{IsGoodHead, AreGoodEntries, IsVolume}
-
--- the bytes begin with an open gate
-abbrev pub BeginsOpen : List ℕ → Type 0
-BeginsOpen bytes = (rest : List ℕ) × (bytes ≡ open_gate ∷ rest)
+use Rattle.journal_store.specs.Standing.{IsBehind}
 
 -- bytes that were read are those of a side, or both are closed
 abbrev pub ReadsSame : List ℕ → List ℕ → Type 0
 ReadsSame read bytes = (read ≡ bytes) ⊎ ((read_side read ≡ IsClosed) × (read_side bytes ≡ IsClosed))
-
--- what is kept where this was found
-abbrev pub kept_found : Found → Kept
-kept_found found = record { side = found.side; generation = found.generation; head = head_value found.head; entries = found.entries.items }
-
--- this was found where a side has these bytes
-pub record IsFoundOn (found : Found) (bytes : List ℕ) : Type 0 where
-  pub volume : Volume
-  pub reads : read_side bytes ≡ IsOpen volume
-  pub kept : kept_on found.side volume ≡ kept_found found
-  pub stored : IsVolume volume
-  pub ends : EndsAt volume found.stop bytes
-
--- where something was found, there is a place behind its closed gate
-abbrev pub HasPlaceBehind : Option Found → Type 0
-HasPlaceBehind None = Unit {0}
-HasPlaceBehind (Some found) = found.stop + 1 < 2 ^ 64
-
--- what was found may be written again
-abbrev pub MayBeWritten : Option Found → Type 0
-MayBeWritten None = Unit {0}
-MayBeWritten (Some found) = IsGoodHead (head_value found.head) × AreGoodEntries (head_value found.head).base.ticks found.entries.items
 
 -- the fault of a side's bytes
 abbrev pub fault_on : Side → CodecFault → MountFault
@@ -55,12 +27,6 @@ fault_on side codec.NoMemory = mount.NoMemory
 abbrev pub device_fault : IoFault → MountFault
 device_fault io.Failed = mount.Device
 device_fault io.NoMemory = mount.NoMemory
-
--- what was found behind an open first gate says what the side's bytes say
-abbrev pub TellsVolume : Side → List ℕ → Result Found CodecFault → Type 0
-TellsVolume side bytes (Ok found) = IsFoundOn found bytes × (found.side ≡ side)
-TellsVolume side bytes (Err (codec.NotInGrammar place)) = read_side bytes ≡ IsDamaged place
-TellsVolume side bytes (Err codec.NoMemory) = Unit {0}
 
 -- what was found on a side says what its bytes say
 abbrev pub TellsSide : Side → List ℕ → Result (Option Found) MountFault → Type 0

@@ -1,16 +1,8 @@
-pub mod Format
-pub mod Heads
-pub mod Records
-pub mod Openings
-pub mod SideReadings
-pub mod Pairs
-pub mod StoredVolumes
-pub mod RecordsRead
 pub mod Found
 pub mod Standing
 pub mod Crashes
 pub mod Calls
 pub mod Mounting
 pub mod Device
-pub mod WrittenRecords
+pub mod WrittenSides
 pub mod Settling

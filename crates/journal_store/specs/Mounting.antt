@@ -1,12 +1,12 @@
 -- What a mount tells.
 use Rattle.std.specs.Prelude.{◌≡◌, Option, None, Some}
 use Rattle.mld_io.specs.Disk.{Log, seen, IsSettled}
+use Rattle.journal_sides.specs.Heads.{head_value}
+use Rattle.journal_sides.specs.Pairs.{PairReading, KeepsNone, Keeps, Damages}
+use Rattle.journal_sides.specs.StoredVolumes.{IsGoodHead, AreGoodEntries}
 use Rattle.journal_store.specs.declared.faults.MountFault.TheVariants.{Damaged, Device, NoMemory}
 use Rattle.journal_store.specs.declared.mounting.JournalMounted.{JournalMounted}
 use Rattle.journal_store.specs.declared.mounting.JournalMounted.TheVariants.{Found, Empty, Refused}
-use Rattle.journal_store.specs.Heads.{head_value}
-use Rattle.journal_store.specs.Pairs.{PairReading, KeepsNone, Keeps, Damages}
-use Rattle.journal_store.specs.StoredVolumes.{IsGoodHead, AreGoodEntries}
 
 -- the banks, whatever a mount answered
 abbrev pub mounted_banks : {B : Type 0} → JournalMounted B → B

@@ -1,12 +1,11 @@
 -- What a journal that isn't closed, and banks that keep nothing, have on their device.
-use Rattle.std.specs.Prelude.{◌≡◌, ◌≢◌, ℕ, ◌+◌, ◌^◌, ◌<◌, List, ◌∷◌, ◌++◌, Option, Some, None, length}
+use Rattle.std.specs.Prelude.{◌≡◌, ℕ, ◌+◌, ◌^◌, ◌<◌, Option, Some, None}
 use Rattle.mld_io.specs.Disk.{Log, bytes_of, other_side, seen, IsSettled}
 use Rattle.mld_io.specs.declared.banks.Side.{Side}
+use Rattle.journal_sides.specs.Pairs.{Kept, KeepsNone, Keeps, read_banks}
+use Rattle.journal_sides.specs.SideReadings.{SideReading, IsClosed, IsOpen, IsDamaged, Volume, read_side}
+use Rattle.journal_sides.specs.StoredVolumes.{EndsAt, IsVolume}
 use Rattle.journal_store.specs.declared.faults.Why.{Why}
-use Rattle.journal_store.specs.Format.{open_gate}
-use Rattle.journal_store.specs.Pairs.{Kept, KeepsNone, Keeps, read_banks}
-use Rattle.journal_store.specs.SideReadings.{SideReading, IsClosed, IsOpen, IsDamaged, Volume, volume_bytes, read_side}
-use Rattle.journal_store.specs.StoredVolumes.{IsVolume}
 
 -- a journal over banks as contracts see it: the side that counts, its generation, and whether an earlier call closed it, and why
 pub record JournalValue (B : Type 0) : Type 0 where
@@ -14,20 +13,6 @@ pub record JournalValue (B : Type 0) : Type 0 where
   pub side : Side
   pub generation : ℕ
   pub closed : Option Why
-
--- the bytes of a side are those of an open side up to this place, where a closed gate stands; what is behind it means nothing
-pub record EndsAt (volume : Volume) (stop : ℕ) (bytes : List ℕ) : Type 0 where
-  pub gate : ℕ
-  pub shut : gate ≢ open_gate
-  pub junk : List ℕ
-  pub bytes_are : bytes ≡ volume_bytes volume ++ gate ∷ junk
-  pub stop_is : stop ≡ length (volume_bytes volume)
-
--- a side of which reads give this volume was written so
-pub record IsWrittenSide (bytes : List ℕ) (volume : Volume) : Type 0 where
-  pub stored : IsVolume volume
-  pub stop : ℕ
-  pub ends : EndsAt volume stop bytes
 
 -- the other side doesn't count beside this generation
 abbrev pub IsBehind : ℕ → SideReading → Type 0

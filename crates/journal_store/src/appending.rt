@@ -2,19 +2,18 @@
 ghost use Rattle.std.specs.Prelude.{◌≡◌, ◌+◌, ◌^◌, ◌<◌, ◌++◌, ◌∷◌, [], None, Some, length, OnOk, IfOk, IfErr, IsOk, IsErrOf};
 ghost use Rattle.mld_io.specs.Arm.{Metered};
 ghost use Rattle.mld_io.specs.Disk.{Log, LeavesMeanwhile, IsSettled, bytes_of, seen};
-ghost use Rattle.journal_store.specs.Format.{closed_gate};
-ghost use Rattle.journal_store.specs.Heads.{head_value};
-ghost use Rattle.journal_store.specs.Records.{RecordValue, record_bytes};
-ghost use Rattle.journal_store.specs.SideReadings.{Volume};
-ghost use Rattle.journal_store.specs.Standing.{EndsAt};
-ghost use Rattle.journal_store.specs.StoredVolumes.{IsGoodHead, AreGoodEntries, IsVolume};
+ghost use Rattle.journal_sides.specs.Format.{closed_gate};
+ghost use Rattle.journal_sides.specs.Heads.{head_value};
+ghost use Rattle.journal_sides.specs.Records.{RecordValue, record_bytes};
+ghost use Rattle.journal_sides.specs.SideReadings.{Volume};
+ghost use Rattle.journal_sides.specs.StoredVolumes.{EndsAt, IsGoodHead, AreGoodEntries, IsVolume};
+ghost use Rattle.journal_sides.specs.WrittenRecords.{with_record, volume_of};
 ghost use Rattle.journal_store.specs.Settling.{Settles, Closes};
-ghost use Rattle.journal_store.specs.WrittenRecords.{with_record, volume_of, HasVolume, IsAppendingTo, IsWritingTo};
+ghost use Rattle.journal_store.specs.WrittenSides.{HasVolume, IsAppendingTo, IsWritingTo};
 
 use crate::device::{Stop, append_body, fill_side};
 use crate::faults::Why;
-use crate::head_writing::side_body;
-use crate::heads::Head;
+use journal_sides::{Head, side_body};
 use mld_io::{Banks, Side};
 use mld_ops::Entry;
 use std::alloc::Global;

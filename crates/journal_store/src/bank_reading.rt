@@ -2,13 +2,15 @@
 ghost use Rattle.std.specs.Prelude.{◌≡◌, ◌≤◌, ◌+◌, ◌++◌, Some, None, Ok, length, take, drop, OnOk, IfOk, IfErr, IsOk, IsErrOf};
 ghost use Rattle.mld_io.specs.Arm.{Metered};
 ghost use Rattle.mld_io.specs.Disk.{Log, Sides, bytes_of, seen};
+ghost use Rattle.journal_sides.specs.FoundVolumes.{HasPlaceBehind, MayBeWritten};
 ghost use Rattle.journal_store.specs.Crashes.{LeavesNoMore};
-ghost use Rattle.journal_store.specs.Found.{HasPlaceBehind, MayBeWritten, ReadsSame, TellsSide, TellsBoth, IsQuiet, IsFailed};
+ghost use Rattle.journal_store.specs.Found.{ReadsSame, TellsSide, TellsBoth, IsQuiet, IsFailed, fault_on};
 ghost use Rattle.journal_store.specs.Mounting.{IsSynced};
 
 use crate::faults::MountFault;
-use crate::side_reading::{Found, find_in, is_opened};
+use journal_sides::{Found, is_opened, read_volume};
 use mld_io::{Banks, IoFault, Side};
+use op_codec::CodecFault;
 use std::alloc::Global;
 
 /// How many bytes are read at once at most.
@@ -76,6 +78,35 @@ fn read_bytes<B: Banks>(alloc: Global, banks: &mut B, side: Side) -> Result<Vec<
     }
     read_rest(banks, side, &mut bytes, size)?;
     Ok(bytes)
+}
+
+/// The fault of bytes of a side.
+fn mount_fault(side: Side, fault: CodecFault) -> MountFault
+    ensures { result ≡ fault_on side fault }
+{
+    match fault {
+        CodecFault::NotInGrammar { place } => MountFault::Damaged {
+            side,
+            place: place as u64,
+        },
+        CodecFault::NoMemory => MountFault::NoMemory,
+    }
+}
+
+/// What stands on a side of these bytes, if it is open.
+fn find_in(alloc: Global, side: Side, input: &[u8]) -> Result<Option<Found>, MountFault>
+    ensures tells { TellsSide side input.now result }
+    ensures quiet { IsQuiet result }
+    ensures room { IfOk result HasPlaceBehind }
+    ensures good { IfOk result MayBeWritten }
+{
+    if !is_opened(input) {
+        return Ok(None);
+    }
+    match read_volume(alloc, side, input) {
+        Ok(found) => Ok(Some(found)),
+        Err(fault) => Err(mount_fault(side, fault)),
+    }
 }
 
 /// What stands on a side, if it is open.

@@ -2,14 +2,14 @@
 ghost use Rattle.std.specs.Prelude.{◌≡◌, Some, None};
 ghost use Rattle.mld_io.specs.Arm.{Metered};
 ghost use Rattle.mld_io.specs.Disk.{Log, seen};
+ghost use Rattle.journal_sides.specs.Pairs.{read_banks};
 ghost use Rattle.journal_store.specs.Crashes.{LeavesNoMore};
 ghost use Rattle.journal_store.specs.Mounting.{mounted_banks, TellsPair, IsOpened, FindsGood, BothSynced, FailsToMount, IsSynced};
-ghost use Rattle.journal_store.specs.Pairs.{read_banks};
 
 use crate::bank_reading::find;
 use crate::faults::MountFault;
-use crate::heads::Head;
 use crate::journals::{Blank, Journal};
+use journal_sides::Head;
 use mld_io::Banks;
 use mld_ops::Entry;
 use std::alloc::Global;

@@ -3,19 +3,18 @@ ghost use Rattle.std.specs.Prelude.{◌≡◌, ◌↔◌, ◌-◌, ◌^◌, ◌+
 ghost use Rattle.mld_io.specs.Arm.{Metered};
 ghost use Rattle.mld_io.specs.Disk.{Log, seen, other_side};
 ghost use Rattle.op_codec.specs.Stored.{IsShortEntry};
+ghost use Rattle.journal_sides.specs.Heads.{head_value};
+ghost use Rattle.journal_sides.specs.Pairs.{Kept, Keeps, KeepsNone, with_entry, with_fork};
+ghost use Rattle.journal_sides.specs.StoredVolumes.{IsGoodHead, AreGoodEntries};
 ghost use Rattle.journal_store.specs.Calls.{KeptBy, made, swapped, MayAppend, MayFork, StaysOrCloses, made_banks, FailsToMake};
 ghost use Rattle.journal_store.specs.Crashes.{LeavesEither};
-ghost use Rattle.journal_store.specs.Heads.{head_value};
-ghost use Rattle.journal_store.specs.Pairs.{Kept, Keeps, KeepsNone, with_entry, with_fork};
 ghost use Rattle.journal_store.specs.Standing.{KeepsNow};
-ghost use Rattle.journal_store.specs.StoredVolumes.{IsGoodHead, AreGoodEntries};
 ghost use Rattle.journal_store.specs.declared.faults.Why.{Why};
 
 use crate::appending::{append_at, swap_at, write_side};
 use crate::faults::{AppendFault, MakeFault, SwapFault, Why};
-use crate::head_writing::{FORK_BODY, entry_body};
-use crate::heads::Head;
 use crate::journals::{Blank, Journal};
+use journal_sides::{FORK_BODY, Head, entry_body};
 use mld_io::{Banks, Side};
 use mld_ops::Entry;
 use std::alloc::Global;

@@ -1,9 +1,9 @@
 //! A crash at each call of an append, a making and a swap leaves what was kept before, or what is kept after.
 ghost use Rattle.mld_ops.specs.Ready.{IsReadyEntry};
 ghost use Rattle.op_codec.specs.Stored.{IsShortEntry};
+ghost use Rattle.journal_sides.specs.Heads.{head_value};
+ghost use Rattle.journal_sides.specs.StoredVolumes.{IsGoodHead};
 ghost use Rattle.journal_store.specs.Calls.{made};
-ghost use Rattle.journal_store.specs.Heads.{head_value};
-ghost use Rattle.journal_store.specs.StoredVolumes.{IsGoodHead};
 ghost use Rattle.journal_tests.specs.KeptAtMost.{KeepsAtMost};
 
 use crate::made::{Found, append_first, first_entry, first_head, found_on, made_on};

@@ -2,9 +2,9 @@
 ghost use Rattle.std.specs.Prelude.{◌≡◌, Some};
 ghost use Rattle.mld_ops.specs.Ready.{IsReadyEntry};
 ghost use Rattle.op_codec.specs.Stored.{IsShortEntry};
+ghost use Rattle.journal_sides.specs.Heads.{head_value};
+ghost use Rattle.journal_sides.specs.StoredVolumes.{IsGoodHead};
 ghost use Rattle.journal_store.specs.Calls.{made};
-ghost use Rattle.journal_store.specs.Heads.{head_value};
-ghost use Rattle.journal_store.specs.StoredVolumes.{IsGoodHead};
 ghost use Rattle.journal_store.specs.declared.faults.Why.{Why};
 ghost use Rattle.journal_tests.specs.KeptAtMost.{KeepsAtMost};
 

@@ -1,6 +1,6 @@
 //! A journal is made and swapped: the bytes of both sides.
-ghost use Rattle.journal_store.specs.Heads.{head_value};
-ghost use Rattle.journal_store.specs.StoredVolumes.{IsGoodHead};
+ghost use Rattle.journal_sides.specs.Heads.{head_value};
+ghost use Rattle.journal_sides.specs.StoredVolumes.{IsGoodHead};
 
 use crate::made::first_head;
 use disk_model::MemoryBanks;

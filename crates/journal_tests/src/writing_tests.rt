@@ -2,8 +2,8 @@
 ghost use Rattle.std.specs.Prelude.{◌≡◌, []};
 ghost use Rattle.mld_ops.specs.Ready.{IsReadyEntry};
 ghost use Rattle.op_codec.specs.Stored.{IsShortEntry};
-ghost use Rattle.journal_store.specs.Heads.{head_value};
-ghost use Rattle.journal_store.specs.StoredVolumes.{IsGoodHead};
+ghost use Rattle.journal_sides.specs.Heads.{head_value};
+ghost use Rattle.journal_sides.specs.StoredVolumes.{IsGoodHead};
 
 use crate::made::{
     Found, SIDE, append_first, first_entry, first_head, fork_first, found_on, made_on,

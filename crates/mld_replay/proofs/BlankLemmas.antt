@@ -6,8 +6,8 @@ use Rattle.std.proofs.lemmas.List.{nil_from_length, append-nil, length-append}
 use Rattle.std.proofs.lemmas.Option.{slice_get_within, slice_get-get_or}
 use Rattle.mld_io.specs.Arm.{Meter}
 use Rattle.mld_io.specs.Disk.{Log, Sides, seen}
-use Rattle.journal_store.specs.Pairs.{PairReading, KeepsNone, Keeps, Damages, read_banks}
-use Rattle.journal_store.specs.SideReadings.{read_side}
+use Rattle.journal_sides.specs.Pairs.{PairReading, KeepsNone, Keeps, Damages, read_banks}
+use Rattle.journal_sides.specs.SideReadings.{read_side}
 use Rattle.journal_store.specs.declared.faults.MountFault.TheVariants.{Damaged, Device, NoMemory}
 use Rattle.clone_core.specs.Opening.{TellsClone}
 use Rattle.clone_core.specs.declared.mounts.Mounted.{Mounted}

@@ -11,7 +11,7 @@ use Rattle.mld_ops.specs.History.{Operation}
 use Rattle.mld_ops.specs.Messages.{message_value}
 use Rattle.mld_ops.specs.declared.messages.Message.{Message}
 use Rattle.tree_clock.specs.declared.dots.Range.{Range}
-use Rattle.journal_store.specs.Pairs.{Kept, Damages, read_banks}
+use Rattle.journal_sides.specs.Pairs.{Kept, Damages, read_banks}
 use Rattle.journal_store.specs.Standing.{KeepsJust}
 use Rattle.journal_store.specs.declared.faults.MountFault.TheVariants as mount
 use Rattle.mld_model.specs.declared.CloneState.TheVariants as states

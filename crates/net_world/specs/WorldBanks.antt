@@ -3,7 +3,7 @@ use Rattle.std.specs.Prelude.{◌≡◌, ◌+◌, ◌≤◌, ℕ, List, Option, 
 use Rattle.mld_io.specs.Arm.{Meter, Unarmed}
 use Rattle.mld_io.specs.Disk.{Log}
 use Rattle.mld_io.specs.Faults.{Rose}
-use Rattle.journal_store.specs.Pairs.{Kept}
+use Rattle.journal_sides.specs.Pairs.{Kept}
 use Rattle.journal_store.specs.Standing.{KeepsJust, KeepsNothing}
 use Rattle.mld_ops.specs.Messages.{MessageValue}
 use Rattle.mld_model.specs.Clone.{Stored, kept_of}

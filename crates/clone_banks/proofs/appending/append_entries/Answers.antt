@@ -1,5 +1,5 @@
 use Rattle.std.proofs.Common.{◌∙◌, inl, refl}
-use Rattle.journal_store.specs.Pairs.{Kept}
+use Rattle.journal_sides.specs.Pairs.{Kept}
 use Rattle.journal_store.specs.declared.faults.AppendFault.TheVariants as append
 use Rattle.clone_banks.specs.Appending.{KeepsIfTold}
 use Rattle.clone_banks.proofs.Appended.{appending_none, appending_more, appending_all}

@@ -1,6 +1,6 @@
 use Rattle.std.proofs.Common.{[]}
+use Rattle.journal_sides.specs.Heads.{head_value}
 use Rattle.journal_store.specs.Calls.{swapped}
-use Rattle.journal_store.specs.Heads.{head_value}
 use Rattle.clone_banks.proofs.swapping.swap_and_append.Goals as goal
 
 pub append_entries-requires-clause-follow : goal.append_entries-requires-clause-follow

@@ -1,5 +1,6 @@
 -- What an append leaves, with the place behind it.
-use Rattle.journal_store.specs.WrittenRecords.{with_record, HasVolume}
+use Rattle.journal_sides.specs.WrittenRecords.{with_record}
+use Rattle.journal_store.specs.WrittenSides.{HasVolume}
 use Rattle.journal_store.proofs.SettlingLaws.{settled_done}
 use Rattle.journal_store.proofs.appending.append_at.Goals as goal
 

@@ -1,8 +1,9 @@
 -- A record is put on a side: what is read at each moment, and once it is done.
 use Rattle.std.proofs.Common.{◌+◌, length}
 use Rattle.mld_io.specs.Disk.{bytes_of, seen}
+use Rattle.journal_sides.specs.WrittenRecords.{with_record}
 use Rattle.journal_store.specs.Device.{IsAppending, appended}
-use Rattle.journal_store.specs.WrittenRecords.{with_record, IsAppendingTo}
+use Rattle.journal_store.specs.WrittenSides.{IsAppendingTo}
 use Rattle.journal_store.proofs.DeviceLaws.{weaken_moments}
 use Rattle.journal_store.proofs.ReadLaws.{appending_reads, appended_ends, volume_from_bytes}
 use Rattle.journal_store.proofs.appending.put_record.Goals as goal

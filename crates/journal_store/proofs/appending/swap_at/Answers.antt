@@ -1,6 +1,7 @@
 -- What a side that is written anew has, with the place behind it.
-use Rattle.journal_store.specs.Heads.{head_value}
-use Rattle.journal_store.specs.WrittenRecords.{volume_of, HasVolume}
+use Rattle.journal_sides.specs.Heads.{head_value}
+use Rattle.journal_sides.specs.WrittenRecords.{volume_of}
+use Rattle.journal_store.specs.WrittenSides.{HasVolume}
 use Rattle.journal_store.proofs.SettlingLaws.{settled_done}
 use Rattle.journal_store.proofs.appending.swap_at.Goals as goal
 

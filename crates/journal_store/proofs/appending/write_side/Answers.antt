@@ -1,11 +1,12 @@
 -- A side is written anew: what is read at each moment, and once it is done.
 use Rattle.std.proofs.Common.{◌≡◌, ◌∙◌, ◌∷◌, [], ◌++◌, ap, List, ℕ, subst, sym, length}
 use Rattle.mld_io.specs.Disk.{bytes_of, seen}
+use Rattle.journal_sides.specs.Format.{open_gate, closed_gate}
+use Rattle.journal_sides.specs.Heads.{head_value}
+use Rattle.journal_sides.specs.SideReadings.{Volume, volume_bytes}
+use Rattle.journal_sides.specs.WrittenRecords.{volume_of}
 use Rattle.journal_store.specs.Device.{IsFilling, filled}
-use Rattle.journal_store.specs.Format.{open_gate, closed_gate}
-use Rattle.journal_store.specs.Heads.{head_value}
-use Rattle.journal_store.specs.SideReadings.{Volume, volume_bytes}
-use Rattle.journal_store.specs.WrittenRecords.{volume_of, HasVolume, IsWritingTo}
+use Rattle.journal_store.specs.WrittenSides.{HasVolume, IsWritingTo}
 use Rattle.journal_store.proofs.DeviceLaws.{weaken_moments}
 use Rattle.journal_store.proofs.ReadLaws.{filling_reads, filled_ends, volume_from_bytes}
 use Rattle.journal_store.proofs.appending.write_side.Goals as goal

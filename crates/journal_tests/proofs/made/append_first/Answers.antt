@@ -1,7 +1,7 @@
 -- The entry is ready where just the head is kept.
 use Rattle.std.proofs.Common.{sym, subst}
+use Rattle.journal_sides.specs.Pairs.{Kept}
 use Rattle.journal_store.specs.Calls.{MayAppend}
-use Rattle.journal_store.specs.Pairs.{Kept}
 use Rattle.journal_tests.proofs.made.append_first.Goals as goal
 
 pub append_entry-requires-clause-follows : goal.append_entry-requires-clause-follows

@@ -1,4 +1,4 @@
-use Rattle.journal_store.specs.Heads.{head_value}
+use Rattle.journal_sides.specs.Heads.{head_value}
 use Rattle.clone_core.proofs.Begun.{begun_local}
 use Rattle.clone_core.proofs.clones.MldClone.beginning.Goals as goal
 

@@ -3,9 +3,9 @@ use Rattle.std.proofs.lemmas.Result.{err_from_is_err_and}
 use Rattle.mld_ops.specs.Entry.{EntryValue}
 use Rattle.mld_ops.specs.Messages.{snapshot_value}
 use Rattle.mld_model.specs.Local.{LocalClone, IsLocal, KnowsSnapshot}
+use Rattle.journal_sides.specs.Heads.{HeadValue, head_value}
+use Rattle.journal_sides.specs.Pairs.{Kept}
 use Rattle.journal_store.specs.Calls.{swapped}
-use Rattle.journal_store.specs.Heads.{HeadValue, head_value}
-use Rattle.journal_store.specs.Pairs.{Kept}
 use Rattle.journal_store.specs.declared.faults.Why.{Why}
 use Rattle.clone_plans.specs.Replays.{AreReadyEntries}
 use Rattle.clone_banks.specs.Appending.{KeepsIfTold}

@@ -1,8 +1,8 @@
 use Rattle.std.proofs.Common.{◌∙◌, List, sym, ap, subst}
 use Rattle.mld_ops.specs.Entry.{EntryValue}
 use Rattle.mld_model.specs.Local.{LeadsTo}
-use Rattle.journal_store.specs.Heads.{head_value}
-use Rattle.journal_store.specs.Pairs.{Keeps, read_banks}
+use Rattle.journal_sides.specs.Heads.{head_value}
+use Rattle.journal_sides.specs.Pairs.{Keeps, read_banks}
 use Rattle.mld_io.specs.Disk.{seen}
 use Rattle.clone_core.specs.Banked.{BankedClone}
 use Rattle.clone_core.specs.Beginning.{found_clone}

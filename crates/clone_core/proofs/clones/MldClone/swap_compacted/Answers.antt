@@ -2,9 +2,9 @@ use Rattle.std.proofs.Common.{◌≡◌, ◌∙◌, List, ℕ, None, sym, ap, su
 use Rattle.tree_clock.specs.Lists.{Has}
 use Rattle.mld_ops.specs.Entry.{EntryValue, IsEntry}
 use Rattle.op_fusion.specs.Compacting.{AreFusedRuns}
+use Rattle.journal_sides.specs.Heads.{HeadValue, head_value}
+use Rattle.journal_sides.specs.Pairs.{Kept}
 use Rattle.journal_store.specs.Calls.{swapped}
-use Rattle.journal_store.specs.Heads.{HeadValue, head_value}
-use Rattle.journal_store.specs.Pairs.{Kept}
 use Rattle.clone_plans.specs.Replays.{AreReadyEntries}
 use Rattle.clone_banks.specs.Appending.{KeepsIfTold}
 use Rattle.clone_core.specs.Banked.{BankedClone, head_of, head_over}

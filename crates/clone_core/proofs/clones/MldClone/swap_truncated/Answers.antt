@@ -3,9 +3,9 @@ use Rattle.std.proofs.lemmas.List.{take_rest}
 use Rattle.mld_ops.specs.declared.tagged.Tagged.{Tagged}
 use Rattle.mld_ops.specs.Entry.{EntryValue}
 use Rattle.mld_model.specs.Local.{LocalClone, IsLocal, LeadsTo}
+use Rattle.journal_sides.specs.Heads.{HeadValue, head_value}
+use Rattle.journal_sides.specs.Pairs.{Kept}
 use Rattle.journal_store.specs.Calls.{swapped}
-use Rattle.journal_store.specs.Heads.{HeadValue, head_value}
-use Rattle.journal_store.specs.Pairs.{Kept}
 use Rattle.clone_plans.specs.Replays.{AreReadyEntries}
 use Rattle.clone_banks.specs.Appending.{KeepsIfTold}
 use Rattle.clone_core.specs.Banked.{BankedClone, head_over}

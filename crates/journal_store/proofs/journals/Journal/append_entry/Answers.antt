@@ -1,13 +1,13 @@
 -- An entry is appended: what the journal keeps at each moment, and once it is done.
 use Rattle.std.proofs.Common.{◌≡◌, ◌∙◌, ◌++◌, ◌∷◌, [], ap, sym, subst, Some}
 use Rattle.mld_io.specs.declared.banks.Side.{Side}
+use Rattle.journal_sides.specs.Format.{closed_gate}
+use Rattle.journal_sides.specs.Pairs.{Keeps, kept_on, with_entry}
+use Rattle.journal_sides.specs.Records.{EntryRecord, record_bytes}
+use Rattle.journal_sides.proofs.WrittenLaws.{volume_more}
 use Rattle.journal_store.specs.Crashes.{LeavesEither}
-use Rattle.journal_store.specs.Format.{closed_gate}
-use Rattle.journal_store.specs.Pairs.{Keeps, kept_on, with_entry}
-use Rattle.journal_store.specs.Records.{EntryRecord, record_bytes}
 use Rattle.journal_store.proofs.JournalLaws.{stands_reads, entry_kept, keeps_more, either_more, kept_at, nothing_moves, journal_more}
 use Rattle.journal_store.proofs.ReadLaws.{ends_within}
-use Rattle.journal_store.proofs.WrittenLaws.{volume_more}
 use Rattle.journal_store.proofs.journals.Journal.append_entry.Goals as goal
 
 pub returns-in_err-body-clause-moments : goal.returns-in_err-body-clause-moments

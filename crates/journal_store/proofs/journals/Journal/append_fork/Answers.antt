@@ -1,13 +1,13 @@
 -- A fork is appended: what the journal keeps at each moment, and once it is done.
 use Rattle.std.proofs.Common.{◌≡◌, ◌∙◌, ◌++◌, ◌∷◌, [], refl, ap, sym, subst, Some}
 use Rattle.mld_io.specs.declared.banks.Side.{Side}
+use Rattle.journal_sides.specs.Format.{closed_gate}
+use Rattle.journal_sides.specs.Pairs.{Keeps, kept_on, with_fork}
+use Rattle.journal_sides.specs.Records.{ForkRecord, record_bytes}
+use Rattle.journal_sides.proofs.WrittenLaws.{volume_more}
 use Rattle.journal_store.specs.Crashes.{LeavesEither}
-use Rattle.journal_store.specs.Format.{closed_gate}
-use Rattle.journal_store.specs.Pairs.{Keeps, kept_on, with_fork}
-use Rattle.journal_store.specs.Records.{ForkRecord, record_bytes}
 use Rattle.journal_store.proofs.JournalLaws.{stands_reads, fork_kept, keeps_more, either_more, kept_at, journal_more}
 use Rattle.journal_store.proofs.ReadLaws.{ends_within}
-use Rattle.journal_store.proofs.WrittenLaws.{volume_more}
 use Rattle.journal_store.proofs.journals.Journal.append_fork.Goals as goal
 
 -- the record of a fork with the closed gate behind it

@@ -2,13 +2,13 @@
 use Rattle.std.proofs.Common.{◌≡◌, ◌∙◌, [], ap, sym, subst, Some, Option}
 use Rattle.mld_io.specs.Disk.{Log}
 use Rattle.mld_io.specs.declared.banks.Side.TheVariants.{A}
+use Rattle.journal_sides.specs.Heads.{head_value}
+use Rattle.journal_sides.specs.Pairs.{Kept, Keeps, KeepsNone}
+use Rattle.journal_sides.specs.SideReadings.{Volume}
+use Rattle.journal_sides.specs.WrittenRecords.{volume_of}
 use Rattle.journal_store.specs.Calls.{made}
 use Rattle.journal_store.specs.Crashes.{LeavesEither}
-use Rattle.journal_store.specs.Heads.{head_value}
-use Rattle.journal_store.specs.Pairs.{Kept, Keeps, KeepsNone}
-use Rattle.journal_store.specs.SideReadings.{Volume}
 use Rattle.journal_store.specs.Standing.{KeepsNow}
-use Rattle.journal_store.specs.WrittenRecords.{volume_of}
 use Rattle.journal_store.proofs.JournalLaws.{fresh_kept, journal_made, keeps_made, either_made}
 use Rattle.journal_store.proofs.journals.Journal.create.Goals as goal
 

@@ -2,13 +2,14 @@
 use Rattle.std.proofs.Common.{◌≡◌, ◌∙◌, ◌+◌, ap, sym, subst, refl, Some}
 use Rattle.mld_io.specs.Disk.{LeavesMeanwhile, other_side, seen}
 use Rattle.mld_io.specs.declared.banks.Side.{Side}
+use Rattle.journal_sides.specs.Heads.{head_value}
+use Rattle.journal_sides.specs.Pairs.{Kept, Keeps}
+use Rattle.journal_sides.specs.SideReadings.{Volume}
+use Rattle.journal_sides.specs.WrittenRecords.{volume_of}
 use Rattle.journal_store.specs.Calls.{swapped}
 use Rattle.journal_store.specs.Crashes.{LeavesEither}
-use Rattle.journal_store.specs.Heads.{head_value}
-use Rattle.journal_store.specs.Pairs.{Kept, Keeps}
-use Rattle.journal_store.specs.SideReadings.{Volume}
 use Rattle.journal_store.specs.Standing.{IsJournal}
-use Rattle.journal_store.specs.WrittenRecords.{volume_of, HasVolume, IsWritingTo}
+use Rattle.journal_store.specs.WrittenSides.{HasVolume, IsWritingTo}
 use Rattle.journal_store.proofs.JournalLaws.{journal_swapped, keeps_swapped, either_swapped, nothing_moves, kept_at, swapped_is}
 use Rattle.journal_store.proofs.journals.Journal.swap.Goals as goal
 

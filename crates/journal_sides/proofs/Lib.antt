@@ -1,0 +1,10 @@
+pub mod FieldTrips
+pub mod FieldReading
+pub mod HeadTrips
+pub mod Ready
+pub mod RecordTrips
+pub mod RecordReading
+pub mod SideTrips
+pub mod SideReading
+pub mod WrittenLaws
+pub mod GoodLaws

@@ -1,0 +1,10 @@
+pub mod Format
+pub mod Heads
+pub mod Records
+pub mod Openings
+pub mod SideReadings
+pub mod Pairs
+pub mod StoredVolumes
+pub mod WrittenRecords
+pub mod RecordsRead
+pub mod FoundVolumes
