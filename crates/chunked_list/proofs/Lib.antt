@@ -3,6 +3,9 @@ pub mod Parting
 pub mod Placing
 pub mod Storing
 pub mod Halving
+pub mod Hinting
+pub mod Sharing
 pub mod Splitting
 pub mod Standing
 pub mod Between
+pub mod Closing

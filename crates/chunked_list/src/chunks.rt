@@ -5,35 +5,40 @@ ghost use Rattle.std.specs.List.Sorted.{IsPartitionedBy, IsPartitionPoint};
 ghost use Rattle.chunked_list.specs.ChunkLimits.{chunk_limit, half_limit};
 ghost use Rattle.chunked_list.specs.Joined.{first_passes};
 
-use crate::bounds::Bound;
+use crate::bounds::{Bound, Keyed};
+use crate::hints::{Hints, count_hinted, lower, no_hints, sharpen};
 use crate::limits::{CHUNK_LIMIT, HALF};
 use std::alloc::{AllocError, Global};
 use std::marker::Model;
 
-/// At most 64 elements, with room for as many. Contracts see it as a list.
+/// At most 64 elements, with room for as many, and beside each its hint. Contracts see it as a list.
 #[derive(Drop)]
-pub struct Chunk<T> {
+pub struct Chunk<T: Keyed> {
     elements: Vec<T>,
+    hints: Hints,
 }
 
-impl<T> Model for Chunk<T> {
+impl<T: Keyed> Model for Chunk<T> {
     ghost use Rattle.std.specs.Prelude.{List, ◌≤◌, vec_len, vec_capacity};
     ghost use Rattle.chunked_list.specs.ChunkLimits.{chunk_limit};
+    ghost use Rattle.chunked_list.specs.Hinted.{IsHinted};
 
     ghost Value = { List T };
 
     ghost view = { λ chunk. chunk.elements.items };
 
-    ghost invariant = { λ chunk. (vec_len chunk.elements ≤ chunk_limit) × (chunk_limit ≤ vec_capacity chunk.elements) };
+    ghost invariant = { λ chunk. (vec_len chunk.elements ≤ chunk_limit) × (chunk_limit ≤ vec_capacity chunk.elements)
+        × IsHinted T.key chunk.elements.items chunk.hints };
 }
 
-impl<T: Drop> Chunk<T> {
+impl<T: Keyed + Drop> Chunk<T> {
     /// No element.
     pub(crate) fn new(alloc: Global) -> Result<Chunk<T>, AllocError>
         ensures { IfOk result (λ chunk. chunk ≡ []) }
     {
         Ok(Chunk {
             elements: Vec::with_capacity(alloc, CHUNK_LIMIT)?,
+            hints: no_hints(alloc)?,
         })
     }
 
@@ -64,7 +69,8 @@ impl<T: Drop> Chunk<T> {
         requires { length self.old < chunk_limit }
         ensures { self.new ≡ self.old ++ element ∷ [] }
     {
-        self.elements.push_reserved(element);
+        let at = self.elements.len();
+        self.insert(at, element);
     }
 
     /// Puts an element at a place. It takes no memory.
@@ -73,6 +79,9 @@ impl<T: Drop> Chunk<T> {
         requires place { at ≤ length self.old }
         ensures { self.new ≡ insert self.old at element }
     {
+        lower(&mut self.hints, &self.elements, &element);
+        let hint = element.hint(self.hints.mark);
+        put_in(&mut self.hints.numbers, at, hint);
         put_in(&mut self.elements, at, element);
     }
 
@@ -82,6 +91,7 @@ impl<T: Drop> Chunk<T> {
         ensures rest { self.new ≡ remove self.old at }
         ensures value { result ≡ slice_index_or self.old at result }
     {
+        let _ = self.hints.numbers.remove(at);
         self.elements.remove(at)
     }
 
@@ -92,6 +102,10 @@ impl<T: Drop> Chunk<T> {
         ensures back { other.new ≡ drop half_limit self.old }
     {
         move_tail(&mut self.elements, &mut other.elements);
+        move_tail(&mut self.hints.numbers, &mut other.hints.numbers);
+        other.hints.mark = self.hints.mark;
+        sharpen(&mut self.hints, &self.elements);
+        sharpen(&mut other.hints, &other.elements);
     }
 
     /// Whether the first element is before the bound; not where there is none.
@@ -110,8 +124,7 @@ impl<T: Drop> Chunk<T> {
         ensures place { IsPartitionedBy (B.before bound.now) self.now →
             IsPartitionPoint (λ x. B.before bound.now x ≡ true) (λ x. B.before bound.now x ≡ false) self.now result }
     {
-        self.elements
-            .partition_point(|element| bound.is_before(element))
+        count_hinted(&self.hints, &self.elements, bound)
     }
 }
 

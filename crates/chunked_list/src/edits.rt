@@ -5,11 +5,12 @@ ghost use Rattle.chunked_list.specs.Joined.{chunk_at};
 ghost use Rattle.chunked_list.specs.ChunkLimits.{chunk_limit, half_limit};
 ghost use Rattle.chunked_list.specs.Parted.{IsElement};
 
+use crate::bounds::Keyed;
 use crate::chunks::Chunk;
 use crate::places::Place;
 
 /// Puts an element at a place. It takes no memory.
-pub(crate) fn insert_at<T: Drop>(chunks: &mut Vec<Chunk<T>>, place: Place, element: T)
+pub(crate) fn insert_at<T: Keyed + Drop>(chunks: &mut Vec<Chunk<T>>, place: Place, element: T)
     requires chunk { place.chunk < vec_len chunks.old }
     requires at { place.at ≤ length (chunk_at chunks.old.items place.chunk) }
     requires room { length (chunk_at chunks.old.items place.chunk) < chunk_limit }
@@ -23,7 +24,7 @@ pub(crate) fn insert_at<T: Drop>(chunks: &mut Vec<Chunk<T>>, place: Place, eleme
 }
 
 /// Takes out the element at a place. It takes no memory.
-pub(crate) fn remove_at<T: Drop>(chunks: &mut Vec<Chunk<T>>, place: Place) -> T
+pub(crate) fn remove_at<T: Keyed + Drop>(chunks: &mut Vec<Chunk<T>>, place: Place) -> T
     requires { IsElement chunks.old.items place.chunk place.at }
     ensures items { chunks.new.items
         ≡ slice_set chunks.old.items place.chunk (remove (chunk_at chunks.old.items place.chunk) place.at) }
@@ -36,7 +37,7 @@ pub(crate) fn remove_at<T: Drop>(chunks: &mut Vec<Chunk<T>>, place: Place) -> T
 }
 
 /// Moves what is behind the first half of a chunk to an empty one, which comes next. It takes no memory.
-pub(crate) fn split_at<T: Drop>(chunks: &mut Vec<Chunk<T>>, chunk: usize, spare: Chunk<T>)
+pub(crate) fn split_at<T: Keyed + Drop>(chunks: &mut Vec<Chunk<T>>, chunk: usize, spare: Chunk<T>)
     requires chunk { chunk < vec_len chunks.old }
     requires spare { spare ≡ [] }
     requires room { vec_len chunks.old < vec_capacity chunks.old }
@@ -53,7 +54,7 @@ pub(crate) fn split_at<T: Drop>(chunks: &mut Vec<Chunk<T>>, chunk: usize, spare:
 }
 
 // Moves what is behind the first half of a chunk to an empty one.
-fn move_half<T: Drop>(chunks: &mut Vec<Chunk<T>>, chunk: usize, other: &mut Chunk<T>)
+fn move_half<T: Keyed + Drop>(chunks: &mut Vec<Chunk<T>>, chunk: usize, other: &mut Chunk<T>)
     requires chunk { chunk < vec_len chunks.old }
     requires empty { other.old ≡ [] }
     ensures items { chunks.new.items

@@ -5,6 +5,8 @@ mod bounds;
 mod chunks;
 mod edits;
 mod filters;
+mod hints;
+mod keys;
 mod limits;
 mod lists;
 mod places;
@@ -12,7 +14,8 @@ mod searches;
 mod spans;
 mod stores;
 
-pub use bounds::{Bound, Order};
+pub use bounds::{Bound, Keyed, Order, Test};
 pub use chunks::Chunk;
+pub use keys::{closed_hint, closed_shared};
 pub use limits::CHUNK_LIMIT;
 pub use lists::Chunked;

@@ -6,7 +6,7 @@ ghost use Rattle.chunked_list.specs.Joined.{joined_chunks};
 ghost use Rattle.chunked_list.specs.Parted.{IsParted, IsFirstOf, is_between};
 ghost use Rattle.tree_clock.specs.Lists.{Has, IsAscending};
 
-use crate::bounds::{Bound, Order};
+use crate::bounds::{Bound, Keyed, Order, Test};
 use crate::chunks::Chunk;
 use crate::filters::filtered_in;
 use crate::places::find;
@@ -18,11 +18,11 @@ use std::marker::Model;
 
 /// A list in chunks. Contracts see its elements, and how many more can come in without memory, wherever they go.
 #[derive(Drop)]
-pub struct Chunked<T> {
+pub struct Chunked<T: Keyed> {
     store: Store<T>,
 }
 
-impl<T> Model for Chunked<T> {
+impl<T: Keyed> Model for Chunked<T> {
     ghost use Rattle.chunked_list.specs.Room.{ChunkedValue};
 
     ghost Value = { ChunkedValue T };
@@ -34,7 +34,7 @@ impl<T> Model for Chunked<T> {
     ghost invariant = { λ list. IsStore list.store };
 }
 
-impl<T: Drop> Chunked<T> {
+impl<T: Keyed + Drop> Chunked<T> {
     /// The list with no element.
     pub fn new(alloc: Global) -> Chunked<T>
         ensures { result.elements ≡ [] }
@@ -99,11 +99,11 @@ impl<T: Drop> Chunked<T> {
         between_in(alloc, &self.store.chunks, first, second)
     }
 
-    /// The elements that are before the bound, wherever they stand, in order.
-    pub fn filtered<B: Bound<T>>(&self, alloc: Global, bound: &B) -> Result<Vec<&T>, AllocError>
-        ensures { IfOk result (λ found. map (λ x. x.now) found.items ≡ filter (B.before bound.now) self.now.elements) }
+    /// The elements that pass the test, wherever they stand, in order.
+    pub fn filtered<P: Test<T>>(&self, alloc: Global, test: &P) -> Result<Vec<&T>, AllocError>
+        ensures { IfOk result (λ found. map (λ x. x.now) found.items ≡ filter (P.passes test.now) self.now.elements) }
     {
-        filtered_in(alloc, &self.store.chunks, bound)
+        filtered_in(alloc, &self.store.chunks, test)
     }
 
     /// Whether an ascending list has the element.

@@ -5,7 +5,7 @@ ghost use Rattle.chunked_list.specs.Parted.{IsParted, Divides, IsElement};
 ghost use Rattle.chunked_list.specs.Stores.{AreSized};
 ghost use Rattle.tree_clock.specs.Lists.{Has};
 
-use crate::bounds::Bound;
+use crate::bounds::{Bound, Keyed};
 use crate::chunks::Chunk;
 
 /// A place in a list of chunks: in front of an element of a chunk, or behind its last one.
@@ -18,7 +18,7 @@ pub(crate) struct Place {
 }
 
 /// The place behind the elements before the bound, at the end of a chunk rather than at the beginning of the next.
-pub(crate) fn locate<T: Drop, B: Bound<T>>(chunks: &[Chunk<T>], bound: &B) -> Place
+pub(crate) fn locate<T: Keyed + Drop, B: Bound<T>>(chunks: &[Chunk<T>], bound: &B) -> Place
     requires sized { AreSized chunks.now }
     requires parted { IsParted (B.before bound.now) (joined_chunks chunks.now) }
     ensures chunk { result.chunk < max 1 (length chunks.now) }
@@ -35,7 +35,7 @@ pub(crate) fn locate<T: Drop, B: Bound<T>>(chunks: &[Chunk<T>], bound: &B) -> Pl
 }
 
 /// The place of the first element that is not before the bound.
-pub(crate) fn find<T: Drop, B: Bound<T>>(chunks: &[Chunk<T>], bound: &B) -> Option<Place>
+pub(crate) fn find<T: Keyed + Drop, B: Bound<T>>(chunks: &[Chunk<T>], bound: &B) -> Option<Place>
     requires sized { AreSized chunks.now }
     requires parted { IsParted (B.before bound.now) (joined_chunks chunks.now) }
     ensures element { IfSome result (λ place. IsElement chunks.now place.chunk place.at) }
@@ -46,7 +46,7 @@ pub(crate) fn find<T: Drop, B: Bound<T>>(chunks: &[Chunk<T>], bound: &B) -> Opti
 }
 
 /// The same place at an element: at the beginning of the next chunk, where the place is at the end of one.
-pub(crate) fn next_of<T: Drop>(chunks: &[Chunk<T>], place: Place) -> Option<Place>
+pub(crate) fn next_of<T: Keyed + Drop>(chunks: &[Chunk<T>], place: Place) -> Option<Place>
     requires sized { AreSized chunks.now }
     requires chunk { place.chunk < max 1 (length chunks.now) }
     requires at { place.at ≤ length (chunk_at chunks.now place.chunk) }
@@ -66,7 +66,7 @@ pub(crate) fn next_of<T: Drop>(chunks: &[Chunk<T>], place: Place) -> Option<Plac
 }
 
 /// The place behind all elements.
-pub(crate) fn end_of<T: Drop>(chunks: &[Chunk<T>]) -> Place
+pub(crate) fn end_of<T: Keyed + Drop>(chunks: &[Chunk<T>]) -> Place
     ensures chunk { result.chunk < max 1 (length chunks.now) }
     ensures at { result.at ≤ length (chunk_at chunks.now result.chunk) }
     ensures front { front_of chunks.now result.chunk result.at ≡ joined_chunks chunks.now }

@@ -6,13 +6,17 @@ ghost use Rattle.chunked_list.specs.Parted.{Divides, IsElement};
 ghost use Rattle.chunked_list.specs.Stores.{AreSized, IsStore, elements_in, room_in};
 ghost use Rattle.tree_clock.specs.Lists.{Has, IsAscending};
 
-use crate::bounds::{Below, Order};
+use crate::bounds::{Below, Keyed, Order};
 use crate::chunks::Chunk;
 use crate::places::{Place, find, locate, next_of};
 use crate::stores::{Store, put, take_out};
 
 /// Whether an ascending list has the element.
-pub(crate) fn has_element<T: Drop, O: Order<T>>(chunks: &[Chunk<T>], order: &O, element: &T) -> bool
+pub(crate) fn has_element<T: Keyed + Drop, O: Order<T>>(
+    chunks: &[Chunk<T>],
+    order: &O,
+    element: &T,
+) -> bool
     requires sized { AreSized chunks.now }
     requires ascending { IsAscending (O.order order.now) (joined_chunks chunks.now) }
     ensures { IsTrue result ↔ Has (joined_chunks chunks.now) element.now }
@@ -24,7 +28,12 @@ pub(crate) fn has_element<T: Drop, O: Order<T>>(chunks: &[Chunk<T>], order: &O, 
 }
 
 // Whether the element is the one at its place.
-fn is_at<T: Drop, O: Order<T>>(chunks: &[Chunk<T>], place: Place, order: &O, element: &T) -> bool
+fn is_at<T: Keyed + Drop, O: Order<T>>(
+    chunks: &[Chunk<T>],
+    place: Place,
+    order: &O,
+    element: &T,
+) -> bool
     requires ascending { IsAscending (O.order order.now) (joined_chunks chunks.now) }
     requires element { IsElement chunks.now place.chunk place.at }
     requires divides { Divides (λ x. is_lt (O.order order.now x element.now)) chunks.now place.chunk place.at }
@@ -35,7 +44,7 @@ fn is_at<T: Drop, O: Order<T>>(chunks: &[Chunk<T>], place: Place, order: &O, ele
 }
 
 /// Puts an element into an ascending list, unless it is there. It takes no memory.
-pub(crate) fn insert_in<T: Drop, O: Order<T>>(store: &mut Store<T>, order: &O, element: T)
+pub(crate) fn insert_in<T: Keyed + Drop, O: Order<T>>(store: &mut Store<T>, order: &O, element: T)
     requires is { IsStore store.old }
     requires room { 0 < room_in store.old }
     requires ascending { IsAscending (O.order order.now) (elements_in store.old) }
@@ -58,7 +67,7 @@ pub(crate) fn insert_in<T: Drop, O: Order<T>>(store: &mut Store<T>, order: &O, e
 }
 
 // Whether the element is right behind its place.
-fn has_behind<T: Drop, O: Order<T>>(
+fn has_behind<T: Keyed + Drop, O: Order<T>>(
     chunks: &[Chunk<T>],
     place: Place,
     order: &O,
@@ -78,7 +87,11 @@ fn has_behind<T: Drop, O: Order<T>>(
 }
 
 /// Takes an element out of an ascending list, if it is there. It takes no memory.
-pub(crate) fn remove_from<T: Drop, O: Order<T>>(store: &mut Store<T>, order: &O, element: &T)
+pub(crate) fn remove_from<T: Keyed + Drop, O: Order<T>>(
+    store: &mut Store<T>,
+    order: &O,
+    element: &T,
+)
     requires is { IsStore store.old }
     requires ascending { IsAscending (O.order order.now) (elements_in store.old) }
     ensures is { IsStore store.new }

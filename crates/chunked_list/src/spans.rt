@@ -5,13 +5,13 @@ ghost use Rattle.chunked_list.specs.Joined.{joined_chunks, back_of};
 ghost use Rattle.chunked_list.specs.Parted.{IsParted, IsElement, HasFailing, is_between};
 ghost use Rattle.chunked_list.specs.Stores.{AreSized};
 
-use crate::bounds::Bound;
+use crate::bounds::{Bound, Keyed};
 use crate::chunks::Chunk;
 use crate::places::{Place, find};
 use std::alloc::{AllocError, Global};
 
 /// The elements that aren't before the first bound, and are before the second, in order.
-pub(crate) fn between_in<'a, T: Drop, A: Bound<T>, B: Bound<T>>(
+pub(crate) fn between_in<'a, T: Keyed + Drop, A: Bound<T>, B: Bound<T>>(
     alloc: Global,
     chunks: &'a [Chunk<T>],
     first: &A,
@@ -31,7 +31,7 @@ pub(crate) fn between_in<'a, T: Drop, A: Bound<T>, B: Bound<T>>(
 }
 
 // Adds the elements from a place on, as long as they are before the bound.
-fn add_from<'a, T: Drop, B: Bound<T>>(
+fn add_from<'a, T: Keyed + Drop, B: Bound<T>>(
     found: &mut Vec<&'a T>,
     chunks: &'a [Chunk<T>],
     place: Place,
@@ -50,7 +50,7 @@ fn add_from<'a, T: Drop, B: Bound<T>>(
 }
 
 // Adds the elements of chunks, as long as they are before the bound.
-fn add_chunks<'a, T: Drop, B: Bound<T>>(
+fn add_chunks<'a, T: Keyed + Drop, B: Bound<T>>(
     found: &mut Vec<&'a T>,
     chunks: &'a [Chunk<T>],
     bound: &B,
@@ -68,7 +68,7 @@ fn add_chunks<'a, T: Drop, B: Bound<T>>(
 }
 
 // Adds the elements, as long as they are before the bound, and tells whether all are.
-fn add_elements<'a, T: Drop, B: Bound<T>>(
+fn add_elements<'a, T: Keyed + Drop, B: Bound<T>>(
     found: &mut Vec<&'a T>,
     elements: &'a [T],
     bound: &B,

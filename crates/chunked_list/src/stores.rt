@@ -6,6 +6,7 @@ ghost use Rattle.chunked_list.specs.Room.{load_of, room_of};
 ghost use Rattle.chunked_list.specs.Parted.{IsElement};
 ghost use Rattle.chunked_list.specs.Stores.{IsStore, elements_in, room_in};
 
+use crate::bounds::Keyed;
 use crate::chunks::Chunk;
 use crate::edits::{insert_at, remove_at, split_at};
 use crate::limits::{CHUNK_LIMIT, CHUNKS_LIMIT, HALF};
@@ -14,7 +15,7 @@ use std::alloc::{AllocError, Global};
 
 /// The parts of a list in chunks. No chunk is empty or full.
 #[derive(Drop)]
-pub(crate) struct Store<T> {
+pub(crate) struct Store<T: Keyed> {
     /// The chunks, in order.
     pub(crate) chunks: Vec<Chunk<T>>,
     /// Empty chunks, for those that come to be full.
@@ -26,7 +27,7 @@ pub(crate) struct Store<T> {
 }
 
 /// Puts an element at a place. It takes no memory.
-pub(crate) fn put<T: Drop>(store: &mut Store<T>, place: Place, element: T)
+pub(crate) fn put<T: Keyed + Drop>(store: &mut Store<T>, place: Place, element: T)
     requires is { IsStore store.old }
     requires room { 0 < room_in store.old }
     requires chunk { place.chunk < max 1 (length store.old.chunks.items) }
@@ -46,7 +47,7 @@ pub(crate) fn put<T: Drop>(store: &mut Store<T>, place: Place, element: T)
 }
 
 // Puts an element into an empty list.
-fn put_first<T: Drop>(store: &mut Store<T>, element: T)
+fn put_first<T: Keyed + Drop>(store: &mut Store<T>, element: T)
     requires is { IsStore store.old }
     requires room { 0 < room_in store.old }
     requires empty { store.old.chunks.items ≡ [] }
@@ -63,7 +64,7 @@ fn put_first<T: Drop>(store: &mut Store<T>, element: T)
 }
 
 // Puts an element into a chunk that isn't full then.
-fn put_within<T: Drop>(store: &mut Store<T>, place: Place, element: T)
+fn put_within<T: Keyed + Drop>(store: &mut Store<T>, place: Place, element: T)
     requires is { IsStore store.old }
     requires chunk { place.chunk < length store.old.chunks.items }
     requires at { place.at ≤ length (chunk_at store.old.chunks.items place.chunk) }
@@ -87,7 +88,7 @@ fn over(len: usize) -> usize
 }
 
 // Puts an element into a chunk that is full then, and splits it.
-fn put_and_split<T: Drop>(store: &mut Store<T>, place: Place, element: T)
+fn put_and_split<T: Keyed + Drop>(store: &mut Store<T>, place: Place, element: T)
     requires is { IsStore store.old }
     requires room { 0 < room_in store.old }
     requires chunk { place.chunk < length store.old.chunks.items }
@@ -107,7 +108,7 @@ fn put_and_split<T: Drop>(store: &mut Store<T>, place: Place, element: T)
 }
 
 /// Takes out the element at a place. It takes no memory.
-pub(crate) fn take_out<T: Drop>(store: &mut Store<T>, place: Place) -> T
+pub(crate) fn take_out<T: Keyed + Drop>(store: &mut Store<T>, place: Place) -> T
     requires is { IsStore store.old }
     requires element { IsElement store.old.chunks.items place.chunk place.at }
     ensures is { IsStore store.new }
@@ -124,7 +125,7 @@ pub(crate) fn take_out<T: Drop>(store: &mut Store<T>, place: Place) -> T
 }
 
 // Takes the only element of a chunk out, and the chunk with it; that of an empty list is kept to spare.
-fn take_only<T: Drop>(store: &mut Store<T>, place: Place) -> T
+fn take_only<T: Keyed + Drop>(store: &mut Store<T>, place: Place) -> T
     requires is { IsStore store.old }
     requires element { IsElement store.old.chunks.items place.chunk place.at }
     requires only { length (chunk_at store.old.chunks.items place.chunk) ≡ 1 }
@@ -145,7 +146,7 @@ fn take_only<T: Drop>(store: &mut Store<T>, place: Place) -> T
 }
 
 // Takes an element out of a chunk that has others.
-fn take_within<T: Drop>(store: &mut Store<T>, place: Place) -> T
+fn take_within<T: Keyed + Drop>(store: &mut Store<T>, place: Place) -> T
     requires is { IsStore store.old }
     requires element { IsElement store.old.chunks.items place.chunk place.at }
     requires others { 1 < length (chunk_at store.old.chunks.items place.chunk) }
@@ -164,7 +165,7 @@ fn take_within<T: Drop>(store: &mut Store<T>, place: Place) -> T
 }
 
 /// Makes room for so many elements more.
-pub(crate) fn make_room<T: Drop>(
+pub(crate) fn make_room<T: Keyed + Drop>(
     alloc: Global,
     store: &mut Store<T>,
     more: usize,
@@ -186,7 +187,7 @@ pub(crate) fn make_room<T: Drop>(
 }
 
 // How many chunks to spare give room for so many elements more.
-fn wanted_for<T: Drop>(store: &Store<T>, more: usize) -> usize
+fn wanted_for<T: Keyed + Drop>(store: &Store<T>, more: usize) -> usize
     requires is { IsStore store.now }
     requires few { more ≤ chunks_limit }
     ensures { more ≤ room_of result (load_of store.now.chunks.items) }
@@ -198,7 +199,11 @@ fn wanted_for<T: Drop>(store: &Store<T>, more: usize) -> usize
 }
 
 // Makes as many chunks to spare, where there are fewer.
-fn fill_spare<T: Drop>(alloc: Global, store: &mut Store<T>, wanted: usize) -> Result<(), AllocError>
+fn fill_spare<T: Keyed + Drop>(
+    alloc: Global,
+    store: &mut Store<T>,
+    wanted: usize,
+) -> Result<(), AllocError>
     requires is { IsStore store.old }
     requires few { vec_len store.old.chunks + wanted ≤ chunks_limit }
     ensures is { IsStore store.new }
@@ -216,7 +221,7 @@ fn fill_spare<T: Drop>(alloc: Global, store: &mut Store<T>, wanted: usize) -> Re
 }
 
 /// The parts of the list with no element.
-pub(crate) fn empty<T: Drop>(alloc: Global) -> Store<T>
+pub(crate) fn empty<T: Keyed + Drop>(alloc: Global) -> Store<T>
     ensures is { IsStore result }
     ensures elements { result.chunks.items ≡ [] }
 {
@@ -229,7 +234,7 @@ pub(crate) fn empty<T: Drop>(alloc: Global) -> Store<T>
 }
 
 /// The parts of a list of these elements.
-pub(crate) fn build<T: Drop>(alloc: Global, list: Vec<T>) -> Result<Store<T>, AllocError>
+pub(crate) fn build<T: Keyed + Drop>(alloc: Global, list: Vec<T>) -> Result<Store<T>, AllocError>
     ensures is { IfOk result IsStore }
     ensures elements { IfOk result (λ store. elements_in store ≡ list.items) }
 {
@@ -242,7 +247,7 @@ pub(crate) fn build<T: Drop>(alloc: Global, list: Vec<T>) -> Result<Store<T>, Al
 }
 
 // Moves elements to the end, the last one first.
-fn push_all<T: Drop>(store: &mut Store<T>, rest: &mut Vec<T>)
+fn push_all<T: Keyed + Drop>(store: &mut Store<T>, rest: &mut Vec<T>)
     requires is { IsStore store.old }
     requires room { vec_len rest.old ≤ room_in store.old }
     ensures is { IsStore store.new }
@@ -254,7 +259,7 @@ fn push_all<T: Drop>(store: &mut Store<T>, rest: &mut Vec<T>)
 }
 
 // Puts an element at the end.
-fn push<T: Drop>(store: &mut Store<T>, element: T)
+fn push<T: Keyed + Drop>(store: &mut Store<T>, element: T)
     requires is { IsStore store.old }
     requires room { 0 < room_in store.old }
     ensures is { IsStore store.new }

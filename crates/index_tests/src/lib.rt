@@ -7,4 +7,6 @@ mod graph_tests;
 #[cfg(test)]
 mod list_tests;
 #[cfg(test)]
+mod numbers;
+#[cfg(test)]
 mod random_tests;

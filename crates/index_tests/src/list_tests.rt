@@ -1,48 +1,13 @@
 ghost use Rattle.std.specs.Ordering.{nat_cmp};
 ghost use Rattle.tree_clock.specs.Lists.{IsAscending};
 
-use chunked_list::{Bound, Chunked, Order};
+use crate::numbers::{BySize, Number, Under};
+use chunked_list::Chunked;
 use std::alloc::Global;
-use std::cmp::Ordering;
 use std::test::Fail;
 
-// Numbers by size.
-struct BySize;
-
-impl Order<u32> for BySize {
-    ghost use Rattle.std.specs.Ordering.{nat_cmp};
-    ghost use Rattle.std.proofs.lemmas.Cmp.{nat_cmp_total};
-    ghost use Rattle.std.proofs.lemmas.Map.Lookups.{exact_unsigned};
-
-    ghost order = { λ _. nat_cmp };
-
-    ghost total = { λ _. nat_cmp_total };
-
-    ghost exact = { λ _. exact_unsigned };
-
-    fn compare(&self, a: &u32, b: &u32) -> Ordering {
-        a.cmp(b)
-    }
-}
-
-// The place of a number.
-#[derive(Clone, Copy)]
-struct Under {
-    number: u32,
-}
-
-impl Bound<u32> for Under {
-    ghost use Rattle.std.specs.Ordering.{is_lt, nat_cmp};
-
-    ghost before = { λ place number. is_lt (nat_cmp number place.number) };
-
-    fn is_before(&self, number: &u32) -> bool {
-        number.cmp(&self.number).is_lt()
-    }
-}
-
 // Puts so many numbers in, each so much above the one before it.
-fn fill(alloc: Global, list: &mut Chunked<u32>, from: u32, step: u32, count: u32) -> bool
+fn fill(alloc: Global, list: &mut Chunked<Number>, from: u32, step: u32, count: u32) -> bool
     requires { IsAscending nat_cmp list.old.elements }
     ensures { IsAscending nat_cmp list.new.elements }
 {
@@ -51,25 +16,32 @@ fn fill(alloc: Global, list: &mut Chunked<u32>, from: u32, step: u32, count: u32
         if list.prepare(alloc, 1).is_err() {
             return false;
         }
-        list.insert(&BySize, number);
+        list.insert(&BySize, Number { value: number });
         number = number.saturating_add(step);
     }
     true
 }
 
 // Takes the numbers from a first to a last out.
-fn cut_out(list: &mut Chunked<u32>, first: u32, last: u32)
+fn cut_out(list: &mut Chunked<Number>, first: u32, last: u32)
     requires { IsAscending nat_cmp list.old.elements }
     ensures { IsAscending nat_cmp list.new.elements }
 {
     for number in first..last {
-        list.remove(&BySize, &number);
+        list.remove(&BySize, &Number { value: number });
     }
+}
+
+// Whether a list has the number.
+fn has(list: &Chunked<Number>, number: u32) -> bool
+    requires { IsAscending nat_cmp list.now.elements }
+{
+    list.contains(&BySize, &Number { value: number })
 }
 
 // Whether there are so many chunks, and that one has so many elements from a first to a last.
 fn has_chunk(
-    list: &Chunked<u32>,
+    list: &Chunked<Number>,
     chunks: usize,
     at: usize,
     (first, last): (u32, u32),
@@ -82,15 +54,23 @@ fn has_chunk(
         return false;
     };
     let found = chunk.as_slice();
-    found.len() == count && found.first() == Some(&first) && found.last() == Some(&last)
+    found.len() == count && is_at(found.first(), first) && is_at(found.last(), last)
+}
+
+// Whether there is a number, and it is this one.
+fn is_at(found: Option<&Number>, number: u32) -> bool {
+    match found {
+        Some(other) => other.value == number,
+        None => false,
+    }
 }
 
 // Whether the elements are all numbers from 0 to one that is too large.
-fn has_all(list: &Chunked<u32>, end: u32) -> bool {
+fn has_all(list: &Chunked<Number>, end: u32) -> bool {
     let mut next = 0_u32;
     for chunk in list.chunks() {
         for number in chunk.as_slice() {
-            if *number != next {
+            if number.value != next {
                 return false;
             }
             next = next.saturating_add(1);
@@ -115,33 +95,33 @@ fn chunks_split_at_their_limit(rt: HostRuntime) -> Result<(), Fail> {
 }
 
 // The numbers of the second of fifteen chunks are taken out of all numbers below 500.
-fn loses_a_chunk(list: &mut Chunked<u32>) -> bool
+fn loses_a_chunk(list: &mut Chunked<Number>) -> bool
     requires { IsAscending nat_cmp list.old.elements }
 {
     cut_out(list, 32, 64);
     list.len() == 468
         && has_chunk(list, 14, 1, (64, 95), 32)
-        && list.contains(&BySize, &31)
-        && !list.contains(&BySize, &32)
-        && !list.contains(&BySize, &63)
-        && list.contains(&BySize, &64)
+        && has(list, 31)
+        && !has(list, 32)
+        && !has(list, 63)
+        && has(list, 64)
 }
 
 #[test]
 fn lists_of_vectors(rt: HostRuntime) -> Result<(), Fail> {
     let alloc = rt.alloc();
-    let mut numbers = Vec::new(alloc);
-    numbers.extend(0..300)?;
-    let list = Box::new(alloc, Chunked::from_vec(alloc, numbers)?)?;
+    let list = Box::new(alloc, numbers_to(alloc, 300)?)?;
     assert!(rt; has_all(&list, 300) && !list.is_empty());
     assert!(rt; list.filtered(alloc, &Under { number: 130 })?.len() == 130);
     Ok(())
 }
 
 // The list of the numbers from 0 to one that is too large.
-fn numbers_to(alloc: Global, end: u32) -> Result<Chunked<u32>, Fail> {
+fn numbers_to(alloc: Global, end: u32) -> Result<Chunked<Number>, Fail> {
     let mut numbers = Vec::new(alloc);
-    numbers.extend(0..end)?;
+    for value in 0..end {
+        numbers.push(Number { value })?;
+    }
     Ok(Chunked::from_vec(alloc, numbers)?)
 }
 
@@ -181,7 +161,7 @@ fn a_chunk_goes_with_its_last_element(rt: HostRuntime) -> Result<(), Fail> {
     assert!(rt; fill(alloc, &mut list, 0, 1, 96));
     // The last element of a chunk goes, and comes back to its end.
     cut_out(&mut list, 31, 32);
-    assert!(rt; has_chunk(&list, 3, 0, (0, 30), 31) && !list.contains(&BySize, &31));
+    assert!(rt; has_chunk(&list, 3, 0, (0, 30), 31) && !has(&list, 31));
     assert!(rt; fill(alloc, &mut list, 31, 1, 1) && has_chunk(&list, 3, 0, (0, 31), 32));
     // All elements of the chunk in the middle go, and then those on both sides.
     cut_out(&mut list, 32, 64);
@@ -195,7 +175,7 @@ fn a_chunk_goes_with_its_last_element(rt: HostRuntime) -> Result<(), Fail> {
 // Whether the numbers of a list from the first to the second, which is not among them, are these.
 fn has_between(
     alloc: Global,
-    list: &Chunked<u32>,
+    list: &Chunked<Number>,
     places: (u32, u32),
     wanted: &[u32],
 ) -> Result<bool, Fail>
@@ -207,12 +187,12 @@ fn has_between(
     Ok(are_same(&found, wanted))
 }
 
-fn are_same(found: &[&u32], wanted: &[u32]) -> bool {
+fn are_same(found: &[&Number], wanted: &[u32]) -> bool {
     if found.len() != wanted.len() {
         return false;
     }
     for (number, other) in found.iter().zip(wanted) {
-        if **number != *other {
+        if number.value != *other {
             return false;
         }
     }

@@ -7,7 +7,7 @@ use Rattle.chunked_list.proofs.filters.filtered_in.Goals as goal
 
 pub loop-chunk-preserved : goal.loop-chunk-preserved
 loop-chunk-preserved g c =
-    let p = g.B.Bound.before c.args.bound.now in
+    let p = g.P.Test.passes c.args.test.now in
     let i = c.loop-chunk.chunk-index in
     c.in_ok-add_filtered.ensures
     ∙ ap (λ zs. zs ++ filter p c.as_slice.result.now) c.loop-chunk.invariant
