@@ -38,10 +38,10 @@ not_itself triple h = false≢true (sym (ap is_lt (tied_itself triple_total trip
 
 -- the pairs with the triple stand together
 pub before_triple : (triple : Triple) (xs : List Tagged) → IsAscending tagged_cmp xs → IsParted (is_before triple) xs
-before_triple = parted_before triple_cmp triple_total (λ pair. pair.triple) (λ x y. then_cases (triple_cmp x.triple y.triple) (dot_cmp x.dot y.dot))
+before_triple = parted_before tagged_cmp triple_cmp triple_total (λ pair. pair.triple) (λ x y. then_cases (triple_cmp x.triple y.triple) (dot_cmp x.dot y.dot))
 
 pub up_to_triple : (triple : Triple) (xs : List Tagged) → IsAscending tagged_cmp xs → IsParted (λ pair. is_le (triple_cmp pair.triple triple)) xs
-up_to_triple = parted_up_to triple_cmp triple_total (λ pair. pair.triple) (λ x y. then_cases (triple_cmp x.triple y.triple) (dot_cmp x.dot y.dot))
+up_to_triple = parted_up_to tagged_cmp triple_cmp triple_total (λ pair. pair.triple) (λ x y. then_cases (triple_cmp x.triple y.triple) (dot_cmp x.dot y.dot))
 
 pub with_triple_between : (triple : Triple) (xs : List Tagged) → filter (is_between (is_before triple) (λ pair. is_le (triple_cmp pair.triple triple))) xs ≡ filter (is_of triple) xs
 with_triple_between triple = filter_agree (is_between (is_before triple) (λ pair. is_le (triple_cmp pair.triple triple))) (is_of triple) (λ x. equal_between triple_cmp triple_total x.triple triple)

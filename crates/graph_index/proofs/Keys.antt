@@ -7,7 +7,6 @@ use Rattle.std.specs.declared.cmp.Ordering.{Ordering}
 use Rattle.std.specs.declared.cmp.Ordering.TheVariants.{Less, Equal, Greater}
 use Rattle.tree_clock.specs.Lists.{IsAscending}
 use Rattle.mld_ops.specs.declared.tagged.Tagged.{Tagged}
-use Rattle.mld_ops.specs.Tagged.{tagged_cmp}
 use Rattle.mld_ops.proofs.AscendingLaws.{below_member}
 use Rattle.chunked_list.specs.Parted.{IsParted}
 use Rattle.chunked_list.proofs.Parting.{has_all}
@@ -23,16 +22,16 @@ higher Equal h = absurd (true≢false h)
 higher Greater h = refl
 
 -- a test that fails for each pair behind one for which it fails
-pub parted_by : (p : Tagged → Bool) → ((x y : Tagged) → tagged_cmp x y ≡ Less → p x ≡ false → p y ≡ false) → (xs : List Tagged) → IsAscending tagged_cmp xs → IsParted p xs
-parted_by p fails [] a = tt
-parted_by p fails (x ∷ xs) a = (
-  λ f. has_all (λ y. p y ≡ false) xs (λ y k. fails x y (below_member tagged_cmp x xs y a.0 k) f),
-  parted_by p fails xs a.1,
+pub parted_by : (Q : Tagged → Tagged → Ordering) (p : Tagged → Bool) → ((x y : Tagged) → Q x y ≡ Less → p x ≡ false → p y ≡ false) → (xs : List Tagged) → IsAscending Q xs → IsParted p xs
+parted_by Q p fails [] a = tt
+parted_by Q p fails (x ∷ xs) a = (
+  λ f. has_all (λ y. p y ≡ false) xs (λ y k. fails x y (below_member Q x xs y a.0 k) f),
+  parted_by Q p fails xs a.1,
 )
 
-module _ {K : Type 0} (R : K → K → Ordering) (total : IsTotalOrder R) (key : Tagged → K)
-    (ascends : (x y : Tagged) → tagged_cmp x y ≡ Less → (R (key x) (key y) ≡ Less) ⊎ (R (key x) (key y) ≡ Equal)) (k : K) where
-  not_before : (x y : Tagged) → tagged_cmp x y ≡ Less → is_lt (R (key x) k) ≡ false → is_lt (R (key y) k) ≡ false
+module _ {K : Type 0} (Q : Tagged → Tagged → Ordering) (R : K → K → Ordering) (total : IsTotalOrder R) (key : Tagged → K)
+    (ascends : (x y : Tagged) → Q x y ≡ Less → (R (key x) (key y) ≡ Less) ⊎ (R (key x) (key y) ≡ Equal)) (k : K) where
+  not_before : (x y : Tagged) → Q x y ≡ Less → is_lt (R (key x) k) ≡ false → is_lt (R (key y) k) ≡ false
   not_before x y l f = elim (ascends x y l) [
     | inl e ↦ elim (cases_Bool (is_lt (R (key y) k))) [
       | inl t ↦ absurd (true≢false (sym (ap is_lt (total.trans (key x) (key y) k e (lower (R (key y) k) t))) ∙ f))
@@ -41,7 +40,7 @@ module _ {K : Type 0} (R : K → K → Ordering) (total : IsTotalOrder R) (key :
     | inr e ↦ ap is_lt (sym (total.congr (key x) (key y) k e)) ∙ f
   ]
 
-  behind : (x y : Tagged) → tagged_cmp x y ≡ Less → is_le (R (key x) k) ≡ false → is_le (R (key y) k) ≡ false
+  behind : (x y : Tagged) → Q x y ≡ Less → is_le (R (key x) k) ≡ false → is_le (R (key y) k) ≡ false
   behind x y l f = elim (ascends x y l) [
     | inl e ↦
         let g = total.antisymm k (key x) ∙ ap ordering_reverse (higher (R (key x) k) f) in
@@ -50,11 +49,11 @@ module _ {K : Type 0} (R : K → K → Ordering) (total : IsTotalOrder R) (key :
   ]
 
   -- the pairs with that key stand together
-  pub parted_before : (xs : List Tagged) → IsAscending tagged_cmp xs → IsParted (λ x. is_lt (R (key x) k)) xs
-  parted_before = parted_by (λ x. is_lt (R (key x) k)) not_before
+  pub parted_before : (xs : List Tagged) → IsAscending Q xs → IsParted (λ x. is_lt (R (key x) k)) xs
+  parted_before = parted_by Q (λ x. is_lt (R (key x) k)) not_before
 
-  pub parted_up_to : (xs : List Tagged) → IsAscending tagged_cmp xs → IsParted (λ x. is_le (R (key x) k)) xs
-  parted_up_to = parted_by (λ x. is_le (R (key x) k)) behind
+  pub parted_up_to : (xs : List Tagged) → IsAscending Q xs → IsParted (λ x. is_le (R (key x) k)) xs
+  parted_up_to = parted_by Q (λ x. is_le (R (key x) k)) behind
 
 -- neither before nor behind is equal
 pub equal_between : {K : Type 0} (R : K → K → Ordering) → IsTotalOrder R → (x k : K) → (not (is_lt (R x k)) && is_le (R x k)) ≡ is_eq (R k x)

@@ -2,3 +2,4 @@ pub mod Changing
 pub mod Finding
 pub mod Keys
 pub mod Ranging
+pub mod Sorting

@@ -1,2 +1,4 @@
+pub mod DotOrder
+pub mod Indexing
 pub mod Matching
 pub mod SubjectLaws

@@ -1,24 +1,28 @@
 //! Changes of ascending lists of pairs.
 ghost use Rattle.std.specs.Prelude.{◌≡◌, ◌≤◌, ◌⊎◌, ◌↔◌, vec_len};
+ghost use Rattle.graph_index.specs.Indexing.{IsGraph};
 ghost use Rattle.mld_ops.specs.Applies.{Applies};
 ghost use Rattle.mld_ops.specs.Tagged.{tagged_cmp};
 ghost use Rattle.mld_ops.specs.declared.tagged.Tagged.{Tagged};
 ghost use Rattle.tree_clock.specs.Lists.{Has, IsAscending};
 
+use crate::dot_index::{DotIndex, follow};
 use crate::pair_order::PairOrder;
-use chunked_list::Chunked;
+use chunked_list::{Chunked, Keyed, Order};
 use mld_ops::{Cut, Tagged};
 
 /// Loses the pairs that a cut drops, and then gains those that it adds. It takes no memory.
-pub(crate) fn apply_to(pairs: &mut Chunked<Tagged>, cut: Cut)
+pub(crate) fn apply_to(pairs: &mut Chunked<Tagged>, index: &mut DotIndex, cut: Cut)
     requires room { vec_len cut.adds ≤ pairs.old.room }
-    requires ascending { IsAscending tagged_cmp pairs.old.elements }
-    ensures { Applies cut.drops.items cut.adds.items pairs.old.elements pairs.new.elements }
+    requires graph { IsGraph pairs.old.elements index.old }
+    ensures applies { Applies cut.drops.items cut.adds.items pairs.old.elements pairs.new.elements }
+    ensures graph { IsGraph pairs.new.elements index.new }
 {
     let Cut { drops, adds } = cut;
     remove_all(pairs, &drops);
+    follow(index, drops, &adds);
     let mut rest = adds;
-    add_all(pairs, &mut rest);
+    add_all(&PairOrder, pairs, &mut rest);
 }
 
 // Takes out those of the pairs that are there.
@@ -33,14 +37,19 @@ fn remove_all(pairs: &mut Chunked<Tagged>, drops: &[Tagged])
     }
 }
 
-// Puts pairs in, those that aren't there.
-fn add_all(pairs: &mut Chunked<Tagged>, adds: &mut Vec<Tagged>)
-    requires room { vec_len adds.old ≤ pairs.old.room }
-    requires ascending { IsAscending tagged_cmp pairs.old.elements }
-    ensures ascending { IsAscending tagged_cmp pairs.new.elements }
-    ensures members { (pair : Tagged) → Has pairs.new.elements pair ↔ (Has pairs.old.elements pair ⊎ Has adds.old.items pair) }
+/// Puts in those that aren't there. None is left to come.
+pub(crate) fn add_all<T: Keyed + Drop, O: Order<T>>(
+    order: &O,
+    list: &mut Chunked<T>,
+    adds: &mut Vec<T>,
+)
+    requires room { vec_len adds.old ≤ list.old.room }
+    requires ascending { IsAscending (O.order order.now) list.old.elements }
+    ensures ascending { IsAscending (O.order order.now) list.new.elements }
+    ensures members { (element : T) → Has list.new.elements element ↔ (Has list.old.elements element ⊎ Has adds.old.items element) }
+    ensures none { vec_len adds.new ≡ 0 }
 {
-    while let Some(pair) = adds.pop() {
-        pairs.insert(&PairOrder, pair);
+    while let Some(element) = adds.pop() {
+        list.insert(order, element);
     }
 }

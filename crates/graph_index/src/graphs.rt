@@ -10,8 +10,10 @@ ghost use Rattle.tree_clock.specs.Lists.{IsAscending};
 
 use crate::changes::apply_to;
 use crate::copies::{copy_chunks, copy_found, dots_found};
-use crate::matching::{BeforeTriple, Matching, OfRange, UpToTriple};
+use crate::dot_index::{DotIndex, get_ready, no_index};
+use crate::matching::{BeforeTriple, Matching, UpToTriple};
 use crate::pair_order::PairOrder;
+use crate::ranges::of_range_in;
 use crate::steps::Steps;
 use chunked_list::{Chunk, Chunked};
 use mld_ops::{Cut, Tagged, Tags};
@@ -25,19 +27,19 @@ use tree_clock::{Dot, Range};
 #[derive(Drop)]
 pub struct Graph {
     pairs: Chunked<Tagged>,
+    index: DotIndex,
 }
 
 impl Model for Graph {
     ghost use Rattle.chunked_list.specs.Room.{ChunkedValue};
-    ghost use Rattle.mld_ops.specs.Tagged.{tagged_cmp};
+    ghost use Rattle.graph_index.specs.Indexing.{IsGraph};
     ghost use Rattle.mld_ops.specs.declared.tagged.Tagged.{Tagged};
-    ghost use Rattle.tree_clock.specs.Lists.{IsAscending};
 
     ghost Value = { ChunkedValue Tagged };
 
     ghost view = { λ graph. graph.pairs };
 
-    ghost invariant = { λ graph. IsAscending tagged_cmp graph.pairs.elements };
+    ghost invariant = { λ graph. IsGraph graph.pairs.elements graph.index };
 }
 
 impl Graph {
@@ -47,6 +49,7 @@ impl Graph {
     {
         Graph {
             pairs: Chunked::new(alloc),
+            index: no_index(alloc),
         }
     }
 
@@ -57,6 +60,7 @@ impl Graph {
     {
         Ok(Graph {
             pairs: Chunked::from_vec(alloc, list)?,
+            index: no_index(alloc),
         })
     }
 
@@ -88,7 +92,8 @@ impl Graph {
         ensures ok { OnOk result (vec_len cut.now.adds ≤ self.new.room) }
         ensures kept { self.old.room ≤ self.new.room }
     {
-        self.pairs.prepare(alloc, cut.adds.len())
+        self.pairs.prepare(alloc, cut.adds.len())?;
+        get_ready(alloc, &mut self.index, self.pairs.chunks(), &cut.adds)
     }
 
     /// Loses the pairs that a cut drops, and then gains those that it adds. It takes no memory.
@@ -96,7 +101,7 @@ impl Graph {
         requires { vec_len cut.adds ≤ self.old.room }
         ensures { Applies cut.drops.items cut.adds.items self.old.elements self.new.elements }
     {
-        apply_to(&mut self.pairs, cut);
+        apply_to(&mut self.pairs, &mut self.index, cut);
     }
 
     /// The pairs whose triple has the given parts, in order.
@@ -157,7 +162,6 @@ impl Tags for Graph {
     }
 
     fn of_range(&self, alloc: Global, range: &Range) -> Result<Vec<Tagged>, AllocError> {
-        let found = self.pairs.filtered(alloc, &OfRange { range })?;
-        copy_found(alloc, &found)
+        of_range_in(alloc, &self.pairs, &self.index, range)
     }
 }

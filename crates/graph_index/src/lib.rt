@@ -1,11 +1,14 @@
 //! The pairs of a clone: found, changed and matched by their parts.
 #![tactic(auto)]
 
+mod by_dot;
 mod changes;
 mod copies;
+mod dot_index;
 mod graphs;
 mod matching;
 mod pair_order;
+mod ranges;
 mod steps;
 
 pub use graphs::Graph;

@@ -10,3 +10,5 @@ mod list_tests;
 mod numbers;
 #[cfg(test)]
 mod random_tests;
+#[cfg(test)]
+mod range_tests;

@@ -2,11 +2,11 @@
 ghost use Rattle.std.specs.Prelude.{◌≤◌, length};
 
 use graph_index::Graph;
-use mld_ops::{Cut, Tagged};
+use mld_ops::{Cut, Tagged, Tags};
 use rdf_terms::{Iri, Term, Triple};
 use std::alloc::Global;
 use std::test::Fail;
-use tree_clock::{Dot, Path};
+use tree_clock::{Dot, Path, Range};
 
 // The subjects and the objects of pairs, in their order.
 const NAMES: [&str; 8] = [
@@ -158,6 +158,52 @@ fn has_triple(alloc: Global, graph: &Graph, list: &[u32], number: u32) -> Result
     Ok(graph.has_triple(&pair.triple) != numbers.is_empty() && are_pairs_of(&pairs, &numbers))
 }
 
+// The numbers of a list whose pairs have a tick from a first one to a last.
+fn of_ticks(alloc: Global, list: &[u32], first: u32, last: u32) -> Result<Vec<u32>, Fail> {
+    let mut found = Vec::new(alloc);
+    for number in list {
+        if first <= *number % TICKS && *number % TICKS <= last {
+            found.push(*number)?;
+        }
+    }
+    Ok(found)
+}
+
+// Whether the pairs of the ticks from a first one to a last are those of the list.
+fn has_range(
+    alloc: Global,
+    graph: &Graph,
+    list: &[u32],
+    first: u32,
+    last: u32,
+) -> Result<bool, Fail> {
+    let range = Range {
+        path: Path::root(),
+        first,
+        last,
+    };
+    let numbers = of_ticks(alloc, list, first, last)?;
+    let pairs = graph.of_range(alloc, &range)?;
+    Ok(are_pairs_of(&pairs, &numbers))
+}
+
+// Whether both have the same: all, those of a triple, and those of a range.
+fn are_alike(
+    alloc: Global,
+    random: &mut Random,
+    graph: &Graph,
+    list: &[u32],
+) -> Result<bool, Fail> {
+    let number = random.next();
+    let first = random.next() % TICKS;
+    let last = random.next() % TICKS;
+    Ok(
+        has_all(alloc, graph, list)?
+            && has_triple(alloc, graph, list, number)?
+            && has_range(alloc, graph, list, first, last)?,
+    )
+}
+
 // A cut of so many drops and adds on both, and then both are compared.
 fn goes_on(
     alloc: Global,
@@ -170,7 +216,7 @@ fn goes_on(
     let adds = random.numbers(alloc, adds)?;
     change_graph(alloc, graph, &drops, &adds)?;
     change_list(list, &drops, &adds)?;
-    Ok(has_all(alloc, graph, list)? && has_triple(alloc, graph, list, random.next())?)
+    are_alike(alloc, random, graph, list)
 }
 
 #[test]

@@ -1,15 +1,13 @@
 use Rattle.std.proofs.Common.{◌≤◌, ◌↔◌, ◌⊎◌, vec_len}
-use Rattle.mld_ops.specs.Tagged.{tagged_cmp}
-use Rattle.mld_ops.specs.declared.tagged.Tagged.{Tagged}
 use Rattle.tree_clock.specs.Lists.{Has, IsAscending}
 use Rattle.graph_index.proofs.changes.add_all.Given as goal
 
-abbrev pub invariant-loop-pair : goal.invariant-loop-pair
-invariant-loop-pair l = record {
-  ascending : IsAscending tagged_cmp l.pairs.elements;
-  room : vec_len l.adds ≤ l.pairs.room;
-  members : (pair : Tagged) → (Has l.pairs.elements pair ⊎ Has l.adds.items pair) ↔ (Has l.initial.pairs.elements pair ⊎ Has l.initial.adds.items pair);
+abbrev pub invariant-loop-element : goal.invariant-loop-element
+invariant-loop-element g l = record {
+  ascending : IsAscending (g.O.Order.order l.order) l.list.elements;
+  room : vec_len l.adds ≤ l.list.room;
+  members : (element : g.row.T.Denot) → (Has l.list.elements element ⊎ Has l.adds.items element) ↔ (Has l.initial.list.elements element ⊎ Has l.initial.adds.items element);
 }
 
-abbrev pub decreases-loop-pair : goal.decreases-loop-pair
-decreases-loop-pair l = vec_len l.adds
+abbrev pub decreases-loop-element : goal.decreases-loop-element
+decreases-loop-element g l = vec_len l.adds

@@ -6,10 +6,10 @@ use Rattle.graph_index.proofs.Ranging.{ok_weaker}
 use Rattle.graph_index.proofs.graphs.Graph.with_triple.Goals as goal
 
 pub between-requires-clause-first : goal.between-requires-clause-first
-between-requires-clause-first c = before_triple c.args.triple.now c.self.inside.pairs.elements c.self.invariant
+between-requires-clause-first c = before_triple c.args.triple.now c.self.inside.pairs.elements c.self.invariant.ascending
 
 pub between-requires-clause-second : goal.between-requires-clause-second
-between-requires-clause-second c = up_to_triple c.args.triple.now c.self.inside.pairs.elements c.self.invariant
+between-requires-clause-second c = up_to_triple c.args.triple.now c.self.inside.pairs.elements c.self.invariant.ascending
 
 pub returns : goal.returns
 returns c =
