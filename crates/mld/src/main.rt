@@ -8,6 +8,7 @@ use mld_replay::run::{Ran, RunFault, ended, run};
 use std::alloc::{Alloc, Global};
 use std::env::{self, Env};
 use std::io::{self, BufReader, ErrorKind, Input, Print};
+use std::mem;
 use std::process::ExitCode;
 use std::thread::Threads;
 
@@ -20,7 +21,10 @@ fn main(rt: HostRuntime) -> ExitCode {
         // Where standard error fails too, the status still tells.
         let _ = eprintln!(rt; "{fault}");
     }
-    ExitCode::from(ran.status)
+    let status = ran.status;
+    // The process ends here, and gives all memory back at once.
+    mem::forget(ran);
+    ExitCode::from(status)
 }
 
 /// The run over the words of the process, its standard input and its standard output.
