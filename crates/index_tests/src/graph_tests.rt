@@ -74,7 +74,8 @@ fn change(alloc: Global, graph: &mut Graph) -> Result<(), Fail> {
     Ok(())
 }
 
-fn has_ticks(pairs: &[Tagged], ticks: &[u32]) -> bool {
+/// Whether the pairs have these ticks, in order.
+pub(crate) fn has_ticks(pairs: &[Tagged], ticks: &[u32]) -> bool {
     if pairs.len() != ticks.len() {
         return false;
     }

@@ -3,6 +3,7 @@ ghost use Rattle.std.specs.Prelude.{◌≡◌, IfOk};
 ghost use Rattle.mld_ops.specs.Tagged.{tagged_cmp};
 ghost use Rattle.tree_clock.specs.Lists.{IsAscending};
 
+use crate::graph_tests::has_ticks;
 use graph_index::Graph;
 use mld_ops::{Cut, Tagged, Tags, insert_pair};
 use rdf_terms::{Iri, Term, Triple};
@@ -78,18 +79,6 @@ fn roots_cut(alloc: Global) -> Result<Cut, Fail> {
     let drops = pairs(alloc, &[("urn:b", 0, 3)])?;
     let adds = pairs(alloc, &[("urn:e", 0, 4)])?;
     Ok(Cut { drops, adds })
-}
-
-fn has_ticks(pairs: &[Tagged], ticks: &[u32]) -> bool {
-    if pairs.len() != ticks.len() {
-        return false;
-    }
-    for (pair, tick) in pairs.iter().zip(ticks) {
-        if pair.dot.tick != *tick {
-            return false;
-        }
-    }
-    true
 }
 
 // Whether the pairs of a path from a first tick to a last have these ticks, in the order of their triples.
