@@ -6,7 +6,8 @@ use Rattle.std.proofs.lemmas.List.{append-nil}
 use Rattle.iri_rules.specs.Iri.{is_letter, is_digit}
 use Rattle.rdf_terms.specs.declared.terms.Term.TheVariants as terms
 use Rattle.rdf_terms.specs.declared.terms.Triple.{Triple}
-use Rattle.rdf_terms.specs.Literal.{Tagged, is_language_tag, is_primary, is_subtags}
+use Rattle.term_texts.specs.Tags.{is_language_tag, is_primary, is_subtags}
+use Rattle.rdf_terms.specs.Literal.{Tagged}
 use Rattle.rdf_terms.specs.TripleReading.{Tag, Closed, Spelled, step, run, verdict}
 use Rattle.rdf_terms.proofs.FoundPieces.{stopped_spelled}
 

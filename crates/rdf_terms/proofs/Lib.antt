@@ -1,7 +1,5 @@
 pub mod Plain
 pub mod Comparing
-pub mod Blocks
-pub mod TagLemmas
 pub mod Appending
 pub mod Steps
 pub mod MayBegin

@@ -13,7 +13,8 @@ use Rattle.rdf_terms.specs.declared.terms.Triple.{Triple}
 use Rattle.rdf_terms.specs.Building.{IsSoundTerm}
 use Rattle.rdf_terms.specs.Grammar.{SpellsTriple, IsTermWithin}
 use Rattle.rdf_terms.specs.Literal.{Typed, Tagged, xsd_string, is_same, lexical_limit}
-use Rattle.rdf_terms.specs.Spelling.{iri_text, escaped, escaped_byte, datatype_text, term_text, triple_text}
+use Rattle.term_texts.specs.Escaped.{escaped, escaped_byte}
+use Rattle.rdf_terms.specs.Spelling.{iri_text, datatype_text, term_text, triple_text}
 use Rattle.rdf_terms.specs.Written.{IsWritableTerm, IsUtf8Term, IsWrittenSo}
 use Rattle.rdf_terms.proofs.Written.{written_spelled}
 

@@ -9,7 +9,8 @@ use Rattle.rdf_terms.specs.declared.terms.Triple.{Triple}
 use Rattle.rdf_terms.specs.Escapes.{Piece, Plain, Letter, piece_text, piece_value, IsIriPiece, IsLexicalPiece, SpellsPieces}
 use Rattle.rdf_terms.specs.Grammar.{is_blanks, SpellsIri, SpellsLexical, SpellsDatatype, SpellsObject, SpellsTriple}
 use Rattle.rdf_terms.specs.Literal.{Typed, Tagged, xsd_string, rdf_lang_string, is_same}
-use Rattle.rdf_terms.specs.Spelling.{iri_text, escaped, escaped_byte, datatype_text, term_text, triple_text}
+use Rattle.term_texts.specs.Escaped.{escaped, escaped_byte}
+use Rattle.rdf_terms.specs.Spelling.{iri_text, datatype_text, term_text, triple_text}
 use Rattle.rdf_terms.specs.Written.{IsWritable, IsWritableTerm}
 
 -- ---- pieces

@@ -8,8 +8,9 @@ use Rattle.rdf_terms.specs.declared.terms.Term.{Term}
 use Rattle.rdf_terms.specs.declared.terms.Term.TheVariants as terms
 use Rattle.rdf_terms.specs.declared.terms.Triple.{Triple}
 use Rattle.rdf_terms.specs.Escapes.{SpellsPieces, IsIriPiece, IsLexicalPiece}
-use Rattle.rdf_terms.specs.Literal.{LiteralValue, Typed, Tagged, xsd_string, rdf_lang_string, is_same, is_language_tag, lexical_limit}
-use Rattle.rdf_terms.specs.Marks.{tab, space, quote, dot, less, greater, at_sign, hat}
+use Rattle.term_texts.specs.Tags.{is_language_tag}
+use Rattle.rdf_terms.specs.Literal.{LiteralValue, Typed, Tagged, xsd_string, rdf_lang_string, is_same, lexical_limit}
+use Rattle.term_texts.specs.Marks.{tab, space, quote, dot, less, greater, at_sign, hat}
 
 -- a space or a tab
 abbrev pub is_blank : ℕ → Bool

@@ -1,10 +1,8 @@
-pub mod Marks
 pub mod Literal
 pub mod LiteralView
 pub mod Spelling
 pub mod Order
 pub mod OrderLaws
-pub mod Compare
 pub mod TermFaults
 pub mod Kept
 pub mod Escapes

@@ -1,11 +1,11 @@
 -- Literals: a lexical form with a datatype other than rdf:langString, or with a language tag
 -- (RDF 1.1 Concepts section 3.3). Tags are kept in lower case.
-use Rattle.std.specs.Prelude.{◌≡◌, ℕ, List, [], ◌∷◌, Bool, true, false, ◌&&◌, ◌||◌, not, nat_le, nat_eq, ◌==◌, IsTrue, Option, Some, None, length, if◌then◌else◌, codes}
+use Rattle.std.specs.Prelude.{◌≡◌, ℕ, List, Bool, not, nat_le, nat_eq, IsTrue, Option, Some, None, length, codes}
 use Rattle.std.specs.Cmp.Lexicographic.{pointwise}
 use Rattle.std.specs.Str.{str_to_ascii_lowercase}
 use Rattle.rdf_terms.specs.declared.limits.TheConstants.{LEXICAL_LIMIT}
-use Rattle.rdf_terms.specs.Marks.{dash}
-use Rattle.iri_rules.specs.Iri.{is_letter, is_digit, is_absolute}
+use Rattle.iri_rules.specs.Iri.{is_absolute}
+use Rattle.term_texts.specs.Tags.{is_language_tag}
 
 -- a literal: a lexical form with its datatype, or a lexical form with its language tag
 pub data LiteralValue : Type 0 where
@@ -38,22 +38,6 @@ language_of (Tagged lexical tag) = Some tag
 -- two texts are the same
 abbrev pub is_same : List ℕ → List ℕ → Bool
 is_same = pointwise nat_eq
-
--- letters and digits, and `-` where letters or digits follow it
-abbrev pub is_subtags : Bool → List ℕ → Bool
-is_subtags full [] = full
-is_subtags full (byte ∷ bytes) =
-    if byte == dash then (full && is_subtags false bytes) else ((is_letter byte || is_digit byte) && is_subtags true bytes)
-
--- letters first, then subtags: the first part of a language tag has letters alone
-abbrev pub is_primary : Bool → List ℕ → Bool
-is_primary full [] = full
-is_primary full (byte ∷ bytes) =
-    if byte == dash then (full && is_subtags false bytes) else (is_letter byte && is_primary true bytes)
-
--- a language tag: letters, then any number of times `-` with letters or digits (N-Triples 1.1, LANGTAG)
-unfoldable pub is_language_tag : List ℕ → Bool
-is_language_tag text = is_primary false text
 
 -- how many bytes a lexical form has at most
 abbrev pub lexical_limit : ℕ

@@ -14,7 +14,7 @@ use Rattle.rdf_terms.specs.declared.terms.Triple.{Triple}
 use Rattle.rdf_terms.specs.Escapes.{is_hexadecimal, is_escape_letter, letter_value, is_plain_byte}
 use Rattle.rdf_terms.specs.Grammar.{is_blank}
 use Rattle.rdf_terms.specs.Literal.{Typed, Tagged, xsd_string, rdf_lang_string, is_same}
-use Rattle.rdf_terms.specs.Marks.{quote, dash, dot, colon, less, greater, at_sign, backslash, hat, capital_u, small_u}
+use Rattle.term_texts.specs.Marks.{quote, dash, dot, colon, less, greater, at_sign, backslash, hat, capital_u, small_u}
 
 -- ---- within a term
 

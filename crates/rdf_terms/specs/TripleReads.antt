@@ -10,14 +10,11 @@ use Rattle.rdf_terms.specs.declared.terms.Term.{Term}
 use Rattle.rdf_terms.specs.declared.terms.Term.TheVariants as terms
 use Rattle.rdf_terms.specs.Escapes.{is_hexadecimal}
 use Rattle.rdf_terms.specs.Grammar.{is_blank}
-use Rattle.rdf_terms.specs.Literal.{Tagged, is_language_tag}
-use Rattle.rdf_terms.specs.Marks.{less, backslash}
+use Rattle.term_texts.specs.BytePlaces.{HasByte, LacksByte}
+use Rattle.term_texts.specs.Tags.{is_language_tag}
+use Rattle.rdf_terms.specs.Literal.{Tagged}
+use Rattle.term_texts.specs.Marks.{less, backslash}
 use Rattle.rdf_terms.specs.TripleReading.{Slot, LexicalForm, Part, Between, State, Before, Within, Tag, Closed, Spelled, after_plain, closes, closed, with_letter, step, step_before, run, run_from, Leads, StopsAt}
-
--- a byte stands at a place of a text
-pub record HasByte (text : List ℕ) (place byte : ℕ) : Type 0 where
-  pub within : place < length text
-  pub here : drop place text ≡ byte ∷ drop (place + 1) text
 
 -- a hexadecimal digit of this value stands at a place
 abbrev pub HasDigit : List ℕ → ℕ → ℕ → Type 0
@@ -76,10 +73,6 @@ pub record PassesBlanks (text : List ℕ) (begin place : ℕ) : Type 0 where
   pub within : place ≤ length text
   pub leads : (state : State) → SkipsBlanks state → Leads text begin state place state
   pub stops : (byte : ℕ) → HasByte text place byte → is_blank byte ≡ false
-
--- no such byte stands at a place
-abbrev pub LacksByte : List ℕ → ℕ → ℕ → Type 0
-LacksByte text place mark = (length text ≤ place) ⊎ ((byte : ℕ) × HasByte text place byte × (byte ≢ mark))
 
 -- a mark was passed that had to stand at a place
 pub record PassesMark (text : List ℕ) (place mark next : ℕ) : Type 0 where

@@ -7,7 +7,8 @@ use Rattle.rdf_terms.specs.declared.terms.Term.TheVariants as terms
 use Rattle.rdf_terms.specs.declared.terms.Triple.{Triple}
 use Rattle.rdf_terms.specs.Grammar.{SpellsTriple, IsTripleWithin}
 use Rattle.rdf_terms.specs.Spelling.{triple_text}
-use Rattle.rdf_terms.specs.Literal.{LiteralValue, Typed, Tagged, rdf_lang_string, is_same, is_language_tag}
+use Rattle.term_texts.specs.Tags.{is_language_tag}
+use Rattle.rdf_terms.specs.Literal.{LiteralValue, Typed, Tagged, rdf_lang_string, is_same}
 
 -- a term that keeps what terms keep, of any length
 abbrev pub IsWritableTerm : Term → Type 0

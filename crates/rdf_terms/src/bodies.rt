@@ -6,10 +6,10 @@ ghost use Rattle.rdf_terms.specs.TripleReads.{PassesPlain, IsBody, StopsWithin};
 
 use crate::escapes::read_escape;
 use crate::faults::TripleFault;
-use crate::places::byte_at;
 use crate::spots::Spot;
 use iri_rules::Text;
 use std::alloc::Global;
+use term_texts::byte_at;
 
 /// Passes bytes that stand for themselves: the place of the first other byte, or of the end, and where that one stands.
 fn pass_plain(text: &str, at: usize, spot: Spot) -> (usize, Spot)

@@ -6,8 +6,8 @@ ghost use Rattle.rdf_terms.specs.TripleReading.{Behind, Digits, may_begin};
 ghost use Rattle.rdf_terms.specs.TripleReads.{HasDigit, HasNoDigit, HasLetter, HasNoLetter, IsEscape, StopsBehind};
 
 use crate::faults::TripleFault;
-use crate::places::byte_at;
 use crate::spots::Spot;
+use term_texts::byte_at;
 
 /// An escape that was read: its character, where the next one stands, and the place behind it.
 #[derive(Clone, Copy, Debug)]

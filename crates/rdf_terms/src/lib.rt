@@ -2,27 +2,22 @@
 #![tactic(auto)]
 
 mod bodies;
-mod compare;
 mod escapes;
 mod faults;
 mod kept;
 mod laws;
 mod limits;
 mod order;
-mod places;
 mod read;
 mod spots;
-mod tags;
 mod terms;
 mod triples;
 mod write;
 
-pub use compare::common_len;
 pub use faults::{TermFault, TripleFault};
 pub use laws::{one_place, one_triple, written_again};
 pub use limits::LEXICAL_LIMIT;
 pub use order::{cmp_iris, cmp_terms, cmp_triples, order_is_total};
-pub use tags::is_language_tag;
 pub use terms::{Iri, Literal, Term, Triple};
 pub use triples::read_triple;
 pub use write::write_triple;

@@ -6,18 +6,18 @@ ghost use Rattle.rdf_terms.specs.declared.spots.Spot.TheVariants.{Lexical};
 ghost use Rattle.rdf_terms.specs.Grammar.{is_blank};
 ghost use Rattle.rdf_terms.specs.Parts.{object_value, triple_value};
 ghost use Rattle.rdf_terms.specs.TripleReading.{Slot, Subject, Object, LexicalForm, Within, Between, Before, Quoted, Hat, Tag, Closed, Spelled, run, StopsAt};
-ghost use Rattle.rdf_terms.specs.TripleReads.{HasByte, PassesBlanks, PassesMark, MissesMark, TakesIri, NeedsIri, IsIri, IsTagEnd, EndsTag, IsObject, StopsObject, ReadsEnd};
+ghost use Rattle.term_texts.specs.BytePlaces.{HasByte};
+ghost use Rattle.rdf_terms.specs.TripleReads.{PassesBlanks, PassesMark, MissesMark, TakesIri, NeedsIri, IsIri, IsTagEnd, EndsTag, IsObject, StopsObject, ReadsEnd};
 ghost use Rattle.rdf_terms.specs.declared.terms.Term.{Term};
 
 use crate::bodies::read_body;
 use crate::faults::TripleFault;
-use crate::places::has_byte;
 use crate::spots::Spot;
-use crate::tags::lower_tag;
 use crate::terms::is_lang_string;
 use iri_rules::Text;
 use iri_rules::characters::{is_digit, is_letter};
 use std::alloc::Global;
+use term_texts::{has_byte, lower_tag};
 
 /// An object that was read, of any lengths: an IRI, a lexical form that names no datatype, one with its datatype, or one
 /// with its tag in lower case.

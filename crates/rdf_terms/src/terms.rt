@@ -4,10 +4,10 @@ ghost use Rattle.rdf_terms.specs.Literal.{is_same, rdf_lang_string, xsd_string};
 
 use crate::faults::TermFault;
 use crate::limits::LEXICAL_LIMIT;
-use crate::tags::{is_language_tag, lower_tag};
 use iri_rules::{Text, is_absolute};
 use std::alloc::{AllocError, Global};
 use std::marker::Model;
+use term_texts::{is_language_tag, lower_tag};
 
 /// An absolute IRI of at most 2,048 bytes.
 #[derive(Debug, Drop)]
@@ -161,7 +161,8 @@ impl Literal {
     ghost use Rattle.std.specs.Str.{str_to_ascii_lowercase};
     ghost use Rattle.rdf_terms.specs.TermFaults.{MayRefuseTyped, MayRefuseTagged};
     ghost use Rattle.std.specs.Option.{option_copied};
-    ghost use Rattle.rdf_terms.specs.Literal.{Typed, Tagged, IsLiteral, lexical_form, datatype_of, language_of, is_same, xsd_string, rdf_lang_string, is_language_tag, lexical_limit};
+    ghost use Rattle.term_texts.specs.Tags.{is_language_tag};
+    ghost use Rattle.rdf_terms.specs.Literal.{Typed, Tagged, IsLiteral, lexical_form, datatype_of, language_of, is_same, xsd_string, rdf_lang_string, lexical_limit};
 
     /// The literal of a lexical form and a datatype, refused with `BadType` where the datatype is rdf:langString,
     /// else with `TooLong` where the lexical form has more than 1,048,576 bytes.
@@ -188,7 +189,7 @@ impl Literal {
 
     /// The literal of a lexical form and a language tag, which it keeps in lower case, refused with `BadTag`
     /// where the text is no language tag, else with `TooLong` where the lexical form has more than 1,048,576 bytes.
-    #[tactic(auto, using(crate::proofs::TagLemmas::lower_lower, crate::proofs::TagLemmas::lower_tag))]
+    #[tactic(auto, using(term_texts::proofs::TagLemmas::lower_lower, term_texts::proofs::TagLemmas::lower_tag))]
     pub fn tagged(alloc: Global, lexical: &str, tag: &str) -> Result<Literal, TermFault>
         ensures ok { IfOk result (λ literal. literal ≡ Tagged lexical.now (str_to_ascii_lowercase tag.now)) }
         ensures bad_tag { IsErrOf result TermFault.BadTag ↔ IsTrue (not (is_language_tag tag.now)) }

@@ -2,10 +2,10 @@
 #![tactic(auto, using(std::proofs::lemmas::Grind::common_steps, crate::proofs::Appending::keeps_same, crate::proofs::Appending::keeps_more, crate::proofs::Appending::keeps_further, crate::proofs::Comparing::literal_parts))]
 
 ghost use Rattle.std.specs.Prelude.{◌≡◌, [], ◌∷◌, ◌++◌, OnOk, OnErr, MatchOption};
-ghost use Rattle.rdf_terms.specs.Compare.{suffix_text};
+ghost use Rattle.rdf_terms.specs.Spelling.{suffix_text, iri_text, datatype_text, literal_text, term_text, triple_text};
 ghost use Rattle.rdf_terms.specs.Kept.{KeepsStart};
-ghost use Rattle.rdf_terms.specs.Marks.{space, backslash};
-ghost use Rattle.rdf_terms.specs.Spelling.{iri_text, escaped, escaped_byte, datatype_text, literal_text, term_text, triple_text};
+ghost use Rattle.term_texts.specs.Marks.{space, backslash};
+ghost use Rattle.term_texts.specs.Escaped.{escaped, escaped_byte};
 
 use crate::terms::{Iri, Kind, Literal, Term, Triple, is_string_type};
 use std::alloc::AllocError;

@@ -1,6 +1,6 @@
 -- The bytes of a schedule and of its replies that stand alone, by name: a space stands between the parts of a line, and LF ends it.
 use Rattle.std.specs.Prelude.{ℕ}
-pub use Rattle.rdf_terms.specs.Marks.{space, line_feed as line_end}
+pub use Rattle.term_texts.specs.Marks.{space, line_feed as line_end}
 
 -- `#`, with which a comment begins
 abbrev pub hash_mark : ℕ

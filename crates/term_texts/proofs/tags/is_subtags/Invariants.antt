@@ -1,6 +1,6 @@
 use Rattle.std.proofs.Common.{◌≡◌, drop, false}
-use Rattle.rdf_terms.specs.Literal.{is_subtags}
-use Rattle.rdf_terms.proofs.tags.is_subtags.Given as goal
+use Rattle.term_texts.specs.Tags.{is_subtags}
+use Rattle.term_texts.proofs.tags.is_subtags.Given as goal
 
 -- what is left decides, given whether a letter or a digit stands before it
 abbrev pub invariant-loop-byte : goal.invariant-loop-byte

@@ -1,6 +1,6 @@
 use Rattle.std.proofs.Common.{◌≡◌, drop, false}
-use Rattle.rdf_terms.specs.Literal.{is_primary}
-use Rattle.rdf_terms.proofs.tags.is_language_tag.Given as goal
+use Rattle.term_texts.specs.Tags.{is_primary}
+use Rattle.term_texts.proofs.tags.is_language_tag.Given as goal
 
 -- what is left decides, given whether a letter stands before it
 abbrev pub invariant-loop-i : goal.invariant-loop-i

@@ -1,6 +1,6 @@
 //! Bytes at places of a text.
 ghost use Rattle.std.specs.Prelude.{◌≡◌, ◌≤◌, MatchBool, MatchOption, length};
-ghost use Rattle.rdf_terms.specs.TripleReads.{HasByte, LacksByte};
+ghost use Rattle.term_texts.specs.BytePlaces.{HasByte, LacksByte};
 
 /// The byte at a place, if the text doesn't end there.
 pub fn byte_at(text: &str, place: usize) -> Option<u8>

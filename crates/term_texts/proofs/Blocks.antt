@@ -6,7 +6,7 @@ use Rattle.std.proofs.lemmas.Simd.{length-zip2, tops_compared, mask_l-mod, leadi
 use Rattle.std.specs.List.{prefix_len}
 use lib.Count.{count_trailing_zeros}
 use lib.Lanes.{zip2, mask_l, top}
-use Rattle.rdf_terms.specs.Compare.{common}
+use Rattle.term_texts.specs.Compare.{common}
 
 -- no more than either text has
 pub common_within : (xs ys : List ℕ) → (common xs ys ≤ length xs) × (common xs ys ≤ length ys)

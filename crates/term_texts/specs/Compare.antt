@@ -1,9 +1,6 @@
 -- How written forms are compared without being written: the first place where two texts differ decides.
 use Rattle.std.specs.Prelude.{ℕ, suc, zero, List, [], ◌∷◌, ◌*◌, ◌==◌, if◌then◌else◌}
-use Rattle.rdf_terms.specs.declared.terms.Kind.{Kind}
-use Rattle.rdf_terms.specs.declared.terms.Kind.TheVariants.{Plain, Datatype, Language}
-use Rattle.rdf_terms.specs.Marks.{line_feed, carriage_return, quote, at_sign, backslash}
-use Rattle.rdf_terms.specs.Spelling.{datatype_text}
+use Rattle.term_texts.specs.Marks.{line_feed, carriage_return, quote, backslash}
 
 -- how many bytes two texts have in common from their starts
 abbrev pub common : List ℕ → List ℕ → ℕ
@@ -24,9 +21,3 @@ abbrev pub rank_at : List ℕ → ℕ → ℕ
 rank_at [] place = 8704
 rank_at (byte ∷ bytes) zero = rank byte
 rank_at (byte ∷ bytes) (suc place) = rank_at bytes place
-
--- what is written behind the quotes of a literal
-abbrev pub suffix_text : Kind → List ℕ
-suffix_text Plain = []
-suffix_text (Datatype iri) = datatype_text iri
-suffix_text (Language tag) = at_sign ∷ tag

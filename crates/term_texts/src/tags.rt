@@ -1,7 +1,7 @@
 //! Language tags (N-Triples 1.1, LANGTAG).
 ghost use Rattle.std.specs.Prelude.{◌≡◌, IfOk, IsTrue, false};
 ghost use Rattle.std.specs.Str.{str_to_ascii_lowercase};
-ghost use Rattle.rdf_terms.specs.Literal.{is_subtags, is_primary, is_language_tag};
+ghost use Rattle.term_texts.specs.Tags.{is_subtags, is_primary, is_language_tag};
 
 use iri_rules::Text;
 use iri_rules::characters::{is_digit, is_letter};
@@ -28,7 +28,7 @@ fn is_subtags(text: &[u8]) -> bool
 }
 
 /// Whether a text is a language tag, without the `@`.
-#[tactic(auto, unfolding(crate::specs::Literal::is_language_tag))]
+#[tactic(auto, unfolding(crate::specs::Tags::is_language_tag))]
 pub fn is_language_tag(text: &str) -> bool
     ensures { result ≡ is_language_tag text.now }
 {

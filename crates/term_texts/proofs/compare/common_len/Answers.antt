@@ -1,7 +1,7 @@
 -- Blocks are passed until one differs, or until the last.
 use Rattle.std.proofs.Common.{◌-◌, arith}
-use Rattle.rdf_terms.proofs.Blocks.{common_within, common_passed, common_found, common_last}
-use Rattle.rdf_terms.proofs.compare.common_len.Goals as goal
+use Rattle.term_texts.proofs.Blocks.{common_within, common_passed, common_found, common_last}
+use Rattle.term_texts.proofs.compare.common_len.Goals as goal
 
 pub loop-passed-init : goal.loop-passed-init
 loop-passed-init c = omega arith

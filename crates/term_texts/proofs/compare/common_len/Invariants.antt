@@ -1,6 +1,6 @@
 use Rattle.std.proofs.Common.{◌-◌, ◌≤◌}
-use Rattle.rdf_terms.specs.Compare.{common}
-use Rattle.rdf_terms.proofs.compare.common_len.Given as goal
+use Rattle.term_texts.specs.Compare.{common}
+use Rattle.term_texts.proofs.compare.common_len.Given as goal
 
 -- what is passed the texts have in common
 abbrev pub invariant-loop-passed : goal.invariant-loop-passed

@@ -1,8 +1,8 @@
 -- What the mask of two blocks tells.
 use Rattle.std.proofs.Common.{take, drop, arith}
 use Rattle.std.proofs.lemmas.Simd.{length-chunk}
-use Rattle.rdf_terms.proofs.Blocks.{none_differs, first_differs}
-use Rattle.rdf_terms.proofs.compare.common_lanes.Goals as goal
+use Rattle.term_texts.proofs.Blocks.{none_differs, first_differs}
+use Rattle.term_texts.proofs.compare.common_lanes.Goals as goal
 
 pub returns-then-unequal-eq0 : goal.returns-then-unequal-eq0
 returns-then-unequal-eq0 c =

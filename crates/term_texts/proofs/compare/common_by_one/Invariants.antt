@@ -1,6 +1,6 @@
 use Rattle.std.proofs.Common.{◌≡◌, ◌+◌, drop}
-use Rattle.rdf_terms.specs.Compare.{common}
-use Rattle.rdf_terms.proofs.compare.common_by_one.Given as goal
+use Rattle.term_texts.specs.Compare.{common}
+use Rattle.term_texts.proofs.compare.common_by_one.Given as goal
 
 -- what the texts have in common is what was passed, and what their rests have in common
 abbrev pub invariant-loop-i : goal.invariant-loop-i

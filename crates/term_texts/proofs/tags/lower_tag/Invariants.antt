@@ -1,7 +1,7 @@
 use Rattle.std.proofs.Common.{◌≡◌, take}
 use Rattle.std.specs.Str.{str_to_ascii_lowercase}
 use Rattle.std.specs.String.{string_bytes}
-use Rattle.rdf_terms.proofs.tags.lower_tag.Given as goal
+use Rattle.term_texts.proofs.tags.lower_tag.Given as goal
 
 -- what is written so far is the front in lower case
 abbrev pub invariant-loop-byte : goal.invariant-loop-byte

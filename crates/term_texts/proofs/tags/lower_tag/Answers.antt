@@ -2,8 +2,8 @@ use Rattle.std.proofs.Common.{◌≡◌, ◌<◌, [], ◌∷◌, ◌++◌, lengt
 use Rattle.std.specs.Char.{to_ascii_lowercase}
 use Rattle.std.proofs.lemmas.List.{map_more}
 use Rattle.std.proofs.lemmas.Str.Ascii.{lowercase_ascii}
-use Rattle.rdf_terms.proofs.TagLemmas.{tag_small}
-use Rattle.rdf_terms.proofs.tags.lower_tag.Goals as goal
+use Rattle.term_texts.proofs.TagLemmas.{tag_small}
+use Rattle.term_texts.proofs.tags.lower_tag.Goals as goal
 
 pub loop-byte-preserved : goal.loop-byte-preserved
 loop-byte-preserved c =

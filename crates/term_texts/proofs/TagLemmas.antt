@@ -6,7 +6,7 @@ use Rattle.std.proofs.lemmas.Str.Ascii.{lowercase-lowercase}
 use Rattle.std.proofs.lemmas.Bool.Decides.{nat_tests}
 use Rattle.std.proofs.lemmas.Bool.{and_parts, cases_Bool}
 use Rattle.iri_rules.specs.Iri.{is_letter, is_digit}
-use Rattle.rdf_terms.specs.Literal.{is_subtags, is_primary, is_language_tag}
+use Rattle.term_texts.specs.Tags.{is_subtags, is_primary, is_language_tag}
 
 -- lower case is in lower case
 pub lower_lower : (tag : List ℕ) → str_to_ascii_lowercase (str_to_ascii_lowercase tag) ≡ str_to_ascii_lowercase tag

@@ -2,9 +2,9 @@
 ghost use Rattle.std.specs.Prelude.{◌≡◌, ℕ, ◌+◌, ◌≤◌, List, [], ◌∷◌, ◌++◌, take, drop, length, slice_index_or};
 ghost use Rattle.std.specs.Cmp.Lexicographic.{slice_cmp};
 ghost use Rattle.std.specs.Ordering.{nat_cmp, ordering_then};
-ghost use Rattle.rdf_terms.specs.Compare.{common, rank, rank_at};
-ghost use Rattle.rdf_terms.specs.Marks.{quote, greater};
-ghost use Rattle.rdf_terms.specs.Spelling.{escaped};
+ghost use Rattle.term_texts.specs.Compare.{common, rank, rank_at};
+ghost use Rattle.term_texts.specs.Marks.{quote, greater};
+ghost use Rattle.term_texts.specs.Escaped.{escaped};
 
 use std::cmp::Ordering;
 use std::simd::prelude::*;
@@ -89,7 +89,7 @@ fn rank_at(text: &[u8], place: usize) -> u32
 }
 
 /// Compares two lexical forms as they are written, with their closing quotes.
-#[tactic(auto, using(crate::specs::OrderLaws::escaped_cmp))]
+#[tactic(auto, using(crate::specs::CompareLaws::escaped_cmp))]
 pub fn cmp_escaped(a: &[u8], b: &[u8]) -> Ordering
     ensures { (u v : List ℕ)
         → slice_cmp nat_cmp (escaped a.now ++ quote ∷ u) (escaped b.now ++ quote ∷ v)
@@ -100,7 +100,7 @@ pub fn cmp_escaped(a: &[u8], b: &[u8]) -> Ordering
 }
 
 /// Compares two texts that both go on with `>` and end there.
-#[tactic(auto, using(crate::specs::OrderLaws::ended_cmp))]
+#[tactic(auto, using(crate::specs::CompareLaws::ended_cmp))]
 pub fn cmp_closed(a: &[u8], b: &[u8]) -> Ordering
     ensures { result ≡ slice_cmp nat_cmp (a.now ++ greater ∷ []) (b.now ++ greater ∷ []) }
 {
