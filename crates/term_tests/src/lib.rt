@@ -1,4 +1,4 @@
-//! Tests of IRIs, terms and triples, through their public calls. They stand in a crate of their own, so that those crates aren't
+//! Tests of IRIs, texts, terms and triples, through their public calls. They stand in a crate of their own, so that those crates aren't
 //! proved a second time with their tests.
 #![tactic(auto)]
 
@@ -10,5 +10,7 @@ mod places;
 mod references;
 #[cfg(test)]
 mod terms;
+#[cfg(test)]
+mod texts;
 #[cfg(test)]
 mod triples;
