@@ -6,6 +6,7 @@ pub mod Halving
 pub mod Hinting
 pub mod Sharing
 pub mod Splitting
+pub mod Topping
 pub mod Standing
 pub mod Between
 pub mod Closing

@@ -1,5 +1,5 @@
 -- Lists that a test divides.
-use Rattle.std.proofs.Common.{◌≡◌, List, [], ◌∷◌, ◌++◌, Bool, true, false, get_or, suc, zero, refl, sym, subst, ap, ◌∙◌, inl, inr, arith}
+use Rattle.std.proofs.Common.{◌≡◌, List, [], ◌∷◌, ◌++◌, Bool, true, false, get_or, length, ◌<◌, ℕ, suc, zero, refl, sym, subst, ap, ◌∙◌, inl, inr, arith}
 use Rattle.std.proofs.lemmas.Bool.{cases_Bool, true≢false, false≢true}
 use Rattle.std.specs.Cmp.{IsTotalOrder}
 use Rattle.std.specs.List.{AllByRecursion}
@@ -9,9 +9,9 @@ use Rattle.std.specs.declared.cmp.Ordering.{Ordering}
 use Rattle.std.specs.declared.cmp.Ordering.TheVariants.{Less, Equal, Greater}
 use Rattle.tree_clock.specs.Lists.{Has, IsAscending}
 use Rattle.mld_ops.proofs.AscendingLaws.{below_member, has_left, has_right, has_at}
-use Rattle.chunked_list.specs.Joined.{joined_chunks, first_passes}
+use Rattle.chunked_list.specs.Joined.{joined_chunks, chunk_at, first_passes}
 use Rattle.chunked_list.specs.Parted.{IsParted}
-use Rattle.chunked_list.specs.Stores.{AreSized}
+use Rattle.chunked_list.specs.Stores.{IsSized, AreSized}
 
 -- what holds of each element holds of each member, and back
 pub all_has : {X : Type 0} (P : X → Type 0) (xs : List X) (x : X) → AllByRecursion P xs → Has xs x → P x
@@ -60,16 +60,17 @@ partitioned p (x ∷ xs) h (suc i) zero d l m t = absurd (omega (arith, l))
 partitioned p (x ∷ xs) h (suc i) (suc j) d l m t = partitioned p xs h.1 i j d (omega (arith, l)) (omega (arith, m)) t
 
 -- the first elements of the chunks of a divided list are divided too
-heads_fail : {X : Type 0} (p : X → Bool) (chunks : List (List X)) → ((y : X) → Has (joined_chunks chunks) y → p y ≡ false) → AllByRecursion (λ chunk. first_passes p chunk ≡ false) chunks
-heads_fail p [] h = tt
-heads_fail p ([] ∷ chunks) h = (refl, heads_fail p chunks h)
-heads_fail p ((x ∷ xs) ∷ chunks) h = (h x (inl refl), heads_fail p chunks (λ y k. h y (has_right (x ∷ xs) (joined_chunks chunks) y k)))
+heads_fail : {X : Type 0} (p : X → Bool) (chunks : List (List X)) → AreSized chunks → ((y : X) → Has (joined_chunks chunks) y → p y ≡ false)
+    → AllByRecursion (λ chunk. first_passes p chunk ≡ false) chunks
+heads_fail p [] a h = tt
+heads_fail p ([] ∷ chunks) a h = absurd (omega (arith, a.0.0))
+heads_fail p ((x ∷ xs) ∷ chunks) a h = (h x (inl refl), heads_fail p chunks a.1 (λ y k. h y (has_right (x ∷ xs) (joined_chunks chunks) y k)))
 
 pub heads_parted : {X : Type 0} (p : X → Bool) (chunks : List (List X)) → AreSized chunks → IsParted p (joined_chunks chunks) → IsParted (first_passes p) chunks
 heads_parted p [] a h = tt
 heads_parted p ([] ∷ chunks) a h = absurd (omega (arith, a.0.0))
 heads_parted p ((x ∷ xs) ∷ chunks) a h = (
-  λ e. heads_fail p chunks (λ y k. all_has (λ w. p w ≡ false) (xs ++ joined_chunks chunks) y (h.0 e) (has_right xs (joined_chunks chunks) y k)),
+  λ e. heads_fail p chunks a.1 (λ y k. all_has (λ w. p w ≡ false) (xs ++ joined_chunks chunks) y (h.0 e) (has_right xs (joined_chunks chunks) y k)),
   heads_parted p chunks a.1 (parted_right p (x ∷ xs) (joined_chunks chunks) h),
 )
 
@@ -82,9 +83,15 @@ none_passes p ((y ∷ ys) ∷ chunks) x a h f (inl e) = subst (λ w. p w ≡ fal
 none_passes p ((y ∷ ys) ∷ chunks) x a h f (inr k) = all_has (λ w. p w ≡ false) (ys ++ joined_chunks chunks) x (h.0 (f (y ∷ ys) (inl refl))) k
 
 -- a chunk whose first element passes has one that does
-pub head_has : {X : Type 0} (p : X → Bool) (chunk : List X) → first_passes p chunk ≡ true → (x : X) × Has chunk x × (p x ≡ true)
-head_has p [] h = absurd (false≢true h)
-head_has p (x ∷ xs) h = (x, inl refl, h)
+pub head_has : {X : Type 0} (p : X → Bool) (chunk : List X) → IsSized chunk → first_passes p chunk ≡ true → (x : X) × Has chunk x × (p x ≡ true)
+head_has p [] s h = absurd (omega (arith, s.0))
+head_has p (x ∷ xs) s h = (x, inl refl, h)
+
+-- a chunk of the list
+pub sized_at : {X : Type 0} (chunks : List (List X)) (c : ℕ) → c < length chunks → AreSized chunks → IsSized (chunk_at chunks c)
+sized_at [] c l a = absurd (omega (arith, l))
+sized_at (x ∷ xs) zero l a = a.0
+sized_at (x ∷ xs) (suc c) l a = sized_at xs c (omega (arith, l)) a.1
 
 -- an ascending list is divided by whether its elements are below one
 module _ {X : Type 0} (R : X → X → Ordering) (total : IsTotalOrder R) where

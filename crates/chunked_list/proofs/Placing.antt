@@ -8,7 +8,7 @@ use Rattle.chunked_list.specs.Joined.{joined_chunks, chunk_at, front_of, back_of
 use Rattle.chunked_list.proofs.JoinedLaws.{joined_append}
 use Rattle.chunked_list.specs.Parted.{IsParted, Divides}
 use Rattle.chunked_list.specs.Stores.{AreSized}
-use Rattle.chunked_list.proofs.Parting.{parted_before, parted_right, none_passes, head_has}
+use Rattle.chunked_list.proofs.Parting.{parted_before, parted_right, none_passes, head_has, sized_at}
 
 -- the list at one of its chunks
 pub at_chunk : {X : Type 0} (chunks : List (List X)) (c : ℕ) → c < length chunks → chunks ≡ take c chunks ++ chunk_at chunks c ∷ drop (c + 1) chunks
@@ -98,7 +98,7 @@ module _ {X : Type 0} (p : X → Bool) (chunks : List (List X)) (a : AreSized ch
   divides (suc b) c at e l heads point = record {
     front = λ x k. elim (has_append (joined_chunks (take c chunks)) (take at (chunk_at chunks c)) x k) [
       | inl m ↦
-          let q = head_has p (chunk_at chunks c) (heads.0 c [] (omega arith) (omega (arith, e))) in
+          let q = head_has p (chunk_at chunks c) (sized_at chunks c l a) (heads.0 c [] (omega arith) (omega (arith, e))) in
           parted_before p (joined_chunks (take c chunks)) (chunk_at chunks c ++ joined_chunks (drop (c + 1) chunks)) x q.0 (subst (IsParted p) (joined_at chunks c l) h)
           (has_left (chunk_at chunks c) (joined_chunks (drop (c + 1) chunks)) q.0 q.1) q.2 m
       | inr m ↦ within_front (λ y. p y ≡ true) (chunk_at chunks c) at x point.0 m

@@ -1,10 +1,12 @@
 -- Elements that share their texts up to a mark, and their hints.
-use Rattle.std.proofs.Common.{◌≡◌, ◌∙◌, ℕ, suc, zero, ◌+◌, ◌<◌, ◌≤◌, List, [], ◌∷◌, ◌++◌, Some, None, length, get_or, map, min, take, drop, is_some, unwrap_or, slice_get, insert, remove, refl, sym, subst, ap, inl, inr, arith}
+use Rattle.std.proofs.Common.{◌≡◌, ◌∙◌, ℕ, suc, zero, ◌+◌, ◌<◌, ◌≤◌, List, [], ◌∷◌, ◌++◌, Some, None, length, get_or, map, min, take, drop, is_some, unwrap_or, slice_get, insert, remove, set, ◌⊎◌, refl, sym, subst, ap, inl, inr, arith}
 use Rattle.std.proofs.lemmas.Bool.{true≢false, false≢true}
-use Rattle.std.proofs.lemmas.List.{map-append, take-map, drop-map, get_or-map, take-append-drop}
+use Rattle.std.proofs.Math.Seq.{map-set_same}
+use Rattle.std.proofs.lemmas.List.{length-map, map-append, map-set, take-map, drop-map, get_or-map, take-append-drop}
 use Rattle.tree_clock.specs.Lists.{Has}
-use Rattle.mld_ops.proofs.AscendingLaws.{has_append, has_left, has_right, has_insert, has_take_more}
+use Rattle.mld_ops.proofs.AscendingLaws.{has_append, has_at, has_left, has_right, has_insert, has_take_more}
 use Rattle.chunked_list.specs.Hinted.{AreHinted, ShareText, hint_of}
+use Rattle.chunked_list.specs.Leading.{leading}
 
 -- what two texts share, they share up to each place before
 pub same_before : (m n : ℕ) (a b : List ℕ) → m ≤ n → take n a ≡ take n b → take m a ≡ take m b
@@ -46,6 +48,16 @@ pub has_rest : {X : Type 0} (i : ℕ) (xs : List X) (x : X) → Has (remove xs i
 has_rest i xs x h = elim (has_append (take i xs) (drop (suc i) xs) x h) [
   | inl k ↦ has_front i xs x k
   | inr k ↦ has_back (suc i) xs x k
+]
+
+has_set : {X : Type 0} (xs : List X) (i : ℕ) (x y : X) → Has (set xs i x) y → Has xs y ⊎ (x ≡ y)
+has_set [] i x y h = absurd h
+has_set (z ∷ zs) zero x y (inl e) = inr e
+has_set (z ∷ zs) zero x y (inr k) = inl (inr k)
+has_set (z ∷ zs) (suc i) x y (inl e) = inl (inl e)
+has_set (z ∷ zs) (suc i) x y (inr k) = elim (has_set zs i x y k) [
+  | inl m ↦ inl (inr m)
+  | inr m ↦ inr m
 ]
 
 module _ {X : Type 0} (key : X → List ℕ) where
@@ -132,3 +144,33 @@ module _ {X : Type 0} (key : X → List ℕ) where
   pub hint_at : (mark at : ℕ) (xs : List X) (numbers : List ℕ) (hint : ℕ) (d : X) → AreHinted key mark xs numbers → at < length xs → hint ≡ get_or numbers at hint → hint ≡ hint_of key mark (get_or xs at d)
   hint_at mark at xs numbers hint d h l e =
       e ∙ ap (λ ns. get_or ns at hint) h.each ∙ get_or-map (hint_of key mark) xs at d hint l
+
+  -- another element stands in place of one
+  pub set_hinted : (mark at : ℕ) (xs : List X) (numbers : List ℕ) (x : X) (hint : ℕ) → AreHinted key mark xs numbers
+      → ((y : X) → Has xs y → take mark (key y) ≡ take mark (key x)) → hint ≡ hint_of key mark x → AreHinted key mark (set xs at x) (set numbers at hint)
+  set_hinted mark at xs numbers x hint h s e = record {
+    shared = shared_from_one mark (set xs at x) x (λ y k. with_new y (has_set xs at x y k));
+    each = ap (λ n. set numbers at n) e ∙ ap (λ ns. set ns at (hint_of key mark x)) h.each ∙ sym (map-set (hint_of key mark) xs at x);
+  }
+    where
+      with_new : (y : X) → (Has xs y ⊎ (x ≡ y)) → take mark (key x) ≡ take mark (key y)
+      with_new y (inl m) = sym (s y m)
+      with_new y (inr m) = ap (λ w. take mark (key w)) m
+
+  -- another one of its text
+  pub set_same : (mark at : ℕ) (xs : List X) (numbers : List ℕ) (x d : X) → AreHinted key mark xs numbers → at < length xs → key x ≡ key (get_or xs at d) → AreHinted key mark (set xs at x) numbers
+  set_same mark at xs numbers x d h l e = record {
+    shared = λ y z j k. shared_as_one (stands y (has_set xs at x y j)) (stands z (has_set xs at x z k));
+    each = h.each ∙ sym (map-set_same (hint_of key mark) xs at x d (ap (λ text. leading 8 (drop mark text)) e));
+  }
+    where
+      stands : (y : X) → (Has xs y ⊎ (x ≡ y)) → (w : X) × Has xs w × (key w ≡ key y)
+      stands y (inl m) = (y, m, refl)
+      stands y (inr m) = (get_or xs at d, has_at xs at d l, sym e ∙ ap key m)
+
+      shared_as_one : {y z : X} → ((w : X) × Has xs w × (key w ≡ key y)) → ((w : X) × Has xs w × (key w ≡ key z)) → take mark (key y) ≡ take mark (key z)
+      shared_as_one v w = ap (take mark) (sym v.2) ∙ h.shared v.0 w.0 v.1 w.1 ∙ ap (take mark) w.2
+
+  -- as many hints as elements
+  pub hinted_length : (mark : ℕ) (xs : List X) (numbers : List ℕ) → AreHinted key mark xs numbers → length numbers ≡ length xs
+  hinted_length mark xs numbers h = ap length h.each ∙ length-map xs (hint_of key mark)

@@ -6,6 +6,7 @@ use Rattle.chunked_list.specs.ChunkLimits.{chunk_limit, half_limit}
 use Rattle.chunked_list.specs.Joined.{joined_chunks, chunk_at, front_of, back_of}
 use Rattle.chunked_list.specs.Room.{excess_of, load_of, room_of}
 use Rattle.chunked_list.specs.Stores.{IsSized, AreSized}
+use Rattle.chunked_list.proofs.Parting.{sized_at}
 
 step : (c : ℕ) → suc c + 1 ≡ suc (c + 1)
 step c = omega arith
@@ -34,11 +35,6 @@ pub sized_set : {X : Type 0} (chunks : List (List X)) (c : ℕ) (v : List X) →
 sized_set [] c v a s = tt
 sized_set (x ∷ xs) zero v a s = (s, a.1)
 sized_set (x ∷ xs) (suc c) v a s = (a.0, sized_set xs c v a.1 s)
-
-pub sized_at : {X : Type 0} (chunks : List (List X)) (c : ℕ) → c < length chunks → AreSized chunks → IsSized (chunk_at chunks c)
-sized_at [] c l a = absurd (omega (arith, l))
-sized_at (x ∷ xs) zero l a = a.0
-sized_at (x ∷ xs) (suc c) l a = sized_at xs c (omega (arith, l)) a.1
 
 pub load_is : {X : Type 0} (chunks : List (List X)) → 0 < length chunks → load_of chunks ≡ excess_of chunks
 load_is [] l = absurd (omega (arith, l))

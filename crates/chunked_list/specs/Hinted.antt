@@ -1,8 +1,7 @@
--- Numbers that stand beside the elements of a chunk.
-use Rattle.std.specs.Prelude.{◌≡◌, ℕ, ◌≤◌, List, map, take, drop, vec_capacity}
+-- Numbers that stand beside the elements of a list, and tell of their texts.
+use Rattle.std.specs.Prelude.{◌≡◌, ℕ, zero, suc, List, [], ◌∷◌, map, take, drop}
 use Rattle.tree_clock.specs.Lists.{Has}
 use Rattle.chunked_list.specs.declared.hints.Hints.{Hints}
-use Rattle.chunked_list.specs.ChunkLimits.{chunk_limit}
 use Rattle.chunked_list.specs.Leading.{leading}
 
 -- what an element's text has behind the mark: its first bytes, as a number
@@ -18,7 +17,16 @@ pub record AreHinted {X : Type 0} (key : X → List ℕ) (mark : ℕ) (elements 
   pub shared : ShareText key mark elements
   pub each : numbers ≡ map (hint_of key mark) elements
 
--- what the hints of a chunk keep
-pub record IsHinted {X : Type 0} (key : X → List ℕ) (elements : List X) (hints : Hints) : Type 0 where
-  pub hinted : AreHinted key hints.mark elements hints.numbers.items
-  pub room : chunk_limit ≤ vec_capacity hints.numbers
+-- the hints are those of the elements
+abbrev pub IsHinted : {X : Type 0} → (X → List ℕ) → List X → Hints → Type 0
+IsHinted key elements hints = AreHinted key hints.mark elements hints.numbers.items
+
+-- the text of a chunk: that of its first element
+abbrev pub top_key : {X : Type 0} → (X → List ℕ) → List X → List ℕ
+top_key key [] = []
+top_key key (x ∷ xs) = key x
+
+-- that of its first element behind an edit at a place, which brings an element to the front, where that is the place
+abbrev pub top_after : {X : Type 0} → (X → List ℕ) → List X → ℕ → X → List ℕ
+top_after key chunk zero x = key x
+top_after key chunk (suc at) x = top_key key chunk

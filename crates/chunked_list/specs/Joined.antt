@@ -1,5 +1,5 @@
 -- A list in chunks, and a place in it.
-use Rattle.std.specs.Prelude.{ℕ, ◌+◌, List, [], ◌∷◌, ◌++◌, Bool, false, take, drop}
+use Rattle.std.specs.Prelude.{ℕ, ◌+◌, List, [], ◌∷◌, ◌++◌, Bool, true, take, drop}
 use Rattle.std.specs.List.{slice_index_or}
 
 -- the elements of all chunks, in order
@@ -19,7 +19,7 @@ front_of chunks chunk at = joined_chunks (take chunk chunks) ++ take at (chunk_a
 abbrev pub back_of : {X : Type 0} → List (List X) → ℕ → ℕ → List X
 back_of chunks chunk at = drop at (chunk_at chunks chunk) ++ joined_chunks (drop (chunk + 1) chunks)
 
--- whether the first element passes; not where there is none
+-- whether the first element passes, or there is none
 abbrev pub first_passes : {X : Type 0} → (X → Bool) → List X → Bool
-first_passes p [] = false
+first_passes p [] = true
 first_passes p (x ∷ xs) = p x

@@ -6,3 +6,4 @@ pub mod Leading
 pub mod Parted
 pub mod Room
 pub mod Stores
+pub mod TopLaws

@@ -2,6 +2,7 @@
 use Rattle.std.specs.Prelude.{◌≡◌, ℕ, ◌+◌, ◌<◌, ◌≤◌, List, [], length, min, vec_len, vec_capacity}
 use Rattle.std.specs.List.{AllByRecursion}
 use Rattle.chunked_list.specs.declared.stores.Store.{Store}
+use Rattle.chunked_list.specs.Hinted.{IsHinted, top_key}
 use Rattle.chunked_list.specs.Joined.{joined_chunks}
 use Rattle.chunked_list.specs.ChunkLimits.{chunk_limit, chunks_limit}
 use Rattle.chunked_list.specs.Room.{excess_of, load_of, room_of}
@@ -14,13 +15,15 @@ abbrev pub AreSized : {X : Type 0} → List (List X) → Type 0
 AreSized chunks = AllByRecursion IsSized chunks
 
 -- what a list in chunks keeps
-pub record IsStore {X : Type 0} (store : Store X) : Type 0 where
+pub record IsStore {X : Type 0} (key : X → List ℕ) (store : Store X) : Type 0 where
   pub sized : AreSized store.chunks.items
   pub spare : AllByRecursion (λ chunk. chunk ≡ []) store.spare.items
   pub excess : store.excess ≡ excess_of store.chunks.items
   pub count : store.count ≡ length (joined_chunks store.chunks.items)
   pub chunk_room : vec_len store.chunks + vec_len store.spare ≤ vec_capacity store.chunks
   pub spare_room : min 1 (vec_len store.chunks) + vec_len store.spare ≤ vec_capacity store.spare
+  pub tops : IsHinted (top_key key) store.chunks.items store.tops
+  pub tops_room : vec_len store.chunks + vec_len store.spare ≤ vec_capacity store.tops.numbers
   pub few : vec_len store.chunks + vec_len store.spare ≤ chunks_limit
 
 -- its elements

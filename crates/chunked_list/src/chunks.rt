@@ -1,12 +1,11 @@
 //! Chunks of a list.
-ghost use Rattle.std.specs.Prelude.{◌≡◌, ℕ, ◌<◌, ◌≤◌, ◌+◌, ◌++◌, ◌∷◌, [], List, length, take, drop, IfOk, IsTrue, ◌↔◌, vec_len, vec_capacity, true, false};
+ghost use Rattle.std.specs.Prelude.{◌≡◌, ◌<◌, ◌≤◌, ◌+◌, [], List, length, take, drop, IfOk, IsTrue, ◌↔◌, vec_len, vec_capacity, true, false};
 ghost use Rattle.std.specs.List.{insert, remove, slice_index_or};
 ghost use Rattle.std.specs.List.Sorted.{IsPartitionedBy, IsPartitionPoint};
 ghost use Rattle.chunked_list.specs.ChunkLimits.{chunk_limit, half_limit};
-ghost use Rattle.chunked_list.specs.Joined.{first_passes};
 
 use crate::bounds::{Bound, Keyed};
-use crate::hints::{Hints, count_hinted, lower, no_hints, sharpen};
+use crate::hints::{Hints, count_hinted, put_hint, put_in, sharpen};
 use crate::limits::{CHUNK_LIMIT, HALF};
 use std::alloc::{AllocError, Global};
 use std::marker::Model;
@@ -28,7 +27,7 @@ impl<T: Keyed> Model for Chunk<T> {
     ghost view = { λ chunk. chunk.elements.items };
 
     ghost invariant = { λ chunk. (vec_len chunk.elements ≤ chunk_limit) × (chunk_limit ≤ vec_capacity chunk.elements)
-        × IsHinted T.key chunk.elements.items chunk.hints };
+        × IsHinted T.key chunk.elements.items chunk.hints × (chunk_limit ≤ vec_capacity chunk.hints.numbers) };
 }
 
 impl<T: Keyed + Drop> Chunk<T> {
@@ -38,7 +37,10 @@ impl<T: Keyed + Drop> Chunk<T> {
     {
         Ok(Chunk {
             elements: Vec::with_capacity(alloc, CHUNK_LIMIT)?,
-            hints: no_hints(alloc)?,
+            hints: Hints {
+                mark: usize::MAX,
+                numbers: Vec::with_capacity(alloc, CHUNK_LIMIT)?,
+            },
         })
     }
 
@@ -64,24 +66,13 @@ impl<T: Keyed + Drop> Chunk<T> {
         self.elements.as_slice()
     }
 
-    /// Adds an element at the end. It takes no memory.
-    pub(crate) fn push(&mut self, element: T)
-        requires { length self.old < chunk_limit }
-        ensures { self.new ≡ self.old ++ element ∷ [] }
-    {
-        let at = self.elements.len();
-        self.insert(at, element);
-    }
-
     /// Puts an element at a place. It takes no memory.
     pub(crate) fn insert(&mut self, at: usize, element: T)
         requires room { length self.old < chunk_limit }
         requires place { at ≤ length self.old }
         ensures { self.new ≡ insert self.old at element }
     {
-        lower(&mut self.hints, &self.elements, &element);
-        let hint = element.hint(self.hints.mark);
-        put_in(&mut self.hints.numbers, at, hint);
+        put_hint(&mut self.hints, &self.elements, at, &element);
         put_in(&mut self.elements, at, element);
     }
 
@@ -108,16 +99,6 @@ impl<T: Keyed + Drop> Chunk<T> {
         sharpen(&mut other.hints, &other.elements);
     }
 
-    /// Whether the first element is before the bound; not where there is none.
-    pub(crate) fn begins_before<B: Bound<T>>(&self, bound: &B) -> bool
-        ensures { result ≡ first_passes (B.before bound.now) self.now }
-    {
-        match self.elements.first() {
-            Some(element) => bound.is_before(element),
-            None => false,
-        }
-    }
-
     /// How many elements are before the bound.
     pub(crate) fn count_before<B: Bound<T>>(&self, bound: &B) -> usize
         ensures bound { result ≤ length self.now }
@@ -126,17 +107,6 @@ impl<T: Keyed + Drop> Chunk<T> {
     {
         count_hinted(&self.hints, &self.elements, bound)
     }
-}
-
-// Puts an element at a place where there is room.
-fn put_in<T: Drop>(elements: &mut Vec<T>, at: usize, element: T)
-    requires room { vec_len elements.old < vec_capacity elements.old }
-    requires place { at ≤ vec_len elements.old }
-    ensures items { elements.new.items ≡ insert elements.old.items at element }
-    ensures len { vec_len elements.new ≡ vec_len elements.old + 1 }
-    ensures capacity { vec_capacity elements.old ≤ vec_capacity elements.new }
-{
-    let _ = elements.insert(at, element);
 }
 
 // Moves what is behind the first half to an empty list with room.

@@ -1,16 +1,27 @@
-//! Edits of a list of chunks.
+//! Edits of a list of chunks, with the hints of these.
 ghost use Rattle.std.specs.Prelude.{◌≡◌, ◌<◌, ◌≤◌, ◌+◌, ◌++◌, ◌∷◌, [], length, take, drop, vec_len, vec_capacity};
 ghost use Rattle.std.specs.List.{insert, remove, slice_index_or, slice_set};
 ghost use Rattle.chunked_list.specs.Joined.{chunk_at};
 ghost use Rattle.chunked_list.specs.ChunkLimits.{chunk_limit, half_limit};
+ghost use Rattle.chunked_list.specs.Hinted.{IsHinted, top_key};
 ghost use Rattle.chunked_list.specs.Parted.{IsElement};
 
 use crate::bounds::Keyed;
 use crate::chunks::Chunk;
+use crate::hints::{Hints, put_hint};
 use crate::places::Place;
+use crate::tops::set_top;
 
 /// Puts an element at a place. It takes no memory.
-pub(crate) fn insert_at<T: Keyed + Drop>(chunks: &mut Vec<Chunk<T>>, place: Place, element: T)
+pub(crate) fn insert_at<T: Keyed + Drop>(
+    chunks: &mut Vec<Chunk<T>>,
+    tops: &mut Hints,
+    place: Place,
+    element: T,
+)
+    requires is { IsHinted (top_key T.key) chunks.old.items tops.old }
+    requires filled { 0 < length (chunk_at chunks.old.items place.chunk) }
+    requires tops_room { vec_len chunks.old ≤ vec_capacity tops.old.numbers }
     requires chunk { place.chunk < vec_len chunks.old }
     requires at { place.at ≤ length (chunk_at chunks.old.items place.chunk) }
     requires room { length (chunk_at chunks.old.items place.chunk) < chunk_limit }
@@ -18,26 +29,46 @@ pub(crate) fn insert_at<T: Keyed + Drop>(chunks: &mut Vec<Chunk<T>>, place: Plac
         ≡ slice_set chunks.old.items place.chunk (insert (chunk_at chunks.old.items place.chunk) place.at element) }
     ensures len { vec_len chunks.new ≡ vec_len chunks.old }
     ensures capacity { vec_capacity chunks.new ≡ vec_capacity chunks.old }
+    ensures is { IsHinted (top_key T.key) chunks.new.items tops.new }
+    ensures tops_room { vec_capacity tops.new.numbers ≡ vec_capacity tops.old.numbers }
 {
+    set_top(tops, chunks, place, &element);
     let chunk = &mut chunks[place.chunk];
     chunk.insert(place.at, element);
 }
 
-/// Takes out the element at a place. It takes no memory.
-pub(crate) fn remove_at<T: Keyed + Drop>(chunks: &mut Vec<Chunk<T>>, place: Place) -> T
-    requires { IsElement chunks.old.items place.chunk place.at }
+/// Takes out the element at a place, where others stay. It takes no memory.
+pub(crate) fn remove_at<T: Keyed + Drop>(
+    chunks: &mut Vec<Chunk<T>>,
+    tops: &mut Hints,
+    place: Place,
+) -> T
+    requires is { IsHinted (top_key T.key) chunks.old.items tops.old }
+    requires others { 1 < length (chunk_at chunks.old.items place.chunk) }
+    requires tops_room { vec_len chunks.old ≤ vec_capacity tops.old.numbers }
+    requires element { IsElement chunks.old.items place.chunk place.at }
     ensures items { chunks.new.items
         ≡ slice_set chunks.old.items place.chunk (remove (chunk_at chunks.old.items place.chunk) place.at) }
     ensures value { result ≡ slice_index_or (chunk_at chunks.old.items place.chunk) place.at result }
     ensures len { vec_len chunks.new ≡ vec_len chunks.old }
     ensures capacity { vec_capacity chunks.new ≡ vec_capacity chunks.old }
+    ensures is { IsHinted (top_key T.key) chunks.new.items tops.new }
+    ensures tops_room { vec_capacity tops.new.numbers ≡ vec_capacity tops.old.numbers }
 {
+    set_top(tops, chunks, place, &chunks[place.chunk].as_slice()[1]);
     let chunk = &mut chunks[place.chunk];
     chunk.remove(place.at)
 }
 
 /// Moves what is behind the first half of a chunk to an empty one, which comes next. It takes no memory.
-pub(crate) fn split_at<T: Keyed + Drop>(chunks: &mut Vec<Chunk<T>>, chunk: usize, spare: Chunk<T>)
+pub(crate) fn split_at<T: Keyed + Drop>(
+    chunks: &mut Vec<Chunk<T>>,
+    tops: &mut Hints,
+    chunk: usize,
+    spare: Chunk<T>,
+)
+    requires is { IsHinted (top_key T.key) chunks.old.items tops.old }
+    requires tops_room { vec_len chunks.old < vec_capacity tops.old.numbers }
     requires chunk { chunk < vec_len chunks.old }
     requires spare { spare ≡ [] }
     requires room { vec_len chunks.old < vec_capacity chunks.old }
@@ -47,9 +78,12 @@ pub(crate) fn split_at<T: Keyed + Drop>(chunks: &mut Vec<Chunk<T>>, chunk: usize
         ∷ drop (chunk + 1) chunks.old.items }
     ensures len { vec_len chunks.new ≡ vec_len chunks.old + 1 }
     ensures capacity { vec_capacity chunks.old ≤ vec_capacity chunks.new }
+    ensures is { IsHinted (top_key T.key) chunks.new.items tops.new }
+    ensures tops_room { vec_capacity tops.old.numbers ≤ vec_capacity tops.new.numbers }
 {
     let mut other = spare;
     move_half(chunks, chunk, &mut other);
+    put_hint(tops, chunks, chunk + 1, &other);
     let _ = chunks.insert(chunk + 1, other);
 }
 

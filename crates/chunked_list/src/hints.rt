@@ -1,20 +1,17 @@
-//! Hints: numbers that stand beside the elements of a chunk, so that a search by halves seldom looks at an element itself.
+//! Hints: numbers that stand beside the elements of a list, so that a search by halves seldom looks at an element itself.
 //!
-//! Up to a mark the elements of a chunk have one text. The hint of an element is what its text has from there on: its first
+//! Up to a mark the elements have one text. The hint of an element is what its text has from there on: its first
 //! eight bytes, as a number. A lesser number is that of a lesser text.
-ghost use Rattle.std.specs.Prelude.{◌≡◌, ℕ, ◌<◌, ◌≤◌, [], length, map, take, drop, IfOk, IsTrue, vec_len, vec_capacity, true, false};
-ghost use Rattle.std.specs.List.{slice_index_or};
+ghost use Rattle.std.specs.Prelude.{◌≡◌, ◌<◌, ◌≤◌, ◌+◌, length, take, drop, IsTrue, vec_len, vec_capacity, true, false};
+ghost use Rattle.std.specs.List.{insert, slice_index_or};
 ghost use Rattle.std.specs.List.Sorted.{IsPartitionedBy, IsPartitionPoint};
-ghost use Rattle.chunked_list.specs.ChunkLimits.{chunk_limit};
-ghost use Rattle.chunked_list.specs.Hinted.{AreHinted, IsHinted, ShareText, hint_of};
+ghost use Rattle.chunked_list.specs.Hinted.{IsHinted, ShareText};
 ghost use Rattle.chunked_list.specs.Leading.{leading};
 ghost use Rattle.tree_clock.specs.Lists.{Has};
 
 use crate::bounds::{Bound, Keyed};
-use crate::limits::CHUNK_LIMIT;
-use std::alloc::{AllocError, Global};
 
-/// The hints of a chunk.
+/// The hints of a list.
 #[derive(Drop)]
 pub(crate) struct Hints {
     /// As many bytes the elements share from the starts of their texts.
@@ -23,64 +20,67 @@ pub(crate) struct Hints {
     pub(crate) numbers: Vec<u64>,
 }
 
-/// No hint, with room for those of a chunk.
-pub(crate) fn no_hints(alloc: Global) -> Result<Hints, AllocError>
-    ensures items { IfOk result (λ hints. hints.numbers.items ≡ []) }
-    ensures room { IfOk result (λ hints. chunk_limit ≤ vec_capacity hints.numbers) }
-{
-    Ok(Hints {
-        mark: usize::MAX,
-        numbers: Vec::with_capacity(alloc, CHUNK_LIMIT)?,
-    })
-}
-
 // Makes the hints anew, from a mark on. It takes no memory.
 fn renew<T: Keyed>(hints: &mut Hints, elements: &[T], mark: usize)
     requires shared { ShareText T.key mark elements.now }
-    requires few { length elements.now ≤ chunk_limit }
-    requires room { chunk_limit ≤ vec_capacity hints.old.numbers }
+    requires room { length elements.now ≤ vec_capacity hints.old.numbers }
     ensures mark { hints.new.mark ≡ mark }
     ensures is { IsHinted T.key elements.now hints.new }
+    ensures room { vec_capacity hints.new.numbers ≡ vec_capacity hints.old.numbers }
 {
     hints.mark = mark;
-    write_hints(&mut hints.numbers, elements, mark);
-}
-
-// Writes the hints of elements in place of those that are there.
-fn write_hints<T: Keyed>(numbers: &mut Vec<u64>, elements: &[T], mark: usize)
-    requires { length elements.now ≤ vec_capacity numbers.old }
-    ensures items { numbers.new.items ≡ map (hint_of T.key mark) elements.now }
-    ensures room { vec_capacity numbers.new ≡ vec_capacity numbers.old }
-{
-    numbers.clear();
+    hints.numbers.clear();
     for element in elements {
-        numbers.push_reserved(element.hint(mark));
+        hints.numbers.push_reserved(element.hint(mark));
     }
 }
 
-/// Lowers the mark to what the elements share with one more, so that it can come in.
-pub(crate) fn lower<T: Keyed>(hints: &mut Hints, elements: &[T], element: &T)
+/// Makes a hint for an element that comes in at a place. It takes no memory.
+pub(crate) fn put_hint<T: Keyed>(hints: &mut Hints, elements: &[T], at: usize, element: &T)
     requires is { IsHinted T.key elements.now hints.old }
-    requires few { length elements.now ≤ chunk_limit }
+    requires place { at ≤ length elements.now }
+    requires room { length elements.now < vec_capacity hints.old.numbers }
+    ensures is { IsHinted T.key (insert elements.now at element.now) hints.new }
+    ensures room { vec_capacity hints.old.numbers ≤ vec_capacity hints.new.numbers }
+{
+    lower(hints, elements, element);
+    let hint = element.hint(hints.mark);
+    put_in(&mut hints.numbers, at, hint);
+}
+
+// Lowers the mark to what the elements share with one more, so that it can come in.
+fn lower<T: Keyed>(hints: &mut Hints, elements: &[T], element: &T)
+    requires is { IsHinted T.key elements.now hints.old }
+    requires room { length elements.now ≤ vec_capacity hints.old.numbers }
     ensures is { IsHinted T.key elements.now hints.new }
     ensures shared { (x : T) → Has elements.now x → take hints.new.mark (T.key x) ≡ take hints.new.mark (T.key element.now) }
+    ensures room { vec_capacity hints.new.numbers ≡ vec_capacity hints.old.numbers }
 {
     match elements.first() {
-        Some(first) => {
-            let shared = first.shared(element);
-            if shared < hints.mark {
-                renew(hints, elements, shared);
-            }
-        }
+        Some(first) => lower_to(hints, elements, first.shared(element)),
         None => hints.mark = usize::MAX,
+    }
+}
+
+/// Lowers the mark to so many bytes, where it is more.
+pub(crate) fn lower_to<T: Keyed>(hints: &mut Hints, elements: &[T], shared: usize)
+    requires is { IsHinted T.key elements.now hints.old }
+    requires room { length elements.now ≤ vec_capacity hints.old.numbers }
+    ensures is { IsHinted T.key elements.now hints.new }
+    ensures mark { hints.new.mark ≤ shared }
+    ensures room { vec_capacity hints.new.numbers ≡ vec_capacity hints.old.numbers }
+{
+    if shared < hints.mark {
+        renew(hints, elements, shared);
     }
 }
 
 /// Raises the mark as far as it can be, where the hints don't tell the elements apart.
 pub(crate) fn sharpen<T: Keyed>(hints: &mut Hints, elements: &[T])
     requires is { IsHinted T.key elements.now hints.old }
-    requires few { length elements.now ≤ chunk_limit }
-    ensures { IsHinted T.key elements.now hints.new }
+    requires room { length elements.now ≤ vec_capacity hints.old.numbers }
+    ensures is { IsHinted T.key elements.now hints.new }
+    ensures room { vec_capacity hints.new.numbers ≡ vec_capacity hints.old.numbers }
 {
     if are_blunt(&hints.numbers) {
         let mark = shared_by(elements);
@@ -182,4 +182,15 @@ fn is_before_at<T: Keyed, B: Bound<T>>(
         return bound.is_before(&elements[at]);
     }
     hint < wanted
+}
+
+/// Puts an element at a place where there is room.
+pub(crate) fn put_in<T: Drop>(elements: &mut Vec<T>, at: usize, element: T)
+    requires room { vec_len elements.old < vec_capacity elements.old }
+    requires place { at ≤ vec_len elements.old }
+    ensures items { elements.new.items ≡ insert elements.old.items at element }
+    ensures len { vec_len elements.new ≡ vec_len elements.old + 1 }
+    ensures capacity { vec_capacity elements.old ≤ vec_capacity elements.new }
+{
+    let _ = elements.insert(at, element);
 }

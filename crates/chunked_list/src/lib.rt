@@ -13,6 +13,7 @@ mod places;
 mod searches;
 mod spans;
 mod stores;
+mod tops;
 
 pub use bounds::{Bound, Keyed, Order, Test};
 pub use chunks::Chunk;

@@ -1,5 +1,5 @@
 //! Ascending lists in chunks.
-ghost use Rattle.std.specs.Prelude.{◌≡◌, ◌<◌, ◌≤◌, ◌+◌, ◌⊎◌, ◌↔◌, [], List, length, map, IsTrue, IfOk, OnOk};
+ghost use Rattle.std.specs.Prelude.{◌≡◌, ◌<◌, ◌≤◌, ◌+◌, ◌⊎◌, ◌↔◌, [], length, map, IsTrue, IfOk, OnOk};
 ghost use Rattle.std.specs.List.{filter};
 ghost use Rattle.std.specs.Option.{option_copied};
 ghost use Rattle.chunked_list.specs.Joined.{joined_chunks};
@@ -31,7 +31,7 @@ impl<T: Keyed> Model for Chunked<T> {
 
     ghost view = { λ list. record { elements = elements_in list.store; room = room_in list.store } };
 
-    ghost invariant = { λ list. IsStore list.store };
+    ghost invariant = { λ list. IsStore T.key list.store };
 }
 
 impl<T: Keyed + Drop> Chunked<T> {
@@ -79,7 +79,7 @@ impl<T: Keyed + Drop> Chunked<T> {
         requires { IsParted (B.before bound.now) self.now.elements }
         ensures { IsFirstOf (B.before bound.now) self.now.elements (option_copied result) }
     {
-        let place = find(&self.store.chunks, bound)?;
+        let place = find(&self.store, bound)?;
         Some(&self.store.chunks[place.chunk].as_slice()[place.at])
     }
 
@@ -96,7 +96,7 @@ impl<T: Keyed + Drop> Chunked<T> {
         ensures { IfOk result (λ found. map (λ x. x.now) found.items
             ≡ filter (is_between (A.before first.now) (B.before second.now)) self.now.elements) }
     {
-        between_in(alloc, &self.store.chunks, first, second)
+        between_in(alloc, &self.store, first, second)
     }
 
     /// The elements that pass the test, wherever they stand, in order.
@@ -111,7 +111,7 @@ impl<T: Keyed + Drop> Chunked<T> {
         requires { IsAscending (O.order order.now) self.now.elements }
         ensures { IsTrue result ↔ Has self.now.elements element.now }
     {
-        has_element(&self.store.chunks, order, element)
+        has_element(&self.store, order, element)
     }
 
     /// Makes room for so many elements more.

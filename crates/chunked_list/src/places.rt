@@ -1,12 +1,15 @@
 //! Places in a list of chunks.
-ghost use Rattle.std.specs.Prelude.{◌≡◌, ℕ, ◌<◌, ◌≤◌, ◌+◌, true, false, [], length, max, IfSome, IfNone};
+ghost use Rattle.std.specs.Prelude.{◌≡◌, ◌<◌, ◌≤◌, ◌+◌, true, [], length, max, IfSome, IfNone};
 ghost use Rattle.chunked_list.specs.Joined.{joined_chunks, chunk_at, front_of, back_of};
 ghost use Rattle.chunked_list.specs.Parted.{IsParted, Divides, IsElement};
-ghost use Rattle.chunked_list.specs.Stores.{AreSized};
+ghost use Rattle.chunked_list.specs.Stores.{AreSized, IsStore, elements_in};
 ghost use Rattle.tree_clock.specs.Lists.{Has};
 
 use crate::bounds::{Bound, Keyed};
 use crate::chunks::Chunk;
+use crate::hints::count_hinted;
+use crate::stores::Store;
+use crate::tops::Begun;
 
 /// A place in a list of chunks: in front of an element of a chunk, or behind its last one.
 #[derive(Clone, Copy)]
@@ -18,31 +21,31 @@ pub(crate) struct Place {
 }
 
 /// The place behind the elements before the bound, at the end of a chunk rather than at the beginning of the next.
-pub(crate) fn locate<T: Keyed + Drop, B: Bound<T>>(chunks: &[Chunk<T>], bound: &B) -> Place
-    requires sized { AreSized chunks.now }
-    requires parted { IsParted (B.before bound.now) (joined_chunks chunks.now) }
-    ensures chunk { result.chunk < max 1 (length chunks.now) }
-    ensures at { result.at ≤ length (chunk_at chunks.now result.chunk) }
-    ensures divides { Divides (B.before bound.now) chunks.now result.chunk result.at }
+pub(crate) fn locate<T: Keyed + Drop, B: Bound<T>>(store: &Store<T>, bound: &B) -> Place
+    requires is { IsStore T.key store.now }
+    requires parted { IsParted (B.before bound.now) (elements_in store.now) }
+    ensures chunk { result.chunk < max 1 (length store.now.chunks.items) }
+    ensures at { result.at ≤ length (chunk_at store.now.chunks.items result.chunk) }
+    ensures divides { Divides (B.before bound.now) store.now.chunks.items result.chunk result.at }
 {
-    let begun = chunks.partition_point(|chunk| chunk.begins_before(bound));
+    let begun = count_hinted(&store.tops, &store.chunks, &Begun { bound });
     let chunk = begun.saturating_sub(1);
-    if chunk < chunks.len() {
-        let at = chunks[chunk].count_before(bound);
+    if chunk < store.chunks.len() {
+        let at = store.chunks[chunk].count_before(bound);
         return Place { chunk, at };
     }
     Place { chunk, at: 0 }
 }
 
 /// The place of the first element that is not before the bound.
-pub(crate) fn find<T: Keyed + Drop, B: Bound<T>>(chunks: &[Chunk<T>], bound: &B) -> Option<Place>
-    requires sized { AreSized chunks.now }
-    requires parted { IsParted (B.before bound.now) (joined_chunks chunks.now) }
-    ensures element { IfSome result (λ place. IsElement chunks.now place.chunk place.at) }
-    ensures divides { IfSome result (λ place. Divides (B.before bound.now) chunks.now place.chunk place.at) }
-    ensures none { IfNone result ((x : T) → Has (joined_chunks chunks.now) x → B.before bound.now x ≡ true) }
+pub(crate) fn find<T: Keyed + Drop, B: Bound<T>>(store: &Store<T>, bound: &B) -> Option<Place>
+    requires is { IsStore T.key store.now }
+    requires parted { IsParted (B.before bound.now) (elements_in store.now) }
+    ensures element { IfSome result (λ place. IsElement store.now.chunks.items place.chunk place.at) }
+    ensures divides { IfSome result (λ place. Divides (B.before bound.now) store.now.chunks.items place.chunk place.at) }
+    ensures none { IfNone result ((x : T) → Has (elements_in store.now) x → B.before bound.now x ≡ true) }
 {
-    next_of(chunks, locate(chunks, bound))
+    next_of(&store.chunks, locate(store, bound))
 }
 
 /// The same place at an element: at the beginning of the next chunk, where the place is at the end of one.

@@ -13,16 +13,16 @@ use crate::stores::{Store, put, take_out};
 
 /// Whether an ascending list has the element.
 pub(crate) fn has_element<T: Keyed + Drop, O: Order<T>>(
-    chunks: &[Chunk<T>],
+    store: &Store<T>,
     order: &O,
     element: &T,
 ) -> bool
-    requires sized { AreSized chunks.now }
-    requires ascending { IsAscending (O.order order.now) (joined_chunks chunks.now) }
-    ensures { IsTrue result ↔ Has (joined_chunks chunks.now) element.now }
+    requires is { IsStore T.key store.now }
+    requires ascending { IsAscending (O.order order.now) (elements_in store.now) }
+    ensures { IsTrue result ↔ Has (elements_in store.now) element.now }
 {
-    match find(chunks, &Below { order, element }) {
-        Some(place) => is_at(chunks, place, order, element),
+    match find(store, &Below { order, element }) {
+        Some(place) => is_at(&store.chunks, place, order, element),
         None => false,
     }
 }
@@ -45,21 +45,19 @@ fn is_at<T: Keyed + Drop, O: Order<T>>(
 
 /// Puts an element into an ascending list, unless it is there. It takes no memory.
 pub(crate) fn insert_in<T: Keyed + Drop, O: Order<T>>(store: &mut Store<T>, order: &O, element: T)
-    requires is { IsStore store.old }
+    requires is { IsStore T.key store.old }
     requires room { 0 < room_in store.old }
     requires ascending { IsAscending (O.order order.now) (elements_in store.old) }
-    ensures is { IsStore store.new }
+    ensures is { IsStore T.key store.new }
     ensures ascending { IsAscending (O.order order.now) (elements_in store.new) }
     ensures members { (other : T) → Has (elements_in store.new) other ↔ (Has (elements_in store.old) other ⊎ (other ≡ element)) }
     ensures room { room_in store.old ≤ room_in store.new + 1 }
 {
-    let place = locate(
-        &store.chunks,
-        &Below {
-            order,
-            element: &element,
-        },
-    );
+    let bound = Below {
+        order,
+        element: &element,
+    };
+    let place = locate(store, &bound);
     if has_behind(&store.chunks, place, order, &element) {
         return;
     }
@@ -92,14 +90,14 @@ pub(crate) fn remove_from<T: Keyed + Drop, O: Order<T>>(
     order: &O,
     element: &T,
 )
-    requires is { IsStore store.old }
+    requires is { IsStore T.key store.old }
     requires ascending { IsAscending (O.order order.now) (elements_in store.old) }
-    ensures is { IsStore store.new }
+    ensures is { IsStore T.key store.new }
     ensures ascending { IsAscending (O.order order.now) (elements_in store.new) }
     ensures members { (other : T) → Has (elements_in store.new) other ↔ (Has (elements_in store.old) other × ¬ (other ≡ element.now)) }
     ensures room { room_in store.old ≤ room_in store.new }
 {
-    if let Some(place) = find(&store.chunks, &Below { order, element }) {
+    if let Some(place) = find(store, &Below { order, element }) {
         if is_at(&store.chunks, place, order, element) {
             take_out(store, place);
         }

@@ -3,29 +3,30 @@ ghost use Rattle.std.specs.Prelude.{◌≡◌, ◌++◌, false, map, IfOk, OnOk}
 ghost use Rattle.std.specs.List.{filter};
 ghost use Rattle.chunked_list.specs.Joined.{joined_chunks, back_of};
 ghost use Rattle.chunked_list.specs.Parted.{IsParted, IsElement, HasFailing, is_between};
-ghost use Rattle.chunked_list.specs.Stores.{AreSized};
+ghost use Rattle.chunked_list.specs.Stores.{IsStore, elements_in};
 
 use crate::bounds::{Bound, Keyed};
 use crate::chunks::Chunk;
 use crate::places::{Place, find};
+use crate::stores::Store;
 use std::alloc::{AllocError, Global};
 
 /// The elements that aren't before the first bound, and are before the second, in order.
 pub(crate) fn between_in<'a, T: Keyed + Drop, A: Bound<T>, B: Bound<T>>(
     alloc: Global,
-    chunks: &'a [Chunk<T>],
+    store: &'a Store<T>,
     first: &A,
     second: &B,
 ) -> Result<Vec<&'a T>, AllocError>
-    requires sized { AreSized chunks.now }
-    requires first { IsParted (A.before first.now) (joined_chunks chunks.now) }
-    requires second { IsParted (B.before second.now) (joined_chunks chunks.now) }
+    requires is { IsStore T.key store.now }
+    requires first { IsParted (A.before first.now) (elements_in store.now) }
+    requires second { IsParted (B.before second.now) (elements_in store.now) }
     ensures { IfOk result (λ found. map (λ x. x.now) found.items
-        ≡ filter (is_between (A.before first.now) (B.before second.now)) (joined_chunks chunks.now)) }
+        ≡ filter (is_between (A.before first.now) (B.before second.now)) (elements_in store.now)) }
 {
     let mut found = Vec::new(alloc);
-    if let Some(place) = find(chunks, first) {
-        add_from(&mut found, chunks, place, second)?;
+    if let Some(place) = find(store, first) {
+        add_from(&mut found, &store.chunks, place, second)?;
     }
     Ok(found)
 }

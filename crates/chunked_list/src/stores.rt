@@ -1,6 +1,6 @@
 //! The parts of a list in chunks.
 ghost use Rattle.std.specs.Prelude.{◌≡◌, ◌<◌, ◌≤◌, ◌+◌, ◌-◌, ◌++◌, ◌∷◌, [], length, drop, reverse, max, vec_len, IfOk, OnOk};
-ghost use Rattle.chunked_list.specs.Joined.{joined_chunks, chunk_at, front_of, back_of};
+ghost use Rattle.chunked_list.specs.Joined.{chunk_at, front_of, back_of};
 ghost use Rattle.chunked_list.specs.ChunkLimits.{chunk_limit, half_limit, chunks_limit};
 ghost use Rattle.chunked_list.specs.Room.{load_of, room_of};
 ghost use Rattle.chunked_list.specs.Parted.{IsElement};
@@ -9,6 +9,7 @@ ghost use Rattle.chunked_list.specs.Stores.{IsStore, elements_in, room_in};
 use crate::bounds::Keyed;
 use crate::chunks::Chunk;
 use crate::edits::{insert_at, remove_at, split_at};
+use crate::hints::{Hints, put_hint};
 use crate::limits::{CHUNK_LIMIT, CHUNKS_LIMIT, HALF};
 use crate::places::{Place, end_of};
 use std::alloc::{AllocError, Global};
@@ -18,6 +19,8 @@ use std::alloc::{AllocError, Global};
 pub(crate) struct Store<T: Keyed> {
     /// The chunks, in order.
     pub(crate) chunks: Vec<Chunk<T>>,
+    /// The hints of the chunks.
+    pub(crate) tops: Hints,
     /// Empty chunks, for those that come to be full.
     pub(crate) spare: Vec<Chunk<T>>,
     /// By how many elements the chunks pass their halves, summed up.
@@ -28,11 +31,11 @@ pub(crate) struct Store<T: Keyed> {
 
 /// Puts an element at a place. It takes no memory.
 pub(crate) fn put<T: Keyed + Drop>(store: &mut Store<T>, place: Place, element: T)
-    requires is { IsStore store.old }
+    requires is { IsStore T.key store.old }
     requires room { 0 < room_in store.old }
     requires chunk { place.chunk < max 1 (length store.old.chunks.items) }
     requires at { place.at ≤ length (chunk_at store.old.chunks.items place.chunk) }
-    ensures is { IsStore store.new }
+    ensures is { IsStore T.key store.new }
     ensures elements { elements_in store.new ≡ front_of store.old.chunks.items place.chunk place.at
         ++ element ∷ back_of store.old.chunks.items place.chunk place.at }
     ensures room { room_in store.old ≤ room_in store.new + 1 }
@@ -48,16 +51,17 @@ pub(crate) fn put<T: Keyed + Drop>(store: &mut Store<T>, place: Place, element: 
 
 // Puts an element into an empty list.
 fn put_first<T: Keyed + Drop>(store: &mut Store<T>, element: T)
-    requires is { IsStore store.old }
+    requires is { IsStore T.key store.old }
     requires room { 0 < room_in store.old }
     requires empty { store.old.chunks.items ≡ [] }
-    ensures is { IsStore store.new }
+    ensures is { IsStore T.key store.new }
     ensures elements { elements_in store.new ≡ element ∷ [] }
     ensures room { room_in store.old ≤ room_in store.new + 1 }
 {
     if let Some(spare) = store.spare.pop() {
         let mut chunk = spare;
-        chunk.push(element);
+        chunk.insert(0, element);
+        put_hint(&mut store.tops, &store.chunks, 0, &chunk);
         store.chunks.push_reserved(chunk);
         store.count += 1;
     }
@@ -65,17 +69,17 @@ fn put_first<T: Keyed + Drop>(store: &mut Store<T>, element: T)
 
 // Puts an element into a chunk that isn't full then.
 fn put_within<T: Keyed + Drop>(store: &mut Store<T>, place: Place, element: T)
-    requires is { IsStore store.old }
+    requires is { IsStore T.key store.old }
     requires chunk { place.chunk < length store.old.chunks.items }
     requires at { place.at ≤ length (chunk_at store.old.chunks.items place.chunk) }
     requires space { length (chunk_at store.old.chunks.items place.chunk) + 1 < chunk_limit }
-    ensures is { IsStore store.new }
+    ensures is { IsStore T.key store.new }
     ensures elements { elements_in store.new ≡ front_of store.old.chunks.items place.chunk place.at
         ++ element ∷ back_of store.old.chunks.items place.chunk place.at }
     ensures room { room_in store.old ≤ room_in store.new + 1 }
 {
     let before = store.chunks[place.chunk].len();
-    insert_at(&mut store.chunks, place, element);
+    insert_at(&mut store.chunks, &mut store.tops, place, element);
     store.count += 1;
     store.excess = store.excess - over(before) + over(before + 1);
 }
@@ -89,19 +93,19 @@ fn over(len: usize) -> usize
 
 // Puts an element into a chunk that is full then, and splits it.
 fn put_and_split<T: Keyed + Drop>(store: &mut Store<T>, place: Place, element: T)
-    requires is { IsStore store.old }
+    requires is { IsStore T.key store.old }
     requires room { 0 < room_in store.old }
     requires chunk { place.chunk < length store.old.chunks.items }
     requires at { place.at ≤ length (chunk_at store.old.chunks.items place.chunk) }
     requires full { length (chunk_at store.old.chunks.items place.chunk) + 1 ≡ chunk_limit }
-    ensures is { IsStore store.new }
+    ensures is { IsStore T.key store.new }
     ensures elements { elements_in store.new ≡ front_of store.old.chunks.items place.chunk place.at
         ++ element ∷ back_of store.old.chunks.items place.chunk place.at }
     ensures room { room_in store.old ≤ room_in store.new + 1 }
 {
     if let Some(spare) = store.spare.pop() {
-        insert_at(&mut store.chunks, place, element);
-        split_at(&mut store.chunks, place.chunk, spare);
+        insert_at(&mut store.chunks, &mut store.tops, place, element);
+        split_at(&mut store.chunks, &mut store.tops, place.chunk, spare);
         store.count += 1;
         store.excess -= HALF - 1;
     }
@@ -109,9 +113,9 @@ fn put_and_split<T: Keyed + Drop>(store: &mut Store<T>, place: Place, element: T
 
 /// Takes out the element at a place. It takes no memory.
 pub(crate) fn take_out<T: Keyed + Drop>(store: &mut Store<T>, place: Place) -> T
-    requires is { IsStore store.old }
+    requires is { IsStore T.key store.old }
     requires element { IsElement store.old.chunks.items place.chunk place.at }
-    ensures is { IsStore store.new }
+    ensures is { IsStore T.key store.new }
     ensures element { back_of store.old.chunks.items place.chunk place.at
         ≡ result ∷ drop 1 (back_of store.old.chunks.items place.chunk place.at) }
     ensures elements { elements_in store.new ≡ front_of store.old.chunks.items place.chunk place.at
@@ -126,16 +130,17 @@ pub(crate) fn take_out<T: Keyed + Drop>(store: &mut Store<T>, place: Place) -> T
 
 // Takes the only element of a chunk out, and the chunk with it; that of an empty list is kept to spare.
 fn take_only<T: Keyed + Drop>(store: &mut Store<T>, place: Place) -> T
-    requires is { IsStore store.old }
+    requires is { IsStore T.key store.old }
     requires element { IsElement store.old.chunks.items place.chunk place.at }
     requires only { length (chunk_at store.old.chunks.items place.chunk) ≡ 1 }
-    ensures is { IsStore store.new }
+    ensures is { IsStore T.key store.new }
     ensures element { back_of store.old.chunks.items place.chunk place.at
         ≡ result ∷ drop 1 (back_of store.old.chunks.items place.chunk place.at) }
     ensures elements { elements_in store.new ≡ front_of store.old.chunks.items place.chunk place.at
         ++ drop 1 (back_of store.old.chunks.items place.chunk place.at) }
     ensures room { room_in store.old ≤ room_in store.new }
 {
+    let _ = store.tops.numbers.remove(place.chunk);
     let mut chunk = store.chunks.remove(place.chunk);
     let element = chunk.remove(place.at);
     store.count -= 1;
@@ -147,10 +152,10 @@ fn take_only<T: Keyed + Drop>(store: &mut Store<T>, place: Place) -> T
 
 // Takes an element out of a chunk that has others.
 fn take_within<T: Keyed + Drop>(store: &mut Store<T>, place: Place) -> T
-    requires is { IsStore store.old }
+    requires is { IsStore T.key store.old }
     requires element { IsElement store.old.chunks.items place.chunk place.at }
     requires others { 1 < length (chunk_at store.old.chunks.items place.chunk) }
-    ensures is { IsStore store.new }
+    ensures is { IsStore T.key store.new }
     ensures element { back_of store.old.chunks.items place.chunk place.at
         ≡ result ∷ drop 1 (back_of store.old.chunks.items place.chunk place.at) }
     ensures elements { elements_in store.new ≡ front_of store.old.chunks.items place.chunk place.at
@@ -158,7 +163,7 @@ fn take_within<T: Keyed + Drop>(store: &mut Store<T>, place: Place) -> T
     ensures room { room_in store.old ≤ room_in store.new }
 {
     let before = store.chunks[place.chunk].len();
-    let element = remove_at(&mut store.chunks, place);
+    let element = remove_at(&mut store.chunks, &mut store.tops, place);
     store.count -= 1;
     store.excess = store.excess - over(before) + over(before - 1);
     element
@@ -170,8 +175,8 @@ pub(crate) fn make_room<T: Keyed + Drop>(
     store: &mut Store<T>,
     more: usize,
 ) -> Result<(), AllocError>
-    requires { IsStore store.old }
-    ensures is { IsStore store.new }
+    requires { IsStore T.key store.old }
+    ensures is { IsStore T.key store.new }
     ensures elements { store.new.chunks.items ≡ store.old.chunks.items }
     ensures ok { OnOk result (more ≤ room_in store.new) }
     ensures kept { room_in store.old ≤ room_in store.new }
@@ -188,7 +193,7 @@ pub(crate) fn make_room<T: Keyed + Drop>(
 
 // How many chunks to spare give room for so many elements more.
 fn wanted_for<T: Keyed + Drop>(store: &Store<T>, more: usize) -> usize
-    requires is { IsStore store.now }
+    requires is { IsStore T.key store.now }
     requires few { more ≤ chunks_limit }
     ensures { more ≤ room_of result (load_of store.now.chunks.items) }
 {
@@ -204,14 +209,15 @@ fn fill_spare<T: Keyed + Drop>(
     store: &mut Store<T>,
     wanted: usize,
 ) -> Result<(), AllocError>
-    requires is { IsStore store.old }
+    requires is { IsStore T.key store.old }
     requires few { vec_len store.old.chunks + wanted ≤ chunks_limit }
-    ensures is { IsStore store.new }
+    ensures is { IsStore T.key store.new }
     ensures chunks { store.new.chunks.items ≡ store.old.chunks.items }
     ensures kept { vec_len store.old.spare ≤ vec_len store.new.spare }
     ensures ok { OnOk result (wanted ≤ vec_len store.new.spare) }
 {
     store.chunks.reserve(wanted)?;
+    store.tops.numbers.reserve(wanted)?;
     store.spare.reserve(wanted + 1)?;
     while store.spare.len() < wanted {
         let chunk = Chunk::new(alloc)?;
@@ -222,11 +228,15 @@ fn fill_spare<T: Keyed + Drop>(
 
 /// The parts of the list with no element.
 pub(crate) fn empty<T: Keyed + Drop>(alloc: Global) -> Store<T>
-    ensures is { IsStore result }
+    ensures is { IsStore T.key result }
     ensures elements { result.chunks.items ≡ [] }
 {
     Store {
         chunks: Vec::new(alloc),
+        tops: Hints {
+            mark: usize::MAX,
+            numbers: Vec::new(alloc),
+        },
         spare: Vec::new(alloc),
         excess: 0,
         count: 0,
@@ -235,7 +245,7 @@ pub(crate) fn empty<T: Keyed + Drop>(alloc: Global) -> Store<T>
 
 /// The parts of a list of these elements.
 pub(crate) fn build<T: Keyed + Drop>(alloc: Global, list: Vec<T>) -> Result<Store<T>, AllocError>
-    ensures is { IfOk result IsStore }
+    ensures is { IfOk result (IsStore T.key) }
     ensures elements { IfOk result (λ store. elements_in store ≡ list.items) }
 {
     let mut store = empty(alloc);
@@ -248,9 +258,9 @@ pub(crate) fn build<T: Keyed + Drop>(alloc: Global, list: Vec<T>) -> Result<Stor
 
 // Moves elements to the end, the last one first.
 fn push_all<T: Keyed + Drop>(store: &mut Store<T>, rest: &mut Vec<T>)
-    requires is { IsStore store.old }
+    requires is { IsStore T.key store.old }
     requires room { vec_len rest.old ≤ room_in store.old }
-    ensures is { IsStore store.new }
+    ensures is { IsStore T.key store.new }
     ensures elements { elements_in store.new ≡ elements_in store.old ++ reverse rest.old.items }
 {
     while let Some(element) = rest.pop() {
@@ -260,9 +270,9 @@ fn push_all<T: Keyed + Drop>(store: &mut Store<T>, rest: &mut Vec<T>)
 
 // Puts an element at the end.
 fn push<T: Keyed + Drop>(store: &mut Store<T>, element: T)
-    requires is { IsStore store.old }
+    requires is { IsStore T.key store.old }
     requires room { 0 < room_in store.old }
-    ensures is { IsStore store.new }
+    ensures is { IsStore T.key store.new }
     ensures elements { elements_in store.new ≡ elements_in store.old ++ element ∷ [] }
     ensures room { room_in store.old ≤ room_in store.new + 1 }
 {

@@ -1,22 +1,23 @@
-use Rattle.std.proofs.Common.{◌≡◌, ◌∙◌, true, false, sym, subst, [], rules}
-use Rattle.std.proofs.lemmas.Fn.{always_returns_same}
+use Rattle.std.proofs.Common.{◌≡◌, ◌∙◌, ◌<◌, true, false, length, sym, subst, [], rules}
 use Rattle.std.proofs.lemmas.List.{get_or_default}
-use Rattle.std.specs.List.Sorted.{IsPartitionPoint}
+use Rattle.std.specs.List.Sorted.{IsPartitionPoint, IsPartitionedBy}
 use Rattle.chunked_list.specs.Joined.{chunk_at, first_passes}
 use Rattle.chunked_list.specs.Parted.{IsParted}
 use Rattle.chunked_list.proofs.Parting.{heads_parted, partitioned, parted_left, parted_right}
 use Rattle.chunked_list.proofs.Placing.{divides, joined_at}
 use Rattle.chunked_list.proofs.places.locate.Goals as goal
 
-pub returns-then-chunk-chunks-clause-divides : goal.returns-then-chunk-chunks-clause-divides
-returns-then-chunk-chunks-clause-divides g c =
+pub returns-then-chunk-len-clause-divides : goal.returns-then-chunk-len-clause-divides
+returns-then-chunk-len-clause-divides g c =
     let p = g.B.Bound.before c.args.bound.now in
+    let chunks = c.args.store.now.chunks.items in
     let k = c.saturating_sub-chunk.result in
-    let l = c.if-chunk-chunks.true in
-    let heads = c.partition_point-begun.ensures.partitioned (first_passes p) (always_returns_same _ _ _ (λ a r f k. search rules)) (partitioned (first_passes p) c.args.chunks.now (heads_parted p c.args.chunks.now c.requires.sized c.requires.parted)) in
-    let e = c.index-chunks-chunk.is ∙ get_or_default c.args.chunks.now k c.index-chunks-chunk.result [] l in
-    let whole = subst (IsParted p) (joined_at c.args.chunks.now k l) c.requires.parted in
-    let own = parted_left p (chunk_at c.args.chunks.now k) _ (parted_right p _ _ whole) in
-    let place = c.count_before-at.ensures.place (partitioned p c.index-chunks-chunk.result (subst (IsParted p) (sym e) own)) in
+    let l : k < length chunks = search rules in
+    let begun = subst (λ zs. IsPartitionedBy (first_passes p) zs) (sym c.deref.ensures.value) (partitioned (first_passes p) chunks (heads_parted p chunks c.requires.is.sized c.requires.parted)) in
+    let heads = subst (λ zs. IsPartitionPoint (λ ch. first_passes p ch ≡ true) (λ ch. first_passes p ch ≡ false) zs c.count_hinted-begun.result) c.deref.ensures.value (c.count_hinted-begun.ensures.place begun) in
+    let e = c.index.ensures ∙ get_or_default chunks k c.index.result.now [] l in
+    let whole = subst (IsParted p) (joined_at chunks k l) c.requires.parted in
+    let own = parted_left p (chunk_at chunks k) _ (parted_right p _ _ whole) in
+    let place = c.count_before-at.ensures.place (partitioned p c.index.result.now (subst (IsParted p) (sym e) own)) in
     let point = subst (λ zs. IsPartitionPoint (λ x. p x ≡ true) (λ x. p x ≡ false) zs c.count_before-at.result) e place in
-    divides p c.args.chunks.now c.requires.sized c.requires.parted c.partition_point-begun.result k c.count_before-at.result c.saturating_sub-chunk.ensures l heads point
+    divides p chunks c.requires.is.sized c.requires.parted c.count_hinted-begun.result k c.count_before-at.result c.saturating_sub-chunk.ensures l heads point

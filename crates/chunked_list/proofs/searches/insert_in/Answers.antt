@@ -1,7 +1,5 @@
-use Rattle.std.proofs.Common.{◌∙◌, sym, subst, ◌<◌, max, length}
+use Rattle.std.proofs.Common.{◌∙◌, sym, subst}
 use Rattle.std.proofs.lemmas.Bool.{false≢true}
-use Rattle.std.specs.Ordering.{is_lt}
-use Rattle.chunked_list.specs.Parted.{IsParted, Divides}
 use Rattle.tree_clock.specs.Lists.{Has}
 use Rattle.chunked_list.specs.Joined.{joined_chunks, front_of, back_of}
 use Rattle.chunked_list.proofs.Parting.{parted_ascending}
@@ -10,17 +8,16 @@ use Rattle.chunked_list.proofs.searches.insert_in.Goals as goal
 
 pub locate-place-requires-clause-parted : goal.locate-place-requires-clause-parted
 locate-place-requires-clause-parted g c =
-    subst (λ zs. IsParted (λ y. is_lt (g.O.Order.order c.args.order.now y c.args.element)) (joined_chunks zs)) (sym c.deref.ensures.value)
-    (parted_ascending (g.O.Order.order c.args.order.now) (g.met.O.Order.total c.args.order.now) c.args.element (joined_chunks c.args.store.now.chunks.items) c.requires.ascending)
+    parted_ascending (g.O.Order.order c.args.order.now) (g.met.O.Order.total c.args.order.now) c.args.element (joined_chunks c.args.store.now.chunks.items) c.requires.ascending
 
 pub returns-clause-ascending : goal.returns-clause-ascending
 returns-clause-ascending g c =
     let chunks = c.args.store.now.chunks.items in
     let k = c.locate-place.result.chunk in
     let at = c.locate-place.result.at in
-    let d = subst (λ zs. Divides (λ y. is_lt (g.O.Order.order c.args.order.now y c.args.element)) zs k at) c.deref.ensures.value c.locate-place.ensures.divides in
-    let l = subst (λ zs. k < max 1 (length zs)) c.deref.ensures.value c.locate-place.ensures.chunk in
-    let n : ¬ Has (joined_chunks chunks) c.args.element = λ h. false≢true (sym c.if-has_behind.false ∙ c.has_behind.ensures.1 (subst (λ zs. Has (joined_chunks zs) c.args.element) (sym c.deref-2.ensures.value) h)) in
+    let d = c.locate-place.ensures.divides in
+    let l = c.locate-place.ensures.chunk in
+    let n : ¬ Has (joined_chunks chunks) c.args.element = λ h. false≢true (sym c.if-has_behind.false ∙ c.has_behind.ensures.1 (subst (λ zs. Has (joined_chunks zs) c.args.element) (sym c.deref.ensures.value) h)) in
     put_ascends (g.O.Order.order c.args.order.now) (g.met.O.Order.total c.args.order.now) (g.met.O.Order.exact c.args.order.now)
     (joined_chunks chunks) (front_of chunks k at) (back_of chunks k at) _ c.args.element (whole_any chunks k at l) c.put.ensures.elements c.requires.ascending d.front d.back n
 
@@ -29,6 +26,6 @@ returns-clause-members g c =
     let chunks = c.args.store.now.chunks.items in
     let k = c.locate-place.result.chunk in
     let at = c.locate-place.result.at in
-    let l = subst (λ zs. k < max 1 (length zs)) c.deref.ensures.value c.locate-place.ensures.chunk in
+    let l = c.locate-place.ensures.chunk in
     put_has (g.O.Order.order c.args.order.now) (g.met.O.Order.total c.args.order.now) (g.met.O.Order.exact c.args.order.now)
     (joined_chunks chunks) (front_of chunks k at) (back_of chunks k at) _ c.args.element (whole_any chunks k at l) c.put.ensures.elements

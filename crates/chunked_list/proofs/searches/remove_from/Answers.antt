@@ -1,8 +1,6 @@
-use Rattle.std.proofs.Common.{sym, subst}
-use Rattle.std.specs.Ordering.{is_lt}
+use Rattle.std.proofs.Common.{subst}
 use Rattle.tree_clock.specs.Lists.{Has}
 use Rattle.chunked_list.specs.Joined.{joined_chunks, front_of, back_of}
-use Rattle.chunked_list.specs.Parted.{IsParted, Divides, IsElement}
 use Rattle.chunked_list.proofs.Parting.{parted_ascending}
 use Rattle.chunked_list.proofs.Placing.{whole}
 use Rattle.chunked_list.proofs.Standing.{taken_ascends, taken_has}
@@ -10,15 +8,14 @@ use Rattle.chunked_list.proofs.searches.remove_from.Goals as goal
 
 pub find-requires-clause-parted : goal.find-requires-clause-parted
 find-requires-clause-parted g c =
-    subst (λ zs. IsParted (λ y. is_lt (g.O.Order.order c.args.order.now y c.args.element.now)) (joined_chunks zs)) (sym c.deref.ensures.value)
-    (parted_ascending (g.O.Order.order c.args.order.now) (g.met.O.Order.total c.args.order.now) c.args.element.now (joined_chunks c.args.store.now.chunks.items) c.requires.ascending)
+    parted_ascending (g.O.Order.order c.args.order.now) (g.met.O.Order.total c.args.order.now) c.args.element.now (joined_chunks c.args.store.now.chunks.items) c.requires.ascending
 
 pub returns-then-is_at-clause-ascending : goal.returns-then-is_at-clause-ascending
 returns-then-is_at-clause-ascending g c =
     let chunks = c.args.store.now.chunks.items in
     let k = c.in-Some.place.chunk in
     let at = c.in-Some.place.at in
-    let i = subst (λ zs. IsElement zs k at) c.deref.ensures.value c.in-Some.ensures.element in
+    let i = c.in-Some.ensures.element in
     taken_ascends (g.O.Order.order c.args.order.now) (g.met.O.Order.total c.args.order.now) (g.met.O.Order.exact c.args.order.now)
     (joined_chunks chunks) (front_of chunks k at) (back_of chunks k at) _ c.take_out.result c.args.element.now
     (whole chunks k at i.chunk_is) c.take_out.ensures.element c.take_out.ensures.elements c.requires.ascending
@@ -28,9 +25,9 @@ returns-then-is_at-clause-members g c =
     let chunks = c.args.store.now.chunks.items in
     let k = c.in-Some.place.chunk in
     let at = c.in-Some.place.at in
-    let i = subst (λ zs. IsElement zs k at) c.deref.ensures.value c.in-Some.ensures.element in
-    let d = subst (λ zs. Divides (λ y. is_lt (g.O.Order.order c.args.order.now y c.args.element.now)) zs k at) c.deref.ensures.value c.in-Some.ensures.divides in
-    let h = subst (λ zs. Has (joined_chunks zs) c.args.element.now) c.deref-in-Some.ensures.value (c.is_at.ensures.0 c.if-is_at.true) in
+    let i = c.in-Some.ensures.element in
+    let d = c.in-Some.ensures.divides in
+    let h = subst (λ zs. Has (joined_chunks zs) c.args.element.now) c.deref.ensures.value (c.is_at.ensures.0 c.if-is_at.true) in
     taken_has (g.O.Order.order c.args.order.now) (g.met.O.Order.total c.args.order.now) (g.met.O.Order.exact c.args.order.now)
     (joined_chunks chunks) (front_of chunks k at) (back_of chunks k at) _ c.take_out.result c.args.element.now
     (whole chunks k at i.chunk_is) c.take_out.ensures.element c.take_out.ensures.elements c.requires.ascending d.front d.back h

@@ -5,10 +5,11 @@ use Rattle.chunked_list.proofs.stores.fill_spare.Given as goal
 
 abbrev pub invariant-loop-alloc : goal.invariant-loop-alloc
 invariant-loop-alloc g l = record {
-  is : IsStore l.store;
+  is : IsStore g.T.Keyed.key l.store;
   chunks : l.store.chunks.items ≡ l.initial.store.chunks.items;
   kept : vec_len l.initial.store.spare ≤ vec_len l.store.spare;
   chunk_room : vec_len l.store.chunks + l.wanted ≤ vec_capacity l.store.chunks;
+  tops_room : vec_len l.store.chunks + l.wanted ≤ vec_capacity l.store.tops.numbers;
   spare_room : l.wanted + 1 ≤ vec_capacity l.store.spare;
   few : vec_len l.store.chunks + l.wanted ≤ chunks_limit;
 }

@@ -4,7 +4,7 @@ use Rattle.chunked_list.proofs.stores.push_all.Given as goal
 
 abbrev pub invariant-loop-element : goal.invariant-loop-element
 invariant-loop-element g l = record {
-  is : IsStore l.store;
+  is : IsStore g.T.Keyed.key l.store;
   room : vec_len l.rest ≤ room_in l.store;
   elements : elements_in l.initial.store ++ reverse l.initial.rest.items ≡ elements_in l.store ++ reverse l.rest.items;
 }

@@ -25,6 +25,8 @@ returns-in-Some-clause-is g c =
       count = omega (arith, k, c.requires.is.count);
       chunk_room = omega (arith, c.insert_at.ensures.len, c.insert_at.ensures.capacity, c.split_at.ensures.len, c.split_at.ensures.capacity, c.in-Some.ensures.cases, c.requires.is.chunk_room);
       spare_room = omega (arith, c.insert_at.ensures.len, c.split_at.ensures.len, c.in-Some.ensures.cases, c.pop.ensures.capacity, c.requires.is.spare_room, c.requires.chunk);
+      tops = c.split_at.ensures.is;
+      tops_room = omega (arith, c.insert_at.ensures.len, c.insert_at.ensures.tops_room, c.split_at.ensures.len, c.split_at.ensures.tops_room, c.in-Some.ensures.cases, c.requires.is.tops_room);
       few = omega (arith, c.insert_at.ensures.len, c.split_at.ensures.len, c.in-Some.ensures.cases, c.requires.is.few);
     }
 

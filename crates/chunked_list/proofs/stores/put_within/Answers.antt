@@ -31,6 +31,8 @@ returns-clause-is g c =
       count = omega (arith, k, c.requires.is.count);
       chunk_room = omega (arith, c.insert_at.ensures.len, c.insert_at.ensures.capacity, c.requires.is.chunk_room);
       spare_room = omega (arith, c.insert_at.ensures.len, c.requires.is.spare_room);
+      tops = c.insert_at.ensures.is;
+      tops_room = omega (arith, c.insert_at.ensures.len, c.insert_at.ensures.tops_room, c.requires.is.tops_room);
       few = omega (arith, c.insert_at.ensures.len, c.requires.is.few);
     }
 

@@ -1,8 +1,10 @@
 use Rattle.std.proofs.Common.{◌∙◌, ◌<◌, sym, ap, subst, arith, length, rules}
 use Rattle.chunked_list.specs.Joined.{joined_chunks}
+use Rattle.chunked_list.specs.Hinted.{top_key}
 use Rattle.chunked_list.specs.Stores.{AreSized}
 use Rattle.chunked_list.specs.Room.{excess_of}
 use Rattle.chunked_list.proofs.Storing.{joined_only, count_remove, excess_remove, sized_remove, room_less}
+use Rattle.chunked_list.proofs.Sharing.{taken_hinted}
 use Rattle.chunked_list.proofs.stores.take_only.Goals as goal
 
 pub returns-else-is_empty-clause-is : goal.returns-else-is_empty-clause-is
@@ -20,6 +22,9 @@ returns-else-is_empty-clause-is g c =
       count = omega (arith, k, n, c.requires.only, c.requires.is.count);
       chunk_room = omega (arith, c.remove-chunk.ensures.len, c.remove-chunk.ensures.capacity, c.requires.is.chunk_room);
       spare_room = omega (arith, c.remove-chunk.ensures.len, c.requires.is.spare_room);
+      tops = taken_hinted (top_key g.T.Keyed.key) c.args.store.now.tops.mark c.args.place.chunk c.args.store.now.chunks.items c.remove-chunk.new.self.items c.args.store.now.tops.numbers.items c.remove.new.self.items
+          c.requires.is.tops i c.remove.ensures.items;
+      tops_room = omega (arith, c.remove-chunk.ensures.len, c.remove.ensures.capacity, c.requires.is.tops_room);
       few = omega (arith, c.remove-chunk.ensures.len, c.requires.is.few);
     }
 

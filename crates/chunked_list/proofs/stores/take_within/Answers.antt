@@ -30,6 +30,8 @@ returns-clause-is g c =
       count = omega (arith, k, c.requires.is.count);
       chunk_room = omega (arith, c.remove_at-element.ensures.len, c.remove_at-element.ensures.capacity, c.requires.is.chunk_room);
       spare_room = omega (arith, c.remove_at-element.ensures.len, c.requires.is.spare_room);
+      tops = c.remove_at-element.ensures.is;
+      tops_room = omega (arith, c.remove_at-element.ensures.len, c.remove_at-element.ensures.tops_room, c.requires.is.tops_room);
       few = omega (arith, c.remove_at-element.ensures.len, c.requires.is.few);
     }
 

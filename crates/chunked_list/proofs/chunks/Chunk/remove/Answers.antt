@@ -6,9 +6,7 @@ pub invariant_of-self : goal.invariant_of-self
 invariant_of-self g c = (
   omega (arith, c.self.invariant.0, c.remove-2.ensures.len),
   omega (arith, c.self.invariant.1, c.remove-2.ensures.capacity),
-  record {
-    hinted = taken_hinted g.T.Keyed.key c.self.inside.hints.mark c.args.at c.self.inside.elements.items c.remove-2.new.self.items c.self.inside.hints.numbers.items c.remove.new.self.items
-        c.self.invariant.2.hinted c.remove-2.ensures.items c.remove.ensures.items;
-    room = omega (arith, c.self.invariant.2.room, c.remove.ensures.capacity);
-  },
+  taken_hinted g.T.Keyed.key c.self.inside.hints.mark c.args.at c.self.inside.elements.items c.remove-2.new.self.items c.self.inside.hints.numbers.items c.remove.new.self.items
+      c.self.invariant.2 c.remove-2.ensures.items c.remove.ensures.items,
+  omega (arith, c.self.invariant.3, c.remove.ensures.capacity),
 )

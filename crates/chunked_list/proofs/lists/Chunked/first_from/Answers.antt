@@ -1,8 +1,8 @@
-use Rattle.std.proofs.Common.{◌≡◌, ◌∙◌, ◌++◌, [], sym, subst, ap, true, get_or, inl, refl, drop, None, Some}
+use Rattle.std.proofs.Common.{◌≡◌, ◌∙◌, ◌++◌, [], sym, subst, ap, get_or, inl, refl, drop, None, Some}
 use Rattle.std.proofs.lemmas.List.{get_or_default}
 use Rattle.tree_clock.specs.Lists.{Has}
 use Rattle.chunked_list.specs.Joined.{joined_chunks, front_of, back_of}
-use Rattle.chunked_list.specs.Parted.{Divides, IsElement, IsFirstOf}
+use Rattle.chunked_list.specs.Parted.{IsFirstOf}
 use Rattle.chunked_list.proofs.Placing.{whole}
 use Rattle.chunked_list.proofs.Standing.{first_is, first_none}
 use Rattle.chunked_list.proofs.Storing.{back_first}
@@ -12,7 +12,7 @@ pub returns-in_err-place : goal.returns-in_err-place
 returns-in_err-place g c =
     let p = g.B.Bound.before c.args.bound.now in
     let chunks = c.self.inside.store.chunks.items in
-    let n = subst (λ zs. (y : _) → Has (joined_chunks zs) y → p y ≡ true) c.deref.ensures.value c.in_err-place.ensures.none in
+    let n = c.in_err-place.ensures.none in
     let v = ap (λ w. w.elements) c.self.view_is in
     rw c.from_residual.ensures (subst (λ zs. IsFirstOf p zs None) v (first_none p (joined_chunks chunks) n))
 
@@ -23,8 +23,8 @@ returns g c =
     let k = c.in_ok-place.place.chunk in
     let at = c.in_ok-place.place.at in
     let b = c.index-as_slice-place.result in
-    let i = subst (λ zs. IsElement zs k at) c.deref.ensures.value c.in_ok-place.ensures.element in
-    let d = subst (λ zs. Divides p zs k at) c.deref.ensures.value c.in_ok-place.ensures.divides in
+    let i = c.in_ok-place.ensures.element in
+    let d = c.in_ok-place.ensures.divides in
     let e = c.index.ensures ∙ get_or_default chunks k c.index.result.now [] i.chunk_is in
     let w = subst (λ zs. b ≡ get_or zs at b) (c.as_slice.ensures ∙ e) c.index-as_slice-place.is in
     let f = back_first chunks k at b i.at_is w in
