@@ -1,5 +1,5 @@
 //! The pairs of a graph once more, by dot.
-ghost use Rattle.std.specs.Prelude.{◌≡◌, ◌≤◌, ◌++◌, ◌⊎◌, ◌↔◌, List, IsTrue, IfOk, OnOk, vec_len};
+ghost use Rattle.std.specs.Prelude.{◌≡◌, ◌≢◌, ◌≤◌, ◌++◌, ◌⊎◌, ◌↔◌, List, None, IsTrue, IfOk, OnOk, vec_len};
 ghost use Rattle.chunked_list.specs.Joined.{joined_chunks};
 ghost use Rattle.graph_index.specs.DotOrder.{by_dot_cmp};
 ghost use Rattle.graph_index.specs.Indexing.{IsIndex, HasJust};
@@ -45,6 +45,8 @@ pub(crate) fn get_ready(
     requires same { HasJust index.old.dots (joined_chunks pairs.now) }
     ensures index { IsIndex index.new }
     ensures same { HasJust index.new.dots (joined_chunks pairs.now) }
+    ensures made { OnOk result (index.new.dots ≢ None) }
+    ensures copies { OnOk result (index.new.copies.items ≡ adds.now) }
 {
     index.copies.clear();
     if index.dots.is_none() {
@@ -105,7 +107,8 @@ fn make_room(
     adds: &[Tagged],
 ) -> Result<Vec<ByDot>, AllocError>
     ensures elements { list.new.elements ≡ list.old.elements }
-    ensures copies { IfOk result (λ copies. vec_len copies ≤ list.new.room) }
+    ensures room { IfOk result (λ copies. vec_len copies ≤ list.new.room) }
+    ensures copies { IfOk result (λ copies. copies.items ≡ adds.now) }
 {
     list.prepare(alloc, adds.len())?;
     let mut copies = Vec::new(alloc);

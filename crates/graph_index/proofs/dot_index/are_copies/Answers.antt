@@ -1,4 +1,4 @@
-use Rattle.std.proofs.Common.{◌<◌, length, ap, arith}
+use Rattle.std.proofs.Common.{◌<◌, length, arith}
 use Rattle.graph_index.proofs.Changing.{same_more}
 use Rattle.graph_index.proofs.dot_index.are_copies.Goals as goal
 
