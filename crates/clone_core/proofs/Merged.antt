@@ -1,5 +1,5 @@
 -- A clone that merges a snapshot, and what a refusal leaves.
-use Rattle.std.proofs.Common.{◌≡◌, ◌∙◌, ℕ, ◌-◌, ◌^◌, List, ◌↔◌, Option, Result, Ok, Err, IsOk, IsErrOf, length, refl, sym, ap, subst, arith}
+use Rattle.std.proofs.Common.{◌≡◌, ◌∙◌, ℕ, ◌+◌, ◌-◌, ◌^◌, List, ◌↔◌, ◌⊎◌, inl, inr, Option, None, Some, Result, Ok, Err, IsOk, IsErrOf, length, refl, sym, ap, subst, arith}
 use Rattle.mld_io.specs.Arm.{Meter, Metered}
 use Rattle.mld_ops.specs.Entry.{EntryValue}
 use Rattle.mld_ops.specs.Messages.{SnapshotValue}
@@ -7,6 +7,7 @@ use Rattle.journal_store.specs.Standing.{JournalValue}
 use Rattle.journal_store.specs.declared.faults.SwapFault.{SwapFault}
 use Rattle.journal_store.specs.declared.faults.SwapFault.TheVariants as swap
 use Rattle.journal_store.specs.declared.faults.Why.{Why}
+use Rattle.journal_store.specs.declared.faults.Why.TheVariants as why
 use Rattle.mld_model.specs.Local.{LocalClone, IsLocal, LocallyReleases, LocallyMerges, KnowsSnapshot}
 use Rattle.mld_model.proofs.MergedStands.{merged_local}
 use Rattle.clone_plans.specs.Merges.{IsMergeOf}
@@ -18,8 +19,9 @@ use Rattle.clone_banks.specs.Swapping.{LeavesUnmerged}
 use Rattle.clone_banks.proofs.MeterLaws.{Metered-none}
 use Rattle.journal_store.proofs.Reading.{metered_as}
 use Rattle.clone_banks.proofs.RefusedLaws.{err_same, ok_err}
+use Rattle.clone_core.specs.Banked.{BankedClone}
 use Rattle.clone_core.specs.CloneFaults.{receive_fault_of_swap}
-use Rattle.clone_core.specs.Merging.{MergeCalls}
+use Rattle.clone_core.specs.Merging.{MergeCalls, ShutsMerging, StopsMerge}
 use Rattle.clone_core.specs.declared.answers.Got.{Got}
 use Rattle.clone_core.specs.declared.faults.ReceiveFault.{ReceiveFault}
 use Rattle.clone_core.specs.declared.faults.ReceiveFault.TheVariants as fault
@@ -85,6 +87,36 @@ spent_as told had generation same spent = (
   λ e. let has = spent.0 (ap Err (spent_of told (err_same e))) in (sym same ∙ has.0, λ n. has.1 (ap Err (memory_of told (err_same n)))),
   λ has. ap Err (ap receive_fault_of_swap (err_same (spent.1 (same ∙ has.0, λ n. has.1 (ap Err (ap receive_fault_of_swap (err_same n))))))),
 )
+
+-- ---- what a refusal leaves
+
+abbrev banked : {B : Type 0} → LocalClone → JournalValue B → Option Why → BankedClone B
+banked local journal closed = record { local = local; generation = journal.generation; closed = closed; banks = journal.banks }
+
+module _ {B : Type 0} (before behind : JournalValue B) (had shut : Option Why) (local : LocalClone) (old : BankedClone B) (same : banked local before had ≡ old) (opened : old.closed ≡ None) where
+  unchanged : behind ≡ before → shut ≡ None → banked local behind shut ≡ old
+  unchanged j s =
+      let open_still : shut ≡ had = s ∙ sym (ap (λ (clone : BankedClone B). clone.closed) same ∙ opened) in
+      (λ i. banked local (j i) (open_still i)) ∙ same
+
+  shuts : (reason : Why) → shut ≡ Some reason → ((behind.generation ≡ before.generation) ⊎ (behind.generation ≡ before.generation + 1)) → ShutsMerging old reason (banked local behind shut)
+  shuts reason s h = record {
+    was = opened;
+    now = s;
+    local = ap (λ (clone : BankedClone B). clone.local) same;
+    generation = next h;
+  }
+    where
+      next : ((behind.generation ≡ before.generation) ⊎ (behind.generation ≡ before.generation + 1)) → ((behind.generation ≡ old.generation) ⊎ (behind.generation ≡ old.generation + 1))
+      next (inl e) = inl (e ∙ ap (λ (clone : BankedClone B). clone.generation) same)
+      next (inr e) = inr (e ∙ ap (λ (clone : BankedClone B). clone.generation + 1) same)
+
+  pub unmerged_stops : (told : SwapFault) → LeavesUnmerged before behind shut told → StopsMerge old (banked local behind shut) (receive_fault_of_swap told)
+  unmerged_stops (swap.Closed reason) h = absurd h
+  unmerged_stops swap.GenerationsSpent h = unchanged h.0 h.1
+  unmerged_stops swap.Device h = shuts why.Device h.0 h.1
+  unmerged_stops swap.NoMemory (inl h) = inl (unchanged h.0 h.1)
+  unmerged_stops swap.NoMemory (inr h) = inr (shuts why.NoMemory h.0 h.1)
 
 -- ---- calls of the device
 

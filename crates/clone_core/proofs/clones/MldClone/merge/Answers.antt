@@ -14,7 +14,7 @@ use Rattle.clone_banks.specs.BankCalls.{append_calls, swap_calls}
 use Rattle.clone_core.specs.View.{local_of}
 use Rattle.clone_core.specs.declared.answers.Got.TheVariants as got
 use Rattle.clone_core.proofs.AppendLaws.{unmerged_on_banks}
-use Rattle.clone_core.proofs.Merged.{released_ready, merged_clone, merged_is_local, spent_as, no_merge_calls, merged_calls, unmerged_calls}
+use Rattle.clone_core.proofs.Merged.{released_ready, merged_clone, merged_is_local, spent_as, unmerged_stops, no_merge_calls, merged_calls, unmerged_calls}
 use Rattle.clone_core.proofs.Swapping.{swapped_on_banks}
 use Rattle.clone_core.proofs.Taking.{ranges_length}
 use Rattle.clone_core.proofs.clones.MldClone.merge.Goals as goal
@@ -43,6 +43,14 @@ returns-in_err-swap_and_append-clause-spent g c =
     rw (p.1, p.2)
     (spent_as {T = Unit {0}} c.in_err-swap_and_append.field-0.0 c.self.inside.journal.generation c.args.self.now.generation (ap (λ v. v.generation) c.self.view_is)
     c.in_err-swap_and_append.ensures.spent)
+
+pub returns-in_err-swap_and_append-clause-left : goal.returns-in_err-swap_and_append-clause-left
+returns-in_err-swap_and_append-clause-left g c =
+    let told = c.in_err-swap_and_append.field-0.0 in
+    let p = err_from_is_err_and c.from_residual-in_err-swap_and_append.result c.from_residual-in_err-swap_and_append.ensures.1 in
+    rw (p.1, p.2)
+    (unmerged_stops c.self.inside.journal c.swap_and_append.new.journal c.self.inside.closed c.swap_and_append.new.closed (local_of c.self.inside) c.args.self.now c.self.view_is c.requires.opened told
+    c.in_err-swap_and_append.ensures.err)
 
 pub returns-in_err-swap_and_append-clause-meter : goal.returns-in_err-swap_and_append-clause-meter
 returns-in_err-swap_and_append-clause-meter g c =
