@@ -1,12 +1,12 @@
 -- What a bank in memory is, and what each call leaves of it.
-use Rattle.std.specs.Prelude.{◌≡◌, ◌≢◌, ◌⊎◌, ℕ, List, Result, Ok, Err, ⊤}
+use Rattle.std.specs.Prelude.{◌≡◌, ◌≢◌, ◌⊎◌, ℕ, List, [], Result, Ok, Err, ⊤}
 use Rattle.mld_io.specs.declared.banks.Side.{Side}
 use Rattle.mld_io.specs.declared.banks.Leave.{Leave}
-use Rattle.mld_io.specs.declared.banks.Leave.TheVariants.{Keep}
+use Rattle.mld_io.specs.declared.banks.Leave.TheVariants.{Keep, Lose}
 use Rattle.mld_io.specs.declared.faults.IoFault.{IoFault}
 use Rattle.mld_io.specs.declared.faults.IoFault.TheVariants as io
-use Rattle.mld_io.specs.Arm.{Armed}
-use Rattle.mld_io.specs.Disk.{Log, bytes_of}
+use Rattle.mld_io.specs.Arm.{Armed, Unarmed}
+use Rattle.mld_io.specs.Disk.{Log, Sides, bytes_of}
 use Rattle.disk_model.specs.declared.steps.Step.TheVariants as step
 use Rattle.disk_model.specs.CountedCalls.{CallsValue, IsRefusedNext, RefusesCall, CatchesCall, counted_call, lowered_call}
 use Rattle.disk_model.specs.SideSteps.{left_by, log_of}
@@ -17,6 +17,18 @@ pub record BanksValue : Type 0 where
   pub store : StoreValue
   pub calls : CallsValue
   pub leave : Leave
+
+-- a bank of these bytes, all of them durable: no call was made, none is to fail, and it isn't armed
+abbrev pub whole_bank : Sides → BanksValue
+whole_bank sides = record {
+  store = record { first = sides; steps = [] };
+  calls = record { next = 0; fails = []; meter = record { faults = 0; real_faults = 0; arm = Unarmed } };
+  leave = Lose;
+}
+
+-- a bank that has none
+abbrev pub blank_bank : BanksValue
+blank_bank = whole_bank (record { a = []; b = [] })
 
 -- its log
 abbrev pub memory_log : BanksValue → Log

@@ -1,9 +1,9 @@
 //! A bank in memory.
-ghost use Rattle.std.specs.Prelude.{◌≡◌, ◌↔◌, ℕ, ◌+◌, ◌^◌, ◌<◌, ◌≤◌, ◌++◌, [], ◌∷◌, Option, None, Some, Ok, length, take, drop, IsTrue, IsOk, IfOk, OnOk, OnErr, IsErrOf, IsSome, refl, vec_len};
+ghost use Rattle.std.specs.Prelude.{◌≡◌, ◌↔◌, ℕ, ◌+◌, ◌^◌, ◌<◌, ◌≤◌, ◌++◌, [], ◌∷◌, Option, None, Some, Ok, length, take, drop, replicate, IsTrue, IsOk, IfOk, OnOk, OnErr, IsErrOf, IsSome, refl, vec_len};
 ghost use Rattle.mld_io.specs.Arm.{Meter, Unarmed, Caught, Metered, armed, revived};
 ghost use Rattle.mld_io.specs.Disk.{Log, Writes, Revives, Syncs, Wrote, bytes_of, grown, seen};
 ghost use Rattle.disk_model.specs.CountedCalls.{armed_calls, revived_calls};
-ghost use Rattle.disk_model.specs.BankSteps.{BanksValue, ReadMoves, WriteMoves, SyncMoves, memory_log, read_of};
+ghost use Rattle.disk_model.specs.BankSteps.{BanksValue, ReadMoves, WriteMoves, SyncMoves, blank_bank, memory_log, read_of, whole_bank};
 ghost use Rattle.disk_model.specs.SideSteps.{left_by};
 ghost use Rattle.disk_model.specs.Store.{cut};
 
@@ -35,7 +35,7 @@ impl Model for MemoryBanks {
 impl MemoryBanks {
     /// A bank whose sides have no bytes, which takes no memory.
     pub fn blank(alloc: Global) -> MemoryBanks
-        ensures { result ≡ record { store = record { first = record { a = []; b = [] }; steps = [] }; calls = record { next = 0; fails = []; meter = record { faults = 0; real_faults = 0; arm = Unarmed } }; leave = Leave.Lose } }
+        ensures { result ≡ blank_bank }
     {
         MemoryBanks {
             store: Store::blank(alloc),
@@ -46,7 +46,7 @@ impl MemoryBanks {
 
     /// A bank whose sides have these bytes, all of them durable.
     pub fn with_bytes(alloc: Global, a: &[u8], b: &[u8]) -> Result<MemoryBanks, AllocError>
-        ensures { IfOk result (λ m. m ≡ record { store = record { first = record { a = a.now; b = b.now }; steps = [] }; calls = record { next = 0; fails = []; meter = record { faults = 0; real_faults = 0; arm = Unarmed } }; leave = Leave.Lose }) }
+        ensures { IfOk result (λ m. m ≡ whole_bank (record { a = a.now; b = b.now })) }
     {
         Ok(MemoryBanks {
             store: Store::with_bytes(alloc, a, b)?,
@@ -208,7 +208,7 @@ fn copy_from(bytes: &[u8], at: usize, out: &mut [u8])
 
 /// So many blank banks.
 pub fn blank_banks(alloc: Global, count: usize) -> Result<Vec<MemoryBanks>, AllocError>
-    ensures count { IfOk result (λ banks. vec_len banks ≡ count) }
+    ensures { IfOk result (λ banks. banks.items ≡ replicate count blank_bank) }
 {
     let mut banks = Vec::with_capacity(alloc, count)?;
     for _ in 0..count {
