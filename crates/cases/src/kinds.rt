@@ -2,7 +2,10 @@
 //! where the line isn't one of its kind.
 use crate::held::Held;
 use crate::lines::Line;
-use crate::{contexts, expanding, shorts, subjects, types, variables, written};
+use crate::{
+    comparisons, contexts, expanding, forms, orders, references, shorts, subjects, tags, triples,
+    types, written,
+};
 use std::alloc::{AllocError, Global};
 
 /// What a line gives.
@@ -19,7 +22,12 @@ pub fn given_by(
         "id" => expanding::id_given_by(alloc, held, input),
         "type" => types::given_by(alloc, held, input),
         "short" => shorts::given_by(alloc, held, input),
-        "variable" => variables::given_by(alloc, input),
+        "absolute" | "domain" | "variable" => forms::given_by(alloc, line.word, input),
+        "tag" => tags::given_by(alloc, input),
+        "resolve" => references::given_by(alloc, input),
+        "triple" => triples::given_by(alloc, input),
+        "order" => orders::given_by(alloc, input),
+        "escaped" | "closed" | "common" => comparisons::given_by(alloc, line.word, input),
         "pattern" | "insert" => subjects::given_by(alloc, held, line.word, input),
         "count" => subjects::count_given_by(alloc, held, input),
         "written" => written::written_given_by(alloc, held, input),

@@ -1,19 +1,24 @@
 //! Runs the cases of each file of the folder where it runs, and writes each of them that gives something else than it has to give.
 #![tactic(auto)]
 
+mod comparisons;
 mod contexts;
 mod expanding;
 mod faults;
+mod forms;
 mod held;
 mod kinds;
 mod lines;
+mod orders;
+mod references;
 mod shorts;
 mod slots;
 mod subjects;
+mod tags;
 mod tallies;
 mod texts;
+mod triples;
 mod types;
-mod variables;
 mod written;
 
 use held::Held;
@@ -27,12 +32,16 @@ use tallies::{Tally, count, none_differs};
 fn main(rt: HostRuntime) -> io::Result<ExitCode> {
     let names = names_of_files(&rt)?;
     let mut tallies = Vec::new(rt.alloc());
+    let mut empty = 0u64;
     for name in &names {
-        let text = fs::read_to_string(&rt, name.as_str())?;
-        run_lines(&rt, name.as_str(), text.as_str(), &mut tallies)?;
+        if !run_file(&rt, name.as_str(), &mut tallies)? {
+            empty = empty.saturating_add(1);
+        }
     }
     print_tallies(&rt, &tallies)?;
-    Ok(ExitCode::from(if none_differs(&tallies) { 0 } else { 1 }))
+    println!(rt; "{} files, {empty} without a case", names.len())?;
+    let is_so = empty == 0 && none_differs(&tallies);
+    Ok(ExitCode::from(if is_so { 0 } else { 1 }))
 }
 
 /// The names of the files here that end with `.txt`, in order.
@@ -49,23 +58,39 @@ fn names_of_files<R: Files + Alloc<A = Global> + Clone + Drop>(rt: &R) -> io::Re
     Ok(names)
 }
 
-/// Runs the lines of a file, which holds nothing at first.
+/// Runs the cases of a file; whether it has any. That it has none is written.
+fn run_file<R: Files + Print + Alloc<A = Global>>(
+    rt: &R,
+    name: &str,
+    tallies: &mut Vec<Tally>,
+) -> io::Result<bool> {
+    let text = fs::read_to_string(rt, name)?;
+    let has_cases = run_lines(rt, name, text.as_str(), tallies)?;
+    if !has_cases {
+        println!(rt; "{name}: no case")?;
+    }
+    Ok(has_cases)
+}
+
+/// Runs the lines of a file, which holds nothing at first; whether one of them is a case.
 fn run_lines<R: Print + Alloc<A = Global>>(
     rt: &R,
     name: &str,
     text: &str,
     tallies: &mut Vec<Tally>,
-) -> io::Result<()> {
+) -> io::Result<bool> {
     let mut held = Held::new();
     let mut place = 0u64;
+    let mut has_cases = false;
     for text in text.lines() {
         place = place.saturating_add(1);
         if let Some(line) = line_of(text) {
+            has_cases = true;
             let is_so = gives_what_is_wanted(rt, name, place, &mut held, &line)?;
             count(rt.alloc(), tallies, line.word, is_so)?;
         }
     }
-    Ok(())
+    Ok(has_cases)
 }
 
 /// Whether a line gives what it has to give. What differs is written.
