@@ -1,16 +1,12 @@
-//! Tests of IRIs, texts, terms and triples, through their public calls. They stand in a crate of their own, so that those crates aren't
-//! proved a second time with their tests.
+//! Tests of IRIs, texts and terms that no line of data can show: limits, refusals of constructors, copies, and the calls that the
+//! crate `cases` doesn't make. They stand in a crate of their own, so that those crates aren't proved a second time with their tests.
 #![tactic(auto)]
 
 #[cfg(test)]
-mod iris;
+mod copies;
 #[cfg(test)]
-mod places;
+mod limits;
 #[cfg(test)]
-mod references;
-#[cfg(test)]
-mod terms;
+mod refusals;
 #[cfg(test)]
 mod texts;
-#[cfg(test)]
-mod triples;

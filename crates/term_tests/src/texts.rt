@@ -1,44 +1,51 @@
-//! Language tags, bytes at places, and comparisons of texts as they would be written.
-use std::cmp::Ordering;
+//! Texts, their bytes, and single characters.
+use iri_rules::Text;
+use iri_rules::characters::{is_digit, is_excluded, is_letter, is_scheme_character};
+use std::alloc::Global;
 use std::test::Fail;
-use term_texts::*;
+use term_texts::{byte_at, has_byte};
 
 #[test]
-fn language_tags_are_told(rt: HostRuntime) -> Result<(), Fail> {
-    assert!(rt; is_language_tag("en") && is_language_tag("de-CH-1996"));
-    assert!(rt; !is_language_tag("") && !is_language_tag("-en") && !is_language_tag("en-"));
-    assert!(rt; !is_language_tag("en--GB") && !is_language_tag("1996") && !is_language_tag("e1"));
-    let lower = lower_tag(rt.alloc(), "de-CH-1996")?;
-    assert!(rt; lower.as_str() == "de-ch-1996");
-    Ok(())
-}
-
-#[test]
-fn bytes_stand_at_places(rt: HostRuntime) -> Result<(), Fail> {
+fn characters_and_bytes_are_told(rt: HostRuntime) {
+    assert!(rt; is_letter('z') && !is_letter('1') && is_digit('9') && !is_digit('a'));
+    assert!(rt; is_scheme_character('+') && !is_scheme_character('_'));
+    assert!(rt; is_excluded('`') && !is_excluded('%'));
     assert!(rt; byte_at("ab", 1) == Some(b'b') && byte_at("ab", 2).is_none());
     assert!(rt; has_byte("ab", 0, b'a') && !has_byte("ab", 0, b'b') && !has_byte("ab", 2, b'b'));
-    Ok(())
+}
+
+/// Whether a text has so many bytes, and one at least.
+fn is_filled(text: &Text, count: usize) -> bool {
+    text.len() == count && !text.is_empty()
+}
+
+/// Whether a text and its copy are this one.
+fn is_copied(text: &Text, wanted: &str) -> bool {
+    match text.share() {
+        Ok(copy) => copy == *text && copy.as_str() == wanted && is_filled(&copy, wanted.len()),
+        Err(_) => false,
+    }
+}
+
+/// Whether a text that is made, and its copy, are this one.
+fn is_made(alloc: Global, text: &str) -> bool {
+    match Text::new(alloc, text) {
+        Ok(made) => is_copied(&made, text),
+        Err(_) => false,
+    }
+}
+
+/// Whether the text of a string, and its copy, are this one.
+fn is_moved(string: String, text: &str) -> bool {
+    match Text::from_string(string) {
+        Ok(moved) => is_copied(&moved, text),
+        Err(_) => false,
+    }
 }
 
 #[test]
-fn texts_share_their_starts(rt: HostRuntime) -> Result<(), Fail> {
-    let text = "0123456789abcdefghijk".as_bytes();
-    assert!(rt; common_len(text, "0123456789abcdefghiJk".as_bytes()) == 19);
-    assert!(rt; common_len(text, "0123456789abcdefG".as_bytes()) == 16);
-    assert!(rt; common_len(text, "0123456789abcdef".as_bytes()) == 16);
-    assert!(rt; common_len("abc".as_bytes(), "abd".as_bytes()) == 2);
-    assert!(rt; common_len("".as_bytes(), text) == 0);
-    Ok(())
-}
-
-#[test]
-fn texts_compare_as_they_are_written(rt: HostRuntime) -> Result<(), Fail> {
-    // A line feed is written with a backslash, which comes behind `!`; so does the quote at the end.
-    assert!(rt; cmp_escaped("a\n".as_bytes(), "a!".as_bytes()) == Ordering::Greater);
-    assert!(rt; cmp_escaped("a".as_bytes(), "a!".as_bytes()) == Ordering::Greater);
-    assert!(rt; cmp_escaped("a\n".as_bytes(), "a\r".as_bytes()) == Ordering::Less);
-    // `#` comes before `>`, and `?` behind it.
-    assert!(rt; cmp_closed("http://d/a#".as_bytes(), "http://d/a".as_bytes()) == Ordering::Less);
-    assert!(rt; cmp_closed("http://d/a?".as_bytes(), "http://d/a".as_bytes()) == Ordering::Greater);
+fn texts_are_made_and_copied(rt: HostRuntime) -> Result<(), Fail> {
+    assert!(rt; is_made(rt.alloc(), "x"));
+    assert!(rt; is_moved(String::from_str(rt.alloc(), "é")?, "é"));
     Ok(())
 }
