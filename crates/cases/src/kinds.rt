@@ -3,8 +3,8 @@
 use crate::held::Held;
 use crate::lines::Line;
 use crate::{
-    comparisons, contexts, expanding, forms, orders, references, shorts, subjects, tags, triples,
-    types, written,
+    comparisons, contexts, expanding, forms, orders, parts, references, shorts, subjects, tags,
+    triples, types, written,
 };
 use std::alloc::{AllocError, Global};
 
@@ -30,6 +30,9 @@ pub fn given_by(
         "escaped" | "closed" | "common" => comparisons::given_by(alloc, line.word, input),
         "pattern" | "insert" => subjects::given_by(alloc, held, line.word, input),
         "count" => subjects::count_given_by(alloc, held, input),
+        "first" => parts::first_given_by(alloc, held, input),
+        "then" => parts::then_given_by(alloc, held, input),
+        "names" => parts::names_given_by(alloc, held, input),
         "written" => written::written_given_by(alloc, held, input),
         "again" => written::again_given_by(alloc, held, input),
         _ => Ok(None),

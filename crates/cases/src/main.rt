@@ -10,6 +10,7 @@ mod held;
 mod kinds;
 mod lines;
 mod orders;
+mod parts;
 mod references;
 mod shorts;
 mod slots;

@@ -8,37 +8,50 @@ use std::fmt::Write;
 /// xsd:string, which is left out.
 const XSD_STRING: &str = "http://www.w3.org/2001/XMLSchema#string";
 
+/// How variables stand in lines.
+#[derive(Clone, Copy)]
+pub enum Variables<'a> {
+    /// Each by its name; one that has none by its number among those that have none.
+    Named(&'a Names),
+    /// Each by its number.
+    Numbered,
+}
+
 /// The triples as lines without their last dot, in the order of bytes.
 pub fn lines_of(
     alloc: Global,
     triples: &[PatternTriple],
-    names: &Names,
+    variables: &Variables<'_>,
 ) -> Result<Vec<String>, AllocError> {
     let mut lines = Vec::new(alloc);
     for triple in triples {
-        lines.push(line_of(alloc, triple, names)?)?;
+        lines.push(line_of(alloc, triple, variables)?)?;
     }
     lines.sort()?;
     Ok(lines)
 }
 
 /// A triple as a line.
-fn line_of(alloc: Global, triple: &PatternTriple, names: &Names) -> Result<String, AllocError> {
+fn line_of(
+    alloc: Global,
+    triple: &PatternTriple,
+    variables: &Variables<'_>,
+) -> Result<String, AllocError> {
     let mut line = String::new(alloc);
-    put_slot(&mut line, &triple.s, names)?;
+    put_slot(&mut line, &triple.s, variables)?;
     line.push(' ')?;
-    put_slot(&mut line, &triple.p, names)?;
+    put_slot(&mut line, &triple.p, variables)?;
     line.push(' ')?;
-    put_slot(&mut line, &triple.o, names)?;
+    put_slot(&mut line, &triple.o, variables)?;
     Ok(line)
 }
 
 /// Puts what stands in a place at the end of a line.
-fn put_slot(line: &mut String, slot: &Slot, names: &Names) -> Result<(), AllocError> {
+fn put_slot(line: &mut String, slot: &Slot, variables: &Variables<'_>) -> Result<(), AllocError> {
     match slot {
         Slot::Term(Term::Iri(iri)) => put_iri(line, iri.as_str()),
         Slot::Term(Term::Literal(literal)) => put_literal(line, literal),
-        Slot::Var(number) => put_variable(line, usize::from(*number), names),
+        Slot::Var(number) => put_variable(line, usize::from(*number), variables),
         Slot::Fresh(number) => put_nameless(line, u64::from(*number)),
     }
 }
@@ -70,8 +83,20 @@ fn put_literal(line: &mut String, literal: &Literal) -> Result<(), AllocError> {
     }
 }
 
-/// Puts a variable: its name, or where it has none its number among those that have none.
-fn put_variable(line: &mut String, number: usize, names: &Names) -> Result<(), AllocError> {
+/// Puts a variable.
+fn put_variable(
+    line: &mut String,
+    number: usize,
+    variables: &Variables<'_>,
+) -> Result<(), AllocError> {
+    match variables {
+        Variables::Named(names) => put_named(line, number, names),
+        Variables::Numbered => write!(line, "?{number}"),
+    }
+}
+
+/// Puts the name of a variable, or where it has none its number among those that have none.
+fn put_named(line: &mut String, number: usize, names: &Names) -> Result<(), AllocError> {
     match names.name(number) {
         Some(name) => {
             line.push_str(name)?;

@@ -3,16 +3,16 @@
 use crate::faults::fault_text;
 use crate::held::Held;
 use crate::lines::cut_word;
-use crate::slots::lines_of;
+use crate::slots::{Variables, lines_of};
 use jrql_ast::PatternTriple;
-use jsonld_context::{Context, JsonFault};
+use jsonld_context::JsonFault;
 use jsonld_subjects::{Place, read_subjects};
 use jsonld_values::Names;
 use serde_json::Value;
 use std::alloc::{AllocError, Global};
 
-/// Subjects that were read: their triples and the names that they met, or a fault.
-type Outcome = Result<(Vec<PatternTriple>, Names), JsonFault>;
+/// What reading subjects gives: their triples, or a fault.
+pub type Outcome = Result<Vec<PatternTriple>, JsonFault>;
 
 /// Where a word says that subjects stand.
 fn place_of(word: &str) -> Option<Place> {
@@ -30,10 +30,10 @@ pub fn given_by(
     word: &str,
     input: &str,
 ) -> Result<Option<String>, AllocError> {
-    match outcome(alloc, held, word, input) {
+    let mut names = Names::empty(alloc);
+    match read(alloc, held, word, input, &mut names) {
+        Some(outcome) => Ok(Some(told(alloc, &outcome, &Variables::Named(&names))?)),
         None => Ok(None),
-        Some(Ok((triples, names))) => Ok(Some(triples_text(alloc, &triples, &names)?)),
-        Some(Err(fault)) => Ok(Some(fault_text(alloc, &fault)?)),
     }
 }
 
@@ -44,37 +44,56 @@ pub fn count_given_by(
     input: &str,
 ) -> Result<Option<String>, AllocError> {
     let (word, json) = cut_word(input);
-    match outcome(alloc, held, word, json) {
+    let mut names = Names::empty(alloc);
+    match read(alloc, held, word, json, &mut names) {
+        Some(outcome) => Ok(Some(counted(alloc, &outcome)?)),
         None => Ok(None),
-        Some(Ok((triples, _))) => Ok(Some(format!(in alloc; "{}", triples.len())?)),
-        Some(Err(fault)) => Ok(Some(fault_text(alloc, &fault)?)),
     }
 }
 
-/// What is read; `None` where no context is held, or the line can't be read.
-fn outcome(alloc: Global, held: &Held, word: &str, json: &str) -> Option<Outcome> {
+/// What a text says there, beside the names that were met before; `None` where no context is held, or the line can't be read.
+pub fn read(
+    alloc: Global,
+    held: &Held,
+    word: &str,
+    json: &str,
+    names: &mut Names,
+) -> Option<Outcome> {
     let place = place_of(word)?;
     let context = held.context()?;
     match Value::from_str(alloc, json) {
-        Ok(value) => Some(subjects_of(alloc, &value, context, place)),
+        Ok(value) => Some(read_subjects(alloc, &value, context, place, names)),
         Err(_) => None,
     }
 }
 
-/// The subjects of a value, beside no names.
-pub fn subjects_of(alloc: Global, value: &Value, context: &Context, place: Place) -> Outcome {
-    let mut names = Names::empty(alloc);
-    let triples = read_subjects(alloc, value, context, place, &mut names)?;
-    Ok((triples, names))
+/// The triples, or the fault.
+pub fn told(
+    alloc: Global,
+    outcome: &Outcome,
+    variables: &Variables<'_>,
+) -> Result<String, AllocError> {
+    match outcome {
+        Ok(triples) => triples_text(alloc, triples.as_slice(), variables),
+        Err(fault) => fault_text(alloc, fault),
+    }
+}
+
+/// The number of triples, or the fault.
+fn counted(alloc: Global, outcome: &Outcome) -> Result<String, AllocError> {
+    match outcome {
+        Ok(triples) => format!(in alloc; "{}", triples.len()),
+        Err(fault) => fault_text(alloc, fault),
+    }
 }
 
 /// The triples as a text.
-pub fn triples_text(
+fn triples_text(
     alloc: Global,
-    triples: &Vec<PatternTriple>,
-    names: &Names,
+    triples: &[PatternTriple],
+    variables: &Variables<'_>,
 ) -> Result<String, AllocError> {
-    let lines = lines_of(alloc, triples.as_slice(), names)?;
+    let lines = lines_of(alloc, triples, variables)?;
     if lines.is_empty() {
         return String::from_str(alloc, "nothing");
     }

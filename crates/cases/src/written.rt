@@ -1,12 +1,13 @@
 //! `written ID TRIPLES`: the JSON text of a subject, of which the triples follow without it, each with a dot behind it. `again ID TRIPLES`: the
 //! triples that this text says in a pattern.
-use crate::faults::fault_text;
 use crate::held::Held;
 use crate::lines::cut_word;
-use crate::subjects::{subjects_of, triples_text};
+use crate::slots::Variables;
+use crate::subjects::told;
 use jrql_ast::{Described, Sequence};
 use jsonld_context::Context;
-use jsonld_subjects::{Place, write_subject};
+use jsonld_subjects::{Place, read_subjects, write_subject};
+use jsonld_values::Names;
 use rdf_terms::{Iri, Triple, read_triple};
 use serde_json::Value;
 use std::alloc::{AllocError, Global};
@@ -46,10 +47,9 @@ pub fn again_given_by(
 
 /// What a value says in a pattern.
 fn read_again(alloc: Global, value: &Value, context: &Context) -> Result<String, AllocError> {
-    match subjects_of(alloc, value, context, Place::Pattern) {
-        Ok((triples, names)) => triples_text(alloc, &triples, &names),
-        Err(fault) => fault_text(alloc, &fault),
-    }
+    let mut names = Names::empty(alloc);
+    let outcome = read_subjects(alloc, value, context, Place::Pattern, &mut names);
+    told(alloc, &outcome, &Variables::Named(&names))
 }
 
 /// The value of a line's subject; `None` where no context is held, or the line can't be read.
