@@ -1,9 +1,11 @@
 -- The text of a clone's pairs, and words behind an output.
-use Rattle.std.proofs.Common.{◌≡◌, ◌∙◌, sym, arith, zero, suc, ◌+◌, append-nil, ℕ, ◌<◌, ◌≤◌, List, [], ◌∷◌, ◌++◌, codes, length, get_or, take, ap, if◌then◌else◌, Result, Ok, Err, OnOk, is_ok}
+use Rattle.std.proofs.Common.{◌≡◌, ◌∙◌, sym, arith, zero, suc, ◌+◌, append-nil, ℕ, ◌<◌, ◌≤◌, List, [], ◌∷◌, ◌++◌, codes, length, get_or, take, ap, if◌then◌else◌, Result, Ok, Err, OnOk, OnErr, is_ok, subst}
 use Rattle.std.specs.Fmt.{decimal}
 use Rattle.std.specs.List.{flat_map, range_with_len}
 use Rattle.std.proofs.lemmas.Grind.{flat_map-append}
 use Rattle.std.proofs.lemmas.List.{append_assoc, take_all}
+use Rattle.rdf_terms.specs.Kept.{KeepsStart}
+use Rattle.rdf_terms.proofs.Appending.{keeps_further}
 use Rattle.chunked_list.specs.Joined.{joined_chunks}
 use Rattle.chunked_list.proofs.JoinedLaws.{joined_more}
 use Rattle.tree_clock.specs.declared.dots.Range.{Range}
@@ -73,3 +75,12 @@ numbers_shown old mid out new head first count i l m h o n =
 pub word_pushed : {X E : Type 0} (r : Result X E) (old new text word : List ℕ) → new ≡ (if is_ok r then old ++ text else old) → text ≡ word → OnOk r (new ≡ old ++ word)
 word_pushed (Ok x) old new text word h t = h ∙ ap (λ w. old ++ w) t
 word_pushed (Err e) old new text word h t = tt
+
+-- what stood in front of what was added still stands there
+pub still_stands : (old added mid new : List ℕ) → mid ≡ old ++ added → KeepsStart mid new → KeepsStart old new
+still_stands old added mid new is keeps = keeps_further old added new (subst (λ (l : List ℕ). KeepsStart l new) is keeps)
+
+-- so it does where a piece is refused
+pub still_in_front : {X E : Type 0} (r : Result X E) (old added mid new : List ℕ) → mid ≡ old ++ added → KeepsStart mid new → OnErr r (KeepsStart old new)
+still_in_front (Ok x) old added mid new is keeps = tt
+still_in_front (Err e) old added mid new is keeps = still_stands old added mid new is keeps

@@ -1,6 +1,7 @@
 //! Replies, and their text: lines that end with LF, added at the end of an output.
-ghost use Rattle.std.specs.Prelude.{◌≡◌, ◌++◌, ◌∷◌, [], OnOk};
+ghost use Rattle.std.specs.Prelude.{◌≡◌, ◌++◌, ◌∷◌, [], OnOk, OnErr};
 ghost use Rattle.std.specs.List.{flat_map, range_with_len};
+ghost use Rattle.rdf_terms.specs.Kept.{KeepsStart};
 ghost use Rattle.chunked_list.specs.Joined.{joined_chunks};
 ghost use Rattle.mld_model.specs.Reply.{Ready, Did, Sent, Answer, Kept, Joined, Shows};
 ghost use Rattle.schedule_model.specs.Characters.{line_end};
@@ -83,9 +84,10 @@ pub enum Reply<'a> {
     Opened,
 }
 
-/// Adds the text of a reply to an output.
+/// Adds the text of a reply to an output. Where memory is wanting, what stood there still stands in front.
 pub fn push_reply(alloc: Global, out: &mut Vec<u8>, reply: &Reply<'_>) -> Result<(), AllocError>
-    ensures { OnOk result (out.new.items ≡ out.old.items ++ reply_text (reply_value reply.now)) }
+    ensures ok { OnOk result (out.new.items ≡ out.old.items ++ reply_text (reply_value reply.now)) }
+    ensures err { OnErr result (KeepsStart out.old.items out.new.items) }
 {
     match reply {
         Reply::Ready(count) => push_ready(alloc, out, *count),
@@ -118,9 +120,10 @@ pub fn push_reply(alloc: Global, out: &mut Vec<u8>, reply: &Reply<'_>) -> Result
     }
 }
 
-/// `ready N`.
+/// Adds `ready N` to an output. Where memory is wanting, what stood there still stands in front.
 pub fn push_ready(alloc: Global, out: &mut Vec<u8>, count: u8) -> Result<(), AllocError>
-    ensures { OnOk result (out.new.items ≡ out.old.items ++ reply_text (Ready count)) }
+    ensures ok { OnOk result (out.new.items ≡ out.old.items ++ reply_text (Ready count)) }
+    ensures err { OnErr result (KeepsStart out.old.items out.new.items) }
 {
     let line = format!(in alloc; "ready {count}\n")?;
     out.extend_from_slice(line.as_bytes())
@@ -128,7 +131,8 @@ pub fn push_ready(alloc: Global, out: &mut Vec<u8>, count: u8) -> Result<(), All
 
 /// `did DOT mM`.
 fn push_did(alloc: Global, out: &mut Vec<u8>, dot: &Dot, message: usize) -> Result<(), AllocError>
-    ensures { OnOk result (out.new.items ≡ out.old.items ++ reply_text (Did dot.now message)) }
+    ensures ok { OnOk result (out.new.items ≡ out.old.items ++ reply_text (Did dot.now message)) }
+    ensures err { OnErr result (KeepsStart out.old.items out.new.items) }
 {
     let line = format!(in alloc; "did {dot} m{message}\n")?;
     out.extend_from_slice(line.as_bytes())
@@ -136,7 +140,8 @@ fn push_did(alloc: Global, out: &mut Vec<u8>, dot: &Dot, message: usize) -> Resu
 
 /// `sent mM`.
 fn push_sent(alloc: Global, out: &mut Vec<u8>, message: usize) -> Result<(), AllocError>
-    ensures { OnOk result (out.new.items ≡ out.old.items ++ reply_text (Sent message)) }
+    ensures ok { OnOk result (out.new.items ≡ out.old.items ++ reply_text (Sent message)) }
+    ensures err { OnErr result (KeepsStart out.old.items out.new.items) }
 {
     let line = format!(in alloc; "sent m{message}\n")?;
     out.extend_from_slice(line.as_bytes())
@@ -144,7 +149,8 @@ fn push_sent(alloc: Global, out: &mut Vec<u8>, message: usize) -> Result<(), All
 
 /// `kept K`.
 fn push_kept(alloc: Global, out: &mut Vec<u8>, count: u64) -> Result<(), AllocError>
-    ensures { OnOk result (out.new.items ≡ out.old.items ++ reply_text (Kept count)) }
+    ensures ok { OnOk result (out.new.items ≡ out.old.items ++ reply_text (Kept count)) }
+    ensures err { OnErr result (KeepsStart out.old.items out.new.items) }
 {
     let line = format!(in alloc; "kept {count}\n")?;
     out.extend_from_slice(line.as_bytes())
@@ -152,7 +158,8 @@ fn push_kept(alloc: Global, out: &mut Vec<u8>, count: u64) -> Result<(), AllocEr
 
 /// `joined P`.
 fn push_joined(alloc: Global, out: &mut Vec<u8>, path: &Path) -> Result<(), AllocError>
-    ensures { OnOk result (out.new.items ≡ out.old.items ++ reply_text (Joined path.now)) }
+    ensures ok { OnOk result (out.new.items ≡ out.old.items ++ reply_text (Joined path.now)) }
+    ensures err { OnErr result (KeepsStart out.old.items out.new.items) }
 {
     let line = format!(in alloc; "joined {path}\n")?;
     out.extend_from_slice(line.as_bytes())
@@ -165,7 +172,8 @@ fn push_answered(
     first: usize,
     end: usize,
 ) -> Result<(), AllocError>
-    ensures { OnOk result (out.new.items ≡ out.old.items ++ reply_text (Answer (numbers_between first end))) }
+    ensures ok { OnOk result (out.new.items ≡ out.old.items ++ reply_text (Answer (numbers_between first end))) }
+    ensures err { OnErr result (KeepsStart out.old.items out.new.items) }
 {
     out.extend_from_slice(b"answer")?;
     for number in first..end {
@@ -177,7 +185,8 @@ fn push_answered(
 
 /// The number of a message, behind a space.
 fn push_message(alloc: Global, out: &mut Vec<u8>, number: usize) -> Result<(), AllocError>
-    ensures { OnOk result (out.new.items ≡ out.old.items ++ spaced_message number) }
+    ensures ok { OnOk result (out.new.items ≡ out.old.items ++ spaced_message number) }
+    ensures err { OnErr result (KeepsStart out.old.items out.new.items) }
 {
     let number = format!(in alloc; " m{number}")?;
     out.extend_from_slice(number.as_bytes())
@@ -190,7 +199,8 @@ fn push_ranges(
     word: &[u8],
     ranges: &[Range],
 ) -> Result<(), AllocError>
-    ensures { OnOk result (out.new.items ≡ out.old.items ++ (word.now ++ (flat_map spaced_range ranges.now ++ line_end ∷ []))) }
+    ensures ok { OnOk result (out.new.items ≡ out.old.items ++ (word.now ++ (flat_map spaced_range ranges.now ++ line_end ∷ []))) }
+    ensures err { OnErr result (KeepsStart out.old.items out.new.items) }
 {
     out.extend_from_slice(word)?;
     for range in ranges {
@@ -202,7 +212,8 @@ fn push_ranges(
 
 /// A range, behind a space.
 fn push_range(alloc: Global, out: &mut Vec<u8>, range: &Range) -> Result<(), AllocError>
-    ensures { OnOk result (out.new.items ≡ out.old.items ++ spaced_range range.now) }
+    ensures ok { OnOk result (out.new.items ≡ out.old.items ++ spaced_range range.now) }
+    ensures err { OnErr result (KeepsStart out.old.items out.new.items) }
 {
     let range = format!(in alloc; " {range}")?;
     out.extend_from_slice(range.as_bytes())
@@ -210,7 +221,8 @@ fn push_range(alloc: Global, out: &mut Vec<u8>, range: &Range) -> Result<(), All
 
 /// `has K`, then a line of dot and triple for each pair.
 fn push_pairs(alloc: Global, out: &mut Vec<u8>, pairs: &Graph) -> Result<(), AllocError>
-    ensures { OnOk result (out.new.items ≡ out.old.items ++ reply_text (Shows pairs.now.elements)) }
+    ensures ok { OnOk result (out.new.items ≡ out.old.items ++ reply_text (Shows pairs.now.elements)) }
+    ensures err { OnErr result (KeepsStart out.old.items out.new.items) }
 {
     let head = format!(in alloc; "has {}\n", pairs.count())?;
     out.extend_from_slice(head.as_bytes())?;
@@ -220,7 +232,8 @@ fn push_pairs(alloc: Global, out: &mut Vec<u8>, pairs: &Graph) -> Result<(), All
 
 /// A line of dot and triple for each pair of chunks.
 fn push_chunks(alloc: Global, out: &mut Vec<u8>, chunks: &[Chunk<Tagged>]) -> Result<(), AllocError>
-    ensures { OnOk result (out.new.items ≡ out.old.items ++ flat_map pair_line (joined_chunks chunks.now)) }
+    ensures ok { OnOk result (out.new.items ≡ out.old.items ++ flat_map pair_line (joined_chunks chunks.now)) }
+    ensures err { OnErr result (KeepsStart out.old.items out.new.items) }
 {
     for chunk in chunks {
         push_lines(alloc, out, chunk.as_slice())?;
@@ -230,7 +243,8 @@ fn push_chunks(alloc: Global, out: &mut Vec<u8>, chunks: &[Chunk<Tagged>]) -> Re
 
 /// A line of dot and triple for each pair.
 fn push_lines(alloc: Global, out: &mut Vec<u8>, pairs: &[Tagged]) -> Result<(), AllocError>
-    ensures { OnOk result (out.new.items ≡ out.old.items ++ flat_map pair_line pairs.now) }
+    ensures ok { OnOk result (out.new.items ≡ out.old.items ++ flat_map pair_line pairs.now) }
+    ensures err { OnErr result (KeepsStart out.old.items out.new.items) }
 {
     for pair in pairs {
         push_pair(alloc, out, pair)?;
@@ -240,7 +254,8 @@ fn push_lines(alloc: Global, out: &mut Vec<u8>, pairs: &[Tagged]) -> Result<(), 
 
 /// The line of a pair.
 fn push_pair(alloc: Global, out: &mut Vec<u8>, pair: &Tagged) -> Result<(), AllocError>
-    ensures { OnOk result (out.new.items ≡ out.old.items ++ pair_line pair.now) }
+    ensures ok { OnOk result (out.new.items ≡ out.old.items ++ pair_line pair.now) }
+    ensures err { OnErr result (KeepsStart out.old.items out.new.items) }
 {
     let dot = &pair.dot;
     let dot = format!(in alloc; "{dot} ")?;

@@ -3,6 +3,6 @@ use Rattle.std.proofs.lemmas.List.{append_assoc}
 use Rattle.schedule_model.specs.ReplyText.{reply_text}
 use Rattle.schedule_replies.proofs.replies.push_did.Goals as goal
 
-pub returns : goal.returns
+pub returns-clause-ok : goal.returns-clause-ok
 unfolding reply_text
-returns c = search (rules, append_assoc)
+returns-clause-ok c = search (rules, append_assoc)

@@ -4,82 +4,82 @@ use Rattle.schedule_replies.specs.Replies.{reply_value}
 use Rattle.schedule_replies.proofs.RepliesShown.{word_pushed}
 use Rattle.schedule_replies.proofs.replies.push_reply.Goals as goal
 
-pub returns-in-NoOperation : goal.returns-in-NoOperation
+pub returns-in-NoOperation-clause-ok : goal.returns-in-NoOperation-clause-ok
 unfolding reply_text
-returns-in-NoOperation c = search rules
+returns-in-NoOperation-clause-ok c = search rules
 
-pub returns-in-Known : goal.returns-in-Known
+pub returns-in-Known-clause-ok : goal.returns-in-Known-clause-ok
 unfolding reply_text
-returns-in-Known c = search rules
+returns-in-Known-clause-ok c = search rules
 
-pub returns-in-NoMessage : goal.returns-in-NoMessage
+pub returns-in-NoMessage-clause-ok : goal.returns-in-NoMessage-clause-ok
 unfolding reply_text
-returns-in-NoMessage c = word_pushed c.extend_from_slice-in-NoMessage.result c.args.out.now.items _ _ _ c.extend_from_slice-in-NoMessage.ensures.items (sym (ap (λ w. reply_text (reply_value w)) c.in-NoMessage.is))
+returns-in-NoMessage-clause-ok c = word_pushed c.extend_from_slice-in-NoMessage.result c.args.out.now.items _ _ _ c.extend_from_slice-in-NoMessage.ensures.items (sym (ap (λ w. reply_text (reply_value w)) c.in-NoMessage.is))
 
-pub returns-in-Absent : goal.returns-in-Absent
+pub returns-in-Absent-clause-ok : goal.returns-in-Absent-clause-ok
 unfolding reply_text
-returns-in-Absent c = search rules
+returns-in-Absent-clause-ok c = search rules
 
-pub returns-in-Same : goal.returns-in-Same
+pub returns-in-Same-clause-ok : goal.returns-in-Same-clause-ok
 unfolding reply_text
-returns-in-Same c = search rules
+returns-in-Same-clause-ok c = search rules
 
-pub returns-in-Less : goal.returns-in-Less
+pub returns-in-Less-clause-ok : goal.returns-in-Less-clause-ok
 unfolding reply_text
-returns-in-Less c = search rules
+returns-in-Less-clause-ok c = search rules
 
-pub returns-in-More : goal.returns-in-More
+pub returns-in-More-clause-ok : goal.returns-in-More-clause-ok
 unfolding reply_text
-returns-in-More c = search rules
+returns-in-More-clause-ok c = search rules
 
-pub returns-in-Apart : goal.returns-in-Apart
+pub returns-in-Apart-clause-ok : goal.returns-in-Apart-clause-ok
 unfolding reply_text
-returns-in-Apart c = search rules
+returns-in-Apart-clause-ok c = search rules
 
-pub returns-in-Held : goal.returns-in-Held
+pub returns-in-Held-clause-ok : goal.returns-in-Held-clause-ok
 unfolding reply_text
-returns-in-Held c = search rules
+returns-in-Held-clause-ok c = search rules
 
-pub returns-in-HeldFull : goal.returns-in-HeldFull
+pub returns-in-HeldFull-clause-ok : goal.returns-in-HeldFull-clause-ok
 unfolding reply_text
-returns-in-HeldFull c = word_pushed c.extend_from_slice-in-HeldFull.result c.args.out.now.items _ _ _ c.extend_from_slice-in-HeldFull.ensures.items (sym (ap (λ w. reply_text (reply_value w)) c.in-HeldFull.is))
+returns-in-HeldFull-clause-ok c = word_pushed c.extend_from_slice-in-HeldFull.result c.args.out.now.items _ _ _ c.extend_from_slice-in-HeldFull.ensures.items (sym (ap (λ w. reply_text (reply_value w)) c.in-HeldFull.is))
 
-pub returns-in-Ignored : goal.returns-in-Ignored
+pub returns-in-Ignored-clause-ok : goal.returns-in-Ignored-clause-ok
 unfolding reply_text
-returns-in-Ignored c = search rules
+returns-in-Ignored-clause-ok c = search rules
 
-pub returns-in-Deep : goal.returns-in-Deep
+pub returns-in-Deep-clause-ok : goal.returns-in-Deep-clause-ok
 unfolding reply_text
-returns-in-Deep c = search rules
+returns-in-Deep-clause-ok c = search rules
 
-pub returns-in-Asking : goal.returns-in-Asking
+pub returns-in-Asking-clause-ok : goal.returns-in-Asking-clause-ok
 unfolding reply_text
-returns-in-Asking c = search rules
+returns-in-Asking-clause-ok c = search rules
 
-pub returns-in-Live : goal.returns-in-Live
+pub returns-in-Live-clause-ok : goal.returns-in-Live-clause-ok
 unfolding reply_text
-returns-in-Live c = search rules
+returns-in-Live-clause-ok c = search rules
 
-pub returns-in-Down : goal.returns-in-Down
+pub returns-in-Down-clause-ok : goal.returns-in-Down-clause-ok
 unfolding reply_text
-returns-in-Down c = search rules
+returns-in-Down-clause-ok c = search rules
 
-pub returns-in-Stopped : goal.returns-in-Stopped
+pub returns-in-Stopped-clause-ok : goal.returns-in-Stopped-clause-ok
 unfolding reply_text
-returns-in-Stopped c = word_pushed c.extend_from_slice-in-Stopped.result c.args.out.now.items _ _ _ c.extend_from_slice-in-Stopped.ensures.items (sym (ap (λ w. reply_text (reply_value w)) c.in-Stopped.is))
+returns-in-Stopped-clause-ok c = word_pushed c.extend_from_slice-in-Stopped.result c.args.out.now.items _ _ _ c.extend_from_slice-in-Stopped.ensures.items (sym (ap (λ w. reply_text (reply_value w)) c.in-Stopped.is))
 
-pub returns-in-Nothing : goal.returns-in-Nothing
+pub returns-in-Nothing-clause-ok : goal.returns-in-Nothing-clause-ok
 unfolding reply_text
-returns-in-Nothing c = word_pushed c.extend_from_slice-in-Nothing.result c.args.out.now.items _ _ _ c.extend_from_slice-in-Nothing.ensures.items (sym (ap (λ w. reply_text (reply_value w)) c.in-Nothing.is))
+returns-in-Nothing-clause-ok c = word_pushed c.extend_from_slice-in-Nothing.result c.args.out.now.items _ _ _ c.extend_from_slice-in-Nothing.ensures.items (sym (ap (λ w. reply_text (reply_value w)) c.in-Nothing.is))
 
-pub returns-in-Opened : goal.returns-in-Opened
+pub returns-in-Opened-clause-ok : goal.returns-in-Opened-clause-ok
 unfolding reply_text
-returns-in-Opened c = word_pushed c.extend_from_slice-in-Opened.result c.args.out.now.items _ _ _ c.extend_from_slice-in-Opened.ensures.items (sym (ap (λ w. reply_text (reply_value w)) c.in-Opened.is))
+returns-in-Opened-clause-ok c = word_pushed c.extend_from_slice-in-Opened.result c.args.out.now.items _ _ _ c.extend_from_slice-in-Opened.ensures.items (sym (ap (λ w. reply_text (reply_value w)) c.in-Opened.is))
 
-pub returns-in-Took : goal.returns-in-Took
+pub returns-in-Took-clause-ok : goal.returns-in-Took-clause-ok
 unfolding reply_text
-returns-in-Took c = search rules
+returns-in-Took-clause-ok c = search rules
 
-pub returns-in-Merged : goal.returns-in-Merged
+pub returns-in-Merged-clause-ok : goal.returns-in-Merged-clause-ok
 unfolding reply_text
-returns-in-Merged c = search rules
+returns-in-Merged-clause-ok c = search rules
