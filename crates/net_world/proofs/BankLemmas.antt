@@ -7,6 +7,8 @@ use Rattle.std.proofs.lemmas.Option.{slice_get-map}
 use Rattle.mld_io.specs.Arm.{Arm, Unarmed, Meter, Metered, LowersAtMost}
 use Rattle.mld_io.specs.Disk.{Log}
 use Rattle.mld_io.specs.Faults.{Rose}
+use Rattle.journal_store.specs.declared.faults.MakeFault.{MakeFault}
+use Rattle.journal_store.specs.declared.faults.MakeFault.TheVariants as make
 use Rattle.mld_model.specs.declared.CloneState.TheVariants as states
 use Rattle.mld_model.specs.Clone.{Clone, Stored, kept_of}
 use Rattle.mld_model.specs.Clone as model
@@ -25,12 +27,11 @@ use Rattle.schedule_model.specs.WorldStep.{Follows}
 use Rattle.schedule_model.proofs.ChangesLaws.{step_keeps_domain, step_keeps_others, kept_still_stands}
 use Rattle.net_world.specs.declared.faults.WorldFault.{WorldFault}
 use Rattle.net_world.specs.declared.faults.WorldFault.TheVariants as faults
-use Rattle.schedule_replies.specs.declared.replies.Reply.{Reply as CodeReply}
-use Rattle.net_world.specs.Commands.{FailsToTell}
 use Rattle.net_world.specs.States.{HasState, Becomes}
-use Rattle.net_world.specs.WorldBanks.{BankedState, BankedWorld, in_memory, banks_of_state, memory_of, KeepsNoneNow, KeepsStored, BanksStandFor, IsReached, IsDownOn, IsOpenAt, IsBacked, StandsOnBanks, GoesOn, MetersGoOn, FailsAt, FailsAmong, StaysOpenNext, IsNextGeneration, is_first, is_next, IsOpenNext, IsCarried, IsCarriedAt}
+use Rattle.net_world.specs.WorldBanks.{BankedState, BankedWorld, in_memory, banks_of_state, memory_of, KeepsNoneNow, KeepsStored, BanksStandFor, IsReached, IsDownOn, IsOpenAt, IsBacked, StandsOnBanks, GoesOn, MetersGoOn, IsQuiet, AreQuiet, HasFailed, HasFaultsOf, HasFaultsBy, FailsAt, HasFaultsAt, UsesBanksOf, StaysOpenNext, IsNextGeneration, is_first, is_next, IsOpenNext, IsCarried, IsCarriedAt}
+use Rattle.net_world.specs.WorldFaults.{fault_of_made}
 use Rattle.net_world.specs.Worlds.{Moves, MovesOnBanks}
-use Rattle.net_world.proofs.Places.{here_at, other_at}
+use Rattle.net_world.proofs.Places.{here_at, other_at, elsewhere_at, set_here}
 
 -- ---- what clones have in memory
 
@@ -61,12 +62,28 @@ goes_on calls before now Done Failed metered = record {
   unarmed = λ is. subst (λ (a : Arm). LowersAtMost calls a now.arm) is metered.lowered;
 }
 
+-- what wasn't told to have failed had no real fault
+pub quiet_metered : (calls : ℕ) (before now : Meter) (Done Failed : Type 0) → Metered calls before now Done Failed → ¬ Failed → IsQuiet before now
+quiet_metered calls before now Done Failed metered none = (metered.quiet none).1
+
 -- what failed where it wasn't armed had a real fault
 pub rose_unarmed : (calls : ℕ) (before now : Meter) (Done Failed : Type 0) → Metered calls before now Done Failed → Failed → before.arm ≡ Unarmed → Rose before.real_faults now.real_faults
 rose_unarmed calls before now Done Failed metered failed unarmed = elim (metered.cause failed) [
   | inl caught ↦ absurd (cc (caught, (goes_on calls before now Done Failed metered).unarmed unarmed))
   | inr rose ↦ rose
 ]
+
+-- where the banks had no fault, and memory ran out at most
+pub memory_at_one : {T : Type 0} (number : ℕ) (before now : Meter) (r : Result T WorldFault) → IsQuiet before now → IfErr r (λ fault. fault ≡ faults.NoMemory)
+    → HasFaultsAt number before now r
+memory_at_one number before now (Ok reply) quiet none = quiet
+memory_at_one number before now (Err fault) quiet none = subst (FailsAt number before now) (sym none) quiet
+
+-- the fault of a clone that could not be made is one of its banks
+pub faults_made : (number calls : ℕ) (before now : Meter) (Done : Type 0) (fault : MakeFault) → Metered calls before now Done (fault ≡ make.Device)
+    → FailsAt number before now (fault_of_made number fault)
+faults_made number calls before now Done make.Device metered = (refl, λ unarmed. rose_unarmed calls before now Done (make.Device ≡ make.Device) metered refl unarmed)
+faults_made number calls before now Done make.NoMemory metered = quiet_metered calls before now Done (make.NoMemory ≡ make.Device) metered (λ fails. absurd (cc fails))
 
 module _ {B : Type 0} (meter : B → Meter) where
   -- banks of which those of one clone were used
@@ -87,6 +104,11 @@ module _ {B : Type 0} (meter : B → Meter) where
   pub banks_at : (clones : List (BankedState B)) (number : ℕ) (state : BankedState B) → HasState clones number state → slice_get (map banks_of_state clones) number ≡ Some (banks_of_state state)
   banks_at clones number state at = slice_get-map banks_of_state clones number ∙ ap (λ (o : Option (BankedState B)). option_map banks_of_state o) at
 
+  -- the banks of clones of which one changed
+  banks_become : (old new : List (BankedState B)) (number : ℕ) (after : BankedState B) → new ≡ set old number after
+      → map banks_of_state new ≡ set (map banks_of_state old) number (banks_of_state after)
+  banks_become old new number after now = ap (λ (l : List (BankedState B)). map banks_of_state l) now ∙ map-set banks_of_state old number after
+
   -- clones as they were
   pub meters_same : (clones : List (BankedState B)) → MetersGoOn meter (map banks_of_state clones) (map banks_of_state clones)
   meters_same clones = record {
@@ -98,41 +120,79 @@ module _ {B : Type 0} (meter : B → Meter) where
   pub meters_set : (old new : List (BankedState B)) (number : ℕ) (before after : BankedState B) → Becomes old new number before after
       → GoesOn (meter (banks_of_state before)) (meter (banks_of_state after)) → MetersGoOn meter (map banks_of_state old) (map banks_of_state new)
   meters_set old new number before after becomes on =
-      subst (λ (l : List B). MetersGoOn meter (map banks_of_state old) l)
-      (sym (map-set banks_of_state old number after) ∙ ap (λ (l : List (BankedState B)). map banks_of_state l) (sym becomes.now))
+      subst (λ (l : List B). MetersGoOn meter (map banks_of_state old) l) (sym (banks_become old new number after becomes.now))
       (banks_set (map banks_of_state old) number (banks_of_state before) (banks_of_state after) (banks_at old number before becomes.was) on)
 
-  -- the fault of that one
-  pub fails_set : (old new : List (BankedState B)) (number : ℕ) (before after : BankedState B) (fault : WorldFault) → Becomes old new number before after
-      → FailsAt number (meter (banks_of_state before)) (meter (banks_of_state after)) fault → FailsAmong meter old new fault
-  fails_set old new number before after faults.NoMemory becomes fails = tt
-  fails_set old new number before after (faults.Device clone) becomes fails = λ was now had has unarmed.
-      let now_is : map banks_of_state new ≡ set (map banks_of_state old) number (banks_of_state after) =
-      ap (λ (l : List (BankedState B)). map banks_of_state l) becomes.now ∙ map-set banks_of_state old number after in
-      let first : banks_of_state before ≡ was = cc (banks_at old number before becomes.was, subst (λ (k : ℕ). slice_get (map banks_of_state old) k ≡ Some was) fails.0 had) in
-      let second : banks_of_state after ≡ now = here_at (map banks_of_state old) number (banks_of_state after) now
-      (subst (λ (l : List B). slice_get l number ≡ Some now) now_is (subst (λ (k : ℕ). slice_get (map banks_of_state new) k ≡ Some now) fails.0 has)) in
-      subst (λ (b : B). Rose (meter b).real_faults (meter now).real_faults) first
-      (subst (λ (b : B). Rose (meter (banks_of_state before)).real_faults (meter b).real_faults) second
-      (fails.1 (subst (λ (b : B). (meter b).arm ≡ Unarmed) (sym first) unarmed)))
+  -- no banks of other clones were used
+  pub uses_same : (clones : List (BankedState B)) (number : ℕ) → UsesBanksOf meter number (map banks_of_state clones) (map banks_of_state clones)
+  uses_same clones number = record { meters = meters_same clones; others = λ other differs. refl }
 
-  -- why a call at that one was refused
-  pub cause_set : {T : Type 0} (old new : List (BankedState B)) (number : ℕ) (before after : BankedState B) (r : Result T WorldFault) → Becomes old new number before after
-      → IfErr r (FailsAt number (meter (banks_of_state before)) (meter (banks_of_state after))) → IfErr r (FailsAmong meter old new)
-  cause_set old new number before after (Ok reply) becomes fails = tt
-  cause_set old new number before after (Err fault) becomes fails = fails_set old new number before after fault becomes fails
+  pub uses_set : (old new : List (BankedState B)) (number : ℕ) (before after : BankedState B) → Becomes old new number before after
+      → GoesOn (meter (banks_of_state before)) (meter (banks_of_state after)) → UsesBanksOf meter number (map banks_of_state old) (map banks_of_state new)
+  uses_set old new number before after becomes on = record {
+    meters = meters_set old new number before after becomes on;
+    others = λ other differs.
+        subst (λ (l : List B). slice_get l other ≡ slice_get (map banks_of_state old) other) (sym (banks_become old new number after becomes.now))
+        (elsewhere_at (map banks_of_state old) number other (banks_of_state after) differs);
+  }
 
-  -- want of memory is a cause of its own
-  pub cause_memory : {T : Type 0} (old new : List (BankedState B)) (r : Result T WorldFault) → IfErr r (λ fault. fault ≡ faults.NoMemory) → IfErr r (FailsAmong meter old new)
-  cause_memory old new (Ok reply) none = tt
-  cause_memory old new (Err fault) none = subst (λ (f : WorldFault). FailsAmong meter old new f) (sym none) tt
+  -- ---- faults
 
-  -- the fault of a command is told, or there is no memory to tell its reply
-  pub cause_told : {T : Type 0} (old new : List (BankedState B)) (reply : Result CodeReply WorldFault) (told : Result T WorldFault) → IfErr reply (FailsAmong meter old new)
-      → IfErr told (FailsToTell reply) → IfErr told (FailsAmong meter old new)
-  cause_told old new reply (Ok done) fails tells = tt
-  cause_told old new (Ok reply) (Err fault) fails tells = subst (λ (f : WorldFault). FailsAmong meter old new f) (sym tells) tt
-  cause_told old new (Err refused) (Err fault) fails tells = subst (λ (f : WorldFault). FailsAmong meter old new f) (sym tells) fails
+  quiet_kept : (before after : B) → before ≡ after → IsQuiet (meter before) (meter after)
+  quiet_kept before after same = ap (λ (b : B). (meter b).real_faults) (sym same)
+
+  quiet_set : (old : List B) (number : ℕ) (was now : B) → slice_get old number ≡ Some was → IsQuiet (meter was) (meter now) → AreQuiet meter old (set old number now)
+  quiet_set old number was now at quiet other before after had has = elim (cases_eq other number) [
+    | inl same ↦
+        let first : was ≡ before = cc (at, subst (λ (k : ℕ). slice_get old k ≡ Some before) same had) in
+        let second : now ≡ after = here_at old number now after (subst (λ (k : ℕ). slice_get (set old number now) k ≡ Some after) same has) in
+        subst (λ (b : B). IsQuiet (meter b) (meter after)) first (subst (λ (b : B). IsQuiet (meter was) (meter b)) second quiet)
+    | inr differs ↦ quiet_kept before after (cc (had, other_at old number other now after differs has))
+  ]
+
+  failed_set : (old : List B) (number : ℕ) (was now : B) → slice_get old number ≡ Some was → ((meter was).arm ≡ Unarmed → Rose (meter was).real_faults (meter now).real_faults)
+      → HasFailed meter number old (set old number now)
+  failed_set old number was now at fault = record {
+    was = was;
+    now = now;
+    before = at;
+    behind = set_here old number was now at;
+    fault = fault;
+    others = λ other one two differs had has. quiet_kept one two (cc (had, other_at old number other now two differs has));
+  }
+
+  -- where the banks of one clone were used
+  faults_at : {T : Type 0} (old : List B) (number : ℕ) (was now : B) (r : Result T WorldFault) → slice_get old number ≡ Some was → HasFaultsAt number (meter was) (meter now) r
+      → HasFaultsBy meter old (set old number now) r
+  faults_at old number was now (Ok reply) at by = quiet_set old number was now at by
+  faults_at old number was now (Err faults.NoMemory) at by = quiet_set old number was now at by
+  faults_at old number was now (Err (faults.Device clone)) at by =
+      subst (λ (k : ℕ). HasFailed meter k old (set old number now)) (sym by.0) (failed_set old number was now at by.1)
+
+  pub faults_set : {T : Type 0} (old new : List (BankedState B)) (number : ℕ) (before after : BankedState B) (r : Result T WorldFault) → Becomes old new number before after
+      → HasFaultsAt number (meter (banks_of_state before)) (meter (banks_of_state after)) r → HasFaultsBy meter (map banks_of_state old) (map banks_of_state new) r
+  faults_set old new number before after r becomes by =
+      subst (λ (l : List B). HasFaultsBy meter (map banks_of_state old) l r) (sym (banks_become old new number after becomes.now))
+      (faults_at (map banks_of_state old) number (banks_of_state before) (banks_of_state after) r (banks_at old number before becomes.was) by)
+
+  pub quiet_becomes : (old new : List (BankedState B)) (number : ℕ) (before after : BankedState B) → Becomes old new number before after
+      → IsQuiet (meter (banks_of_state before)) (meter (banks_of_state after)) → AreQuiet meter (map banks_of_state old) (map banks_of_state new)
+  quiet_becomes old new number before after becomes quiet =
+      subst (λ (l : List B). AreQuiet meter (map banks_of_state old) l) (sym (banks_become old new number after becomes.now))
+      (quiet_set (map banks_of_state old) number (banks_of_state before) (banks_of_state after) (banks_at old number before becomes.was) quiet)
+
+  -- where the banks are the same
+  pub quiet_same : (banks : List B) → AreQuiet meter banks banks
+  quiet_same banks number before after had has = quiet_kept before after (cc (had, has))
+
+  pub quiet_still : (old new : List (BankedState B)) → new ≡ old → AreQuiet meter (map banks_of_state old) (map banks_of_state new)
+  quiet_still old new same =
+      subst (λ (l : List (BankedState B)). AreQuiet meter (map banks_of_state old) (map banks_of_state l)) (sym same) (quiet_same (map banks_of_state old))
+
+  -- want of memory is none of them
+  pub faults_memory : {T : Type 0} (old new : List B) (r : Result T WorldFault) → AreQuiet meter old new → IfErr r (λ fault. fault ≡ faults.NoMemory) → HasFaultsBy meter old new r
+  faults_memory old new (Ok reply) quiet none = quiet
+  faults_memory old new (Err fault) quiet none = subst (HasFaultsOf meter old new) (sym none) quiet
 
 -- ---- what banks stand for after a step
 

@@ -1,5 +1,5 @@
 -- What `deliver` does is the model's step.
-use Rattle.std.proofs.Common.{◌≡◌, ◌≢◌, ℕ, zero, suc, ◌+◌, ◌-◌, List, [], ◌∷◌, ◌++◌, inl, inr, refl, sym, ◌∙◌, ap, arith, subst, length, map, set, Some, None, Option, Result, Ok, IfOk, IfErr, OnOk}
+use Rattle.std.proofs.Common.{◌≡◌, ◌≢◌, ℕ, zero, suc, ◌+◌, ◌-◌, List, [], ◌∷◌, ◌++◌, inl, inr, refl, sym, ◌∙◌, ap, arith, subst, length, map, set, Some, None, Option, Result, Ok, IfOk, OnOk}
 use Rattle.std.specs.List.{range_with_len}
 use Rattle.mld_ops.specs.Entry.{EntryValue}
 use Rattle.mld_ops.specs.Messages.{GiveValue, MessageValue, CarriesEntry, CarriesWant, CarriesSnapshot, CarriesAsk, CarriesGive, SnapshotValue, give_value, message_value, snapshot_value, IsGoodMessage}
@@ -20,11 +20,8 @@ use Rattle.schedule_model.proofs.AskLaws.{want_nothing, want_answered, want_snap
 use Rattle.schedule_model.proofs.SnapshotLaws.{deliver_snapshot_known, deliver_merged, never_foreign_snapshot}
 use Rattle.schedule_model.proofs.WorldLaws.{stepped, stepped_with, sent_message, never_foreign, deliver_nothing, deliver_missing, deliver_known, deliver_taken, deliver_held, deliver_held_already, deliver_full}
 use Rattle.schedule_model.proofs.JoinLaws.{deliver_ask_own, deliver_deep, deliver_ask, deliver_give_live, deliver_joined, deliver_asking}
-use Rattle.mld_io.specs.Arm.{Meter, Metered, Unarmed}
+use Rattle.mld_io.specs.Arm.{Meter, Metered}
 use Rattle.mld_io.specs.Disk.{Log}
-use Rattle.mld_io.specs.Faults.{Rose}
-use Rattle.journal_store.specs.declared.faults.MakeFault.{MakeFault}
-use Rattle.journal_store.specs.declared.faults.MakeFault.TheVariants as make
 use Rattle.clone_core.specs.Banked.{BankedAsker, BankedClone}
 use Rattle.clone_core.specs.Wants.{SendsLacked, sends_entries, sends_snapshot}
 use Rattle.tree_clock.specs.Clock.{ClockValue}
@@ -33,7 +30,6 @@ use Rattle.clone_core.specs.Joining.{LocallyAdopts, banks_of_adopted, adopting_c
 use Rattle.clone_core.specs.declared.askers.Adopted.{Adopted}
 use Rattle.clone_core.specs.declared.askers.Adopted.TheVariants as adopted
 use Rattle.net_world.specs.declared.faults.WorldFault.{WorldFault}
-use Rattle.net_world.specs.WorldFaults.{fault_of_made}
 use Rattle.net_world.specs.declared.deliver.Received.{Received}
 use Rattle.net_world.specs.declared.deliver.Received.TheVariants as received
 use Rattle.schedule_replies.specs.declared.replies.Reply.{Reply}
@@ -44,10 +40,10 @@ use Rattle.mld_model.specs.World.{numbered}
 use Rattle.net_world.specs.WorldParts.{running_of, HasStepLeft, Does}
 use Rattle.schedule_replies.specs.Replies.{reply_value, numbers_between}
 use Rattle.net_world.specs.States.{HasState, Becomes, reply_of_state}
-use Rattle.net_world.specs.WorldBanks.{BankedState, in_memory, banks_of_state, memory_of, GoesOn, FailsAt, is_first, IsCarried, IsCarriedAt}
+use Rattle.net_world.specs.WorldBanks.{BankedState, in_memory, banks_of_state, memory_of, GoesOn, HasFaultsAt, is_first, IsCarried, IsCarriedAt}
 use Rattle.net_world.specs.Worlds.{Moves}
 use Rattle.net_world.proofs.Places.{set_again}
-use Rattle.net_world.proofs.BankLemmas.{memory_at, memory_becomes, goes_on, rose_unarmed}
+use Rattle.net_world.proofs.BankLemmas.{memory_at, memory_becomes, goes_on, quiet_metered, faults_made}
 use Rattle.net_world.proofs.WorldLemmas.{after_step, moved, is_open, has_generation, does_carried, does_still}
 
 -- the message of a number, where it is one
@@ -395,20 +391,23 @@ module _ {B : Type 0} (meter : B → Meter) (old new : List (BankedState B)) (nu
       subst (λ (b : B). GoesOn (meter asking.banks) (meter b)) (sym (adopted_banks what told is))
       (goes_on (adopting_calls what) (meter asking.banks) (meter (banks_of_adopted what)) (AdoptsWhole what) (FailsToAdopt what) metered)
 
-  -- why it refused
-  refused_fails : (fault : MakeFault) (before now : Meter) → (fault ≡ make.Device → before.arm ≡ Unarmed → Rose before.real_faults now.real_faults) → FailsAt number before now (fault_of_made number fault)
-  refused_fails make.Device before now rose = (refl, rose refl)
-  refused_fails make.NoMemory before now rose = tt
-
-  pub asking_fails : (what : Adopted B) (told : BankedState B × Result Received WorldFault) → IsToldOf number what told
+  -- what its meter counted
+  asking_by : (what : Adopted B) (told : BankedState B × Result Received WorldFault) → IsToldOf number what told
       → Metered (adopting_calls what) (meter asking.banks) (meter (banks_of_adopted what)) (AdoptsWhole what) (FailsToAdopt what)
-      → IfErr told.1 (FailsAt number (meter asking.banks) (meter (banks_of_state told.0)))
-  asking_fails (adopted.Joined clone) told is metered =
-      subst (λ (x : Result Received WorldFault). IfErr x (FailsAt number (meter asking.banks) (meter (banks_of_state told.0)))) (sym is.1) tt
-  asking_fails (adopted.Ignored same) told is metered =
-      subst (λ (x : Result Received WorldFault). IfErr x (FailsAt number (meter asking.banks) (meter (banks_of_state told.0)))) (sym is.1) tt
-  asking_fails (adopted.Refused fault banks) told is metered =
-      subst (λ (x : Result Received WorldFault). IfErr x (FailsAt number (meter asking.banks) (meter (banks_of_state told.0)))) (sym is.1)
-      (subst (λ (b : B). FailsAt number (meter asking.banks) (meter b) (fault_of_made number fault)) (sym (adopted_banks (adopted.Refused fault banks) told is))
-      (refused_fails fault (meter asking.banks) (meter banks)
-      (rose_unarmed (adopting_calls (adopted.Refused fault banks)) (meter asking.banks) (meter banks) (AdoptsWhole (adopted.Refused fault banks)) (FailsToAdopt (adopted.Refused fault banks)) metered)))
+      → HasFaultsAt number (meter asking.banks) (meter (banks_of_adopted what)) told.1
+  asking_by (adopted.Joined clone) told is metered =
+      subst (HasFaultsAt number (meter asking.banks) (meter clone.banks)) (sym is.1)
+      (quiet_metered (adopting_calls (adopted.Joined clone)) (meter asking.banks) (meter clone.banks) (AdoptsWhole (adopted.Joined clone)) (FailsToAdopt (adopted.Joined clone)) metered (λ fails. fails))
+  asking_by (adopted.Ignored same) told is metered =
+      subst (HasFaultsAt number (meter asking.banks) (meter same.banks)) (sym is.1)
+      (quiet_metered (adopting_calls (adopted.Ignored same)) (meter asking.banks) (meter same.banks) (AdoptsWhole (adopted.Ignored same)) (FailsToAdopt (adopted.Ignored same)) metered (λ fails. fails))
+  asking_by (adopted.Refused fault banks) told is metered =
+      subst (HasFaultsAt number (meter asking.banks) (meter banks)) (sym is.1)
+      (faults_made number (adopting_calls (adopted.Refused fault banks)) (meter asking.banks) (meter banks) (AdoptsWhole (adopted.Refused fault banks)) fault metered)
+
+  -- whether its banks had a fault
+  pub asking_faults : (what : Adopted B) (told : BankedState B × Result Received WorldFault) → IsToldOf number what told
+      → Metered (adopting_calls what) (meter asking.banks) (meter (banks_of_adopted what)) (AdoptsWhole what) (FailsToAdopt what)
+      → HasFaultsAt number (meter asking.banks) (meter (banks_of_state told.0)) told.1
+  asking_faults what told is metered =
+      subst (λ (b : B). HasFaultsAt number (meter asking.banks) (meter b) told.1) (sym (adopted_banks what told is)) (asking_by what told is metered)

@@ -1,35 +1,32 @@
 -- Faults of banks over several changes of clones.
-use Rattle.std.proofs.Common.{◌≡◌, ◌∙◌, ℕ, ◌≤◌, Result, Err, List, [], ◌∷◌, Some, refl, ap, subst, arith, inl, inr, map}
+use Rattle.std.proofs.Common.{◌≡◌, ◌∙◌, ℕ, Result, Ok, Err, OnOk, IfErr, List, [], ◌∷◌, Some, refl, ap, sym, subst, arith, inl, inr, map}
 use Rattle.std.specs.Prelude.{slice_get}
 use Rattle.std.proofs.lemmas.Option.{slice_get_cases, slice_get_within}
 use Rattle.mld_io.specs.Arm.{Meter, Metered}
 use Rattle.mld_io.specs.Faults.{Rose}
 use Rattle.journal_store.specs.declared.faults.MakeFault.{MakeFault}
-use Rattle.journal_store.specs.declared.faults.MakeFault.TheVariants as make
 use Rattle.mld_model.specs.declared.CloneState.TheVariants as states
 use Rattle.clone_core.specs.Banked.{BankedClone}
 use Rattle.clone_core.specs.Closing.{FailsToFound}
 use Rattle.net_world.specs.declared.faults.WorldFault.{WorldFault}
 use Rattle.net_world.specs.declared.faults.WorldFault.TheVariants as faults
-use Rattle.net_world.specs.WorldBanks.{BankedState, banks_of_state, GoesOn, MetersGoOn, HasFailed, FailsAt, FailsAmong}
+use Rattle.net_world.specs.WorldBanks.{BankedState, banks_of_state, GoesOn, MetersGoOn, IsQuiet, AreQuiet, HasFailed, HasFaultsOf, HasFaultsBy, FailsAt, HasFaultsAt}
+use Rattle.net_world.specs.Founding.{IsMadeFirst}
 use Rattle.net_world.specs.WorldFaults.{fault_of_made}
-use Rattle.net_world.proofs.BankLemmas.{rose_unarmed}
+use Rattle.net_world.proofs.BankLemmas.{quiet_metered, faults_made}
 
--- the fault of a clone that could not be made is one of its banks
-pub fails_made : (number calls : ℕ) (before now : Meter) (Done : Type 0) (fault : MakeFault) → Metered calls before now Done (fault ≡ make.Device) → FailsAt number before now (fault_of_made number fault)
-fails_made number calls before now Done make.Device metered = (refl, λ unarmed. rose_unarmed calls before now Done (make.Device ≡ make.Device) metered refl unarmed)
-fails_made number calls before now Done make.NoMemory metered = tt
+-- whether the banks of the first clone had a fault, which was made, or was not
+pub first_faults : {B U : Type 0} (calls : ℕ) (made : Result (BankedClone B) (MakeFault × B)) (told : BankedState B × Result U WorldFault) (before now : Meter) (Done : Type 0)
+    → IsMadeFirst made told → Metered calls before now Done (FailsToFound made) → HasFaultsAt 0 before now told.1
+first_faults {B = B} {U = U} calls made told before now Done first metered = by told.1 first.ok first.err
+  where
+    of_made : (m : Result (BankedClone B) (MakeFault × B)) → made ≡ m → Metered calls before now Done (FailsToFound m)
+    of_made m is = subst (λ (r : Result (BankedClone B) (MakeFault × B)). Metered calls before now Done (FailsToFound r)) is metered
 
-pub made_fails : {B : Type 0} (number calls : ℕ) (made : Result (BankedClone B) (MakeFault × B)) (refused : MakeFault × B) (before now : Meter) (Done : Type 0) → made ≡ Err refused
-    → Metered calls before now Done (FailsToFound made) → FailsAt number before now (fault_of_made number refused.0)
-made_fails {B = B} number calls made refused before now Done is metered =
-    fails_made number calls before now Done refused.0 (subst (λ (m : Result (BankedClone B) (MakeFault × B)). Metered calls before now Done (FailsToFound m)) is metered)
-
-rose_later : (before mid now : ℕ) → Rose before mid → mid ≤ now → Rose before now
-rose_later before mid now rose later = omega (arith, rose, later)
-
-rose_before : (before mid now : ℕ) → before ≤ mid → Rose mid now → Rose before now
-rose_before before mid now earlier rose = omega (arith, rose, earlier)
+    by : (r : Result U WorldFault) → OnOk r ((clone : BankedClone B) × (made ≡ Ok clone) × (told.0 ≡ states.Live clone))
+        → IfErr r (λ fault. (refused : MakeFault × B) × (made ≡ Err refused) × (fault ≡ fault_of_made 0 refused.0)) → HasFaultsAt 0 before now r
+    by (Ok value) ok err = quiet_metered calls before now Done ⊥ (of_made (Ok ok.0) ok.1) (λ fails. fails)
+    by (Err fault) ok err = subst (FailsAt 0 before now) (sym err.2) (faults_made 0 calls before now Done err.0.0 (of_made (Err err.0) err.1))
 
 pub goes_then : (before mid now : Meter) → GoesOn before mid → GoesOn mid now → GoesOn before now
 goes_then before mid now first second = record { later = omega (arith, first.later, second.later); unarmed = λ is. second.unarmed (first.unarmed is) }
@@ -42,6 +39,12 @@ module _ {B : Type 0} (meter : B → Meter) where
     | inr past ↦ absurd (omega (arith, past.0, on.count, slice_get_within old number was at))
   ]
 
+  stood_too : (old new : List B) (number : ℕ) (now : B) → MetersGoOn meter old new → slice_get new number ≡ Some now → (was : B) × (slice_get old number ≡ Some was)
+  stood_too old new number now on at = elim (slice_get_cases old number).1 [
+    | inl found ↦ (found.0, found.2)
+    | inr past ↦ absurd (omega (arith, past.0, on.count, slice_get_within new number now at))
+  ]
+
   pub meters_then : (old mid new : List B) → MetersGoOn meter old mid → MetersGoOn meter mid new → MetersGoOn meter old new
   meters_then old mid new first second = record {
     count = second.count ∙ first.count;
@@ -50,30 +53,62 @@ module _ {B : Type 0} (meter : B → Meter) where
         goes_then (meter was) (meter between.0) (meter now) (first.each number was between.0 had between.1) (second.each number between.0 now between.1 has);
   }
 
-  failed_then : (old mid new : List B) (number : ℕ) → MetersGoOn meter old mid → HasFailed meter number old mid → MetersGoOn meter mid new → HasFailed meter number old new
-  failed_then old mid new number first failed second was now had has unarmed =
-      let between : (b : B) × (slice_get mid number ≡ Some b) = stands_too old mid number was first had in
-      rose_later (meter was).real_faults (meter between.0).real_faults (meter now).real_faults (failed was between.0 had between.1 unarmed)
-      (second.each number between.0 now between.1 has).later
+  -- banks that had no fault before, and none after
+  pub quiet_then : (old mid new : List B) → MetersGoOn meter old mid → AreQuiet meter old mid → AreQuiet meter mid new → AreQuiet meter old new
+  quiet_then old mid new on first second number was now had has =
+      let between : (b : B) × (slice_get mid number ≡ Some b) = stands_too old mid number was on had in
+      second number between.0 now between.1 has ∙ first number was between.0 had between.1
 
-  then_failed : (old mid new : List B) (number : ℕ) → MetersGoOn meter old mid → HasFailed meter number mid new → HasFailed meter number old new
-  then_failed old mid new number first failed was now had has unarmed =
-      let between : (b : B) × (slice_get mid number ≡ Some b) = stands_too old mid number was first had in
-      let on : GoesOn (meter was) (meter between.0) = first.each number was between.0 had between.1 in
-      rose_before (meter was).real_faults (meter between.0).real_faults (meter now).real_faults on.later (failed between.0 now between.1 has (on.unarmed unarmed))
+  -- banks that failed, and of which none had a fault before
+  then_failed : (old mid new : List B) (number : ℕ) → MetersGoOn meter old mid → AreQuiet meter old mid → HasFailed meter number mid new → HasFailed meter number old new
+  then_failed old mid new number on quiet failed =
+      let begun : (b : B) × (slice_get old number ≡ Some b) = stood_too old mid number failed.was on failed.before in
+      let same : IsQuiet (meter begun.0) (meter failed.was) = quiet number begun.0 failed.was begun.1 failed.before in
+      record {
+        was = begun.0;
+        now = failed.now;
+        before = begun.1;
+        behind = failed.behind;
+        fault = λ unarmed.
+            subst (λ (count : ℕ). Rose count (meter failed.now).real_faults) same
+            (failed.fault ((on.each number begun.0 failed.was begun.1 failed.before).unarmed unarmed));
+        others = λ other one two differs had has.
+            let between : (b : B) × (slice_get mid other ≡ Some b) = stands_too old mid other one on had in
+            failed.others other between.0 two differs between.1 has ∙ quiet other one between.0 had between.1;
+      }
 
-  -- the fault of a change stays one, whatever changes before and after
-  pub fails_then : (old mid new : List (BankedState B)) (fault : WorldFault) → MetersGoOn meter (map banks_of_state old) (map banks_of_state mid) → FailsAmong meter old mid fault
-      → MetersGoOn meter (map banks_of_state mid) (map banks_of_state new) → FailsAmong meter old new fault
-  fails_then old mid new faults.NoMemory first fails second = tt
-  fails_then old mid new (faults.Device clone) first fails second =
-      failed_then (map banks_of_state old) (map banks_of_state mid) (map banks_of_state new) clone first fails second
+  -- banks that failed, and of which none had a fault after
+  failed_then : (old mid new : List B) (number : ℕ) → MetersGoOn meter old mid → HasFailed meter number old mid → MetersGoOn meter mid new → AreQuiet meter mid new
+      → HasFailed meter number old new
+  failed_then old mid new number first failed second quiet =
+      let ended : (b : B) × (slice_get new number ≡ Some b) = stands_too mid new number failed.now second failed.behind in
+      let same : IsQuiet (meter failed.now) (meter ended.0) = quiet number failed.now ended.0 failed.behind ended.1 in
+      record {
+        was = failed.was;
+        now = ended.0;
+        before = failed.before;
+        behind = ended.1;
+        fault = λ unarmed. subst (λ (count : ℕ). Rose (meter failed.was).real_faults count) (sym same) (failed.fault unarmed);
+        others = λ other one two differs had has.
+            let between : (b : B) × (slice_get mid other ≡ Some b) = stands_too old mid other one first had in
+            quiet other between.0 two between.1 has ∙ failed.others other one between.0 differs had between.1;
+      }
 
-  pub then_fails : (old mid new : List (BankedState B)) (fault : WorldFault) → MetersGoOn meter (map banks_of_state old) (map banks_of_state mid) → FailsAmong meter mid new fault
-      → FailsAmong meter old new fault
-  then_fails old mid new faults.NoMemory first fails = tt
-  then_fails old mid new (faults.Device clone) first fails =
-      then_failed (map banks_of_state old) (map banks_of_state mid) (map banks_of_state new) clone first fails
+  -- so it is of how a call ended
+  pub then_fails : (old mid new : List B) (fault : WorldFault) → MetersGoOn meter old mid → AreQuiet meter old mid → HasFaultsOf meter mid new fault → HasFaultsOf meter old new fault
+  then_fails old mid new faults.NoMemory on quiet by = quiet_then old mid new on quiet by
+  then_fails old mid new (faults.Device clone) on quiet by = then_failed old mid new clone on quiet by
+
+  pub then_faults : {T : Type 0} (old mid new : List B) (r : Result T WorldFault) → MetersGoOn meter old mid → AreQuiet meter old mid → HasFaultsBy meter mid new r
+      → HasFaultsBy meter old new r
+  then_faults old mid new (Ok value) on quiet by = quiet_then old mid new on quiet by
+  then_faults old mid new (Err fault) on quiet by = then_fails old mid new fault on quiet by
+
+  pub faults_then : {T : Type 0} (old mid new : List B) (r : Result T WorldFault) → MetersGoOn meter old mid → HasFaultsBy meter old mid r → MetersGoOn meter mid new
+      → AreQuiet meter mid new → HasFaultsBy meter old new r
+  faults_then old mid new (Ok value) first by second quiet = quiet_then old mid new first by quiet
+  faults_then old mid new (Err faults.NoMemory) first by second quiet = quiet_then old mid new first by quiet
+  faults_then old mid new (Err (faults.Device clone)) first by second quiet = failed_then old mid new clone first by second quiet
 
 -- the banks of absent clones
 pub banks_of_absent : {B : Type 0} (blanks : List B) → map banks_of_state (map (λ banks. states.Absent banks) blanks) ≡ blanks

@@ -1,5 +1,5 @@
 -- What `join` does is the model's step.
-use Rattle.std.proofs.Common.{◌≡◌, ℕ, ◌+◌, List, [], ◌∷◌, ◌++◌, Option, Result, Ok, Err, IfOk, refl, sym, ◌∙◌, ap, subst, length, map, set}
+use Rattle.std.proofs.Common.{◌≡◌, ℕ, ◌+◌, List, [], ◌∷◌, ◌++◌, Option, Result, Ok, Err, IfOk, IfErr, refl, sym, ◌∙◌, ap, subst, length, map, set}
 use Rattle.mld_io.specs.Arm.{Meter}
 use Rattle.mld_io.specs.Disk.{Log}
 use Rattle.mld_ops.specs.Messages.{MessageValue, CarriesAsk, message_value}
@@ -17,6 +17,7 @@ use Rattle.schedule_model.proofs.WorldLaws.{stepped}
 use Rattle.schedule_model.proofs.JoinLaws.{join_absent, join_again, join_live, join_down}
 use Rattle.clone_core.specs.Banked.{BankedAsker}
 use Rattle.net_world.specs.declared.faults.WorldFault.{WorldFault}
+use Rattle.net_world.specs.declared.faults.WorldFault.TheVariants as faults
 use Rattle.net_world.specs.declared.parts.Parts.{Parts}
 use Rattle.schedule_replies.specs.declared.replies.Reply.{Reply as CodeReply}
 use Rattle.schedule_replies.specs.declared.replies.Reply.TheVariants as replies
@@ -24,10 +25,10 @@ use Rattle.net_world.specs.Asking.{AsksFirst, SendsQuestion}
 use Rattle.net_world.specs.Founding.{IsNewAsker}
 use Rattle.schedule_replies.specs.Replies.{reply_value}
 use Rattle.net_world.specs.States.{HasState, reply_of_state}
-use Rattle.net_world.specs.WorldBanks.{BankedState, in_memory, memory_of, GoesOn}
+use Rattle.net_world.specs.WorldBanks.{BankedState, in_memory, banks_of_state, memory_of, GoesOn, IsQuiet, HasFaultsBy}
 use Rattle.net_world.specs.WorldParts.{running_of, KeepsDomain, Does}
 use Rattle.net_world.specs.Worlds.{Moves}
-use Rattle.net_world.proofs.BankLemmas.{memory_at, memory_becomes, goes_on_same}
+use Rattle.net_world.proofs.BankLemmas.{memory_at, memory_becomes, goes_on_same, memory_at_one, faults_set}
 use Rattle.net_world.proofs.WorldLemmas.{after_step, moved, does_carried, does_still, keeps_set}
 
 -- one who asks already asks again
@@ -89,7 +90,7 @@ module _ {B : Type 0} (log : B → Option Log) (meter : B → Meter) (old new : 
       tt (record { state = states.Asking asks.asking; now = asks.becomes.now; carried = tt })
 
   -- its banks were not used
-  pub join_first_keeps : (question : Message) → AsksFirst old.domain old.properties.items number old.clones.items new.clones.items question → KeepsDomain meter old new
+  pub join_first_keeps : (question : Message) → AsksFirst old.domain old.properties.items number old.clones.items new.clones.items question → KeepsDomain meter number old new
   join_first_keeps question asks =
       keeps_set log meter old new domain properties number (states.Absent asks.blank) (states.Asking asks.asking) asks.becomes
       (subst (λ (b : B). GoesOn (meter asks.blank) (meter b)) (sym asks.banks) (goes_on_same (meter asks.blank)))
@@ -104,3 +105,12 @@ module _ {B : Type 0} (log : B → Option Log) (meter : B → Meter) (old new : 
       (map message_value old.messages.items) (map message_value new.messages.items) refl
       (ap (λ (l : List (BankedState B)). map in_memory l) (sym same)) (ap (λ (m : List Message). map message_value m) (sym sent))
       (settled (memory_of (running_of old steps)) number state (reply_value reply) is (memory_at old.clones.items number state at) busy absent)) tt same
+
+-- one who begins to ask uses no banks, and memory ran out at most
+pub join_first_faults : {B T : Type 0} (meter : B → Meter) (domain : List ℕ) (properties : List (List ℕ)) (old new : List (BankedState B)) (number : ℕ) (question : Message)
+    (r : Result T WorldFault) → AsksFirst domain properties number old new question → IfErr r (λ fault. fault ≡ faults.NoMemory)
+    → HasFaultsBy meter (map banks_of_state old) (map banks_of_state new) r
+join_first_faults {B = B} meter domain properties old new number question r asks none =
+    let same : IsQuiet (meter asks.blank) (meter asks.asking.banks) = ap (λ (b : B). (meter b).real_faults) asks.banks in
+    faults_set meter old new number (states.Absent asks.blank) (states.Asking asks.asking) r asks.becomes
+    (memory_at_one number (meter asks.blank) (meter asks.asking.banks) r same none)

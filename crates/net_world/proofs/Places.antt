@@ -24,6 +24,20 @@ other_at {X = X} items number other new state differs is =
     let was : get_or items other state ≡ state = sym (get_or-set_other items number other new state differs) ∙ get_or_from_slice_get (set items number new) other state state is in
     slice_get-get_or items other state inside ∙ ap (λ (s : X). Some s) was
 
+-- what stands at any other place is what stood there
+pub elsewhere_at : {X : Type 0} (items : List X) (number other : ℕ) (new : X) → other ≢ number → slice_get (set items number new) other ≡ slice_get items other
+elsewhere_at [] number other new differs = refl
+elsewhere_at (first ∷ items) zero zero new differs = absurd (differs refl)
+elsewhere_at (first ∷ items) zero (suc other) new differs = refl
+elsewhere_at (first ∷ items) (suc number) zero new differs = refl
+elsewhere_at (first ∷ items) (suc number) (suc other) new differs = elsewhere_at items number other new (λ same. differs (ap suc same))
+
+-- what was set stands in a place that there was
+pub set_here : {X : Type 0} (items : List X) (number : ℕ) (was new : X) → slice_get items number ≡ Some was → slice_get (set items number new) number ≡ Some new
+set_here [] number was new at = absurd (cc at)
+set_here (first ∷ items) zero was new at = refl
+set_here (first ∷ items) (suc before) was new at = set_here items before was new at
+
 -- a state that is known is written in its place again
 pub set_again : {X : Type 0} (items : List X) (number : ℕ) (state : X) → HasState items number state → set items number state ≡ items
 set_again {X = X} items number state at = ap (λ (s : X). set items number s) (sym (get_or_from_slice_get items number state state at)) ∙ set-get_or items number state

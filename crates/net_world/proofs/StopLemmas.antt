@@ -1,10 +1,9 @@
 -- What `stop` and `open` do is the model's step.
-use Rattle.std.proofs.Common.{◌≡◌, ◌≢◌, ℕ, ◌+◌, ◌<◌, List, Option, Some, None, MatchOption, Result, IfOk, IfErr, IsSome, refl, sym, ◌∙◌, ap, arith, subst, length, map, set}
+use Rattle.std.proofs.Common.{◌≡◌, ◌≢◌, ℕ, ◌+◌, ◌<◌, List, Option, Some, None, MatchOption, Result, IfOk, IsSome, refl, sym, ◌∙◌, ap, arith, subst, length, map, set}
 use Rattle.std.proofs.lemmas.List.{get_or-set_same}
 use Rattle.std.proofs.lemmas.Option.{slice_get_within}
-use Rattle.mld_io.specs.Arm.{Meter, Metered, Unarmed}
+use Rattle.mld_io.specs.Arm.{Meter, Metered}
 use Rattle.mld_io.specs.Disk.{Log, seen}
-use Rattle.mld_io.specs.Faults.{Rose}
 use Rattle.mld_io.specs.declared.banks.Side.{Side}
 use Rattle.mld_ops.proofs.PropertiesLaws.{kept_same}
 use Rattle.mld_ops.specs.History.{Operation}
@@ -43,9 +42,9 @@ use Rattle.net_world.specs.OpeningBanks.{IsWholeAt, IsUndamaged, IsOpenedAs, Ope
 use Rattle.schedule_replies.specs.Replies.{reply_value}
 use Rattle.net_world.specs.States.{HasState, Becomes, reply_of_state}
 use Rattle.net_world.specs.StoppedClones.{StopsOnBanks}
-use Rattle.net_world.specs.WorldBanks.{BankedState, in_memory, banks_of_state, memory_of, stored_in, KeepsNoneNow, KeepsStored, IsReached, IsDownOn, IsOpenAt, IsBacked, StandsOnBanks, GoesOn, FailsAt}
+use Rattle.net_world.specs.WorldBanks.{BankedState, in_memory, banks_of_state, memory_of, stored_in, KeepsNoneNow, KeepsStored, IsReached, IsDownOn, IsOpenAt, IsBacked, StandsOnBanks, GoesOn, AreQuiet, HasFaultsAt}
 use Rattle.net_world.specs.WorldParts.{running_of, HasStepLeft, KeepsDomain, Does}
-use Rattle.net_world.proofs.BankLemmas.{memory_at, memory_becomes, goes_on, goes_on_same, rose_unarmed}
+use Rattle.net_world.proofs.BankLemmas.{memory_at, memory_becomes, goes_on, goes_on_same, quiet_metered, rose_unarmed, quiet_becomes}
 use Rattle.net_world.proofs.WorldLemmas.{after_step, moved, does_at, does_still, keeps_set}
 
 -- ---- the model's step
@@ -118,7 +117,7 @@ module _ {B : Type 0} (log : B → Option Log) (meter : B → Meter) (old new : 
       (λ steps world next stands sound step. stopped_backed s steps world next stands sound step)
 
   -- its banks were not used
-  pub stop_keeps : StopsOnBanks log old.clones.items new.clones.items number → KeepsDomain meter old new
+  pub stop_keeps : StopsOnBanks log old.clones.items new.clones.items number → KeepsDomain meter number old new
   stop_keeps s = keeps_set log meter old new domain properties number (states.Live s.clone) (states.Down s.clone.banks) s.becomes (goes_on_same (meter s.clone.banks))
 
   -- a clone that isn't live stopped nothing
@@ -302,19 +301,30 @@ module _ {B : Type 0} (log : B → Option Log) (meter : B → Meter) (domain : L
       subst (λ (b : B). GoesOn (meter banks) (meter b)) (sym (opened_banks what told is))
       (goes_on mount_calls (meter banks) (meter (banks_of_mounted what)) (SyncsBoth what) (FailsToOpen what) metered)
 
-  -- why it was refused
-  pub opened_fails : (what : Mounted B) (told : BankedState B × Result CodeReply WorldFault) → IsOpenedAs domain properties number what told
-      → Metered mount_calls (meter banks) (meter (banks_of_mounted what)) (SyncsBoth what) (FailsToOpen what) → IfErr told.1 (FailsAt number (meter banks) (meter (banks_of_state told.0)))
-  opened_fails (mounted.Live clone) told is metered =
-      subst (λ (x : Result CodeReply WorldFault). IfErr x (FailsAt number (meter banks) (meter (banks_of_state told.0)))) (sym is.1) tt
-  opened_fails (mounted.Empty blank) told is metered =
-      subst (λ (x : Result CodeReply WorldFault). IfErr x (FailsAt number (meter banks) (meter (banks_of_state told.0)))) (sym is.answer) tt
-  opened_fails (mounted.Refused mount.Device back) told is metered =
-      subst (λ (x : Result CodeReply WorldFault). IfErr x (FailsAt number (meter banks) (meter (banks_of_state told.0)))) (sym is.1) (
-        refl,
-        subst (λ (b : B). (meter banks).arm ≡ Unarmed → Rose (meter banks).real_faults (meter b).real_faults) (sym (opened_banks (mounted.Refused mount.Device back) told is))
-            (rose_unarmed mount_calls (meter banks) (meter back) (SyncsBoth (mounted.Refused mount.Device back)) (FailsToOpen (mounted.Refused mount.Device back)) metered refl),
-      )
-  opened_fails (mounted.Refused mount.NoMemory back) told is metered =
-      subst (λ (x : Result CodeReply WorldFault). IfErr x (FailsAt number (meter banks) (meter (banks_of_state told.0)))) (sym is.1) tt
-  opened_fails (mounted.Refused (mount.Damaged side place) back) told is metered = absurd is
+  -- what its meter counted
+  opened_by : (what : Mounted B) (told : BankedState B × Result CodeReply WorldFault) → IsOpenedAs domain properties number what told
+      → Metered mount_calls (meter banks) (meter (banks_of_mounted what)) (SyncsBoth what) (FailsToOpen what) → HasFaultsAt number (meter banks) (meter (banks_of_mounted what)) told.1
+  opened_by (mounted.Live clone) told is metered =
+      subst (HasFaultsAt number (meter banks) (meter clone.banks)) (sym is.1)
+      (quiet_metered mount_calls (meter banks) (meter clone.banks) (SyncsBoth (mounted.Live clone)) (FailsToOpen (mounted.Live clone)) metered (λ fails. fails))
+  opened_by (mounted.Empty blank) told is metered =
+      subst (HasFaultsAt number (meter banks) (meter blank)) (sym is.answer)
+      (quiet_metered mount_calls (meter banks) (meter blank) (SyncsBoth (mounted.Empty blank)) (FailsToOpen (mounted.Empty blank)) metered (λ fails. fails))
+  opened_by (mounted.Refused mount.Device back) told is metered =
+      subst (HasFaultsAt number (meter banks) (meter back)) (sym is.1)
+      (refl, rose_unarmed mount_calls (meter banks) (meter back) (SyncsBoth (mounted.Refused mount.Device back)) (FailsToOpen (mounted.Refused mount.Device back)) metered refl)
+  opened_by (mounted.Refused mount.NoMemory back) told is metered =
+      subst (HasFaultsAt number (meter banks) (meter back)) (sym is.1)
+      (quiet_metered mount_calls (meter banks) (meter back) (SyncsBoth (mounted.Refused mount.NoMemory back)) (FailsToOpen (mounted.Refused mount.NoMemory back)) metered (λ fails. absurd (cc fails)))
+  opened_by (mounted.Refused (mount.Damaged side place) back) told is metered = absurd is
+
+  -- whether its banks had a fault
+  pub opened_faults : (what : Mounted B) (told : BankedState B × Result CodeReply WorldFault) → IsOpenedAs domain properties number what told
+      → Metered mount_calls (meter banks) (meter (banks_of_mounted what)) (SyncsBoth what) (FailsToOpen what) → HasFaultsAt number (meter banks) (meter (banks_of_state told.0)) told.1
+  opened_faults what told is metered =
+      subst (λ (b : B). HasFaultsAt number (meter banks) (meter b) told.1) (sym (opened_banks what told is)) (opened_by what told is metered)
+
+-- a clone that stops uses no banks
+pub stop_quiet : {B : Type 0} (log : B → Option Log) (meter : B → Meter) (old new : List (BankedState B)) (number : ℕ) → StopsOnBanks log old new number
+    → AreQuiet meter (map banks_of_state old) (map banks_of_state new)
+stop_quiet log meter old new number s = quiet_becomes meter old new number (states.Live s.clone) (states.Down s.clone.banks) s.becomes refl

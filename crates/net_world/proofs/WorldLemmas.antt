@@ -1,6 +1,6 @@
 -- What commands do with the parts of a running world is the model's step.
-use Rattle.std.proofs.Common.{◌≡◌, ◌≢◌, ℕ, ◌+◌, ◌-◌, ◌^◌, ◌<◌, List, Option, None, refl, sym, ◌∙◌, ap, arith, subst, length, map, set}
-use Rattle.std.proofs.lemmas.List.{length-map, length-set}
+use Rattle.std.proofs.Common.{◌≡◌, ◌≢◌, ℕ, ◌+◌, ◌-◌, ◌^◌, ◌<◌, List, Option, None, refl, sym, ◌∙◌, ap, arith, subst, map, set}
+use Rattle.std.proofs.lemmas.List.{length-map}
 use Rattle.mld_io.specs.Arm.{Meter}
 use Rattle.mld_io.specs.Disk.{Log}
 use Rattle.tree_clock.specs.Limits.{tick_limit}
@@ -19,17 +19,15 @@ use Rattle.schedule_model.specs.Step.{Step, number_of_clone}
 use Rattle.schedule_model.specs.WorldStep.{Follows, IsMissingReply}
 use Rattle.schedule_model.proofs.WorldLaws.{founded_stands, next_tick_within}
 use Rattle.clone_core.specs.Banked.{BankedClone}
-use Rattle.net_world.specs.declared.faults.WorldFault.{WorldFault}
-use Rattle.net_world.specs.declared.faults.WorldFault.TheVariants as faults
 use Rattle.net_world.specs.declared.parts.Parts.{Parts}
 use Rattle.schedule_replies.specs.declared.replies.Reply.{Reply as CodeReply}
 use Rattle.net_world.specs.Commands.{Answered}
-use Rattle.net_world.specs.WorldParts.{running_of, HasStepLeft, KeepsDomain, HasFaultCause, Does}
+use Rattle.net_world.specs.WorldParts.{running_of, HasStepLeft, KeepsDomain, Does}
 use Rattle.schedule_replies.specs.Replies.{reply_value}
 use Rattle.net_world.specs.States.{HasState, Becomes, reply_of_state}
-use Rattle.net_world.specs.WorldBanks.{BankedState, BankedWorld, in_memory, banks_of_state, memory_of, banks_of, IsOpenAt, IsBacked, StandsOnBanks, GoesOn, MetersGoOn, HasFailed, IsCarriedAt}
+use Rattle.net_world.specs.WorldBanks.{BankedState, BankedWorld, in_memory, banks_of_state, memory_of, banks_of, IsOpenAt, IsBacked, StandsOnBanks, GoesOn, UsesBanksOf, IsCarriedAt}
 use Rattle.net_world.specs.Worlds.{IsStanding, Moves, FollowsOnBanks, Stepped}
-use Rattle.net_world.proofs.BankLemmas.{memory_at, meters_same, meters_set, StaysShut, moves_at, moves_still, moves_carried}
+use Rattle.net_world.proofs.BankLemmas.{memory_at, uses_same, uses_set, StaysShut, moves_at, moves_still, moves_carried}
 
 -- ---- the world
 
@@ -51,18 +49,15 @@ step_answered {B = B} log old command new before after running steps is answered
     let P : BankedWorld B → Type 0 = λ r. Stepped log r command (running_of new (steps + 1)) before after in
     subst P is (record { reply = reply_value answered.reply; text = answered.told; follows = answered.done.moves steps })
 
--- its banks went on as those of the parts
-pub step_meters : {B : Type 0} (meter : B → Meter) (old new : Parts B) (running : BankedWorld B) (steps : ℕ) → running_of old steps ≡ running → KeepsDomain meter old new
-    → MetersGoOn meter (banks_of running) (map banks_of_state new.clones.items)
-step_meters {B = B} meter old new running steps is keeps =
-    subst (λ (w : BankedWorld B). MetersGoOn meter (banks_of w) (map banks_of_state new.clones.items)) is keeps.meters
+-- no other banks than the command's clone's were used
+pub step_banks : {B : Type 0} (meter : B → Meter) (number : ℕ) (old new : Parts B) (running : BankedWorld B) (steps : ℕ) → running_of old steps ≡ running → KeepsDomain meter number old new
+    → UsesBanksOf meter number (banks_of running) (map banks_of_state new.clones.items)
+step_banks {B = B} meter number old new running steps is keeps =
+    subst (λ (w : BankedWorld B). UsesBanksOf meter number (banks_of w) (map banks_of_state new.clones.items)) is keeps.banks
 
--- and a device that failed is that of the clone that the fault names
-pub step_device : {B : Type 0} (log : B → Option Log) (meter : B → Meter) (old : Parts B) (command : Command) (new : Parts B) (running : BankedWorld B) (steps : ℕ) → running_of old steps ≡ running → (fault : WorldFault)
-    → HasFaultCause meter old new fault → (clone : ℕ) → fault ≡ faults.Device clone → HasFailed meter clone (banks_of running) (map banks_of_state new.clones.items)
-step_device {B = B} log meter old command new running steps is fault cause clone same =
-    subst (λ (w : BankedWorld B). HasFailed meter clone (banks_of w) (map banks_of_state new.clones.items)) is
-    (subst (λ (f : WorldFault). HasFaultCause meter old new f) same cause)
+-- its banks before are those of the parts
+pub step_begun : {B : Type 0} (old : Parts B) (running : BankedWorld B) (steps : ℕ) → running_of old steps ≡ running → map banks_of_state old.clones.items ≡ banks_of running
+step_begun {B = B} old running steps is = ap (λ (w : BankedWorld B). banks_of w) is
 
 -- a clone of parts that stand for a sound world with a step left has a tick left
 pub has_next_tick : {B : Type 0} (log : B → Option Log) (parts : Parts B) (number : ℕ) (live : BankedClone B) → HasStepLeft log parts
@@ -154,33 +149,25 @@ module _ {B : Type 0} (log : B → Option Log) (meter : B → Meter) (old new : 
 
   -- ---- what each command keeps
 
+  -- where it is known how the banks went on
+  pub keeps_banks : (number : ℕ) → UsesBanksOf meter number (map banks_of_state old.clones.items) (map banks_of_state new.clones.items) → KeepsDomain meter number old new
+  keeps_banks number banks = record {
+    domain = domain;
+    properties = properties;
+    count = sym (length-map new.clones.items banks_of_state) ∙ banks.meters.count ∙ length-map old.clones.items banks_of_state;
+    banks = banks;
+  }
+
   -- where one clone is in another state, or was used
   pub keeps_set : (number : ℕ) (before after : BankedState B) → Becomes old.clones.items new.clones.items number before after
-      → GoesOn (meter (banks_of_state before)) (meter (banks_of_state after)) → KeepsDomain meter old new
-  keeps_set number before after becomes on = record {
-    domain = domain;
-    properties = properties;
-    count = ap (λ (l : List (BankedState B)). length l) becomes.now ∙ length-set old.clones.items number after;
-    meters = meters_set meter old.clones.items new.clones.items number before after becomes on;
-  }
-
-  -- where it is known how the banks went on
-  pub keeps_meters : MetersGoOn meter (map banks_of_state old.clones.items) (map banks_of_state new.clones.items) → KeepsDomain meter old new
-  keeps_meters meters = record {
-    domain = domain;
-    properties = properties;
-    count = sym (length-map new.clones.items banks_of_state) ∙ meters.count ∙ length-map old.clones.items banks_of_state;
-    meters = meters;
-  }
+      → GoesOn (meter (banks_of_state before)) (meter (banks_of_state after)) → KeepsDomain meter number old new
+  keeps_set number before after becomes on = keeps_banks number (uses_set meter old.clones.items new.clones.items number before after becomes on)
 
   -- where no clone is
-  pub keeps_still : new.clones.items ≡ old.clones.items → KeepsDomain meter old new
-  keeps_still same = record {
-    domain = domain;
-    properties = properties;
-    count = ap (λ (l : List (BankedState B)). length l) same;
-    meters = subst (λ (l : List (BankedState B)). MetersGoOn meter (map banks_of_state old.clones.items) (map banks_of_state l)) (sym same) (meters_same meter old.clones.items);
-  }
+  pub keeps_still : (number : ℕ) → new.clones.items ≡ old.clones.items → KeepsDomain meter number old new
+  keeps_still number same =
+      keeps_banks number (subst (λ (l : List (BankedState B)). UsesBanksOf meter number (map banks_of_state old.clones.items) (map banks_of_state l)) (sym same)
+      (uses_same meter old.clones.items number))
 
 -- the reply of a clone that isn't live is that of its state
 pub missing_reply : {B : Type 0} (state : BankedState B) (reply : Reply) → reply ≡ reply_of_state (in_memory state) → ((live : BankedClone B) → state ≢ states.Live live)

@@ -1,5 +1,5 @@
 -- How a world is founded: the first clone forks its leaf for the others, one after another.
-use Rattle.std.specs.Prelude.{◌≡◌, ◌≢◌, ◌⊎◌, ◌<◌, ℕ, List, [], ◌∷◌, None, Result, Ok, Err, OnOk, IfErr, map, length}
+use Rattle.std.specs.Prelude.{◌≡◌, ◌≢◌, ◌<◌, ℕ, List, [], ◌∷◌, None, Result, Ok, Err, OnOk, IfErr, map, length}
 use Rattle.std.specs.List.{range_with_len}
 use Rattle.mld_io.specs.Arm.{Meter}
 use Rattle.tree_clock.specs.Limits.{path_limit}
@@ -20,7 +20,7 @@ use Rattle.tree_clock.specs.Lists.{Has}
 use Rattle.net_world.specs.declared.faults.WorldFault.{WorldFault}
 use Rattle.net_world.specs.declared.faults.WorldFault.TheVariants as faults
 use Rattle.net_world.specs.States.{HasState, Becomes}
-use Rattle.net_world.specs.WorldBanks.{BankedState, in_memory, banks_of_state, GoesOn, MetersGoOn, HasFailed, FailsAt}
+use Rattle.net_world.specs.WorldBanks.{BankedState, in_memory, banks_of_state, GoesOn, MetersGoOn, IsQuiet, HasFailed, HasFaultsAt}
 use Rattle.net_world.specs.WorldFaults.{fault_of_made}
 
 -- one who asks begins with the id of its number, this domain, and these properties as they are kept
@@ -54,8 +54,8 @@ pub record AreFounded {B : Type 0} (setup : Setup) (clones : List (BankedState B
   pub memory : map in_memory clones ≡ map (founded_local setup.domain setup.properties setup.count) (range_with_len 0 clone_count)
   pub opened : (state : BankedState B) → Has clones state → IsOpenState state
 
--- why no clones were founded: memory ran out, and no banks are given back; or the banks of a clone had a real fault, and all are
--- given back, in order
+-- why no clones were founded: memory ran out, and no banks are given back; or the banks of a clone had a real fault, and no others had
+-- one, and all are given back, in order
 abbrev pub RefusesFounding : {B : Type 0} → (B → Meter) → List B → WorldFault → List B → Type 0
 RefusesFounding meter blanks faults.NoMemory banks = banks ≡ []
 RefusesFounding meter blanks (faults.Device clone) banks = MetersGoOn meter blanks banks × HasFailed meter clone blanks banks
@@ -102,12 +102,17 @@ pub record TakesHalf {B : Type 0} (asker : LocalAsker) (was now : BankedClone B)
   pub opened : StaysOpen was now
   pub lives : LivesAtLeaf asker leaf state
 
+-- of the first clone and one who asked it, the first may have had a real fault, by how the call ended, or the other; not both had one
+pub data HasFaultsOfTwo {U : Type 0} (number : ℕ) (giver giver_now taker taker_now : Meter) (result : Result U WorldFault) : Type 0 where
+  giving : HasFaultsAt 0 giver giver_now result → IsQuiet taker taker_now → HasFaultsOfTwo number giver giver_now taker taker_now result
+  taking : IsQuiet giver giver_now → HasFaultsAt number taker taker_now result → HasFaultsOfTwo number giver giver_now taker taker_now result
+
 -- what became of one who asked the first clone, and of that clone: the leaf was given and taken, or the banks of one of them failed
 pub record JoinsBy {B U : Type 0} (meter : B → Meter) (number : ℕ) (asking : BankedAsker B) (was now : BankedClone B) (told : BankedState B × Result U WorldFault) : Type 0 where
   pub giver : GoesOn (meter was.banks) (meter now.banks)
   pub taker : GoesOn (meter asking.banks) (meter (banks_of_state told.0))
   pub ok : OnOk told.1 (TakesHalf asking.asker was now told.0)
-  pub err : IfErr told.1 (λ fault. FailsAt 0 (meter was.banks) (meter now.banks) fault ⊎ FailsAt number (meter asking.banks) (meter (banks_of_state told.0)) fault)
+  pub faults : HasFaultsOfTwo number (meter was.banks) (meter now.banks) (meter asking.banks) (meter (banks_of_state told.0)) told.1
 
 -- the first of the clones may give a leaf to the one who asks
 abbrev pub HasGiver : {B : Type 0} → LocalAsker → List (BankedState B) → Type 0

@@ -1,5 +1,5 @@
 -- A running world on banks: what it has in memory, and what the banks of its clones keep.
-use Rattle.std.specs.Prelude.{◌≡◌, ◌+◌, ◌≤◌, ℕ, List, Option, Some, None, MatchOption, map, length, slice_get, slice_set}
+use Rattle.std.specs.Prelude.{◌≡◌, ◌≢◌, ◌+◌, ◌≤◌, ℕ, List, Option, Some, None, MatchOption, Result, Ok, Err, map, length, slice_get, slice_set}
 use Rattle.mld_io.specs.Arm.{Meter, Unarmed}
 use Rattle.mld_io.specs.Disk.{Log}
 use Rattle.mld_io.specs.Faults.{Rose}
@@ -128,20 +128,51 @@ pub record MetersGoOn {B : Type 0} (meter : B → Meter) (old new : List B) : Ty
   pub count : length new ≡ length old
   pub each : (number : ℕ) (was now : B) → slice_get old number ≡ Some was → slice_get new number ≡ Some now → GoesOn (meter was) (meter now)
 
--- the banks of this number had a real fault, where they were not armed
-abbrev pub HasFailed : {B : Type 0} → (B → Meter) → ℕ → List B → List B → Type 0
-HasFailed {B = B} meter number old new = (was now : B) → slice_get old number ≡ Some was → slice_get new number ≡ Some now → (meter was).arm ≡ Unarmed
-    → Rose (meter was).real_faults (meter now).real_faults
+-- no real fault was counted
+abbrev pub IsQuiet : Meter → Meter → Type 0
+IsQuiet before now = now.real_faults ≡ before.real_faults
 
--- the fault of a clone's banks: it names this number, and they had a real fault, where they were not armed
+-- none was, of any of these banks, by number
+abbrev pub AreQuiet : {B : Type 0} → (B → Meter) → List B → List B → Type 0
+AreQuiet {B = B} meter old new = (number : ℕ) (was now : B) → slice_get old number ≡ Some was → slice_get new number ≡ Some now → IsQuiet (meter was) (meter now)
+
+-- the banks of this number, which there are, had a real fault where they were not armed, and no others had one
+pub record HasFailed {B : Type 0} (meter : B → Meter) (number : ℕ) (old new : List B) : Type 0 where
+  pub was : B
+  pub now : B
+  pub before : slice_get old number ≡ Some was
+  pub behind : slice_get new number ≡ Some now
+  pub fault : (meter was).arm ≡ Unarmed → Rose (meter was).real_faults (meter now).real_faults
+  pub others : (other : ℕ) (one two : B) → other ≢ number → slice_get old other ≡ Some one → slice_get new other ≡ Some two → IsQuiet (meter one) (meter two)
+
+-- which banks had real faults where a call was refused: those of the clone that the fault names, and no others; or none had any
+abbrev pub HasFaultsOf : {B : Type 0} → (B → Meter) → List B → List B → WorldFault → Type 0
+HasFaultsOf meter old new (faults.Device clone) = HasFailed meter clone old new
+HasFaultsOf meter old new faults.NoMemory = AreQuiet meter old new
+
+-- and by how it ended: none had any where it was not refused
+abbrev pub HasFaultsBy : {B T : Type 0} → (B → Meter) → List B → List B → Result T WorldFault → Type 0
+HasFaultsBy meter old new (Ok value) = AreQuiet meter old new
+HasFaultsBy meter old new (Err fault) = HasFaultsOf meter old new fault
+
+-- the banks of all other numbers are as they were
+abbrev pub OthersStay : {B : Type 0} → ℕ → List B → List B → Type 0
+OthersStay number old new = (other : ℕ) → other ≢ number → slice_get new other ≡ slice_get old other
+
+-- the same of the banks of the clone of this number, where a call used those alone: a fault names it, and they had a real fault where they
+-- were not armed; or they had none
 abbrev pub FailsAt : ℕ → Meter → Meter → WorldFault → Type 0
 FailsAt number before now (faults.Device clone) = (clone ≡ number) × (before.arm ≡ Unarmed → Rose before.real_faults now.real_faults)
-FailsAt number before now faults.NoMemory = Unit {0}
+FailsAt number before now faults.NoMemory = IsQuiet before now
 
--- why a call at one of these clones was refused: the banks of a clone had a real fault, or memory ran out
-abbrev pub FailsAmong : {B : Type 0} → (B → Meter) → List (BankedState B) → List (BankedState B) → WorldFault → Type 0
-FailsAmong meter old new (faults.Device clone) = HasFailed meter clone (map banks_of_state old) (map banks_of_state new)
-FailsAmong meter old new faults.NoMemory = Unit {0}
+abbrev pub HasFaultsAt : {T : Type 0} → ℕ → Meter → Meter → Result T WorldFault → Type 0
+HasFaultsAt number before now (Ok value) = IsQuiet before now
+HasFaultsAt number before now (Err fault) = FailsAt number before now fault
+
+-- the banks of no other clone than that of this number were used
+pub record UsesBanksOf {B : Type 0} (meter : B → Meter) (number : ℕ) (old new : List B) : Type 0 where
+  pub meters : MetersGoOn meter old new
+  pub others : OthersStay number old new
 
 -- ---- one clone changes
 

@@ -1,5 +1,5 @@
 -- What a command makes of the parts of a running world.
-use Rattle.std.specs.Prelude.{◌≡◌, ℕ, ◌+◌, ◌<◌, map, length, Option}
+use Rattle.std.specs.Prelude.{◌≡◌, ℕ, ◌+◌, ◌<◌, Result, map, length, Option}
 use Rattle.mld_io.specs.Arm.{Meter}
 use Rattle.mld_io.specs.Disk.{Log}
 use Rattle.tree_clock.specs.Limits.{tick_limit}
@@ -9,7 +9,7 @@ use Rattle.net_world.specs.declared.faults.WorldFault.{WorldFault}
 use Rattle.net_world.specs.declared.parts.Parts.{Parts}
 use Rattle.schedule_replies.specs.declared.replies.Reply.{Reply}
 use Rattle.schedule_replies.specs.Replies.{reply_value}
-use Rattle.net_world.specs.WorldBanks.{BankedWorld, banks_of_state, MetersGoOn, FailsAmong}
+use Rattle.net_world.specs.WorldBanks.{BankedWorld, banks_of_state, UsesBanksOf, HasFaultsBy}
 use Rattle.net_world.specs.Worlds.{IsStanding, MovesOnBanks}
 
 -- the running world that has these parts, after so many steps
@@ -28,16 +28,17 @@ pub record HasStepLeft {B : Type 0} (log : B → Option Log) (parts : Parts B) :
   pub few : steps < tick_limit
   pub standing : IsStanding log (running_of parts steps)
 
--- what each command leaves as it was: the domain, how many clones there are, and each real fault of their banks
-pub record KeepsDomain {B : Type 0} (meter : B → Meter) (old new : Parts B) : Type 0 where
+-- what a command of the clone of this number leaves as it was: the domain, how many clones there are, the banks of the other clones,
+-- and each real fault of its own
+pub record KeepsDomain {B : Type 0} (meter : B → Meter) (number : ℕ) (old new : Parts B) : Type 0 where
   pub domain : new.domain ≡ old.domain
   pub properties : new.properties ≡ old.properties
   pub count : length new.clones.items ≡ length old.clones.items
-  pub meters : MetersGoOn meter (map banks_of_state old.clones.items) (map banks_of_state new.clones.items)
+  pub banks : UsesBanksOf meter number (map banks_of_state old.clones.items) (map banks_of_state new.clones.items)
 
--- why a command was not done: the banks of a clone had a real fault, or memory ran out
-abbrev pub HasFaultCause : {B : Type 0} → (B → Meter) → Parts B → Parts B → WorldFault → Type 0
-HasFaultCause meter old new fault = FailsAmong meter old.clones.items new.clones.items fault
+-- which banks had real faults, by how a command ended
+abbrev pub HasFaultsOfParts : {B T : Type 0} → (B → Meter) → Parts B → Parts B → Result T WorldFault → Type 0
+HasFaultsOfParts meter old new result = HasFaultsBy meter (map banks_of_state old.clones.items) (map banks_of_state new.clones.items) result
 
 -- the command was done, and this is its reply: it is the model's step with that reply, after any number of steps
 pub record Does {B : Type 0} (log : B → Option Log) (old : Parts B) (command : Command) (new : Parts B) (reply : Reply) : Type 0 where

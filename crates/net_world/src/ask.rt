@@ -1,7 +1,7 @@
 //! The command `ask`.
-ghost use Rattle.std.specs.Prelude.{◌<◌, vec_len, IfOk, IfErr};
+ghost use Rattle.std.specs.Prelude.{◌<◌, vec_len, IfOk};
 ghost use Rattle.schedule_model.specs.declared.Command.TheVariants as commands;
-ghost use Rattle.net_world.specs.WorldParts.{KeepsDomain, HasFaultCause, Does};
+ghost use Rattle.net_world.specs.WorldParts.{KeepsDomain, HasFaultsOfParts, Does};
 
 use crate::faults::WorldFault;
 use crate::join::send_question;
@@ -19,9 +19,9 @@ pub fn ask<B: CrashBanks>(
     number: u8,
 ) -> Result<Reply<'static>, WorldFault>
     requires { number < vec_len parts.old.clones }
-    ensures keeps { KeepsDomain B.meter parts.old parts.new }
+    ensures keeps { KeepsDomain B.meter number parts.old parts.new }
     ensures done { IfOk result (Does B.log parts.old (commands.Ask number) parts.new) }
-    ensures cause { IfErr result (HasFaultCause B.meter parts.old parts.new) }
+    ensures faults { HasFaultsOfParts B.meter parts.old parts.new result }
 {
     match &parts.clones[usize::from(number)] {
         CloneState::Live(clone) => {

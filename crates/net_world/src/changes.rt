@@ -1,13 +1,13 @@
 //! The commands `add` and `remove`.
-ghost use Rattle.std.specs.Prelude.{◌≡◌, ◌<◌, vec_len, map, None, true, false, IfOk, IfErr, OnOk};
+ghost use Rattle.std.specs.Prelude.{◌≡◌, ◌<◌, vec_len, map, None, true, false, IfOk, OnOk};
 ghost use Rattle.tree_clock.specs.Limits.{tick_limit};
 ghost use Rattle.tree_clock.specs.Clock.{ticks_of};
 ghost use Rattle.mld_ops.specs.Messages.{message_value};
 ghost use Rattle.schedule_model.specs.declared.Command.TheVariants as commands;
 ghost use Rattle.clone_core.specs.Closing.{StaysOpen};
 ghost use Rattle.net_world.specs.Changes.{SetsAs, SendsEntry};
-ghost use Rattle.net_world.specs.WorldParts.{HasStepLeft, KeepsDomain, HasFaultCause, Does};
-ghost use Rattle.net_world.specs.WorldBanks.{GoesOn, FailsAt};
+ghost use Rattle.net_world.specs.WorldParts.{HasStepLeft, KeepsDomain, HasFaultsOfParts, Does};
+ghost use Rattle.net_world.specs.WorldBanks.{GoesOn, HasFaultsAt};
 
 use crate::faults::WorldFault;
 use crate::parts::{Parts, send};
@@ -30,9 +30,9 @@ pub fn add<B: CrashBanks>(
 ) -> Result<Reply<'static>, WorldFault>
     requires left { HasStepLeft B.log parts.old }
     requires number { number < vec_len parts.old.clones }
-    ensures keeps { KeepsDomain B.meter parts.old parts.new }
+    ensures keeps { KeepsDomain B.meter number parts.old parts.new }
     ensures done { IfOk result (Does B.log parts.old (commands.Add number triple.now) parts.new) }
-    ensures cause { IfErr result (HasFaultCause B.meter parts.old parts.new) }
+    ensures faults { HasFaultsOfParts B.meter parts.old parts.new result }
 {
     match &mut parts.clones[usize::from(number)] {
         CloneState::Live(clone) => set(alloc, number, clone, &mut parts.messages, triple, true),
@@ -49,9 +49,9 @@ pub fn remove<B: CrashBanks>(
 ) -> Result<Reply<'static>, WorldFault>
     requires left { HasStepLeft B.log parts.old }
     requires number { number < vec_len parts.old.clones }
-    ensures keeps { KeepsDomain B.meter parts.old parts.new }
+    ensures keeps { KeepsDomain B.meter number parts.old parts.new }
     ensures done { IfOk result (Does B.log parts.old (commands.Remove number triple.now) parts.new) }
-    ensures cause { IfErr result (HasFaultCause B.meter parts.old parts.new) }
+    ensures faults { HasFaultsOfParts B.meter parts.old parts.new result }
 {
     match &mut parts.clones[usize::from(number)] {
         CloneState::Live(clone) => set(alloc, number, clone, &mut parts.messages, triple, false),
@@ -72,7 +72,7 @@ fn set<B: CrashBanks>(
     requires ticks { ticks_of clone.old.local.ticks clone.old.local.path < tick_limit }
     ensures opened { OnOk result (StaysOpen clone.old clone.new) }
     ensures meter { GoesOn (B.meter clone.old.banks) (B.meter clone.new.banks) }
-    ensures cause { IfErr result (FailsAt number (B.meter clone.old.banks) (B.meter clone.new.banks)) }
+    ensures faults { HasFaultsAt number (B.meter clone.old.banks) (B.meter clone.new.banks) result }
     ensures done { IfOk result (SetsAs clone.old.local (map message_value messages.old.items) triple.now present clone.new.local (map message_value messages.new.items)) }
 {
     match clone.set(alloc, triple, present) {

@@ -1,10 +1,11 @@
 //! Commands: each has a function of its name in a file of its own, which gives its reply.
-ghost use Rattle.std.specs.Prelude.{◌≡◌, vec_len, IfErr, OnOk};
+ghost use Rattle.std.specs.Prelude.{◌≡◌, vec_len, IfErr, OnOk, OnErr};
+ghost use Rattle.rdf_terms.specs.Kept.{KeepsStart};
 ghost use Rattle.mld_model.specs.Local.{IsNamed};
 ghost use Rattle.mld_model.specs.World.{clone_count};
-ghost use Rattle.schedule_model.specs.Step.{HasCloneNumbers};
+ghost use Rattle.schedule_model.specs.Step.{HasCloneNumbers, number_of_clone};
 ghost use Rattle.net_world.specs.Commands.{Answered, TellsReply, FailsToTell};
-ghost use Rattle.net_world.specs.WorldParts.{HasStepLeft, KeepsDomain, HasFaultCause};
+ghost use Rattle.net_world.specs.WorldParts.{HasStepLeft, KeepsDomain, HasFaultsOfParts};
 
 use crate::ask::ask;
 use crate::changes::{add, remove};
@@ -35,9 +36,10 @@ pub fn answer<R: Threads, B: CrashBanks>(
     requires count { vec_len parts.old.clones ≡ clone_count }
     requires named { IsNamed parts.old.domain parts.old.properties.items }
     requires numbers { HasCloneNumbers command.now }
-    ensures keeps { KeepsDomain B.meter parts.old parts.new }
+    ensures keeps { KeepsDomain B.meter (number_of_clone command.now) parts.old parts.new }
     ensures done { OnOk result (Answered B.log parts.old command.now parts.new out.old.items out.new.items) }
-    ensures cause { IfErr result (HasFaultCause B.meter parts.old parts.new) }
+    ensures faults { HasFaultsOfParts B.meter parts.old parts.new result }
+    ensures out { OnErr result (KeepsStart out.old.items out.new.items) }
 {
     match command {
         Command::Add(number, triple) => tell(alloc, out, add(alloc, parts, *number, triple)),
@@ -69,6 +71,7 @@ fn tell(
 ) -> Result<(), WorldFault>
     ensures told { OnOk result (TellsReply reply.entry out.old.items out.new.items) }
     ensures cause { IfErr result (FailsToTell reply.entry) }
+    ensures out { OnErr result (KeepsStart out.old.items out.new.items) }
 {
     match reply {
         Ok(reply) => Ok(push_reply(alloc, out, &reply)?),

@@ -6,10 +6,10 @@ ghost use Rattle.schedule_model.specs.declared.Command.TheVariants as commands;
 ghost use Rattle.clone_core.specs.Banked.{BankedAsker};
 ghost use Rattle.net_world.specs.Delivering.{IsForeignTo, IsFitFor, ReceivesAt, ReceivesLive, IsToldOf, SendsAnswers};
 ghost use Rattle.net_world.specs.States.{HasState};
-ghost use Rattle.net_world.specs.WorldBanks.{in_memory, banks_of_state, MetersGoOn, GoesOn, FailsAt, FailsAmong, StaysOpenNext, IsCarriedAt};
+ghost use Rattle.net_world.specs.WorldBanks.{in_memory, banks_of_state, UsesBanksOf, GoesOn, HasFaultsAt, HasFaultsBy, StaysOpenNext, IsCarriedAt};
 ghost use Rattle.mld_model.specs.World.{numbered};
 ghost use Rattle.net_world.specs.declared.faults.WorldFault.TheVariants.{NoMemory};
-ghost use Rattle.net_world.specs.WorldParts.{HasStepLeft, KeepsDomain, HasFaultCause, Does};
+ghost use Rattle.net_world.specs.WorldParts.{HasStepLeft, KeepsDomain, HasFaultsOfParts, Does};
 
 use crate::faults::{WorldFault, made_fault};
 use crate::parts::Parts;
@@ -41,9 +41,9 @@ pub fn deliver<R: Threads, B: CrashBanks>(
 ) -> Result<Reply<'static>, WorldFault>
     requires left { HasStepLeft B.log parts.old }
     requires number { number < vec_len parts.old.clones }
-    ensures keeps { KeepsDomain B.meter parts.old parts.new }
+    ensures keeps { KeepsDomain B.meter number parts.old parts.new }
     ensures done { IfOk result (Does B.log parts.old (commands.Deliver message number) parts.new) }
-    ensures cause { IfErr result (HasFaultCause B.meter parts.old parts.new) }
+    ensures faults { HasFaultsOfParts B.meter parts.old parts.new result }
 {
     let Some(message) = message_at(parts.messages.as_slice(), message) else {
         return Ok(Reply::NoMessage);
@@ -75,8 +75,8 @@ fn receive_at<R: Threads, B: CrashBanks>(
     requires fit { IsFitFor clones.old.items number (message_value message.now) }
     ensures ok { IfOk result (ReceivesAt (map in_memory clones.old.items) (map in_memory clones.new.items) number message.now) }
     ensures carried { OnOk result (IsCarriedAt clones.old.items clones.new.items number) }
-    ensures meters { MetersGoOn B.meter (map banks_of_state clones.old.items) (map banks_of_state clones.new.items) }
-    ensures cause { IfErr result (FailsAmong B.meter clones.old.items clones.new.items) }
+    ensures banks { UsesBanksOf B.meter number (map banks_of_state clones.old.items) (map banks_of_state clones.new.items) }
+    ensures faults { HasFaultsBy B.meter (map banks_of_state clones.old.items) (map banks_of_state clones.new.items) result }
 {
     match &mut clones[usize::from(number)] {
         CloneState::Live(clone) => receive_live(rt, alloc, number, clone, message),
@@ -100,7 +100,7 @@ fn receive_live<R: Threads, B: CrashBanks>(
     ensures ok { IfOk result (ReceivesLive clone.old.local message.now clone.new.local) }
     ensures opened { OnOk result (StaysOpenNext clone.old clone.new) }
     ensures meter { GoesOn (B.meter clone.old.banks) (B.meter clone.new.banks) }
-    ensures cause { IfErr result (FailsAt number (B.meter clone.old.banks) (B.meter clone.new.banks)) }
+    ensures faults { HasFaultsAt number (B.meter clone.old.banks) (B.meter clone.new.banks) result }
 {
     match clone.receive(rt, alloc, message) {
         Ok(Got::Took(ranges)) => Ok(Received::Told(Reply::Took(ranges))),
@@ -132,8 +132,8 @@ fn receive_asking<R: Threads, B: CrashBanks>(
     requires good { IsGoodMessage (message_value message.now) }
     ensures ok { IfOk result (ReceivesAt (map in_memory clones.old.items) (map in_memory clones.new.items) number message.now) }
     ensures carried { OnOk result (IsCarriedAt clones.old.items clones.new.items number) }
-    ensures meters { MetersGoOn B.meter (map banks_of_state clones.old.items) (map banks_of_state clones.new.items) }
-    ensures cause { IfErr result (FailsAmong B.meter clones.old.items clones.new.items) }
+    ensures banks { UsesBanksOf B.meter number (map banks_of_state clones.old.items) (map banks_of_state clones.new.items) }
+    ensures faults { HasFaultsBy B.meter (map banks_of_state clones.old.items) (map banks_of_state clones.new.items) result }
 {
     let CloneState::Asking(asker) = take_state(clones, number) else {
         unreachable!()

@@ -9,7 +9,7 @@ ghost use Rattle.clone_core.specs.Joining.{LocallyGives, AreGood};
 ghost use Rattle.net_world.specs.Founding.{GivesLeaf, AreFounded, AreFoundedTo, RefusesFounding, IsAbsentAt, IsMadeFirst, MayGive, LivesAtLeaf, JoinsBy, HasGiver, JoinsFirst};
 ghost use Rattle.schedule_text.specs.ReadLines.{setup_of};
 ghost use Rattle.net_world.specs.States.{HasState};
-ghost use Rattle.net_world.specs.WorldBanks.{BankedState, banks_of_state, GoesOn, MetersGoOn, FailsAt, FailsAmong};
+ghost use Rattle.net_world.specs.WorldBanks.{BankedState, banks_of_state, GoesOn, MetersGoOn, AreQuiet, HasFaultsAt, HasFaultsBy};
 
 use crate::faults::{WorldFault, made_fault};
 use crate::states::{RunningClone, copy_named, id_of, new_asker, put_state, take_state};
@@ -35,6 +35,7 @@ pub fn found_clones<R: Threads, B: CrashBanks>(
     requires count { vec_len blanks ≡ clone_count }
     ensures ok { IfOk result (λ clones. AreFounded (setup_of setup.now) clones.items) }
     ensures meters { IfOk result (λ clones. MetersGoOn B.meter blanks.items (map banks_of_state clones.items)) }
+    ensures quiet { IfOk result (λ clones. AreQuiet B.meter blanks.items (map banks_of_state clones.items)) }
     ensures err { IfErr result (λ refused. RefusesFounding B.meter blanks.items refused.0 refused.1.items) }
 {
     let Ok((mut clones, mut back)) = absent_clones(alloc, blanks) else {
@@ -78,7 +79,7 @@ fn found_each<R: Threads, B: CrashBanks>(
     requires absent { AreFoundedTo (setup_of setup.now) 0 clones.old.items }
     ensures ok { OnOk result (AreFoundedTo (setup_of setup.now) setup.now.clones clones.new.items) }
     ensures meters { MetersGoOn B.meter (map banks_of_state clones.old.items) (map banks_of_state clones.new.items) }
-    ensures err { IfErr result (FailsAmong B.meter clones.old.items clones.new.items) }
+    ensures faults { HasFaultsBy B.meter (map banks_of_state clones.old.items) (map banks_of_state clones.new.items) result }
 {
     found_first(alloc, setup, clones)?;
     for number in 1..setup.clones {
@@ -97,7 +98,7 @@ fn found_first<B: CrashBanks>(
     requires absent { AreFoundedTo (setup_of setup.now) 0 clones.old.items }
     ensures ok { OnOk result (AreFoundedTo (setup_of setup.now) 1 clones.new.items) }
     ensures meters { MetersGoOn B.meter (map banks_of_state clones.old.items) (map banks_of_state clones.new.items) }
-    ensures err { IfErr result (FailsAmong B.meter clones.old.items clones.new.items) }
+    ensures faults { HasFaultsBy B.meter (map banks_of_state clones.old.items) (map banks_of_state clones.new.items) result }
 {
     let named = copy_named(alloc, &setup.domain, setup.props.as_slice())?;
     let blank = take_blank(clones, 0);
@@ -147,7 +148,7 @@ fn found_other<R: Threads, B: CrashBanks>(
     requires founded { AreFoundedTo (setup_of setup.now) number clones.old.items }
     ensures ok { OnOk result (AreFoundedTo (setup_of setup.now) (number + 1) clones.new.items) }
     ensures meters { MetersGoOn B.meter (map banks_of_state clones.old.items) (map banks_of_state clones.new.items) }
-    ensures err { IfErr result (FailsAmong B.meter clones.old.items clones.new.items) }
+    ensures faults { HasFaultsBy B.meter (map banks_of_state clones.old.items) (map banks_of_state clones.new.items) result }
 {
     let named = copy_named(alloc, &setup.domain, setup.props.as_slice())?;
     let blank = take_blank(clones, number);
@@ -205,7 +206,7 @@ fn given_leaf<R: Threads, B: CrashBanks>(
     ensures good { IfOk result (λ messages. AreGood messages) }
     ensures opened { OnOk result (StaysOpen first.old first.new) }
     ensures meter { GoesOn (B.meter first.old.banks) (B.meter first.new.banks) }
-    ensures err { IfErr result (FailsAt 0 (B.meter first.old.banks) (B.meter first.new.banks)) }
+    ensures faults { HasFaultsAt 0 (B.meter first.old.banks) (B.meter first.new.banks) result }
 {
     match first.receive(rt, alloc, &asker.ask()) {
         Ok(Got::Answer(messages)) => Ok(messages),
@@ -231,7 +232,7 @@ fn taken_leaf<R: Threads, B: CrashBanks>(
     requires { (leaf : GiveValue) × GivesLeaf answer.now asker.asker leaf }
     ensures taken { OnOk result.1 ((leaf : GiveValue) → GivesLeaf answer.now asker.asker leaf → LivesAtLeaf asker.asker leaf result.0) }
     ensures meter { GoesOn (B.meter asker.banks) (B.meter (banks_of_state result.0)) }
-    ensures err { IfErr result.1 (FailsAt number (B.meter asker.banks) (B.meter (banks_of_state result.0))) }
+    ensures faults { HasFaultsAt number (B.meter asker.banks) (B.meter (banks_of_state result.0)) result.1 }
 {
     match asker.receive(rt, alloc, &answer.as_slice()[0]) {
         Adopted::Joined(clone) => (CloneState::Live(clone), Ok(())),

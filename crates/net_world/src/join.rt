@@ -8,7 +8,7 @@ ghost use Rattle.schedule_model.specs.declared.Command.TheVariants as commands;
 ghost use Rattle.net_world.specs.Asking.{AsksFirst, SendsQuestion};
 ghost use Rattle.net_world.specs.States.{HasState};
 ghost use Rattle.net_world.specs.declared.faults.WorldFault.TheVariants.{NoMemory};
-ghost use Rattle.net_world.specs.WorldParts.{KeepsDomain, HasFaultCause, Does};
+ghost use Rattle.net_world.specs.WorldParts.{KeepsDomain, HasFaultsOfParts, Does};
 
 use crate::faults::WorldFault;
 use crate::parts::{Parts, send};
@@ -29,9 +29,9 @@ pub fn join<B: CrashBanks>(
 ) -> Result<Reply<'static>, WorldFault>
     requires named { IsNamed parts.old.domain parts.old.properties.items }
     requires number { number < vec_len parts.old.clones }
-    ensures keeps { KeepsDomain B.meter parts.old parts.new }
+    ensures keeps { KeepsDomain B.meter number parts.old parts.new }
     ensures done { IfOk result (Does B.log parts.old (commands.Join number) parts.new) }
-    ensures cause { IfErr result (HasFaultCause B.meter parts.old parts.new) }
+    ensures faults { HasFaultsOfParts B.meter parts.old parts.new result }
 {
     match &parts.clones[usize::from(number)] {
         CloneState::Asking(asker) => send_question(&mut parts.messages, asker.ask()),

@@ -1,10 +1,10 @@
 //! The commands `compact` and `truncate`: what a clone keeps of its journal.
-ghost use Rattle.std.specs.Prelude.{◌≡◌, ◌≢◌, ◌<◌, ◌^◌, ◌-◌, ℕ, length, vec_len, None, IfOk, IfErr, IsOk, IsErrOf, OnOk};
+ghost use Rattle.std.specs.Prelude.{◌≡◌, ◌≢◌, ◌<◌, ◌^◌, ◌-◌, ℕ, length, vec_len, None, IfOk, IsOk, IsErrOf, OnOk};
 ghost use Rattle.mld_io.specs.Arm.{Metered};
 ghost use Rattle.journal_store.specs.declared.faults.Why.{Why};
 ghost use Rattle.net_world.specs.KeptJournals.{keeping_command, KeepsBy, KeepsAs};
-ghost use Rattle.net_world.specs.WorldBanks.{GoesOn, FailsAt};
-ghost use Rattle.net_world.specs.WorldParts.{HasStepLeft, KeepsDomain, HasFaultCause, Does};
+ghost use Rattle.net_world.specs.WorldBanks.{GoesOn, HasFaultsAt};
+ghost use Rattle.net_world.specs.WorldParts.{HasStepLeft, KeepsDomain, HasFaultsOfParts, Does};
 
 use crate::faults::WorldFault;
 use crate::parts::Parts;
@@ -33,9 +33,9 @@ pub fn keep<B: CrashBanks>(
 ) -> Result<Reply<'static>, WorldFault>
     requires left { HasStepLeft B.log parts.old }
     requires number { number < vec_len parts.old.clones }
-    ensures keeps { KeepsDomain B.meter parts.old parts.new }
+    ensures keeps { KeepsDomain B.meter number parts.old parts.new }
     ensures done { IfOk result (Does B.log parts.old (keeping_command number keeping) parts.new) }
-    ensures cause { IfErr result (HasFaultCause B.meter parts.old parts.new) }
+    ensures faults { HasFaultsOfParts B.meter parts.old parts.new result }
 {
     match &mut parts.clones[usize::from(number)] {
         CloneState::Live(clone) => keep_live(alloc, number, clone, keeping),
@@ -54,7 +54,7 @@ fn keep_live<B: CrashBanks>(
     requires left { clone.old.generation ≢ 2 ^ 64 - 1 }
     ensures opened { OnOk result (clone.new.closed ≡ None) }
     ensures meter { GoesOn (B.meter clone.old.banks) (B.meter clone.new.banks) }
-    ensures cause { IfErr result (FailsAt number (B.meter clone.old.banks) (B.meter clone.new.banks)) }
+    ensures faults { HasFaultsAt number (B.meter clone.old.banks) (B.meter clone.new.banks) result }
     ensures done { IfOk result (KeepsAs keeping clone.old clone.new) }
 {
     match kept(alloc, clone, keeping) {

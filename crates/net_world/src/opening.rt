@@ -1,11 +1,11 @@
 //! The command `open`.
-ghost use Rattle.std.specs.Prelude.{◌<◌, vec_len, map, IsTrue, IfOk, IfErr};
+ghost use Rattle.std.specs.Prelude.{◌<◌, vec_len, map, IsTrue, IfOk};
 ghost use Rattle.iri_rules.specs.Domain.{is_domain};
 ghost use Rattle.mld_model.specs.Local.{IsNamed};
 ghost use Rattle.schedule_model.specs.declared.Command.TheVariants as commands;
 ghost use Rattle.net_world.specs.OpeningBanks.{IsWholeAt, IsUndamaged, IsOpenedAs, OpensBanks};
-ghost use Rattle.net_world.specs.WorldBanks.{banks_of_state, MetersGoOn, FailsAmong};
-ghost use Rattle.net_world.specs.WorldParts.{HasStepLeft, KeepsDomain, HasFaultCause, Does};
+ghost use Rattle.net_world.specs.WorldBanks.{banks_of_state, UsesBanksOf, HasFaultsBy};
+ghost use Rattle.net_world.specs.WorldParts.{HasStepLeft, KeepsDomain, HasFaultsOfParts, Does};
 
 use crate::faults::WorldFault;
 use crate::parts::Parts;
@@ -30,9 +30,9 @@ pub fn open<R: Threads, B: CrashBanks>(
     requires left { HasStepLeft B.log parts.old }
     requires named { IsNamed parts.old.domain parts.old.properties.items }
     requires number { number < vec_len parts.old.clones }
-    ensures keeps { KeepsDomain B.meter parts.old parts.new }
+    ensures keeps { KeepsDomain B.meter number parts.old parts.new }
     ensures done { IfOk result (Does B.log parts.old (commands.Open number) parts.new) }
-    ensures cause { IfErr result (HasFaultCause B.meter parts.old parts.new) }
+    ensures faults { HasFaultsOfParts B.meter parts.old parts.new result }
 {
     match &parts.clones[usize::from(number)] {
         CloneState::Down(_) => {
@@ -54,8 +54,8 @@ fn open_banks<R: Threads, B: CrashBanks>(
     requires name { IsTrue (is_domain named.domain) }
     requires whole { IsWholeAt B.log clones.old.items number }
     ensures ok { IfOk result (OpensBanks B.log named.domain named.properties.items clones.old.items clones.new.items number) }
-    ensures meters { MetersGoOn B.meter (map banks_of_state clones.old.items) (map banks_of_state clones.new.items) }
-    ensures cause { IfErr result (FailsAmong B.meter clones.old.items clones.new.items) }
+    ensures banks { UsesBanksOf B.meter number (map banks_of_state clones.old.items) (map banks_of_state clones.new.items) }
+    ensures faults { HasFaultsBy B.meter (map banks_of_state clones.old.items) (map banks_of_state clones.new.items) result }
 {
     let CloneState::Down(banks) = take_state(clones, number) else {
         unreachable!()

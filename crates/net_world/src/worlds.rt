@@ -38,15 +38,16 @@ impl<B: CrashBanks> Model for World<B> {
 }
 
 impl<B: CrashBanks> World<B> {
-    ghost use Rattle.std.specs.Prelude.{◌≡◌, ◌+◌, ◌<◌, ℕ, vec_len, IsTrue, IfOk, IfErr, OnOk, IsErrOf};
+    ghost use Rattle.std.specs.Prelude.{◌≡◌, ◌+◌, ◌<◌, vec_len, IsTrue, IfOk, IfErr, OnOk, OnErr};
     ghost use Rattle.tree_clock.specs.Limits.{tick_limit};
     ghost use Rattle.iri_rules.specs.Domain.{is_domain};
+    ghost use Rattle.rdf_terms.specs.Kept.{KeepsStart};
     ghost use Rattle.mld_model.specs.World.{World as ModelWorld, clone_count};
     ghost use Rattle.net_world.specs.Founding.{RefusesFounding};
-    ghost use Rattle.net_world.specs.WorldBanks.{StandsOnBanks, AllBanksStandFor, banks_of, MetersGoOn, HasFailed, memory_of};
+    ghost use Rattle.net_world.specs.WorldBanks.{StandsOnBanks, AllBanksStandFor, banks_of, MetersGoOn, AreQuiet, HasFaultsBy, OthersStay, memory_of};
     ghost use Rattle.schedule_model.specs.Runs.{founded_by};
     ghost use Rattle.schedule_model.specs.Schedule.{IsSetup};
-    ghost use Rattle.schedule_model.specs.Step.{HasCloneNumbers};
+    ghost use Rattle.schedule_model.specs.Step.{HasCloneNumbers, number_of_clone};
     ghost use Rattle.schedule_text.specs.ReadLines.{setup_of};
     ghost use Rattle.net_world.specs.Worlds.{IsStanding, Stepped};
     ghost use Rattle.net_world.specs.WorldSummary.{Tells};
@@ -69,6 +70,7 @@ impl<B: CrashBanks> World<B> {
         ensures standing { IfOk result (IsStanding B.log) }
         ensures steps { IfOk result (λ world. world.steps ≡ 0) }
         ensures meters { IfOk result (λ world. MetersGoOn B.meter blanks.items (banks_of world)) }
+        ensures quiet { IfOk result (λ world. AreQuiet B.meter blanks.items (banks_of world)) }
         ensures err { IfErr result (λ refused. RefusesFounding B.meter blanks.items refused.0 refused.1.items) }
     {
         let Ok(named) = copy_named(alloc, &setup.domain, setup.props.as_slice()) else {
@@ -111,8 +113,8 @@ impl<B: CrashBanks> World<B> {
         Ok(banks)
     }
 
-    /// Does a command, and adds the text of its reply to the output. After `Device` and `NoMemory` the world may have done a part of
-    /// it, and is only asked for its banks.
+    /// Does a command, and adds the text of its reply to the output. It uses the banks of the command's clone alone. After `Device` and
+    /// `NoMemory` the world may have done a part of it, and is only asked for its banks; what stood in the output still stands in front.
     ///
     /// # Errors
     ///
@@ -131,7 +133,9 @@ impl<B: CrashBanks> World<B> {
         ensures standing { OnOk result (IsStanding B.log self.new) }
         ensures steps { OnOk result (self.new.steps ≡ self.old.steps + 1) }
         ensures meters { MetersGoOn B.meter (banks_of self.old) (banks_of self.new) }
-        ensures device { (clone : ℕ) → IsErrOf result (WorldFault.Device clone) → HasFailed B.meter clone (banks_of self.old) (banks_of self.new) }
+        ensures faults { HasFaultsBy B.meter (banks_of self.old) (banks_of self.new) result }
+        ensures others { OthersStay (number_of_clone command.now) (banks_of self.old) (banks_of self.new) }
+        ensures out { OnErr result (KeepsStart out.old.items out.new.items) }
     {
         answer(rt, alloc, &mut self.parts, command, out)?;
         self.steps += 1;

@@ -3,7 +3,7 @@ use Rattle.mld_model.specs.declared.CloneState.TheVariants as states
 use Rattle.schedule_replies.specs.Replies.{reply_value}
 use Rattle.net_world.specs.States.{Becomes}
 use Rattle.net_world.proofs.ChangeLemmas.{remove_done, remove_missing_done}
-use Rattle.net_world.proofs.BankLemmas.{cause_set}
+use Rattle.net_world.proofs.BankLemmas.{faults_set, quiet_still}
 use Rattle.net_world.proofs.Places.{place_read, read_back}
 use Rattle.net_world.proofs.WorldLemmas.{has_next_tick, is_open, missing_reply, keeps_set, keeps_still}
 use Rattle.net_world.proofs.changes.remove.Goals as goal
@@ -25,16 +25,16 @@ returns-in-Live g c =
     record {
       keeps = keeps_set g.B.Banks.log g.B.Banks.meter c.args.parts.now _ refl refl c.args.number (states.Live c.in-Live.clone) (states.Live c.set.new.clone) becomes c.set.ensures.meter;
       done = remove_done g.B.Banks.log g.B.Banks.meter c.args.parts.now _ refl refl c.args.number c.args.triple.now c.in-Live.clone c.set.new.clone c.set.result becomes c.set.ensures.done c.set.ensures.opened;
-      cause = cause_set g.B.Banks.meter _ _ c.args.number (states.Live c.in-Live.clone) (states.Live c.set.new.clone) c.set.result becomes c.set.ensures.cause;
+      faults = faults_set g.B.Banks.meter _ _ c.args.number (states.Live c.in-Live.clone) (states.Live c.set.new.clone) c.set.result becomes c.set.ensures.faults;
     }
 
 pub returns-in_default : goal.returns-in_default
 returns-in_default g c =
     let same = read_back c.args.parts.now.clones.items c.from.result c.index_mut.result.now c.index_mut.ensures.value in
     record {
-      keeps = keeps_still g.B.Banks.log g.B.Banks.meter c.args.parts.now _ refl refl same;
+      keeps = keeps_still g.B.Banks.log g.B.Banks.meter c.args.parts.now _ refl refl c.args.number same;
       done = remove_missing_done g.B.Banks.log g.B.Banks.meter c.args.parts.now _ refl refl c.args.number c.args.triple.now c.index_mut.result.now c.state_reply.result
           (place_read c.args.parts.now.clones.items c.args.number c.from.result c.index_mut.result.now c.index_mut.result.now c.from.ensures (omega (arith, c.requires.number)) c.index_mut.ensures.value refl)
           same refl (missing_reply c.index_mut.result.now (reply_value c.state_reply.result) c.state_reply.ensures c.in_default.not-Live);
-      cause = tt;
+      faults = quiet_still g.B.Banks.meter c.args.parts.now.clones.items _ same;
     }

@@ -5,18 +5,18 @@ use Rattle.mld_model.specs.World.{numbered}
 use Rattle.net_world.specs.declared.deliver.Received.{Received}
 use Rattle.net_world.specs.declared.deliver.Received.TheVariants as received
 use Rattle.net_world.specs.Delivering.{ReceivesAt}
-use Rattle.net_world.specs.WorldBanks.{in_memory}
-use Rattle.net_world.proofs.BankLemmas.{cause_memory}
+use Rattle.net_world.specs.WorldBanks.{in_memory, banks_of_state}
+use Rattle.net_world.proofs.BankLemmas.{faults_memory, quiet_same}
 use Rattle.net_world.proofs.DeliverLemmas.{is_fit, deliver_done, deliver_none}
-use Rattle.net_world.proofs.WorldLemmas.{keeps_meters, keeps_still}
+use Rattle.net_world.proofs.WorldLemmas.{keeps_banks, keeps_still}
 use Rattle.net_world.proofs.deliver.deliver.Goals as goal
 
 pub returns-in_default : goal.returns-in_default
 returns-in_default g c = record {
-  keeps = keeps_still g.B.Banks.log g.B.Banks.meter c.args.parts.now _ refl refl refl;
+  keeps = keeps_still g.B.Banks.log g.B.Banks.meter c.args.parts.now _ refl refl c.args.number refl;
   done = deliver_none g.B.Banks.log g.B.Banks.meter c.args.parts.now _ refl refl c.args.message c.args.number refl refl
       (sym (c.in_default.ensures ∙ ap (λ (ms : List Message). numbered ms c.args.message) c.as_slice.ensures.value));
-  cause = tt;
+  faults = quiet_same g.B.Banks.meter (map banks_of_state c.args.parts.now.clones.items);
 }
 
 pub receive_at-requires-clause-fit : goal.receive_at-requires-clause-fit
@@ -28,29 +28,30 @@ pub returns-in-Ok-Told : goal.returns-in-Ok-Told
 returns-in-Ok-Told g c =
     let P : Received → Type 0 = λ answer. ReceivesAt (map in_memory c.args.parts.now.clones.items) (map in_memory c.receive_at.new.clones.items) c.args.number c.in-Some.message.now answer in
     record {
-      keeps = keeps_meters g.B.Banks.log g.B.Banks.meter c.args.parts.now _ refl refl c.receive_at.ensures.meters;
+      keeps = keeps_banks g.B.Banks.log g.B.Banks.meter c.args.parts.now _ refl refl c.args.number c.receive_at.ensures.banks;
       done = deliver_done g.B.Banks.log g.B.Banks.meter c.args.parts.now _ refl refl c.args.message c.args.number c.in-Some.message.now (received.Told c.in-Ok-Told.reply) c.in-Ok-Told.reply
           (sym (c.in-Some.ensures ∙ ap (λ (ms : List Message). numbered ms c.args.message) c.as_slice.ensures.value))
           (subst P c.in-Ok-Told.field-0-is c.in-Ok-Told.ensures.ok) (λ steps. (refl, refl)) c.in-Ok-Told.ensures.carried;
-      cause = tt;
+      faults = c.in-Ok-Told.ensures.faults;
     }
 
 pub returns-in-Ok-Sends : goal.returns-in-Ok-Sends
 returns-in-Ok-Sends g c =
     let P : Received → Type 0 = λ answer. ReceivesAt (map in_memory c.args.parts.now.clones.items) (map in_memory c.receive_at.new.clones.items) c.args.number c.in-Some.message.now answer in
     record {
-      keeps = keeps_meters g.B.Banks.log g.B.Banks.meter c.args.parts.now _ refl refl c.receive_at.ensures.meters;
+      keeps = keeps_banks g.B.Banks.log g.B.Banks.meter c.args.parts.now _ refl refl c.args.number c.receive_at.ensures.banks;
       done = IfOk-weaker c.send_answers.result _ _ (λ reply h.
           deliver_done g.B.Banks.log g.B.Banks.meter c.args.parts.now _ refl refl c.args.message c.args.number c.in-Some.message.now (received.Sends c.in-Ok-Sends.answers) reply
           (sym (c.in-Some.ensures ∙ ap (λ (ms : List Message). numbered ms c.args.message) c.as_slice.ensures.value))
           (subst P c.in-Ok-Sends.field-0-is c.in-Ok-Sends.ensures.ok) (λ steps. h) c.in-Ok-Sends.ensures.carried)
           c.send_answers.ensures.sent;
-      cause = cause_memory g.B.Banks.meter c.args.parts.now.clones.items c.receive_at.new.clones.items c.send_answers.result c.send_answers.ensures.memory;
+      faults = faults_memory g.B.Banks.meter (map banks_of_state c.args.parts.now.clones.items) (map banks_of_state c.receive_at.new.clones.items) c.send_answers.result
+          c.in-Ok-Sends.ensures.faults c.send_answers.ensures.memory;
     }
 
 pub returns-in-Err : goal.returns-in-Err
 returns-in-Err g c = record {
-  keeps = keeps_meters g.B.Banks.log g.B.Banks.meter c.args.parts.now _ refl refl c.receive_at.ensures.meters;
+  keeps = keeps_banks g.B.Banks.log g.B.Banks.meter c.args.parts.now _ refl refl c.args.number c.receive_at.ensures.banks;
   done = tt;
-  cause = c.in-Err.ensures.cause;
+  faults = c.in-Err.ensures.faults;
 }

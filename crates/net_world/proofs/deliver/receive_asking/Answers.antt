@@ -1,7 +1,7 @@
 use Rattle.std.proofs.Common.{◌≡◌, ◌∙◌, set}
 use Rattle.mld_model.specs.declared.CloneState.TheVariants as states
-use Rattle.net_world.proofs.DeliverLemmas.{asking_becomes, asking_received, asking_carried, asking_on, asking_fails}
-use Rattle.net_world.proofs.BankLemmas.{meters_set, cause_set}
+use Rattle.net_world.proofs.DeliverLemmas.{asking_becomes, asking_received, asking_carried, asking_on, asking_faults}
+use Rattle.net_world.proofs.BankLemmas.{uses_set, faults_set}
 use Rattle.net_world.proofs.deliver.receive_asking.Goals as goal
 
 pub returns : goal.returns
@@ -20,6 +20,6 @@ returns g c =
     record {
       ok = asking_received meter old new number asking sent what told at now c.receive.ensures.adopts c.told_of-state.ensures;
       carried = asking_carried meter old new number asking sent what told at now c.receive.ensures.adopts c.told_of-state.ensures;
-      meters = meters_set meter old new number (states.Asking asking) told.0 becomes (asking_on meter old new number asking sent what told c.told_of-state.ensures c.receive.ensures.meter);
-      cause = cause_set meter old new number (states.Asking asking) told.0 told.1 becomes (asking_fails meter old new number asking sent what told c.told_of-state.ensures c.receive.ensures.meter);
+      banks = uses_set meter old new number (states.Asking asking) told.0 becomes (asking_on meter old new number asking sent what told c.told_of-state.ensures c.receive.ensures.meter);
+      faults = faults_set meter old new number (states.Asking asking) told.0 told.1 becomes (asking_faults meter old new number asking sent what told c.told_of-state.ensures c.receive.ensures.meter);
     }

@@ -6,7 +6,7 @@ use Rattle.schedule_replies.specs.Replies.{reply_value}
 use Rattle.net_world.specs.States.{HasState, Becomes}
 use Rattle.net_world.specs.WorldBanks.{BankedState, in_memory, banks_of_state}
 use Rattle.net_world.proofs.Places.{place_read, read_back}
-use Rattle.net_world.proofs.BankLemmas.{memory_at, memory_becomes, meters_set, cause_set, goes_on_same, next_open}
+use Rattle.net_world.proofs.BankLemmas.{memory_at, memory_becomes, uses_set, faults_set, quiet_becomes, goes_on_same, next_open}
 use Rattle.net_world.proofs.DeliverLemmas.{away_reply, away_carried}
 use Rattle.net_world.proofs.deliver.receive_at.Goals as goal
 
@@ -42,8 +42,8 @@ returns-in-Live g c =
           c.receive_live.ensures.ok;
       carried = on_ok_weaker c.receive_live.result
           (λ opened. record { state = states.Live after; now = becomes.now; carried = next_open old number before after becomes.was opened }) c.receive_live.ensures.opened;
-      meters = meters_set g.B.Banks.meter old (set old c.from.result (states.Live after)) number (states.Live before) (states.Live after) becomes c.receive_live.ensures.meter;
-      cause = cause_set g.B.Banks.meter old (set old c.from.result (states.Live after)) number (states.Live before) (states.Live after) c.receive_live.result becomes c.receive_live.ensures.cause;
+      banks = uses_set g.B.Banks.meter old (set old c.from.result (states.Live after)) number (states.Live before) (states.Live after) becomes c.receive_live.ensures.meter;
+      faults = faults_set g.B.Banks.meter old (set old c.from.result (states.Live after)) number (states.Live before) (states.Live after) c.receive_live.result becomes c.receive_live.ensures.faults;
     }
 
 pub returns-in_default : goal.returns-in_default
@@ -60,6 +60,6 @@ returns-in_default g c =
           (away_reply state (reply_value c.state_reply.result) c.state_reply.ensures c.in_default.not-Live c.in_default.not-Asking)
           (ap (λ (l : List (BankedState g.row.B.Denot)). map in_memory l) (read_back old c.from.result state c.index_mut.ensures.value));
       carried = record { state = state; now = becomes.now; carried = away_carried old number state becomes.was c.in_default.not-Live };
-      meters = meters_set g.B.Banks.meter old (set old c.from.result state) number state state becomes (goes_on_same (g.B.Banks.meter (banks_of_state state)));
-      cause = tt;
+      banks = uses_set g.B.Banks.meter old (set old c.from.result state) number state state becomes (goes_on_same (g.B.Banks.meter (banks_of_state state)));
+      faults = quiet_becomes g.B.Banks.meter old (set old c.from.result state) number state state becomes refl;
     }

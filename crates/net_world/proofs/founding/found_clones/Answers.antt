@@ -1,8 +1,7 @@
 use Rattle.std.proofs.Common.{◌≡◌, ◌∙◌, ◌++◌, [], List, arith, rules, ap, sym, subst, map}
 use Rattle.mld_model.specs.declared.CloneState.TheVariants as kinds
 use Rattle.schedule_text.specs.ReadLines.{setup_of}
-use Rattle.net_world.specs.WorldBanks.{BankedState, banks_of_state, MetersGoOn, HasFailed, FailsAmong}
-use Rattle.net_world.specs.declared.faults.WorldFault.{WorldFault}
+use Rattle.net_world.specs.WorldBanks.{BankedState, banks_of_state, MetersGoOn, AreQuiet, HasFailed, HasFaultsOf}
 use Rattle.net_world.specs.declared.faults.WorldFault.TheVariants as faults
 use Rattle.net_world.proofs.FaultLemmas.{banks_of_absent}
 use Rattle.net_world.proofs.FoundingLemmas.{all_absent, all_founded}
@@ -25,6 +24,11 @@ returns-in-Ok-found_each-clause-meters g c =
     subst (λ (l : List g.row.B.Denot). MetersGoOn g.B.Banks.meter l (map banks_of_state c.found_each.new.clones.items)) (begun_as g c.args.blanks.items c.in-Ok.clones.items (search rules))
     c.found_each.ensures.meters
 
+pub returns-in-Ok-found_each-clause-quiet : goal.returns-in-Ok-found_each-clause-quiet
+returns-in-Ok-found_each-clause-quiet g c =
+    subst (λ (l : List g.row.B.Denot). AreQuiet g.B.Banks.meter l (map banks_of_state c.found_each.new.clones.items)) (begun_as g c.args.blanks.items c.in-Ok.clones.items (search rules))
+    c.in-Ok-found_each.ensures.faults
+
 pub returns-in-Err-Device-clause-err : goal.returns-in-Err-Device-clause-err
 returns-in-Err-Device-clause-err g c =
     let meter = g.B.Banks.meter in
@@ -32,8 +36,7 @@ returns-in-Err-Device-clause-err g c =
     let left = map banks_of_state c.found_each.new.clones.items in
     let none : c.in-Ok.back.items ≡ [] = search rules in
     let given : c.stop_all.new.banks.items ≡ left = c.stop_all.ensures.banks ∙ ap (λ (l : List g.row.B.Denot). l ++ left) none in
-    let fails : FailsAmong meter c.in-Ok.clones.items c.found_each.new.clones.items (faults.Device c.in-Err-Device.clone) =
-    subst (λ (f : WorldFault). FailsAmong meter c.in-Ok.clones.items c.found_each.new.clones.items f) c.in-Err-Device.field-0-is c.in-Err-Device.ensures.err in (
+    let fails : HasFaultsOf meter begun left (faults.Device c.in-Err-Device.clone) = subst (HasFaultsOf meter begun left) c.in-Err-Device.field-0-is c.in-Err-Device.ensures.faults in (
       subst (λ (l : List g.row.B.Denot). MetersGoOn meter l c.stop_all.new.banks.items) (begun_as g c.args.blanks.items c.in-Ok.clones.items (search rules))
           (subst (λ (l : List g.row.B.Denot). MetersGoOn meter begun l) (sym given) c.found_each.ensures.meters),
       subst (λ (l : List g.row.B.Denot). HasFailed meter c.in-Err-Device.clone l c.stop_all.new.banks.items) (begun_as g c.args.blanks.items c.in-Ok.clones.items (search rules))

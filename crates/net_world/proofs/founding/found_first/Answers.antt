@@ -1,14 +1,13 @@
 use Rattle.std.proofs.Common.{◌∙◌, arith, ap, sym, subst, set}
-use Rattle.std.proofs.lemmas.Result.{on_ok_weaker, IfErr-weaker, IfOk-at_ok}
+use Rattle.std.proofs.lemmas.Result.{on_ok_weaker, IfOk-at_ok}
 use Rattle.mld_model.specs.declared.CloneState.TheVariants as kinds
 use Rattle.clone_banks.specs.BankCalls.{create_calls}
+use Rattle.clone_core.specs.Closing.{banks_of_made}
 use Rattle.schedule_text.specs.ReadLines.{setup_of}
 use Rattle.net_world.specs.States.{Becomes}
-use Rattle.net_world.specs.declared.faults.WorldFault.{WorldFault}
-use Rattle.net_world.specs.WorldFaults.{fault_of_made}
-use Rattle.net_world.specs.WorldBanks.{BankedState, banks_of_state, GoesOn, FailsAt, FailsAmong}
-use Rattle.net_world.proofs.BankLemmas.{goes_on, meters_set, fails_set}
-use Rattle.net_world.proofs.FaultLemmas.{made_fails}
+use Rattle.net_world.specs.WorldBanks.{BankedState, GoesOn, HasFaultsAt}
+use Rattle.net_world.proofs.BankLemmas.{goes_on, meters_set, faults_set}
+use Rattle.net_world.proofs.FaultLemmas.{first_faults}
 use Rattle.net_world.proofs.FoundingLemmas.{absent_there, first_founded}
 use Rattle.net_world.proofs.founding.found_first.Given as given
 use Rattle.net_world.proofs.founding.found_first.Goals as goal
@@ -33,12 +32,11 @@ returns-clause-meters g c =
     (subst (λ (b : g.row.B.Denot). GoesOn (g.B.Banks.meter c.take_blank-blank.result) (g.B.Banks.meter b)) (sym c.first_of-state.ensures.banks)
     (goes_on create_calls _ _ _ _ c.genesis-genesis.ensures.meter))
 
-pub returns-clause-err : goal.returns-clause-err
-returns-clause-err g c = IfErr-weaker c.first_of-state.result.1 _ (FailsAmong g.B.Banks.meter c.args.clones.now.items c.put_state.new.clones.items) (λ fault refused.
+pub returns-clause-faults : goal.returns-clause-faults
+returns-clause-faults g c =
     let meter = g.B.Banks.meter in
-    let banks = c.first_of-state.result.0 in
-    let fails : FailsAt 0 (meter c.take_blank-blank.result) (meter (banks_of_state banks)) (fault_of_made 0 refused.0.0) =
-    subst (λ (b : g.row.B.Denot). FailsAt 0 (meter c.take_blank-blank.result) (meter b) (fault_of_made 0 refused.0.0)) (sym c.first_of-state.ensures.banks)
-    (made_fails 0 create_calls c.genesis-genesis.result refused.0 _ _ _ refused.1 c.genesis-genesis.ensures.meter) in
-    fails_set meter c.args.clones.now.items c.put_state.new.clones.items 0 (kinds.Absent c.take_blank-blank.result) banks fault (becomes g c)
-    (subst (λ (f : WorldFault). FailsAt 0 (meter c.take_blank-blank.result) (meter (banks_of_state banks)) f) (sym refused.2) fails)) c.first_of-state.ensures.err
+    let blank = c.take_blank-blank.result in
+    let state = c.first_of-state.result.0 in
+    faults_set meter c.args.clones.now.items c.put_state.new.clones.items 0 (kinds.Absent blank) state c.first_of-state.result.1 (becomes g c)
+    (subst (λ (b : g.row.B.Denot). HasFaultsAt 0 (meter blank) (meter b) c.first_of-state.result.1) (sym c.first_of-state.ensures.banks)
+    (first_faults create_calls c.genesis-genesis.result c.first_of-state.result (meter blank) (meter (banks_of_made c.genesis-genesis.result)) _ c.first_of-state.ensures c.genesis-genesis.ensures.meter))

@@ -1,13 +1,13 @@
-use Rattle.std.proofs.Common.{◌≡◌, ◌+◌, ◌∙◌, List, arith, sym, subst, set, map, length, inl, inr}
+use Rattle.std.proofs.Common.{◌≡◌, ◌+◌, ◌∙◌, List, arith, sym, subst, set, map, length}
 use Rattle.std.proofs.lemmas.Option.{slice_get_within}
-use Rattle.std.proofs.lemmas.Result.{on_ok_weaker, IfErr-weaker}
+use Rattle.std.proofs.lemmas.Result.{on_ok_weaker}
 use Rattle.mld_model.specs.declared.CloneState.TheVariants as kinds
-use Rattle.net_world.specs.Founding.{IsNewAsker}
+use Rattle.net_world.specs.Founding.{IsNewAsker, HasFaultsOfTwo, giving, taking}
 use Rattle.schedule_text.specs.ReadLines.{setup_of}
 use Rattle.net_world.specs.States.{Becomes}
-use Rattle.net_world.specs.WorldBanks.{BankedState, banks_of_state, GoesOn, MetersGoOn, FailsAt, FailsAmong}
-use Rattle.net_world.proofs.BankLemmas.{meters_set, fails_set}
-use Rattle.net_world.proofs.FaultLemmas.{meters_then, fails_then, then_fails}
+use Rattle.net_world.specs.WorldBanks.{BankedState, banks_of_state, GoesOn, MetersGoOn, HasFaultsBy}
+use Rattle.net_world.proofs.BankLemmas.{meters_set, faults_set, quiet_becomes}
+use Rattle.net_world.proofs.FaultLemmas.{meters_then, faults_then, then_faults}
 use Rattle.net_world.proofs.FoundingLemmas.{absent_there, giver_there, first_stays, comes_back, one_more}
 use Rattle.net_world.proofs.founding.found_other.Given as given
 use Rattle.net_world.proofs.founding.found_other.Goals as goal
@@ -69,13 +69,33 @@ pub returns-clause-meters : goal.returns-clause-meters
 returns-clause-meters g c =
     meters_then g.B.Banks.meter (map banks_of_state c.args.clones.now.items) (map banks_of_state (between g c)) (map banks_of_state c.put_state.new.clones.items) (first g c) (second g c)
 
-pub returns-clause-err : goal.returns-clause-err
-returns-clause-err g c = IfErr-weaker c.join_first-state.result.1 _ (FailsAmong g.B.Banks.meter c.args.clones.now.items c.put_state.new.clones.items) (λ fault either. elim either [
-  | inl gave ↦
-      then_fails g.B.Banks.meter c.args.clones.now.items (between g c) c.put_state.new.clones.items fault (first g c)
-      (fails_set g.B.Banks.meter (between g c) c.put_state.new.clones.items 0 (kinds.Live c.join_first-state.ensures.joins.was) (kinds.Live c.join_first-state.ensures.joins.now) fault (changes g c).1 gave)
-  | inr took ↦
-      fails_then g.B.Banks.meter c.args.clones.now.items (between g c) c.put_state.new.clones.items fault (first g c)
-      (fails_set g.B.Banks.meter c.args.clones.now.items (between g c) c.args.number (kinds.Absent c.take_blank-blank.result) (state g c) fault (changes g c).0
-      (subst (λ (b : g.row.B.Denot). FailsAt c.args.number (g.B.Banks.meter b) (g.B.Banks.meter (banks_of_state (state g c))) fault) c.new_asker-asker.ensures.banks took)) (second g c)
-]) c.join_first-state.ensures.joins.joins.err
+-- the faults of the two clones, one after the other
+both_faults : (g : given.Over) (c : goal.After-put_state g)
+    → HasFaultsOfTwo c.args.number (g.B.Banks.meter c.join_first-state.ensures.joins.was.banks) (g.B.Banks.meter c.join_first-state.ensures.joins.now.banks)
+    (g.B.Banks.meter c.take_blank-blank.result) (g.B.Banks.meter (banks_of_state (state g c))) c.join_first-state.result.1
+    → HasFaultsBy g.B.Banks.meter (map banks_of_state c.args.clones.now.items) (map banks_of_state c.put_state.new.clones.items) c.join_first-state.result.1
+both_faults g c (giving gave quiet) =
+    let meter = g.B.Banks.meter in
+    let joins = c.join_first-state.ensures.joins in
+    let old = c.args.clones.now.items in
+    let new = c.put_state.new.clones.items in
+    then_faults meter (map banks_of_state old) (map banks_of_state (between g c)) (map banks_of_state new) c.join_first-state.result.1 (first g c)
+    (quiet_becomes meter old (between g c) c.args.number (kinds.Absent c.take_blank-blank.result) (state g c) (changes g c).0 quiet)
+    (faults_set meter (between g c) new 0 (kinds.Live joins.was) (kinds.Live joins.now) c.join_first-state.result.1 (changes g c).1 gave)
+both_faults g c (taking quiet took) =
+    let meter = g.B.Banks.meter in
+    let joins = c.join_first-state.ensures.joins in
+    let old = c.args.clones.now.items in
+    let new = c.put_state.new.clones.items in
+    faults_then meter (map banks_of_state old) (map banks_of_state (between g c)) (map banks_of_state new) c.join_first-state.result.1 (first g c)
+    (faults_set meter old (between g c) c.args.number (kinds.Absent c.take_blank-blank.result) (state g c) c.join_first-state.result.1 (changes g c).0 took)
+    (second g c)
+    (quiet_becomes meter (between g c) new 0 (kinds.Live joins.was) (kinds.Live joins.now) (changes g c).1 quiet)
+
+pub returns-clause-faults : goal.returns-clause-faults
+returns-clause-faults g c =
+    let meter = g.B.Banks.meter in
+    let joins = c.join_first-state.ensures.joins in
+    both_faults g c
+    (subst (λ (b : g.row.B.Denot). HasFaultsOfTwo c.args.number (meter joins.was.banks) (meter joins.now.banks) (meter b) (meter (banks_of_state (state g c))) c.join_first-state.result.1)
+    c.new_asker-asker.ensures.banks joins.joins.faults)

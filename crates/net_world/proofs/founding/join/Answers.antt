@@ -1,6 +1,8 @@
-use Rattle.std.proofs.Common.{inr}
-use Rattle.std.proofs.lemmas.Result.{on_ok_weaker, IfErr-weaker}
+use Rattle.std.proofs.Common.{refl}
+use Rattle.std.proofs.lemmas.Result.{on_ok_weaker}
 use Rattle.mld_ops.specs.Messages.{give_value}
+use Rattle.net_world.specs.Founding.{giving, taking}
+use Rattle.net_world.proofs.BankLemmas.{goes_on_same}
 use Rattle.net_world.proofs.FoundingLemmas.{gives_leaf}
 use Rattle.net_world.proofs.founding.join.Goals as goal
 
@@ -18,5 +20,13 @@ returns-in-Ok g c = record {
     opened = c.in-Ok.ensures.opened;
     lives = taken (give_value c.in-Ok.ensures.gives.0) (gives_leaf c.args.asker.asker c.args.first.now.local c.given_leaf.new.first.local c.in-Ok.answer c.in-Ok.ensures.gives c.in-Ok.ensures.good);
   }) c.taken_leaf.ensures.taken;
-  err = IfErr-weaker c.taken_leaf.result.1 _ _ (λ fault fails. inr fails) c.taken_leaf.ensures.err;
+  faults = taking c.in-Ok.ensures.faults c.taken_leaf.ensures.faults;
+}
+
+pub returns-in-Err : goal.returns-in-Err
+returns-in-Err g c = record {
+  giver = c.in-Err.ensures.meter;
+  taker = goes_on_same (g.B.Banks.meter c.args.asker.banks);
+  ok = tt;
+  faults = giving c.in-Err.ensures.faults refl;
 }

@@ -1,9 +1,10 @@
-use Rattle.std.proofs.Common.{◌∙◌, arith, refl, subst, List, ℕ}
+use Rattle.std.proofs.Common.{◌∙◌, arith, refl, subst, map, List, ℕ}
 use Rattle.mld_model.specs.declared.CloneState.TheVariants as states
 use Rattle.net_world.specs.Asking.{AsksFirst}
+use Rattle.net_world.specs.WorldBanks.{banks_of_state}
 use Rattle.net_world.proofs.Places.{place_read}
-use Rattle.net_world.proofs.BankLemmas.{cause_memory}
-use Rattle.net_world.proofs.JoinLemmas.{join_again_done, join_first_done, join_first_keeps, join_settled_done}
+use Rattle.net_world.proofs.BankLemmas.{quiet_same, faults_memory}
+use Rattle.net_world.proofs.JoinLemmas.{join_again_done, join_first_done, join_first_keeps, join_first_faults, join_settled_done}
 use Rattle.net_world.proofs.WorldLemmas.{keeps_still}
 use Rattle.net_world.proofs.join.join.Goals as goal
 
@@ -11,11 +12,12 @@ pub returns-in-Asking : goal.returns-in-Asking
 returns-in-Asking g c =
     let parts = c.args.parts.now in
     record {
-      keeps = keeps_still g.B.Banks.log g.B.Banks.meter parts _ refl refl refl;
+      keeps = keeps_still g.B.Banks.log g.B.Banks.meter parts _ refl refl c.args.number refl;
       done = join_again_done g.B.Banks.log g.B.Banks.meter parts _ refl refl c.args.number c.in-Asking.asker c.ask.result c.send_question.result
           (place_read parts.clones.items c.args.number c.from.result c.index.result.now (states.Asking c.in-Asking.asker) c.from.ensures (omega (arith, c.requires.number)) c.index.ensures c.in-Asking.is)
           c.ask.ensures.asks refl c.send_question.ensures.sent;
-      cause = cause_memory g.B.Banks.meter parts.clones.items parts.clones.items c.send_question.result c.send_question.ensures.memory;
+      faults = faults_memory g.B.Banks.meter (map banks_of_state parts.clones.items) (map banks_of_state parts.clones.items) c.send_question.result
+          (quiet_same g.B.Banks.meter (map banks_of_state parts.clones.items)) c.send_question.ensures.memory;
     }
 
 pub returns-in_ok-named-in-Absent : goal.returns-in_ok-named-in-Absent
@@ -31,7 +33,7 @@ returns-in_ok-named-in-Absent g c =
     record {
       keeps = join_first_keeps g.B.Banks.log g.B.Banks.meter parts _ refl refl c.args.number question asks;
       done = join_first_done g.B.Banks.log g.B.Banks.meter parts _ refl refl c.args.number question c.send_question-in-Absent.result c.requires.named asks c.send_question-in-Absent.ensures.sent;
-      cause = cause_memory g.B.Banks.meter parts.clones.items new c.send_question-in-Absent.result c.send_question-in-Absent.ensures.memory;
+      faults = join_first_faults g.B.Banks.meter parts.domain parts.properties.items parts.clones.items new c.args.number question c.send_question-in-Absent.result asks c.send_question-in-Absent.ensures.memory;
     }
 
 pub returns-in_default : goal.returns-in_default
@@ -39,9 +41,9 @@ returns-in_default g c =
     let parts = c.args.parts.now in
     let state = c.index.result.now in
     record {
-      keeps = keeps_still g.B.Banks.log g.B.Banks.meter parts _ refl refl refl;
+      keeps = keeps_still g.B.Banks.log g.B.Banks.meter parts _ refl refl c.args.number refl;
       done = join_settled_done g.B.Banks.log g.B.Banks.meter parts _ refl refl c.args.number state c.state_reply.result c.state_reply.ensures
           (place_read parts.clones.items c.args.number c.from.result state state c.from.ensures (omega (arith, c.requires.number)) c.index.ensures refl)
           c.in_default.not-Asking c.in_default.not-Absent refl refl;
-      cause = tt;
+      faults = quiet_same g.B.Banks.meter (map banks_of_state parts.clones.items);
     }

@@ -1,12 +1,14 @@
-use Rattle.std.proofs.Common.{◌∙◌, arith, refl, sym, subst, List, ℕ, IsTrue}
+use Rattle.std.proofs.Common.{◌∙◌, arith, refl, sym, subst, List, ℕ, IsTrue, map}
 use Rattle.std.proofs.lemmas.Result.{IfOk-weaker}
 use Rattle.iri_rules.specs.Domain.{is_domain}
 use Rattle.mld_model.specs.declared.CloneState.TheVariants as states
 use Rattle.net_world.specs.OpeningBanks.{OpensBanks}
 use Rattle.schedule_replies.specs.Replies.{reply_value}
+use Rattle.net_world.specs.WorldBanks.{banks_of_state}
+use Rattle.net_world.proofs.BankLemmas.{quiet_same}
 use Rattle.net_world.proofs.Places.{place_read, set_again}
 use Rattle.net_world.proofs.StopLemmas.{open_done, open_standing_done, standing_reply, whole_at}
-use Rattle.net_world.proofs.WorldLemmas.{keeps_meters, keeps_still}
+use Rattle.net_world.proofs.WorldLemmas.{keeps_banks, keeps_still}
 use Rattle.net_world.proofs.opening.open.Goals as goal
 
 pub open_banks-requires : goal.open_banks-requires
@@ -25,14 +27,14 @@ returns-in_ok-named-in-Down g c =
     let new = c.open_banks.new.clones.items in
     let named = c.in_ok-named-in-Down.named in
     record {
-      keeps = keeps_meters g.B.Banks.log g.B.Banks.meter parts _ refl refl c.open_banks.ensures.meters;
+      keeps = keeps_banks g.B.Banks.log g.B.Banks.meter parts _ refl refl c.args.number c.open_banks.ensures.banks;
       done = IfOk-weaker c.open_banks.result _ _ (λ reply h.
           let P : List (List ℕ) → Type 0 = λ properties. OpensBanks g.B.Banks.log named.domain properties parts.clones.items new c.args.number reply in
           let Q : List ℕ → Type 0 = λ domain. OpensBanks g.B.Banks.log domain parts.properties.items parts.clones.items new c.args.number reply in
           open_done g.B.Banks.log g.B.Banks.meter parts _ refl refl c.args.number reply c.requires.named refl
           (subst Q c.in_ok-named-in-Down.ensures.domain (subst P (c.in_ok-named-in-Down.ensures.properties ∙ c.as_slice.ensures.value) h)))
           c.open_banks.ensures.ok;
-      cause = c.open_banks.ensures.cause;
+      faults = c.open_banks.ensures.faults;
     }
 
 pub returns-in_default : goal.returns-in_default
@@ -41,8 +43,8 @@ returns-in_default g c =
     let state = c.index.result.now in
     let at = place_read parts.clones.items c.args.number c.from.result state state c.from.ensures (omega (arith, c.requires.number)) c.index.ensures refl in
     record {
-      keeps = keeps_still g.B.Banks.log g.B.Banks.meter parts _ refl refl refl;
+      keeps = keeps_still g.B.Banks.log g.B.Banks.meter parts _ refl refl c.args.number refl;
       done = open_standing_done g.B.Banks.log g.B.Banks.meter parts _ refl refl c.args.number state c.state_reply.result at (set_again parts.clones.items c.args.number state at) refl refl
           (standing_reply state (reply_value c.state_reply.result) c.state_reply.ensures c.in_default.not-Down);
-      cause = tt;
+      faults = quiet_same g.B.Banks.meter (map banks_of_state parts.clones.items);
     }

@@ -1,8 +1,8 @@
 use Rattle.std.proofs.Common.{◌≡◌, ◌∙◌, arith, set, subst, Some}
 use Rattle.std.proofs.lemmas.Option.{slice_get_within}
 use Rattle.mld_model.specs.declared.CloneState.TheVariants as states
-use Rattle.net_world.proofs.BankLemmas.{meters_set, cause_set}
-use Rattle.net_world.proofs.StopLemmas.{undamaged, opened_becomes, opened_ok, opened_on, opened_fails}
+use Rattle.net_world.proofs.BankLemmas.{uses_set, faults_set}
+use Rattle.net_world.proofs.StopLemmas.{undamaged, opened_becomes, opened_ok, opened_on, opened_faults}
 use Rattle.net_world.proofs.opening.open_banks.Goals as goal
 
 pub opened_as-state-requires-clause-whole : goal.opened_as-state-requires-clause-whole
@@ -32,8 +32,8 @@ returns g c =
     let becomes = opened_becomes log meter domain properties old new number banks told at now in
     record {
       ok = opened_ok log meter domain properties old new number banks what told at now c.mount.ensures.tells c.mount.ensures.opened c.opened_as-state.ensures;
-      meters = meters_set meter old new number (states.Down banks) told.0 becomes
+      banks = uses_set meter old new number (states.Down banks) told.0 becomes
           (opened_on log meter domain properties old new number banks what told c.opened_as-state.ensures c.mount.ensures.meter);
-      cause = cause_set meter old new number (states.Down banks) told.0 told.1 becomes
-          (opened_fails log meter domain properties old new number banks what told c.opened_as-state.ensures c.mount.ensures.meter);
+      faults = faults_set meter old new number (states.Down banks) told.0 told.1 becomes
+          (opened_faults log meter domain properties old new number banks what told c.opened_as-state.ensures c.mount.ensures.meter);
     }
