@@ -1,5 +1,5 @@
 -- The banks that a run begins with.
-use Rattle.std.proofs.Common.{◌≡◌, inl, inr, ℕ, zero, suc, ◌+◌, ◌<◌, ◌≤◌, List, [], ◌∷◌, ◌++◌, length, append_assoc, slice_set, get_or, arith, refl, sym, ◌∙◌, ap, subst, Option, None, Some}
+use Rattle.std.proofs.Common.{◌≡◌, ◌≢◌, inl, inr, ℕ, zero, suc, ◌+◌, ◌<◌, ◌≤◌, List, [], ◌∷◌, ◌++◌, length, append_assoc, slice_set, get_or, arith, refl, sym, ◌∙◌, ap, subst, Option, None, Some}
 use Rattle.std.specs.Prelude.{slice_get, IsSome}
 use Rattle.std.proofs.lemmas.Bool.{false≢true, cases_lt}
 use Rattle.std.proofs.lemmas.List.{nil_from_length, append-nil, length-append}
@@ -12,11 +12,13 @@ use Rattle.journal_store.specs.declared.faults.MountFault.TheVariants.{Damaged, 
 use Rattle.clone_core.specs.Opening.{TellsClone}
 use Rattle.clone_core.specs.declared.mounts.Mounted.{Mounted}
 use Rattle.clone_core.specs.declared.mounts.Mounted.TheVariants.{Live, Empty, Refused}
-use Rattle.net_world.specs.WorldBanks.{GoesOn, MetersGoOn, HasFailed}
-use Rattle.mld_replay.specs.Filled.{IsFilled, IsFirstFilled, AreEmpty, HadFault, StopsLookingAt, StopsLooking}
+use Rattle.net_world.specs.WorldBanks.{GoesOn, MetersGoOn, IsQuiet, AreQuiet, HasFailed}
+use Rattle.mld_replay.specs.Filled.{IsFilled, IsFirstFilled, AreEmpty, AreEmptyBefore, HadFault, LogsStay, StopsLookingAt, StopsLooking}
+use Rattle.mld_replay.specs.BankFaults.{HasRunFaults}
+use Rattle.mld_io.specs.Faults.{Rose}
 use Rattle.mld_replay.specs.declared.run.RunFault.{RunFault}
 use Rattle.mld_replay.specs.declared.run.RunFault.TheVariants as faults
-use Rattle.mld_replay.proofs.MeterLemmas.{meters_same, meters_then, failed_later}
+use Rattle.mld_replay.proofs.MeterLemmas.{meters_same, meters_then, quiet_same, quiet_then, failed_later}
 
 -- ---- what a mount of banks without a byte tells
 
@@ -83,6 +85,21 @@ set_length [] number now = refl
 set_length (first ∷ rest) zero now = refl
 set_length (first ∷ rest) (suc number) now = ap (λ (n : ℕ). suc n) (set_length rest number now)
 
+-- and those of another number are what they were
+set_other : {B : Type 0} (list : List B) (number : ℕ) (now : B) (other : ℕ) (two : B) → other ≢ number → slice_get (slice_set list number now) other ≡ Some two → slice_get list other ≡ Some two
+set_other [] number now other two differs at = at
+set_other (first ∷ rest) zero now zero two differs at = absurd (differs refl)
+set_other (first ∷ rest) zero now (suc other) two differs at = at
+set_other (first ∷ rest) (suc number) now zero two differs at = at
+set_other (first ∷ rest) (suc number) now (suc other) two differs at = set_other rest number now other two (λ same. differs (ap (λ (n : ℕ). suc n) same)) at
+
+swap_other : {B : Type 0} (done : List B) (was now : B) (rest : List B) (other : ℕ) (two : B) → other ≢ length done → slice_get (done ++ now ∷ rest) other ≡ Some two
+    → slice_get (done ++ was ∷ rest) other ≡ Some two
+swap_other [] was now rest zero two differs at = absurd (differs refl)
+swap_other [] was now rest (suc other) two differs at = at
+swap_other (first ∷ done) was now rest zero two differs at = at
+swap_other (first ∷ done) was now rest (suc other) two differs at = swap_other done was now rest other two (λ same. differs (ap (λ (n : ℕ). suc n) same)) at
+
 swap_at : {B : Type 0} (P : B → B → Type 0) (done : List B) (was now : B) (rest : List B) → P was now → ((one : B) → P one one)
     → (place : ℕ) (x y : B) → slice_get (done ++ was ∷ rest) place ≡ Some x → slice_get (done ++ now ∷ rest) place ≡ Some y → P x y
 swap_at {B = B} P [] was now rest holds same zero x y x_at y_at = subst (λ (b : B). P b y) (one_is x_at) (subst (λ (b : B). P was b) (one_is y_at) holds)
@@ -104,15 +121,17 @@ there_too old new number was count at = (get_or new number was, slice_get-get_or
 
 -- ---- the look at the banks
 
--- the banks before this number were looked at: none has bytes
+-- the banks before this number were looked at: none has bytes, and none had a fault
 pub record HasLooked {B : Type 0} (log : B → Option Log) (meter : B → Meter) (old new : List B) (number : ℕ) : Type 0 where
   pub meters : MetersGoOn meter old new
-  pub logs : (place : ℕ) (was now : B) → slice_get old place ≡ Some was → slice_get new place ≡ Some now → log now ≡ log was
-  pub empty : (place : ℕ) (one : B) → place < number → slice_get old place ≡ Some one → ¬ IsFilled (log one)
+  pub quiet : AreQuiet meter old new
+  pub logs : LogsStay log old new
+  pub empty : AreEmptyBefore log old number
 
 pub looked_first : {B : Type 0} (log : B → Option Log) (meter : B → Meter) (banks : List B) → HasLooked log meter banks banks 0
 looked_first log meter banks = record {
   meters = meters_same meter banks;
+  quiet = quiet_same meter banks;
   logs = λ place was now was_at now_at. ap log (one_is (sym now_at ∙ was_at));
   empty = λ place one before at. absurd (omega (arith, before));
 }
@@ -125,17 +144,38 @@ meters_set meter banks number was now at goes = record {
   each = set_at (λ x y. GoesOn (meter x) (meter y)) banks number was now at goes (λ one. stays_same (meter one));
 }
 
+quiet_set : {B : Type 0} (meter : B → Meter) (banks : List B) (number : ℕ) (was now : B) → slice_get banks number ≡ Some was → IsQuiet (meter was) (meter now)
+    → AreQuiet meter banks (slice_set banks number now)
+quiet_set meter banks number was now at quiet = set_at (λ x y. IsQuiet (meter x) (meter y)) banks number was now at quiet (λ one. refl)
+
+failed_set : {B : Type 0} (meter : B → Meter) (banks : List B) (number : ℕ) (was now : B) → slice_get banks number ≡ Some was → HadFault (meter was) (meter now)
+    → HasFailed meter number banks (slice_set banks number now)
+failed_set {B = B} meter banks number was now at fails = record {
+  was = was;
+  now = now;
+  before = at;
+  behind = set_there banks number was now at;
+  fault = fails;
+  others = λ other one two differs one_at two_at. ap (λ (b : B). (meter b).real_faults) (one_is (sym (set_other banks number now other two differs two_at) ∙ one_at));
+}
+
 pub looked_meters : {B : Type 0} (log : B → Option Log) (meter : B → Meter) (old middle : List B) (number : ℕ) (was now : B) → HasLooked log meter old middle number
     → slice_get middle number ≡ Some was → GoesOn (meter was) (meter now) → MetersGoOn meter old (slice_set middle number now)
 looked_meters log meter old middle number was now looked at goes = meters_then meter old middle (slice_set middle number now) looked.meters (meters_set meter middle number was now at goes)
 
+pub looked_logs : {B : Type 0} (log : B → Option Log) (meter : B → Meter) (old middle : List B) (number : ℕ) (was now : B) → HasLooked log meter old middle number
+    → slice_get middle number ≡ Some was → log now ≡ log was → LogsStay log old (slice_set middle number now)
+looked_logs log meter old middle number was now looked at same place first last first_at last_at =
+    let there = there_too old middle place first looked.meters.count first_at in
+    set_at (λ x y. log y ≡ log x) middle number was now at same (λ one. refl) place there.0 last there.1 last_at ∙ looked.logs place first there.0 first_at there.1
+
 pub looked_more : {B : Type 0} (log : B → Option Log) (meter : B → Meter) (old middle : List B) (number : ℕ) (was now : B) → HasLooked log meter old middle number
-    → slice_get middle number ≡ Some was → log now ≡ log was → GoesOn (meter was) (meter now) → ¬ IsFilled (log was) → HasLooked log meter old (slice_set middle number now) (number + 1)
-looked_more {B = B} log meter old middle number was now looked at same goes none = record {
+    → slice_get middle number ≡ Some was → log now ≡ log was → GoesOn (meter was) (meter now) → IsQuiet (meter was) (meter now) → ¬ IsFilled (log was)
+    → HasLooked log meter old (slice_set middle number now) (number + 1)
+looked_more {B = B} log meter old middle number was now looked at same goes quiet none = record {
   meters = looked_meters log meter old middle number was now looked at goes;
-  logs = λ place first last first_at last_at.
-      let there = there_too old middle place first looked.meters.count first_at in
-      set_at (λ x y. log y ≡ log x) middle number was now at same (λ one. refl) place there.0 last there.1 last_at ∙ looked.logs place first there.0 first_at there.1;
+  quiet = quiet_then meter old middle (slice_set middle number now) looked.meters looked.quiet (quiet_set meter middle number was now at quiet);
+  logs = looked_logs log meter old middle number was now looked at same;
   empty = λ place one before there filled. elim (cases_lt place number) [
     | inl earlier ↦ looked.empty place one earlier there filled
     | inr later ↦
@@ -147,9 +187,8 @@ looked_more {B = B} log meter old middle number was now looked at same goes none
 
 -- the look at those of the number stopped
 pub looked_stops : {B : Type 0} (log : B → Option Log) (meter : B → Meter) (old middle : List B) (number : ℕ) (was now : B) (fault : RunFault) → HasLooked log meter old middle number
-    → slice_get middle number ≡ Some was → GoesOn (meter was) (meter now) → StopsLookingAt number (log was) (meter was) (meter now) fault
-    → StopsLooking log meter old (slice_set middle number now) fault
-looked_stops log meter old middle number was now (faults.NotEmpty clone) looked at goes stops =
+    → slice_get middle number ≡ Some was → StopsLookingAt number (log was) (meter was) (meter now) fault → StopsLooking log old fault
+looked_stops log meter old middle number was now (faults.NotEmpty clone) looked at stops =
     let there = there_too middle old number was (sym looked.meters.count) at in
     let first : IsFirstFilled log old number = record {
       one = there.0;
@@ -158,57 +197,100 @@ looked_stops log meter old middle number was now (faults.NotEmpty clone) looked 
       before = λ other empty before other_at. looked.empty other empty before other_at;
     } in
     subst (λ (n : ℕ). IsFirstFilled log old n) (sym stops.0) first
-looked_stops {B = B} log meter old middle number was now (faults.Device clone) looked at goes stops =
-    let fails : HasFailed meter number middle (slice_set middle number now) = λ first last first_at last_at.
-    let one : was ≡ first = one_is (sym at ∙ first_at) in
-    let two : now ≡ last = one_is (sym (set_there middle number was now at) ∙ last_at) in
-    subst (λ (b : B). HadFault (meter b) (meter last)) one (subst (λ (b : B). HadFault (meter was) (meter b)) two stops.1) in
-    subst (λ (n : ℕ). HasFailed meter n old (slice_set middle number now)) (sym stops.0) (failed_later meter number old middle (slice_set middle number now) looked.meters fails)
-looked_stops log meter old middle number was now faults.NoMemory looked at goes stops = tt
-looked_stops log meter old middle number was now fault looked at goes stops = absurd stops
+looked_stops log meter old middle number was now (faults.Device clone) looked at stops = subst (λ (n : ℕ). AreEmptyBefore log old n) (sym stops.0) looked.empty
+looked_stops log meter old middle number was now faults.NoMemory looked at stops = tt
+looked_stops log meter old middle number was now fault looked at stops = absurd stops
+
+-- and no others had a fault
+pub looked_faults : {B : Type 0} (log : B → Option Log) (meter : B → Meter) (old middle : List B) (number : ℕ) (was now : B) (fault : RunFault) → HasLooked log meter old middle number
+    → slice_get middle number ≡ Some was → StopsLookingAt number (log was) (meter was) (meter now) fault → HasRunFaults meter old (slice_set middle number now) (Some fault)
+looked_faults log meter old middle number was now (faults.NotEmpty clone) looked at stops =
+    quiet_then meter old middle (slice_set middle number now) looked.meters looked.quiet (quiet_set meter middle number was now at stops.2)
+looked_faults log meter old middle number was now (faults.Device clone) looked at stops =
+    failed_later meter clone old middle (slice_set middle number now) looked.meters looked.quiet
+    (subst (λ (n : ℕ). HasFailed meter n middle (slice_set middle number now)) (sym stops.0) (failed_set meter middle number was now at stops.1))
+looked_faults log meter old middle number was now faults.NoMemory looked at stops =
+    quiet_then meter old middle (slice_set middle number now) looked.meters looked.quiet (quiet_set meter middle number was now at stops)
+looked_faults log meter old middle number was now fault looked at stops = absurd stops
+
+-- a side was looked at, and then the look at the other one stopped
+pub stops_later : (number : ℕ) (log : Option Log) (first second third : Meter) (fault : RunFault) → GoesOn first second → IsQuiet first second → StopsLookingAt number log second third fault
+    → StopsLookingAt number log first third fault
+stops_later number log first second third (faults.NotEmpty clone) goes quiet stops = (stops.0, stops.1, stops.2 ∙ quiet)
+stops_later number log first second third (faults.Device clone) goes quiet stops =
+    (stops.0, λ unarmed. subst (λ (n : ℕ). Rose n third.real_faults) quiet (stops.1 (goes.unarmed unarmed)))
+stops_later number log first second third faults.NoMemory goes quiet stops = stops ∙ quiet
+stops_later number log first second third fault goes quiet stops = absurd stops
 
 -- all were looked at
-pub looked_old : {B : Type 0} (log : B → Option Log) (meter : B → Meter) (old new : List B) (number : ℕ) → HasLooked log meter old new number → length new ≤ number → AreEmpty log old
-looked_old log meter old new number looked all = λ place one at.
+pub looked_all : {B : Type 0} (log : B → Option Log) (meter : B → Meter) (old new : List B) (number : ℕ) → HasLooked log meter old new number → length new ≤ number → AreEmpty log old
+looked_all log meter old new number looked all = λ place one at.
     looked.empty place one (omega (arith, all, looked.meters.count, slice_get_within old place one at)) at
 
-pub looked_new : {B : Type 0} (log : B → Option Log) (meter : B → Meter) (old new : List B) (number : ℕ) → HasLooked log meter old new number → length new ≤ number → AreEmpty log new
-looked_new log meter old new number looked all = λ place one at filled.
-    let there = there_too new old place one (sym looked.meters.count) at in
-    looked_old log meter old new number looked all place there.0 there.1 (subst IsFilled (looked.logs place there.0 one there.1 at) filled)
+-- so none has bytes where the logs stayed
+pub empty_still : {B : Type 0} (log : B → Option Log) (old new : List B) → length new ≡ length old → LogsStay log old new → AreEmpty log old → AreEmpty log new
+empty_still log old new count logs none = λ place one at filled.
+    let there = there_too new old place one (sym count) at in none place there.0 there.1 (subst IsFilled (logs place there.0 one there.1 at) filled)
 
 -- ---- the banks made blanks
 
--- the first banks were made these blanks, and the rest, which are empty, are left
+-- the first banks were made these blanks, and the rest, which are empty, are left; none had a fault
 pub record IsBlanking {B : Type 0} (log : B → Option Log) (meter : B → Meter) (old done rest : List B) (number : ℕ) : Type 0 where
   pub meters : MetersGoOn meter old (done ++ rest)
+  pub quiet : AreQuiet meter old (done ++ rest)
   pub empty : AreEmpty log rest
   pub counted : number ≡ length done
 
 pub blanking_first : {B : Type 0} (log : B → Option Log) (meter : B → Meter) (old done rest : List B) → done ≡ [] → rest ≡ old → AreEmpty log old → IsBlanking log meter old done rest 0
-blanking_first log meter old done rest none all empty = rw (none, all) (record { meters = meters_same meter old; empty = empty; counted = refl })
+blanking_first log meter old done rest none all empty = rw (none, all) (record { meters = meters_same meter old; quiet = quiet_same meter old; empty = empty; counted = refl })
 
 -- the next ones have no bytes
 pub blanking_next : {B : Type 0} (log : B → Option Log) (meter : B → Meter) (old done rest left : List B) (one : B) (number : ℕ) → IsBlanking log meter old done rest number → rest ≡ one ∷ left
     → ¬ IsFilled (log one)
 blanking_next {B = B} log meter old done rest left one number blanking is = subst (λ (l : List B). AreEmpty log l) is blanking.empty zero one refl
 
-meters_swap : {B : Type 0} (meter : B → Meter) (done : List B) (was now : B) (rest : List B) → GoesOn (meter was) (meter now) → MetersGoOn meter (done ++ was ∷ rest) (done ++ now ∷ rest)
-meters_swap meter done was now rest goes = record {
-  count = swap_length done was now rest;
-  each = swap_at (λ x y. GoesOn (meter x) (meter y)) done was now rest goes (λ one. stays_same (meter one));
-}
+module _ {B : Type 0} (meter : B → Meter) (done : List B) (was now : B) (rest : List B) where
+  meters_swap : GoesOn (meter was) (meter now) → MetersGoOn meter (done ++ was ∷ rest) (done ++ now ∷ rest)
+  meters_swap goes = record {
+    count = swap_length done was now rest;
+    each = swap_at (λ x y. GoesOn (meter x) (meter y)) done was now rest goes (λ one. stays_same (meter one));
+  }
+
+  quiet_swap : IsQuiet (meter was) (meter now) → AreQuiet meter (done ++ was ∷ rest) (done ++ now ∷ rest)
+  quiet_swap quiet = swap_at (λ x y. IsQuiet (meter x) (meter y)) done was now rest quiet (λ one. refl)
+
+  failed_swap : HadFault (meter was) (meter now) → HasFailed meter (length done) (done ++ was ∷ rest) (done ++ now ∷ rest)
+  failed_swap fails = record {
+    was = was;
+    now = now;
+    before = swap_there done was rest;
+    behind = swap_there done now rest;
+    fault = fails;
+    others = λ other one two differs one_at two_at. ap (λ (b : B). (meter b).real_faults) (one_is (sym (swap_other done was now rest other two differs two_at) ∙ one_at));
+  }
+
+-- what is known before the next ones are made a blank
+meters_before : {B : Type 0} (log : B → Option Log) (meter : B → Meter) (old done rest left : List B) (was : B) (number : ℕ) → IsBlanking log meter old done rest number
+    → rest ≡ was ∷ left → MetersGoOn meter old (done ++ was ∷ left)
+meters_before {B = B} log meter old done rest left was number blanking is = subst (λ (l : List B). MetersGoOn meter old (done ++ l)) is blanking.meters
+
+quiet_before : {B : Type 0} (log : B → Option Log) (meter : B → Meter) (old done rest left : List B) (was : B) (number : ℕ) → IsBlanking log meter old done rest number
+    → rest ≡ was ∷ left → AreQuiet meter old (done ++ was ∷ left)
+quiet_before {B = B} log meter old done rest left was number blanking is = subst (λ (l : List B). AreQuiet meter old (done ++ l)) is blanking.quiet
 
 blanking_meters : {B : Type 0} (log : B → Option Log) (meter : B → Meter) (old done rest left : List B) (was now : B) (number : ℕ) → IsBlanking log meter old done rest number
     → rest ≡ was ∷ left → GoesOn (meter was) (meter now) → MetersGoOn meter old (done ++ now ∷ left)
-blanking_meters {B = B} log meter old done rest left was now number blanking is goes =
-    meters_then meter old (done ++ was ∷ left) (done ++ now ∷ left) (subst (λ (l : List B). MetersGoOn meter old (done ++ l)) is blanking.meters) (meters_swap meter done was now left goes)
+blanking_meters log meter old done rest left was now number blanking is goes =
+    meters_then meter old (done ++ was ∷ left) (done ++ now ∷ left) (meters_before log meter old done rest left was number blanking is) (meters_swap meter done was now left goes)
 
 -- they are made a blank
 pub blanking_more : {B : Type 0} (log : B → Option Log) (meter : B → Meter) (old done rest left more : List B) (was now : B) (number : ℕ) → IsBlanking log meter old done rest number
-    → rest ≡ was ∷ left → more ≡ done ++ now ∷ [] → GoesOn (meter was) (meter now) → IsBlanking log meter old more left (number + 1)
-blanking_more {B = B} log meter old done rest left more was now number blanking is more_is goes = rw more_is (record {
+    → rest ≡ was ∷ left → more ≡ done ++ now ∷ [] → GoesOn (meter was) (meter now) → IsQuiet (meter was) (meter now) → IsBlanking log meter old more left (number + 1)
+blanking_more {B = B} log meter old done rest left more was now number blanking is more_is goes quiet = rw more_is (record {
   meters = rw (append_assoc done (now ∷ []) left) (blanking_meters log meter old done rest left was now number blanking is goes);
+  quiet = rw (append_assoc done (now ∷ []) left)
+      (quiet_then meter old (done ++ was ∷ left) (done ++ now ∷ left) (meters_before log meter old done rest left was number blanking is)
+      (quiet_before log meter old done rest left was number blanking is) (quiet_swap meter done was now left quiet));
   empty = λ place one at. subst (λ (l : List B). AreEmpty log l) is blanking.empty (suc place) one at;
   counted = one_more done now number blanking.counted;
 })
@@ -220,16 +302,19 @@ blanking_more {B = B} log meter old done rest left more was now number blanking 
 pub blanking_stops : {B : Type 0} (log : B → Option Log) (meter : B → Meter) (old done rest left back : List B) (was now : B) (number : ℕ) → IsBlanking log meter old done rest number
     → rest ≡ was ∷ left → back ≡ done ++ now ∷ left → GoesOn (meter was) (meter now) → HadFault (meter was) (meter now)
     → MetersGoOn meter old back × HasFailed meter number old back
-blanking_stops {B = B} log meter old done rest left back was now number blanking is back_is goes fails =
-    let middle : MetersGoOn meter old (done ++ was ∷ left) = subst (λ (l : List B). MetersGoOn meter old (done ++ l)) is blanking.meters in
-    let there : HasFailed meter (length done) (done ++ was ∷ left) (done ++ now ∷ left) = λ first last first_at last_at.
-    let one : was ≡ first = one_is (sym (swap_there done was left) ∙ first_at) in
-    let two : now ≡ last = one_is (sym (swap_there done now left) ∙ last_at) in
-    subst (λ (b : B). HadFault (meter b) (meter last)) one (subst (λ (b : B). HadFault (meter was) (meter b)) two fails) in
-    rw (back_is, blanking.counted)
-    (blanking_meters log meter old done rest left was now number blanking is goes, failed_later meter (length done) old (done ++ was ∷ left) (done ++ now ∷ left) middle there)
+blanking_stops log meter old done rest left back was now number blanking is back_is goes fails =
+    rw (back_is, blanking.counted) (
+      blanking_meters log meter old done rest left was now number blanking is goes,
+      failed_later meter (length done) old (done ++ was ∷ left) (done ++ now ∷ left) (meters_before log meter old done rest left was number blanking is)
+          (quiet_before log meter old done rest left was number blanking is) (failed_swap meter done was now left fails),
+    )
 
 -- none is left
+all_done : {B : Type 0} (P : List B → Type 0) (done rest : List B) → rest ≡ [] → P (done ++ rest) → P done
+all_done {B = B} P done rest none holds = subst P (append-nil done) (subst (λ (l : List B). P (done ++ l)) none holds)
+
 pub blanking_all : {B : Type 0} (log : B → Option Log) (meter : B → Meter) (old done rest : List B) (number : ℕ) → IsBlanking log meter old done rest number → rest ≡ [] → MetersGoOn meter old done
-blanking_all {B = B} log meter old done rest number blanking none =
-    subst (λ (l : List B). MetersGoOn meter old l) (append-nil done) (subst (λ (l : List B). MetersGoOn meter old (done ++ l)) none blanking.meters)
+blanking_all log meter old done rest number blanking none = all_done (λ l. MetersGoOn meter old l) done rest none blanking.meters
+
+pub blanking_quiet : {B : Type 0} (log : B → Option Log) (meter : B → Meter) (old done rest : List B) (number : ℕ) → IsBlanking log meter old done rest number → rest ≡ [] → AreQuiet meter old done
+blanking_quiet log meter old done rest number blanking none = all_done (λ l. AreQuiet meter old l) done rest none blanking.quiet

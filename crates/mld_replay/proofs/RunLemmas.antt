@@ -1,6 +1,8 @@
 -- A replay from line to line, and how it ends.
 use Rattle.std.proofs.Common.{◌≡◌, ◌≢◌, ℕ, ◌+◌, ◌≤◌, ◌<◌, List, [], ◌∷◌, ◌++◌, ◌↔◌, refl, sym, ◌∙◌, ap, arith, subst, length, Option, None, Some, append_assoc, append-nil, length-append, get_or, map, take, Bool, Err, Result, Ok}
-use Rattle.std.specs.Prelude.{IsTrue, nat_eq, OnOk}
+use Rattle.std.specs.Prelude.{IsTrue, nat_eq, OnOk, IfErr}
+use Rattle.std.specs.Result.{result_err}
+use Rattle.mld_io.specs.Faults.{Rose}
 use Rattle.std.proofs.lemmas.List.{take_all}
 use Rattle.std.proofs.Math.Seq.{take-append-add}
 use Rattle.std.specs.Cmp.Lexicographic.{pointwise}
@@ -9,12 +11,11 @@ use Rattle.std.specs.Io.KnownBytes.{Appends}
 use Rattle.mld_io.specs.Disk.{Log}
 use Rattle.mld_io.specs.Lines.{lines_of, after_line, IsCutShort}
 use Rattle.mld_io.proofs.LinesLaws.{first_of_lines_lem}
-use Rattle.schedule_model.specs.Runs.{Stage, Waiting, Acts, Runs, bad_line, no_domain, IsBad, IsUnbuilt, RunsBefore, Outcome, Finished, BadLine, UnbuiltLine, Verdict}
-use Rattle.mld_replay.specs.Ran.{Finishes, StopsAtBad, StopsAtUnbuilt, StopsAtLarge, BreaksOff, ReadsLines, WritesFront, WritesWhole, TakesLine, IfSomeLine, HasReadCause, HasWriteFaultCause, Agrees}
+use Rattle.schedule_model.specs.Runs.{Stage, Waiting, Acts, Runs, bad_line, no_domain, IsBad, IsUnbuilt, RunsBefore, Verdict}
+use Rattle.mld_replay.specs.Ran.{Finishes, StopsAtBad, StopsAtUnbuilt, StopsAtLarge, BreaksOff, ReadsLines, WritesFront, WritesWhole, EndsSo, TakesLine, IfSomeLine, IsReadingFault, IsWritingFault, IsReplayFault, IsLineFault, IsEndFault, HasReadCause, HasWriteFaultCause, CountsReads, CountsWrites}
 use Rattle.mld_replay.specs.Stages.{StageStands, IsStandingStage, ActsWell, EndsWell, steps_of}
 use Rattle.mld_replay.specs.declared.stages.Stage.{Stage as RunningStage}
 use Rattle.mld_replay.specs.declared.stages.Stage.TheVariants as stages
-use Rattle.schedule_model.proofs.RunsLaws.{one_verdict}
 use Rattle.schedule_model.proofs.PromisesLaws.{promises_kept}
 use Rattle.mld_replay.specs.declared.run.RunFault.{RunFault}
 use Rattle.mld_replay.specs.declared.run.RunFault.TheVariants as faults
@@ -252,11 +253,18 @@ stops_bad log given left rest before now size grown running done line way takes 
 -- a line that was taken isn't built
 pub stops_unbuilt : {B : Type 0} (log : B → Option Log) (given left rest before now : Option (List ℕ)) (size grown : ℕ) (running : RunningStage B) (done : ℕ) (line : List ℕ) → IsUnderWay log given left before now size running done
     → ((bytes : List ℕ) → left ≡ Some bytes → TakesLine size bytes rest grown (Some line)) → IsUnbuilt line
-    → (bytes : List ℕ) → given ≡ Some bytes → StopsAtUnbuilt bytes (done + 1) before now
+    → (bytes : List ℕ) → given ≡ Some bytes → StopsAtUnbuilt (StageStands log running) bytes (done + 1) before now
 unfolding Verdict
 stops_unbuilt log given left rest before now size grown running done line way takes unbuilt bytes is =
     let b = before_line log given left rest before now size grown running done line way takes bytes is in
-    record { text = way.text; stage = way.stage; verdict = record { before = b.0; line = line; first = b.1; unbuilt = unbuilt }; fits = b.2; written = way.written }
+    record {
+      text = way.text;
+      stage = way.stage;
+      verdict = record { before = b.0; line = line; first = b.1; unbuilt = unbuilt };
+      fits = b.2;
+      written = way.written;
+      holds = way.stands;
+    }
 
 -- the line of the number is too large
 pub stops_large : {B : Type 0} (log : B → Option Log) (given left before now : Option (List ℕ)) (size : ℕ) (running : RunningStage B) (done number : ℕ) → IsUnderWay log given left before now size running done → number ≡ done + 1
@@ -295,31 +303,136 @@ breaks_off log given left rest before now size running done way cut reads bytes 
       holds = way.stands;
     }
 
--- the run ends as the verdict says
+-- ---- the run ends so
 
-pub agrees_finished : (P : Stage → Type 0) (bytes : List ℕ) (left before now : Option (List ℕ)) → Finishes P bytes left before now → (outcome : Outcome) → Verdict (lines_of bytes) outcome → Agrees None outcome
-agrees_finished P bytes left before now ends outcome verdict =
-    let Q : Outcome → Type 0 = λ o. Agrees None o in
-    subst Q (one_verdict (lines_of bytes) (Finished ends.text ends.world) outcome ends.verdict verdict) tt
+-- where a line could not be read
+pub ends_reading : (Told Kept : Stage → Type 0) (fault : RunFault) (bytes : List ℕ) (left before after : Option (List ℕ)) → IsReadingFault fault
+    → (fault ≡ faults.ReadFault → BreaksOff Told bytes left before after) → ((at : ℕ) → fault ≡ faults.TooLarge at → StopsAtLarge Told bytes at before after)
+    → WritesFront (λ _. Unit {0}) bytes before after → EndsSo Told Kept (Some fault) bytes left before after
+ends_reading Told Kept faults.ReadFault bytes left before after reading breaks large front = breaks refl
+ends_reading Told Kept (faults.TooLarge at) bytes left before after reading breaks large front = large at refl
+ends_reading Told Kept faults.NoMemory bytes left before after reading breaks large front = front
+ends_reading Told Kept fault bytes left before after reading breaks large front = absurd reading
 
-pub agrees_fault : (P : Stage → Type 0) (bytes : List ℕ) (before now : Option (List ℕ)) (fault : RunFault) → (fault ≢ faults.Usage)
-    → ((line : ℕ) → fault ≡ faults.BadLine line → StopsAtBad P bytes line before now) → ((line : ℕ) → fault ≡ faults.Unbuilt line → StopsAtUnbuilt bytes line before now)
-    → (outcome : Outcome) → Verdict (lines_of bytes) outcome → Agrees (Some fault) outcome
-agrees_fault P bytes before now faults.Usage usage bad unbuilt outcome verdict = absurd (usage refl)
-agrees_fault P bytes before now faults.ReadFault usage bad unbuilt outcome verdict = tt
-agrees_fault P bytes before now faults.WriteFault usage bad unbuilt outcome verdict = tt
-agrees_fault P bytes before now faults.NoMemory usage bad unbuilt outcome verdict = tt
-agrees_fault P bytes before now (faults.TooLarge line) usage bad unbuilt outcome verdict = tt
-agrees_fault P bytes before now (faults.Device clone) usage bad unbuilt outcome verdict = tt
-agrees_fault P bytes before now (faults.NotEmpty clone) usage bad unbuilt outcome verdict = tt
-agrees_fault P bytes before now (faults.BadLine line) usage bad unbuilt outcome verdict =
-    let ends : StopsAtBad P bytes line before now = bad line refl in
-    let Q : Outcome → Type 0 = λ o. Agrees (Some (faults.BadLine line)) o in
-    subst Q (one_verdict (lines_of bytes) (BadLine line ends.text ends.stage) outcome ends.verdict verdict) refl
-agrees_fault P bytes before now (faults.Unbuilt line) usage bad unbuilt outcome verdict =
-    let ends : StopsAtUnbuilt bytes line before now = unbuilt line refl in
-    let Q : Outcome → Type 0 = λ o. Agrees (Some (faults.Unbuilt line)) o in
-    subst Q (one_verdict (lines_of bytes) (UnbuiltLine line ends.text ends.stage) outcome ends.verdict verdict) refl
+-- where one was not done
+pub ends_line : (Told Kept : Stage → Type 0) (fault : RunFault) (bytes : List ℕ) (left before after : Option (List ℕ)) → IsLineFault fault
+    → ((at : ℕ) → fault ≡ faults.BadLine at → StopsAtBad Told bytes at before after) → ((at : ℕ) → fault ≡ faults.Unbuilt at → StopsAtUnbuilt Kept bytes at before after)
+    → WritesWhole bytes before after → WritesFront (λ _. Unit {0}) bytes before after → EndsSo Told Kept (Some fault) bytes left before after
+ends_line Told Kept (faults.BadLine at) bytes left before after doing bad unbuilt whole front = bad at refl
+ends_line Told Kept (faults.Unbuilt at) bytes left before after doing bad unbuilt whole front = unbuilt at refl
+ends_line Told Kept (faults.Device clone) bytes left before after doing bad unbuilt whole front = whole
+ends_line Told Kept faults.NoMemory bytes left before after doing bad unbuilt whole front = front
+ends_line Told Kept fault bytes left before after doing bad unbuilt whole front = absurd doing
+
+-- where its reply could not be written
+pub ends_writing : (Told Kept : Stage → Type 0) (fault : RunFault) (bytes : List ℕ) (left before after : Option (List ℕ)) → IsWritingFault fault → WritesFront Kept bytes before after
+    → EndsSo Told Kept (Some fault) bytes left before after
+ends_writing Told Kept faults.WriteFault bytes left before after writing front = front
+ends_writing Told Kept faults.NoMemory bytes left before after writing front = front_any Kept bytes before after front
+ends_writing Told Kept fault bytes left before after writing front = absurd writing
+
+-- where there were no more lines
+pub ends_lines : (Told Kept : Stage → Type 0) (result : Result (Unit {0}) RunFault) (bytes : List ℕ) (left before after : Option (List ℕ)) → IfErr result IsEndFault
+    → OnOk result (Finishes Told bytes left before after) → ((at : ℕ) → result ≡ Err (faults.BadLine at) → StopsAtBad Told bytes at before after)
+    → WritesWhole bytes before after → WritesFront (λ _. Unit {0}) bytes before after → EndsSo Told Kept (result_err result) bytes left before after
+ends_lines Told Kept (Ok done) bytes left before after ending finished bad whole front = finished
+ends_lines Told Kept (Err (faults.BadLine at)) bytes left before after ending finished bad whole front = bad at refl
+ends_lines Told Kept (Err (faults.Device clone)) bytes left before after ending finished bad whole front = whole
+ends_lines Told Kept (Err faults.NoMemory) bytes left before after ending finished bad whole front = front
+ends_lines Told Kept (Err fault) bytes left before after ending finished bad whole front = absurd ending
+
+-- ---- the faults of its parts are faults of the replay
+
+pub reading_replays : (fault : RunFault) → IsReadingFault fault → IsReplayFault fault
+reading_replays faults.ReadFault reading = tt
+reading_replays faults.NoMemory reading = tt
+reading_replays (faults.TooLarge line) reading = tt
+reading_replays fault reading = absurd reading
+
+pub line_replays : (fault : RunFault) → IsLineFault fault → IsReplayFault fault
+line_replays (faults.Device clone) doing = tt
+line_replays (faults.BadLine line) doing = tt
+line_replays (faults.Unbuilt line) doing = tt
+line_replays faults.NoMemory doing = tt
+line_replays fault doing = absurd doing
+
+pub writing_replays : (fault : RunFault) → IsWritingFault fault → IsReplayFault fault
+writing_replays faults.WriteFault writing = tt
+writing_replays faults.NoMemory writing = tt
+writing_replays fault writing = absurd writing
+
+pub end_replays : (result : Result (Unit {0}) RunFault) → IfErr result IsEndFault → IfErr result IsReplayFault
+end_replays (Ok done) ending = tt
+end_replays (Err (faults.Device clone)) ending = tt
+end_replays (Err (faults.BadLine line)) ending = tt
+end_replays (Err faults.NoMemory) ending = tt
+end_replays (Err fault) ending = absurd ending
+
+-- no part tells of another's failure
+
+pub not_of_reading : (fault : RunFault) → IsReadingFault fault → (clone : ℕ) → fault ≢ faults.Device clone
+not_of_reading fault reading clone is = subst IsReadingFault is reading
+
+pub not_of_writing : (fault : RunFault) → IsWritingFault fault → (clone : ℕ) → fault ≢ faults.Device clone
+not_of_writing fault writing clone is = subst IsWritingFault is writing
+
+pub reading_not_writing : (fault : RunFault) → IsReadingFault fault → Some fault ≢ Some faults.WriteFault
+reading_not_writing fault reading is = let same : fault ≡ faults.WriteFault = cc (is) in subst IsReadingFault same reading
+
+pub line_not_reading : (fault : RunFault) → IsLineFault fault → Some fault ≢ Some faults.ReadFault
+line_not_reading fault doing is = let same : fault ≡ faults.ReadFault = cc (is) in subst IsLineFault same doing
+
+pub line_not_writing : (fault : RunFault) → IsLineFault fault → Some fault ≢ Some faults.WriteFault
+line_not_writing fault doing is = let same : fault ≡ faults.WriteFault = cc (is) in subst IsLineFault same doing
+
+pub writing_not_reading : (fault : RunFault) → IsWritingFault fault → Some fault ≢ Some faults.ReadFault
+writing_not_reading fault writing is = let same : fault ≡ faults.ReadFault = cc (is) in subst IsWritingFault same writing
+
+pub end_not_reading : (result : Result (Unit {0}) RunFault) → IfErr result IsEndFault → result_err result ≢ Some faults.ReadFault
+end_not_reading (Ok done) ending is = absurd (cc (is))
+end_not_reading (Err fault) ending is = let same : fault ≡ faults.ReadFault = cc (is) in subst IsEndFault same ending
+
+pub end_not_writing : (result : Result (Unit {0}) RunFault) → IfErr result IsEndFault → result_err result ≢ Some faults.WriteFault
+end_not_writing (Ok done) ending is = absurd (cc (is))
+end_not_writing (Err fault) ending is = let same : fault ≡ faults.WriteFault = cc (is) in subst IsEndFault same ending
+
+-- ---- the counts of faults
+
+-- no other part than the reading of a line calls the source, and none but the writing of a reply the sink
+
+pub reads_counted : {T : Type 0} (first before now : ℕ) (fault : RunFault) → HasReadCause {T = T} before now (Err fault) → before ≡ first → CountsReads first now (Some fault)
+reads_counted first before now faults.ReadFault cause same = subst (λ (n : ℕ). Rose n now) same (cause.failed refl)
+reads_counted first before now faults.NoMemory cause same = tt
+reads_counted first before now faults.Usage cause same = cause.quiet (λ is. absurd (cc (is))) ∙ same
+reads_counted first before now faults.WriteFault cause same = cause.quiet (λ is. absurd (cc (is))) ∙ same
+reads_counted first before now (faults.BadLine line) cause same = cause.quiet (λ is. absurd (cc (is))) ∙ same
+reads_counted first before now (faults.Device clone) cause same = cause.quiet (λ is. absurd (cc (is))) ∙ same
+reads_counted first before now (faults.TooLarge line) cause same = cause.quiet (λ is. absurd (cc (is))) ∙ same
+reads_counted first before now (faults.NotEmpty clone) cause same = cause.quiet (λ is. absurd (cc (is))) ∙ same
+reads_counted first before now (faults.Unbuilt line) cause same = cause.quiet (λ is. absurd (cc (is))) ∙ same
+
+pub writes_counted : {T : Type 0} (first before now : ℕ) (fault : RunFault) → HasWriteFaultCause {T = T} before now (Err fault) → before ≡ first → CountsWrites first now (Some fault)
+writes_counted first before now faults.WriteFault cause same = subst (λ (n : ℕ). Rose n now) same (cause.failed refl)
+writes_counted first before now faults.NoMemory cause same = tt
+writes_counted first before now faults.Usage cause same = cause.quiet (λ is. absurd (cc (is))) ∙ same
+writes_counted first before now faults.ReadFault cause same = cause.quiet (λ is. absurd (cc (is))) ∙ same
+writes_counted first before now (faults.BadLine line) cause same = cause.quiet (λ is. absurd (cc (is))) ∙ same
+writes_counted first before now (faults.Device clone) cause same = cause.quiet (λ is. absurd (cc (is))) ∙ same
+writes_counted first before now (faults.TooLarge line) cause same = cause.quiet (λ is. absurd (cc (is))) ∙ same
+writes_counted first before now (faults.NotEmpty clone) cause same = cause.quiet (λ is. absurd (cc (is))) ∙ same
+writes_counted first before now (faults.Unbuilt line) cause same = cause.quiet (λ is. absurd (cc (is))) ∙ same
+
+-- the count is what it was, and no other fault is told
+
+pub reads_same : (before now : ℕ) (fault : Option RunFault) → fault ≢ Some faults.ReadFault → now ≡ before → CountsReads before now fault
+reads_same before now (Some faults.ReadFault) differs same = absurd (differs refl)
+reads_same before now (Some faults.NoMemory) differs same = tt
+reads_same before now fault differs same = same
+
+pub writes_same : (before now : ℕ) (fault : Option RunFault) → fault ≢ Some faults.WriteFault → now ≡ before → CountsWrites before now fault
+writes_same before now (Some faults.WriteFault) differs same = absurd (differs refl)
+writes_same before now (Some faults.NoMemory) differs same = tt
+writes_same before now fault differs same = same
 
 -- a line that was taken and not done, said of equal values
 
@@ -334,11 +447,12 @@ stops_bad_at {B = B} log given left rest before now size grown running done take
 
 pub stops_unbuilt_at : {B : Type 0} (log : B → Option Log) (given left rest before now : Option (List ℕ)) (size grown : ℕ) (running : RunningStage B) (done : ℕ) (taken : Option (List ℕ)) (piece line : List ℕ) (at : ℕ)
     → IsUnderWay log given left before now size running done → taken ≡ Some piece → line ≡ piece → ((bytes : List ℕ) → left ≡ Some bytes → TakesLine size bytes rest grown taken)
-    → at ≡ done + 1 → IsUnbuilt line
-    → (bytes : List ℕ) → given ≡ Some bytes → StopsAtUnbuilt bytes at before now
-stops_unbuilt_at log given left rest before now size grown running done taken piece line at way is same takes counts unbuilt bytes told =
-    let P : ℕ → Type 0 = λ n. StopsAtUnbuilt bytes n before now in
-    subst P (sym counts) (stops_unbuilt log given left rest before now size grown running done line way (takes_some left rest taken size grown piece line is same takes) unbuilt bytes told)
+    → at ≡ done + 1 → IsUnbuilt line → (next : RunningStage B) → next ≡ running
+    → (bytes : List ℕ) → given ≡ Some bytes → StopsAtUnbuilt (StageStands log next) bytes at before now
+stops_unbuilt_at {B = B} log given left rest before now size grown running done taken piece line at way is same takes counts unbuilt next kept bytes told =
+    let P : ℕ → Type 0 = λ n. StopsAtUnbuilt (StageStands log running) bytes n before now in
+    let Q : RunningStage B → Type 0 = λ w. StopsAtUnbuilt (StageStands log w) bytes at before now in
+    subst Q (sym kept) (subst P (sym counts) (stops_unbuilt log given left rest before now size grown running done line way (takes_some left rest taken size grown piece line is same takes) unbuilt bytes told))
 
 -- the end of the source while no domain line has come, said of an equal state and number
 
@@ -384,26 +498,10 @@ unbuilt_fault {U = U} stop number at fault is same = let fault_is : fault ≡ fa
     unbuilt_stop (stops.Device clone) number at same = absurd (cc)
     unbuilt_stop stops.NoMemory number at same = absurd (cc)
 
--- and that of a device from a stop at its failure
-pub device_fault : {T U : Type 0} (stop : LineStop) (number at : ℕ) (fault : RunFault) → fault ≡ fault_of stop number → ◌≡◌ {A = Result T RunFault} (Err fault) (Err (faults.Device at))
-    → ◌≡◌ {A = Result U LineStop} (Err stop) (Err (stops.Device at))
-device_fault {U = U} stop number at fault is same = let fault_is : fault ≡ faults.Device at = cc in device_stop stop number at (sym is ∙ fault_is)
-  where
-    device_stop : (stop : LineStop) (number at : ℕ) → fault_of stop number ≡ faults.Device at → ◌≡◌ {A = Result U LineStop} (Err stop) (Err (stops.Device at))
-    device_stop stops.BadLine number at same = absurd (cc)
-    device_stop stops.Unbuilt number at same = absurd (cc)
-    device_stop (stops.Device clone) number at same = cc
-    device_stop stops.NoMemory number at same = absurd (cc)
-
-err_is : {T : Type 0} {fault other : RunFault} → fault ≡ other → ◌≡◌ {A = Result T RunFault} (Err fault) (Err other)
-err_is same = ap (λ (f : RunFault). Err f) same
-
 -- a stop that isn't want of memory gives a fault that isn't either
-pub no_memory_stop : {T U : Type 0} (stop : LineStop) (number : ℕ) (fault : RunFault) → fault ≡ fault_of stop number
-    → (¬ ◌≡◌ {A = Result T RunFault} (Err fault) (Err faults.NoMemory)) → ¬ ◌≡◌ {A = Result U LineStop} (Err stop) (Err stops.NoMemory)
-no_memory_stop {T = T} stop number fault is differs same =
-    let stop_is : stop ≡ stops.NoMemory = cc in
-    differs (err_is (is ∙ ap (λ (s : LineStop). fault_of s number) stop_is))
+pub no_memory_stop : {U : Type 0} (stop : LineStop) (number : ℕ) → Some (fault_of stop number) ≢ Some faults.NoMemory → ¬ ◌≡◌ {A = Result U LineStop} (Err stop) (Err stops.NoMemory)
+no_memory_stop stop number differs same =
+    let stop_is : stop ≡ stops.NoMemory = cc in differs (ap (λ (s : LineStop). Some (fault_of s number)) stop_is)
 
 -- what holds of a line that was there
 pub of_line : (P : List ℕ → Type 0) (taken : Option (List ℕ)) (line : List ℕ) → taken ≡ Some line → IfSomeLine P taken → P line

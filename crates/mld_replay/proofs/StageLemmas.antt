@@ -1,6 +1,7 @@
 -- What a line makes of a schedule's state, and what its end does.
-use Rattle.std.proofs.Common.{◌≡◌, ℕ, List, [], refl, sym, subst, length, Option, None, Some, Vec, Global}
-use Rattle.std.specs.Prelude.{Result, Ok, Err, IfOk}
+use Rattle.std.proofs.Common.{◌≡◌, ℕ, List, [], refl, sym, ap, subst, length, Option, None, Some, Vec, Global}
+use Rattle.std.specs.Prelude.{Result, Ok, Err, IfOk, OnOk, IfErr, IsErrOf}
+use Rattle.mld_io.specs.Arm.{Meter}
 use Rattle.mld_io.specs.Disk.{Log}
 use Rattle.schedule_model.specs.declared.Command.{Command}
 use Rattle.mld_model.specs.World.{World, clone_count}
@@ -16,7 +17,14 @@ use Rattle.schedule_model.specs.Schedule.{Setup as ModelSetup, SpellsSetup, Spel
 use Rattle.rdf_terms.specs.Order.{iri_cmp}
 use Rattle.tree_clock.specs.Lists.{IsAscending}
 use Rattle.schedule_text.specs.ReadLines.{setup_of, SetupIs, CommandIs}
-use Rattle.net_world.specs.WorldBanks.{BankedWorld, StandsOnBanks}
+use Rattle.net_world.specs.WorldBanks.{BankedWorld, StandsOnBanks, MetersGoOn, AreQuiet}
+use Rattle.net_world.specs.Founding.{RefusesFounding}
+use Rattle.net_world.specs.declared.faults.WorldFault.{WorldFault}
+use Rattle.net_world.specs.declared.faults.WorldFault.TheVariants as worlds
+use Rattle.mld_replay.specs.BankFaults.{HasStopFaults}
+use Rattle.mld_replay.specs.Stops.{stop_of_world}
+use Rattle.mld_replay.specs.declared.stops.LineStop.TheVariants as stops
+use Rattle.mld_replay.proofs.MeterLemmas.{quiet_same, quiet_then, quiet_none, stop_later, stop_quiet}
 use Rattle.net_world.specs.Worlds.{Stepped, FollowsOnBanks}
 use Rattle.mld_replay.specs.Stages.{StageStands, IsStandingStage, ActsWell, EndsWell}
 use Rattle.mld_replay.specs.declared.stops.LineStop.{LineStop}
@@ -169,3 +177,31 @@ pub founded_end : {B : Type 0} (log : B → Option Log) (setup : Setup) (running
     → EndsWell log (SetUp (setup_of setup)) (stages.Running running)
 founded_end log setup running stands =
     record { world = founded_by (setup_of setup); founds = refl; stands = (stands, founded_sound setup.domain setup.props.items setup.clones) }
+
+-- ---- which banks had faults, where a clone was founded before
+
+pub quiet_after : {B T : Type 0} (meter : B → Meter) (old middle new : List B) (result : Result T LineStop) → MetersGoOn meter old middle → AreQuiet meter old middle
+    → OnOk result (AreQuiet meter middle new) → OnOk result (AreQuiet meter old new)
+quiet_after meter old middle new (Ok value) goes quiet after = quiet_then meter old middle new goes quiet after
+quiet_after meter old middle new (Err stop) goes quiet after = tt
+
+pub faults_after : {B T : Type 0} (meter : B → Meter) (old middle new : List B) (result : Result T LineStop) → MetersGoOn meter old middle → AreQuiet meter old middle
+    → IfErr result (HasStopFaults meter middle new) → IfErr result (HasStopFaults meter old new)
+faults_after meter old middle new (Ok value) goes quiet after = tt
+faults_after meter old middle new (Err stop) goes quiet after = stop_later meter old middle new stop goes quiet after
+
+-- what founding refuses, the line does
+pub founding_faults : {B : Type 0} (meter : B → Meter) (blanks back : List B) (fault : WorldFault) → RefusesFounding meter blanks fault back → HasStopFaults meter blanks back (stop_of_world fault)
+founding_faults meter blanks back worlds.NoMemory refuses = quiet_none meter blanks back refuses
+founding_faults meter blanks back (worlds.Device clone) refuses = refuses.1
+
+-- where no device was called
+pub quiet_kept : {B T : Type 0} (meter : B → Meter) (old new : List B) (result : Result T LineStop) → new ≡ old → OnOk result (AreQuiet meter old new)
+quiet_kept {B = B} meter old new (Ok value) same = subst (λ (l : List B). AreQuiet meter old l) (sym same) (quiet_same meter old)
+quiet_kept meter old new (Err stop) same = tt
+
+pub faults_kept : {B T : Type 0} (meter : B → Meter) (old new : List B) (result : Result T LineStop) → new ≡ old → ((clone : ℕ) → ¬ IsErrOf result (stops.Device clone))
+    → IfErr result (HasStopFaults meter old new)
+faults_kept meter old new (Ok value) same none = tt
+faults_kept {B = B} meter old new (Err stop) same none =
+    subst (λ (l : List B). HasStopFaults meter old l stop) (sym same) (stop_quiet meter old stop (λ clone is. none clone (ap (λ (s : LineStop). Err s) is)))

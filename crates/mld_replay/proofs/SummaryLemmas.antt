@@ -1,57 +1,27 @@
 -- The clauses of a run: what the replay says of its state is said of what the run tells and gives back.
-use Rattle.std.specs.Prelude.{Result, Ok, Err, OnOk}
+use Rattle.std.specs.Prelude.{Result, Ok, Err, IfErr, IfSome, IsTrue}
 use Rattle.std.specs.Result.{result_err}
-use Rattle.std.proofs.lemmas.Bool.{cases_lt, false≢true}
-use Rattle.std.proofs.Common.{◌≡◌, ◌≢◌, ◌∙◌, arith, inl, inr, ap, true, ℕ, List, sym, subst, refl, Option, Some, None}
+use Rattle.std.specs.Io.KnownBytes.{Appends}
+use Rattle.std.proofs.lemmas.Bool.{cases_lt}
+use Rattle.std.proofs.lemmas.List.{take_all}
+use Rattle.std.proofs.Common.{◌≡◌, ◌≢◌, ◌∙◌, ◌+◌, arith, inl, inr, ap, ℕ, List, [], sym, subst, refl, length, take, append-nil, Option, Some, None}
 use Rattle.mld_io.specs.Arm.{Meter}
 use Rattle.mld_io.specs.Disk.{Log}
 use Rattle.mld_io.specs.Lines.{lines_of}
-use Rattle.schedule_model.specs.Runs.{Stage, Running, Outcome, Verdict}
-use Rattle.net_world.specs.WorldBanks.{MetersGoOn, HasFailed}
-use Rattle.mld_replay.specs.Filled.{IsFirstFilled, EndsBefore, StopsLooking, StopsBlanking}
-use Rattle.mld_replay.specs.Ran.{Finishes, StopsAtBad, StopsAtUnbuilt, StopsAtLarge, BreaksOff, WritesWhole, Agrees, EndsAs, EndsWhole, EndsBy, tells}
-use Rattle.mld_replay.specs.Stages.{StageStands, banks_of_stage}
+use Rattle.mld_model.specs.World.{World}
+use Rattle.schedule_model.specs.Runs.{Stage, Running, RunsBefore, Outcome, Finished, BadLine, UnbuiltLine, Verdict}
+use Rattle.schedule_model.proofs.RunsLaws.{one_verdict}
+use Rattle.net_world.specs.WorldBanks.{MetersGoOn, AreQuiet}
+use Rattle.mld_replay.specs.BankFaults.{HasRunFaults, BringsBack}
+use Rattle.mld_replay.specs.Filled.{IsFirstFilled, EndsBefore, AreEmpty, LogsStay, HeedsFilled, StopsLooking, StopsBlanking}
+use Rattle.mld_replay.specs.Ran.{Finishes, StopsAtBad, StopsAtUnbuilt, StopsAtLarge, BreaksOff, WritesFront, EndsSo, Agrees, EndsAs, EndsBy, IsReplayFault, LeavesAlone, AreUntouched, HasNotBegun, CountsReads, CountsWrites, tells}
+use Rattle.mld_replay.specs.Stages.{StageStands, banks_of_stage, BanksKeep}
 use Rattle.mld_replay.specs.declared.stages.Stage.{Stage as RunningStage}
 use Rattle.mld_replay.specs.declared.run.Ran.{Ran}
 use Rattle.mld_replay.specs.declared.run.RunFault.{RunFault}
 use Rattle.mld_replay.specs.declared.run.RunFault.TheVariants as faults
-use Rattle.mld_replay.proofs.MeterLemmas.{meters_then, failed_later}
-use Rattle.mld_replay.proofs.RunLemmas.{agrees_finished, agrees_fault, err_same, on_ok}
-
--- ---- how a run ended
-
--- memory did not run out at the end of the run, where its fault is another
-whole_by : {B : Type 0} (log : B → Option Log) (fault : Option RunFault) (running : RunningStage B) (ran : Ran B) → EndsBy log fault running ran → ran.fault ≢ Some faults.NoMemory → EndsWhole log fault running ran
-whole_by log fault running ran (inl ends) differs = ends
-whole_by log fault running ran (inr ends) differs = absurd (differs ends.fault_is)
-
--- a fault at which a run tells of its world isn't want of memory
-telling_differs : (fault other : Option RunFault) → fault ≡ other → tells other ≡ true → fault ≢ Some faults.NoMemory
-telling_differs fault other is has none = false≢true (sym (ap tells (sym is ∙ none)) ∙ has)
-
--- what is told, and what the banks keep, at such a fault
-pub ends_as : {B : Type 0} (log : B → Option Log) (fault : Option RunFault) (running : RunningStage B) (ran : Ran B) → EndsBy log fault running ran
-    → (other : Option RunFault) → ran.fault ≡ other → tells other ≡ true → (stage : Stage) → StageStands log running stage → EndsAs log ran stage
-ends_as log fault running ran ends other is has stage stands =
-    let whole : EndsWhole log fault running ran = whole_by log fault running ran ends (telling_differs ran.fault other is has) in
-    record { told = whole.told (ap tells (sym whole.fault_is ∙ is) ∙ has) stage stands; kept = whole.kept stage stands }
-
--- ---- how the replay ended, by the fault that the run ended by
-
-ok_by : {P : Type 0} (result : Result (Unit {0}) RunFault) (fault : Option RunFault) → fault ≡ result_err result → fault ≡ None → OnOk result P → P
-ok_by (Ok done) fault is none h = h
-ok_by (Err other) fault is none h = absurd (cc (is, none))
-
-err_by : (result : Result (Unit {0}) RunFault) (fault : Option RunFault) (other : RunFault) → fault ≡ result_err result → fault ≡ Some other → result ≡ Err other
-err_by (Ok done) fault other is same = absurd (cc (is, same))
-err_by (Err first) fault other is same = cc (is, same)
-
--- it ended by the run's fault, where that isn't want of memory
-replay_err : {B : Type 0} (log : B → Option Log) (result : Result (Unit {0}) RunFault) (fault : Option RunFault) (running : RunningStage B) (ran : Ran B) → fault ≡ result_err result → EndsBy log fault running ran
-    → (other : RunFault) → ran.fault ≡ Some other → ran.fault ≢ Some faults.NoMemory → result ≡ Err other
-replay_err log result fault running ran by ends other is differs =
-    let whole : EndsWhole log fault running ran = whole_by log fault running ran ends differs in
-    err_by result fault other by (sym whole.fault_is ∙ is)
+use Rattle.mld_replay.proofs.MeterLemmas.{quiet_none, back_later}
+use Rattle.mld_replay.proofs.RunLemmas.{front_first, front_as, front_any, whole_first}
 
 -- ---- an end of a run says the same of what is told and kept as of the state
 
@@ -101,95 +71,230 @@ breaks_as P Q bytes left before now holds ends = record {
   holds = holds ends.stage ends.holds;
 }
 
+unbuilt_as : (P Q : Stage → Type 0) (bytes : List ℕ) (line : ℕ) (before now : Option (List ℕ)) → ((stage : Stage) → P stage → Q stage) → StopsAtUnbuilt P bytes line before now → StopsAtUnbuilt Q bytes line before now
+unbuilt_as P Q bytes line before now holds ends = record {
+  text = ends.text;
+  stage = ends.stage;
+  verdict = ends.verdict;
+  fits = ends.fits;
+  written = ends.written;
+  holds = holds ends.stage ends.holds;
+}
+
+-- what is told and kept at an end, whatever the fault is
+ends_as : (P Told Kept : Stage → Type 0) (fault : Option RunFault) (bytes : List ℕ) (left before now : Option (List ℕ)) → (IsTrue (tells fault) → (stage : Stage) → P stage → Told stage)
+    → ((stage : Stage) → P stage → Kept stage) → EndsSo P P fault bytes left before now → EndsSo Told Kept fault bytes left before now
+ends_as P Told Kept None bytes left before now told kept ends = finishes_as P Told bytes left before now (told refl) ends
+ends_as P Told Kept (Some faults.Usage) bytes left before now told kept ends = ends
+ends_as P Told Kept (Some faults.ReadFault) bytes left before now told kept ends = breaks_as P Told bytes left before now (told refl) ends
+ends_as P Told Kept (Some faults.WriteFault) bytes left before now told kept ends = front_as P Kept bytes before now kept ends
+ends_as P Told Kept (Some (faults.BadLine line)) bytes left before now told kept ends = bad_as P Told bytes line before now (told refl) ends
+ends_as P Told Kept (Some faults.NoMemory) bytes left before now told kept ends = ends
+ends_as P Told Kept (Some (faults.Device clone)) bytes left before now told kept ends = ends
+ends_as P Told Kept (Some (faults.TooLarge line)) bytes left before now told kept ends = large_as P Told bytes line before now (told refl) ends
+ends_as P Told Kept (Some (faults.NotEmpty clone)) bytes left before now told kept ends = ends
+ends_as P Told Kept (Some (faults.Unbuilt line)) bytes left before now told kept ends = unbuilt_as P Kept bytes line before now kept ends
+
+-- ---- at each end a front of the text of a run was written
+
+-- the whole text is a front of itself
+all_written : (before after : Option (List ℕ)) (text : List ℕ) → Appends before after text → Appends before after (take (length text) text)
+all_written before after text written = subst (λ (t : List ℕ). Appends before after t) (sym (take_all (length text) text (omega arith))) written
+
+-- it is the text of the lines before a line
+front_before : (bytes : List ℕ) (number : ℕ) (text : List ℕ) (stage : Stage) (before after : Option (List ℕ)) → RunsBefore (lines_of bytes) number text stage → Appends before after text
+    → WritesFront (λ _. Unit {0}) bytes before after
+front_before bytes number text stage before after runs written =
+    record { lines = runs.front; rest = runs.rest; whole = runs.whole; text = text; stage = stage; runs = runs.runs; size = length text; written = all_written before after text written; holds = tt }
+
+-- or of all lines
+front_all : (bytes text : List ℕ) (world : World) (before after : Option (List ℕ)) → Verdict (lines_of bytes) (Finished text world) → Appends before after text → WritesFront (λ _. Unit {0}) bytes before after
+unfolding Verdict
+front_all bytes text world before after verdict written = record {
+  lines = lines_of bytes;
+  rest = [];
+  whole = sym (append-nil (lines_of bytes));
+  text = text;
+  stage = verdict.0;
+  runs = verdict.1;
+  size = length text;
+  written = all_written before after text written;
+  holds = tt;
+}
+
+-- or of those before the first that is bad or unbuilt
+
+front_bad : (bytes : List ℕ) (number : ℕ) (text : List ℕ) (stage : Stage) (before after : Option (List ℕ)) → Verdict (lines_of bytes) (BadLine number text stage) → Appends before after text
+    → WritesFront (λ _. Unit {0}) bytes before after
+unfolding Verdict
+front_bad bytes number text stage before after verdict written = front_before bytes number text stage before after verdict.before written
+
+front_unbuilt : (bytes : List ℕ) (number : ℕ) (text : List ℕ) (stage : Stage) (before after : Option (List ℕ)) → Verdict (lines_of bytes) (UnbuiltLine number text stage) → Appends before after text
+    → WritesFront (λ _. Unit {0}) bytes before after
+unfolding Verdict
+front_unbuilt bytes number text stage before after verdict written = front_before bytes number text stage before after verdict.before written
+
+-- or nothing was written
+front_none : (bytes : List ℕ) (before after : Option (List ℕ)) → after ≡ before → WritesFront (λ _. Unit {0}) bytes before after
+front_none bytes before after none = subst (λ (o : Option (List ℕ)). WritesFront (λ _. Unit {0}) bytes before o) (sym none) (front_first before bytes)
+
+front_of_end : (Told Kept : Stage → Type 0) (fault : Option RunFault) (bytes : List ℕ) (left before now : Option (List ℕ)) → EndsSo Told Kept fault bytes left before now
+    → WritesFront (λ _. Unit {0}) bytes before now
+front_of_end Told Kept None bytes left before now ends = front_all bytes ends.text ends.world before now ends.verdict ends.written
+front_of_end Told Kept (Some faults.Usage) bytes left before now ends = front_none bytes before now ends.none_written
+front_of_end Told Kept (Some faults.ReadFault) bytes left before now ends = front_before bytes (ends.lines + 1) ends.text ends.stage before now ends.done ends.written
+front_of_end Told Kept (Some faults.WriteFault) bytes left before now ends = front_any Kept bytes before now ends
+front_of_end Told Kept (Some (faults.BadLine line)) bytes left before now ends = front_bad bytes line ends.text ends.stage before now ends.verdict ends.written
+front_of_end Told Kept (Some faults.NoMemory) bytes left before now ends = ends
+front_of_end Told Kept (Some (faults.Device clone)) bytes left before now ends =
+    record { lines = ends.lines; rest = ends.rest; whole = ends.whole; text = ends.text; stage = ends.stage; runs = ends.runs; size = length ends.text; written = all_written before now ends.text ends.written; holds = tt }
+front_of_end Told Kept (Some (faults.TooLarge line)) bytes left before now ends = front_before bytes line ends.text ends.stage before now ends.done ends.written
+front_of_end Told Kept (Some (faults.NotEmpty clone)) bytes left before now ends = front_none bytes before now ends.none_written
+front_of_end Told Kept (Some (faults.Unbuilt line)) bytes left before now ends = front_unbuilt bytes line ends.text ends.stage before now ends.verdict ends.written
+
 -- ---- the clauses of the run, where it came to the replay
 
-pub finishes_by : {B : Type 0} (log : B → Option Log) (result : Result (Unit {0}) RunFault) (fault : Option RunFault) (running : RunningStage B) (ran : Ran B) (given left before now : Option (List ℕ))
-    → fault ≡ result_err result → EndsBy log fault running ran → OnOk result ((bytes : List ℕ) → given ≡ Some bytes → Finishes (StageStands log running) bytes left before now)
-    → ran.fault ≡ None → (bytes : List ℕ) → given ≡ Some bytes → Finishes (EndsAs log ran) bytes left before now
-finishes_by log result fault running ran given left before now by ends finished is bytes told =
-    let whole : EndsWhole log fault running ran = whole_by log fault running ran ends (λ none. cc (is, none)) in
-    finishes_as (StageStands log running) (EndsAs log ran) bytes left before now (ends_as log fault running ran ends None is refl)
-    (ok_by result fault by (sym whole.fault_is ∙ is) finished bytes told)
+module _ {B : Type 0} (log : B → Option Log) (fault : Option RunFault) (running : RunningStage B) (ran : Ran B) where
+  pub ends_by : (bytes : List ℕ) (left before now : Option (List ℕ)) → EndsBy log fault running ran → EndsSo (StageStands log running) (StageStands log running) fault bytes left before now
+      → EndsSo (EndsAs log ran) (BanksKeep log ran.banks.items) ran.fault bytes left before now
+  ends_by bytes left before now (inl whole) ends =
+      subst (λ (f : Option RunFault). EndsSo (EndsAs log ran) (BanksKeep log ran.banks.items) f bytes left before now) (sym whole.fault_is)
+      (ends_as (StageStands log running) (EndsAs log ran) (BanksKeep log ran.banks.items) fault bytes left before now
+      (λ has stage stands. record { told = whole.told has stage stands; kept = whole.kept stage stands }) whole.kept ends)
+  ends_by bytes left before now (inr short) ends =
+      subst (λ (f : Option RunFault). EndsSo (EndsAs log ran) (BanksKeep log ran.banks.items) f bytes left before now) (sym short.fault_is)
+      (front_of_end (StageStands log running) (StageStands log running) fault bytes left before now ends)
 
-pub bad_by : {B : Type 0} (log : B → Option Log) (result : Result (Unit {0}) RunFault) (fault : Option RunFault) (running : RunningStage B) (ran : Ran B) (given before now : Option (List ℕ))
-    → fault ≡ result_err result → EndsBy log fault running ran
-    → ((line : ℕ) → result ≡ Err (faults.BadLine line) → (bytes : List ℕ) → given ≡ Some bytes → StopsAtBad (StageStands log running) bytes line before now)
-    → (line : ℕ) → ran.fault ≡ Some (faults.BadLine line) → (bytes : List ℕ) → given ≡ Some bytes → StopsAtBad (EndsAs log ran) bytes line before now
-bad_by log result fault running ran given before now by ends bad line is bytes told =
-    bad_as (StageStands log running) (EndsAs log ran) bytes line before now (ends_as log fault running ran ends (Some (faults.BadLine line)) is refl)
-    (bad line (replay_err log result fault running ran by ends (faults.BadLine line) is (λ none. cc (is, none))) bytes told)
+  -- the meters of the banks go on
+  pub back_by : (meter : B → Meter) (banks blanks : List B) → EndsBy log fault running ran → MetersGoOn meter banks blanks → AreQuiet meter banks blanks
+      → BringsBack meter blanks (banks_of_stage running) fault → BringsBack meter banks ran.banks.items ran.fault
+  back_by meter banks blanks (inl whole) goes quiet back =
+      subst (λ (f : Option RunFault). BringsBack meter banks ran.banks.items f) (sym whole.fault_is)
+      (subst (λ (l : List B). BringsBack meter banks l fault) (sym whole.banks_are) (back_later meter banks blanks (banks_of_stage running) fault goes quiet back))
+  back_by meter banks blanks (inr short) goes quiet back = record {
+    meters = λ differs. absurd (differs short.fault_is);
+    real_faults = subst (λ (f : Option RunFault). HasRunFaults meter banks ran.banks.items f) (sym short.fault_is) (quiet_none meter banks ran.banks.items short.banks_are);
+  }
 
-pub large_by : {B : Type 0} (log : B → Option Log) (result : Result (Unit {0}) RunFault) (fault : Option RunFault) (running : RunningStage B) (ran : Ran B) (given before now : Option (List ℕ))
-    → fault ≡ result_err result → EndsBy log fault running ran
-    → ((line : ℕ) → result ≡ Err (faults.TooLarge line) → (bytes : List ℕ) → given ≡ Some bytes → StopsAtLarge (StageStands log running) bytes line before now)
-    → (line : ℕ) → ran.fault ≡ Some (faults.TooLarge line) → (bytes : List ℕ) → given ≡ Some bytes → StopsAtLarge (EndsAs log ran) bytes line before now
-large_by log result fault running ran given before now by ends large line is bytes told =
-    large_as (StageStands log running) (EndsAs log ran) bytes line before now (ends_as log fault running ran ends (Some (faults.TooLarge line)) is refl)
-    (large line (replay_err log result fault running ran by ends (faults.TooLarge line) is (λ none. cc (is, none))) bytes told)
+  -- what want of memory at the end leaves open is left open
+  pub said_by : (P : Option RunFault → Type 0) → EndsBy log fault running ran → P (Some faults.NoMemory) → P fault → P ran.fault
+  said_by P (inl whole) memory holds = subst P (sym whole.fault_is) holds
+  said_by P (inr short) memory holds = subst P (sym short.fault_is) memory
 
-pub breaks_off_by : {B : Type 0} (log : B → Option Log) (result : Result (Unit {0}) RunFault) (fault : Option RunFault) (running : RunningStage B) (ran : Ran B) (given left before now : Option (List ℕ))
-    → fault ≡ result_err result → EndsBy log fault running ran
-    → (result ≡ Err faults.ReadFault → (bytes : List ℕ) → given ≡ Some bytes → BreaksOff (StageStands log running) bytes left before now)
-    → ran.fault ≡ Some faults.ReadFault → (bytes : List ℕ) → given ≡ Some bytes → BreaksOff (EndsAs log ran) bytes left before now
-breaks_off_by log result fault running ran given left before now by ends breaks is bytes told =
-    breaks_as (StageStands log running) (EndsAs log ran) bytes left before now (ends_as log fault running ran ends (Some faults.ReadFault) is refl)
-    (breaks (replay_err log result fault running ran by ends faults.ReadFault is (λ none. cc (is, none))) bytes told)
+-- a fault of a replay is of neither kind that comes before
 
--- the text is whole where a device failed
-pub failed_by : {B : Type 0} (log : B → Option Log) (result : Result (Unit {0}) RunFault) (fault : Option RunFault) (running : RunningStage B) (ran : Ran B) (given before now : Option (List ℕ))
-    → fault ≡ result_err result → EndsBy log fault running ran
-    → ((clone : ℕ) → result ≡ Err (faults.Device clone) → (bytes : List ℕ) → given ≡ Some bytes → WritesWhole bytes before now)
-    → (clone : ℕ) → ran.fault ≡ Some (faults.Device clone) → (bytes : List ℕ) → given ≡ Some bytes → WritesWhole bytes before now
-failed_by log result fault running ran given before now by ends failed clone is bytes told =
-    failed clone (replay_err log result fault running ran by ends (faults.Device clone) is (λ none. cc (is, none))) bytes told
+replay_fault : (result : Result (Unit {0}) RunFault) → IfErr result IsReplayFault → IfSome (result_err result) IsReplayFault
+replay_fault (Ok done) begun = tt
+replay_fault (Err fault) begun = begun
 
--- and its banks had a fault
-pub device_by : {B : Type 0} (log : B → Option Log) (meter : B → Meter) (result : Result (Unit {0}) RunFault) (fault : Option RunFault) (running : RunningStage B) (ran : Ran B) (banks blanks : List B)
-    → fault ≡ result_err result → EndsBy log fault running ran → MetersGoOn meter banks blanks
-    → ((clone : ℕ) → result ≡ Err (faults.Device clone) → HasFailed meter clone blanks (banks_of_stage running))
-    → (clone : ℕ) → ran.fault ≡ Some (faults.Device clone) → HasFailed meter clone banks ran.banks.items
-device_by {B = B} log meter result fault running ran banks blanks by ends goes device clone is =
-    let differs : ran.fault ≢ Some faults.NoMemory = λ none. cc (is, none) in
-    let whole : EndsWhole log fault running ran = whole_by log fault running ran ends differs in
-    let P : List B → Type 0 = λ b. HasFailed meter clone banks b in
-    subst P (sym whole.banks_are) (failed_later meter clone banks blanks (banks_of_stage running) goes (device clone (replay_err log result fault running ran by ends (faults.Device clone) is differs)))
+pub replay_alone : (result : Result (Unit {0}) RunFault) (Untouched SameBanks : Type 0) → IfErr result IsReplayFault → LeavesAlone (result_err result) Untouched SameBanks
+replay_alone result Untouched SameBanks begun = alone (result_err result) (replay_fault result begun)
+  where
+    alone : (fault : Option RunFault) → IfSome fault IsReplayFault → LeavesAlone fault Untouched SameBanks
+    alone (Some faults.Usage) begun = absurd begun
+    alone (Some (faults.NotEmpty clone)) begun = absurd begun
+    alone fault begun = tt
 
--- the meters of the banks go on
-pub back_by : {B : Type 0} (log : B → Option Log) (meter : B → Meter) (result : Result (Unit {0}) RunFault) (fault : Option RunFault) (running : RunningStage B) (ran : Ran B) (banks blanks : List B)
-    → fault ≡ result_err result → EndsBy log fault running ran → MetersGoOn meter banks blanks
-    → ((result ≢ Err faults.NoMemory) → MetersGoOn meter blanks (banks_of_stage running))
-    → ran.fault ≢ Some faults.NoMemory → MetersGoOn meter banks ran.banks.items
-back_by {B = B} log meter result fault running ran banks blanks by ends goes meters differs =
-    let whole : EndsWhole log fault running ran = whole_by log fault running ran ends differs in
-    let P : List B → Type 0 = λ b. MetersGoOn meter banks b in
-    subst P (sym whole.banks_are) (meters_then meter banks blanks (banks_of_stage running) goes
-    (meters (λ is. differs (whole.fault_is ∙ by ∙ ap (λ (r : Result (Unit {0}) RunFault). result_err r) is))))
+pub replay_not_usage : (result : Result (Unit {0}) RunFault) → IfErr result IsReplayFault → result_err result ≢ Some faults.Usage
+replay_not_usage (Ok done) begun is = absurd (cc (is))
+replay_not_usage (Err fault) begun is = let same : fault ≡ faults.Usage = cc (is) in absurd (subst IsReplayFault same begun)
 
--- the fault of the replay agrees with the verdict
-agrees_replay : (result : Result (Unit {0}) RunFault) (P : Stage → Type 0) (bytes : List ℕ) (left before now : Option (List ℕ)) → OnOk result (Finishes P bytes left before now)
-    → (result ≢ Err faults.Usage) → ((line : ℕ) → result ≡ Err (faults.BadLine line) → StopsAtBad P bytes line before now)
-    → ((line : ℕ) → result ≡ Err (faults.Unbuilt line) → StopsAtUnbuilt bytes line before now)
-    → (outcome : Outcome) → Verdict (lines_of bytes) outcome → Agrees (result_err result) outcome
-agrees_replay (Ok done) P bytes left before now finished usage bad unbuilt outcome verdict = agrees_finished P bytes left before now finished outcome verdict
-agrees_replay (Err fault) P bytes left before now finished usage bad unbuilt outcome verdict =
-    agrees_fault P bytes before now fault (λ is. usage (err_same fault faults.Usage is)) (λ line is. bad line (err_same fault (faults.BadLine line) is))
-    (λ line is. unbuilt line (err_same fault (faults.Unbuilt line) is)) outcome verdict
+pub replay_not_filled : (result : Result (Unit {0}) RunFault) (clone : ℕ) → IfErr result IsReplayFault → result_err result ≢ Some (faults.NotEmpty clone)
+replay_not_filled (Ok done) clone begun is = absurd (cc (is))
+replay_not_filled (Err fault) clone begun is = let same : fault ≡ faults.NotEmpty clone = cc (is) in absurd (subst IsReplayFault same begun)
 
-pub agrees_by : {B : Type 0} (log : B → Option Log) (result : Result (Unit {0}) RunFault) (fault : Option RunFault) (running : RunningStage B) (ran : Ran B) (given left before now : Option (List ℕ))
-    → fault ≡ result_err result → EndsBy log fault running ran
-    → OnOk result ((bytes : List ℕ) → given ≡ Some bytes → Finishes (StageStands log running) bytes left before now) → (result ≢ Err faults.Usage)
-    → ((line : ℕ) → result ≡ Err (faults.BadLine line) → (bytes : List ℕ) → given ≡ Some bytes → StopsAtBad (StageStands log running) bytes line before now)
-    → ((line : ℕ) → result ≡ Err (faults.Unbuilt line) → (bytes : List ℕ) → given ≡ Some bytes → StopsAtUnbuilt bytes line before now)
-    → (bytes : List ℕ) → given ≡ Some bytes → (outcome : Outcome) → Verdict (lines_of bytes) outcome → Agrees ran.fault outcome
-agrees_by log result fault running ran given left before now by (inl ends) finished usage bad unbuilt bytes told outcome verdict =
-    let P : Option RunFault → Type 0 = λ f. Agrees f outcome in
-    subst P (sym (ends.fault_is ∙ by)) (agrees_replay result (StageStands log running) bytes left before now
-    (on_ok result (λ (h : (bytes : List ℕ) → given ≡ Some bytes → Finishes (StageStands log running) bytes left before now). h bytes told) finished) usage
-    (λ line is. bad line is bytes told) (λ line is. unbuilt line is bytes told) outcome verdict)
-agrees_by log result fault running ran given left before now by (inr ends) finished usage bad unbuilt bytes told outcome verdict =
-    let P : Option RunFault → Type 0 = λ f. Agrees f outcome in subst P (sym ends.fault_is) tt
+-- the run agrees with the verdict
+pub agrees_so : (Told Kept : Stage → Type 0) (fault : Option RunFault) (bytes : List ℕ) (left before now : Option (List ℕ)) → EndsSo Told Kept fault bytes left before now
+    → fault ≢ Some faults.Usage → (outcome : Outcome) → Verdict (lines_of bytes) outcome → Agrees fault outcome
+agrees_so Told Kept None bytes left before now ends usage outcome verdict =
+    subst (λ (o : Outcome). Agrees None o) (one_verdict (lines_of bytes) (Finished ends.text ends.world) outcome ends.verdict verdict) tt
+agrees_so Told Kept (Some faults.Usage) bytes left before now ends usage outcome verdict = absurd (usage refl)
+agrees_so Told Kept (Some (faults.BadLine line)) bytes left before now ends usage outcome verdict =
+    subst (λ (o : Outcome). Agrees (Some (faults.BadLine line)) o) (one_verdict (lines_of bytes) (BadLine line ends.text ends.stage) outcome ends.verdict verdict) refl
+agrees_so Told Kept (Some (faults.Unbuilt line)) bytes left before now ends usage outcome verdict =
+    subst (λ (o : Outcome). Agrees (Some (faults.Unbuilt line)) o) (one_verdict (lines_of bytes) (UnbuiltLine line ends.text ends.stage) outcome ends.verdict verdict) refl
+agrees_so Told Kept (Some faults.ReadFault) bytes left before now ends usage outcome verdict = tt
+agrees_so Told Kept (Some faults.WriteFault) bytes left before now ends usage outcome verdict = tt
+agrees_so Told Kept (Some faults.NoMemory) bytes left before now ends usage outcome verdict = tt
+agrees_so Told Kept (Some (faults.Device clone)) bytes left before now ends usage outcome verdict = tt
+agrees_so Told Kept (Some (faults.TooLarge line)) bytes left before now ends usage outcome verdict = tt
+agrees_so Told Kept (Some (faults.NotEmpty clone)) bytes left before now ends usage outcome verdict = tt
 
--- ---- where it did not
+-- ---- where it did not come to the replay
+
+pub left_alone : {S K : Type 0} (source : S) (sink : K) → AreUntouched source source sink sink
+left_alone source sink = record { source_is = refl; sink_is = refl }
+
+pub not_begun : (bytes : List ℕ) (given before : Option (List ℕ)) → given ≡ Some bytes → HasNotBegun bytes given before before
+not_begun bytes given before told = record { all_left = told; none_written = refl }
+
+-- the faults of banks before the first line
+abbrev pub IsBankFault : RunFault → Type 0
+IsBankFault (faults.NotEmpty clone) = Unit {0}
+IsBankFault (faults.Device clone) = Unit {0}
+IsBankFault faults.NoMemory = Unit {0}
+IsBankFault fault = ⊥
+
+pub looking_fault : {B : Type 0} (log : B → Option Log) (banks : List B) (fault : RunFault) → StopsLooking log banks fault → IsBankFault fault
+looking_fault log banks (faults.NotEmpty clone) stops = tt
+looking_fault log banks (faults.Device clone) stops = tt
+looking_fault log banks faults.NoMemory stops = tt
+looking_fault log banks fault stops = absurd stops
+
+pub blanking_fault : {B : Type 0} (meter : B → Meter) (banks back : List B) (fault : RunFault) → StopsBlanking meter banks fault back → IsBankFault fault
+blanking_fault meter banks back (faults.Device clone) stops = tt
+blanking_fault meter banks back faults.NoMemory stops = tt
+blanking_fault meter banks back fault stops = absurd stops
+
+module _ (fault : RunFault) (banks : IsBankFault fault) where
+  pub bank_ends : (Told Kept : Stage → Type 0) (of : Option RunFault) (given before : Option (List ℕ)) (bytes : List ℕ) → of ≡ Some fault → given ≡ Some bytes
+      → EndsSo Told Kept of bytes given before before
+  bank_ends Told Kept of given before bytes is told = subst (λ (f : Option RunFault). EndsSo Told Kept f bytes given before before) (sym is) (at fault banks)
+    where
+      at : (fault : RunFault) → IsBankFault fault → EndsSo Told Kept (Some fault) bytes given before before
+      at (faults.NotEmpty clone) banks = not_begun bytes given before told
+      at (faults.Device clone) banks = whole_first before bytes
+      at faults.NoMemory banks = front_first before bytes
+      at fault banks = absurd banks
+
+  pub bank_alone : (Untouched SameBanks : Type 0) → Untouched → LeavesAlone (Some fault) Untouched SameBanks
+  bank_alone Untouched SameBanks untouched = at fault banks
+    where
+      at : (fault : RunFault) → IsBankFault fault → LeavesAlone (Some fault) Untouched SameBanks
+      at (faults.NotEmpty clone) banks = untouched
+      at (faults.Device clone) banks = tt
+      at faults.NoMemory banks = tt
+      at fault banks = absurd banks
+
+  pub bank_reads : (count : ℕ) → CountsReads count count (Some fault)
+  bank_reads count = at fault banks
+    where
+      at : (fault : RunFault) → IsBankFault fault → CountsReads count count (Some fault)
+      at (faults.NotEmpty clone) banks = refl
+      at (faults.Device clone) banks = refl
+      at faults.NoMemory banks = tt
+      at fault banks = absurd banks
+
+  pub bank_writes : (count : ℕ) → CountsWrites count count (Some fault)
+  bank_writes count = at fault banks
+    where
+      at : (fault : RunFault) → IsBankFault fault → CountsWrites count count (Some fault)
+      at (faults.NotEmpty clone) banks = refl
+      at (faults.Device clone) banks = refl
+      at faults.NoMemory banks = tt
+      at fault banks = absurd banks
+
+  pub bank_not_usage : Some fault ≢ Some faults.Usage
+  bank_not_usage is = let same : fault ≡ faults.Usage = cc (is) in absurd (subst IsBankFault same banks)
+
+  pub bank_agrees : (outcome : Outcome) → Agrees (Some fault) outcome
+  bank_agrees outcome = at fault banks
+    where
+      at : (fault : RunFault) → IsBankFault fault → Agrees (Some fault) outcome
+      at (faults.NotEmpty clone) banks = tt
+      at (faults.Device clone) banks = tt
+      at faults.NoMemory banks = tt
+      at fault banks = absurd banks
 
 -- the first banks that have bytes are one
 one_filled : {B : Type 0} (log : B → Option Log) (banks : List B) (one other : ℕ) → IsFirstFilled log banks one → IsFirstFilled log banks other → one ≡ other
@@ -202,53 +307,58 @@ one_filled log banks one other first second = elim (cases_lt one other) [
 ]
 
 -- a run that stopped looking at its banks ended before
-pub ends_before : {B : Type 0} (log : B → Option Log) (meter : B → Meter) (old new : List B) (fault : RunFault) (number : ℕ) → StopsLooking log meter old new fault → IsFirstFilled log old number
-    → EndsBefore (Some fault) number
-ends_before log meter old new faults.Usage number stops first = tt
-ends_before log meter old new faults.ReadFault number stops first = absurd stops
-ends_before log meter old new faults.WriteFault number stops first = absurd stops
-ends_before log meter old new (faults.BadLine line) number stops first = absurd stops
-ends_before log meter old new faults.NoMemory number stops first = tt
-ends_before log meter old new (faults.Device clone) number stops first = tt
-ends_before log meter old new (faults.TooLarge line) number stops first = absurd stops
-ends_before log meter old new (faults.NotEmpty clone) number stops first = one_filled log old clone number stops first
-ends_before log meter old new (faults.Unbuilt line) number stops first = absurd stops
+ends_before : {B : Type 0} (log : B → Option Log) (banks : List B) (fault : RunFault) (number : ℕ) → StopsLooking log banks fault → IsFirstFilled log banks number → EndsBefore (Some fault) number
+ends_before log banks faults.NoMemory number stops first = tt
+ends_before log banks (faults.NotEmpty clone) number stops first = one_filled log banks clone number stops first
+ends_before log banks (faults.Device clone) number stops first = elim (cases_lt number clone) [
+  | inl below ↦ absurd (stops number first.one below first.at first.filled)
+  | inr above ↦ above
+]
+ends_before log banks fault number stops first = absurd stops
 
--- banks that were not made blanks had a fault
-blanking_failed : {B : Type 0} (meter : B → Meter) (banks : List B) (fault : RunFault) (back : List B) (clone : ℕ) → StopsBlanking meter banks fault back → fault ≡ faults.Device clone → HasFailed meter clone banks back
-blanking_failed meter banks faults.Usage back clone stops is = absurd stops
-blanking_failed meter banks faults.ReadFault back clone stops is = absurd stops
-blanking_failed meter banks faults.WriteFault back clone stops is = absurd stops
-blanking_failed meter banks (faults.BadLine line) back clone stops is = absurd stops
-blanking_failed meter banks faults.NoMemory back clone stops is = absurd (cc (is))
-blanking_failed meter banks (faults.Device at) back clone stops is =
-    let same : at ≡ clone = cc (is) in let P : ℕ → Type 0 = λ n. HasFailed meter n banks back in subst P same stops.1
-blanking_failed meter banks (faults.TooLarge line) back clone stops is = absurd stops
-blanking_failed meter banks (faults.NotEmpty at) back clone stops is = absurd stops
-blanking_failed meter banks (faults.Unbuilt line) back clone stops is = absurd stops
+looking_names : {B : Type 0} (log : B → Option Log) (banks : List B) (fault : RunFault) (clone : ℕ) → StopsLooking log banks fault → Some fault ≡ Some (faults.NotEmpty clone) → IsFirstFilled log banks clone
+looking_names log banks fault clone stops is = let same : fault ≡ faults.NotEmpty clone = cc (is) in subst (λ (f : RunFault). StopsLooking log banks f) same stops
 
--- and their meters go on, where memory did not run out
-blanking_back : {B : Type 0} (meter : B → Meter) (banks : List B) (fault : RunFault) (back : List B) → StopsBlanking meter banks fault back → fault ≢ faults.NoMemory → MetersGoOn meter banks back
-blanking_back meter banks faults.Usage back stops differs = absurd stops
-blanking_back meter banks faults.ReadFault back stops differs = absurd stops
-blanking_back meter banks faults.WriteFault back stops differs = absurd stops
-blanking_back meter banks (faults.BadLine line) back stops differs = absurd stops
-blanking_back meter banks faults.NoMemory back stops differs = absurd (differs refl)
-blanking_back meter banks (faults.Device at) back stops differs = stops.0
-blanking_back meter banks (faults.TooLarge line) back stops differs = absurd stops
-blanking_back meter banks (faults.NotEmpty at) back stops differs = absurd stops
-blanking_back meter banks (faults.Unbuilt line) back stops differs = absurd stops
+pub looking_heeds : {B : Type 0} (log : B → Option Log) (old new : List B) (fault : RunFault) (Untouched : Type 0) → StopsLooking log old fault → LogsStay log old new → Untouched
+    → HeedsFilled log old new (Some fault) Untouched
+looking_heeds log old new fault Untouched stops logs untouched = record {
+  names = λ clone is. looking_names log old fault clone stops is;
+  ends = λ clone first. ends_before log old fault clone stops first;
+  untouched = λ clone first. untouched;
+  logs = λ clone first. logs;
+}
 
--- so it is of a run that ended so, since the banks were handed in
-pub refused_device : {B : Type 0} (meter : B → Meter) (banks looked : List B) (fault : RunFault) (back : List B) (ran : Ran B) → ran.fault ≡ Some fault → ran.banks.items ≡ back → MetersGoOn meter banks looked
-    → StopsBlanking meter looked fault back → (clone : ℕ) → ran.fault ≡ Some (faults.Device clone) → HasFailed meter clone banks ran.banks.items
-refused_device {B = B} meter banks looked fault back ran fault_is back_is goes stops clone is =
-    let P : List B → Type 0 = λ b. HasFailed meter clone banks b in
-    let same : fault ≡ faults.Device clone = cc (fault_is, is) in
-    subst P (sym back_is) (failed_later meter clone banks looked back goes (blanking_failed meter looked fault back clone stops same))
+-- no banks have bytes
+pub empty_heeds : {B : Type 0} (log : B → Option Log) (old new : List B) (fault : Option RunFault) (Untouched : Type 0) → AreEmpty log old → ((clone : ℕ) → fault ≢ Some (faults.NotEmpty clone))
+    → HeedsFilled log old new fault Untouched
+empty_heeds log old new fault Untouched empty differs = record {
+  names = λ clone is. absurd (differs clone is);
+  ends = λ clone first. absurd (empty clone first.one first.at first.filled);
+  untouched = λ clone first. absurd (empty clone first.one first.at first.filled);
+  logs = λ clone first. absurd (empty clone first.one first.at first.filled);
+}
 
-pub refused_back : {B : Type 0} (meter : B → Meter) (banks looked : List B) (fault : RunFault) (back : List B) (ran : Ran B) → ran.fault ≡ Some fault → ran.banks.items ≡ back → MetersGoOn meter banks looked
-    → StopsBlanking meter looked fault back → ran.fault ≢ Some faults.NoMemory → MetersGoOn meter banks ran.banks.items
-refused_back {B = B} meter banks looked fault back ran fault_is back_is goes stops differs =
-    let P : List B → Type 0 = λ b. MetersGoOn meter banks b in
-    subst P (sym back_is) (meters_then meter banks looked back goes (blanking_back meter looked fault back stops (λ is. differs (fault_is ∙ ap (λ (f : RunFault). Some f) is))))
+pub blanking_not_filled : {B : Type 0} (meter : B → Meter) (banks back : List B) (fault : RunFault) → StopsBlanking meter banks fault back → (clone : ℕ) → Some fault ≢ Some (faults.NotEmpty clone)
+blanking_not_filled meter banks back fault stops clone is = let same : fault ≡ faults.NotEmpty clone = cc (is) in absurd (subst (λ (f : RunFault). StopsBlanking meter banks f back) same stops)
+
+-- the words are others, and nothing was called
+pub usage_heeds : {B : Type 0} (log : B → Option Log) (banks : List B) (Untouched : Type 0) → Untouched → HeedsFilled log banks banks (Some faults.Usage) Untouched
+usage_heeds {B = B} log banks Untouched untouched = record {
+  names = λ clone is. absurd (cc (is));
+  ends = λ clone first. tt;
+  untouched = λ clone first. untouched;
+  logs = λ clone first number was now was_at now_at. ap log (one_is (sym now_at ∙ was_at));
+}
+  where
+    one_is : {one other : B} → ◌≡◌ {A = Option B} (Some one) (Some other) → one ≡ other
+    one_is same = cc
+
+-- banks that were not made blanks
+blanking_back : {B : Type 0} (meter : B → Meter) (banks back : List B) (fault : RunFault) → StopsBlanking meter banks fault back → BringsBack meter banks back (Some fault)
+blanking_back meter banks back faults.NoMemory stops = record { meters = λ differs. absurd (differs refl); real_faults = quiet_none meter banks back stops }
+blanking_back meter banks back (faults.Device clone) stops = record { meters = λ differs. stops.0; real_faults = stops.1 }
+blanking_back meter banks back fault stops = absurd stops
+
+pub refused_back : {B : Type 0} (meter : B → Meter) (banks looked back : List B) (fault : RunFault) → MetersGoOn meter banks looked → AreQuiet meter banks looked → StopsBlanking meter looked fault back
+    → BringsBack meter banks back (Some fault)
+refused_back meter banks looked back fault goes quiet stops = back_later meter banks looked back (Some fault) goes quiet (blanking_back meter looked back fault stops)

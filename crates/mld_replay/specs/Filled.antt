@@ -1,9 +1,9 @@
 -- Banks that have bytes before a run begins.
-use Rattle.std.specs.Prelude.{◌≡◌, ◌<◌, ◌⊎◌, ℕ, List, [], Option, Some, length, slice_get}
+use Rattle.std.specs.Prelude.{◌≡◌, ◌<◌, ◌≤◌, ◌⊎◌, ℕ, List, [], Option, Some, length, slice_get}
 use Rattle.mld_io.specs.Arm.{Meter, Unarmed}
 use Rattle.mld_io.specs.Disk.{Log, Sides, seen}
 use Rattle.mld_io.specs.Faults.{Rose}
-use Rattle.net_world.specs.WorldBanks.{MetersGoOn, HasFailed}
+use Rattle.net_world.specs.WorldBanks.{MetersGoOn, IsQuiet, HasFailed}
 use Rattle.mld_replay.specs.declared.run.RunFault.{RunFault}
 use Rattle.mld_replay.specs.declared.run.RunFault.TheVariants as faults
 
@@ -24,14 +24,27 @@ pub record IsFirstFilled {B : Type 0} (log : B → Option Log) (banks : List B) 
   pub filled : IsFilled (log one)
   pub before : (other : ℕ) (empty : B) → other < number → slice_get banks other ≡ Some empty → ¬ IsFilled (log empty)
 
--- how a run ends that has such banks: its words are none that it knows, it tells of them, or the device of some failed before, or
--- memory ran out
+-- how a run ends that has such banks: its words are none that it knows, it tells of them, the device of these or of some before them
+-- failed, or memory ran out
 abbrev pub EndsBefore : Option RunFault → ℕ → Type 0
 EndsBefore (Some faults.Usage) number = Unit {0}
 EndsBefore (Some (faults.NotEmpty clone)) number = clone ≡ number
-EndsBefore (Some (faults.Device clone)) number = Unit {0}
+EndsBefore (Some (faults.Device clone)) number = clone ≤ number
 EndsBefore (Some faults.NoMemory) number = Unit {0}
 EndsBefore fault number = ⊥
+
+-- each of these banks, by number, keeps the log that it had
+abbrev pub LogsStay : {B : Type 0} → (B → Option Log) → List B → List B → Type 0
+LogsStay {B = B} log old new = (number : ℕ) (was now : B) → slice_get old number ≡ Some was → slice_get new number ≡ Some now → log now ≡ log was
+
+-- What banks that have bytes make of a run. `Untouched` says that nothing was read or written.
+pub record HeedsFilled {B : Type 0} (log : B → Option Log) (old new : List B) (fault : Option RunFault) (Untouched : Type 0) : Type 0 where
+  -- it tells of the first of them, and only where there are such
+  pub names : (clone : ℕ) → fault ≡ Some (faults.NotEmpty clone) → IsFirstFilled log old clone
+  -- where there are, it ends before its first line, and changes no bank
+  pub ends : (clone : ℕ) → IsFirstFilled log old clone → EndsBefore fault clone
+  pub untouched : (clone : ℕ) → IsFirstFilled log old clone → Untouched
+  pub logs : (clone : ℕ) → IsFirstFilled log old clone → LogsStay log old new
 
 -- ---- the banks that a run begins with
 
@@ -43,20 +56,25 @@ AreEmpty {B = B} log banks = (number : ℕ) (one : B) → slice_get banks number
 abbrev pub HadFault : Meter → Meter → Type 0
 HadFault before now = before.arm ≡ Unarmed → Rose before.real_faults now.real_faults
 
--- why a look at the banks of this number stopped: they have bytes; or they had a real fault, where they were not armed; or memory ran out
+-- none of the banks before this number have bytes
+abbrev pub AreEmptyBefore : {B : Type 0} → (B → Option Log) → List B → ℕ → Type 0
+AreEmptyBefore {B = B} log banks number = (place : ℕ) (one : B) → place < number → slice_get banks place ≡ Some one → ¬ IsFilled (log one)
+
+-- why a look at the banks of this number stopped: they have bytes; or they had a real fault, where they were not armed, which no other
+-- answer hides; or memory ran out
 abbrev pub StopsLookingAt : ℕ → Option Log → Meter → Meter → RunFault → Type 0
-StopsLookingAt number log before now (faults.NotEmpty clone) = (clone ≡ number) × IsFilled log
+StopsLookingAt number log before now (faults.NotEmpty clone) = (clone ≡ number) × IsFilled log × IsQuiet before now
 StopsLookingAt number log before now (faults.Device clone) = (clone ≡ number) × HadFault before now
-StopsLookingAt number log before now faults.NoMemory = Unit {0}
+StopsLookingAt number log before now faults.NoMemory = IsQuiet before now
 StopsLookingAt number log before now fault = ⊥
 
--- why a look at the banks stopped: those of the number are the first that have bytes; or they had a real fault, where they were not
--- armed; or memory ran out
-abbrev pub StopsLooking : {B : Type 0} → (B → Option Log) → (B → Meter) → List B → List B → RunFault → Type 0
-StopsLooking log meter old new (faults.NotEmpty clone) = IsFirstFilled log old clone
-StopsLooking log meter old new (faults.Device clone) = HasFailed meter clone old new
-StopsLooking log meter old new faults.NoMemory = Unit {0}
-StopsLooking log meter old new fault = ⊥
+-- why a look at the banks stopped: those of the number are the first that have bytes; or it had come to them when their device failed; or
+-- memory ran out
+abbrev pub StopsLooking : {B : Type 0} → (B → Option Log) → List B → RunFault → Type 0
+StopsLooking log banks (faults.NotEmpty clone) = IsFirstFilled log banks clone
+StopsLooking log banks (faults.Device clone) = AreEmptyBefore log banks clone
+StopsLooking log banks faults.NoMemory = Unit {0}
+StopsLooking log banks fault = ⊥
 
 -- why banks were not made blanks: memory ran out, and none are given back; or those of the number had a real fault, and all are given
 -- back, in order

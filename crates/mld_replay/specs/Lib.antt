@@ -6,3 +6,4 @@ pub mod UnderWay
 pub mod Stops
 pub mod FaultTexts
 pub mod Filled
+pub mod BankFaults

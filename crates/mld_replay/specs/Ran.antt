@@ -55,6 +55,12 @@ IsWritingFault faults.WriteFault = Unit {0}
 IsWritingFault faults.NoMemory = Unit {0}
 IsWritingFault fault = ⊥
 
+-- the faults of a replay: its words are known, and its banks are empty
+abbrev pub IsReplayFault : RunFault → Type 0
+IsReplayFault faults.Usage = ⊥
+IsReplayFault (faults.NotEmpty clone) = ⊥
+IsReplayFault fault = Unit {0}
+
 -- the faults of a line: it is bad or unbuilt, a device failed, or there was want of memory
 abbrev pub IsLineFault : RunFault → Type 0
 IsLineFault (faults.Device clone) = Unit {0}
@@ -102,13 +108,15 @@ pub record StopsAtBad (P : Stage → Type 0) (bytes : List ℕ) (number : ℕ) (
   pub written : Appends before after text
   pub holds : P stage
 
--- the line of the number is the first unbuilt one, no line up to it is too large, and the text of the lines before it was written
-pub record StopsAtUnbuilt (bytes : List ℕ) (number : ℕ) (before after : Option (List ℕ)) : Type 0 where
+-- the line of the number is the first unbuilt one, no line up to it is too large, and the text of the lines before it was written;
+-- and this holds of the stage that they led to
+pub record StopsAtUnbuilt (P : Stage → Type 0) (bytes : List ℕ) (number : ℕ) (before after : Option (List ℕ)) : Type 0 where
   pub text : List ℕ
   pub stage : Stage
   pub verdict : Verdict (lines_of bytes) (UnbuiltLine number text stage)
   pub fits : (lines : ℕ) → lines < number → ¬ IsTooLargeLine bytes lines
   pub written : Appends before after text
+  pub holds : P stage
 
 -- the line of the number is the first that is too large, the lines before it are a run, and their text was written; and this
 -- holds of the stage that they led to
@@ -164,6 +172,49 @@ pub record WritesWhole (bytes : List ℕ) (before after : Option (List ℕ)) : T
   pub runs : Runs Waiting lines text stage
   pub written : Appends before after text
 
+-- none of these bytes was read, and nothing was written
+pub record HasNotBegun (bytes : List ℕ) (left before after : Option (List ℕ)) : Type 0 where
+  pub all_left : left ≡ Some bytes
+  pub none_written : after ≡ before
+
+-- How a run over these bytes ended, by its fault: what it did, what it left of them and what it wrote. `Told` is what is to hold of the
+-- stage that it came to where it tells of its world, and `Kept` where only its banks tell of that.
+abbrev pub EndsSo : (Told Kept : Stage → Type 0) → Option RunFault → List ℕ → Option (List ℕ) → Option (List ℕ) → Option (List ℕ) → Type 0
+EndsSo Told Kept None bytes left before after = Finishes Told bytes left before after
+EndsSo Told Kept (Some faults.Usage) bytes left before after = HasNotBegun bytes left before after
+EndsSo Told Kept (Some faults.ReadFault) bytes left before after = BreaksOff Told bytes left before after
+EndsSo Told Kept (Some faults.WriteFault) bytes left before after = WritesFront Kept bytes before after
+EndsSo Told Kept (Some (faults.BadLine line)) bytes left before after = StopsAtBad Told bytes line before after
+EndsSo Told Kept (Some faults.NoMemory) bytes left before after = WritesFront (λ _. Unit {0}) bytes before after
+EndsSo Told Kept (Some (faults.Device clone)) bytes left before after = WritesWhole bytes before after
+EndsSo Told Kept (Some (faults.TooLarge line)) bytes left before after = StopsAtLarge Told bytes line before after
+EndsSo Told Kept (Some (faults.NotEmpty clone)) bytes left before after = HasNotBegun bytes left before after
+EndsSo Told Kept (Some (faults.Unbuilt line)) bytes left before after = StopsAtUnbuilt Kept bytes line before after
+
+-- what a run leaves as it was, by its fault: source, sink and banks where its words are none that it knows, and source and sink where
+-- banks are not empty
+abbrev pub LeavesAlone : Option RunFault → (Untouched SameBanks : Type 0) → Type 0
+LeavesAlone (Some faults.Usage) Untouched SameBanks = Untouched × SameBanks
+LeavesAlone (Some (faults.NotEmpty clone)) Untouched SameBanks = Untouched
+LeavesAlone fault Untouched SameBanks = Unit {0}
+
+-- source and sink are as they were
+pub record AreUntouched {S K : Type 0} (source left : S) (sink held : K) : Type 0 where
+  pub source_is : left ≡ source
+  pub sink_is : held ≡ sink
+
+-- the count of the source's faults, by how a run ended: it rose where that is told, and else it is what it was, unless memory ran out
+abbrev pub CountsReads : ℕ → ℕ → Option RunFault → Type 0
+CountsReads before now (Some faults.ReadFault) = Rose before now
+CountsReads before now (Some faults.NoMemory) = Unit {0}
+CountsReads before now fault = now ≡ before
+
+-- so it is of the count of the sink's faults
+abbrev pub CountsWrites : ℕ → ℕ → Option RunFault → Type 0
+CountsWrites before now (Some faults.WriteFault) = Rose before now
+CountsWrites before now (Some faults.NoMemory) = Unit {0}
+CountsWrites before now fault = now ≡ before
+
 -- the run ended as the verdict says, or by a fault of reading, of writing or of a device, want of memory, a line that is too large, or
 -- banks that are not empty
 abbrev pub Agrees : Option RunFault → Outcome → Type 0
@@ -200,10 +251,11 @@ pub record EndsWhole {B : Type 0} (log : B → Option Log) (fault : Option RunFa
   pub banks_are : ran.banks.items ≡ banks_of_stage running
   pub kept : (stage : Stage) → StageStands log running stage → BanksKeep log ran.banks.items stage
 
--- memory ran out at the end of the run
+-- memory ran out at the end of the run, and no banks are given back
 pub record EndsShort {B : Type 0} (ran : Ran B) : Type 0 where
   pub fault_is : ran.fault ≡ Some faults.NoMemory
   pub silent : ran.world ≡ None
+  pub banks_are : ran.banks.items ≡ []
 
 -- the run ended by this fault, or memory ran out over that
 abbrev pub EndsBy : {B : Type 0} → (B → Option Log) → Option RunFault → RunningStage B → Ran B → Type 0

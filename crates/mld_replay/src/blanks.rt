@@ -1,9 +1,11 @@
 //! The banks that a run begins with: none of them has a byte.
 ghost use Rattle.std.specs.Prelude.{◌≡◌, ◌<◌, ◌+◌, ◌≤◌, ◌++◌, ◌∷◌, ◌↔◌, [], Some, IsTrue, length, vec_len, vec_capacity, OnOk, IfOk, IfErr, IfSome};
+ghost use Rattle.std.specs.Result.{result_err};
 ghost use Rattle.mld_io.specs.Disk.{Log, bytes_of, seen};
 ghost use Rattle.mld_model.specs.World.{clone_count};
-ghost use Rattle.net_world.specs.WorldBanks.{GoesOn, MetersGoOn};
-ghost use Rattle.mld_replay.specs.Filled.{IsFilled, AreEmpty, HadFault, StopsLookingAt, StopsLooking, StopsBlanking};
+ghost use Rattle.net_world.specs.WorldBanks.{GoesOn, MetersGoOn, IsQuiet, AreQuiet};
+ghost use Rattle.mld_replay.specs.BankFaults.{HasRunFaults};
+ghost use Rattle.mld_replay.specs.Filled.{IsFilled, AreEmpty, HadFault, LogsStay, StopsLookingAt, StopsLooking, StopsBlanking};
 
 use crate::run::RunFault;
 use clone_core::{MldClone, Mounted};
@@ -16,11 +18,11 @@ use std::thread::Threads;
 /// Looks at each side of the banks, in order, for one that has bytes.
 pub fn find_filled<B: CrashBanks>(banks: &mut Vec<B>) -> Result<(), RunFault>
     requires { vec_len banks.old ≡ clone_count }
-    ensures count { vec_len banks.new ≡ vec_len banks.old }
-    ensures empty { OnOk result (AreEmpty B.log banks.new.items) }
+    ensures logs { LogsStay B.log banks.old.items banks.new.items }
     ensures meters { MetersGoOn B.meter banks.old.items banks.new.items }
-    ensures filled { OnOk result (AreEmpty B.log banks.old.items) }
-    ensures err { IfErr result (StopsLooking B.log B.meter banks.old.items banks.new.items) }
+    ensures faults { HasRunFaults B.meter banks.old.items banks.new.items (result_err result) }
+    ensures ok { OnOk result (AreEmpty B.log banks.old.items) }
+    ensures err { IfErr result (StopsLooking B.log banks.old.items) }
 {
     let mut number = 0;
     while number < banks.len() {
@@ -35,6 +37,7 @@ fn look_at<B: CrashBanks>(banks: &mut B, number: u8) -> Result<(), RunFault>
     ensures log { B.log banks.new ≡ B.log banks.old }
     ensures empty { OnOk result (¬ IsFilled (B.log banks.old)) }
     ensures meter { GoesOn (B.meter banks.old) (B.meter banks.new) }
+    ensures quiet { OnOk result (IsQuiet (B.meter banks.old) (B.meter banks.new)) }
     ensures err { IfErr result (StopsLookingAt number (B.log banks.old) (B.meter banks.old) (B.meter banks.new)) }
 {
     if has_bytes(banks, Side::A, number)? || has_bytes(banks, Side::B, number)? {
@@ -48,6 +51,7 @@ fn has_bytes<B: CrashBanks>(banks: &mut B, side: Side, number: u8) -> Result<boo
     ensures log { B.log banks.new ≡ B.log banks.old }
     ensures bytes { (l : Log) → B.log banks.old ≡ Some l → IfOk result (λ has. IsTrue has ↔ (0 < length (bytes_of side (seen l)))) }
     ensures meter { GoesOn (B.meter banks.old) (B.meter banks.new) }
+    ensures quiet { OnOk result (IsQuiet (B.meter banks.old) (B.meter banks.new)) }
     ensures err { IfErr result (StopsLookingAt number (B.log banks.old) (B.meter banks.old) (B.meter banks.new)) }
 {
     match banks.len(side) {
@@ -68,6 +72,7 @@ pub fn blanks_of<R: Threads, B: CrashBanks>(
     requires count { vec_len banks ≡ clone_count }
     ensures count { IfOk result (λ blanks. length blanks.items ≡ clone_count) }
     ensures meters { IfOk result (λ blanks. MetersGoOn B.meter banks.items blanks.items) }
+    ensures quiet { IfOk result (λ blanks. AreQuiet B.meter banks.items blanks.items) }
     ensures err { IfErr result (λ refused. StopsBlanking B.meter banks.items refused.0 refused.1.items) }
 {
     let Ok((mut blanks, back)) = room_for(alloc, banks.len()) else {
@@ -98,6 +103,7 @@ fn blank_of<R: Threads, B: CrashBanks>(
 ) -> Result<Blank<B>, Option<B>>
     requires { ¬ IsFilled (B.log banks) }
     ensures ok { IfOk result (λ blank. GoesOn (B.meter banks) (B.meter blank)) }
+    ensures quiet { IfOk result (λ blank. IsQuiet (B.meter banks) (B.meter blank)) }
     ensures later { IfErr result (λ refused. IfSome refused (λ back. GoesOn (B.meter banks) (B.meter back))) }
     ensures failed { IfErr result (λ refused. IfSome refused (λ back. HadFault (B.meter banks) (B.meter back))) }
 {

@@ -1,18 +1,18 @@
 //! The run: all that the program does, over the words, the source and the sink that it is handed.
-ghost use Rattle.std.specs.Prelude.{◌≡◌, ◌≢◌, ◌↔◌, ◌≤◌, ◌<◌, ◌+◌, ℕ, List, [], map, take, false, None, vec_len, IsTrue, IfOk, IfErr, OnOk, OnErr, IsErrOf};
+ghost use Rattle.std.specs.Prelude.{◌≡◌, ◌↔◌, ◌≤◌, ◌<◌, ◌+◌, ℕ, List, [], map, take, false, None, vec_len, IsTrue, IfOk, IfErr, OnOk, OnErr, IsErrOf};
 ghost use Rattle.std.specs.Io.KnownBytes.{Appends};
+ghost use Rattle.std.specs.Result.{result_err};
 ghost use Rattle.std.specs.String.{string_bytes};
-ghost use Rattle.mld_io.specs.Faults.{Rose};
 ghost use Rattle.mld_io.specs.Lines.{lines_of, HasNoEnd, IsCutShort};
 ghost use Rattle.schedule_model.specs.Runs.{Stage as ModelStage, Waiting, Outcome, Verdict, IsBad, IsUnbuilt};
 ghost use Rattle.tree_clock.specs.Limits.{tick_limit};
 ghost use Rattle.mld_replay.specs.Stops.{fault_of};
 ghost use Rattle.mld_replay.specs.TooLarge.{BreaksLimits, line_limit, input_limit};
 ghost use Rattle.mld_model.specs.World.{clone_count};
-ghost use Rattle.net_world.specs.WorldBanks.{MetersGoOn, HasFailed};
-ghost use Rattle.mld_replay.specs.Filled.{IsFirstFilled, EndsBefore};
+ghost use Rattle.mld_replay.specs.BankFaults.{BringsBack};
+ghost use Rattle.mld_replay.specs.Filled.{HeedsFilled};
 ghost use Rattle.mld_replay.specs.Stages.{StageStands, IsStandingStage, steps_of, banks_of_stage, BanksKeep, ActsWell, EndsWell};
-ghost use Rattle.mld_replay.specs.Ran.{status_of, tells, IsReplay, Finishes, StopsAtBad, StopsAtUnbuilt, StopsAtLarge, BreaksOff, WritesFront, WritesWhole, EndsAs, EndsBy, Agrees, TakesLine, IfSomeLine, IsReadingFault, IsWritingFault, IsLineFault, IsEndFault, HasReadCause, HasWriteFaultCause};
+ghost use Rattle.mld_replay.specs.Ran.{status_of, tells, IsReplay, EndsSo, EndsAs, EndsBy, Agrees, LeavesAlone, AreUntouched, CountsReads, CountsWrites, TakesLine, IfSomeLine, IsReadingFault, IsWritingFault, IsReplayFault, IsLineFault, IsEndFault, HasReadCause, HasWriteFaultCause};
 
 use crate::blanks::{blanks_of, find_filled};
 use crate::endings::{End, end_of};
@@ -68,8 +68,9 @@ pub struct Ran<B> {
 /// # Statuses
 /// 0: the source was read to its end. 1: the words are not `replay` alone; nothing is read or written. 2: the source
 /// failed; the lines whose LF was read are done. 3: the sink failed. 4: a line is outside the grammar, or the input ended
-/// before a `domain` line. 5: no memory. 6: the device of a clone failed. 7: a line is too large. 8: banks are not empty; nothing is
-/// read or written. 20: a line isn't built yet. Each line is answered before the next is read.
+/// before a `domain` line. 5: no memory. 6: the device of the clone that is named failed. 7: a line is too large. 8: banks are not
+/// empty; nothing is read or written, and they stay as they were. 20: a line isn't built yet, and nothing of it is done. Each line is
+/// answered before the next is read. A failure of a device ends the run by 6, or by 5 with no banks given back.
 pub fn run<R: Threads, S: Source, K: Sink, B: CrashBanks>(
     rt: &R,
     alloc: Global,
@@ -81,49 +82,31 @@ pub fn run<R: Threads, S: Source, K: Sink, B: CrashBanks>(
     requires { vec_len banks ≡ clone_count }
     ensures status { result.status ≡ status_of result.fault }
     ensures usage { (result.fault ≡ Some RunFault.Usage) ↔ (¬ IsReplay (map (λ w. string_bytes w) words.now.items)) }
-    ensures untouched { result.fault ≡ Some RunFault.Usage → (source.new ≡ source.old) × (sink.new ≡ sink.old) × (result.banks ≡ banks) }
-
-    // At status 0 the source is read to its end, none of its lines is too large, and what was written is the text of a run of
-    // the model over them. The world that they lead to is the one that is told of, with the meaning of what each clone knows, and the
-    // one that the banks keep. Clones of it that know the same have the same pairs, each answer of a dot holds in it, and no two hold
-    // one leaf.
-    ensures finished { result.fault ≡ None → (bytes : List ℕ) → S.left source.old ≡ Some bytes
-        → Finishes (EndsAs B.log result) bytes (S.left source.new) (K.held sink.old) (K.held sink.new) }
-    // At 4, 20 and 7 the line of that number is the first that is bad, unbuilt or too large; at 4 and 20 none up to it is too
-    // large. The text is that of the lines before it. At 4 and 7 the world that those lead to is told of, and kept by the banks.
-    ensures bad { (line : ℕ) → result.fault ≡ Some (RunFault.BadLine line) → (bytes : List ℕ) → S.left source.old ≡ Some bytes
-        → StopsAtBad (EndsAs B.log result) bytes line (K.held sink.old) (K.held sink.new) }
-    ensures unbuilt { (line : ℕ) → result.fault ≡ Some (RunFault.Unbuilt line) → (bytes : List ℕ) → S.left source.old ≡ Some bytes
-        → StopsAtUnbuilt bytes line (K.held sink.old) (K.held sink.new) }
-    ensures large { (line : ℕ) → result.fault ≡ Some (RunFault.TooLarge line) → (bytes : List ℕ) → S.left source.old ≡ Some bytes
-        → StopsAtLarge (EndsAs B.log result) bytes line (K.held sink.old) (K.held sink.new) }
-    // At 2 the source failed within a line, or before it told its end. The lines done are those whose LF was read, the text is
-    // theirs, and the world that they lead to is told of, and kept by the banks.
-    ensures broken_off { result.fault ≡ Some RunFault.ReadFault → (bytes : List ℕ) → S.left source.old ≡ Some bytes
-        → BreaksOff (EndsAs B.log result) bytes (S.left source.new) (K.held sink.old) (K.held sink.new) }
-    // At 3 what was written is a front of the text of a run over the first lines, and the banks keep the world that those lead to: the
-    // line whose reply could not be written was done.
-    ensures unwritten { result.fault ≡ Some RunFault.WriteFault → (bytes : List ℕ) → S.left source.old ≡ Some bytes
-        → WritesFront (BanksKeep B.log result.banks.items) bytes (K.held sink.old) (K.held sink.new) }
-    // At 6 the banks of that clone had a real fault, where they were not armed, and the text is that of the lines before the one under way.
-    ensures device { (clone : ℕ) → result.fault ≡ Some (RunFault.Device clone) → HasFailed B.meter clone banks.items result.banks.items }
-    ensures failed { (clone : ℕ) → result.fault ≡ Some (RunFault.Device clone) → (bytes : List ℕ) → S.left source.old ≡ Some bytes
-        → WritesWhole bytes (K.held sink.old) (K.held sink.new) }
-    // 8 comes where the banks of that number are the first with a side that has bytes. Where there are such banks, no line is read.
-    ensures not_empty { (clone : ℕ) → result.fault ≡ Some (RunFault.NotEmpty clone) → IsFirstFilled B.log banks.items clone }
-    ensures filled { (clone : ℕ) → IsFirstFilled B.log banks.items clone → EndsBefore result.fault clone × (source.new ≡ source.old) × (sink.new ≡ sink.old) }
-    // Whatever the status is, what was written is a front of the text of a run over the first lines, and the banks come back with their
-    // real faults counted; at 5 there may be none.
-    ensures front { (bytes : List ℕ) → S.left source.old ≡ Some bytes → WritesFront (λ _. Unit {0}) bytes (K.held sink.old) (K.held sink.new) }
-    ensures back { result.fault ≢ Some RunFault.NoMemory → MetersGoOn B.meter banks.items result.banks.items }
+    // At 1 and 8 nothing is read or written, and at 1 no bank is called.
+    ensures untouched { LeavesAlone result.fault (AreUntouched source.old source.new sink.old sink.new) (result.banks ≡ banks) }
+    // How the run ended, by its fault. The text that was written is that of a run of the model over the first lines, or a front of it.
+    //
+    // 0: the source is read to its end, and none of its lines is too large. The world that they lead to has the meaning of what each
+    // clone knows; clones of it that know the same have the same pairs, each answer of a dot holds in it, and no two hold one leaf.
+    // 4, 20 and 7: the line of that number is the first that is bad, unbuilt or too large, and at 4 and 20 none up to it is too large.
+    // The text is that of the lines before it. 2: the source failed within a line, or before it told its end, and the lines done are
+    // those whose LF was read. 3: the text is a front, and the line whose reply could not be written was done. 6: it is that of the
+    // lines before the one under way. At 0, 2, 4 and 7 the world that the lines done lead to is told of, and at these, 3 and 20 the
+    // banks keep it.
+    ensures ends { (bytes : List ℕ) → S.left source.old ≡ Some bytes
+        → EndsSo (EndsAs B.log result) (BanksKeep B.log result.banks.items) result.fault bytes (S.left source.new) (K.held sink.old) (K.held sink.new) }
+    // 8 tells of the first banks with a side that has bytes. Where there are such, the run ends by 8 with their number, by 6 with it or a
+    // lower one, or by 1 or 5; no line is read, and the log of each bank stays.
+    ensures filled { HeedsFilled B.log banks.items result.banks.items result.fault (AreUntouched source.old source.new sink.old sink.new) }
+    // Unless memory ran out all banks come back, in order. At 6 the banks of that clone had a real fault, where they were not armed;
+    // no others had one, and at any other status none that comes back had.
+    ensures back { BringsBack B.meter banks.items result.banks.items result.fault }
     // At the other statuses nothing is told of the world.
     ensures silent { ¬ IsTrue (tells result.fault) → result.world ≡ None }
-    // 2 comes where the source's count of faults rose, and 3 where the sink's did. At other statuses that count is what it was;
-    // but where memory for the summary or the banks was wanting after a failed read or write, the run ended by 5.
-    ensures read { result.fault ≡ Some RunFault.ReadFault → Rose (S.faults source.old) (S.faults source.new) }
-    ensures no_read_fault { result.fault ≢ Some RunFault.ReadFault → result.fault ≢ Some RunFault.NoMemory → S.faults source.new ≡ S.faults source.old }
-    ensures write { result.fault ≡ Some RunFault.WriteFault → Rose (K.faults sink.old) (K.faults sink.new) }
-    ensures no_write_fault { result.fault ≢ Some RunFault.WriteFault → result.fault ≢ Some RunFault.NoMemory → K.faults sink.new ≡ K.faults sink.old }
+    // 2 comes just where the source's count of faults rose, and 3 where the sink's did; but where memory for the summary or the banks
+    // was wanting after a failed read or write, the run ended by 5.
+    ensures read { CountsReads (S.faults source.old) (S.faults source.new) result.fault }
+    ensures write { CountsWrites (K.faults sink.old) (K.faults sink.new) result.fault }
     // Whatever the verdict on the lines is, the run ends so, unless it ended by 2, 3, 5, 6, 7 or 8.
     ensures exact { (bytes : List ℕ) → S.left source.old ≡ Some bytes → (outcome : Outcome) → Verdict (lines_of bytes) outcome
         → IsReplay (map (λ w. string_bytes w) words.now.items) → Agrees result.fault outcome }
@@ -220,27 +203,12 @@ fn replay<R: Threads, S: Source, K: Sink, B: CrashBanks>(
     stage: &mut Stage<B>,
 ) -> Result<(), RunFault>
     requires { StageStands B.log stage.old Waiting }
-    ensures usage { ¬ IsErrOf result RunFault.Usage }
-    ensures finished { OnOk result ((bytes : List ℕ) → S.left source.old ≡ Some bytes
-        → Finishes (StageStands B.log stage.new) bytes (S.left source.new) (K.held sink.old) (K.held sink.new)) }
-    ensures bad { (line : ℕ) → IsErrOf result (RunFault.BadLine line) → (bytes : List ℕ) → S.left source.old ≡ Some bytes
-        → StopsAtBad (StageStands B.log stage.new) bytes line (K.held sink.old) (K.held sink.new) }
-    ensures unbuilt { (line : ℕ) → IsErrOf result (RunFault.Unbuilt line) → (bytes : List ℕ) → S.left source.old ≡ Some bytes
-        → StopsAtUnbuilt bytes line (K.held sink.old) (K.held sink.new) }
-    ensures large { (line : ℕ) → IsErrOf result (RunFault.TooLarge line) → (bytes : List ℕ) → S.left source.old ≡ Some bytes
-        → StopsAtLarge (StageStands B.log stage.new) bytes line (K.held sink.old) (K.held sink.new) }
-    ensures broken_off { IsErrOf result RunFault.ReadFault → (bytes : List ℕ) → S.left source.old ≡ Some bytes
-        → BreaksOff (StageStands B.log stage.new) bytes (S.left source.new) (K.held sink.old) (K.held sink.new) }
-    ensures front { (bytes : List ℕ) → S.left source.old ≡ Some bytes → WritesFront (λ _. Unit {0}) bytes (K.held sink.old) (K.held sink.new) }
-    ensures unwritten { IsErrOf result RunFault.WriteFault → (bytes : List ℕ) → S.left source.old ≡ Some bytes
-        → WritesFront (StageStands B.log stage.new) bytes (K.held sink.old) (K.held sink.new) }
-    ensures failed { (clone : ℕ) → IsErrOf result (RunFault.Device clone) → (bytes : List ℕ) → S.left source.old ≡ Some bytes
-        → WritesWhole bytes (K.held sink.old) (K.held sink.new) }
-    ensures not_empty { (clone : ℕ) → ¬ IsErrOf result (RunFault.NotEmpty clone) }
-    ensures meters { ¬ IsErrOf result RunFault.NoMemory → MetersGoOn B.meter (banks_of_stage stage.old) (banks_of_stage stage.new) }
-    ensures device { (clone : ℕ) → IsErrOf result (RunFault.Device clone) → HasFailed B.meter clone (banks_of_stage stage.old) (banks_of_stage stage.new) }
-    ensures read { HasReadCause (S.faults source.old) (S.faults source.new) result }
-    ensures write { HasWriteFaultCause (K.faults sink.old) (K.faults sink.new) result }
+    ensures begun { IfErr result IsReplayFault }
+    ensures ends { (bytes : List ℕ) → S.left source.old ≡ Some bytes
+        → EndsSo (StageStands B.log stage.new) (StageStands B.log stage.new) (result_err result) bytes (S.left source.new) (K.held sink.old) (K.held sink.new) }
+    ensures back { BringsBack B.meter (banks_of_stage stage.old) (banks_of_stage stage.new) (result_err result) }
+    ensures read { CountsReads (S.faults source.old) (S.faults source.new) (result_err result) }
+    ensures write { CountsWrites (K.faults sink.old) (K.faults sink.new) (result_err result) }
 {
     let mut lines = Lines::new(alloc, LINE_LIMIT, INPUT_LIMIT)?;
     let mut done = 0;
@@ -310,8 +278,8 @@ fn do_line<R: Threads, B: CrashBanks>(
     ensures bad { (at : ℕ) → IsErrOf result (RunFault.BadLine at) → (at ≡ number) × ((model : ModelStage) → StageStands B.log stage.old model → IsBad model line.now) }
     ensures kept { (at : ℕ) → IsErrOf result (RunFault.BadLine at) → stage.new ≡ stage.old }
     ensures unbuilt { (at : ℕ) → IsErrOf result (RunFault.Unbuilt at) → (at ≡ number) × IsUnbuilt line.now }
-    ensures meters { ¬ IsErrOf result RunFault.NoMemory → MetersGoOn B.meter (banks_of_stage stage.old) (banks_of_stage stage.new) }
-    ensures device { (clone : ℕ) → IsErrOf result (RunFault.Device clone) → HasFailed B.meter clone (banks_of_stage stage.old) (banks_of_stage stage.new) }
+    ensures kept_unbuilt { (at : ℕ) → IsErrOf result (RunFault.Unbuilt at) → stage.new ≡ stage.old }
+    ensures back { BringsBack B.meter (banks_of_stage stage.old) (banks_of_stage stage.new) (result_err result) }
     ensures other { IfErr result IsLineFault }
 {
     match act(rt, alloc, stage, line) {
@@ -331,8 +299,7 @@ fn end_lines<R: Threads, B: CrashBanks>(
     ensures ok { OnOk result ((model : ModelStage) → StageStands B.log stage.old model → EndsWell B.log model stage.new) }
     ensures bad { (at : ℕ) → IsErrOf result (RunFault.BadLine at) → (at ≡ number) × ((model : ModelStage) → StageStands B.log stage.old model → model ≡ Waiting) }
     ensures kept { (at : ℕ) → IsErrOf result (RunFault.BadLine at) → stage.new ≡ stage.old }
-    ensures meters { ¬ IsErrOf result RunFault.NoMemory → MetersGoOn B.meter (banks_of_stage stage.old) (banks_of_stage stage.new) }
-    ensures device { (clone : ℕ) → IsErrOf result (RunFault.Device clone) → HasFailed B.meter clone (banks_of_stage stage.old) (banks_of_stage stage.new) }
+    ensures back { BringsBack B.meter (banks_of_stage stage.old) (banks_of_stage stage.new) (result_err result) }
     ensures other { IfErr result IsEndFault }
 {
     match finish(rt, alloc, stage) {

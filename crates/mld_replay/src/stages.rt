@@ -2,12 +2,13 @@
 ghost use Rattle.std.specs.Prelude.{◌≡◌, ◌<◌, ◌≤◌, ◌+◌, [], ℕ, List, IfOk, IfErr, OnOk, OnErr, IsErrOf};
 ghost use Rattle.mld_model.specs.World.{World as ModelWorld};
 ghost use Rattle.mld_model.specs.Sound.{IsSound};
-ghost use Rattle.net_world.specs.WorldBanks.{StandsOnBanks, banks_of, MetersGoOn, HasFailed};
+ghost use Rattle.net_world.specs.WorldBanks.{StandsOnBanks, banks_of, MetersGoOn, AreQuiet};
 ghost use Rattle.schedule_model.specs.Runs.{Stage as ModelStage, Waiting, Running, IsBad, IsUnbuilt};
 ghost use Rattle.schedule_model.specs.Schedule.{SpellsCommand};
 ghost use Rattle.schedule_model.specs.Step.{HasCloneNumbers};
 ghost use Rattle.net_world.specs.Worlds.{IsStanding, Stepped};
 ghost use Rattle.tree_clock.specs.Limits.{tick_limit};
+ghost use Rattle.mld_replay.specs.BankFaults.{HasStopFaults};
 ghost use Rattle.mld_replay.specs.Stages.{StageStands, IsStandingStage, IsSetUpState, IsWorldStop, steps_of, banks_of_stage, ActsWell, EndsWell};
 ghost use Rattle.mld_replay.specs.declared.stages.Stage.TheVariants as stages;
 
@@ -48,8 +49,10 @@ pub fn act<R: Threads, B: CrashBanks>(
     ensures bad { IsErrOf result LineStop.BadLine → (model : ModelStage) → StageStands B.log stage.old model → IsBad model line.now }
     ensures kept { IsErrOf result LineStop.BadLine → stage.new ≡ stage.old }
     ensures unbuilt { IsErrOf result LineStop.Unbuilt → IsUnbuilt line.now }
+    ensures kept_unbuilt { IsErrOf result LineStop.Unbuilt → stage.new ≡ stage.old }
     ensures meters { ¬ IsErrOf result LineStop.NoMemory → MetersGoOn B.meter (banks_of_stage stage.old) (banks_of_stage stage.new) }
-    ensures device { (clone : ℕ) → IsErrOf result (LineStop.Device clone) → HasFailed B.meter clone (banks_of_stage stage.old) (banks_of_stage stage.new) }
+    ensures quiet { OnOk result (AreQuiet B.meter (banks_of_stage stage.old) (banks_of_stage stage.new)) }
+    ensures faults { IfErr result (HasStopFaults B.meter (banks_of_stage stage.old) (banks_of_stage stage.new)) }
 {
     match stage {
         Stage::Waiting(_) => set_up(alloc, stage, line),
@@ -114,7 +117,8 @@ fn start<R: Threads, B: CrashBanks>(
         → ActsWell B.log model line text.items stage.new) }
     ensures steps { OnOk result (steps_of stage.new ≡ 1) }
     ensures meters { ¬ IsErrOf result LineStop.NoMemory → MetersGoOn B.meter (banks_of_stage stage.old) (banks_of_stage stage.new) }
-    ensures device { (clone : ℕ) → IsErrOf result (LineStop.Device clone) → HasFailed B.meter clone (banks_of_stage stage.old) (banks_of_stage stage.new) }
+    ensures quiet { OnOk result (AreQuiet B.meter (banks_of_stage stage.old) (banks_of_stage stage.new)) }
+    ensures faults { IfErr result (HasStopFaults B.meter (banks_of_stage stage.old) (banks_of_stage stage.new)) }
     ensures other { IfErr result IsWorldStop }
 {
     let mut world = found(rt, alloc, stage)?;
@@ -135,8 +139,9 @@ fn found<R: Threads, B: CrashBanks>(
     ensures standing { IfOk result (IsStanding B.log) }
     ensures steps { IfOk result (λ world. world.steps ≡ 0) }
     ensures meters { IfOk result (λ world. MetersGoOn B.meter (banks_of_stage stage.old) (banks_of world)) }
+    ensures quiet { IfOk result (λ world. AreQuiet B.meter (banks_of_stage stage.old) (banks_of world)) }
     ensures left { (clone : ℕ) → IsErrOf result (LineStop.Device clone) → MetersGoOn B.meter (banks_of_stage stage.old) (banks_of_stage stage.new) }
-    ensures device { (clone : ℕ) → IsErrOf result (LineStop.Device clone) → HasFailed B.meter clone (banks_of_stage stage.old) (banks_of_stage stage.new) }
+    ensures faults { IfErr result (HasStopFaults B.meter (banks_of_stage stage.old) (banks_of_stage stage.new)) }
     ensures other { IfErr result IsWorldStop }
 {
     let (setup, blanks) = take_set_up(alloc, stage);
@@ -175,8 +180,10 @@ fn command<R: Threads, B: CrashBanks>(
     ensures bad { IsErrOf result LineStop.BadLine → (model : ModelWorld) → IsBad (Running model) line.now }
     ensures kept { IsErrOf result LineStop.BadLine → world.new ≡ world.old }
     ensures unbuilt { IsErrOf result LineStop.Unbuilt → IsUnbuilt line.now }
+    ensures kept_unbuilt { IsErrOf result LineStop.Unbuilt → world.new ≡ world.old }
     ensures meters { MetersGoOn B.meter (banks_of world.old) (banks_of world.new) }
-    ensures device { (clone : ℕ) → IsErrOf result (LineStop.Device clone) → HasFailed B.meter clone (banks_of world.old) (banks_of world.new) }
+    ensures quiet { OnOk result (AreQuiet B.meter (banks_of world.old) (banks_of world.new)) }
+    ensures faults { IfErr result (HasStopFaults B.meter (banks_of world.old) (banks_of world.new)) }
 {
     match read_command(alloc, line, world.domain())? {
         None => Ok(Vec::new(alloc)),
@@ -197,7 +204,8 @@ fn step<R: Threads, B: CrashBanks>(
     ensures ok { IfOk result (λ text. Stepped B.log world.old command.now world.new [] text.items) }
     ensures steps { OnOk result (world.new.steps ≡ world.old.steps + 1) }
     ensures meters { MetersGoOn B.meter (banks_of world.old) (banks_of world.new) }
-    ensures device { (clone : ℕ) → IsErrOf result (LineStop.Device clone) → HasFailed B.meter clone (banks_of world.old) (banks_of world.new) }
+    ensures quiet { OnOk result (AreQuiet B.meter (banks_of world.old) (banks_of world.new)) }
+    ensures faults { IfErr result (HasStopFaults B.meter (banks_of world.old) (banks_of world.new)) }
     ensures other { IfErr result IsWorldStop }
 {
     let mut text = Vec::new(alloc);
@@ -217,7 +225,8 @@ pub fn finish<R: Threads, B: CrashBanks>(
     ensures kept { IsErrOf result LineStop.BadLine → stage.new ≡ stage.old }
     ensures built { ¬ IsErrOf result LineStop.Unbuilt }
     ensures meters { ¬ IsErrOf result LineStop.NoMemory → MetersGoOn B.meter (banks_of_stage stage.old) (banks_of_stage stage.new) }
-    ensures device { (clone : ℕ) → IsErrOf result (LineStop.Device clone) → HasFailed B.meter clone (banks_of_stage stage.old) (banks_of_stage stage.new) }
+    ensures quiet { OnOk result (AreQuiet B.meter (banks_of_stage stage.old) (banks_of_stage stage.new)) }
+    ensures faults { IfErr result (HasStopFaults B.meter (banks_of_stage stage.old) (banks_of_stage stage.new)) }
 {
     match stage {
         Stage::Waiting(_) => Err(LineStop::BadLine),

@@ -1,6 +1,6 @@
 use Rattle.std.proofs.Common.{rules, arith}
 use Rattle.std.proofs.lemmas.List.{nil_from_length}
-use Rattle.mld_replay.proofs.BlankLemmas.{blanking_first, blanking_next, blanking_more, blanking_stops, blanking_all}
+use Rattle.mld_replay.proofs.BlankLemmas.{blanking_first, blanking_next, blanking_more, blanking_stops, blanking_all, blanking_quiet}
 use Rattle.mld_replay.proofs.blanks.blanks_of.Goals as goal
 
 pub loop-one-init : goal.loop-one-init
@@ -24,7 +24,7 @@ returns-in-Err-Some-clause-err g c =
 pub loop-one-preserved : goal.loop-one-preserved
 loop-one-preserved g c = record {
   blanking = blanking_more g.B.Banks.log g.B.Banks.meter c.args.banks.items c.loop-one.blanks.items c.loop-one.rest.items c.pop_front.new.self.items c.push_reserved.new.self.items c.in-Some.one
-      c.in-Ok-blank_of.blank c.loop-one.number c.loop-one.invariant.blanking c.in-Some.ensures.items c.push_reserved.ensures.items c.in-Ok-blank_of.ensures.ok;
+      c.in-Ok-blank_of.blank c.loop-one.number c.loop-one.invariant.blanking c.in-Some.ensures.items c.push_reserved.ensures.items c.in-Ok-blank_of.ensures.ok c.in-Ok-blank_of.ensures.quiet;
   count = search (rules, arith);
   room = search (rules, arith);
 }
@@ -32,4 +32,9 @@ loop-one-preserved g c = record {
 pub returns-clause-meters : goal.returns-clause-meters
 returns-clause-meters g c =
     blanking_all g.B.Banks.log g.B.Banks.meter c.args.banks.items c.loop-one.blanks.items c.loop-one.rest.items c.loop-one.number c.loop-one.invariant.blanking
+    (nil_from_length c.loop-one.rest.items (omega (arith, c.in_default-pop_front.ensures.cases.0)))
+
+pub returns-clause-quiet : goal.returns-clause-quiet
+returns-clause-quiet g c =
+    blanking_quiet g.B.Banks.log g.B.Banks.meter c.args.banks.items c.loop-one.blanks.items c.loop-one.rest.items c.loop-one.number c.loop-one.invariant.blanking
     (nil_from_length c.loop-one.rest.items (omega (arith, c.in_default-pop_front.ensures.cases.0)))

@@ -1,85 +1,130 @@
-use Rattle.std.proofs.Common.{ap, sym, subst, refl, Option}
-use Rattle.mld_replay.specs.Filled.{EndsBefore}
-use Rattle.mld_replay.specs.declared.run.RunFault.{RunFault}
-use Rattle.mld_replay.proofs.MeterLemmas.{meters_then}
-use Rattle.mld_replay.proofs.RunLemmas.{front_first}
-use Rattle.mld_replay.proofs.SummaryLemmas.{finishes_by, bad_by, large_by, breaks_off_by, failed_by, device_by, back_by, agrees_by, ends_before, refused_device, refused_back}
+use Rattle.std.proofs.Common.{◌≡◌, ◌≢◌, Some}
+use Rattle.std.specs.Result.{result_err}
+use Rattle.mld_replay.specs.declared.run.RunFault.TheVariants as faults
+use Rattle.mld_replay.specs.Ran.{EndsAs, AreUntouched, LeavesAlone, CountsReads, CountsWrites, Agrees}
+use Rattle.mld_replay.specs.Stages.{StageStands, BanksKeep}
+use Rattle.mld_replay.proofs.MeterLemmas.{meters_then, quiet_then, back_same}
+use Rattle.mld_replay.proofs.BlankLemmas.{empty_still}
+use Rattle.mld_replay.proofs.SummaryLemmas.{ends_by, back_by, said_by, replay_alone, replay_not_usage, replay_not_filled, agrees_so, looking_fault, blanking_fault, bank_ends, left_alone, not_begun, bank_alone, bank_reads, bank_writes, bank_agrees, looking_heeds, empty_heeds, blanking_not_filled, usage_heeds, refused_back}
 use Rattle.mld_replay.proofs.run.run.Goals as goal
 
 -- ---- the words are others
 
-pub returns-then-not-is_replay-clause-front : goal.returns-then-not-is_replay-clause-front
-returns-then-not-is_replay-clause-front g c = λ bytes told. front_first (g.K.Sink.held c.args.sink.now) bytes
+pub returns-then-not-is_replay-clause-untouched : goal.returns-then-not-is_replay-clause-untouched
+returns-then-not-is_replay-clause-untouched g c = rw c.ended.ensures.fault (left_alone c.args.source.now c.args.sink.now, c.ended.ensures.banks)
+
+pub returns-then-not-is_replay-clause-ends : goal.returns-then-not-is_replay-clause-ends
+returns-then-not-is_replay-clause-ends g c = λ bytes told. rw c.ended.ensures.fault (not_begun _ _ _ told)
+
+pub returns-then-not-is_replay-clause-filled : goal.returns-then-not-is_replay-clause-filled
+returns-then-not-is_replay-clause-filled g c =
+    rw (c.ended.ensures.fault, c.ended.ensures.banks) (usage_heeds g.B.Banks.log c.args.banks.items _ (left_alone c.args.source.now c.args.sink.now))
+
+pub returns-then-not-is_replay-clause-back : goal.returns-then-not-is_replay-clause-back
+returns-then-not-is_replay-clause-back g c =
+    rw (c.ended.ensures.fault, c.ended.ensures.banks) (back_same g.B.Banks.meter c.args.banks.items faults.Usage (λ clone is. absurd (cc (is))))
 
 -- ---- banks have bytes, or could not be looked at
 
-pub returns-in-Err-clause-front : goal.returns-in-Err-clause-front
-returns-in-Err-clause-front g c = λ bytes told. front_first (g.K.Sink.held c.args.sink.now) bytes
+pub returns-in-Err-clause-untouched : goal.returns-in-Err-clause-untouched
+returns-in-Err-clause-untouched g c = rw c.ended-in-Err.ensures.fault (bank_alone c.in-Err.fault (looking_fault g.B.Banks.log c.args.banks.items c.in-Err.fault c.in-Err.ensures.err) _ _ (left_alone c.args.source.now c.args.sink.now))
+
+pub returns-in-Err-clause-ends : goal.returns-in-Err-clause-ends
+returns-in-Err-clause-ends g c = λ bytes told.
+    bank_ends c.in-Err.fault (looking_fault g.B.Banks.log c.args.banks.items c.in-Err.fault c.in-Err.ensures.err) (EndsAs g.B.Banks.log c.ended-in-Err.result) (BanksKeep g.B.Banks.log c.ended-in-Err.result.banks.items) c.ended-in-Err.result.fault
+    (g.S.Source.left c.args.source.now) (g.K.Sink.held c.args.sink.now) bytes c.ended-in-Err.ensures.fault told
+
+pub returns-in-Err-clause-read : goal.returns-in-Err-clause-read
+returns-in-Err-clause-read g c = rw c.ended-in-Err.ensures.fault (bank_reads c.in-Err.fault (looking_fault g.B.Banks.log c.args.banks.items c.in-Err.fault c.in-Err.ensures.err) (g.S.Source.faults c.args.source.now))
+
+pub returns-in-Err-clause-write : goal.returns-in-Err-clause-write
+returns-in-Err-clause-write g c = rw c.ended-in-Err.ensures.fault (bank_writes c.in-Err.fault (looking_fault g.B.Banks.log c.args.banks.items c.in-Err.fault c.in-Err.ensures.err) (g.K.Sink.faults c.args.sink.now))
+
+pub returns-in-Err-clause-exact : goal.returns-in-Err-clause-exact
+returns-in-Err-clause-exact g c = λ bytes told outcome verdict words. rw c.ended-in-Err.ensures.fault (bank_agrees c.in-Err.fault (looking_fault g.B.Banks.log c.args.banks.items c.in-Err.fault c.in-Err.ensures.err) outcome)
 
 pub returns-in-Err-clause-filled : goal.returns-in-Err-clause-filled
-returns-in-Err-clause-filled g c = λ clone first.
-    let P : Option RunFault → Type 0 = λ f. EndsBefore f clone in
-    (subst P (sym c.ended-in-Err.ensures.fault) (ends_before g.B.Banks.log g.B.Banks.meter c.args.banks.items c.find_filled.new.banks.items c.in-Err.fault clone c.in-Err.ensures.err first), refl, refl)
+returns-in-Err-clause-filled g c =
+    rw (c.ended-in-Err.ensures.fault, c.ended-in-Err.ensures.banks)
+    (looking_heeds g.B.Banks.log c.args.banks.items c.find_filled.new.banks.items c.in-Err.fault _ c.in-Err.ensures.err c.find_filled.ensures.logs (left_alone c.args.source.now c.args.sink.now))
+
+pub returns-in-Err-clause-back : goal.returns-in-Err-clause-back
+returns-in-Err-clause-back g c =
+    rw (c.ended-in-Err.ensures.fault, c.ended-in-Err.ensures.banks) (record { meters = λ differs. c.find_filled.ensures.meters; real_faults = c.in-Err.ensures.faults })
 
 -- ---- no blanks could be made
 
-pub returns-in-Err-blanks_of-clause-front : goal.returns-in-Err-blanks_of-clause-front
-returns-in-Err-blanks_of-clause-front g c = λ bytes told. front_first (g.K.Sink.held c.args.sink.now) bytes
+pub blanks_of-requires-clause-empty : goal.blanks_of-requires-clause-empty
+blanks_of-requires-clause-empty g c =
+    empty_still g.B.Banks.log c.args.banks.items c.find_filled.new.banks.items c.find_filled.ensures.meters.count c.find_filled.ensures.logs c.in_default.ensures.ok
 
-pub returns-in-Err-blanks_of-clause-device : goal.returns-in-Err-blanks_of-clause-device
-returns-in-Err-blanks_of-clause-device g c =
-    refused_device g.B.Banks.meter c.args.banks.items c.find_filled.new.banks.items c.in-Err-blanks_of.fault c.in-Err-blanks_of.banks.items c.ended-in-Err-blanks_of.result
-    c.ended-in-Err-blanks_of.ensures.fault (ap (λ b. b.items) c.ended-in-Err-blanks_of.ensures.banks) c.find_filled.ensures.meters c.in-Err-blanks_of.ensures.err
+pub returns-in-Err-blanks_of-clause-untouched : goal.returns-in-Err-blanks_of-clause-untouched
+returns-in-Err-blanks_of-clause-untouched g c = rw c.ended-in-Err-blanks_of.ensures.fault (bank_alone c.in-Err-blanks_of.fault (blanking_fault g.B.Banks.meter c.find_filled.new.banks.items c.in-Err-blanks_of.banks.items c.in-Err-blanks_of.fault c.in-Err-blanks_of.ensures.err) _ _ (left_alone c.args.source.now c.args.sink.now))
+
+pub returns-in-Err-blanks_of-clause-ends : goal.returns-in-Err-blanks_of-clause-ends
+returns-in-Err-blanks_of-clause-ends g c = λ bytes told.
+    bank_ends c.in-Err-blanks_of.fault (blanking_fault g.B.Banks.meter c.find_filled.new.banks.items c.in-Err-blanks_of.banks.items c.in-Err-blanks_of.fault c.in-Err-blanks_of.ensures.err) (EndsAs g.B.Banks.log c.ended-in-Err-blanks_of.result) (BanksKeep g.B.Banks.log c.ended-in-Err-blanks_of.result.banks.items) c.ended-in-Err-blanks_of.result.fault
+    (g.S.Source.left c.args.source.now) (g.K.Sink.held c.args.sink.now) bytes c.ended-in-Err-blanks_of.ensures.fault told
+
+pub returns-in-Err-blanks_of-clause-read : goal.returns-in-Err-blanks_of-clause-read
+returns-in-Err-blanks_of-clause-read g c = rw c.ended-in-Err-blanks_of.ensures.fault (bank_reads c.in-Err-blanks_of.fault (blanking_fault g.B.Banks.meter c.find_filled.new.banks.items c.in-Err-blanks_of.banks.items c.in-Err-blanks_of.fault c.in-Err-blanks_of.ensures.err) (g.S.Source.faults c.args.source.now))
+
+pub returns-in-Err-blanks_of-clause-write : goal.returns-in-Err-blanks_of-clause-write
+returns-in-Err-blanks_of-clause-write g c = rw c.ended-in-Err-blanks_of.ensures.fault (bank_writes c.in-Err-blanks_of.fault (blanking_fault g.B.Banks.meter c.find_filled.new.banks.items c.in-Err-blanks_of.banks.items c.in-Err-blanks_of.fault c.in-Err-blanks_of.ensures.err) (g.K.Sink.faults c.args.sink.now))
+
+pub returns-in-Err-blanks_of-clause-exact : goal.returns-in-Err-blanks_of-clause-exact
+returns-in-Err-blanks_of-clause-exact g c = λ bytes told outcome verdict words. rw c.ended-in-Err-blanks_of.ensures.fault (bank_agrees c.in-Err-blanks_of.fault (blanking_fault g.B.Banks.meter c.find_filled.new.banks.items c.in-Err-blanks_of.banks.items c.in-Err-blanks_of.fault c.in-Err-blanks_of.ensures.err) outcome)
+
+pub returns-in-Err-blanks_of-clause-filled : goal.returns-in-Err-blanks_of-clause-filled
+returns-in-Err-blanks_of-clause-filled g c =
+    rw c.ended-in-Err-blanks_of.ensures.fault
+    (empty_heeds g.B.Banks.log c.args.banks.items c.ended-in-Err-blanks_of.result.banks.items (Some c.in-Err-blanks_of.fault) _ c.in_default.ensures.ok
+    (blanking_not_filled g.B.Banks.meter c.find_filled.new.banks.items c.in-Err-blanks_of.banks.items c.in-Err-blanks_of.fault c.in-Err-blanks_of.ensures.err))
 
 pub returns-in-Err-blanks_of-clause-back : goal.returns-in-Err-blanks_of-clause-back
 returns-in-Err-blanks_of-clause-back g c =
-    refused_back g.B.Banks.meter c.args.banks.items c.find_filled.new.banks.items c.in-Err-blanks_of.fault c.in-Err-blanks_of.banks.items c.ended-in-Err-blanks_of.result
-    c.ended-in-Err-blanks_of.ensures.fault (ap (λ b. b.items) c.ended-in-Err-blanks_of.ensures.banks) c.find_filled.ensures.meters c.in-Err-blanks_of.ensures.err
+    rw (c.ended-in-Err-blanks_of.ensures.fault, c.ended-in-Err-blanks_of.ensures.banks)
+    (refused_back g.B.Banks.meter c.args.banks.items c.find_filled.new.banks.items c.in-Err-blanks_of.banks.items c.in-Err-blanks_of.fault c.find_filled.ensures.meters c.in_default.ensures.faults
+    c.in-Err-blanks_of.ensures.err)
 
 -- ---- the replay
 
+pub returns-in-Ok-clause-untouched : goal.returns-in-Ok-clause-untouched
+returns-in-Ok-clause-untouched g c =
+    said_by g.B.Banks.log c.err-fault.result c.replay.new.stage c.ended_with.result (λ f. LeavesAlone f (AreUntouched c.args.source.now c.replay.new.source c.args.sink.now c.replay.new.sink) (c.ended_with.result.banks ≡ c.args.banks)) c.ended_with.ensures.ends tt
+    (rw c.err-fault.ensures.value (replay_alone c.replay.result _ _ c.replay.ensures.begun))
+
+pub returns-in-Ok-clause-ends : goal.returns-in-Ok-clause-ends
+returns-in-Ok-clause-ends g c = λ bytes told.
+    ends_by g.B.Banks.log c.err-fault.result c.replay.new.stage c.ended_with.result bytes (g.S.Source.left c.replay.new.source) (g.K.Sink.held c.args.sink.now) (g.K.Sink.held c.replay.new.sink) c.ended_with.ensures.ends
+    (rw c.err-fault.ensures.value (c.replay.ensures.ends bytes told))
+
 pub returns-in-Ok-clause-filled : goal.returns-in-Ok-clause-filled
-returns-in-Ok-clause-filled g c = λ clone first. absurd (c.in_default.ensures.filled clone first.one first.at first.filled)
-
-pub returns-in-Ok-clause-finished : goal.returns-in-Ok-clause-finished
-returns-in-Ok-clause-finished g c =
-    finishes_by g.B.Banks.log c.replay.result c.err-fault.result c.replay.new.stage c.ended_with.result (g.S.Source.left c.args.source.now) (g.S.Source.left c.replay.new.source)
-    (g.K.Sink.held c.args.sink.now) (g.K.Sink.held c.replay.new.sink) c.err-fault.ensures.value c.ended_with.ensures.ends c.replay.ensures.finished
-
-pub returns-in-Ok-clause-bad : goal.returns-in-Ok-clause-bad
-returns-in-Ok-clause-bad g c =
-    bad_by g.B.Banks.log c.replay.result c.err-fault.result c.replay.new.stage c.ended_with.result (g.S.Source.left c.args.source.now)
-    (g.K.Sink.held c.args.sink.now) (g.K.Sink.held c.replay.new.sink) c.err-fault.ensures.value c.ended_with.ensures.ends c.replay.ensures.bad
-
-pub returns-in-Ok-clause-large : goal.returns-in-Ok-clause-large
-returns-in-Ok-clause-large g c =
-    large_by g.B.Banks.log c.replay.result c.err-fault.result c.replay.new.stage c.ended_with.result (g.S.Source.left c.args.source.now)
-    (g.K.Sink.held c.args.sink.now) (g.K.Sink.held c.replay.new.sink) c.err-fault.ensures.value c.ended_with.ensures.ends c.replay.ensures.large
-
-pub returns-in-Ok-clause-broken_off : goal.returns-in-Ok-clause-broken_off
-returns-in-Ok-clause-broken_off g c =
-    breaks_off_by g.B.Banks.log c.replay.result c.err-fault.result c.replay.new.stage c.ended_with.result (g.S.Source.left c.args.source.now) (g.S.Source.left c.replay.new.source)
-    (g.K.Sink.held c.args.sink.now) (g.K.Sink.held c.replay.new.sink) c.err-fault.ensures.value c.ended_with.ensures.ends c.replay.ensures.broken_off
-
-pub returns-in-Ok-clause-failed : goal.returns-in-Ok-clause-failed
-returns-in-Ok-clause-failed g c =
-    failed_by g.B.Banks.log c.replay.result c.err-fault.result c.replay.new.stage c.ended_with.result (g.S.Source.left c.args.source.now)
-    (g.K.Sink.held c.args.sink.now) (g.K.Sink.held c.replay.new.sink) c.err-fault.ensures.value c.ended_with.ensures.ends c.replay.ensures.failed
-
-pub returns-in-Ok-clause-device : goal.returns-in-Ok-clause-device
-returns-in-Ok-clause-device g c =
-    device_by g.B.Banks.log g.B.Banks.meter c.replay.result c.err-fault.result c.replay.new.stage c.ended_with.result c.args.banks.items c.in-Ok.blanks.items
-    c.err-fault.ensures.value c.ended_with.ensures.ends (meters_then g.B.Banks.meter c.args.banks.items c.find_filled.new.banks.items c.in-Ok.blanks.items c.find_filled.ensures.meters c.in-Ok.ensures.meters)
-    c.replay.ensures.device
+returns-in-Ok-clause-filled g c =
+    empty_heeds g.B.Banks.log c.args.banks.items c.ended_with.result.banks.items c.ended_with.result.fault _ c.in_default.ensures.ok
+    (λ clone. said_by g.B.Banks.log c.err-fault.result c.replay.new.stage c.ended_with.result (λ f. f ≢ Some (faults.NotEmpty clone)) c.ended_with.ensures.ends (λ is. absurd (cc (is)))
+    (rw c.err-fault.ensures.value (replay_not_filled c.replay.result clone c.replay.ensures.begun)))
 
 pub returns-in-Ok-clause-back : goal.returns-in-Ok-clause-back
 returns-in-Ok-clause-back g c =
-    back_by g.B.Banks.log g.B.Banks.meter c.replay.result c.err-fault.result c.replay.new.stage c.ended_with.result c.args.banks.items c.in-Ok.blanks.items
-    c.err-fault.ensures.value c.ended_with.ensures.ends (meters_then g.B.Banks.meter c.args.banks.items c.find_filled.new.banks.items c.in-Ok.blanks.items c.find_filled.ensures.meters c.in-Ok.ensures.meters)
-    c.replay.ensures.meters
+    back_by g.B.Banks.log c.err-fault.result c.replay.new.stage c.ended_with.result g.B.Banks.meter c.args.banks.items c.in-Ok.blanks.items c.ended_with.ensures.ends
+    (meters_then g.B.Banks.meter c.args.banks.items c.find_filled.new.banks.items c.in-Ok.blanks.items c.find_filled.ensures.meters c.in-Ok.ensures.meters)
+    (quiet_then g.B.Banks.meter c.args.banks.items c.find_filled.new.banks.items c.in-Ok.blanks.items c.find_filled.ensures.meters c.in_default.ensures.faults c.in-Ok.ensures.quiet)
+    (rw c.err-fault.ensures.value c.replay.ensures.back)
+
+pub returns-in-Ok-clause-read : goal.returns-in-Ok-clause-read
+returns-in-Ok-clause-read g c =
+    said_by g.B.Banks.log c.err-fault.result c.replay.new.stage c.ended_with.result (λ f. CountsReads (g.S.Source.faults c.args.source.now) (g.S.Source.faults c.replay.new.source) f) c.ended_with.ensures.ends tt
+    (rw c.err-fault.ensures.value c.replay.ensures.read)
+
+pub returns-in-Ok-clause-write : goal.returns-in-Ok-clause-write
+returns-in-Ok-clause-write g c =
+    said_by g.B.Banks.log c.err-fault.result c.replay.new.stage c.ended_with.result (λ f. CountsWrites (g.K.Sink.faults c.args.sink.now) (g.K.Sink.faults c.replay.new.sink) f) c.ended_with.ensures.ends tt
+    (rw c.err-fault.ensures.value c.replay.ensures.write)
 
 pub returns-in-Ok-clause-exact : goal.returns-in-Ok-clause-exact
 returns-in-Ok-clause-exact g c = λ bytes told outcome verdict words.
-    agrees_by g.B.Banks.log c.replay.result c.err-fault.result c.replay.new.stage c.ended_with.result (g.S.Source.left c.args.source.now) (g.S.Source.left c.replay.new.source)
-    (g.K.Sink.held c.args.sink.now) (g.K.Sink.held c.replay.new.sink) c.err-fault.ensures.value c.ended_with.ensures.ends
-    c.replay.ensures.finished c.replay.ensures.usage c.replay.ensures.bad c.replay.ensures.unbuilt bytes told outcome verdict
+    said_by g.B.Banks.log c.err-fault.result c.replay.new.stage c.ended_with.result (λ f. Agrees f outcome) c.ended_with.ensures.ends tt
+    (rw c.err-fault.ensures.value
+    (agrees_so (StageStands g.B.Banks.log c.replay.new.stage) (StageStands g.B.Banks.log c.replay.new.stage) (result_err c.replay.result) bytes (g.S.Source.left c.replay.new.source) (g.K.Sink.held c.args.sink.now) (g.K.Sink.held c.replay.new.sink) (c.replay.ensures.ends bytes told)
+    (replay_not_usage c.replay.result c.replay.ensures.begun) outcome verdict))
