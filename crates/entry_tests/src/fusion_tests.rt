@@ -1,16 +1,148 @@
 //! Entries that are fused, compacted and cut.
+use crate::entries::{Row, clock, entries, entry, pair, pairs};
 use mld_ops::{Cut, Entry, Tagged, Tags};
 use op_fusion::{FuseFault, compacted, cut, fuse, has_neighbours};
-use rdf_terms::{Iri, Term, Triple};
+use rdf_terms::Triple;
 use std::alloc::{AllocError, Global};
 use std::test::Fail;
-use tree_clock::{Clock, Dot, Path, Range};
+use tree_clock::{Clock, Range};
 
-const T: &str = "http://example.org/t";
+const T: &str = "<http://d/s> <http://d/p> <http://d/t> .";
 
-const U: &str = "http://example.org/u";
+const U: &str = "<http://d/s> <http://d/p> <http://d/u> .";
 
-const V: &str = "http://example.org/v";
+const V: &str = "<http://d/s> <http://d/p> <http://d/v> .";
+
+const W: &str = "<http://d/s> <http://d/p> <http://d/w> .";
+
+// Tick 3 inserts V, and tick 4 inserts T, U and V. Tick 5 deletes W of tick 1, V of tick 3 and U of tick 4, and inserts T. Tick 6
+// deletes T of tick 4 and inserts U, and tick 8 inserts U.
+const ENTRIES: [Row; 4] = [
+    Row {
+        first: 3,
+        last: 4,
+        deletes: &[],
+        inserts: &[(T, 4), (U, 4), (V, 3), (V, 4)],
+    },
+    Row {
+        first: 4,
+        last: 5,
+        deletes: &[(V, 3), (W, 1)],
+        inserts: &[(T, 4), (T, 5), (V, 4)],
+    },
+    Row {
+        first: 6,
+        last: 6,
+        deletes: &[(T, 4)],
+        inserts: &[(U, 6)],
+    },
+    Row {
+        first: 8,
+        last: 8,
+        deletes: &[],
+        inserts: &[(U, 8)],
+    },
+];
+
+// What the first two are fused to, and what they all are compacted to.
+const FUSED: [Row; 3] = [
+    Row {
+        first: 3,
+        last: 5,
+        deletes: &[(W, 1)],
+        inserts: &[(T, 4), (T, 5), (V, 4)],
+    },
+    Row {
+        first: 3,
+        last: 6,
+        deletes: &[(W, 1)],
+        inserts: &[(T, 5), (U, 6), (V, 4)],
+    },
+    Row {
+        first: 8,
+        last: 8,
+        deletes: &[],
+        inserts: &[(U, 8)],
+    },
+];
+
+fn are_same_pairs(pairs: &[Tagged], others: &[Tagged]) -> bool {
+    pairs.len() == others.len()
+        && pairs
+            .iter()
+            .zip(others)
+            .all(|(pair, other)| pair.cmp(other).is_eq())
+}
+
+fn are_same_inserts(inserts: &[(Triple, u32)], others: &[(Triple, u32)]) -> bool {
+    inserts.len() == others.len()
+        && inserts.iter().zip(others).all(|(insert, other)| insert.0.cmp(&other.0).is_eq()
+            && insert.1 == other.1)
+}
+
+// Whether both have the same range, deletes, inserts and ticks of their path.
+fn are_alike(entry: &Entry, other: &Entry) -> bool {
+    let range = entry.range();
+    range == other.range()
+        && are_same_pairs(entry.deletes(), other.deletes())
+        && are_same_inserts(entry.inserts(), other.inserts())
+        && entry.time().ticks(&range.path) == other.time().ticks(&range.path)
+}
+
+fn fuses_to(alloc: Global, first: &Entry, second: &Entry, both: &Entry) -> Result<bool, FuseFault> {
+    let fused = fuse(alloc, first, second)?;
+    Ok(are_alike(&fused, both))
+}
+
+fn are_refused(alloc: Global, first: &Entry, second: &Entry) -> bool {
+    match fuse(alloc, first, second) {
+        Ok(_) => false,
+        Err(fault) => fault == FuseFault::NotAdjacent,
+    }
+}
+
+// Whether the entries have neighbours, and are compacted to these two, which are none.
+fn compact_to(
+    alloc: Global,
+    entries: &[Entry],
+    first: &Entry,
+    second: &Entry,
+) -> Result<bool, AllocError> {
+    let runs = compacted(alloc, entries)?;
+    Ok(match runs.as_slice() {
+        [run, alone] => {
+            has_neighbours(entries)
+                && !has_neighbours(&runs)
+                && are_alike(run, first)
+                && are_alike(alone, second)
+        }
+        _ => false,
+    })
+}
+
+// Whether the entries are fused and compacted as wanted.
+fn are_fused(alloc: Global, entries: &[Entry], wanted: &[Entry]) -> Result<bool, FuseFault> {
+    let [first, second, _, last] = entries else {
+        return Ok(false);
+    };
+    let [both, run, alone] = wanted else {
+        return Ok(false);
+    };
+    Ok(
+        fuses_to(alloc, first, second, both)?
+            && are_refused(alloc, first, last)
+            && compact_to(alloc, entries, run, alone)?,
+    )
+}
+
+#[test]
+fn a_run_becomes_one_and_what_is_alone_stays(rt: HostRuntime) -> Result<(), Fail> {
+    let alloc = rt.alloc();
+    let given = Box::new(alloc, entries(alloc, &ENTRIES)?)?;
+    let wanted = Box::new(alloc, entries(alloc, &FUSED)?)?;
+    assert!(rt; are_fused(alloc, &given, &wanted)?);
+    Ok(())
+}
 
 // A set of one pair.
 #[derive(Drop)]
@@ -36,183 +168,36 @@ impl Tags for Single {
     }
 }
 
-// A triple that differs from others by its object.
-fn triple(alloc: Global, object: &str) -> Result<Triple, Fail> {
-    Ok(Triple {
-        s: Iri::new(alloc, "http://example.org/s")?,
-        p: Iri::new(alloc, "http://example.org/p")?,
-        o: Term::Iri(Iri::new(alloc, object)?),
-    })
-}
-
-fn left() -> Path {
-    Path::root().child(false)
-}
-
-fn pair(alloc: Global, object: &str, tick: u32) -> Result<Tagged, Fail> {
-    let dot = Dot { path: left(), tick };
-    let triple = triple(alloc, object)?;
-    Ok(Tagged { triple, dot })
-}
-
-// The clock with the ticks of one path.
-fn clock(alloc: Global, path: &Path, tick: u32) -> Result<Clock, Fail> {
-    let mut clock = Clock::empty(alloc);
-    clock.reserve(path)?;
-    clock.raise(&Dot { path: *path, tick });
-    Ok(clock)
-}
-
-// An entry of the range that inserts triples with these objects, and deletes those of the left path.
-fn entry(
-    alloc: Global,
-    path: &Path,
-    first: u32,
-    last: u32,
-    deletes: &[(&str, u32)],
-    inserts: &[(&str, u32)],
-) -> Result<Entry, Fail> {
-    let range = Range {
-        path: *path,
-        first,
-        last,
-    };
-    let mut deleted = Vec::new(alloc);
-    for (object, tick) in deletes {
-        deleted.push(pair(alloc, object, *tick)?)?;
+// Whether a change drops the pair of a set, and adds these.
+fn is_cut(cut: &Cut, state: &Single, adds: &[Tagged]) -> bool {
+    match cut.drops.as_slice() {
+        [drop] => state.has(drop) && are_same_pairs(&cut.adds, adds),
+        _ => false,
     }
-    let mut inserted = Vec::new(alloc);
-    for (object, tick) in inserts {
-        inserted.push((triple(alloc, object)?, *tick))?;
-    }
-    let time = clock(alloc, path, last)?;
-    Ok(Entry::new(range, time, deleted, inserted).ok_or("refused")?)
 }
 
-// Whether the entry has the range, the deletes, the inserts and the ticks of the left path in its time that the other has.
-fn alike(entry: &Entry, other: &Entry) -> bool {
-    entry.range() == other.range()
-        && entry.deletes() == other.deletes()
-        && entry.inserts() == other.inserts()
-        && entry.time().ticks(&left()) == other.time().ticks(&left())
-}
-
-// The fused entry of two is the wanted one.
-fn fuses_to(
+// Whether an entry drops the pair of a set, where the dots of a clock are known, and adds these.
+fn cuts_to(
     alloc: Global,
-    first: &Entry,
-    second: &Entry,
-    wanted: &Entry,
-) -> Result<bool, FuseFault> {
-    let fused = fuse(alloc, first, second)?;
-    Ok(alike(&fused, wanted))
+    entry: &Entry,
+    seen: &Clock,
+    state: &Single,
+    adds: &[Tagged],
+) -> Result<bool, AllocError> {
+    let cut = cut(alloc, entry, seen, state)?;
+    Ok(is_cut(&cut, state, adds))
 }
 
-#[test]
-fn a_delete_takes_the_insert_of_the_entry_before(rt: HostRuntime) -> Result<(), Fail> {
-    let alloc = rt.alloc();
-    let first = entry(alloc, &left(), 1, 2, &[], &[(T, 1), (U, 2)])?;
-    let second = entry(alloc, &left(), 3, 3, &[(T, 1)], &[])?;
-    let wanted = entry(alloc, &left(), 1, 3, &[], &[(U, 2)])?;
-    assert!(rt; fuses_to(alloc, &first, &second, &wanted)?);
-    Ok(())
-}
-
-#[test]
-fn ranges_that_overlap_have_what_both_leave(rt: HostRuntime) -> Result<(), Fail> {
-    let alloc = rt.alloc();
-    // Tick 1 inserts V, tick 2 inserts T, U and V, tick 3 inserts T and deletes U of tick 2 and V of tick 1.
-    let first = entry(alloc, &left(), 1, 2, &[], &[(T, 2), (U, 2), (V, 1), (V, 2)])?;
-    let second = entry(alloc, &left(), 2, 3, &[(V, 1)], &[(T, 2), (T, 3), (V, 2)])?;
-    let wanted = entry(alloc, &left(), 1, 3, &[], &[(T, 2), (T, 3), (V, 2)])?;
-    assert!(rt; fuses_to(alloc, &first, &second, &wanted)?);
-    Ok(())
-}
-
-// What fusing an entry of r0.1-2 with one of these ticks of a path answers.
-fn fault_with(
-    alloc: Global,
-    path: &Path,
-    first: u32,
-    last: u32,
-) -> Result<Option<FuseFault>, Fail> {
-    let before = entry(alloc, &left(), 1, 2, &[], &[])?;
-    let after = entry(alloc, path, first, last, &[], &[])?;
-    Ok(fuse(alloc, &before, &after).err())
-}
-
-#[test]
-fn only_neighbours_are_fused(rt: HostRuntime) -> Result<(), Fail> {
-    let alloc = rt.alloc();
-    let other = Path::root().child(true);
-    assert!(rt; fault_with(alloc, &left(), 3, 3)? == None);
-    assert!(rt; fault_with(alloc, &left(), 1, 3)? == None);
-    for (path, first, last) in [(left(), 4, 5), (left(), 1, 2), (other, 3, 3)] {
-        assert!(rt; fault_with(alloc, &path, first, last)? == Some(FuseFault::NotAdjacent));
-    }
-    Ok(())
-}
-
-// What an entry of r0.1-3 that inserts U at 2 does to the pair T of tick 1, where so many ticks are seen.
-fn cut_at(alloc: Global, seen: u32) -> Result<Cut, Fail> {
-    let whole = entry(alloc, &left(), 1, 3, &[], &[(U, 2)])?;
-    let state = Single {
-        pair: pair(alloc, T, 1)?,
-    };
-    Ok(cut(alloc, &whole, &clock(alloc, &left(), seen)?, &state)?)
-}
-
-fn has_one(pairs: &[Tagged], pair: &Tagged) -> bool {
-    pairs.len() == 1 && pairs[0] == *pair
-}
-
+// The entry of ticks 3 to 6 is taken by one who has V of tick 3, and knows the ticks up to that.
 #[test]
 fn an_entry_seen_in_part_drops_what_its_end_deleted(rt: HostRuntime) -> Result<(), Fail> {
     let alloc = rt.alloc();
-    let seen = cut_at(alloc, 1)?;
-    assert!(rt; has_one(&seen.drops, &pair(alloc, T, 1)?));
-    assert!(rt; has_one(&seen.adds, &pair(alloc, U, 2)?));
-    Ok(())
-}
-
-// Entries of r0.1-2, r0.2-3 and r0.4, and of r0.6 behind a gap. Tick 1 inserts T, tick 2 inserts U, tick 3 deletes T and inserts V,
-// tick 4 deletes U and inserts T, tick 6 inserts U.
-fn a_run_and_one_alone(alloc: Global) -> Result<Vec<Entry>, Fail> {
-    let mut entries = Vec::new(alloc);
-    entries.push(entry(alloc, &left(), 1, 2, &[], &[(T, 1), (U, 2)])?)?;
-    entries.push(entry(alloc, &left(), 2, 3, &[(T, 1)], &[(U, 2), (V, 3)])?)?;
-    entries.push(entry(alloc, &left(), 4, 4, &[(U, 2)], &[(T, 4)])?)?;
-    entries.push(entry(alloc, &left(), 6, 6, &[], &[(U, 6)])?)?;
-    Ok(entries)
-}
-
-// What is left of them: the run is one entry of r0.1-4.
-fn one_run_and_one_alone(alloc: Global) -> Result<Vec<Entry>, Fail> {
-    let mut entries = Vec::new(alloc);
-    entries.push(entry(alloc, &left(), 1, 4, &[], &[(T, 4), (V, 3)])?)?;
-    entries.push(entry(alloc, &left(), 6, 6, &[], &[(U, 6)])?)?;
-    Ok(entries)
-}
-
-fn are_alike(entries: &[Entry], others: &[Entry]) -> bool {
-    entries.len() == others.len()
-        && entries
-            .iter()
-            .zip(others)
-            .all(|(entry, other)| alike(entry, other))
-}
-
-// The entries have neighbours, and are compacted to the wanted ones, which have none.
-fn compacts_to(alloc: Global, entries: &[Entry], wanted: &[Entry]) -> Result<bool, AllocError> {
-    let runs = compacted(alloc, entries)?;
-    Ok(has_neighbours(entries) && !has_neighbours(&runs) && are_alike(&runs, wanted))
-}
-
-#[test]
-fn a_run_becomes_one_and_what_is_alone_stays(rt: HostRuntime) -> Result<(), Fail> {
-    let alloc = rt.alloc();
-    let entries = a_run_and_one_alone(alloc)?;
-    let wanted = one_run_and_one_alone(alloc)?;
-    assert!(rt; compacts_to(alloc, &entries, &wanted)?);
+    let row = FUSED[1];
+    let entry = Box::new(alloc, entry(alloc, &row)?)?;
+    let seen = Box::new(alloc, clock(alloc, 3)?)?;
+    let pair = pair(alloc, (V, 3))?;
+    let state = Box::new(alloc, Single { pair })?;
+    let adds = Box::new(alloc, pairs(alloc, row.inserts)?)?;
+    assert!(rt; cuts_to(alloc, &entry, &seen, &state, &adds)?);
     Ok(())
 }

@@ -3,6 +3,8 @@
 #![tactic(auto)]
 
 #[cfg(test)]
+mod entries;
+#[cfg(test)]
 mod fusion_tests;
 #[cfg(test)]
 mod held_tests;

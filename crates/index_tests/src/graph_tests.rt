@@ -1,32 +1,35 @@
+//! A graph that is asked, changed by a cut, and asked again.
 ghost use Rattle.std.specs.Prelude.{◌≡◌, ◌<◌, IfOk};
 ghost use Rattle.mld_ops.specs.Tagged.{tagged_cmp};
 ghost use Rattle.tree_clock.specs.Lists.{IsAscending};
 
 use graph_index::{Graph, Steps};
 use mld_ops::{Cut, Tagged, Tags, insert_pair};
-use rdf_terms::{Iri, Term, Triple};
-use std::alloc::Global;
+use rdf_terms::{Iri, Term, read_triple};
+use std::alloc::{AllocError, Global};
 use std::marker::Brand;
 use std::sync::ledger::{Blank, Ledger};
 use std::test::Fail;
 use tree_clock::{Dot, Path, Range};
 
-// A pair of the root's path: its subject, its object and its tick.
-fn pair(alloc: Global, (subject, object, tick): (&str, &str, u32)) -> Result<Tagged, Fail> {
+const XA: &str = "<urn:x> <urn:p> <urn:a> .";
+
+const XB: &str = "<urn:x> <urn:p> <urn:b> .";
+
+const YA: &str = "<urn:y> <urn:p> <urn:a> .";
+
+const YB: &str = "<urn:y> <urn:p> <urn:b> .";
+
+// The pair of a line and of a tick of the root.
+fn pair(alloc: Global, (line, tick): (&str, u32)) -> Result<Tagged, Fail> {
+    let path = Path::root();
     Ok(Tagged {
-        triple: Triple {
-            s: Iri::new(alloc, subject)?,
-            p: Iri::new(alloc, "urn:p")?,
-            o: Term::Iri(Iri::new(alloc, object)?),
-        },
-        dot: Dot {
-            path: Path::root(),
-            tick,
-        },
+        triple: read_triple(alloc, line)?,
+        dot: Dot { path, tick },
     })
 }
 
-fn fill(alloc: Global, list: &mut Vec<Tagged>, rows: &[(&str, &str, u32)]) -> Result<(), Fail>
+fn fill(alloc: Global, list: &mut Vec<Tagged>, rows: &[(&str, u32)]) -> Result<(), Fail>
     requires { IsAscending tagged_cmp list.old.items }
     ensures { IsAscending tagged_cmp list.new.items }
 {
@@ -36,7 +39,7 @@ fn fill(alloc: Global, list: &mut Vec<Tagged>, rows: &[(&str, &str, u32)]) -> Re
     Ok(())
 }
 
-fn pairs(alloc: Global, rows: &[(&str, &str, u32)]) -> Result<Vec<Tagged>, Fail>
+fn pairs(alloc: Global, rows: &[(&str, u32)]) -> Result<Vec<Tagged>, Fail>
     ensures { IfOk result (λ list. IsAscending tagged_cmp list.items) }
 {
     let mut list = Vec::new(alloc);
@@ -45,80 +48,58 @@ fn pairs(alloc: Global, rows: &[(&str, &str, u32)]) -> Result<Vec<Tagged>, Fail>
 }
 
 fn begun(alloc: Global) -> Result<Graph, Fail> {
-    let list = pairs(
-        alloc,
-        &[
-            ("urn:x", "urn:a", 1),
-            ("urn:x", "urn:a", 2),
-            ("urn:x", "urn:a", 7),
-            ("urn:y", "urn:b", 4),
-        ],
-    )?;
+    let list = pairs(alloc, &[(XA, 1), (XA, 2), (XA, 7), (YB, 4)])?;
     Ok(Graph::from_list(alloc, list)?)
 }
 
 // Drops two pairs, and adds one of them again and two others.
 fn change(alloc: Global, graph: &mut Graph) -> Result<(), Fail> {
-    let drops = pairs(alloc, &[("urn:x", "urn:a", 1), ("urn:y", "urn:b", 4)])?;
-    let adds = pairs(
-        alloc,
-        &[
-            ("urn:x", "urn:b", 5),
-            ("urn:y", "urn:a", 3),
-            ("urn:y", "urn:b", 4),
-        ],
-    )?;
+    let drops = pairs(alloc, &[(XA, 1), (YB, 4)])?;
+    let adds = pairs(alloc, &[(XB, 5), (YA, 3), (YB, 4)])?;
     let cut = Cut { drops, adds };
     graph.prepare(alloc, &cut)?;
     graph.apply(cut);
     Ok(())
 }
 
-/// Whether the pairs have these ticks, in order.
-pub(crate) fn has_ticks(pairs: &[Tagged], ticks: &[u32]) -> bool {
-    if pairs.len() != ticks.len() {
-        return false;
-    }
-    for (pair, tick) in pairs.iter().zip(ticks) {
-        if pair.dot.tick != *tick {
-            return false;
-        }
-    }
-    true
+// Whether the pairs have these ticks, in order.
+fn have_ticks(pairs: &[Tagged], ticks: &[u32]) -> bool {
+    pairs.len() == ticks.len()
+        && pairs
+            .iter()
+            .zip(ticks)
+            .all(|(pair, tick)| pair.dot.tick == *tick)
 }
 
-fn has(alloc: Global, graph: &Graph, row: (&str, &str, u32)) -> Result<bool, Fail> {
-    let pair = pair(alloc, row)?;
-    Ok(graph.has(&pair))
-}
-
-fn has_triple(alloc: Global, graph: &Graph, row: (&str, &str, u32)) -> Result<bool, Fail> {
-    let pair = pair(alloc, row)?;
-    Ok(graph.has_triple(&pair.triple))
-}
-
-fn lists(alloc: Global, graph: &Graph) -> Result<bool, Fail> {
+// Whether the graph has these ticks, in order.
+fn has_just(alloc: Global, graph: &Graph, ticks: &[u32]) -> Result<bool, AllocError> {
     let list = graph.to_list(alloc)?;
-    Ok(has_ticks(&list, &[2, 7, 5, 3, 4]))
+    Ok(graph.count() == ticks.len() && have_ticks(&list, ticks))
 }
 
-fn ranges(alloc: Global, graph: &Graph) -> Result<bool, Fail> {
+// Whether the pairs of ticks 3 to 5 are these.
+fn has_of_range(alloc: Global, graph: &Graph, ticks: &[u32]) -> Result<bool, AllocError> {
     let range = Range {
         path: Path::root(),
         first: 3,
         last: 5,
     };
     let found = graph.of_range(alloc, &range)?;
-    Ok(has_ticks(&found, &[5, 3, 4]))
+    Ok(have_ticks(&found, ticks))
 }
 
-fn tags(alloc: Global, graph: &Graph) -> Result<bool, Fail> {
-    let pair = pair(alloc, ("urn:x", "urn:a", 0))?;
-    let dots = graph.tags_of(alloc, &pair.triple)?;
-    Ok(match dots.as_slice() {
-        [first, last] => first.tick == 2 && last.tick == 7,
-        _ => false,
-    })
+// Whether the graph has a pair, and whether it has the triple of that.
+fn has(alloc: Global, graph: &Graph, row: (&str, u32)) -> Result<(bool, bool), Fail> {
+    let pair = pair(alloc, row)?;
+    Ok((graph.has(&pair), graph.has_triple(&pair.triple)))
+}
+
+// Whether the pairs of the first triple, and their dots, have ticks 2 and 7.
+fn has_tags(alloc: Global, graph: &Graph) -> Result<bool, Fail> {
+    let triple = Box::new(alloc, read_triple(alloc, XA)?)?;
+    let pairs = Box::new(alloc, graph.of_triple(alloc, &triple)?)?;
+    let dots = Box::new(alloc, graph.tags_of(alloc, &triple)?)?;
+    Ok(have_ticks(&pairs, &[2, 7]) && dots.len() == 2 && dots[0].tick == 2 && dots[1].tick == 7)
 }
 
 fn scanned_in<L: Ledger>(
@@ -133,6 +114,7 @@ fn scanned_in<L: Ledger>(
     requires some { 0 < L.parts }
 {
     let mut steps = Steps::<L>::new(blank);
+    steps.tick();
     match graph.scan(alloc, s, None, o, &mut steps) {
         Ok(found) => found.len(),
         Err(_) => 0,
@@ -144,15 +126,13 @@ fn scanned(alloc: Global, graph: &Graph, s: Option<&Iri>, o: Option<&Term>) -> u
     scanned_in::<Brand>(alloc, graph, s, o, Blank::new(1))
 }
 
-fn scans(alloc: Global, graph: &Graph) -> Result<bool, Fail> {
-    let pair = pair(alloc, ("urn:x", "urn:b", 0))?;
-    let s = Some(&pair.triple.s);
-    let o = Some(&pair.triple.o);
+// Whether there are three pairs of the subject, two of the object, and one of both.
+fn is_scanned(alloc: Global, graph: &Graph) -> Result<bool, Fail> {
+    let triple = read_triple(alloc, XB)?;
     Ok(
-        scanned(alloc, graph, s, None) == 3
-            && scanned(alloc, graph, None, o) == 2
-            && scanned(alloc, graph, s, o) == 1
-            && scanned(alloc, graph, None, None) == 5,
+        scanned(alloc, graph, Some(&triple.s), None) == 3
+            && scanned(alloc, graph, None, Some(&triple.o)) == 2
+            && scanned(alloc, graph, Some(&triple.s), Some(&triple.o)) == 1,
     )
 }
 
@@ -160,14 +140,12 @@ fn scans(alloc: Global, graph: &Graph) -> Result<bool, Fail> {
 fn a_cut_drops_before_it_adds(rt: HostRuntime) -> Result<(), Fail> {
     let alloc = rt.alloc();
     let mut graph = Box::new(alloc, begun(alloc)?)?;
-    assert!(rt; graph.count() == 4);
+    assert!(rt; has_just(alloc, &graph, &[1, 2, 7, 4])? && has_of_range(alloc, &graph, &[4])?);
     change(alloc, &mut graph)?;
-    assert!(rt; graph.count() == 5);
-    assert!(rt; has(alloc, &graph, ("urn:y", "urn:b", 4))?);
-    assert!(rt; !has(alloc, &graph, ("urn:x", "urn:a", 1))?);
-    assert!(rt; has_triple(alloc, &graph, ("urn:x", "urn:a", 0))?);
-    assert!(rt; !has_triple(alloc, &graph, ("urn:y", "urn:c", 0))?);
-    assert!(rt; lists(alloc, &graph)? && ranges(alloc, &graph)?);
-    assert!(rt; tags(alloc, &graph)? && scans(alloc, &graph)?);
+    assert!(rt; has_just(alloc, &graph, &[2, 7, 5, 3, 4])?);
+    assert!(rt; has_of_range(alloc, &graph, &[5, 3, 4])?);
+    assert!(rt; has(alloc, &graph, (XA, 1))? == (false, true));
+    assert!(rt; has(alloc, &graph, (YB, 4))? == (true, true));
+    assert!(rt; has_tags(alloc, &graph)? && is_scanned(alloc, &graph)?);
     Ok(())
 }

@@ -8,7 +8,3 @@ mod graph_tests;
 mod list_tests;
 #[cfg(test)]
 mod numbers;
-#[cfg(test)]
-mod random_tests;
-#[cfg(test)]
-mod range_tests;

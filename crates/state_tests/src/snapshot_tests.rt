@@ -1,78 +1,45 @@
+//! Snapshots, made and joined.
 ghost use Rattle.std.specs.Prelude.{IfOk};
 ghost use Rattle.mld_ops.specs.Messages.{snapshot_value, IsGoodSnapshot};
+ghost use Rattle.tree_clock.specs.Clock.{Covers};
 
-use crate::states::{clock, have_dots, left, pair, pairs, right};
-use mld_ops::Snapshot;
+use crate::states::{clock, has_just, have_dots, left, pair, right, set};
+use mld_ops::{Snapshot, Tagged};
 use snapshot::{join, of_state};
-use std::alloc::Global;
+use std::alloc::{AllocError, Global};
 use std::test::Fail;
 use suset::TaggedSet;
-use tree_clock::{Clock, Dot};
+use tree_clock::Clock;
 
-// The set of two pairs, one of each leaf.
-fn two(alloc: Global) -> Result<TaggedSet, Fail> {
-    let list = pairs(alloc, &[("t", left(1)), ("u", right(1))])?;
-    Ok(TaggedSet::from_list(list)?)
-}
-
-// The snapshot of one who knows these dots, and has no pair.
-fn bare(alloc: Global, known: &[Dot]) -> Result<Snapshot, Fail>
+// The snapshot of one who knows the dots of a clock, and has a pair.
+fn of_one(alloc: Global, clock: &Clock, pair: &Tagged) -> Result<Snapshot, AllocError>
+    requires { Covers clock.now.ticks pair.now.dot }
     ensures { IfOk result (λ snapshot. IsGoodSnapshot (snapshot_value snapshot)) }
 {
-    let clock = Box::new(alloc, clock(alloc, known)?)?;
-    Ok(of_state(alloc, &clock, Vec::new(alloc))?)
-}
-
-// The snapshot of one who knows a dot and has its pair.
-fn of_one(alloc: Global, subject: &str, dot: &Dot) -> Result<Snapshot, Fail>
-    ensures { IfOk result (λ snapshot. IsGoodSnapshot (snapshot_value snapshot)) }
-{
-    let clock = Box::new(alloc, clock(alloc, &[*dot])?)?;
-    let pair = pair(alloc, subject, dot)?;
-    if !clock.covers(&pair.dot) {
-        return Err(Fail::from("the clock lacks the dot"));
-    }
     let mut list = Vec::new(alloc);
-    list.push(pair)?;
-    Ok(of_state(alloc, &clock, list)?)
+    list.push(pair.share()?)?;
+    of_state(alloc, clock, list)
 }
 
-// Whether a clock has these ticks of the leaves, and a set just the pairs of these dots.
-fn is_state(
-    alloc: Global,
-    (clock, set): &(Clock, TaggedSet),
-    ticks: (u32, u32),
-    dots: &[Dot],
-) -> Result<bool, Fail> {
-    let list = Box::new(alloc, set.to_list(alloc)?)?;
-    let ticks_are = clock.ticks(&left(1).path) == ticks.0 && clock.ticks(&right(1).path) == ticks.1;
-    Ok(ticks_are && have_dots(&list, dots))
+// Joins a state of two pairs with a snapshot.
+fn join_with(alloc: Global, snapshot: &Snapshot) -> Result<(Clock, TaggedSet), Fail>
+    requires { IsGoodSnapshot (snapshot_value snapshot.now) }
+{
+    let known = Box::new(alloc, clock(alloc, &[left(1), right(1)])?)?;
+    let set = Box::new(alloc, set(alloc, &[("t", left(1)), ("u", right(1))])?)?;
+    Ok(join(alloc, &known, &set, snapshot)?)
 }
 
 #[test]
-fn a_join_has_the_ticks_of_both_and_loses_what_was_deleted(rt: HostRuntime) -> Result<(), Fail> {
-    let known = Box::new(rt.alloc(), clock(rt.alloc(), &[left(1), right(1)])?)?;
-    let set = Box::new(rt.alloc(), two(rt.alloc())?)?;
-    let snapshot = Box::new(rt.alloc(), bare(rt.alloc(), &[left(2)])?)?;
-    let joined = Box::new(rt.alloc(), join(rt.alloc(), &known, &set, &snapshot)?)?;
-    assert!(rt; is_state(rt.alloc(), &joined, (2, 1), &[right(1)])?);
-    Ok(())
-}
-
-#[test]
-fn a_join_has_the_pairs_that_the_snapshot_brings(rt: HostRuntime) -> Result<(), Fail> {
-    let known = Box::new(rt.alloc(), clock(rt.alloc(), &[left(1), right(1)])?)?;
-    let set = Box::new(rt.alloc(), two(rt.alloc())?)?;
-    let snapshot = Box::new(rt.alloc(), of_one(rt.alloc(), "w", &left(4))?)?;
-    let joined = Box::new(rt.alloc(), join(rt.alloc(), &known, &set, &snapshot)?)?;
-    assert!(rt; is_state(rt.alloc(), &joined, (4, 1), &[right(1), left(4)])?);
-    Ok(())
-}
-
-#[test]
-fn a_snapshot_has_the_ticks_and_the_pairs(rt: HostRuntime) -> Result<(), Fail> {
-    let snapshot = Box::new(rt.alloc(), of_one(rt.alloc(), "w", &left(4))?)?;
-    assert!(rt; snapshot.clock.ticks(&left(1).path) == 4);
+fn a_join_has_the_ticks_of_both_and_what_the_snapshot_brings(rt: HostRuntime) -> Result<(), Fail> {
+    let alloc = rt.alloc();
+    let known = Box::new(alloc, clock(alloc, &[left(4)])?)?;
+    let pair = Box::new(alloc, pair(alloc, "w", &left(4))?)?;
+    assert!(rt; known.covers(&pair.dot));
+    let snapshot = Box::new(alloc, of_one(alloc, &known, &pair)?)?;
     assert!(rt; have_dots(&snapshot.tagged, &[left(4)]));
+    let joined = Box::new(alloc, join_with(alloc, &snapshot)?)?;
+    assert!(rt; joined.0.ticks(&left(1).path) == 4 && joined.0.ticks(&right(1).path) == 1);
+    assert!(rt; has_just(alloc, &joined.1, &[right(1), left(4)])?);
     Ok(())
 }

@@ -1,4 +1,4 @@
-//! Clocks and pairs of two leaves, as the tests write them.
+//! Clocks, pairs and sets of two leaves, as the tests write them.
 ghost use Rattle.std.specs.Prelude.{IfOk};
 ghost use Rattle.mld_ops.specs.Tagged.{tagged_cmp};
 ghost use Rattle.tree_clock.specs.Lists.{IsAscending};
@@ -7,6 +7,7 @@ use mld_ops::{Tagged, insert_pair};
 use rdf_terms::read_triple;
 use std::alloc::Global;
 use std::test::Fail;
+use suset::TaggedSet;
 use tree_clock::{Clock, Dot, Path};
 
 /// A dot of the left leaf.
@@ -66,4 +67,16 @@ pub(crate) fn clock(alloc: Global, dots: &[Dot]) -> Result<Clock, Fail> {
 /// Whether these are just the pairs of these dots, in order.
 pub(crate) fn have_dots(pairs: &[Tagged], dots: &[Dot]) -> bool {
     pairs.len() == dots.len() && pairs.iter().zip(dots).all(|(pair, dot)| pair.dot == *dot)
+}
+
+/// The set of these pairs.
+pub(crate) fn set(alloc: Global, rows: &[(&str, Dot)]) -> Result<TaggedSet, Fail> {
+    let list = pairs(alloc, rows)?;
+    Ok(TaggedSet::from_list(list)?)
+}
+
+/// Whether a set has just the pairs of these dots, in order.
+pub(crate) fn has_just(alloc: Global, set: &TaggedSet, dots: &[Dot]) -> Result<bool, Fail> {
+    let list = set.to_list(alloc)?;
+    Ok(have_dots(&list, dots))
 }
