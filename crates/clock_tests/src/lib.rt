@@ -5,8 +5,4 @@
 #[cfg(test)]
 mod clock_tests;
 #[cfg(test)]
-mod leaf_tests;
-#[cfg(test)]
 mod path_tests;
-#[cfg(test)]
-mod plain_list;

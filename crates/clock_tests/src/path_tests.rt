@@ -1,109 +1,61 @@
-//! Paths, dots and ranges: what they print, how they are ordered, and what a range has.
+//! Limits, paths, leaves, dots and ranges.
+use std::alloc::AllocError;
 use std::test::Fail;
-use tree_clock::{Dot, PATH_LIMIT, Path, Range, Ranges, knows};
+use tree_clock::{Dot, Leaf, PATH_LIMIT, Path, Range, Ranges, TICK_LIMIT, knows};
 
-fn path(letters: &[u8]) -> Path {
-    let mut path = Path::root();
-    for letter in letters {
-        if path.len() < PATH_LIMIT {
-            path = path.child(*letter == b'1');
-        }
-    }
-    path
+#[test]
+fn limits_have_their_numbers(rt: HostRuntime) {
+    assert!(rt; PATH_LIMIT == 64);
+    assert!(rt; TICK_LIMIT == 4_294_967_295);
+}
+
+// The path r01.
+fn r01() -> Path {
+    Path::root().child(false).child(true)
 }
 
 #[test]
-fn a_path_prints_its_letters(rt: HostRuntime) -> Result<(), Fail> {
-    let zeros = path(&[b'0'; 64]);
-    assert!(rt; Path::root().is_empty());
-    assert_eq!(rt; path(b"01").len(), 2);
-    assert!(rt; !path(b"01").is_empty());
-    assert_eq!(rt; format!(in rt.alloc(); "{}", Path::root())?.as_str(), "r");
-    assert_eq!(rt; format!(in rt.alloc(); "{}", path(b"01"))?.as_str(), "r01");
-    assert_eq!(rt; zeros.len(), 64);
-    let text = "r0000000000000000000000000000000000000000000000000000000000000000";
-    assert_eq!(rt; format!(in rt.alloc(); "{zeros}")?.as_str(), text);
-    Ok(())
-}
-
-#[test]
-fn letters_are_counted_from_the_front(rt: HostRuntime) {
-    let path = path(b"011");
-    assert_eq!(rt; path.len(), 3);
-    assert!(rt; !path.letter(0));
-    assert!(rt; path.letter(1));
-    assert!(rt; path.letter(2));
-}
-
-#[test]
-fn paths_are_ordered_by_their_texts(rt: HostRuntime) {
-    assert!(rt; Path::root() < path(b"0"));
-    assert!(rt; path(b"0") < path(b"00"));
-    assert!(rt; path(b"00") < path(b"01"));
-    assert!(rt; path(b"01") < path(b"1"));
-    assert!(rt; path(&[b'0'; 64]) < path(b"1"));
-    assert!(rt; path(b"0") != path(b"00"));
-    assert!(rt; path(b"01") == Path::root().child(false).child(true));
-}
-
-#[test]
-fn dots_and_ranges_print_their_ticks(rt: HostRuntime) -> Result<(), Fail> {
-    let path = Path::root().child(false).child(true);
-    let dot = Dot { path, tick: 3 };
-    let range = Range {
-        path,
-        first: 1,
-        last: 3,
-    };
-    assert_eq!(rt; format!(in rt.alloc(); "{dot}")?.as_str(), "r01.3");
-    assert_eq!(rt; format!(in rt.alloc(); "{range}")?.as_str(), "r01.1-3");
-    Ok(())
+fn a_path_has_its_letters(rt: HostRuntime) {
+    let path = r01();
+    assert!(rt; Path::root().is_empty() && path.len() == 2);
+    assert!(rt; !path.letter(0) && path.letter(1));
 }
 
 #[test]
 fn dots_are_ordered_by_path_before_tick(rt: HostRuntime) {
     let low = Dot {
-        path: Path::root().child(false),
+        path: r01(),
         tick: 9,
     };
     let high = Dot {
         path: Path::root().child(true),
         tick: 2,
     };
-    let later = Dot {
-        path: Path::root().child(true),
-        tick: 3,
-    };
-    assert!(rt; low < high);
-    assert!(rt; high < later);
+    assert!(rt; low < high && low != high);
+}
+
+// The root forks, and its first son gives: the paths of the second son, of what the first keeps and of what it gives.
+fn forked() -> Option<[Path; 3]> {
+    let (mut zero, one) = Leaf::genesis().fork().ok()?;
+    let right = zero.give()?;
+    Some([one.path(), zero.path(), right.path()])
 }
 
 #[test]
-fn a_range_has_its_first_and_last_tick(rt: HostRuntime) {
-    let path = Path::root();
-    let range = Range {
-        path,
-        first: 2,
-        last: 4,
-    };
-    assert!(rt; !range.contains(&Dot { path, tick: 1 }));
-    assert!(rt; range.contains(&Dot { path, tick: 2 }));
-    assert!(rt; range.contains(&Dot { path, tick: 4 }));
-    assert!(rt; !range.contains(&Dot { path, tick: 5 }));
-    let other = path.child(true);
-    assert!(rt;
-        !range.contains(&Dot {
-            path: other,
-            tick: 2
-        })
-    );
+fn a_leaf_forks_and_gives(rt: HostRuntime) {
+    let left = Path::root().child(false);
+    let wanted = [
+        Path::root().child(true),
+        left.child(false),
+        left.child(true),
+    ];
+    assert!(rt; forked() == Some(wanted));
+    assert!(rt; Leaf::at(r01()).path() == r01());
 }
 
-#[test]
-fn a_list_knows_the_dots_of_its_ranges(rt: HostRuntime) -> Result<(), Fail> {
+// Adds the ranges r.1-2 and r1.5-5.
+fn add_ranges(ranges: &mut Ranges) -> Result<(), AllocError> {
     let path = Path::root();
-    let mut ranges = Ranges::new(rt.alloc());
-    assert!(rt; ranges.is_empty());
     ranges.push(Range {
         path,
         first: 1,
@@ -113,20 +65,31 @@ fn a_list_knows_the_dots_of_its_ranges(rt: HostRuntime) -> Result<(), Fail> {
         path: path.child(true),
         first: 5,
         last: 5,
-    })?;
-    let copy = ranges.copy_in(rt.alloc())?;
-    assert_eq!(rt; copy.len(), 2);
-    assert!(rt; copy.knows(&Dot { path, tick: 2 }));
-    assert!(rt; !copy.knows(&Dot { path, tick: 5 }));
+    })
+}
+
+// Whether these are the two ranges, by what they know.
+fn are_those(ranges: &Ranges) -> bool {
+    let path = Path::root();
     let right = path.child(true);
-    assert!(rt;
-        knows(
-            copy.as_slice(),
+    ranges.len() == 2
+        && ranges.knows(&Dot { path, tick: 2 })
+        && !ranges.knows(&Dot { path, tick: 5 })
+        && knows(
+            ranges.as_slice(),
             &Dot {
                 path: right,
-                tick: 5
-            }
+                tick: 5,
+            },
         )
-    );
+}
+
+#[test]
+fn a_list_knows_the_dots_of_its_ranges(rt: HostRuntime) -> Result<(), Fail> {
+    let mut ranges = Box::new(rt.alloc(), Ranges::new(rt.alloc()))?;
+    assert!(rt; ranges.is_empty());
+    add_ranges(&mut ranges)?;
+    let copy = Box::new(rt.alloc(), ranges.copy_in(rt.alloc())?)?;
+    assert!(rt; are_those(&copy));
     Ok(())
 }

@@ -1,44 +1,58 @@
-use mld_ops::{Entry, Message, Tagged};
-use op_codec::*;
-use std::alloc::Global;
+//! Messages as bytes: each kind, and the places where reading them stops.
+use mld_ops::Message;
+use op_codec::{CodecFault, is_short_message, read_message, write_message};
+use std::alloc::{AllocError, Global};
 use std::test::Fail;
-use tree_clock::Clock;
 
-// The entry that inserts `<http://d/a> <http://d/#p> "x" .` as the first operation of the root.
-const ENTRY: &[u8] =
-    b"\x00\x00\x00\x00\x01\x00\x00\x00\x01\x00\x00\x00\x01\x00\x00\x00\x00\x01\x00\x00\x00\x00\x00\x00\x00\x01\x00\x00\x00\x20<http://d/a> <http://d/#p> \"x\" .\x00\x00\x00\x01";
+// Numbers: how many items a list has, or a tick.
+const ZERO: &[u8] = b"\x00\x00\x00\x00";
+
+const ONE: &[u8] = b"\x00\x00\x00\x01";
+
+const TWO: &[u8] = b"\x00\x00\x00\x02";
+
+// The begin of a message with an entry of the root's first tick, and the clock that it stands for; the same of its second tick.
+const FIRST: &[u8] = b"\x01\x00\x00\x00\x00\x01\x00\x00\x00\x01";
+
+const TIME: &[u8] = b"\x00\x00\x00\x01\x00\x00\x00\x00\x01";
+
+const SECOND: &[u8] = b"\x01\x00\x00\x00\x00\x02\x00\x00\x00\x02";
+
+const LATER: &[u8] = b"\x00\x00\x00\x01\x00\x00\x00\x00\x02";
+
+// The dot of the root's first tick.
+const DOT: &[u8] = b"\x00\x00\x00\x00\x01";
+
+// A triple.
+const TRIPLE: &[u8] = b"\x00\x00\x00\x20<http://d/a> <http://d/#p> \"x\" .";
 
 // A clock of the root with 3 ticks, of `0` with 2 and of `011` with 1.
 const CLOCK: &[u8] =
     b"\x00\x00\x00\x03\x00\x00\x00\x00\x03\x01\x00\x00\x00\x00\x02\x03\x60\x00\x00\x00\x01";
 
-// That triple with the dot of the root's third tick, and with that of the first tick of `011`.
+// The triple with the dot of the root's third tick, and with that of the first tick of `011`.
 const PAIRS: &[u8] =
     b"\x00\x00\x00\x02\x00\x00\x00\x20<http://d/a> <http://d/#p> \"x\" .\x00\x00\x00\x00\x03\x00\x00\x00\x20<http://d/a> <http://d/#p> \"x\" .\x03\x60\x00\x00\x00\x01";
-
-// No clock, or no list: a count of none.
-const NONE: &[u8] = b"\x00\x00\x00\x00";
 
 // An id.
 const ID: &[u8] = b"0123456789abcdef";
 
-// A clock of the root with one tick, as it stands in an entry behind the range.
-const TIME: &[u8] = b"\x00\x00\x00\x01\x00\x00\x00\x00\x01";
-
 // Messages of each kind, empty and filled, in pieces.
-const MESSAGES: [&[&[u8]]; 8] = [
-    &[b"\x01", ENTRY],
-    &[b"\x02", NONE],
+const MESSAGES: [&[&[u8]]; 9] = [
+    // The first operation of the root inserts the triple, and the second one deletes it.
+    &[FIRST, TIME, ZERO, ONE, TRIPLE, ONE],
+    &[SECOND, LATER, ONE, TRIPLE, DOT, ZERO],
+    &[b"\x02", ZERO],
     &[b"\x02", CLOCK],
-    &[b"\x03", NONE, NONE],
+    &[b"\x03", ZERO, ZERO],
     &[b"\x03", CLOCK, PAIRS],
     &[b"\x04", ID],
-    &[b"\x05", ID, b"\x00", NONE, NONE],
+    &[b"\x05", ID, b"\x00", ZERO, ZERO],
     &[b"\x05", ID, b"\x02\x40", CLOCK, PAIRS],
 ];
 
 // Messages in pieces, each with the place of its fault.
-const FAULTS: [(&[&[u8]], usize); 16] = [
+const FAULTS: [(&[&[u8]], usize); 22] = [
     (&[], 0),
     (&[b"\x07"], 0),
     (&[b"\x02\xff\xff\xff\xff"], 5),
@@ -72,38 +86,25 @@ const FAULTS: [(&[&[u8]], usize); 16] = [
         &[b"\x03\x00\x00\x00\x01\x00\x00\x00\x00\x03", PAIRS],
         14 + 41,
     ),
-    // A first tick of 0; ticks of its path that aren't its last; a delete that its time doesn't cover.
+    // A delete that stands twice, of 41 bytes, and an insert, of 40 bytes.
     (
-        &[
-            b"\x01\x00\x00\x00\x00\x00\x00\x00\x00\x01",
-            TIME,
-            NONE,
-            NONE,
-        ],
-        1,
+        &[SECOND, LATER, TWO, TRIPLE, DOT, TRIPLE, DOT, ZERO],
+        23 + 41,
     ),
-    (
-        &[
-            b"\x01\x00\x00\x00\x00\x01\x00\x00\x00\x02",
-            TIME,
-            NONE,
-            NONE,
-        ],
-        1,
-    ),
-    (
-        &[
-            b"\x01\x00\x00\x00\x00\x01\x00\x00\x00\x01",
-            TIME,
-            PAIRS,
-            NONE,
-        ],
-        1,
-    ),
+    (&[FIRST, TIME, ZERO, TWO, TRIPLE, ONE, TRIPLE, ONE], 27 + 40),
+    // Parts that are none of an entry: a first tick of 0, or above the last; ticks of its path that aren't its last; a delete that its
+    // time doesn't cover, or of the range; an insert before the range, and behind it.
+    (&[b"\x01\x00", ZERO, ONE, TIME, ZERO, ZERO], 1),
+    (&[b"\x01\x00", TWO, ONE, TIME, ZERO, ZERO], 1),
+    (&[b"\x01\x00", ONE, TWO, TIME, ZERO, ZERO], 1),
+    (&[FIRST, TIME, PAIRS, ZERO], 1),
+    (&[FIRST, TIME, ONE, TRIPLE, DOT, ZERO], 1),
+    (&[SECOND, LATER, ZERO, ONE, TRIPLE, ONE], 1),
+    (&[FIRST, TIME, ZERO, ONE, TRIPLE, TWO], 1),
 ];
 
 // These pieces joined.
-fn joined(alloc: Global, pieces: &[&[u8]]) -> Result<Box<Vec<u8>>, Fail> {
+fn joined(alloc: Global, pieces: &[&[u8]]) -> Result<Box<Vec<u8>>, AllocError> {
     let mut all = Box::new(alloc, Vec::new(alloc))?;
     for piece in pieces {
         all.extend_from_slice(piece)?;
@@ -111,95 +112,42 @@ fn joined(alloc: Global, pieces: &[&[u8]]) -> Result<Box<Vec<u8>>, Fail> {
     Ok(all)
 }
 
-// Where reading a message has a fault.
-fn place(alloc: Global, pieces: &[&[u8]]) -> Result<Option<usize>, Fail> {
-    let input = joined(alloc, pieces)?;
-    Ok(match read_message(alloc, &input, 0) {
-        Err(CodecFault::NotInGrammar { place }) => Some(place),
-        _ => None,
-    })
+// Whether reading this message stops at this place.
+fn stops_at(alloc: Global, input: &[u8], place: usize) -> bool {
+    read_message(alloc, input, 0).err() == Some(CodecFault::NotInGrammar { place })
 }
 
 #[test]
 fn faults_have_their_places(rt: HostRuntime) -> Result<(), Fail> {
     for (pieces, wanted) in FAULTS {
-        assert_eq!(rt; place(rt.alloc(), pieces)?, Some(wanted));
+        let input = joined(rt.alloc(), pieces)?;
+        assert!(rt; stops_at(rt.alloc(), &input, wanted), "{wanted}");
     }
     Ok(())
 }
 
-// Whether these bytes are written for a message, and it may be written.
-fn is_written_as(alloc: Global, message: &Message, wanted: &[u8]) -> Result<bool, Fail> {
-    if !is_short_message(alloc, message)? {
+// Whether these bytes are written for a copy of a message.
+fn is_written_as(alloc: Global, message: &Message, wanted: &[u8]) -> Result<bool, AllocError> {
+    let copy = Box::new(alloc, message.copy_in(alloc)?)?;
+    if !is_short_message(alloc, &copy)? {
         return Ok(false);
     }
     let mut out = Box::new(alloc, Vec::new(alloc))?;
-    write_message(&mut out, message)?;
+    write_message(&mut out, &copy)?;
     Ok(out.as_slice() == wanted)
 }
 
-// Whether the message of these pieces is read up to the byte behind it, and is written as it was.
-fn is_written_again(alloc: Global, pieces: &[&[u8]]) -> Result<bool, Fail> {
-    let input = joined(alloc, pieces)?;
-    let (message, next) = read_message(alloc, &input, 0)?;
-    Ok(next == input.len() && is_written_as(alloc, &message, &input)?)
+// Whether this message is read up to its end, and a copy of it is written as it was.
+fn is_written_again(alloc: Global, input: &[u8]) -> Result<bool, CodecFault> {
+    let (message, next) = read_message(alloc, input, 0)?;
+    Ok(next == input.len() && is_written_as(alloc, &message, input)?)
 }
 
 #[test]
-fn each_kind_of_message_is_read_and_written(rt: HostRuntime) -> Result<(), Fail> {
+fn each_kind_of_message_is_read_copied_and_written(rt: HostRuntime) -> Result<(), Fail> {
     for pieces in MESSAGES {
-        assert!(rt; is_written_again(rt.alloc(), pieces)?);
+        let input = joined(rt.alloc(), pieces)?;
+        assert!(rt; is_written_again(rt.alloc(), &input)?);
     }
-    Ok(())
-}
-
-// Whether these bytes are written for an entry.
-fn is_entry_as(alloc: Global, entry: &Entry, wanted: &[u8]) -> Result<bool, Fail> {
-    let mut out = Box::new(alloc, Vec::new(alloc))?;
-    if is_short_entry(alloc, entry)? {
-        write_entry(&mut out, entry)?;
-    }
-    Ok(out.as_slice() == wanted)
-}
-
-#[test]
-fn an_entry_is_read_and_written(rt: HostRuntime) -> Result<(), Fail> {
-    let (entry, next) = read_entry(rt.alloc(), ENTRY, 0)?;
-    assert!(rt; next == ENTRY.len() && entry.inserts().len() == 1);
-    assert!(rt; is_entry_as(rt.alloc(), &entry, ENTRY)?);
-    Ok(())
-}
-
-// Whether these bytes are written for a clock.
-fn is_clock_as(alloc: Global, clock: &Clock, wanted: &[u8]) -> Result<bool, Fail> {
-    let mut out = Box::new(alloc, Vec::new(alloc))?;
-    if is_short_clock(alloc, clock)? {
-        write_clock(&mut out, clock)?;
-    }
-    Ok(out.as_slice() == wanted)
-}
-
-#[test]
-fn a_clock_is_read_and_written(rt: HostRuntime) -> Result<(), Fail> {
-    let (clock, next) = read_clock(rt.alloc(), CLOCK, 0)?;
-    assert!(rt; next == CLOCK.len());
-    assert!(rt; is_clock_as(rt.alloc(), &clock, CLOCK)?);
-    Ok(())
-}
-
-// Whether these bytes are written for pairs.
-fn are_pairs_as(alloc: Global, pairs: &[Tagged], wanted: &[u8]) -> Result<bool, Fail> {
-    let mut out = Box::new(alloc, Vec::new(alloc))?;
-    if is_short_list(alloc, pairs)? {
-        write_tagged(&mut out, pairs)?;
-    }
-    Ok(out.as_slice() == wanted)
-}
-
-#[test]
-fn pairs_are_read_and_written(rt: HostRuntime) -> Result<(), Fail> {
-    let (pairs, next) = read_tagged(rt.alloc(), PAIRS, 0)?;
-    assert!(rt; next == PAIRS.len() && pairs.len() == 2);
-    assert!(rt; are_pairs_as(rt.alloc(), &pairs, PAIRS)?);
     Ok(())
 }

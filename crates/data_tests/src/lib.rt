@@ -5,8 +5,4 @@
 #[cfg(test)]
 mod codec_tests;
 #[cfg(test)]
-mod message_tests;
-#[cfg(test)]
 mod operation_tests;
-#[cfg(test)]
-mod property_tests;

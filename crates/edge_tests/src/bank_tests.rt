@@ -21,44 +21,40 @@ fn have(banks: &MemoryBanks, a: &[u8], b: &[u8]) -> bool {
     banks.bytes(Side::A) == a && banks.bytes(Side::B) == b
 }
 
+// What a side has, what is written at its front, how much of that the crash leaves, and what the side has then.
+const CRASHES: [(&[u8], &[u8], Leave, &[u8]); 5] = [
+    (b"abcdefg", b"VWXYZ", Leave::Lose, b"abcdefg"),
+    (b"abcdefg", b"VWXYZ", Leave::Keep, b"VWXYZfg"),
+    (b"abcdefg", b"VWXYZ", Leave::Torn, b"VW\xff\xff\xfffg"),
+    // A torn write goes past the end, and leaves a 0 nowhere.
+    (b"", b"vwxyz", Leave::Torn, b"vw\xff\xff\xff"),
+    (b"\x01", b"\x00", Leave::Torn, b"\xff"),
+];
+
 #[test]
 fn a_crash_leaves_what_was_asked(rt: HostRuntime) -> Result<(), Fail> {
-    let cases: [(Leave, &[u8]); 3] = [
-        (Leave::Lose, b"abcdefg"),
-        (Leave::Keep, b"VWXYZfg"),
-        (Leave::Torn, b"VW\xff\xff\xfffg"),
-    ];
-    for (leave, left) in cases {
-        let mut banks = boxed(rt.alloc(), b"abcdefg", b"other")?;
-        write_and_crash(&mut *banks, Side::A, b"VWXYZ", leave);
+    for (first, piece, leave, left) in CRASHES {
+        let mut banks = boxed(rt.alloc(), first, b"other")?;
+        write_and_crash(&mut *banks, Side::A, piece, leave);
         assert!(rt; have(&banks, left, b"other"));
     }
     Ok(())
 }
 
-/// Whether what was synced stays, and a torn write past its end leaves all of its range.
-fn keeps_what_was_synced(banks: &mut MemoryBanks) -> bool {
-    let wrote = banks.write_at(Side::B, 0, b"ab").is_ok() && banks.sync(Side::B).is_ok();
-    write_and_crash(banks, Side::B, b"vwxyz", Leave::Torn);
-    let torn = have(banks, b"", b"vw\xff\xff\xff");
-    write_and_crash(banks, Side::B, b"lost and longer", Leave::Lose);
-    wrote && torn && have(banks, b"", b"vw\xff\xff\xff")
-}
-
-/// Whether an arm at 1 lets a write be done, catches the sync, and has each call fail until the
-/// revival.
+/// Whether an arm at 2 lets a write and a sync be done, catches the next write, and has each call fail until the revival, which leaves what
+/// was synced.
 fn arm_counts_changes(banks: &mut MemoryBanks) -> bool {
-    banks.arm(1, Leave::Keep);
+    banks.arm(2, Leave::Lose);
     let before = banks.len(Side::A) == Ok(0)
         && banks.write_at(Side::A, 0, b"ab") == Ok(())
-        && banks.len(Side::A) == Ok(2)
+        && banks.sync(Side::A) == Ok(())
         && !banks.stopped();
-    let caught = banks.sync(Side::A) == Err(IoFault::Failed)
+    let caught = banks.write_at(Side::A, 0, b"xyz") == Err(IoFault::Failed)
         && banks.stopped()
         && banks.len(Side::A) == Err(IoFault::Failed)
         && banks.sync(Side::B) == Err(IoFault::Failed);
     banks.revive();
-    before && caught && !banks.stopped() && banks.len(Side::A) == Ok(2)
+    before && caught && !banks.stopped() && have(banks, b"ab", b"")
 }
 
 /// Whether call 1 alone fails, and leaves the bytes.
@@ -78,20 +74,9 @@ fn call_one_fails(banks: &mut MemoryBanks) -> bool {
 fn calls_are_done_caught_and_failed(rt: HostRuntime) -> Result<(), Fail> {
     let alloc = rt.alloc();
     let mut banks = Box::new(alloc, MemoryBanks::blank(alloc))?;
-    assert!(rt; keeps_what_was_synced(&mut banks));
-    let mut banks = Box::new(alloc, MemoryBanks::blank(alloc))?;
     assert!(rt; arm_counts_changes(&mut banks));
     let mut banks = boxed(alloc, b"ab", b"")?;
     banks.fail_call(1)?;
     assert!(rt; call_one_fails(&mut banks));
-    Ok(())
-}
-
-#[test]
-fn a_torn_zero_sets_no_mark(rt: HostRuntime) -> Result<(), Fail> {
-    let mut banks = boxed(rt.alloc(), b"\x01", b"\x00")?;
-    write_and_crash(&mut *banks, Side::A, b"\x00", Leave::Torn);
-    write_and_crash(&mut *banks, Side::B, b"\x00", Leave::Torn);
-    assert!(rt; have(&banks, b"\xff", b"\xff"));
     Ok(())
 }

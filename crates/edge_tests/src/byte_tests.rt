@@ -1,57 +1,38 @@
 //! Numbers and pieces of bytes.
 use mld_bytes::{
-    Short, put_bytes, put_number, put_u8, put_u32, put_u64, take_bytes, take_number, take_u8,
-    take_u32, take_u64,
+    put_bytes, put_number, put_u8, put_u32, put_u64, take_bytes, take_number, take_u8, take_u32,
+    take_u64,
 };
+use std::alloc::AllocError;
 use std::test::Fail;
 
+// A number of one byte, of four, of eight, of three and of none, with the highest byte first; and a piece behind its length.
+const BYTES: &[u8] =
+    b"\xfe\x01\x02\x03\x04\x05\x06\x07\x08\x09\x0a\x0b\x0c\x0d\x0e\x0f\x00\x00\x00\x02ab";
+
+fn put_all(out: &mut Vec<u8>) -> Result<(), AllocError> {
+    put_u8(out, 0xfe)?;
+    put_u32(out, 0x0102_0304)?;
+    put_u64(out, 0x0506_0708_090a_0b0c)?;
+    put_number(out, 0x0d_0e0f, 3)?;
+    put_number(out, 0, 0)?;
+    put_bytes(out, b"ab")
+}
+
 #[test]
-fn numbers_are_put_with_their_highest_byte_first(rt: HostRuntime) -> Result<(), Fail> {
-    let mut out = Vec::new(rt.alloc());
-    put_u8(&mut out, 0xfe)?;
-    put_u32(&mut out, 0x0102_0304)?;
-    put_u64(&mut out, 0x0506_0708_090a_0b0c)?;
-    put_number(&mut out, 0x0d_0e0f, 3)?;
-    put_number(&mut out, 0, 0)?;
-    let wanted = [0xfe, 1, 2, 3, 4, 5, 6, 7, 8, 9, 10, 11, 12, 13, 14, 15];
-    assert_eq!(rt; out.as_slice(), wanted.as_slice());
+fn numbers_and_pieces_are_put_as_bytes(rt: HostRuntime) -> Result<(), Fail> {
+    let mut out = Box::new(rt.alloc(), Vec::new(rt.alloc()))?;
+    put_all(&mut out)?;
+    assert!(rt; out.as_slice() == BYTES);
     Ok(())
 }
 
 #[test]
-fn a_piece_is_put_behind_its_length(rt: HostRuntime) -> Result<(), Fail> {
-    let mut out = Vec::new(rt.alloc());
-    put_bytes(&mut out, b"abc")?;
-    put_bytes(&mut out, b"")?;
-    assert_eq!(rt;
-        out.as_slice(),
-        b"\x00\x00\x00\x03abc\x00\x00\x00\x00".as_slice()
-    );
-    Ok(())
-}
-
-#[test]
-fn numbers_are_taken_from_their_places(rt: HostRuntime) {
-    let input = [0, 1, 2, 3, 4, 5, 6, 7, 8];
-    assert_eq!(rt; take_u8(&input, 8), Ok((8, 9)));
-    assert_eq!(rt; take_u8(&input, 9), Err(Short));
-    assert_eq!(rt; take_u32(&input, 5), Ok((0x0506_0708, 9)));
-    assert_eq!(rt; take_u32(&input, 6), Err(Short));
-    assert_eq!(rt; take_u64(&input, 1), Ok((0x0102_0304_0506_0708, 9)));
-    assert_eq!(rt; take_u64(&input, 2), Err(Short));
-    assert_eq!(rt; take_number(&input, 1, 3), Ok((0x01_0203, 4)));
-    assert_eq!(rt; take_number(&input, 9, 0), Ok((0, 9)));
-    assert_eq!(rt; take_number(&input, 7, 3), Err(Short));
-}
-
-#[test]
-fn a_piece_is_taken_only_whole(rt: HostRuntime) {
-    let input = b"\xff\x00\x00\x00\x03abcd";
-    assert_eq!(rt; take_bytes(input.as_slice(), 1), Ok((5, 8)));
-    assert_eq!(rt; take_bytes(b"\x00\x00\x00\x03ab".as_slice(), 0), Err(Short));
-    assert_eq!(rt; take_bytes(b"\x00\x00\x00".as_slice(), 0), Err(Short));
-    assert_eq!(rt;
-        take_bytes(b"\xff\xff\xff\xffabc".as_slice(), 0),
-        Err(Short)
-    );
+fn numbers_and_pieces_are_taken_from_their_places(rt: HostRuntime) {
+    assert!(rt; take_u8(BYTES, 0) == Ok((0xfe, 1)));
+    assert!(rt; take_u32(BYTES, 1) == Ok((0x0102_0304, 5)));
+    assert!(rt; take_u64(BYTES, 5) == Ok((0x0506_0708_090a_0b0c, 13)));
+    assert!(rt; take_number(BYTES, 13, 3) == Ok((0x0d_0e0f, 16)));
+    assert!(rt; take_number(BYTES, 16, 0) == Ok((0, 16)));
+    assert!(rt; take_bytes(BYTES, 16) == Ok((20, 22)));
 }

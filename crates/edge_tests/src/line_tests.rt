@@ -1,11 +1,79 @@
 //! Lines, sources and sinks, tried by fakes.
 use mld_io::{
-    Failed, IoFault, LineFault, Lines, MemorySink, MemorySource, Piece, Sink, Source, StdSink,
-    StdSource, WriteFault, write_all,
+    IoFault, LineFault, Lines, MemorySink, MemorySource, Piece, Sink, Source, StdSink, StdSource,
+    WriteFault, write_all,
 };
+use std::alloc::{AllocError, Global};
 use std::io;
-use std::io::{BufReader, Read};
+use std::io::Read;
 use std::test::Fail;
+
+/// Whether the next line is this one, or there is none.
+fn is_next<S: Source>(lines: &mut Lines, source: &mut S, wanted: Option<&[u8]>) -> bool {
+    if !lines.is_good() {
+        return false;
+    }
+    match lines.next(source) {
+        Ok(Some(line)) => wanted == Some(line.as_slice()),
+        Ok(None) => wanted.is_none(),
+        Err(_) => false,
+    }
+}
+
+/// Whether there is no next line for this fault.
+fn stops<S: Source>(lines: &mut Lines, source: &mut S, wanted: LineFault) -> bool {
+    if !lines.is_good() {
+        return false;
+    }
+    match lines.next(source) {
+        Ok(_) => false,
+        Err(fault) => fault == wanted && !lines.is_good(),
+    }
+}
+
+/// Whether these are the lines, and behind them is the end, also when asked again, or this fault.
+fn are_lines<S: Source>(
+    lines: &mut Lines,
+    source: &mut S,
+    wanted: &[&[u8]],
+    fault: Option<LineFault>,
+) -> bool {
+    for line in wanted {
+        if !is_next(lines, source, Some(line)) {
+            return false;
+        }
+    }
+    match fault {
+        None => is_next(lines, source, None) && is_next(lines, source, None),
+        Some(fault) => stops(lines, source, fault),
+    }
+}
+
+// The bytes of a source and the call that fails; the limits of a line and of the input; the lines, and the fault behind them.
+const READS: [(&[u8], u64, usize, u64, &[&[u8]], Option<LineFault>); 6] = [
+    (b"a\r\n\nb", 100, 2, 5, &[b"a\r", b"", b"b"], None),
+    // Calls 0 and 1 give bytes, call 2 the end, and no call comes behind it.
+    (b"ab", 3, 10, 10, &[b"ab"], None),
+    // A read fails in mid-line.
+    (b"ab\ncd\n", 4, 10, 10, &[b"ab"], Some(LineFault::ReadFault)),
+    // A line and an input that are as long as may be, and one byte longer.
+    (b"abc\n", 100, 3, 4, &[b"abc"], None),
+    (b"abcd\n", 100, 3, 100, &[], Some(LineFault::TooLarge)),
+    (b"abc\n", 100, 3, 3, &[], Some(LineFault::TooLarge)),
+];
+
+#[test]
+fn lines_are_read_up_to_the_end_or_a_fault(rt: HostRuntime) -> Result<(), Fail> {
+    for (bytes, failing, line, all, wanted, fault) in READS {
+        let mut source = Box::new(
+            rt.alloc(),
+            MemorySource::new(rt.alloc(), bytes, &[failing])?,
+        )?;
+        let mut lines = Box::new(rt.alloc(), Lines::new(rt.alloc(), line, all)?)?;
+        assert!(rt; are_lines(&mut *lines, &mut *source, wanted, fault));
+    }
+    Ok(())
+}
 
 /// A reader that always fails.
 #[derive(Debug, Drop)]
@@ -17,7 +85,24 @@ impl Read for Broken {
     }
 }
 
-/// A sink that takes at most two bytes of a piece, and fails once it has none left to take.
+#[test]
+fn readers_of_std_are_sources(rt: HostRuntime) -> Result<(), Fail> {
+    let mut lines = Box::new(rt.alloc(), Lines::new(rt.alloc(), 10, 10)?)?;
+    let mut source = StdSource::new(b"x\ny".as_slice());
+    assert!(rt; is_next(&mut lines, &mut source, Some(b"x")));
+    assert!(rt; is_next(&mut lines, &mut source, Some(b"y")));
+    let mut lines = Box::new(rt.alloc(), Lines::new(rt.alloc(), 10, 10)?)?;
+    assert!(rt;
+        stops(
+            &mut lines,
+            &mut StdSource::new(Broken),
+            LineFault::ReadFault
+        )
+    );
+    Ok(())
+}
+
+/// A sink that takes at most two bytes of a piece.
 #[derive(Debug, Drop)]
 struct Short {
     inner: MemorySink,
@@ -36,168 +121,40 @@ impl Sink for Short {
     }
 }
 
-#[test]
-fn lines_end_with_lf_or_the_input(rt: HostRuntime) -> Result<(), Fail> {
-    let alloc = rt.alloc();
-    let mut source = MemorySource::new(alloc, b"a\r\n\nb", &[])?;
-    let mut lines = Lines::new(alloc, 2, 100)?;
-    assert!(rt; lines.is_good());
-    let first = lines.next(&mut source)?.ok_or("a first line")?;
-    assert_eq!(rt; first.as_slice(), b"a\r".as_slice());
-    assert!(rt; lines.is_good());
-    let second = lines.next(&mut source)?.ok_or("a second line")?;
-    assert!(rt; second.is_empty());
-    assert!(rt; lines.is_good());
-    let third = lines.next(&mut source)?.ok_or("a third line")?;
-    assert_eq!(rt; third.as_slice(), b"b".as_slice());
-    assert!(rt; lines.is_good());
-    assert!(rt; lines.next(&mut source)?.is_none());
-    assert!(rt; lines.is_good());
-    Ok(())
+/// Whether the sink takes a piece, and fails at another.
+fn takes_one<K: Sink>(sink: &mut K, piece: &[u8], refused: &[u8]) -> bool {
+    write_all(sink, b"") == Ok(())
+        && write_all(sink, piece) == Ok(())
+        && write_all(sink, refused) == Err(WriteFault::Failed)
+}
+
+/// Whether a sink takes a piece by one call, and fails at its second one.
+fn takes_whole(alloc: Global) -> Result<bool, AllocError> {
+    let mut sink = Box::new(alloc, MemorySink::new(alloc, &[1])?)?;
+    Ok(takes_one(&mut *sink, b"one piece", b"x") && sink.bytes() == b"one piece".as_slice())
+}
+
+/// Whether a sink takes pieces in parts, and fails at its fourth call.
+fn takes_parts(alloc: Global) -> Result<bool, AllocError> {
+    let inner = MemorySink::new(alloc, &[3])?;
+    let mut sink = Box::new(alloc, Short { inner })?;
+    Ok(takes_one(&mut *sink, b"abc", b"defgh") && sink.inner.bytes() == b"abcde".as_slice())
 }
 
 #[test]
-fn nothing_is_read_behind_the_end(rt: HostRuntime) -> Result<(), Fail> {
-    let alloc = rt.alloc();
-    // Reads 0 and 1 give bytes and read 2 the end; any later one would fail.
-    let mut source = MemorySource::new(alloc, b"ab", &[3, 4])?;
-    let mut lines = Lines::new(alloc, 10, 10)?;
-    assert!(rt; lines.is_good());
-    let last = lines.next(&mut source)?.ok_or("a last line")?;
-    assert_eq!(rt; last.as_slice(), b"ab".as_slice());
-    assert!(rt; lines.is_good());
-    assert!(rt; lines.next(&mut source)?.is_none());
-    assert!(rt; lines.is_good());
-    assert!(rt; lines.next(&mut source)?.is_none());
-    // Call 3 is the first that this test makes itself.
-    let mut byte = [0u8; 1];
-    assert_eq!(rt; source.read(&mut byte), Err(Failed));
-    Ok(())
-}
-
-#[test]
-fn limits_are_kept_to_the_byte(rt: HostRuntime) -> Result<(), Fail> {
-    let alloc = rt.alloc();
-    let cases: [(&[u8], usize, u64, bool); 6] = [
-        (b"abc\n", 3, 4, true),
-        (b"abcd\n", 3, 100, false),
-        (b"abc\n", 3, 3, false),
-        (b"abc", 3, 3, true),
-        (b"\n", 0, 1, true),
-        (b"\n", 0, 0, false),
-    ];
-    for (input, line, all, fits) in cases {
-        let mut source = MemorySource::new(alloc, input, &[])?;
-        let mut lines = Lines::new(alloc, line, all)?;
-        assert!(rt; lines.is_good());
-        let next = lines.next(&mut source);
-        assert_eq!(rt; next.is_ok(), fits, "line {line} all {all}");
-        assert_eq!(rt; lines.is_good(), fits, "line {line} all {all}");
-        if let Err(fault) = next {
-            assert_eq!(rt; fault, LineFault::TooLarge, "line {line} all {all}");
-        }
-    }
-    Ok(())
-}
-
-#[test]
-fn a_read_fails_in_mid_line(rt: HostRuntime) -> Result<(), Fail> {
-    let alloc = rt.alloc();
-    let mut source = MemorySource::new(alloc, b"ab\ncd\n", &[4])?;
-    let mut lines = Lines::new(alloc, 10, 10)?;
-    assert!(rt; lines.is_good());
-    let first = lines.next(&mut source)?.ok_or("a first line")?;
-    assert_eq!(rt; first.as_slice(), b"ab".as_slice());
-    assert!(rt; lines.is_good());
-    match lines.next(&mut source) {
-        Ok(_) => return Err(Fail::from("no line may come of a failed read")),
-        Err(fault) => assert_eq!(rt; fault, LineFault::ReadFault),
-    }
-    assert!(rt; !lines.is_good());
-    Ok(())
-}
-
-#[test]
-fn a_sink_takes_parts_and_fails(rt: HostRuntime) -> Result<(), Fail> {
-    let alloc = rt.alloc();
-    let mut sink = MemorySink::new(alloc, &[2])?;
-    write_all(&mut sink, b"")?;
-    write_all(&mut sink, b"one ")?;
-    write_all(&mut sink, b"two")?;
-    assert_eq!(rt; write_all(&mut sink, b"three"), Err(WriteFault::Failed));
-    assert_eq!(rt; sink.bytes(), b"one two".as_slice());
-    let mut short = Short {
-        inner: MemorySink::new(alloc, &[3])?,
-    };
-    write_all(&mut short, b"abc")?;
-    assert_eq!(rt; write_all(&mut short, b"defgh"), Err(WriteFault::Failed));
-    assert_eq!(rt; short.inner.bytes(), b"abcde".as_slice());
-    Ok(())
-}
-
-#[test]
-fn a_piece_is_written_by_one_call(rt: HostRuntime) -> Result<(), Fail> {
-    let alloc = rt.alloc();
-    // The sink takes all that it is given, and its second call fails.
-    let mut sink = MemorySink::new(alloc, &[1])?;
-    write_all(&mut sink, b"")?;
-    write_all(&mut sink, b"one piece")?;
-    write_all(&mut sink, b"")?;
-    assert_eq!(rt; write_all(&mut sink, b"x"), Err(WriteFault::Failed));
-    assert_eq!(rt; sink.bytes(), b"one piece".as_slice());
-    Ok(())
-}
-
-#[test]
-fn a_std_source_tells_its_end(rt: HostRuntime) -> Result<(), Fail> {
-    let mut source = StdSource::new(b"abc".as_slice());
-    let mut out = [0u8; 2];
-    assert_eq!(rt; source.read(&mut out), Ok(2));
-    assert_eq!(rt; out, *b"ab");
-    assert_eq!(rt; source.read(&mut out), Ok(1));
-    assert_eq!(rt; out[0], b'c');
-    assert_eq!(rt; source.read(&mut out), Ok(0));
-    assert_eq!(rt; source.read(&mut out), Ok(0));
-    Ok(())
-}
-
-#[test]
-fn a_std_sink_takes_a_large_piece_at_once(rt: HostRuntime) -> Result<(), Fail> {
-    let alloc = rt.alloc();
-    let piece = vec![in alloc; 7u8; 70_000]?;
-    let mut room = vec![in alloc; 0u8; 70_000]?;
-    assert_eq!(rt;
-        StdSink::new(room.as_mut_slice()).write(piece.as_slice()),
-        Ok(70_000)
-    );
-    assert_eq!(rt; room.as_slice(), piece.as_slice());
-    Ok(())
-}
-
-#[test]
-fn std_readers_and_writers_serve(rt: HostRuntime) -> Result<(), Fail> {
-    let alloc = rt.alloc();
-    let mut source = StdSource::new(BufReader::new(alloc, b"x\ny".as_slice())?);
-    let mut lines = Lines::new(alloc, 10, 10)?;
-    assert!(rt; lines.is_good());
-    let first = lines.next(&mut source)?.ok_or("a first line")?;
-    assert_eq!(rt; first.as_slice(), b"x".as_slice());
-    let mut byte = [0u8; 1];
-    assert_eq!(rt; StdSource::new(Broken).read(&mut byte), Err(Failed));
+fn sinks_take_pieces_and_fail(rt: HostRuntime) -> Result<(), Fail> {
+    assert!(rt; takes_whole(rt.alloc())?);
+    assert!(rt; takes_parts(rt.alloc())?);
     let mut room = [0u8; 3];
-    let mut sink = StdSink::new(room.as_mut_slice());
-    assert_eq!(rt; write_all(&mut sink, b"abcd"), Err(WriteFault::Failed));
-    assert_eq!(rt; room.as_slice(), b"abc".as_slice());
+    assert!(rt; takes_one(&mut StdSink::new(room.as_mut_slice()), b"ab", b"cd"));
+    assert!(rt; room == *b"abc");
     Ok(())
 }
 
 #[test]
-fn pieces_hold_their_bytes(rt: HostRuntime) -> Result<(), Fail> {
-    let alloc = rt.alloc();
-    let piece = Piece::copy_in(alloc, b"abc")?;
-    assert_eq!(rt; piece.len(), 3);
-    let bytes = piece.into_vec();
-    assert_eq!(rt; bytes.as_slice(), b"abc".as_slice());
-    assert_eq!(rt; Piece::from_vec(bytes).as_slice(), b"abc".as_slice());
+fn a_piece_has_its_bytes(rt: HostRuntime) -> Result<(), Fail> {
+    let piece = Piece::copy_in(rt.alloc(), b"abc")?;
+    assert!(rt; piece.len() == 3 && !piece.is_empty());
+    assert!(rt; piece.into_vec().as_slice() == b"abc".as_slice());
     Ok(())
 }
