@@ -1,11 +1,9 @@
-//! Tests of clones, and of those who ask for a leaf, through their public calls.
+//! Tests of clones, and of those who ask for a leaf, through their public calls: what no schedule reaches.
 #![tactic(auto)]
 
 #[cfg(test)]
-mod calls;
+mod askers;
 #[cfg(test)]
 mod clones;
 #[cfg(test)]
-mod keeping;
-#[cfg(test)]
-mod refusals;
+mod made;

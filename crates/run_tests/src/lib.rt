@@ -1,4 +1,4 @@
-//! Tests of runs: bad lines, limits, faults, what a run tells of its world, and what it leaves on banks.
+//! Tests of runs: what ends them, what they tell of their world, and what they leave on banks.
 #![tactic(auto)]
 
 #[cfg(test)]

@@ -1,31 +1,75 @@
 //! Replaying a schedule from memory. Banks are run on in here alone, and let go, so that a test has plain words to compare.
-ghost use Rattle.std.specs.Prelude.{◌≡◌, vec_len};
+ghost use Rattle.std.specs.Prelude.{◌≡◌, ◌<◌, IfOk, vec_len};
 ghost use Rattle.mld_model.specs.World.{clone_count};
 
 use disk_model::{MemoryBanks, blank_banks};
-use mld_io::{MemorySink, MemorySource};
+use mld_io::{Banks, MemorySink, MemorySource, Side};
 use mld_model::CLONE_COUNT;
-use mld_replay::run::{Ran, RunFault, run};
-use net_world::Summary;
+use mld_replay::run::{RunFault, run};
 use std::alloc::{AllocError, Global};
 use std::thread::Threads;
 
-/// How a run ended, what it wrote, and what it told of its world.
-#[derive(Drop)]
-pub struct Ended {
+/// What a run is given.
+#[derive(Clone, Copy)]
+pub struct Given<'a> {
+    /// The words of the command.
+    pub words: &'a [&'a str],
+    /// The schedule.
+    pub schedule: &'a [u8],
+    /// The numbers of the reads that fail.
+    pub reads: &'a [u64],
+    /// The banks of one clone, where they are not as all others are.
+    pub odd: Odd,
+}
+
+/// How the banks of one clone differ from blank ones.
+#[derive(Clone, Copy)]
+pub enum Odd {
+    /// They don't.
+    Nothing,
+    /// The call of this number to those of this clone fails.
+    Fails(u8, u64),
+    /// Those of this clone have a byte on side B.
+    Filled(u8),
+}
+
+/// How a run ended, in plain words.
+#[derive(Clone, Copy)]
+pub struct End {
     /// The status.
     pub status: u8,
     /// Why it isn't 0.
     pub fault: Option<RunFault>,
-    /// What was written.
-    pub sink: MemorySink,
-    /// What there was to tell of the world.
-    pub world: Option<Summary>,
+    /// Whether there was anything to tell of the world.
+    pub tells: bool,
 }
 
-/// It ended with this status, for this reason, and wrote this.
-pub fn is_end(ended: &Ended, status: u8, fault: Option<RunFault>, text: &[u8]) -> bool {
-    ended.status == status && ended.fault == fault && ended.sink.bytes() == text
+/// What a run of a schedule is given, on blank banks.
+pub fn replay(schedule: &[u8]) -> Given<'_> {
+    Given {
+        words: &["replay"],
+        schedule,
+        reads: &[],
+        odd: Odd::Nothing,
+    }
+}
+
+/// Runs, and writes into a sink.
+pub fn ended<R: Threads>(
+    rt: &R,
+    alloc: Global,
+    given: Given<'_>,
+    sink: &mut MemorySink,
+) -> Result<End, AllocError> {
+    let words = words(alloc, given.words)?;
+    let mut source = MemorySource::new(alloc, given.schedule, given.reads)?;
+    let banks = banks(alloc, given.odd)?;
+    let ran = run(rt, alloc, &words, &mut source, sink, banks);
+    Ok(End {
+        status: ran.status,
+        fault: ran.fault,
+        tells: ran.world.is_some(),
+    })
 }
 
 /// These words, each owned.
@@ -37,43 +81,28 @@ pub fn words(alloc: Global, texts: &[&str]) -> Result<Vec<String>, AllocError> {
     Ok(words)
 }
 
-/// Runs by these words on these banks.
-pub fn ran_on<R: Threads>(
-    rt: &R,
-    alloc: Global,
-    words: &Vec<String>,
-    source: &mut MemorySource,
-    sink: MemorySink,
-    banks: Vec<MemoryBanks>,
-) -> Ended
-    requires { vec_len banks ≡ clone_count }
+/// Banks for each clone.
+pub fn banks(alloc: Global, odd: Odd) -> Result<Vec<MemoryBanks>, AllocError>
+    ensures { IfOk result (λ banks. vec_len banks ≡ clone_count) }
 {
-    let mut sink = sink;
-    let Ran {
-        status,
-        fault,
-        banks: _,
-        world,
-    } = run(rt, alloc, words, source, &mut sink, banks);
-    Ended {
-        status,
-        fault,
-        sink,
-        world,
-    }
+    let mut banks = blank_banks(alloc, usize::from(CLONE_COUNT))?;
+    make_odd(&mut banks, odd)?;
+    Ok(banks)
 }
 
-/// Replays a schedule on blank banks; the reads and the writes of these numbers fail.
-pub fn replayed<R: Threads>(
-    rt: &R,
-    alloc: Global,
-    schedule: &[u8],
-    reads: &[u64],
-    writes: &[u64],
-) -> Result<Ended, AllocError> {
-    let words = words(alloc, &["replay"])?;
-    let mut source = MemorySource::new(alloc, schedule, reads)?;
-    let sink = MemorySink::new(alloc, writes)?;
-    let banks = blank_banks(alloc, usize::from(CLONE_COUNT))?;
-    Ok(ran_on(rt, alloc, &words, &mut source, sink, banks))
+/// Has the banks of one clone differ.
+fn make_odd(banks: &mut [MemoryBanks], odd: Odd) -> Result<(), AllocError> {
+    match odd {
+        Odd::Nothing => Ok(()),
+        Odd::Fails(clone, call) => match banks.get_mut(usize::from(clone)) {
+            Some(banks) => banks.fail_call(call),
+            None => Ok(()),
+        },
+        Odd::Filled(clone) => {
+            if let Some(banks) = banks.get_mut(usize::from(clone)) {
+                let _written = banks.write_at(Side::B, 0, &[0]);
+            }
+            Ok(())
+        }
+    }
 }

@@ -1,226 +1,211 @@
-//! Bad lines, limits, faults and words: each with what the run writes and how it ends. What good schedules write is shown by
-//! the transcripts of `mld_schedules`.
-use crate::replays::{is_end, ran_on, replayed, words};
-use disk_model::blank_banks;
-use mld_io::{MemorySink, MemorySource, Source};
-use mld_model::CLONE_COUNT;
+//! What ends a run, with what it writes and whether it tells of its world. What good schedules write is shown by the transcripts of
+//! `mld_schedules`.
+use crate::replays::{End, Given, Odd, ended, replay};
+use mld_io::MemorySink;
 use mld_replay::run::RunFault;
 use std::alloc::{AllocError, Global};
 use std::test::Fail;
 use std::thread::Threads;
 
-/// A schedule ends with this status, for this reason, and this is written before.
+/// A run that is given this, of which these writes fail, ends so, and this is written.
 fn ends<R: Threads>(
     rt: &R,
     alloc: Global,
-    schedule: &[u8],
-    status: u8,
-    fault: Option<RunFault>,
+    given: Given<'_>,
+    writes: &[u64],
+    end: End,
     text: &[u8],
 ) -> Result<bool, AllocError> {
-    let ended = replayed(rt, alloc, schedule, &[], &[])?;
-    Ok(is_end(&ended, status, fault, text))
-}
-
-/// A comment and then this line, behind a domain line or not: the third line of the schedule is the first bad one.
-fn is_bad_third<R: Threads>(
-    rt: &R,
-    alloc: Global,
-    domain: bool,
-    line: &[u8],
-) -> Result<bool, AllocError> {
-    let (front, text): (&[u8], &[u8]) = if domain {
-        (b"domain d clones 2\n# c\n", b"ready 2\n")
-    } else {
-        (b"\n# c\n", b"")
-    };
-    let schedule = [front, line, b"\nshow 0\n"].concat(alloc)?;
-    ends(rt, alloc, &schedule, 4, Some(RunFault::BadLine(3)), text)
+    let mut sink = MemorySink::new(alloc, writes)?;
+    let found = ended(rt, alloc, given, &mut sink)?;
+    Ok(
+        found.status == end.status
+            && found.fault == end.fault
+            && found.tells == end.tells
+            && sink.bytes() == text,
+    )
 }
 
 #[test]
-fn a_schedule_has_a_domain_line_first(rt: HostRuntime) -> Result<(), Fail> {
-    let none: [(&[u8], u64); 2] = [(b"", 1), (b"# c\n\n", 3)];
-    for (schedule, line) in none {
-        let is_so = ends(
-            &rt,
-            rt.alloc(),
-            schedule,
+fn a_line_that_is_no_command_ends_the_run(rt: HostRuntime) -> Result<(), Fail> {
+    let bad = RunFault::BadLine;
+    let unbuilt = RunFault::Unbuilt;
+    let cases: [(&[u8], u8, RunFault, &[u8], bool); 10] = [
+        // Bytes that no transcript has.
+        (b"\n# c\n\xff\n", 4, bad(3), b"", false),
+        (b"domain d clones 2\r\n", 4, bad(1), b"", false),
+        (
+            b"domain d clones 2\nshow 1\r\n",
             4,
-            Some(RunFault::BadLine(line)),
-            b"",
-        )?;
+            bad(2),
+            b"ready 2\n",
+            false,
+        ),
+        (
+            b"domain d clones 2\n#\xff\n",
+            4,
+            bad(2),
+            b"ready 2\n",
+            false,
+        ),
+        (
+            b"domain d clones 2\nadd 0 <http://d/a> <http://d/#p> \"\xff\" .\n",
+            4,
+            bad(2),
+            b"ready 2\n",
+            false,
+        ),
+        // A world is told of where a command was done.
+        (
+            b"domain d clones 1\n\n# c\nshow\nshow 0\n",
+            4,
+            bad(4),
+            b"ready 1\n",
+            false,
+        ),
+        (
+            b"domain d clones 1\nshow 0\nshow\n",
+            4,
+            bad(3),
+            b"ready 1\nhas 0\n",
+            true,
+        ),
+        (b"", 4, bad(1), b"", false),
+        (b"query\n", 20, unbuilt(1), b"", false),
+        (
+            b"domain d clones 1\nshow 0\nquery 0\n",
+            20,
+            unbuilt(3),
+            b"ready 1\nhas 0\n",
+            false,
+        ),
+    ];
+    for (schedule, status, fault, text, tells) in cases {
+        let end = End {
+            status,
+            fault: Some(fault),
+            tells,
+        };
+        let is_so = ends(&rt, rt.alloc(), replay(schedule), &[], end, text)?;
         assert!(rt; is_so, "{schedule:?}");
     }
-    let lines: [&[u8]; 7] = [
-        b"add 0 <http://d/a> <http://d/#p> \"x\" .",
-        b"remove 0 <http://d/a> <http://d/#p> \"x\" .",
-        b"remove 0",
-        b"remove",
-        b"deliver 1 0",
-        b"domain d clones 2\r",
-        b"\xff",
-    ];
-    for line in lines {
-        let is_so = is_bad_third(&rt, rt.alloc(), false, line)?;
-        assert!(rt; is_so, "{line:?}");
-    }
     Ok(())
 }
 
-#[test]
-fn the_first_bad_line_ends_the_run(rt: HostRuntime) -> Result<(), Fail> {
-    let lines: [&[u8]; 18] = [
-        b"add 32 <http://d/a> <http://d/#p> \"x\" .",
-        b"add  0 <http://d/a> <http://d/#p> \"x\" .",
-        b"add 0 ",
-        b"add",
-        b"add \\",
-        b"add 0 <http://d/a> <http://d/#p> \"x\ry\" .",
-        b"add 0 <http://d/a> <http://d/#p> \"\xff\" .",
-        b"remove",
-        b"remove 0",
-        b"remove \\",
-        b"remove 0 \xff ",
-        b"remove 00 <http://d/a> <http://d/#p> \"x\" .",
-        b"remove 32 <http://d/a> <http://d/#p> \"x\" .",
-        b"remove 0 <http://d/a> <http://d/#p> \"x\"",
-        b"show ",
-        b"show 1\t",
-        b"deliver 00 0",
-        b"#\xff",
-    ];
-    for line in lines {
-        let is_so = is_bad_third(&rt, rt.alloc(), true, line)?;
-        assert!(rt; is_so, "{line:?}");
-    }
-    Ok(())
-}
-
-/// A schedule: this front, a comment of so many bytes, and a command.
-pub fn with_comment(alloc: Global, front: &[u8], count: usize) -> Result<Vec<u8>, AllocError> {
-    let mut schedule = Vec::from_slice(alloc, front)?;
-    for _ in 0..count {
-        schedule.push(b'#')?;
-    }
-    schedule.extend_from_slice(b"\nshow 0\n")?;
-    Ok(schedule)
-}
-
-#[test]
-fn a_line_has_a_limit(rt: HostRuntime) -> Result<(), Fail> {
-    let cases: [(usize, u8, Option<RunFault>, &[u8]); 2] = [
-        (1_048_576, 0, None, b"ready 2\nhas 0\n"),
-        (1_048_577, 7, Some(RunFault::TooLarge(2)), b"ready 2\n"),
-    ];
-    for (count, status, fault, text) in cases {
-        let schedule = with_comment(rt.alloc(), b"domain d clones 2\n", count)?;
-        let is_so = ends(&rt, rt.alloc(), &schedule, status, fault, text)?;
-        assert!(rt; is_so, "{count}");
-    }
-    Ok(())
-}
-
-/// A schedule without a last LF, of which chosen reads and writes fail, ends with this status, for this reason, and this is written before.
-fn breaks<R: Threads>(
-    rt: &R,
-    alloc: Global,
-    reads: &[u64],
-    writes: &[u64],
-    fault: Option<RunFault>,
-    text: &[u8],
-) -> Result<bool, AllocError> {
-    let ended = replayed(rt, alloc, b"domain d clones 2\nshow 0", reads, writes)?;
+/// The ends that a run has where a read or a write fails, or none.
+fn end_at(fault: Option<RunFault>, tells: bool) -> End {
     let status = match fault {
         None => 0,
         Some(RunFault::ReadFault) => 2,
         Some(_) => 3,
     };
-    Ok(is_end(&ended, status, fault, text))
+    End {
+        status,
+        fault,
+        tells,
+    }
 }
 
 #[test]
 fn a_failed_read_or_write_ends_the_run(rt: HostRuntime) -> Result<(), Fail> {
-    // Reads 0 to 23 give the bytes and read 24 the end.
-    let cases: [(&[u64], &[u64], RunFault, &[u8]); 6] = [
-        (&[3], &[], RunFault::ReadFault, b""),
-        (&[17], &[], RunFault::ReadFault, b""),
-        (&[20], &[], RunFault::ReadFault, b"ready 2\n"),
+    let read = Some(RunFault::ReadFault);
+    let write = Some(RunFault::WriteFault);
+    // The lines take 18 and 7 bytes with their LF, and the last one 6: read 31 gives the end.
+    let cases: [(&[u64], &[u64], Option<RunFault>, &[u8], bool); 8] = [
+        (&[3], &[], read, b"", false),
+        (&[17], &[], read, b"", false),
+        (&[24], &[], read, b"ready 2\n", false),
+        (&[25], &[], read, b"ready 2\nhas 0\n", true),
         // Where the read fails that would tell the end, the last line isn't done.
-        (&[24], &[], RunFault::ReadFault, b"ready 2\n"),
-        (&[], &[0], RunFault::WriteFault, b""),
-        (&[], &[1], RunFault::WriteFault, b"ready 2\n"),
+        (&[31], &[], read, b"ready 2\nhas 0\n", true),
+        (&[], &[0], write, b"", false),
+        (&[], &[1], write, b"ready 2\n", false),
+        // Nothing is read behind the end, so later failures are never met.
+        (&[32, 33, 34], &[3], None, b"ready 2\nhas 0\nhas 0\n", true),
     ];
-    for (reads, writes, fault, text) in cases {
-        let is_so = breaks(&rt, rt.alloc(), reads, writes, Some(fault), text)?;
+    for (reads, writes, fault, text, tells) in cases {
+        let given = Given {
+            reads,
+            ..replay(b"domain d clones 2\nshow 0\nshow 1")
+        };
+        let is_so = ends(&rt, rt.alloc(), given, writes, end_at(fault, tells), text)?;
         assert!(rt; is_so, "{reads:?} {writes:?}");
     }
     Ok(())
 }
 
-#[test]
-fn nothing_is_read_behind_the_end(rt: HostRuntime) -> Result<(), Fail> {
-    // The failures of later reads are never met.
-    let is_so = breaks(
-        &rt,
-        rt.alloc(),
-        &[25, 26, 27],
-        &[],
-        None,
-        b"ready 2\nhas 0\n",
-    )?;
-    assert!(rt; is_so);
-    Ok(())
-}
-
-/// A run by these words ends for them: it writes nothing and leaves the source as it was.
-fn refuses<R: Threads>(rt: &R, alloc: Global, texts: &[&str]) -> Result<bool, AllocError> {
-    let words = words(alloc, texts)?;
-    let mut source = MemorySource::new(alloc, b"domain d clones 2\n", &[])?;
-    let sink = MemorySink::new(alloc, &[])?;
-    let banks = blank_banks(alloc, usize::from(CLONE_COUNT))?;
-    let ended = ran_on(rt, alloc, &words, &mut source, sink, banks);
-    let mut byte = [0u8; 1];
-    let first = source.read(&mut byte);
-    Ok(
-        is_end(&ended, 1, Some(RunFault::Usage), b"")
-            && ended.world.is_none()
-            && first == Ok(1)
-            && byte[0] == b'd',
-    )
-}
-
-#[test]
-fn other_words_are_refused(rt: HostRuntime) -> Result<(), Fail> {
-    let cases: [&[&str]; 3] = [&[], &["replay", "x"], &["Replay"]];
-    for texts in cases {
-        let is_so = refuses(&rt, rt.alloc(), texts)?;
-        assert!(rt; is_so, "{texts:?}");
+/// Adds so many lines, each a comment of so many bytes.
+fn comment(schedule: &mut Vec<u8>, lines: usize, size: usize) -> Result<(), AllocError> {
+    for _ in 0..lines {
+        for _ in 0..size {
+            schedule.push(b'#')?;
+        }
+        schedule.push(b'\n')?;
     }
     Ok(())
 }
 
-/// This is the text of the fault.
-pub fn has_text(alloc: Global, fault: RunFault, text: &str) -> Result<bool, AllocError> {
-    let found = format!(in alloc; "{fault}")?;
-    Ok(found.as_str() == text)
+/// A domain line, then so many comments of 1,048,575 bytes and one of so many, then a command: it ends so, and this is written.
+fn ends_behind<R: Threads>(
+    rt: &R,
+    alloc: Global,
+    lines: usize,
+    size: usize,
+    fault: Option<RunFault>,
+) -> Result<bool, AllocError> {
+    let mut schedule = Vec::from_slice(alloc, b"domain d clones 1\n")?;
+    comment(&mut schedule, lines, 1_048_575)?;
+    comment(&mut schedule, 1, size)?;
+    let (status, text): (u8, &[u8]) = match fault {
+        None => (0, b"ready 1\n"),
+        Some(_) => (7, b"ready 1\n"),
+    };
+    let end = End {
+        status,
+        fault,
+        tells: fault.is_none(),
+    };
+    ends(rt, alloc, replay(&schedule), &[], end, text)
 }
 
 #[test]
-fn a_fault_has_its_text(rt: HostRuntime) -> Result<(), Fail> {
-    for (fault, text) in [
-        (RunFault::Usage, "mld: usage"),
-        (RunFault::ReadFault, "mld: read fault"),
-        (RunFault::WriteFault, "mld: write fault"),
-        (RunFault::BadLine(1), "mld: line 1: bad line"),
-        (RunFault::NoMemory, "mld: no memory"),
-        (RunFault::Device(9), "mld: clone 9: device fault"),
-        (RunFault::NotEmpty(31), "mld: bank 31: not empty"),
-        (RunFault::TooLarge(20), "mld: line 20: too large"),
-        (RunFault::Unbuilt(300), "mld: line 300: unbuilt"),
-    ] {
-        let is_so = has_text(rt.alloc(), fault, text)?;
-        assert!(rt; is_so, "{text}");
+fn a_line_and_the_input_have_limits(rt: HostRuntime) -> Result<(), Fail> {
+    // A line has 1,048,576 bytes at most, and the input 16,777,216: 18, then 15 times 1,048,576, and 1,048,558.
+    let cases = [
+        (0, 1_048_576, None),
+        (0, 1_048_577, Some(RunFault::TooLarge(2))),
+        (15, 1_048_557, None),
+        (15, 1_048_558, Some(RunFault::TooLarge(17))),
+    ];
+    for (lines, size, fault) in cases {
+        let is_so = ends_behind(&rt, rt.alloc(), lines, size, fault)?;
+        assert!(rt; is_so, "{lines} {size}");
+    }
+    Ok(())
+}
+
+#[test]
+fn other_words_or_banks_end_the_run_at_once(rt: HostRuntime) -> Result<(), Fail> {
+    let cases: [(&[&str], Odd, u8, RunFault); 5] = [
+        (&[], Odd::Nothing, 1, RunFault::Usage),
+        (&["replay", "x"], Odd::Nothing, 1, RunFault::Usage),
+        (&["Replay"], Odd::Nothing, 1, RunFault::Usage),
+        (&["replay"], Odd::Fails(1, 0), 6, RunFault::Device(1)),
+        (&["replay"], Odd::Filled(3), 8, RunFault::NotEmpty(3)),
+    ];
+    for (words, odd, status, fault) in cases {
+        let given = Given {
+            words,
+            odd,
+            ..replay(b"domain d clones 2\n")
+        };
+        let end = End {
+            status,
+            fault: Some(fault),
+            tells: false,
+        };
+        let is_so = ends(&rt, rt.alloc(), given, &[], end, b"")?;
+        assert!(rt; is_so, "{status}");
     }
     Ok(())
 }

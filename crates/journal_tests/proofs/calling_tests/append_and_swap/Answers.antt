@@ -2,7 +2,7 @@
 use Rattle.std.proofs.Common.{sym, subst}
 use Rattle.journal_sides.specs.Pairs.{Kept}
 use Rattle.journal_store.specs.Calls.{MayAppend}
-use Rattle.journal_tests.proofs.made.append_first.Goals as goal
+use Rattle.journal_tests.proofs.calling_tests.append_and_swap.Goals as goal
 
 pub append_entry-requires-clause-follows : goal.append_entry-requires-clause-follows
-append_entry-requires-clause-follows g c kept by = subst (λ (k : Kept). MayAppend c.args.entry.now k) (sym (c.requires.made kept by)) c.requires.ready
+append_entry-requires-clause-follows c kept by = subst (λ (k : Kept). MayAppend c.args.entry.now k) (sym (c.requires.made kept by)) c.requires.ready

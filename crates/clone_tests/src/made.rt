@@ -1,0 +1,165 @@
+//! The clones that tests work on, in boxes, which are let go in one step; and what they do, on loans and in plain words.
+ghost use Rattle.std.specs.Prelude.{IfOk, IsTrue};
+ghost use Rattle.iri_rules.specs.Domain.{is_domain};
+ghost use Rattle.mld_ops.specs.Messages.{message_value, IsGoodMessage};
+
+use clone_core::{Asker, Done, Got, MldClone, Mounted, ReceiveFault, UpdateFault};
+use disk_model::MemoryBanks;
+use iri_rules::{Text, is_domain};
+use journal_store::Blank;
+use mld_ops::{Entry, Message};
+use rdf_terms::{Iri, read_triple};
+use std::alloc::{AllocError, Global};
+use std::test::Fail;
+use std::thread::Threads;
+use tree_clock::{Clock, Dot, Path, Range};
+use uuid::Uuid;
+
+/// A clone on banks in memory.
+pub type TestClone = MldClone<MemoryBanks>;
+
+/// One who asks, with banks in memory.
+pub type TestAsker = Asker<MemoryBanks>;
+
+/// The triple that is added and removed.
+const TRIPLE: &str = "<http://d/s> <http://d/p> <http://d/o> .";
+
+/// The property that has one value at most.
+const PROPERTY: &str = "http://d/p";
+
+/// What a clone answers, in plain words.
+#[derive(Clone, Copy, PartialEq, Eq)]
+pub enum Word {
+    /// An operation was made, at this tick.
+    Made(u32),
+    /// So many ranges were taken.
+    Took(usize),
+    Held,
+    Known,
+    NotSet(UpdateFault),
+    NotTaken(ReceiveFault),
+    /// Another answer, or none, since what was to be handed to the clone could not be made.
+    Other,
+}
+
+fn word_of_done(done: Result<Done, UpdateFault>) -> Word {
+    match done {
+        Ok(Done::Made(entry)) => Word::Made(entry.range().last),
+        Ok(Done::Nothing) => Word::Other,
+        Err(fault) => Word::NotSet(fault),
+    }
+}
+
+fn word_of_got(got: Result<Got, ReceiveFault>) -> Word {
+    match got {
+        Ok(Got::Took(ranges)) => Word::Took(ranges.len()),
+        Ok(Got::Held) => Word::Held,
+        Ok(Got::Known) => Word::Known,
+        Ok(_) => Word::Other,
+        Err(fault) => Word::NotTaken(fault),
+    }
+}
+
+/// What a clone answers where it is to add the triple, or to remove it.
+pub fn set(clone: &mut TestClone, alloc: Global, present: bool) -> Word {
+    match read_triple(alloc, TRIPLE) {
+        Ok(triple) => word_of_done(clone.set(alloc, &triple, present)),
+        Err(_fault) => Word::Other,
+    }
+}
+
+/// What a clone answers to the entry of a range that deletes and inserts nothing.
+pub fn receive<R: Threads>(clone: &mut TestClone, rt: &R, alloc: Global, range: Range) -> Word {
+    match bare_entry(alloc, range) {
+        Some(entry) => word_of_got(clone.receive(rt, alloc, &Message::Range(entry))),
+        None => Word::Other,
+    }
+}
+
+/// The entry of a range that deletes and inserts nothing, and that rests on its own path alone.
+fn bare_entry(alloc: Global, range: Range) -> Option<Entry> {
+    let time = clock(alloc, &range.path, range.last).ok()?;
+    Entry::new(range, time, Vec::new(alloc), Vec::new(alloc))
+}
+
+/// A clock with so many ticks of a path.
+pub fn clock(alloc: Global, path: &Path, tick: u32) -> Result<Clock, AllocError> {
+    let mut clock = Clock::empty(alloc);
+    clock.reserve(path)?;
+    clock.raise(&Dot { path: *path, tick });
+    Ok(clock)
+}
+
+/// How many entries a clone took, how many it holds back, how many pairs it has, and how many ticks of its own path it knows.
+pub fn parts(clone: &TestClone) -> (usize, usize, usize, u32) {
+    (
+        clone.journal().len(),
+        clone.held().len(),
+        clone.pairs().count(),
+        clone.known().ticks(&clone.path()),
+    )
+}
+
+/// Whether these are the properties that clones are made with.
+pub fn are_given(properties: &[Iri]) -> bool {
+    match properties {
+        [property] => property.as_str() == PROPERTY,
+        _ => false,
+    }
+}
+
+/// The properties that clones are made with.
+fn properties(alloc: Global) -> Result<Vec<Iri>, Fail> {
+    let mut properties = Vec::new(alloc);
+    properties.push(Iri::new(alloc, PROPERTY)?)?;
+    Ok(properties)
+}
+
+/// The domain `d`.
+fn domain(alloc: Global) -> Result<Text, Fail>
+    ensures { IfOk result (λ domain. IsTrue (is_domain domain)) }
+{
+    let domain = Text::new(alloc, "d")?;
+    if !is_domain(domain.as_str()) {
+        return Err("no domain".into());
+    }
+    Ok(domain)
+}
+
+/// Banks in memory that keep nothing.
+fn blank<R: Threads>(rt: &R, alloc: Global) -> Result<Blank<MemoryBanks>, Fail> {
+    match MldClone::mount(rt, alloc, MemoryBanks::blank(alloc)) {
+        Mounted::Empty(blank) => Ok(blank),
+        Mounted::Live(_) | Mounted::Refused(_, _) => Err("no blank".into()),
+    }
+}
+
+/// The first clone of the domain `d`, with the id 7.
+pub fn first<R: Threads>(rt: &R, alloc: Global) -> Result<Box<TestClone>, Fail> {
+    founded(rt, alloc, properties(alloc)?)
+}
+
+/// The first clone of the domain `d`, with these properties.
+fn founded<R: Threads>(
+    rt: &R,
+    alloc: Global,
+    properties: Vec<Iri>,
+) -> Result<Box<TestClone>, Fail> {
+    let id = Uuid::from_u128(7);
+    match MldClone::genesis(alloc, blank(rt, alloc)?, id, domain(alloc)?, properties) {
+        Ok(clone) => Ok(Box::new(alloc, clone)?),
+        Err((_fault, _banks)) => Err("not founded".into()),
+    }
+}
+
+/// One who asks by the id 2 for a leaf of the domain `d`.
+pub fn asker<R: Threads>(rt: &R, alloc: Global) -> Result<Box<TestAsker>, Fail> {
+    asking(rt, alloc, properties(alloc)?)
+}
+
+/// One who asks for a leaf of the domain `d`, with these properties.
+fn asking<R: Threads>(rt: &R, alloc: Global, properties: Vec<Iri>) -> Result<Box<TestAsker>, Fail> {
+    let id = Uuid::from_u128(2);
+    let asker = Asker::new(blank(rt, alloc)?, id, domain(alloc)?, properties);
+    Ok(Box::new(alloc, asker)?)
+}
