@@ -12,7 +12,7 @@ use Rattle.journal_store.specs.declared.faults.MountFault.TheVariants.{Damaged, 
 use Rattle.clone_core.specs.Opening.{TellsClone}
 use Rattle.clone_core.specs.declared.mounts.Mounted.{Mounted}
 use Rattle.clone_core.specs.declared.mounts.Mounted.TheVariants.{Live, Empty, Refused}
-use Rattle.net_world.specs.WorldBanks.{GoesOn, MetersGoOn, IsQuiet, AreQuiet, HasFailed}
+use Rattle.net_world.specs.WorldBanks.{GoesOn, MetersGoOn, HadNoFault, HadNoFaults, HasFailed}
 use Rattle.mld_replay.specs.Filled.{IsFilled, IsFirstFilled, AreEmpty, AreEmptyBefore, HadFault, LogsStay, StopsLookingAt, StopsLooking}
 use Rattle.mld_replay.specs.BankFaults.{HasRunFaults}
 use Rattle.mld_io.specs.Faults.{Rose}
@@ -124,7 +124,7 @@ there_too old new number was count at = (get_or new number was, slice_get-get_or
 -- the banks before this number were looked at: none has bytes, and none had a fault
 pub record HasLooked {B : Type 0} (log : B → Option Log) (meter : B → Meter) (old new : List B) (number : ℕ) : Type 0 where
   pub meters : MetersGoOn meter old new
-  pub quiet : AreQuiet meter old new
+  pub quiet : HadNoFaults meter old new
   pub logs : LogsStay log old new
   pub empty : AreEmptyBefore log old number
 
@@ -144,9 +144,9 @@ meters_set meter banks number was now at goes = record {
   each = set_at (λ x y. GoesOn (meter x) (meter y)) banks number was now at goes (λ one. stays_same (meter one));
 }
 
-quiet_set : {B : Type 0} (meter : B → Meter) (banks : List B) (number : ℕ) (was now : B) → slice_get banks number ≡ Some was → IsQuiet (meter was) (meter now)
-    → AreQuiet meter banks (slice_set banks number now)
-quiet_set meter banks number was now at quiet = set_at (λ x y. IsQuiet (meter x) (meter y)) banks number was now at quiet (λ one. refl)
+quiet_set : {B : Type 0} (meter : B → Meter) (banks : List B) (number : ℕ) (was now : B) → slice_get banks number ≡ Some was → HadNoFault (meter was) (meter now)
+    → HadNoFaults meter banks (slice_set banks number now)
+quiet_set meter banks number was now at quiet = set_at (λ x y. HadNoFault (meter x) (meter y)) banks number was now at quiet (λ one. refl)
 
 failed_set : {B : Type 0} (meter : B → Meter) (banks : List B) (number : ℕ) (was now : B) → slice_get banks number ≡ Some was → HadFault (meter was) (meter now)
     → HasFailed meter number banks (slice_set banks number now)
@@ -170,7 +170,7 @@ looked_logs log meter old middle number was now looked at same place first last 
     set_at (λ x y. log y ≡ log x) middle number was now at same (λ one. refl) place there.0 last there.1 last_at ∙ looked.logs place first there.0 first_at there.1
 
 pub looked_more : {B : Type 0} (log : B → Option Log) (meter : B → Meter) (old middle : List B) (number : ℕ) (was now : B) → HasLooked log meter old middle number
-    → slice_get middle number ≡ Some was → log now ≡ log was → GoesOn (meter was) (meter now) → IsQuiet (meter was) (meter now) → ¬ IsFilled (log was)
+    → slice_get middle number ≡ Some was → log now ≡ log was → GoesOn (meter was) (meter now) → HadNoFault (meter was) (meter now) → ¬ IsFilled (log was)
     → HasLooked log meter old (slice_set middle number now) (number + 1)
 looked_more {B = B} log meter old middle number was now looked at same goes quiet none = record {
   meters = looked_meters log meter old middle number was now looked at goes;
@@ -214,7 +214,7 @@ looked_faults log meter old middle number was now faults.NoMemory looked at stop
 looked_faults log meter old middle number was now fault looked at stops = absurd stops
 
 -- a side was looked at, and then the look at the other one stopped
-pub stops_later : (number : ℕ) (log : Option Log) (first second third : Meter) (fault : RunFault) → GoesOn first second → IsQuiet first second → StopsLookingAt number log second third fault
+pub stops_later : (number : ℕ) (log : Option Log) (first second third : Meter) (fault : RunFault) → GoesOn first second → HadNoFault first second → StopsLookingAt number log second third fault
     → StopsLookingAt number log first third fault
 stops_later number log first second third (faults.NotEmpty clone) goes quiet stops = (stops.0, stops.1, stops.2 ∙ quiet)
 stops_later number log first second third (faults.Device clone) goes quiet stops =
@@ -237,7 +237,7 @@ empty_still log old new count logs none = λ place one at filled.
 -- the first banks were made these blanks, and the rest, which are empty, are left; none had a fault
 pub record IsBlanking {B : Type 0} (log : B → Option Log) (meter : B → Meter) (old done rest : List B) (number : ℕ) : Type 0 where
   pub meters : MetersGoOn meter old (done ++ rest)
-  pub quiet : AreQuiet meter old (done ++ rest)
+  pub quiet : HadNoFaults meter old (done ++ rest)
   pub empty : AreEmpty log rest
   pub counted : number ≡ length done
 
@@ -256,8 +256,8 @@ module _ {B : Type 0} (meter : B → Meter) (done : List B) (was now : B) (rest 
     each = swap_at (λ x y. GoesOn (meter x) (meter y)) done was now rest goes (λ one. stays_same (meter one));
   }
 
-  quiet_swap : IsQuiet (meter was) (meter now) → AreQuiet meter (done ++ was ∷ rest) (done ++ now ∷ rest)
-  quiet_swap quiet = swap_at (λ x y. IsQuiet (meter x) (meter y)) done was now rest quiet (λ one. refl)
+  quiet_swap : HadNoFault (meter was) (meter now) → HadNoFaults meter (done ++ was ∷ rest) (done ++ now ∷ rest)
+  quiet_swap quiet = swap_at (λ x y. HadNoFault (meter x) (meter y)) done was now rest quiet (λ one. refl)
 
   failed_swap : HadFault (meter was) (meter now) → HasFailed meter (length done) (done ++ was ∷ rest) (done ++ now ∷ rest)
   failed_swap fails = record {
@@ -275,8 +275,8 @@ meters_before : {B : Type 0} (log : B → Option Log) (meter : B → Meter) (old
 meters_before {B = B} log meter old done rest left was number blanking is = subst (λ (l : List B). MetersGoOn meter old (done ++ l)) is blanking.meters
 
 quiet_before : {B : Type 0} (log : B → Option Log) (meter : B → Meter) (old done rest left : List B) (was : B) (number : ℕ) → IsBlanking log meter old done rest number
-    → rest ≡ was ∷ left → AreQuiet meter old (done ++ was ∷ left)
-quiet_before {B = B} log meter old done rest left was number blanking is = subst (λ (l : List B). AreQuiet meter old (done ++ l)) is blanking.quiet
+    → rest ≡ was ∷ left → HadNoFaults meter old (done ++ was ∷ left)
+quiet_before {B = B} log meter old done rest left was number blanking is = subst (λ (l : List B). HadNoFaults meter old (done ++ l)) is blanking.quiet
 
 blanking_meters : {B : Type 0} (log : B → Option Log) (meter : B → Meter) (old done rest left : List B) (was now : B) (number : ℕ) → IsBlanking log meter old done rest number
     → rest ≡ was ∷ left → GoesOn (meter was) (meter now) → MetersGoOn meter old (done ++ now ∷ left)
@@ -285,7 +285,7 @@ blanking_meters log meter old done rest left was now number blanking is goes =
 
 -- they are made a blank
 pub blanking_more : {B : Type 0} (log : B → Option Log) (meter : B → Meter) (old done rest left more : List B) (was now : B) (number : ℕ) → IsBlanking log meter old done rest number
-    → rest ≡ was ∷ left → more ≡ done ++ now ∷ [] → GoesOn (meter was) (meter now) → IsQuiet (meter was) (meter now) → IsBlanking log meter old more left (number + 1)
+    → rest ≡ was ∷ left → more ≡ done ++ now ∷ [] → GoesOn (meter was) (meter now) → HadNoFault (meter was) (meter now) → IsBlanking log meter old more left (number + 1)
 blanking_more {B = B} log meter old done rest left more was now number blanking is more_is goes quiet = rw more_is (record {
   meters = rw (append_assoc done (now ∷ []) left) (blanking_meters log meter old done rest left was now number blanking is goes);
   quiet = rw (append_assoc done (now ∷ []) left)
@@ -316,5 +316,5 @@ all_done {B = B} P done rest none holds = subst P (append-nil done) (subst (λ (
 pub blanking_all : {B : Type 0} (log : B → Option Log) (meter : B → Meter) (old done rest : List B) (number : ℕ) → IsBlanking log meter old done rest number → rest ≡ [] → MetersGoOn meter old done
 blanking_all log meter old done rest number blanking none = all_done (λ l. MetersGoOn meter old l) done rest none blanking.meters
 
-pub blanking_quiet : {B : Type 0} (log : B → Option Log) (meter : B → Meter) (old done rest : List B) (number : ℕ) → IsBlanking log meter old done rest number → rest ≡ [] → AreQuiet meter old done
-blanking_quiet log meter old done rest number blanking none = all_done (λ l. AreQuiet meter old l) done rest none blanking.quiet
+pub blanking_quiet : {B : Type 0} (log : B → Option Log) (meter : B → Meter) (old done rest : List B) (number : ℕ) → IsBlanking log meter old done rest number → rest ≡ [] → HadNoFaults meter old done
+blanking_quiet log meter old done rest number blanking none = all_done (λ l. HadNoFaults meter old l) done rest none blanking.quiet

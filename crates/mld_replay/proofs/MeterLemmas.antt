@@ -4,7 +4,7 @@ use Rattle.std.specs.Prelude.{slice_get}
 use Rattle.std.proofs.lemmas.Option.{slice_get_within, slice_get-get_or}
 use Rattle.mld_io.specs.Arm.{Meter}
 use Rattle.mld_io.specs.Faults.{Rose}
-use Rattle.net_world.specs.WorldBanks.{GoesOn, MetersGoOn, AreQuiet, HasFailed, HasFaultsOf}
+use Rattle.net_world.specs.WorldBanks.{GoesOn, MetersGoOn, HadNoFaults, HasFailed, HasFaultsOf}
 use Rattle.net_world.specs.declared.faults.WorldFault.{WorldFault}
 use Rattle.net_world.specs.declared.faults.WorldFault.TheVariants as worlds
 use Rattle.schedule_text.specs.declared.refusals.LineRefusal.{LineRefusal}
@@ -49,23 +49,23 @@ meters_then meter old middle new one two = record {
 
 -- ---- real faults, from call to call
 
-pub quiet_same : {B : Type 0} (meter : B → Meter) (banks : List B) → AreQuiet meter banks banks
+pub quiet_same : {B : Type 0} (meter : B → Meter) (banks : List B) → HadNoFaults meter banks banks
 quiet_same {B = B} meter banks number was now was_at now_at = ap (λ (one : B). (meter one).real_faults) (some_is (sym now_at ∙ was_at))
 
-pub quiet_then : {B : Type 0} (meter : B → Meter) (old middle new : List B) → MetersGoOn meter old middle → AreQuiet meter old middle → AreQuiet meter middle new → AreQuiet meter old new
+pub quiet_then : {B : Type 0} (meter : B → Meter) (old middle new : List B) → MetersGoOn meter old middle → HadNoFaults meter old middle → HadNoFaults meter middle new → HadNoFaults meter old new
 quiet_then meter old middle new goes one two number was now was_at now_at =
     let there = there_later old middle number was goes.count was_at in
     two number there.0 now there.1 now_at ∙ one number was there.0 was_at there.1
 
 -- no banks are left
-pub quiet_none : {B : Type 0} (meter : B → Meter) (old new : List B) → new ≡ [] → AreQuiet meter old new
+pub quiet_none : {B : Type 0} (meter : B → Meter) (old new : List B) → new ≡ [] → HadNoFaults meter old new
 quiet_none {B = B} meter old new none number was now was_at now_at = absurd (some_not_none now (sym now_at ∙ ap (λ (l : List B). slice_get l number) none))
   where
     some_not_none : (now : B) → ¬ ◌≡◌ {A = Option B} (Some now) None
     some_not_none now is = cc (is)
 
 -- a fault since a later time is one since an earlier one
-pub failed_later : {B : Type 0} (meter : B → Meter) (clone : ℕ) (old middle new : List B) → MetersGoOn meter old middle → AreQuiet meter old middle → HasFailed meter clone middle new
+pub failed_later : {B : Type 0} (meter : B → Meter) (clone : ℕ) (old middle new : List B) → MetersGoOn meter old middle → HadNoFaults meter old middle → HasFailed meter clone middle new
     → HasFailed meter clone old new
 failed_later meter clone old middle new goes quiet fails =
     let there = there_later middle old clone fails.was (sym goes.count) fails.before in
@@ -86,17 +86,17 @@ failed_later meter clone old middle new goes quiet fails =
     rose_before was middle now same rose = subst (λ (n : ℕ). Rose n now) same rose
 
 -- so it is of the faults of a line and of a run
-pub stop_later : {B : Type 0} (meter : B → Meter) (old middle new : List B) (stop : LineStop) → MetersGoOn meter old middle → AreQuiet meter old middle → HasStopFaults meter middle new stop
+pub stop_later : {B : Type 0} (meter : B → Meter) (old middle new : List B) (stop : LineStop) → MetersGoOn meter old middle → HadNoFaults meter old middle → HasStopFaults meter middle new stop
     → HasStopFaults meter old new stop
 stop_later meter old middle new (stops.Device clone) goes quiet fails = failed_later meter clone old middle new goes quiet fails
 stop_later meter old middle new stop goes quiet fails = quiet_then meter old middle new goes quiet fails
 
-pub run_later : {B : Type 0} (meter : B → Meter) (old middle new : List B) (fault : Option RunFault) → MetersGoOn meter old middle → AreQuiet meter old middle → HasRunFaults meter middle new fault
+pub run_later : {B : Type 0} (meter : B → Meter) (old middle new : List B) (fault : Option RunFault) → MetersGoOn meter old middle → HadNoFaults meter old middle → HasRunFaults meter middle new fault
     → HasRunFaults meter old new fault
 run_later meter old middle new (Some (faults.Device clone)) goes quiet fails = failed_later meter clone old middle new goes quiet fails
 run_later meter old middle new fault goes quiet fails = quiet_then meter old middle new goes quiet fails
 
-pub back_later : {B : Type 0} (meter : B → Meter) (old middle new : List B) (fault : Option RunFault) → MetersGoOn meter old middle → AreQuiet meter old middle → BringsBack meter middle new fault
+pub back_later : {B : Type 0} (meter : B → Meter) (old middle new : List B) (fault : Option RunFault) → MetersGoOn meter old middle → HadNoFaults meter old middle → BringsBack meter middle new fault
     → BringsBack meter old new fault
 back_later meter old middle new fault goes quiet back = record {
   meters = λ differs. meters_then meter old middle new goes (back.meters differs);

@@ -17,7 +17,7 @@ use Rattle.schedule_model.specs.Schedule.{Setup as ModelSetup, SpellsSetup, Spel
 use Rattle.rdf_terms.specs.Order.{iri_cmp}
 use Rattle.tree_clock.specs.Lists.{IsAscending}
 use Rattle.schedule_text.specs.ReadLines.{setup_of, SetupIs, CommandIs}
-use Rattle.net_world.specs.WorldBanks.{BankedWorld, StandsOnBanks, MetersGoOn, AreQuiet}
+use Rattle.net_world.specs.WorldBanks.{BankedWorld, StandsOnBanks, MetersGoOn, HadNoFaults}
 use Rattle.net_world.specs.Founding.{RefusesFounding}
 use Rattle.net_world.specs.declared.faults.WorldFault.{WorldFault}
 use Rattle.net_world.specs.declared.faults.WorldFault.TheVariants as worlds
@@ -180,12 +180,12 @@ founded_end log setup running stands =
 
 -- ---- which banks had faults, where a clone was founded before
 
-pub quiet_after : {B T : Type 0} (meter : B → Meter) (old middle new : List B) (result : Result T LineStop) → MetersGoOn meter old middle → AreQuiet meter old middle
-    → OnOk result (AreQuiet meter middle new) → OnOk result (AreQuiet meter old new)
+pub quiet_after : {B T : Type 0} (meter : B → Meter) (old middle new : List B) (result : Result T LineStop) → MetersGoOn meter old middle → HadNoFaults meter old middle
+    → OnOk result (HadNoFaults meter middle new) → OnOk result (HadNoFaults meter old new)
 quiet_after meter old middle new (Ok value) goes quiet after = quiet_then meter old middle new goes quiet after
 quiet_after meter old middle new (Err stop) goes quiet after = tt
 
-pub faults_after : {B T : Type 0} (meter : B → Meter) (old middle new : List B) (result : Result T LineStop) → MetersGoOn meter old middle → AreQuiet meter old middle
+pub faults_after : {B T : Type 0} (meter : B → Meter) (old middle new : List B) (result : Result T LineStop) → MetersGoOn meter old middle → HadNoFaults meter old middle
     → IfErr result (HasStopFaults meter middle new) → IfErr result (HasStopFaults meter old new)
 faults_after meter old middle new (Ok value) goes quiet after = tt
 faults_after meter old middle new (Err stop) goes quiet after = stop_later meter old middle new stop goes quiet after
@@ -196,8 +196,8 @@ founding_faults meter blanks back worlds.NoMemory refuses = quiet_none meter bla
 founding_faults meter blanks back (worlds.Device clone) refuses = refuses.1
 
 -- where no device was called
-pub quiet_kept : {B T : Type 0} (meter : B → Meter) (old new : List B) (result : Result T LineStop) → new ≡ old → OnOk result (AreQuiet meter old new)
-quiet_kept {B = B} meter old new (Ok value) same = subst (λ (l : List B). AreQuiet meter old l) (sym same) (quiet_same meter old)
+pub quiet_kept : {B T : Type 0} (meter : B → Meter) (old new : List B) (result : Result T LineStop) → new ≡ old → OnOk result (HadNoFaults meter old new)
+quiet_kept {B = B} meter old new (Ok value) same = subst (λ (l : List B). HadNoFaults meter old l) (sym same) (quiet_same meter old)
 quiet_kept meter old new (Err stop) same = tt
 
 pub faults_kept : {B T : Type 0} (meter : B → Meter) (old new : List B) (result : Result T LineStop) → new ≡ old → ((clone : ℕ) → ¬ IsErrOf result (stops.Device clone))

@@ -11,7 +11,7 @@ use Rattle.mld_io.specs.Lines.{lines_of}
 use Rattle.mld_model.specs.World.{World}
 use Rattle.schedule_model.specs.Runs.{Stage, Running, RunsBefore, Outcome, Finished, BadLine, UnbuiltLine, Verdict}
 use Rattle.schedule_model.proofs.RunsLaws.{one_verdict}
-use Rattle.net_world.specs.WorldBanks.{MetersGoOn, AreQuiet}
+use Rattle.net_world.specs.WorldBanks.{MetersGoOn, HadNoFaults}
 use Rattle.mld_replay.specs.BankFaults.{HasRunFaults, BringsBack}
 use Rattle.mld_replay.specs.Filled.{IsFirstFilled, EndsBefore, AreEmpty, LogsStay, HeedsFilled, StopsLooking, StopsBlanking}
 use Rattle.mld_replay.specs.Ran.{Finishes, StopsAtBad, StopsAtUnbuilt, StopsAtLarge, BreaksOff, WritesFront, EndsSo, Agrees, EndsAs, EndsBy, IsReplayFault, LeavesAlone, AreUntouched, HasNotBegun, CountsReads, CountsWrites, tells}
@@ -166,7 +166,7 @@ module _ {B : Type 0} (log : B → Option Log) (fault : Option RunFault) (runnin
       (front_of_end (StageStands log running) (StageStands log running) fault bytes left before now ends)
 
   -- the meters of the banks go on
-  pub back_by : (meter : B → Meter) (banks blanks : List B) → EndsBy log fault running ran → MetersGoOn meter banks blanks → AreQuiet meter banks blanks
+  pub back_by : (meter : B → Meter) (banks blanks : List B) → EndsBy log fault running ran → MetersGoOn meter banks blanks → HadNoFaults meter banks blanks
       → BringsBack meter blanks (banks_of_stage running) fault → BringsBack meter banks ran.banks.items ran.fault
   back_by meter banks blanks (inl whole) goes quiet back =
       subst (λ (f : Option RunFault). BringsBack meter banks ran.banks.items f) (sym whole.fault_is)
@@ -359,6 +359,6 @@ blanking_back meter banks back faults.NoMemory stops = record { meters = λ diff
 blanking_back meter banks back (faults.Device clone) stops = record { meters = λ differs. stops.0; real_faults = stops.1 }
 blanking_back meter banks back fault stops = absurd stops
 
-pub refused_back : {B : Type 0} (meter : B → Meter) (banks looked back : List B) (fault : RunFault) → MetersGoOn meter banks looked → AreQuiet meter banks looked → StopsBlanking meter looked fault back
+pub refused_back : {B : Type 0} (meter : B → Meter) (banks looked back : List B) (fault : RunFault) → MetersGoOn meter banks looked → HadNoFaults meter banks looked → StopsBlanking meter looked fault back
     → BringsBack meter banks back (Some fault)
 refused_back meter banks looked back fault goes quiet stops = back_later meter banks looked back (Some fault) goes quiet (blanking_back meter looked back fault stops)

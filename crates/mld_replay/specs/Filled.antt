@@ -3,7 +3,7 @@ use Rattle.std.specs.Prelude.{◌≡◌, ◌<◌, ◌≤◌, ◌⊎◌, ℕ, Lis
 use Rattle.mld_io.specs.Arm.{Meter, Unarmed}
 use Rattle.mld_io.specs.Disk.{Log, Sides, seen}
 use Rattle.mld_io.specs.Faults.{Rose}
-use Rattle.net_world.specs.WorldBanks.{MetersGoOn, IsQuiet, HasFailed}
+use Rattle.net_world.specs.WorldBanks.{MetersGoOn, HadNoFault, HasFailed}
 use Rattle.mld_replay.specs.declared.run.RunFault.{RunFault}
 use Rattle.mld_replay.specs.declared.run.RunFault.TheVariants as faults
 
@@ -63,9 +63,9 @@ AreEmptyBefore {B = B} log banks number = (place : ℕ) (one : B) → place < nu
 -- why a look at the banks of this number stopped: they have bytes; or they had a real fault, where they were not armed, which no other
 -- answer hides; or memory ran out
 abbrev pub StopsLookingAt : ℕ → Option Log → Meter → Meter → RunFault → Type 0
-StopsLookingAt number log before now (faults.NotEmpty clone) = (clone ≡ number) × IsFilled log × IsQuiet before now
+StopsLookingAt number log before now (faults.NotEmpty clone) = (clone ≡ number) × IsFilled log × HadNoFault before now
 StopsLookingAt number log before now (faults.Device clone) = (clone ≡ number) × HadFault before now
-StopsLookingAt number log before now faults.NoMemory = IsQuiet before now
+StopsLookingAt number log before now faults.NoMemory = HadNoFault before now
 StopsLookingAt number log before now fault = ⊥
 
 -- why a look at the banks stopped: those of the number are the first that have bytes; or it had come to them when their device failed; or

@@ -3,7 +3,7 @@ ghost use Rattle.std.specs.Prelude.{◌≡◌, ◌<◌, ◌+◌, ◌≤◌, ◌+
 ghost use Rattle.std.specs.Result.{result_err};
 ghost use Rattle.mld_io.specs.Disk.{Log, bytes_of, seen};
 ghost use Rattle.mld_model.specs.World.{clone_count};
-ghost use Rattle.net_world.specs.WorldBanks.{GoesOn, MetersGoOn, IsQuiet, AreQuiet};
+ghost use Rattle.net_world.specs.WorldBanks.{GoesOn, MetersGoOn, HadNoFault, HadNoFaults};
 ghost use Rattle.mld_replay.specs.BankFaults.{HasRunFaults};
 ghost use Rattle.mld_replay.specs.Filled.{IsFilled, AreEmpty, HadFault, LogsStay, StopsLookingAt, StopsLooking, StopsBlanking};
 
@@ -37,7 +37,7 @@ fn look_at<B: CrashBanks>(banks: &mut B, number: u8) -> Result<(), RunFault>
     ensures log { B.log banks.new ≡ B.log banks.old }
     ensures empty { OnOk result (¬ IsFilled (B.log banks.old)) }
     ensures meter { GoesOn (B.meter banks.old) (B.meter banks.new) }
-    ensures quiet { OnOk result (IsQuiet (B.meter banks.old) (B.meter banks.new)) }
+    ensures quiet { OnOk result (HadNoFault (B.meter banks.old) (B.meter banks.new)) }
     ensures err { IfErr result (StopsLookingAt number (B.log banks.old) (B.meter banks.old) (B.meter banks.new)) }
 {
     if has_bytes(banks, Side::A, number)? || has_bytes(banks, Side::B, number)? {
@@ -51,7 +51,7 @@ fn has_bytes<B: CrashBanks>(banks: &mut B, side: Side, number: u8) -> Result<boo
     ensures log { B.log banks.new ≡ B.log banks.old }
     ensures bytes { (l : Log) → B.log banks.old ≡ Some l → IfOk result (λ has. IsTrue has ↔ (0 < length (bytes_of side (seen l)))) }
     ensures meter { GoesOn (B.meter banks.old) (B.meter banks.new) }
-    ensures quiet { OnOk result (IsQuiet (B.meter banks.old) (B.meter banks.new)) }
+    ensures quiet { OnOk result (HadNoFault (B.meter banks.old) (B.meter banks.new)) }
     ensures err { IfErr result (StopsLookingAt number (B.log banks.old) (B.meter banks.old) (B.meter banks.new)) }
 {
     match banks.len(side) {
@@ -72,7 +72,7 @@ pub fn blanks_of<R: Threads, B: CrashBanks>(
     requires count { vec_len banks ≡ clone_count }
     ensures count { IfOk result (λ blanks. length blanks.items ≡ clone_count) }
     ensures meters { IfOk result (λ blanks. MetersGoOn B.meter banks.items blanks.items) }
-    ensures quiet { IfOk result (λ blanks. AreQuiet B.meter banks.items blanks.items) }
+    ensures quiet { IfOk result (λ blanks. HadNoFaults B.meter banks.items blanks.items) }
     ensures err { IfErr result (λ refused. StopsBlanking B.meter banks.items refused.0 refused.1.items) }
 {
     let Ok((mut blanks, back)) = room_for(alloc, banks.len()) else {
@@ -103,7 +103,7 @@ fn blank_of<R: Threads, B: CrashBanks>(
 ) -> Result<Blank<B>, Option<B>>
     requires { ¬ IsFilled (B.log banks) }
     ensures ok { IfOk result (λ blank. GoesOn (B.meter banks) (B.meter blank)) }
-    ensures quiet { IfOk result (λ blank. IsQuiet (B.meter banks) (B.meter blank)) }
+    ensures quiet { IfOk result (λ blank. HadNoFault (B.meter banks) (B.meter blank)) }
     ensures later { IfErr result (λ refused. IfSome refused (λ back. GoesOn (B.meter banks) (B.meter back))) }
     ensures failed { IfErr result (λ refused. IfSome refused (λ back. HadFault (B.meter banks) (B.meter back))) }
 {

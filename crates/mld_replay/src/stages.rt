@@ -2,7 +2,7 @@
 ghost use Rattle.std.specs.Prelude.{◌≡◌, ◌<◌, ◌≤◌, ◌+◌, [], ℕ, List, IfOk, IfErr, OnOk, OnErr, IsErrOf};
 ghost use Rattle.mld_model.specs.World.{World as ModelWorld};
 ghost use Rattle.mld_model.specs.Sound.{IsSound};
-ghost use Rattle.net_world.specs.WorldBanks.{StandsOnBanks, banks_of, MetersGoOn, AreQuiet};
+ghost use Rattle.net_world.specs.WorldBanks.{StandsOnBanks, banks_of, MetersGoOn, HadNoFaults};
 ghost use Rattle.schedule_model.specs.Runs.{Stage as ModelStage, Waiting, Running, IsBad, IsUnbuilt};
 ghost use Rattle.schedule_model.specs.Schedule.{SpellsCommand};
 ghost use Rattle.schedule_model.specs.Step.{HasCloneNumbers};
@@ -51,7 +51,7 @@ pub fn act<R: Threads, B: CrashBanks>(
     ensures unbuilt { IsErrOf result LineStop.Unbuilt → IsUnbuilt line.now }
     ensures kept_unbuilt { IsErrOf result LineStop.Unbuilt → stage.new ≡ stage.old }
     ensures meters { ¬ IsErrOf result LineStop.NoMemory → MetersGoOn B.meter (banks_of_stage stage.old) (banks_of_stage stage.new) }
-    ensures quiet { OnOk result (AreQuiet B.meter (banks_of_stage stage.old) (banks_of_stage stage.new)) }
+    ensures quiet { OnOk result (HadNoFaults B.meter (banks_of_stage stage.old) (banks_of_stage stage.new)) }
     ensures faults { IfErr result (HasStopFaults B.meter (banks_of_stage stage.old) (banks_of_stage stage.new)) }
 {
     match stage {
@@ -117,7 +117,7 @@ fn start<R: Threads, B: CrashBanks>(
         → ActsWell B.log model line text.items stage.new) }
     ensures steps { OnOk result (steps_of stage.new ≡ 1) }
     ensures meters { ¬ IsErrOf result LineStop.NoMemory → MetersGoOn B.meter (banks_of_stage stage.old) (banks_of_stage stage.new) }
-    ensures quiet { OnOk result (AreQuiet B.meter (banks_of_stage stage.old) (banks_of_stage stage.new)) }
+    ensures quiet { OnOk result (HadNoFaults B.meter (banks_of_stage stage.old) (banks_of_stage stage.new)) }
     ensures faults { IfErr result (HasStopFaults B.meter (banks_of_stage stage.old) (banks_of_stage stage.new)) }
     ensures other { IfErr result IsWorldStop }
 {
@@ -139,7 +139,7 @@ fn found<R: Threads, B: CrashBanks>(
     ensures standing { IfOk result (IsStanding B.log) }
     ensures steps { IfOk result (λ world. world.steps ≡ 0) }
     ensures meters { IfOk result (λ world. MetersGoOn B.meter (banks_of_stage stage.old) (banks_of world)) }
-    ensures quiet { IfOk result (λ world. AreQuiet B.meter (banks_of_stage stage.old) (banks_of world)) }
+    ensures quiet { IfOk result (λ world. HadNoFaults B.meter (banks_of_stage stage.old) (banks_of world)) }
     ensures left { (clone : ℕ) → IsErrOf result (LineStop.Device clone) → MetersGoOn B.meter (banks_of_stage stage.old) (banks_of_stage stage.new) }
     ensures faults { IfErr result (HasStopFaults B.meter (banks_of_stage stage.old) (banks_of_stage stage.new)) }
     ensures other { IfErr result IsWorldStop }
@@ -182,7 +182,7 @@ fn command<R: Threads, B: CrashBanks>(
     ensures unbuilt { IsErrOf result LineStop.Unbuilt → IsUnbuilt line.now }
     ensures kept_unbuilt { IsErrOf result LineStop.Unbuilt → world.new ≡ world.old }
     ensures meters { MetersGoOn B.meter (banks_of world.old) (banks_of world.new) }
-    ensures quiet { OnOk result (AreQuiet B.meter (banks_of world.old) (banks_of world.new)) }
+    ensures quiet { OnOk result (HadNoFaults B.meter (banks_of world.old) (banks_of world.new)) }
     ensures faults { IfErr result (HasStopFaults B.meter (banks_of world.old) (banks_of world.new)) }
 {
     match read_command(alloc, line, world.domain())? {
@@ -204,7 +204,7 @@ fn step<R: Threads, B: CrashBanks>(
     ensures ok { IfOk result (λ text. Stepped B.log world.old command.now world.new [] text.items) }
     ensures steps { OnOk result (world.new.steps ≡ world.old.steps + 1) }
     ensures meters { MetersGoOn B.meter (banks_of world.old) (banks_of world.new) }
-    ensures quiet { OnOk result (AreQuiet B.meter (banks_of world.old) (banks_of world.new)) }
+    ensures quiet { OnOk result (HadNoFaults B.meter (banks_of world.old) (banks_of world.new)) }
     ensures faults { IfErr result (HasStopFaults B.meter (banks_of world.old) (banks_of world.new)) }
     ensures other { IfErr result IsWorldStop }
 {
@@ -225,7 +225,7 @@ pub fn finish<R: Threads, B: CrashBanks>(
     ensures kept { IsErrOf result LineStop.BadLine → stage.new ≡ stage.old }
     ensures built { ¬ IsErrOf result LineStop.Unbuilt }
     ensures meters { ¬ IsErrOf result LineStop.NoMemory → MetersGoOn B.meter (banks_of_stage stage.old) (banks_of_stage stage.new) }
-    ensures quiet { OnOk result (AreQuiet B.meter (banks_of_stage stage.old) (banks_of_stage stage.new)) }
+    ensures quiet { OnOk result (HadNoFaults B.meter (banks_of_stage stage.old) (banks_of_stage stage.new)) }
     ensures faults { IfErr result (HasStopFaults B.meter (banks_of_stage stage.old) (banks_of_stage stage.new)) }
 {
     match stage {

@@ -28,7 +28,7 @@ use Rattle.schedule_model.proofs.ChangesLaws.{step_keeps_domain, step_keeps_othe
 use Rattle.net_world.specs.declared.faults.WorldFault.{WorldFault}
 use Rattle.net_world.specs.declared.faults.WorldFault.TheVariants as faults
 use Rattle.net_world.specs.States.{HasState, Becomes}
-use Rattle.net_world.specs.WorldBanks.{BankedState, BankedWorld, in_memory, banks_of_state, memory_of, KeepsNoneNow, KeepsStored, BanksStandFor, IsReached, IsDownOn, IsOpenAt, IsBacked, StandsOnBanks, GoesOn, MetersGoOn, IsQuiet, AreQuiet, HasFailed, HasFaultsOf, HasFaultsBy, FailsAt, HasFaultsAt, UsesBanksOf, StaysOpenNext, IsNextGeneration, is_first, is_next, IsOpenNext, IsCarried, IsCarriedAt}
+use Rattle.net_world.specs.WorldBanks.{BankedState, BankedWorld, in_memory, banks_of_state, memory_of, KeepsNoneNow, KeepsStored, BanksStandFor, IsReached, IsDownOn, IsOpenAt, IsBacked, StandsOnBanks, GoesOn, MetersGoOn, HadNoFault, HadNoFaults, HasFailed, HasFaultsOf, HasFaultsBy, FailsAt, HasFaultsAt, UsesBanksOf, StaysOpenNext, IsNextGeneration, is_first, is_next, IsOpenNext, IsCarried, IsCarriedAt}
 use Rattle.net_world.specs.WorldFaults.{fault_of_made}
 use Rattle.net_world.specs.Worlds.{Moves, MovesOnBanks}
 use Rattle.net_world.proofs.Places.{here_at, other_at, elsewhere_at, set_here}
@@ -63,7 +63,7 @@ goes_on calls before now Done Failed metered = record {
 }
 
 -- what wasn't told to have failed had no real fault
-pub quiet_metered : (calls : ℕ) (before now : Meter) (Done Failed : Type 0) → Metered calls before now Done Failed → ¬ Failed → IsQuiet before now
+pub quiet_metered : (calls : ℕ) (before now : Meter) (Done Failed : Type 0) → Metered calls before now Done Failed → ¬ Failed → HadNoFault before now
 quiet_metered calls before now Done Failed metered none = (metered.quiet none).1
 
 -- what failed where it wasn't armed had a real fault
@@ -74,7 +74,7 @@ rose_unarmed calls before now Done Failed metered failed unarmed = elim (metered
 ]
 
 -- where the banks had no fault, and memory ran out at most
-pub memory_at_one : {T : Type 0} (number : ℕ) (before now : Meter) (r : Result T WorldFault) → IsQuiet before now → IfErr r (λ fault. fault ≡ faults.NoMemory)
+pub memory_at_one : {T : Type 0} (number : ℕ) (before now : Meter) (r : Result T WorldFault) → HadNoFault before now → IfErr r (λ fault. fault ≡ faults.NoMemory)
     → HasFaultsAt number before now r
 memory_at_one number before now (Ok reply) quiet none = quiet
 memory_at_one number before now (Err fault) quiet none = subst (FailsAt number before now) (sym none) quiet
@@ -138,15 +138,15 @@ module _ {B : Type 0} (meter : B → Meter) where
 
   -- ---- faults
 
-  quiet_kept : (before after : B) → before ≡ after → IsQuiet (meter before) (meter after)
+  quiet_kept : (before after : B) → before ≡ after → HadNoFault (meter before) (meter after)
   quiet_kept before after same = ap (λ (b : B). (meter b).real_faults) (sym same)
 
-  quiet_set : (old : List B) (number : ℕ) (was now : B) → slice_get old number ≡ Some was → IsQuiet (meter was) (meter now) → AreQuiet meter old (set old number now)
+  quiet_set : (old : List B) (number : ℕ) (was now : B) → slice_get old number ≡ Some was → HadNoFault (meter was) (meter now) → HadNoFaults meter old (set old number now)
   quiet_set old number was now at quiet other before after had has = elim (cases_eq other number) [
     | inl same ↦
         let first : was ≡ before = cc (at, subst (λ (k : ℕ). slice_get old k ≡ Some before) same had) in
         let second : now ≡ after = here_at old number now after (subst (λ (k : ℕ). slice_get (set old number now) k ≡ Some after) same has) in
-        subst (λ (b : B). IsQuiet (meter b) (meter after)) first (subst (λ (b : B). IsQuiet (meter was) (meter b)) second quiet)
+        subst (λ (b : B). HadNoFault (meter b) (meter after)) first (subst (λ (b : B). HadNoFault (meter was) (meter b)) second quiet)
     | inr differs ↦ quiet_kept before after (cc (had, other_at old number other now after differs has))
   ]
 
@@ -176,21 +176,21 @@ module _ {B : Type 0} (meter : B → Meter) where
       (faults_at (map banks_of_state old) number (banks_of_state before) (banks_of_state after) r (banks_at old number before becomes.was) by)
 
   pub quiet_becomes : (old new : List (BankedState B)) (number : ℕ) (before after : BankedState B) → Becomes old new number before after
-      → IsQuiet (meter (banks_of_state before)) (meter (banks_of_state after)) → AreQuiet meter (map banks_of_state old) (map banks_of_state new)
+      → HadNoFault (meter (banks_of_state before)) (meter (banks_of_state after)) → HadNoFaults meter (map banks_of_state old) (map banks_of_state new)
   quiet_becomes old new number before after becomes quiet =
-      subst (λ (l : List B). AreQuiet meter (map banks_of_state old) l) (sym (banks_become old new number after becomes.now))
+      subst (λ (l : List B). HadNoFaults meter (map banks_of_state old) l) (sym (banks_become old new number after becomes.now))
       (quiet_set (map banks_of_state old) number (banks_of_state before) (banks_of_state after) (banks_at old number before becomes.was) quiet)
 
   -- where the banks are the same
-  pub quiet_same : (banks : List B) → AreQuiet meter banks banks
+  pub quiet_same : (banks : List B) → HadNoFaults meter banks banks
   quiet_same banks number before after had has = quiet_kept before after (cc (had, has))
 
-  pub quiet_still : (old new : List (BankedState B)) → new ≡ old → AreQuiet meter (map banks_of_state old) (map banks_of_state new)
+  pub quiet_still : (old new : List (BankedState B)) → new ≡ old → HadNoFaults meter (map banks_of_state old) (map banks_of_state new)
   quiet_still old new same =
-      subst (λ (l : List (BankedState B)). AreQuiet meter (map banks_of_state old) (map banks_of_state l)) (sym same) (quiet_same (map banks_of_state old))
+      subst (λ (l : List (BankedState B)). HadNoFaults meter (map banks_of_state old) (map banks_of_state l)) (sym same) (quiet_same (map banks_of_state old))
 
   -- want of memory is none of them
-  pub faults_memory : {T : Type 0} (old new : List B) (r : Result T WorldFault) → AreQuiet meter old new → IfErr r (λ fault. fault ≡ faults.NoMemory) → HasFaultsBy meter old new r
+  pub faults_memory : {T : Type 0} (old new : List B) (r : Result T WorldFault) → HadNoFaults meter old new → IfErr r (λ fault. fault ≡ faults.NoMemory) → HasFaultsBy meter old new r
   faults_memory old new (Ok reply) quiet none = quiet
   faults_memory old new (Err fault) quiet none = subst (HasFaultsOf meter old new) (sym none) quiet
 

@@ -10,7 +10,7 @@ use Rattle.clone_core.specs.Banked.{BankedClone}
 use Rattle.clone_core.specs.Closing.{FailsToFound}
 use Rattle.net_world.specs.declared.faults.WorldFault.{WorldFault}
 use Rattle.net_world.specs.declared.faults.WorldFault.TheVariants as faults
-use Rattle.net_world.specs.WorldBanks.{BankedState, banks_of_state, GoesOn, MetersGoOn, IsQuiet, AreQuiet, HasFailed, HasFaultsOf, HasFaultsBy, FailsAt, HasFaultsAt}
+use Rattle.net_world.specs.WorldBanks.{BankedState, banks_of_state, GoesOn, MetersGoOn, HadNoFault, HadNoFaults, HasFailed, HasFaultsOf, HasFaultsBy, FailsAt, HasFaultsAt}
 use Rattle.net_world.specs.Founding.{IsMadeFirst}
 use Rattle.net_world.specs.WorldFaults.{fault_of_made}
 use Rattle.net_world.proofs.BankLemmas.{quiet_metered, faults_made}
@@ -54,16 +54,16 @@ module _ {B : Type 0} (meter : B → Meter) where
   }
 
   -- banks that had no fault before, and none after
-  pub quiet_then : (old mid new : List B) → MetersGoOn meter old mid → AreQuiet meter old mid → AreQuiet meter mid new → AreQuiet meter old new
+  pub quiet_then : (old mid new : List B) → MetersGoOn meter old mid → HadNoFaults meter old mid → HadNoFaults meter mid new → HadNoFaults meter old new
   quiet_then old mid new on first second number was now had has =
       let between : (b : B) × (slice_get mid number ≡ Some b) = stands_too old mid number was on had in
       second number between.0 now between.1 has ∙ first number was between.0 had between.1
 
   -- banks that failed, and of which none had a fault before
-  then_failed : (old mid new : List B) (number : ℕ) → MetersGoOn meter old mid → AreQuiet meter old mid → HasFailed meter number mid new → HasFailed meter number old new
+  then_failed : (old mid new : List B) (number : ℕ) → MetersGoOn meter old mid → HadNoFaults meter old mid → HasFailed meter number mid new → HasFailed meter number old new
   then_failed old mid new number on quiet failed =
       let begun : (b : B) × (slice_get old number ≡ Some b) = stood_too old mid number failed.was on failed.before in
-      let same : IsQuiet (meter begun.0) (meter failed.was) = quiet number begun.0 failed.was begun.1 failed.before in
+      let same : HadNoFault (meter begun.0) (meter failed.was) = quiet number begun.0 failed.was begun.1 failed.before in
       record {
         was = begun.0;
         now = failed.now;
@@ -78,11 +78,11 @@ module _ {B : Type 0} (meter : B → Meter) where
       }
 
   -- banks that failed, and of which none had a fault after
-  failed_then : (old mid new : List B) (number : ℕ) → MetersGoOn meter old mid → HasFailed meter number old mid → MetersGoOn meter mid new → AreQuiet meter mid new
+  failed_then : (old mid new : List B) (number : ℕ) → MetersGoOn meter old mid → HasFailed meter number old mid → MetersGoOn meter mid new → HadNoFaults meter mid new
       → HasFailed meter number old new
   failed_then old mid new number first failed second quiet =
       let ended : (b : B) × (slice_get new number ≡ Some b) = stands_too mid new number failed.now second failed.behind in
-      let same : IsQuiet (meter failed.now) (meter ended.0) = quiet number failed.now ended.0 failed.behind ended.1 in
+      let same : HadNoFault (meter failed.now) (meter ended.0) = quiet number failed.now ended.0 failed.behind ended.1 in
       record {
         was = failed.was;
         now = ended.0;
@@ -95,17 +95,17 @@ module _ {B : Type 0} (meter : B → Meter) where
       }
 
   -- so it is of how a call ended
-  pub then_fails : (old mid new : List B) (fault : WorldFault) → MetersGoOn meter old mid → AreQuiet meter old mid → HasFaultsOf meter mid new fault → HasFaultsOf meter old new fault
+  pub then_fails : (old mid new : List B) (fault : WorldFault) → MetersGoOn meter old mid → HadNoFaults meter old mid → HasFaultsOf meter mid new fault → HasFaultsOf meter old new fault
   then_fails old mid new faults.NoMemory on quiet by = quiet_then old mid new on quiet by
   then_fails old mid new (faults.Device clone) on quiet by = then_failed old mid new clone on quiet by
 
-  pub then_faults : {T : Type 0} (old mid new : List B) (r : Result T WorldFault) → MetersGoOn meter old mid → AreQuiet meter old mid → HasFaultsBy meter mid new r
+  pub then_faults : {T : Type 0} (old mid new : List B) (r : Result T WorldFault) → MetersGoOn meter old mid → HadNoFaults meter old mid → HasFaultsBy meter mid new r
       → HasFaultsBy meter old new r
   then_faults old mid new (Ok value) on quiet by = quiet_then old mid new on quiet by
   then_faults old mid new (Err fault) on quiet by = then_fails old mid new fault on quiet by
 
   pub faults_then : {T : Type 0} (old mid new : List B) (r : Result T WorldFault) → MetersGoOn meter old mid → HasFaultsBy meter old mid r → MetersGoOn meter mid new
-      → AreQuiet meter mid new → HasFaultsBy meter old new r
+      → HadNoFaults meter mid new → HasFaultsBy meter old new r
   faults_then old mid new (Ok value) first by second quiet = quiet_then old mid new first by quiet
   faults_then old mid new (Err faults.NoMemory) first by second quiet = quiet_then old mid new first by quiet
   faults_then old mid new (Err (faults.Device clone)) first by second quiet = failed_then old mid new clone first by second quiet

@@ -25,7 +25,7 @@ use Rattle.net_world.specs.Asking.{AsksFirst, SendsQuestion}
 use Rattle.net_world.specs.Founding.{IsNewAsker}
 use Rattle.schedule_replies.specs.Replies.{reply_value}
 use Rattle.net_world.specs.States.{HasState, reply_of_state}
-use Rattle.net_world.specs.WorldBanks.{BankedState, in_memory, banks_of_state, memory_of, GoesOn, IsQuiet, HasFaultsBy}
+use Rattle.net_world.specs.WorldBanks.{BankedState, in_memory, banks_of_state, memory_of, GoesOn, HadNoFault, HasFaultsBy}
 use Rattle.net_world.specs.WorldParts.{running_of, KeepsDomain, Does}
 use Rattle.net_world.specs.Worlds.{Moves}
 use Rattle.net_world.proofs.BankLemmas.{memory_at, memory_becomes, goes_on_same, memory_at_one, faults_set}
@@ -111,6 +111,6 @@ pub join_first_faults : {B T : Type 0} (meter : B → Meter) (domain : List ℕ)
     (r : Result T WorldFault) → AsksFirst domain properties number old new question → IfErr r (λ fault. fault ≡ faults.NoMemory)
     → HasFaultsBy meter (map banks_of_state old) (map banks_of_state new) r
 join_first_faults {B = B} meter domain properties old new number question r asks none =
-    let same : IsQuiet (meter asks.blank) (meter asks.asking.banks) = ap (λ (b : B). (meter b).real_faults) asks.banks in
+    let same : HadNoFault (meter asks.blank) (meter asks.asking.banks) = ap (λ (b : B). (meter b).real_faults) asks.banks in
     faults_set meter old new number (states.Absent asks.blank) (states.Asking asks.asking) r asks.becomes
     (memory_at_one number (meter asks.blank) (meter asks.asking.banks) r same none)

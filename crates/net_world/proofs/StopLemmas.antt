@@ -42,7 +42,7 @@ use Rattle.net_world.specs.OpeningBanks.{IsWholeAt, IsUndamaged, IsOpenedAs, Ope
 use Rattle.schedule_replies.specs.Replies.{reply_value}
 use Rattle.net_world.specs.States.{HasState, Becomes, reply_of_state}
 use Rattle.net_world.specs.StoppedClones.{StopsOnBanks}
-use Rattle.net_world.specs.WorldBanks.{BankedState, in_memory, banks_of_state, memory_of, stored_in, KeepsNoneNow, KeepsStored, IsReached, IsDownOn, IsOpenAt, IsBacked, StandsOnBanks, GoesOn, AreQuiet, HasFaultsAt}
+use Rattle.net_world.specs.WorldBanks.{BankedState, in_memory, banks_of_state, memory_of, stored_in, KeepsNoneNow, KeepsStored, IsReached, IsDownOn, IsOpenAt, IsBacked, StandsOnBanks, GoesOn, HadNoFaults, HasFaultsAt}
 use Rattle.net_world.specs.WorldParts.{running_of, HasStepLeft, KeepsDomain, Does}
 use Rattle.net_world.proofs.BankLemmas.{memory_at, memory_becomes, goes_on, goes_on_same, quiet_metered, rose_unarmed, quiet_becomes}
 use Rattle.net_world.proofs.WorldLemmas.{after_step, moved, does_at, does_still, keeps_set}
@@ -326,5 +326,5 @@ module _ {B : Type 0} (log : B → Option Log) (meter : B → Meter) (domain : L
 
 -- a clone that stops uses no banks
 pub stop_quiet : {B : Type 0} (log : B → Option Log) (meter : B → Meter) (old new : List (BankedState B)) (number : ℕ) → StopsOnBanks log old new number
-    → AreQuiet meter (map banks_of_state old) (map banks_of_state new)
+    → HadNoFaults meter (map banks_of_state old) (map banks_of_state new)
 stop_quiet log meter old new number s = quiet_becomes meter old new number (states.Live s.clone) (states.Down s.clone.banks) s.becomes refl

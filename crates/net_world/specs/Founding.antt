@@ -20,7 +20,7 @@ use Rattle.tree_clock.specs.Lists.{Has}
 use Rattle.net_world.specs.declared.faults.WorldFault.{WorldFault}
 use Rattle.net_world.specs.declared.faults.WorldFault.TheVariants as faults
 use Rattle.net_world.specs.States.{HasState, Becomes}
-use Rattle.net_world.specs.WorldBanks.{BankedState, in_memory, banks_of_state, GoesOn, MetersGoOn, IsQuiet, HasFailed, HasFaultsAt}
+use Rattle.net_world.specs.WorldBanks.{BankedState, in_memory, banks_of_state, GoesOn, MetersGoOn, HadNoFault, HasFailed, HasFaultsAt}
 use Rattle.net_world.specs.WorldFaults.{fault_of_made}
 
 -- one who asks begins with the id of its number, this domain, and these properties as they are kept
@@ -104,8 +104,8 @@ pub record TakesHalf {B : Type 0} (asker : LocalAsker) (was now : BankedClone B)
 
 -- of the first clone and one who asked it, the first may have had a real fault, by how the call ended, or the other; not both had one
 pub data HasFaultsOfTwo {U : Type 0} (number : ℕ) (giver giver_now taker taker_now : Meter) (result : Result U WorldFault) : Type 0 where
-  giving : HasFaultsAt 0 giver giver_now result → IsQuiet taker taker_now → HasFaultsOfTwo number giver giver_now taker taker_now result
-  taking : IsQuiet giver giver_now → HasFaultsAt number taker taker_now result → HasFaultsOfTwo number giver giver_now taker taker_now result
+  giving : HasFaultsAt 0 giver giver_now result → HadNoFault taker taker_now → HasFaultsOfTwo number giver giver_now taker taker_now result
+  taking : HadNoFault giver giver_now → HasFaultsAt number taker taker_now result → HasFaultsOfTwo number giver giver_now taker taker_now result
 
 -- what became of one who asked the first clone, and of that clone: the leaf was given and taken, or the banks of one of them failed
 pub record JoinsBy {B U : Type 0} (meter : B → Meter) (number : ℕ) (asking : BankedAsker B) (was now : BankedClone B) (told : BankedState B × Result U WorldFault) : Type 0 where

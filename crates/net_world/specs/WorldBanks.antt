@@ -129,12 +129,12 @@ pub record MetersGoOn {B : Type 0} (meter : B → Meter) (old new : List B) : Ty
   pub each : (number : ℕ) (was now : B) → slice_get old number ≡ Some was → slice_get new number ≡ Some now → GoesOn (meter was) (meter now)
 
 -- no real fault was counted
-abbrev pub IsQuiet : Meter → Meter → Type 0
-IsQuiet before now = now.real_faults ≡ before.real_faults
+abbrev pub HadNoFault : Meter → Meter → Type 0
+HadNoFault before now = now.real_faults ≡ before.real_faults
 
 -- none was, of any of these banks, by number
-abbrev pub AreQuiet : {B : Type 0} → (B → Meter) → List B → List B → Type 0
-AreQuiet {B = B} meter old new = (number : ℕ) (was now : B) → slice_get old number ≡ Some was → slice_get new number ≡ Some now → IsQuiet (meter was) (meter now)
+abbrev pub HadNoFaults : {B : Type 0} → (B → Meter) → List B → List B → Type 0
+HadNoFaults {B = B} meter old new = (number : ℕ) (was now : B) → slice_get old number ≡ Some was → slice_get new number ≡ Some now → HadNoFault (meter was) (meter now)
 
 -- the banks of this number, which there are, had a real fault where they were not armed, and no others had one
 pub record HasFailed {B : Type 0} (meter : B → Meter) (number : ℕ) (old new : List B) : Type 0 where
@@ -143,16 +143,16 @@ pub record HasFailed {B : Type 0} (meter : B → Meter) (number : ℕ) (old new 
   pub before : slice_get old number ≡ Some was
   pub behind : slice_get new number ≡ Some now
   pub fault : (meter was).arm ≡ Unarmed → Rose (meter was).real_faults (meter now).real_faults
-  pub others : (other : ℕ) (one two : B) → other ≢ number → slice_get old other ≡ Some one → slice_get new other ≡ Some two → IsQuiet (meter one) (meter two)
+  pub others : (other : ℕ) (one two : B) → other ≢ number → slice_get old other ≡ Some one → slice_get new other ≡ Some two → HadNoFault (meter one) (meter two)
 
 -- which banks had real faults where a call was refused: those of the clone that the fault names, and no others; or none had any
 abbrev pub HasFaultsOf : {B : Type 0} → (B → Meter) → List B → List B → WorldFault → Type 0
 HasFaultsOf meter old new (faults.Device clone) = HasFailed meter clone old new
-HasFaultsOf meter old new faults.NoMemory = AreQuiet meter old new
+HasFaultsOf meter old new faults.NoMemory = HadNoFaults meter old new
 
 -- and by how it ended: none had any where it was not refused
 abbrev pub HasFaultsBy : {B T : Type 0} → (B → Meter) → List B → List B → Result T WorldFault → Type 0
-HasFaultsBy meter old new (Ok value) = AreQuiet meter old new
+HasFaultsBy meter old new (Ok value) = HadNoFaults meter old new
 HasFaultsBy meter old new (Err fault) = HasFaultsOf meter old new fault
 
 -- the banks of all other numbers are as they were
@@ -163,10 +163,10 @@ OthersStay number old new = (other : ℕ) → other ≢ number → slice_get new
 -- were not armed; or they had none
 abbrev pub FailsAt : ℕ → Meter → Meter → WorldFault → Type 0
 FailsAt number before now (faults.Device clone) = (clone ≡ number) × (before.arm ≡ Unarmed → Rose before.real_faults now.real_faults)
-FailsAt number before now faults.NoMemory = IsQuiet before now
+FailsAt number before now faults.NoMemory = HadNoFault before now
 
 abbrev pub HasFaultsAt : {T : Type 0} → ℕ → Meter → Meter → Result T WorldFault → Type 0
-HasFaultsAt number before now (Ok value) = IsQuiet before now
+HasFaultsAt number before now (Ok value) = HadNoFault before now
 HasFaultsAt number before now (Err fault) = FailsAt number before now fault
 
 -- the banks of no other clone than that of this number were used

@@ -9,7 +9,7 @@ ghost use Rattle.clone_core.specs.Joining.{LocallyGives, AreGood};
 ghost use Rattle.net_world.specs.Founding.{GivesLeaf, AreFounded, AreFoundedTo, RefusesFounding, IsAbsentAt, IsMadeFirst, MayGive, LivesAtLeaf, JoinsBy, HasGiver, JoinsFirst};
 ghost use Rattle.schedule_text.specs.ReadLines.{setup_of};
 ghost use Rattle.net_world.specs.States.{HasState};
-ghost use Rattle.net_world.specs.WorldBanks.{BankedState, banks_of_state, GoesOn, MetersGoOn, AreQuiet, HasFaultsAt, HasFaultsBy};
+ghost use Rattle.net_world.specs.WorldBanks.{BankedState, banks_of_state, GoesOn, MetersGoOn, HadNoFaults, HasFaultsAt, HasFaultsBy};
 
 use crate::faults::{WorldFault, made_fault};
 use crate::states::{RunningClone, copy_named, id_of, new_asker, put_state, take_state};
@@ -35,7 +35,7 @@ pub fn found_clones<R: Threads, B: CrashBanks>(
     requires count { vec_len blanks ≡ clone_count }
     ensures ok { IfOk result (λ clones. AreFounded (setup_of setup.now) clones.items) }
     ensures meters { IfOk result (λ clones. MetersGoOn B.meter blanks.items (map banks_of_state clones.items)) }
-    ensures quiet { IfOk result (λ clones. AreQuiet B.meter blanks.items (map banks_of_state clones.items)) }
+    ensures quiet { IfOk result (λ clones. HadNoFaults B.meter blanks.items (map banks_of_state clones.items)) }
     ensures err { IfErr result (λ refused. RefusesFounding B.meter blanks.items refused.0 refused.1.items) }
 {
     let Ok((mut clones, mut back)) = absent_clones(alloc, blanks) else {

@@ -5,7 +5,7 @@ ghost use Rattle.mld_model.specs.declared.CloneState.TheVariants as kinds;
 ghost use Rattle.schedule_model.specs.declared.Command.TheVariants as commands;
 ghost use Rattle.net_world.specs.States.{HasState};
 ghost use Rattle.net_world.specs.StoppedClones.{StopsOnBanks};
-ghost use Rattle.net_world.specs.WorldBanks.{banks_of_state, AreQuiet};
+ghost use Rattle.net_world.specs.WorldBanks.{banks_of_state, HadNoFaults};
 ghost use Rattle.net_world.specs.WorldEnds.{KeepsState, KeepAll};
 ghost use Rattle.net_world.specs.WorldParts.{KeepsDomain, Does};
 
@@ -19,7 +19,7 @@ use schedule_replies::Reply;
 pub fn stop<B: CrashBanks>(parts: &mut Parts<B>, number: u8) -> Reply<'static>
     requires { number < vec_len parts.old.clones }
     ensures keeps { KeepsDomain B.meter number parts.old parts.new }
-    ensures quiet { AreQuiet B.meter (map banks_of_state parts.old.clones.items) (map banks_of_state parts.new.clones.items) }
+    ensures quiet { HadNoFaults B.meter (map banks_of_state parts.old.clones.items) (map banks_of_state parts.new.clones.items) }
     ensures done { Does B.log parts.old (commands.Stop number) parts.new result }
 {
     match &parts.clones[usize::from(number)] {

@@ -44,7 +44,7 @@ impl<B: CrashBanks> World<B> {
     ghost use Rattle.rdf_terms.specs.Kept.{KeepsStart};
     ghost use Rattle.mld_model.specs.World.{World as ModelWorld, clone_count};
     ghost use Rattle.net_world.specs.Founding.{RefusesFounding};
-    ghost use Rattle.net_world.specs.WorldBanks.{StandsOnBanks, AllBanksStandFor, banks_of, MetersGoOn, AreQuiet, HasFaultsBy, OthersStay, memory_of};
+    ghost use Rattle.net_world.specs.WorldBanks.{StandsOnBanks, AllBanksStandFor, banks_of, MetersGoOn, HadNoFaults, HasFaultsBy, OthersStay, memory_of};
     ghost use Rattle.schedule_model.specs.Runs.{founded_by};
     ghost use Rattle.schedule_model.specs.Schedule.{IsSetup};
     ghost use Rattle.schedule_model.specs.Step.{HasCloneNumbers, number_of_clone};
@@ -70,7 +70,7 @@ impl<B: CrashBanks> World<B> {
         ensures standing { IfOk result (IsStanding B.log) }
         ensures steps { IfOk result (λ world. world.steps ≡ 0) }
         ensures meters { IfOk result (λ world. MetersGoOn B.meter blanks.items (banks_of world)) }
-        ensures quiet { IfOk result (λ world. AreQuiet B.meter blanks.items (banks_of world)) }
+        ensures quiet { IfOk result (λ world. HadNoFaults B.meter blanks.items (banks_of world)) }
         ensures err { IfErr result (λ refused. RefusesFounding B.meter blanks.items refused.0 refused.1.items) }
     {
         let Ok(named) = copy_named(alloc, &setup.domain, setup.props.as_slice()) else {

@@ -1,6 +1,6 @@
 use Rattle.std.proofs.Common.{◌≡◌, ◌-◌, ◌≤◌, IsTrue}
 use Rattle.mld_replay.specs.TooLarge.{line_limit, input_limit}
-use Rattle.net_world.specs.WorldBanks.{MetersGoOn, AreQuiet}
+use Rattle.net_world.specs.WorldBanks.{MetersGoOn, HadNoFaults}
 use Rattle.mld_replay.specs.Stages.{banks_of_stage}
 use Rattle.mld_replay.specs.UnderWay.{IsUnderWay, KnowsEnd}
 use Rattle.mld_replay.proofs.run.replay.Given as goal
@@ -9,7 +9,7 @@ abbrev pub invariant-loop-line : goal.invariant-loop-line
 invariant-loop-line g l = record {
   way : IsUnderWay g.B.Banks.log (g.S.Source.left l.fn.source) (g.S.Source.left l.source) (g.K.Sink.held l.fn.sink) (g.K.Sink.held l.sink) l.lines.taken l.stage l.done;
   meters : MetersGoOn g.B.Banks.meter (banks_of_stage l.fn.stage) (banks_of_stage l.stage);
-  quiet : AreQuiet g.B.Banks.meter (banks_of_stage l.fn.stage) (banks_of_stage l.stage);
+  quiet : HadNoFaults g.B.Banks.meter (banks_of_stage l.fn.stage) (banks_of_stage l.stage);
   ends : KnowsEnd l.lines.ended (g.S.Source.left l.fn.source) (g.S.Source.left l.source) l.done;
   good : IsTrue l.lines.good;
   line : l.lines.line ≡ line_limit;

@@ -1,7 +1,7 @@
 use Rattle.std.proofs.Common.{◌≡◌, ◌∙◌, ◌++◌, [], List, arith, rules, ap, sym, subst, map}
 use Rattle.mld_model.specs.declared.CloneState.TheVariants as kinds
 use Rattle.schedule_text.specs.ReadLines.{setup_of}
-use Rattle.net_world.specs.WorldBanks.{BankedState, banks_of_state, MetersGoOn, AreQuiet, HasFailed, HasFaultsOf}
+use Rattle.net_world.specs.WorldBanks.{BankedState, banks_of_state, MetersGoOn, HadNoFaults, HasFailed, HasFaultsOf}
 use Rattle.net_world.specs.declared.faults.WorldFault.TheVariants as faults
 use Rattle.net_world.proofs.FaultLemmas.{banks_of_absent}
 use Rattle.net_world.proofs.FoundingLemmas.{all_absent, all_founded}
@@ -26,7 +26,7 @@ returns-in-Ok-found_each-clause-meters g c =
 
 pub returns-in-Ok-found_each-clause-quiet : goal.returns-in-Ok-found_each-clause-quiet
 returns-in-Ok-found_each-clause-quiet g c =
-    subst (λ (l : List g.row.B.Denot). AreQuiet g.B.Banks.meter l (map banks_of_state c.found_each.new.clones.items)) (begun_as g c.args.blanks.items c.in-Ok.clones.items (search rules))
+    subst (λ (l : List g.row.B.Denot). HadNoFaults g.B.Banks.meter l (map banks_of_state c.found_each.new.clones.items)) (begun_as g c.args.blanks.items c.in-Ok.clones.items (search rules))
     c.in-Ok-found_each.ensures.faults
 
 pub returns-in-Err-Device-clause-err : goal.returns-in-Err-Device-clause-err

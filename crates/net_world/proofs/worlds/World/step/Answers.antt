@@ -1,7 +1,7 @@
 use Rattle.std.proofs.Common.{◌+◌, List, ap, map, subst}
 use Rattle.std.proofs.lemmas.Result.{err_from_is_err_and}
 use Rattle.schedule_model.specs.Step.{number_of_clone}
-use Rattle.net_world.specs.WorldBanks.{BankedWorld, banks_of_state, AreQuiet, HasFaultsOf}
+use Rattle.net_world.specs.WorldBanks.{BankedWorld, banks_of_state, HadNoFaults, HasFaultsOf}
 use Rattle.net_world.specs.WorldParts.{running_of}
 use Rattle.net_world.specs.Worlds.{Stepped}
 use Rattle.net_world.proofs.WorldLemmas.{standing_after, step_answered, step_banks, step_begun}
@@ -20,7 +20,7 @@ returns g c =
       standing = standing_after g.B.Banks.log c.args.self.now c.args.command.now (running_of new (steps + 1)) c.args.out.now.items c.answer.new.out.items c.requires.standing done;
       steps = ap (λ (w : BankedWorld g.row.B.Denot). w.steps + 1) c.self.view_is;
       meters = used.meters;
-      faults = subst (λ (l : List g.row.B.Denot). AreQuiet g.B.Banks.meter l (map banks_of_state new.clones.items)) begun c.in_ok-answer.ensures.faults;
+      faults = subst (λ (l : List g.row.B.Denot). HadNoFaults g.B.Banks.meter l (map banks_of_state new.clones.items)) begun c.in_ok-answer.ensures.faults;
       others = used.others;
       out = tt;
     }
