@@ -1,32 +1,16 @@
 -- Copies and writes within the front of a list.
-use Rattle.std.proofs.Common.{◌≡◌, ℕ, ◌+◌, ◌-◌, ◌≤◌, max, List, ◌++◌, length, take, drop, sym, ap, ◌∙◌, arith, length-append, length-drop, append_assoc, inl, inr, drop_of_length-le}
-use Rattle.std.proofs.Math.Seq.{take-add, take-append-add}
-use Rattle.std.proofs.lemmas.List.{take_at, length-take-le, take-append-le, take-append-drop, drop-take}
+use Rattle.std.proofs.Common.{◌≡◌, ℕ, ◌+◌, ◌-◌, ◌≤◌, max, List, ◌++◌, length, take, drop, sym, ap, ◌∙◌, arith, length-append, append_assoc, inl, inr, drop_of_length-le}
+use Rattle.std.proofs.Math.Seq.{take-append-add}
+use Rattle.std.proofs.lemmas.List.{length-take-le, take-append-le, take-append-drop, drop-take}
 use Rattle.std.proofs.lemmas.Bool.{cases_lt}
 use Rattle.mld_io.specs.Disk.{written}
 use Rattle.disk_model.specs.Sides.{ExtendsTo}
-
--- lists that agree up to `low`, once the bytes from there up to `high` were copied, agree up to there
-pub copied_agrees : (low high : ℕ) (to from now : List ℕ) → low ≤ high → high ≤ length to → high ≤ length from → take low to ≡ take low from
-    → now ≡ take low to ++ take (high - low) (drop low from) ++ drop high to → take high now ≡ take high from
-copied_agrees low high to from now ordered in_to in_from agree is =
-    let middle = take (high - low) (drop low from) in
-    let front : length (take low to) ≡ low = length-take-le low to (omega arith) in
-    let some : length middle ≡ high - low = length-take-le (high - low) (drop low from) (omega (arith, length-drop low from)) in
-    let long : length (take low to ++ middle) ≡ high = omega (arith, length-append (take low to) middle) in
-    let back : low + (high - low) ≡ high = omega arith in
-    ap (take high) is ∙ take_at (take low to ++ middle) (drop high to) high long ∙ ap (λ l. l ++ middle) agree
-    ∙ sym (take-add low (high - low) from) ∙ ap (λ k. take k from) back
 
 -- a front of a front
 pub take-take : (k m : ℕ) (xs : List ℕ) → k ≤ m → m ≤ length xs → take k (take m xs) ≡ take k xs
 take-take k m xs below within =
     let long : length (take m xs) ≡ m = length-take-le m xs within in
     sym (take-append-le k (take m xs) (drop m xs) (omega arith)) ∙ ap (take k) (take-append-drop m xs)
-
--- lists that agree up to `m` agree up to each place before it
-pub agrees_before : (k m : ℕ) (xs ys : List ℕ) → k ≤ m → m ≤ length xs → m ≤ length ys → take m xs ≡ take m ys → take k xs ≡ take k ys
-agrees_before k m xs ys below in_xs in_ys agree = sym (take-take k m xs below in_xs) ∙ ap (take k) agree ∙ take-take k m ys below in_ys
 
 -- before a write bytes stay
 pub written_before : (at k : ℕ) (piece xs : List ℕ) → k ≤ at → at ≤ length xs → take k (written at piece xs) ≡ take k xs
@@ -67,11 +51,6 @@ grown_keeps k old now grows within = ap (take k) grows.now_is ∙ take-append-le
 -- and its length
 pub grown_length : (old now : List ℕ) → ExtendsTo old now → length old ≤ length now
 grown_length old now grows = omega (arith, ap length grows.now_is, length-append old grows.more)
-
--- so it does once it is written from a later place on
-pub written_keeps : (k at : ℕ) (piece old grown now : List ℕ) → ExtendsTo old grown → now ≡ written at piece grown → k ≤ at → at ≤ length old → take k now ≡ take k old
-written_keeps k at piece old grown now grows is below within =
-    ap (take k) is ∙ written_before at k piece grown below (omega (arith, grown_length old grown grows)) ∙ grown_keeps k old grown grows (omega arith)
 
 -- what a write makes of the front of a list that grew for it
 pub grown_written : (at size : ℕ) (piece old grown now : List ℕ) → ExtendsTo old grown → now ≡ written at piece grown → at ≤ size → size ≤ length old

@@ -8,8 +8,9 @@ use Rattle.mld_io.specs.declared.banks.Leave.{Leave}
 use Rattle.mld_io.specs.declared.faults.IoFault.{IoFault}
 use Rattle.mld_io.specs.declared.faults.IoFault.TheVariants as io
 use Rattle.mld_io.specs.Arm.{Caught}
+use Rattle.disk_model.specs.CountedCalls.{arm_of}
 use Rattle.mld_io.specs.Disk.{Log, Syncs, Revives, bytes_of, seen, IsSettled}
-use Rattle.disk_model.specs.declared.steps.Step.TheVariants as step
+use Rattle.disk_model.specs.Steps as step
 use Rattle.disk_model.specs.BankSteps.{BanksValue, WriteMoves, SyncMoves, memory_log, read_of}
 use Rattle.disk_model.specs.SideSteps.{left_by, unsynced, AreInOrder, log_of}
 use Rattle.disk_model.proofs.SideStepLaws.{seen_of_steps, may_leave_of_steps, settled_of_steps, settled_of_both}
@@ -40,7 +41,7 @@ sync_done side old now (Err io.Failed) log moves is = tt
 sync_done side old now (Err io.NoMemory) log moves is = tt
 
 -- where a call was caught, no write is done
-pub write_stops : (side : Side) (at : ℕ) (piece : List ℕ) (old now : BanksValue) (result : Result ⊤ IoFault) → WriteMoves side at piece old result now → old.calls.meter.arm ≡ Caught → IsErrOf result io.Failed
+pub write_stops : (side : Side) (at : ℕ) (piece : List ℕ) (old now : BanksValue) (result : Result ⊤ IoFault) → WriteMoves side at piece old result now → arm_of old.calls.arming ≡ Caught → IsErrOf result io.Failed
 write_stops side at piece old now (Ok done) moves caught = absurd (moves.allowed (inl caught))
 write_stops side at piece old now (Err io.Failed) moves caught = refl
 write_stops side at piece old now (Err io.NoMemory) moves caught = absurd (moves.0 (inl caught))

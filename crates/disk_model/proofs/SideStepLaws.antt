@@ -9,8 +9,8 @@ use Rattle.mld_io.specs.declared.banks.Leave.{Leave}
 use Rattle.mld_io.specs.declared.banks.Leave.TheVariants as leave
 use Rattle.mld_io.specs.Disk.{Sides, Torn, bytes_of, with_bytes, written, seen, MayLeave, IsSettledOn, IsSettled}
 use Rattle.mld_io.proofs.DiskLaws.{Torn-unchanged, Torn-written, Torn-done, LeftAfter-mix, bytes_of-with_bytes, bytes_of-with_bytes_other, IsSettledOn-wrote_other, IsSettledOn-sync, IsSettled-both}
-use Rattle.disk_model.specs.declared.steps.Step.{Step}
-use Rattle.disk_model.specs.declared.steps.Step.TheVariants as step
+use Rattle.disk_model.specs.Steps.{Step}
+use Rattle.disk_model.specs.Steps as step
 use Rattle.disk_model.specs.SideSteps.{torn_piece, write_left, left_by, unsynced, AreInOrder, calls_of, log_of}
 use Rattle.disk_model.specs.Pieces.{length-torn_piece, torn_piece_unset}
 

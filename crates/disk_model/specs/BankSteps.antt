@@ -1,32 +1,29 @@
 -- What a bank in memory is, and what each call leaves of it.
-use Rattle.std.specs.Prelude.{◌≡◌, ◌≢◌, ◌⊎◌, ℕ, List, [], Result, Ok, Err, ⊤}
+use Rattle.std.specs.Prelude.{◌≡◌, ◌⊎◌, ℕ, List, [], Result, Ok, Err, ⊤}
 use Rattle.mld_io.specs.declared.banks.Side.{Side}
-use Rattle.mld_io.specs.declared.banks.Leave.{Leave}
-use Rattle.mld_io.specs.declared.banks.Leave.TheVariants.{Keep, Lose}
+use Rattle.mld_io.specs.declared.banks.Leave.TheVariants.{Keep}
 use Rattle.mld_io.specs.declared.faults.IoFault.{IoFault}
 use Rattle.mld_io.specs.declared.faults.IoFault.TheVariants as io
-use Rattle.mld_io.specs.Arm.{Armed, Unarmed}
 use Rattle.mld_io.specs.Disk.{Log, Sides, bytes_of}
-use Rattle.disk_model.specs.declared.steps.Step.TheVariants as step
-use Rattle.disk_model.specs.CountedCalls.{CallsValue, IsRefusedNext, RefusesCall, CatchesCall, counted_call, lowered_call}
+use Rattle.disk_model.specs.Steps as step
+use Rattle.disk_model.specs.declared.calls.Arming.TheVariants as arming
+use Rattle.disk_model.specs.CountedCalls.{CallsValue, IsRefusedNext, IsSpent, RefusesCall, CatchesCall, counted_call, lowered_call}
 use Rattle.disk_model.specs.SideSteps.{left_by, log_of}
 use Rattle.disk_model.specs.Store.{StoreValue, with_step, synced}
 
--- what it keeps, which of its calls fail, and what the next crash leaves of its unsynced writes
+-- what it keeps, and which of its calls fail
 pub record BanksValue : Type 0 where
   pub store : StoreValue
   pub calls : CallsValue
-  pub leave : Leave
 
 -- a bank of these bytes, all of them durable: no call was made, none is to fail, and it isn't armed
 abbrev pub whole_bank : Sides → BanksValue
 whole_bank sides = record {
   store = record { first = sides; steps = [] };
-  calls = record { next = 0; fails = []; meter = record { faults = 0; real_faults = 0; arm = Unarmed } };
-  leave = Lose;
+  calls = record { next = 0; fails = []; faults = 0; real_faults = 0; arming = arming.Unarmed };
 }
 
--- a bank that has none
+-- a bank that has none: its log has two sides without bytes and no calls, its meter no faults and no arm, and no call of it is to fail
 abbrev pub blank_bank : BanksValue
 blank_bank = whole_bank (record { a = []; b = [] })
 
@@ -42,29 +39,25 @@ read_of side banks = bytes_of side (left_by Keep banks.store.first banks.store.s
 pub record IsRefusal (old now : BanksValue) : Type 0 where
   pub calls : RefusesCall old.calls now.calls
   pub store_is : now.store ≡ old.store
-  pub leave_is : now.leave ≡ old.leave
 
 -- a call read
 pub record WasRead (old now : BanksValue) : Type 0 where
   pub allowed : ¬ IsRefusedNext old.calls
   pub calls_are : now.calls ≡ counted_call old.calls
   pub store_is : now.store ≡ old.store
-  pub leave_is : now.leave ≡ old.leave
 
 -- a call did what makes this of the store, and lowered the arm
 pub record WasDone (store : StoreValue) (old now : BanksValue) : Type 0 where
   pub allowed : ¬ IsRefusedNext old.calls
-  pub not_caught : old.calls.meter.arm ≢ Armed 0
+  pub not_caught : ¬ IsSpent old.calls.arming
   pub calls_are : now.calls ≡ lowered_call old.calls
   pub store_is : now.store ≡ store
-  pub leave_is : now.leave ≡ old.leave
 
 -- a call was caught, which made this of the store
 pub record IsCaught (store : StoreValue) (old now : BanksValue) : Type 0 where
   pub allowed : ¬ IsRefusedNext old.calls
   pub calls : CatchesCall old.calls now.calls
   pub store_is : now.store ≡ store
-  pub leave_is : now.leave ≡ old.leave
 
 -- what a call leaves that reads
 abbrev pub ReadMoves : {T : Type 0} → BanksValue → Result T IoFault → BanksValue → Type 0

@@ -6,8 +6,8 @@ use Rattle.mld_io.specs.declared.banks.Leave.{Leave}
 use Rattle.mld_io.specs.declared.banks.Leave.TheVariants.{Lose, Keep, Torn}
 use Rattle.mld_io.specs.Disk.{Sides, Call, Log, bytes_of, with_bytes, written}
 use Rattle.mld_io.specs.Disk.Call.{Wrote, Synced, Cut}
-use Rattle.disk_model.specs.declared.steps.Step.{Step}
-use Rattle.disk_model.specs.declared.steps.Step.TheVariants as step
+use Rattle.disk_model.specs.Steps.{Step}
+use Rattle.disk_model.specs.Steps as step
 
 -- a piece of which the second half is torn: half of its bytes, rounded down, and then the byte 255
 abbrev pub torn_piece : List ℕ → List ℕ

@@ -4,8 +4,8 @@ use Rattle.mld_io.specs.declared.banks.Side.{Side}
 use Rattle.mld_io.specs.declared.banks.Side.TheVariants.{A, B}
 use Rattle.mld_io.specs.declared.banks.Leave.{Leave}
 use Rattle.mld_io.specs.Disk.{Sides}
-use Rattle.disk_model.specs.declared.steps.Step.{Step}
-use Rattle.disk_model.specs.declared.steps.Step.TheVariants as step
+use Rattle.disk_model.specs.Steps.{Step}
+use Rattle.disk_model.specs.Steps as step
 use Rattle.disk_model.specs.SideSteps.{unsynced}
 
 -- the sides at first, and the steps since, the newest first

@@ -1,5 +1,5 @@
 -- How a bank in memory keeps its sides.
-use Rattle.std.specs.Prelude.{◌≡◌, ◌+◌, ◌≤◌, reverse, vec_len, vec_capacity}
+use Rattle.std.specs.Prelude.{◌≡◌, ◌≤◌}
 use Rattle.mld_io.specs.declared.banks.Side.{Side}
 use Rattle.mld_io.specs.declared.banks.Side.TheVariants.{A, B}
 use Rattle.mld_io.specs.declared.banks.Leave.{Leave}
@@ -14,7 +14,7 @@ first_of s = record { a = s.first_a; b = s.first_b }
 
 -- The sides are what the steps lead to, in each way to crash, and there is room for the syncs and the revival that may follow.
 pub record IsStoreInside (s : Inside) : Type 0 where
-  pub left : (leave : Leave) → sides_at leave s.sides ≡ left_by leave (first_of s) (reverse s.steps.items)
-  pub unsynced_are : (side : Side) → is_unsynced side s.sides ≡ unsynced side (reverse s.steps.items)
-  pub in_order : AreInOrder (first_of s) (reverse s.steps.items)
-  pub room : vec_len s.steps + room_for (unsynced A (reverse s.steps.items)) (unsynced B (reverse s.steps.items)) ≤ vec_capacity s.steps
+  pub left : (leave : Leave) → sides_at leave s.sides ≡ left_by leave (first_of s) s.steps.steps
+  pub unsynced_are : (side : Side) → is_unsynced side s.sides ≡ unsynced side s.steps.steps
+  pub in_order : AreInOrder (first_of s) s.steps.steps
+  pub room : room_for (unsynced A s.steps.steps) (unsynced B s.steps.steps) ≤ s.steps.room

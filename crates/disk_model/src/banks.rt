@@ -2,7 +2,7 @@
 ghost use Rattle.std.specs.Prelude.{◌≡◌, ◌↔◌, ℕ, ◌+◌, ◌^◌, ◌<◌, ◌≤◌, ◌++◌, [], ◌∷◌, Option, None, Some, Ok, length, take, drop, replicate, IsTrue, IsOk, IfOk, OnOk, OnErr, IsErrOf, IsSome, refl, vec_len};
 ghost use Rattle.mld_io.specs.Arm.{Meter, Unarmed, Caught, Metered, armed, revived};
 ghost use Rattle.mld_io.specs.Disk.{Log, Writes, Revives, Syncs, Wrote, bytes_of, grown, seen};
-ghost use Rattle.disk_model.specs.CountedCalls.{armed_calls, revived_calls};
+ghost use Rattle.disk_model.specs.CountedCalls.{armed_calls, leave_of, meter_of, revived_calls};
 ghost use Rattle.disk_model.specs.BankSteps.{BanksValue, ReadMoves, WriteMoves, SyncMoves, blank_bank, memory_log, read_of, whole_bank};
 ghost use Rattle.disk_model.specs.SideSteps.{left_by};
 ghost use Rattle.disk_model.specs.Store.{cut};
@@ -15,13 +15,12 @@ use std::marker::Model;
 
 /// A device of two sides in memory, of which chosen calls fail, and which can be made to crash.
 ///
-/// A crash leaves what the last `arm` said: nothing of each unsynced write, all of it, or its
-/// first half and then bytes 255. Before the first `arm` it leaves nothing.
+/// A crash leaves what the arm says: nothing of each unsynced write, all of it, or its first half
+/// and then bytes 255. Where the bank isn't armed it leaves nothing.
 #[derive(Debug, Drop)]
 pub struct MemoryBanks {
     store: Store,
     calls: Calls,
-    leave: Leave,
 }
 
 impl Model for MemoryBanks {
@@ -29,7 +28,7 @@ impl Model for MemoryBanks {
 
     ghost Value = { BanksValue };
 
-    ghost view = { λ m. record { store = m.store; calls = m.calls; leave = m.leave } };
+    ghost view = { λ m. record { store = m.store; calls = m.calls } };
 }
 
 impl MemoryBanks {
@@ -40,7 +39,6 @@ impl MemoryBanks {
         MemoryBanks {
             store: Store::blank(alloc),
             calls: Calls::new(alloc),
-            leave: Leave::Lose,
         }
     }
 
@@ -51,7 +49,6 @@ impl MemoryBanks {
         Ok(MemoryBanks {
             store: Store::with_bytes(alloc, a, b)?,
             calls: Calls::new(alloc),
-            leave: Leave::Lose,
         })
     }
 
@@ -118,14 +115,14 @@ impl MemoryBanks {
 impl Banks for MemoryBanks {
     ghost log = { λ m. Some (memory_log m) };
 
-    ghost meter = { λ m. m.calls.meter };
+    ghost meter = { λ m. meter_of m.calls };
 
     fn len(&mut self, side: Side) -> Result<u64, IoFault>
         ensures length { (l : Log) → Some (memory_log self.old) ≡ Some l → IfOk result (λ n. n ≡ length (bytes_of side (seen l))) }
         ensures log { Some (memory_log self.new) ≡ Some (memory_log self.old) }
         ensures no_memory { IsErrOf result IoFault.NoMemory → self.new ≡ self.old }
-        ensures meter { Metered 0 self.old.calls.meter self.new.calls.meter (IsOk result) (IsErrOf result IoFault.Failed) }
-        ensures stops { self.old.calls.meter.arm ≡ Caught → IsErrOf result IoFault.Failed }
+        ensures meter { Metered 0 (meter_of self.old.calls) (meter_of self.new.calls) (IsOk result) (IsErrOf result IoFault.Failed) }
+        ensures stops { (meter_of self.old.calls).arm ≡ Caught → IsErrOf result IoFault.Failed }
         ensures moves { ReadMoves self.old result self.new }
     {
         self.size(side)
@@ -136,8 +133,8 @@ impl Banks for MemoryBanks {
         ensures bytes { (l : Log) → Some (memory_log self.old) ≡ Some l → OnOk result (out.new ≡ take (length out.old) (drop at (bytes_of side (seen l)))) }
         ensures log { Some (memory_log self.new) ≡ Some (memory_log self.old) }
         ensures no_memory { IsErrOf result IoFault.NoMemory → ⊥ }
-        ensures meter { Metered 0 self.old.calls.meter self.new.calls.meter (IsOk result) (IsErrOf result IoFault.Failed) }
-        ensures stops { self.old.calls.meter.arm ≡ Caught → IsErrOf result IoFault.Failed }
+        ensures meter { Metered 0 (meter_of self.old.calls) (meter_of self.new.calls) (IsOk result) (IsErrOf result IoFault.Failed) }
+        ensures stops { (meter_of self.old.calls).arm ≡ Caught → IsErrOf result IoFault.Failed }
         ensures moves { ReadMoves self.old result self.new }
     {
         self.read(side, at, out)
@@ -150,8 +147,8 @@ impl Banks for MemoryBanks {
         ensures failed { (l : Log) → Some (memory_log self.old) ≡ Some l → IsErrOf result IoFault.Failed → Writes side at piece.now l (Some (memory_log self.new)) }
         ensures no_memory { IsErrOf result IoFault.NoMemory → self.new ≡ self.old }
         ensures untold { Some (memory_log self.old) ≡ None → Some (memory_log self.new) ≡ None }
-        ensures meter { Metered 1 self.old.calls.meter self.new.calls.meter (IsOk result) (IsErrOf result IoFault.Failed) }
-        ensures stops { self.old.calls.meter.arm ≡ Caught → IsErrOf result IoFault.Failed }
+        ensures meter { Metered 1 (meter_of self.old.calls) (meter_of self.new.calls) (IsOk result) (IsErrOf result IoFault.Failed) }
+        ensures stops { (meter_of self.old.calls).arm ≡ Caught → IsErrOf result IoFault.Failed }
         ensures moves { WriteMoves side at piece.now self.old result self.new }
     {
         self.write(side, at, piece)
@@ -162,8 +159,8 @@ impl Banks for MemoryBanks {
         ensures failed { IsErrOf result IoFault.Failed → Some (memory_log self.new) ≡ Some (memory_log self.old) }
         ensures no_memory { IsErrOf result IoFault.NoMemory → ⊥ }
         ensures untold { Some (memory_log self.old) ≡ None → Some (memory_log self.new) ≡ None }
-        ensures meter { Metered 1 self.old.calls.meter self.new.calls.meter (IsOk result) (IsErrOf result IoFault.Failed) }
-        ensures stops { self.old.calls.meter.arm ≡ Caught → IsErrOf result IoFault.Failed }
+        ensures meter { Metered 1 (meter_of self.old.calls) (meter_of self.new.calls) (IsOk result) (IsErrOf result IoFault.Failed) }
+        ensures stops { (meter_of self.old.calls).arm ≡ Caught → IsErrOf result IoFault.Failed }
         ensures moves { SyncMoves side self.old result self.new }
     {
         self.sync_side(side)
@@ -173,25 +170,24 @@ impl Banks for MemoryBanks {
 impl CrashBanks for MemoryBanks {
     fn arm(&mut self, calls: u32, leave: Leave)
         ensures log { Some (memory_log self.new) ≡ Some (memory_log self.old) }
-        ensures meter { self.new.calls.meter ≡ armed calls self.old.calls.meter }
-        ensures moves { self.new ≡ record self.old { calls = armed_calls calls self.old.calls; leave = leave } }
+        ensures meter { meter_of self.new.calls ≡ armed calls leave (meter_of self.old.calls) }
+        ensures moves { self.new ≡ record self.old { calls = armed_calls calls leave self.old.calls } }
     {
-        self.calls.arm(calls);
-        self.leave = leave;
+        self.calls.arm(calls, leave);
     }
 
     fn stopped(&self) -> bool {
         self.calls.is_caught()
     }
 
-    /// It leaves of the unsynced writes what the last `arm` said.
+    /// It leaves of the unsynced writes what the arm says, and nothing where there is none.
     fn revive(&mut self)
         ensures cut { (l : Log) → Some (memory_log self.old) ≡ Some l → Revives l (Some (memory_log self.new)) }
-        ensures meter { self.new.calls.meter ≡ revived self.old.calls.meter }
-        ensures leaves { seen (memory_log self.new) ≡ left_by self.old.leave self.old.store.first self.old.store.steps }
-        ensures moves { self.new ≡ record self.old { store = cut self.old.leave self.old.store; calls = revived_calls self.old.calls } }
+        ensures meter { meter_of self.new.calls ≡ revived (meter_of self.old.calls) }
+        ensures leaves { seen (memory_log self.new) ≡ left_by (leave_of self.old.calls.arming) self.old.store.first self.old.store.steps }
+        ensures moves { self.new ≡ record self.old { store = cut (leave_of self.old.calls.arming) self.old.store; calls = revived_calls self.old.calls } }
     {
-        self.store.cut(self.leave);
+        self.store.cut(self.calls.leave());
         self.calls.revive();
     }
 
@@ -206,7 +202,8 @@ fn copy_from(bytes: &[u8], at: usize, out: &mut [u8])
     out.copy_from_slice(&bytes[at..at + out.len()]);
 }
 
-/// So many blank banks.
+/// So many blank banks: neither side has a byte, no call was made and none is to fail, no fault is
+/// counted, and none is armed.
 pub fn blank_banks(alloc: Global, count: usize) -> Result<Vec<MemoryBanks>, AllocError>
     ensures { IfOk result (λ banks. banks.items ≡ replicate count blank_bank) }
 {

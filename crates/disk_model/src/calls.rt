@@ -1,9 +1,9 @@
 //! Which calls of a bank in memory fail.
 ghost use Rattle.std.specs.Prelude.{◌≡◌, ◌≢◌, ◌↔◌, IsTrue, ◌++◌, [], ◌∷◌, OnOk, OnErr};
-ghost use Rattle.mld_io.specs.Arm.{Caught, Unarmed};
-ghost use Rattle.disk_model.specs.CountedCalls.{CallsValue, BeginsCall, Ends, counted_call, armed_calls, revived_calls};
+ghost use Rattle.mld_io.specs.Arm.{Caught};
+ghost use Rattle.disk_model.specs.CountedCalls.{CallsValue, BeginsCall, Ends, arm_of, counted_call, leave_of, armed_calls, revived_calls};
 
-use mld_io::IoFault;
+use mld_io::{IoFault, Leave};
 use std::alloc::{AllocError, Global};
 use std::marker::Model;
 
@@ -12,10 +12,10 @@ use std::marker::Model;
 pub enum Arming {
     /// It isn't.
     Unarmed,
-    /// So many calls that write or sync are still done.
-    Armed(u32),
-    /// A call was caught.
-    Caught,
+    /// So many calls that write or sync are still done, and the crash then leaves this.
+    Armed(u32, Leave),
+    /// A call was caught, and the crash leaves this.
+    Caught(Leave),
 }
 
 /// The number of the next call, the numbers of those that are to fail, the counts of faults and
@@ -30,17 +30,17 @@ pub struct Calls {
 }
 
 impl Model for Calls {
-    ghost use Rattle.disk_model.specs.CountedCalls.{CallsValue, arm_of};
+    ghost use Rattle.disk_model.specs.CountedCalls.{CallsValue};
 
     ghost Value = { CallsValue };
 
-    ghost view = { λ c. record { next = c.next; fails = c.fails.items; meter = record { faults = c.faults; real_faults = c.real_faults; arm = arm_of c.arm } } };
+    ghost view = { λ c. record { next = c.next; fails = c.fails.items; faults = c.faults; real_faults = c.real_faults; arming = c.arm } };
 }
 
 impl Calls {
     /// No call yet, none that is to fail, and no arm.
     pub fn new(alloc: Global) -> Calls
-        ensures { result ≡ record { next = 0; fails = []; meter = record { faults = 0; real_faults = 0; arm = Unarmed } } }
+        ensures { result ≡ record { next = 0; fails = []; faults = 0; real_faults = 0; arming = Arming.Unarmed } }
     {
         Calls {
             next: 0,
@@ -87,18 +87,18 @@ impl Calls {
 
     /// Ends a call that wrote or is to sync: it lowers the arm, or is caught.
     pub fn end_change(&mut self) -> Result<(), IoFault>
-        requires { self.old.meter.arm ≢ Caught }
+        requires { arm_of self.old.arming ≢ Caught }
         ensures { Ends self.old result self.new }
     {
         self.next = self.next.saturating_add(1);
         match self.arm {
-            Arming::Armed(0) => {
-                self.arm = Arming::Caught;
+            Arming::Armed(0, leave) => {
+                self.arm = Arming::Caught(leave);
                 self.faults = self.faults.saturating_add(1);
                 Err(IoFault::Failed)
             }
-            Arming::Armed(calls) => {
-                self.arm = Arming::Armed(calls - 1);
+            Arming::Armed(calls, leave) => {
+                self.arm = Arming::Armed(calls - 1, leave);
                 Ok(())
             }
             _ => Ok(()),
@@ -107,17 +107,28 @@ impl Calls {
 
     /// Whether a call was caught.
     pub fn is_caught(&self) -> bool
-        ensures { IsTrue result ↔ (self.now.meter.arm ≡ Caught) }
+        ensures { IsTrue result ↔ (arm_of self.now.arming ≡ Caught) }
     {
-        matches!(self.arm, Arming::Caught)
+        matches!(self.arm, Arming::Caught(_))
     }
 
-    /// Has so many calls that write or sync done, and catches the next one.
-    pub fn arm(&mut self, calls: u32)
-        ensures { self.new ≡ armed_calls calls self.old }
+    /// Has so many calls that write or sync done, and catches the next one; the crash then leaves
+    /// this.
+    pub fn arm(&mut self, calls: u32, leave: Leave)
+        ensures { self.new ≡ armed_calls calls leave self.old }
     {
         if !self.is_caught() {
-            self.arm = Arming::Armed(calls);
+            self.arm = Arming::Armed(calls, leave);
+        }
+    }
+
+    /// What the next crash leaves of the writes that aren't synced.
+    pub fn leave(&self) -> Leave
+        ensures { result ≡ leave_of self.now.arming }
+    {
+        match self.arm {
+            Arming::Unarmed => Leave::Lose,
+            Arming::Armed(_, leave) | Arming::Caught(leave) => leave,
         }
     }
 

@@ -2,9 +2,11 @@
 #![tactic(auto)]
 
 mod banks;
+mod bytes;
 mod calls;
 mod sides;
 mod steps;
 mod store;
+mod unsynced;
 
 pub use banks::{MemoryBanks, blank_banks};

@@ -1,39 +1,36 @@
-//! The bytes of each side: as reads give them, and as a crash would leave them.
-ghost use Rattle.std.specs.Prelude.{◌≡◌, ℕ, ◌+◌, ◌-◌, ◌/◌, ◌^◌, ◌<◌, ◌≤◌, List, true, false, [], not, ◌&&◌, ◌||◌, length, take, drop, vec_len, ◌++◌, IfOk, OnOk, OnErr};
-ghost use Rattle.mld_io.specs.Disk.{bytes_of, with_bytes, written};
-ghost use Rattle.disk_model.specs.Sides.{SideValue, SidesValue, ExtendsTo, bytes_at, sides_at, is_unsynced};
-ghost use Rattle.disk_model.specs.SideSteps.{torn_piece, write_left, same_side};
+//! The bytes of each side, and the writes on it that aren't synced.
+ghost use Rattle.std.specs.Prelude.{◌≡◌, ℕ, ◌+◌, ◌^◌, ◌<◌, ◌≤◌, true, false, [], not, ◌&&◌, ◌||◌, length, IfOk, OnOk, OnErr};
+ghost use Rattle.mld_io.specs.Disk.{bytes_of, with_bytes};
+ghost use Rattle.disk_model.specs.Sides.{SideValue, SidesValue, bytes_at, sides_at, is_unsynced};
+ghost use Rattle.disk_model.specs.SideSteps.{write_left, same_side};
 
+use crate::bytes::{grow, put};
+use crate::unsynced::{Unsynced, covering, take_back, tear_again};
 use mld_io::{Leave, Side};
 use std::alloc::{AllocError, Global};
 use std::marker::Model;
 
-/// The byte that a torn write leaves behind its first half.
-const TORN: u8 = 255;
-
-/// The bytes of one side. The first `size` of `seen` are what reads give, and the first `size` of
-/// `torn` what is left where each unsynced write is torn; the first `kept` of `lost` are what is
-/// left where each is lost. Before `low` no byte was written since the last sync.
+/// The bytes of one side: the first `size` of `seen` are what reads give. Beside them stand the
+/// writes since the last sync, the oldest first, and whether there was one.
 #[derive(Debug, Drop)]
 pub struct SideBytes {
+    alloc: Global,
     seen: Vec<u8>,
-    lost: Vec<u8>,
-    torn: Vec<u8>,
-    low: usize,
-    kept: usize,
     size: usize,
+    writes: Vec<Unsynced>,
     unsynced: bool,
 }
 
 impl Model for SideBytes {
     ghost use Rattle.std.specs.Prelude.{take};
     ghost use Rattle.disk_model.specs.Sides.{SideValue};
+    ghost use Rattle.disk_model.specs.Covered.{lost_by, torn_by};
 
     ghost Value = { SideValue };
 
     ghost use Rattle.disk_model.specs.SideBytes.{IsSideInside};
 
-    ghost view = { λ s. record { seen = take s.size s.seen.items; lost = take s.kept s.lost.items; torn = take s.size s.torn.items; unsynced = s.unsynced } };
+    ghost view = { λ s. record { seen = take s.size s.seen.items; lost = lost_by s.writes.items (take s.size s.seen.items); torn = torn_by s.writes.items (lost_by s.writes.items (take s.size s.seen.items)); unsynced = s.unsynced } };
 
     ghost invariant = { IsSideInside };
 }
@@ -44,12 +41,10 @@ impl SideBytes {
         ensures { result ≡ record { seen = []; lost = []; torn = []; unsynced = false } }
     {
         SideBytes {
+            alloc,
             seen: Vec::new(alloc),
-            lost: Vec::new(alloc),
-            torn: Vec::new(alloc),
-            low: 0,
-            kept: 0,
             size: 0,
+            writes: Vec::new(alloc),
             unsynced: false,
         }
     }
@@ -59,12 +54,10 @@ impl SideBytes {
         ensures { IfOk result (λ s. s ≡ record { seen = bytes.now; lost = bytes.now; torn = bytes.now; unsynced = false }) }
     {
         Ok(SideBytes {
+            alloc,
             seen: Vec::from_slice(alloc, bytes)?,
-            lost: Vec::from_slice(alloc, bytes)?,
-            torn: Vec::from_slice(alloc, bytes)?,
-            low: bytes.len(),
-            kept: bytes.len(),
             size: bytes.len(),
+            writes: Vec::new(alloc),
             unsynced: false,
         })
     }
@@ -94,13 +87,12 @@ impl SideBytes {
         let Some(end) = at.checked_add(piece.len()) else {
             return Err(AllocError);
         };
+        let write = covering(self.alloc, &self.seen[..self.size], at, piece)?;
+        self.writes.reserve(1)?;
         grow(&mut self.seen, end)?;
-        grow(&mut self.lost, end)?;
-        grow(&mut self.torn, end)?;
         put(&mut self.seen, at, piece);
-        put_torn(&mut self.torn, at, piece);
         self.size = self.size.max(end);
-        self.low = self.low.min(at);
+        self.writes.push_reserved(write);
         self.unsynced = true;
         Ok(())
     }
@@ -109,10 +101,7 @@ impl SideBytes {
     pub fn sync(&mut self)
         ensures { self.new ≡ record { seen = self.old.seen; lost = self.old.seen; torn = self.old.seen; unsynced = false } }
     {
-        copy_range(&mut self.lost, &self.seen, self.low, self.size);
-        copy_range(&mut self.torn, &self.seen, self.low, self.size);
-        self.low = self.size;
-        self.kept = self.size;
+        self.writes.clear();
         self.unsynced = false;
     }
 
@@ -120,10 +109,8 @@ impl SideBytes {
     pub fn lose(&mut self)
         ensures { self.new ≡ record { seen = self.old.lost; lost = self.old.lost; torn = self.old.lost; unsynced = false } }
     {
-        copy_range(&mut self.seen, &self.lost, self.low, self.kept);
-        copy_range(&mut self.torn, &self.lost, self.low, self.kept);
-        self.low = self.kept;
-        self.size = self.kept;
+        self.size = take_back(&mut self.seen, self.size, &self.writes);
+        self.writes.clear();
         self.unsynced = false;
     }
 
@@ -131,10 +118,9 @@ impl SideBytes {
     pub fn tear(&mut self)
         ensures { self.new ≡ record { seen = self.old.torn; lost = self.old.torn; torn = self.old.torn; unsynced = false } }
     {
-        copy_range(&mut self.seen, &self.torn, self.low, self.size);
-        copy_range(&mut self.lost, &self.torn, self.low, self.size);
-        self.low = self.size;
-        self.kept = self.size;
+        let _before = take_back(&mut self.seen, self.size, &self.writes);
+        tear_again(&mut self.seen, self.size, &self.writes);
+        self.writes.clear();
         self.unsynced = false;
     }
 
@@ -149,68 +135,6 @@ impl SideBytes {
             Leave::Torn => self.tear(),
         }
     }
-}
-
-/// Makes the list at least this long, and leaves what it has.
-fn grow(bytes: &mut Vec<u8>, size: usize) -> Result<(), AllocError>
-    ensures grows { ExtendsTo bytes.old.items bytes.new.items }
-    ensures ok { OnOk result (size ≤ vec_len bytes.new) }
-{
-    if bytes.len() < size {
-        bytes.resize(size, 0)?;
-    }
-    Ok(())
-}
-
-/// Puts the piece over the bytes from this place on.
-fn put(bytes: &mut Vec<u8>, at: usize, piece: &[u8])
-    requires { at + length piece.now ≤ vec_len bytes.old }
-    ensures len { vec_len bytes.new ≡ vec_len bytes.old }
-    ensures written { bytes.new.items ≡ written at piece.now bytes.old.items }
-{
-    bytes[at..at + piece.len()].copy_from_slice(piece);
-}
-
-/// Puts the piece over the bytes from this place on, and tears it.
-fn put_torn(bytes: &mut Vec<u8>, at: usize, piece: &[u8])
-    requires { at + length piece.now ≤ vec_len bytes.old }
-    ensures len { vec_len bytes.new ≡ vec_len bytes.old }
-    ensures written { bytes.new.items ≡ written at (torn_piece piece.now) bytes.old.items }
-{
-    fill_torn(&mut bytes[at..at + piece.len()], piece);
-}
-
-/// The first half of the piece, and then the byte of a torn write.
-fn fill_torn(out: &mut [u8], piece: &[u8])
-    requires { length out.old ≡ length piece.now }
-    ensures { out.new ≡ torn_piece piece.now }
-{
-    let half = piece.len() / 2;
-    out[..half].copy_from_slice(&piece[..half]);
-    out[half..].fill(TORN);
-}
-
-/// Copies the bytes from one place up to another, so that lists that agree up to the first agree
-/// up to the second.
-fn copy_range(to: &mut Vec<u8>, from: &[u8], begin: usize, end: usize)
-    requires ordered { begin ≤ end }
-    requires in_to { end ≤ vec_len to.old }
-    requires in_from { end ≤ length from.now }
-    requires agree { take begin to.old.items ≡ take begin from.now }
-    ensures len { vec_len to.new ≡ vec_len to.old }
-    ensures agree { take end to.new.items ≡ take end from.now }
-{
-    copy_part(to, from, begin, end);
-}
-
-/// Copies the bytes from one place up to another.
-fn copy_part(to: &mut [u8], from: &[u8], begin: usize, end: usize)
-    requires ordered { begin ≤ end }
-    requires in_to { end ≤ length to.old }
-    requires in_from { end ≤ length from.now }
-    ensures { to.new ≡ take begin to.old ++ take (end - begin) (drop begin from.now) ++ drop end to.old }
-{
-    to[begin..end].copy_from_slice(&from[begin..end]);
 }
 
 /// Both sides.

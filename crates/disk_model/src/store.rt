@@ -2,37 +2,32 @@
 ghost use Rattle.std.specs.Prelude.{◌≡◌, ℕ, ◌+◌, ◌^◌, ◌<◌, ◌≤◌, [], ◌∷◌, true, false, cond, ◌||◌, length, IfOk, OnOk, OnErr};
 ghost use Rattle.mld_io.specs.Disk.{bytes_of};
 ghost use Rattle.disk_model.specs.SideSteps.{left_by, AreInOrder};
+ghost use Rattle.disk_model.specs.Steps.{Wrote};
 ghost use Rattle.disk_model.specs.Store.{StoreValue, with_step, synced, cut};
 
 use crate::sides::{BothSides, SideBytes};
-use crate::steps::Step;
+use crate::steps::Steps;
 use mld_io::{Leave, Piece, Side};
 use std::alloc::{AllocError, Global};
 use std::marker::Model;
 
-/// How many steps a write makes room for: itself, a sync of each side, and a revival.
-const ROOM: usize = 4;
-
-/// The sides of a bank as they were at first and as they are, and the steps between, the newest
-/// last.
+/// The sides of a bank as they were at first and as they are, and the steps between.
 #[derive(Debug, Drop)]
 pub struct Store {
-    alloc: Global,
     first_a: Piece,
     first_b: Piece,
     sides: BothSides,
-    steps: Vec<Step>,
+    steps: Steps,
 }
 
 impl Model for Store {
-    ghost use Rattle.std.specs.Prelude.{reverse};
     ghost use Rattle.disk_model.specs.Store.{StoreValue};
 
     ghost Value = { StoreValue };
 
     ghost use Rattle.disk_model.specs.StoreInside.{IsStoreInside};
 
-    ghost view = { λ s. record { first = record { a = s.first_a; b = s.first_b }; steps = reverse s.steps.items } };
+    ghost view = { λ s. record { first = record { a = s.first_a; b = s.first_b }; steps = s.steps.steps } };
 
     ghost invariant = { IsStoreInside };
 }
@@ -43,11 +38,10 @@ impl Store {
         ensures { result ≡ record { first = record { a = []; b = [] }; steps = [] } }
     {
         Store {
-            alloc,
             first_a: Piece::from_vec(Vec::new(alloc)),
             first_b: Piece::from_vec(Vec::new(alloc)),
             sides: BothSides::new(SideBytes::blank(alloc), SideBytes::blank(alloc)),
-            steps: Vec::new(alloc),
+            steps: Steps::new(alloc),
         }
     }
 
@@ -56,14 +50,13 @@ impl Store {
         ensures { IfOk result (λ s. s ≡ record { first = record { a = a.now; b = b.now }; steps = [] }) }
     {
         Ok(Store {
-            alloc,
             first_a: Piece::copy_in(alloc, a)?,
             first_b: Piece::copy_in(alloc, b)?,
             sides: BothSides::new(
                 SideBytes::with_bytes(alloc, a)?,
                 SideBytes::with_bytes(alloc, b)?,
             ),
-            steps: Vec::new(alloc),
+            steps: Steps::new(alloc),
         })
     }
 
@@ -78,14 +71,13 @@ impl Store {
     /// follow.
     pub fn write(&mut self, side: Side, at: usize, piece: &[u8]) -> Result<(), AllocError>
         requires { at ≤ length (bytes_of side (left_by Leave.Keep self.old.first self.old.steps)) }
-        ensures ok { OnOk result (self.new ≡ with_step (Step.Wrote side at piece.now) self.old) }
+        ensures ok { OnOk result (self.new ≡ with_step (Wrote side at piece.now) self.old) }
         ensures err { OnErr result (self.new ≡ self.old) }
         ensures small { OnOk result (at + length piece.now < 2 ^ 64) }
     {
-        let copy = Piece::copy_in(self.alloc, piece)?;
-        self.steps.reserve(ROOM)?;
+        self.steps.make_room(piece.len())?;
         self.sides.write(side, at, piece)?;
-        self.steps.push_reserved(Step::Wrote(side, at as u64, copy));
+        self.steps.wrote(side, at as u64, piece);
         Ok(())
     }
 
@@ -95,7 +87,7 @@ impl Store {
     {
         if self.sides.is_unsynced(side) {
             self.sides.sync(side);
-            self.steps.push_reserved(Step::Synced(side));
+            self.steps.synced(side);
         }
     }
 
@@ -107,7 +99,7 @@ impl Store {
     {
         if self.sides.is_unsynced(Side::A) || self.sides.is_unsynced(Side::B) {
             self.sides.cut(leave);
-            self.steps.push_reserved(Step::Cut(leave));
+            self.steps.cut(leave);
         }
     }
 }

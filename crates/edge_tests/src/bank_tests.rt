@@ -41,6 +41,38 @@ fn a_crash_leaves_what_was_asked(rt: HostRuntime) -> Result<(), Fail> {
     Ok(())
 }
 
+/// Writes twice with no sync between, once before the end and once past it, and crashes. A second arm
+/// behind the call that is caught changes nothing.
+fn write_twice_and_crash(banks: &mut MemoryBanks, leave: Leave, other: Leave) {
+    banks.arm(1, leave);
+    if banks.bytes(Side::A).len() != 7 {
+        return;
+    }
+    let _ = banks.write_at(Side::A, 0, b"VWXYZ");
+    if banks.bytes(Side::A).len() == 7 {
+        let _ = banks.write_at(Side::A, 2, b"12345678");
+    }
+    banks.arm(3, other);
+    banks.revive();
+}
+
+// What a crash leaves, what an arm says that comes too late, and what the side has then.
+const TWO_WRITES: [(Leave, Leave, &[u8]); 3] = [
+    (Leave::Lose, Leave::Keep, b"abcdefg"),
+    (Leave::Keep, Leave::Torn, b"VW12345678"),
+    (Leave::Torn, Leave::Lose, b"VW1234\xff\xff\xff\xff"),
+];
+
+#[test]
+fn a_crash_takes_all_unsynced_writes(rt: HostRuntime) -> Result<(), Fail> {
+    for (leave, other, left) in TWO_WRITES {
+        let mut banks = boxed(rt.alloc(), b"abcdefg", b"other")?;
+        write_twice_and_crash(&mut banks, leave, other);
+        assert!(rt; have(&banks, left, b"other"));
+    }
+    Ok(())
+}
+
 /// Whether an arm at 2 lets a write and a sync be done, catches the next write, and has each call fail until the revival, which leaves what
 /// was synced.
 fn arm_counts_changes(banks: &mut MemoryBanks) -> bool {

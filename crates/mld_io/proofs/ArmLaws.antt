@@ -7,21 +7,21 @@ use Rattle.mld_io.specs.Arm.{Arm, Unarmed, Armed, Caught, Meter, LowersAtMost, L
 -- calls that were done, and then more of which some may not have been
 pub LowersAtMost-then : (m n : ℕ) (before mid now : Arm) → LowersBy m before mid → LowersAtMost n mid now → LowersAtMost (m + n) before now
 LowersAtMost-then m n Unarmed mid now first second = let at_mid : LowersAtMost n Unarmed now = subst (λ (a : Arm). LowersAtMost n a now) first second in at_mid
-LowersAtMost-then m n (Armed number) mid now first second = armed_then now (subst (λ (a : Arm). LowersAtMost n a now) first.1 second) where
-  armed_then : (now' : Arm) → LowersAtMost n (Armed (number - m)) now' → LowersAtMost (m + n) (Armed number) now'
+LowersAtMost-then m n (Armed number leave) mid now first second = armed_then now (subst (λ (a : Arm). LowersAtMost n a now) first.1 second) where
+  armed_then : (now' : Arm) → LowersAtMost n (Armed (number - m) leave) now' → LowersAtMost (m + n) (Armed number leave) now'
   armed_then Unarmed h = h
-  armed_then (Armed left) h = (omega (arith, h.0, first.0), omega (arith, h.1, first.0))
+  armed_then (Armed left now_leave) h = (omega (arith, h.0, first.0), omega (arith, h.1, first.0), h.2)
   armed_then Caught h = omega (arith, h, first.0)
 LowersAtMost-then m n Caught mid now first second = subst (λ (a : Arm). LowersAtMost n a now) first.1 second
 
 -- calls that were done, and then more that were
 pub LowersBy-then : (m n : ℕ) (before mid now : Arm) → LowersBy m before mid → LowersBy n mid now → LowersBy (m + n) before now
 LowersBy-then m n Unarmed mid now first second = subst (λ (a : Arm). LowersBy n a now) first second
-LowersBy-then m n (Armed number) mid now first second =
+LowersBy-then m n (Armed number leave) mid now first second =
     let h = subst (λ (a : Arm). LowersBy n a now) first.1 second in
     let few : m + n ≤ number = omega (arith, first.0, h.0) in
     let rest : number - m - n ≡ number - (m + n) = omega arith in
-    (few, h.1 ∙ ap Armed rest)
+    (few, h.1 ∙ ap (λ (k : ℕ). Armed k leave) rest)
 LowersBy-then m n Caught mid now first second =
     let h = subst (λ (a : Arm). LowersBy n a now) first.1 second in
     let none : m + n ≡ 0 = omega (arith, first.0, h.0) in
@@ -30,15 +30,15 @@ LowersBy-then m n Caught mid now first second =
 -- fewer calls are within more
 pub LowersAtMost-more : (m n : ℕ) (before now : Arm) → LowersAtMost m before now → LowersAtMost (m + n) before now
 LowersAtMost-more m n Unarmed now h = h
-LowersAtMost-more m n (Armed number) Unarmed h = h
-LowersAtMost-more m n (Armed number) (Armed left) h = (h.0, omega (arith, h.1))
-LowersAtMost-more m n (Armed number) Caught h = omega (arith, h)
+LowersAtMost-more m n (Armed number leave) Unarmed h = h
+LowersAtMost-more m n (Armed number leave) (Armed left now_leave) h = (h.0, omega (arith, h.1), h.2)
+LowersAtMost-more m n (Armed number leave) Caught h = omega (arith, h)
 LowersAtMost-more m n Caught now h = h
 
 -- no call leaves the arm as it is
 pub LowersAtMost-none : (n : ℕ) (arm : Arm) → LowersAtMost n arm arm
 LowersAtMost-none n Unarmed = refl
-LowersAtMost-none n (Armed number) = (omega arith, omega arith)
+LowersAtMost-none n (Armed number leave) = (omega arith, omega arith, refl)
 LowersAtMost-none n Caught = refl
 
 -- calls that were done, and then whatever the next ones answer

@@ -1,13 +1,14 @@
 -- The counts of faults of a device, and how it is armed to crash.
 use Rattle.std.specs.Prelude.{◌≡◌, ◌⊎◌, ℕ, ◌+◌, ◌-◌, ◌<◌, ◌≤◌}
+use Rattle.mld_io.specs.declared.banks.Leave.{Leave}
 use Rattle.mld_io.specs.Faults.{Rose}
 
 -- how a device is armed; a device that can't be made to crash is never armed
 pub data Arm : Type 0 where
   -- it isn't
   Unarmed : Arm
-  -- so many calls that write or sync are still done, and the next one is caught
-  Armed : ℕ → Arm
+  -- so many calls that write or sync are still done, and the next one is caught; the crash then leaves this of the unsynced writes
+  Armed : ℕ → Leave → Arm
   -- one was caught, and each call since fails, until the device is revived
   Caught : Arm
 
@@ -17,19 +18,19 @@ pub record Meter : Type 0 where
   pub real_faults : ℕ
   pub arm : Arm
 
--- what so many calls leave of an arm, of which some may not have been done: it is lowered by that number at most, and
--- catches only where the number is below it
+-- what so many calls leave of an arm, of which some may not have been done: it is lowered by that number at most, catches
+-- only where the number is below it, and says the same leave
 abbrev pub LowersAtMost : ℕ → Arm → Arm → Type 0
 LowersAtMost calls Unarmed now = now ≡ Unarmed
-LowersAtMost calls (Armed number) Unarmed = ⊥
-LowersAtMost calls (Armed number) (Armed left) = (left ≤ number) × (number ≤ left + calls)
-LowersAtMost calls (Armed number) Caught = number < calls
+LowersAtMost calls (Armed number leave) Unarmed = ⊥
+LowersAtMost calls (Armed number leave) (Armed left now_leave) = (left ≤ number) × (number ≤ left + calls) × (now_leave ≡ leave)
+LowersAtMost calls (Armed number leave) Caught = number < calls
 LowersAtMost calls Caught now = now ≡ Caught
 
 -- what so many calls leave of an arm, all of which were done
 abbrev pub LowersBy : ℕ → Arm → Arm → Type 0
 LowersBy calls Unarmed now = now ≡ Unarmed
-LowersBy calls (Armed number) now = (calls ≤ number) × (now ≡ Armed (number - calls))
+LowersBy calls (Armed number leave) now = (calls ≤ number) × (now ≡ Armed (number - calls) leave)
 LowersBy calls Caught now = (calls ≡ 0) × (now ≡ Caught)
 
 -- so many calls were done, and none of them failed
@@ -54,15 +55,15 @@ pub record Metered (calls : ℕ) (before now : Meter) (Done Failed : Type 0) : T
   -- a caught call, and each one behind it, isn't a fault of the device's own
   pub caught : now.arm ≡ Caught → now.real_faults ≡ before.real_faults
 
--- the arm that catches a call after so many; a device that has caught one stays so
-abbrev pub arm_after : ℕ → Arm → Arm
-arm_after calls Unarmed = Armed calls
-arm_after calls (Armed number) = Armed calls
-arm_after calls Caught = Caught
+-- the arm that catches a call after so many, and says what the crash leaves; a device that has caught one stays so
+abbrev pub arm_after : ℕ → Leave → Arm → Arm
+arm_after calls leave Unarmed = Armed calls leave
+arm_after calls leave (Armed number before) = Armed calls leave
+arm_after calls leave Caught = Caught
 
 -- a meter once its device is armed
-abbrev pub armed : ℕ → Meter → Meter
-armed calls meter = record meter { arm = arm_after calls meter.arm }
+abbrev pub armed : ℕ → Leave → Meter → Meter
+armed calls leave meter = record meter { arm = arm_after calls leave meter.arm }
 
 -- a meter once its device is revived
 abbrev pub revived : Meter → Meter

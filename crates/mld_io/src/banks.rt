@@ -94,10 +94,11 @@ pub trait Banks: Drop {
 /// Banks that can be made to crash, for tries of what stands above them. They are always honest.
 pub trait CrashBanks: Banks {
     /// Has so many calls of `write_at` and `sync` done, and catches the next one: it and all later
-    /// calls fail until `revive`. A bank that has caught a call stays so.
+    /// calls fail until `revive`, which then leaves this much of the writes that aren't synced. A
+    /// bank that has caught a call stays so.
     fn arm(&mut self, calls: u32, leave: Leave)
         ensures log { Self.log self.new ≡ Self.log self.old }
-        ensures meter { Self.meter self.new ≡ armed calls (Self.meter self.old) };
+        ensures meter { Self.meter self.new ≡ armed calls leave (Self.meter self.old) };
 
     /// Whether a call was caught.
     fn stopped(&self) -> bool

@@ -1,53 +1,58 @@
--- What a write makes of the three lists.
-use Rattle.std.proofs.Common.{◌≡◌, ◌+◌, ◌≤◌, max, length, take, sym, ap, ◌∙◌, arith}
+-- What a write makes of the bytes, and of what a crash leaves.
+use Rattle.std.proofs.Common.{◌≡◌, ℕ, List, ◌+◌, ◌≤◌, [], ◌∷◌, ◌++◌, max, length, take, sym, ap, ◌∙◌, subst, arith}
 use Rattle.std.proofs.lemmas.List.{length-take-le}
 use Rattle.mld_io.specs.Disk.{written}
 use Rattle.mld_io.specs.declared.banks.Leave.TheVariants.{Lose, Keep, Torn}
+use Rattle.disk_model.specs.declared.unsynced.Unsynced.{Unsynced}
+use Rattle.disk_model.specs.Covered.{Covers, AreChained, lost_by, torn_by}
 use Rattle.disk_model.specs.Sides.{SideValue}
 use Rattle.disk_model.specs.SideSteps.{torn_piece}
-use Rattle.disk_model.specs.Pieces.{length-torn_piece}
-use Rattle.disk_model.proofs.Copies.{agrees_before, grown_keeps, grown_length, written_keeps, grown_written}
+use Rattle.disk_model.proofs.Copies.{grown_length, grown_written}
+use Rattle.disk_model.proofs.CoveredLaws.{chained_more, covers_fits, lost_more, torn_more}
 use Rattle.disk_model.proofs.sides.SideBytes.write.Goals as goal
 
 pub invariant_of-self-2 : goal.invariant_of-self-2
 invariant_of-self-2 c =
     let s = c.self.inside in
     let i = c.self.invariant in
-    let view : take s.size s.seen.items ≡ c.args.self.now.seen = ap (λ (v : SideValue). v.seen) c.self.view_is in
-    let at_in : c.args.at ≤ s.size = omega (arith, c.requires, ap length view, length-take-le s.size s.seen.items (omega arith)) in
-    let low = c.min-self-inside.result in
-    let seen_keeps : take low c.put.new.bytes.items ≡ take low s.seen.items =
-    written_keeps low c.args.at c.args.piece.now s.seen.items c.grow.new.bytes.items c.put.new.bytes.items c.in_ok-grow.ensures.grows c.put.ensures.written (omega arith) (omega arith) in
-    let lost_keeps : take low c.grow-2.new.bytes.items ≡ take low s.lost.items =
-    grown_keeps low s.lost.items c.grow-2.new.bytes.items c.in_ok-grow-2.ensures.grows (omega arith) in
-    let torn_keeps : take low c.put_torn.new.bytes.items ≡ take low s.torn.items =
-    written_keeps low c.args.at (torn_piece c.args.piece.now) s.torn.items c.grow-3.new.bytes.items c.put_torn.new.bytes.items c.in_ok-grow-3.ensures.grows c.put_torn.ensures.written (omega arith) (omega arith) in
+    let at = c.args.at in
+    let piece = c.args.piece.now in
+    let old = take s.size s.seen.items in
+    let write = c.in_ok-write.write in
+    let long : length old ≡ s.size = length-take-le s.size s.seen.items (omega (arith, i.in_seen)) in
+    let at_in : at ≤ length old = omega (arith, c.requires, ap (λ (v : SideValue). length v.seen) c.self.view_is) in
+    let covers : Covers at piece old write = subst (λ (l : List ℕ). Covers at piece (take s.size l) write) c.deref.ensures.value c.in_ok-write.ensures in
+    let writes_are : c.push_reserved.new.self.items ≡ s.writes.items ++ write ∷ [] = c.push_reserved.ensures.items ∙ ap (λ (ws : List Unsynced). ws ++ write ∷ []) c.in_ok-reserve.ensures.items in
+    let size_is : max s.size (write.at + length write.piece) ≡ c.max-self-inside.result = omega (arith, covers.at_is, ap length covers.piece_is) in
+    let chained = chained_more s.writes.items write s.size i.chained (covers.size_is ∙ long) (covers_fits write at piece old covers at_in) in
     record {
-      low_in_kept = omega arith;
-      kept_in_size = omega arith;
-      in_seen = omega (arith, c.put.ensures.len, c.in_ok-grow.ensures.ok, grown_length _ _ c.in_ok-grow.ensures.grows);
-      in_lost = omega (arith, c.in_ok-grow-2.ensures.ok, grown_length _ _ c.in_ok-grow-2.ensures.grows);
-      in_torn = omega (arith, c.put_torn.ensures.len, c.in_ok-grow-3.ensures.ok, grown_length _ _ c.in_ok-grow-3.ensures.grows);
-      lost_agrees = lost_keeps ∙ agrees_before low s.low s.lost.items s.seen.items (omega arith) (omega arith) (omega arith) i.lost_agrees ∙ sym seen_keeps;
-      torn_agrees = torn_keeps ∙ agrees_before low s.low s.torn.items s.seen.items (omega arith) (omega arith) (omega arith) i.torn_agrees ∙ sym seen_keeps;
+      in_seen = omega (arith, i.in_seen, c.put.ensures.len, c.in_ok-grow.ensures.ok, grown_length _ _ c.in_ok-grow.ensures.grows);
+      chained = subst (λ (ws : List Unsynced). AreChained ws c.max-self-inside.result) (sym writes_are) (subst (AreChained (s.writes.items ++ write ∷ [])) size_is chained);
     }
 
 pub returns-clause-ok : goal.returns-clause-ok
 returns-clause-ok c =
     let s = c.self.inside in
-    let view = c.self.view_is in
-    let seen_is : take s.size s.seen.items ≡ c.args.self.now.seen = ap (λ (v : SideValue). v.seen) view in
-    let torn_is : take s.size s.torn.items ≡ c.args.self.now.torn = ap (λ (v : SideValue). v.torn) view in
-    let lost_is : take s.kept s.lost.items ≡ c.args.self.now.lost = ap (λ (v : SideValue). v.lost) view in
-    let at_in : c.args.at ≤ s.size = omega (arith, c.requires, ap length seen_is, length-take-le s.size s.seen.items (omega arith)) in
-    let size : c.max-self-inside.result ≡ max s.size (c.args.at + length c.args.piece.now) = omega arith in
-    let torn_size : c.max-self-inside.result ≡ max s.size (c.args.at + length (torn_piece c.args.piece.now)) = omega (arith, length-torn_piece c.args.piece.now) in
+    let i = c.self.invariant in
+    let at = c.args.at in
+    let piece = c.args.piece.now in
+    let old = take s.size s.seen.items in
+    let writes = s.writes.items in
+    let write = c.in_ok-write.write in
+    let more = writes ++ write ∷ [] in
+    let long : length old ≡ s.size = length-take-le s.size s.seen.items (omega (arith, i.in_seen)) in
+    let at_in : at ≤ length old = omega (arith, c.requires, ap (λ (v : SideValue). length v.seen) c.self.view_is) in
+    let covers : Covers at piece old write = subst (λ (l : List ℕ). Covers at piece (take s.size l) write) c.deref.ensures.value c.in_ok-write.ensures in
+    let writes_are : c.push_reserved.new.self.items ≡ more = c.push_reserved.ensures.items ∙ ap (λ (ws : List Unsynced). ws ++ write ∷ []) c.in_ok-reserve.ensures.items in
+    let size : c.max-self-inside.result ≡ max s.size (at + length piece) = omega arith in
+    let now_is : take c.max-self-inside.result c.put.new.bytes.items ≡ written at piece old =
+    ap (λ (k : ℕ). take k c.put.new.bytes.items) size
+    ∙ grown_written at s.size piece s.seen.items c.grow.new.bytes.items c.put.new.bytes.items c.in_ok-grow.ensures.grows c.put.ensures.written (omega (arith, at_in, long)) (omega (arith, i.in_seen)) in
     elim [
-      | Lose ↦ grown_keeps s.kept s.lost.items c.grow-2.new.bytes.items c.in_ok-grow-2.ensures.grows (omega arith) ∙ lost_is
-      | Keep ↦ ap (λ k. take k c.put.new.bytes.items) size
-          ∙ grown_written c.args.at s.size c.args.piece.now s.seen.items c.grow.new.bytes.items c.put.new.bytes.items c.in_ok-grow.ensures.grows c.put.ensures.written at_in (omega arith)
-          ∙ ap (written c.args.at c.args.piece.now) seen_is
-      | Torn ↦ ap (λ k. take k c.put_torn.new.bytes.items) torn_size
-          ∙ grown_written c.args.at s.size (torn_piece c.args.piece.now) s.torn.items c.grow-3.new.bytes.items c.put_torn.new.bytes.items c.in_ok-grow-3.ensures.grows c.put_torn.ensures.written at_in (omega arith)
-          ∙ ap (written c.args.at (torn_piece c.args.piece.now)) torn_is
+      | Lose ↦ ap (λ (ws : List Unsynced). lost_by ws (take c.max-self-inside.result c.put.new.bytes.items)) writes_are ∙ ap (lost_by more) now_is
+          ∙ lost_more writes write at piece old covers at_in ∙ ap (λ (v : SideValue). v.lost) c.self.view_is
+      | Keep ↦ now_is ∙ ap (λ (v : SideValue). written at piece v.seen) c.self.view_is
+      | Torn ↦ ap (λ (ws : List Unsynced). torn_by ws (lost_by ws (take c.max-self-inside.result c.put.new.bytes.items))) writes_are
+          ∙ ap (λ (l : List ℕ). torn_by more (lost_by more l)) now_is
+          ∙ torn_more writes write at piece old covers at_in ∙ ap (λ (v : SideValue). written at (torn_piece piece) v.torn) c.self.view_is
     ]
