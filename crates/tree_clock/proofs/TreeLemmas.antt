@@ -1,5 +1,5 @@
 -- Trees of ticks: what a change of a son, or of both, says of the whole tree, and the lists of a tree's ticks and nodes.
-use Rattle.std.proofs.Common.{◌≡◌, ◌≢◌, ℕ, zero, suc, ◌+◌, ◌<◌, ◌≤◌, List, [], ◌∷◌, ◌++◌, ◌⊎◌, ◌↔◌, Bool, true, false, cond, ◌==◌, if◌then◌else◌, Option, Some, None, unwrap_or, IsSome, length, drop, slice_index, nat_eq, append_assoc, refl, sym, ◌∙◌, ap, subst, inl, inr, ⊎_elim, arith}
+use Rattle.std.proofs.Common.{◌≡◌, ◌≢◌, ℕ, zero, suc, ◌+◌, ◌<◌, ◌≤◌, List, [], ◌∷◌, ◌++◌, ◌⊎◌, ◌↔◌, Bool, true, false, cond, ◌==◌, if◌then◌else◌, Option, Some, None, unwrap_or, IsSome, length, length-append, drop, slice_index, nat_eq, append_assoc, refl, sym, ◌∙◌, ap, subst, inl, inr, ⊎_elim, arith}
 use Rattle.std.specs.Cmp.{tied_itself}
 use Rattle.std.specs.Cmp.Lexicographic.{pointwise}
 use Rattle.std.specs.List.{AllByRecursion}
@@ -340,3 +340,18 @@ HasNode-from_ticks tree path h = by (node_at tree path) h
     by : (o : Option ℕ) → 1 ≤ unwrap_or o 0 → IsSome o
     by None h = absurd (omega arith)
     by (Some ticks) h = refl
+
+-- how many entries there are below a path
+length_under : (path : List ℕ) (entries : List (List ℕ × ℕ)) → length (under path entries) ≡ length entries
+length_under path [] = refl
+length_under path (entry ∷ entries) = let l = length_under path entries in omega (arith, l)
+
+-- how many a node and its sons have
+pub length_sons : (ticks : ℕ) (left right : List (List ℕ × ℕ))
+    → length (entry_of [] ticks ++ (under (zero_letter ∷ []) left ++ under (one_letter ∷ []) right)) ≡ length (entry_of [] ticks) + length left + length right
+length_sons ticks left right =
+    let all = length-append (entry_of [] ticks) (under (zero_letter ∷ []) left ++ under (one_letter ∷ []) right) in
+    let sons = length-append (under (zero_letter ∷ []) left) (under (one_letter ∷ []) right) in
+    let l = length_under (zero_letter ∷ []) left in
+    let r = length_under (one_letter ∷ []) right in
+    omega (arith, all, sons, l, r)

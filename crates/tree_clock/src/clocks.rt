@@ -1,5 +1,5 @@
 //! Clocks: finite maps from paths to ticks.
-ghost use Rattle.std.specs.Prelude.{◌≡◌, ◌≢◌, ℕ, ◌<◌, ◌≤◌, ◌↔◌, [], List, max, IsTrue, IfOk, OnOk, OnErr, IsOk, MatchBool};
+ghost use Rattle.std.specs.Prelude.{◌≡◌, ◌≢◌, ℕ, ◌<◌, ◌≤◌, ◌↔◌, [], List, length, max, IsTrue, IfOk, OnOk, OnErr, IsOk, MatchBool};
 ghost use Rattle.tree_clock.specs.Clock.{ticks_of, Covers, IsClock, HasRoom, RaisesTo};
 ghost use Rattle.tree_clock.specs.declared.dots.Dot.{Dot};
 
@@ -93,6 +93,7 @@ impl Clock {
     pub fn raise(&mut self, dot: &Dot)
         requires { HasRoom self.old dot.now.path }
         ensures raised { RaisesTo self.old.ticks self.new.ticks dot.now }
+        ensures clock { IsClock self.new.ticks }
         ensures keeps { (other : List ℕ) → HasRoom self.old other → HasRoom self.new other }
     {
         self.root.raise(&dot.path, 0, dot.tick);
@@ -103,11 +104,19 @@ impl Clock {
         ensures ok { OnOk result ((path : List ℕ) → ticks_of self.new.ticks path
             ≡ max (ticks_of self.old.ticks path) (ticks_of other.now.ticks path)) }
         ensures err { OnErr result (self.new.ticks ≡ self.old.ticks) }
+        ensures clock { IsClock self.new.ticks }
         ensures keeps { (path : List ℕ) → HasRoom self.old path → HasRoom self.new path }
     {
         other.root.reserve_in(&mut self.root, self.alloc)?;
         other.root.raise_in(&mut self.root);
         Ok(())
+    }
+
+    /// Whether fewer paths than so many have ticks. Takes no memory.
+    pub fn has_fewer_than(&self, count: usize) -> bool
+        ensures { IsTrue result ↔ (length self.now.ticks < count) }
+    {
+        self.root.count() < count
     }
 
     /// The paths with their ticks, by path.

@@ -1,5 +1,5 @@
 //! Trees of ticks: each node has the ticks of one path, and a node that forked has two sons.
-ghost use Rattle.std.specs.Prelude.{◌≡◌, ℕ, ◌+◌, ◌-◌, ◌≤◌, ◌++◌, ◌∷◌, [], List, drop, length, max, IfOk, OnOk, IsOk, MatchBool, if◌then◌else◌};
+ghost use Rattle.std.specs.Prelude.{◌≡◌, ℕ, ◌+◌, ◌-◌, ◌≤◌, ◌++◌, ◌∷◌, ◌^◌, [], List, drop, length, max, min, IfOk, OnOk, IsOk, MatchBool, if◌then◌else◌};
 ghost use Rattle.tree_clock.specs.Limits.{path_limit};
 ghost use Rattle.tree_clock.specs.Path.{zero_letter, one_letter};
 ghost use Rattle.tree_clock.specs.Trees.{ticks_at, HasNode, IsEmpty, HasSons, height, under, entry_of, listed, nodes, IsTreeWithin, Exceeds, IsWithinBut, ExceedsBut, Grows, HasNodesOf, node_at, raised_node, RaisesNode};
@@ -222,6 +222,26 @@ impl Tree {
                 zero.raise_in(zero_there);
                 one.raise_in(one_there);
             }
+        }
+    }
+
+    // How many entries the node itself has.
+    fn own_count(&self) -> usize
+        ensures { result ≡ length (entry_of [] (ticks_at self.now [])) }
+    {
+        if self.own() == 0 { 0 } else { 1 }
+    }
+
+    /// How many paths have ticks, or 2^64 - 1 where there are more. Takes no memory.
+    pub fn count(&self) -> usize
+        ensures { result ≡ min (length (listed self.now)) (2 ^ 64 - 1) }
+    {
+        let own = self.own_count();
+        match self {
+            Tree::Leaf(_) => own,
+            Tree::Fork(_, zero, one) => own
+                .saturating_add(zero.count())
+                .saturating_add(one.count()),
         }
     }
 

@@ -3,7 +3,7 @@ use Rattle.tree_clock.specs.Clock.{ticks_of, ClockValue, HasRoom}
 use Rattle.tree_clock.specs.Lists.{Has}
 use Rattle.tree_clock.specs.Trees.{listed, nodes}
 use Rattle.tree_clock.proofs.ClockLemmas.{Has-kept, Has-grown, HasNode-merged, listed-grown, ticks_of-merged, on_err_always}
-use Rattle.tree_clock.proofs.TreeLemmas.{HasNode-grown}
+use Rattle.tree_clock.proofs.TreeLemmas.{HasNode-grown, IsClock-listed}
 use Rattle.tree_clock.proofs.clocks.Clock.merge.Goals as goal
 
 pub returns-in_err-reserve_in-clause-err : goal.returns-in_err-reserve_in-clause-err
@@ -27,3 +27,9 @@ returns-clause-keeps c =
     subst (λ (v : ClockValue). (path : List ℕ) → HasRoom v path → Has (nodes c.raise_in.new.into) path) c.self.view_is
     (Has-kept c.self.inside.root c.raise_in.new.into (λ path h.
     HasNode-merged c.reserve_in.new.into c.raise_in.new.into c.other.inside.root c.raise_in.ensures.raises path (HasNode-grown c.self.inside.root c.reserve_in.new.into path c.reserve_in.ensures.grows h)))
+
+pub returns-in_err-reserve_in-clause-clock : goal.returns-in_err-reserve_in-clause-clock
+returns-in_err-reserve_in-clause-clock c = IsClock-listed c.reserve_in.new.into
+
+pub returns-clause-clock : goal.returns-clause-clock
+returns-clause-clock c = IsClock-listed c.raise_in.new.into

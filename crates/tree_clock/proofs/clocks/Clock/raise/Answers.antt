@@ -3,7 +3,7 @@ use Rattle.tree_clock.specs.Clock.{ClockValue, HasRoom, RaisesTo}
 use Rattle.tree_clock.specs.Lists.{Has}
 use Rattle.tree_clock.specs.Trees.{HasNode, listed, nodes}
 use Rattle.tree_clock.proofs.ClockLemmas.{Has-kept, HasNode-raised, RaisesTo-listed}
-use Rattle.tree_clock.proofs.TreeLemmas.{HasNode-from_nodes}
+use Rattle.tree_clock.proofs.TreeLemmas.{HasNode-from_nodes, IsClock-listed}
 use Rattle.tree_clock.proofs.clocks.Clock.raise.Goals as goal
 
 pub raise-requires-clause-node : goal.raise-requires-clause-node
@@ -23,3 +23,6 @@ returns-clause-keeps c =
     let dot = c.args.dot.now in
     subst (λ (v : ClockValue). (other : List ℕ) → HasRoom v other → Has (nodes c.raise.new.self) other) c.self.view_is
     (Has-kept c.self.inside.root c.raise.new.self (HasNode-raised c.self.inside.root c.raise.new.self dot.path dot.tick c.raise.ensures.raises))
+
+pub returns-clause-clock : goal.returns-clause-clock
+returns-clause-clock c = IsClock-listed c.raise.new.self
