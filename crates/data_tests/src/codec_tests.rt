@@ -129,7 +129,7 @@ fn faults_have_their_places(rt: HostRuntime) -> Result<(), Fail> {
 // Whether these bytes are written for a copy of a message.
 fn is_written_as(alloc: Global, message: &Message, wanted: &[u8]) -> Result<bool, AllocError> {
     let copy = Box::new(alloc, message.copy_in(alloc)?)?;
-    if !is_short_message(alloc, &copy)? {
+    if !is_short_message(&copy) {
         return Ok(false);
     }
     let mut out = Box::new(alloc, Vec::new(alloc))?;

@@ -14,6 +14,7 @@ use Rattle.rdf_terms.specs.Order.{triple_cmp}
 use Rattle.rdf_terms.specs.OrderLaws.{triple_total, triple_exact}
 use Rattle.tree_clock.specs.Lists.{Has}
 use Rattle.mld_ops.specs.declared.tagged.Tagged.{Tagged}
+use Rattle.mld_ops.specs.EffectEquality.{same_pair}
 use Rattle.mld_ops.proofs.OperationLaws.{same_dot}
 
 tied : (o : Ordering) → is_eq o ≡ true → o ≡ Equal
@@ -22,13 +23,10 @@ tied Equal h = refl
 tied Greater h = absurd (false≢true h)
 
 -- the test of triples
-triple_decides : (a b : Triple) → Decides (eq_by_cmp triple_cmp a b) (a ≡ b)
+pub triple_decides : (a b : Triple) → Decides (eq_by_cmp triple_cmp a b) (a ≡ b)
 triple_decides a b = (λ h. triple_exact a b (tied (triple_cmp a b) h), λ e. ap is_eq (ap (triple_cmp a) (sym e) ∙ tied_itself triple_total a))
 
 -- the test of pairs
-abbrev pub same_pair : Tagged → Tagged → Bool
-same_pair a b = eq_by_cmp triple_cmp a.triple b.triple && (pointwise nat_eq a.dot.path b.dot.path && (a.dot.tick == b.dot.tick))
-
 pub pair_decides : (a b : Tagged) → Decides (same_pair a b) (a ≡ b)
 pair_decides a b = (
   λ h. let p = and_parts (eq_by_cmp triple_cmp a.triple b.triple) (pointwise nat_eq a.dot.path b.dot.path && (a.dot.tick == b.dot.tick)) h in

@@ -3,6 +3,8 @@ pub mod PropertiesLaws
 pub mod PickingLaws
 pub mod OperationLaws
 pub mod NetLaws
+pub mod EffectLaws
+pub mod PresentLaws
 pub mod MeaningLaws
 pub mod AscendingLaws
 pub mod PlaceLaws

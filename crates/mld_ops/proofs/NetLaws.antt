@@ -6,11 +6,15 @@ use Rattle.tree_clock.specs.declared.dots.Dot.{Dot}
 use Rattle.tree_clock.specs.declared.dots.Range.{Range}
 use Rattle.tree_clock.specs.Lists.{Has, IsAscending}
 use Rattle.tree_clock.specs.Dot.{IsIn, Knows}
+use Rattle.tree_clock.specs.Clock.{ticks_of, IsClock}
+use Rattle.tree_clock.proofs.ClockLaws.{Covers-within, clock_from_ticks}
 use Rattle.mld_ops.specs.declared.tagged.Tagged.{Tagged}
 use Rattle.mld_ops.specs.Tagged.{tagged_cmp, insert_cmp}
 use Rattle.mld_ops.specs.Entry.{EntryValue}
 use Rattle.mld_ops.specs.History.{Operation, dot_at, IsLawful}
 use Rattle.mld_ops.specs.Effect.{range_of, IsEffect}
+use Rattle.mld_ops.proofs.AscendingLaws.{same_ascending}
+use Rattle.mld_ops.proofs.TaggedLaws.{tagged_total, tagged_exact, insert_total, insert_exact}
 use Rattle.mld_ops.proofs.OperationLaws.{same_dot, in_range_of, range_of_has, one_operation, deletes_none_own}
 use Rattle.mld_ops.specs.Net.{IsNetInsert, IsNetDelete, IsTime, IsNet}
 
@@ -150,3 +154,28 @@ net_iff_effect history operation entry lawful stands same deletes inserts = (
   λ n. net_of_one_back history operation lawful stands (range_of operation.dot) entry n refl refl,
   λ f. net_of_one history operation lawful stands entry same deletes inserts f,
 )
+
+-- entries of the same parts are one
+pub same_parts : (entry other : EntryValue) → entry.range ≡ other.range → entry.time ≡ other.time → entry.deletes ≡ other.deletes
+    → entry.inserts ≡ other.inserts → entry ≡ other
+same_parts entry other range time deletes inserts = λ i. record { range = range i; time = time i; deletes = deletes i; inserts = inserts i }
+
+-- a range has one entry
+pub one_net : (history : List Operation) (range : Range) (entry other : EntryValue)
+    → IsNet history range entry → IsNet history range other → IsClock entry.time → IsClock other.time → entry ≡ other
+one_net history range entry other n m clock other_clock =
+    same_parts entry other (n.same ∙ sym m.same) (clock_from_ticks entry.time other.time clock other_clock same_ticks)
+    (same_ascending tagged_cmp tagged_total tagged_exact entry.deletes other.deletes n.deletes_ascend m.deletes_ascend
+    (λ pair h. (m.deletes pair).1 ((n.deletes pair).0 h))
+    (λ pair h. (n.deletes pair).1 ((m.deletes pair).0 h)))
+    (same_ascending insert_cmp insert_total insert_exact entry.inserts other.inserts n.inserts_ascend m.inserts_ascend
+    (λ insert h. (m.inserts insert.0 insert.1).1 ((n.inserts insert.0 insert.1).0 h))
+    (λ insert h. (n.inserts insert.0 insert.1).1 ((m.inserts insert.0 insert.1).0 h)))
+  where
+    same_ticks : (path : List ℕ) → ticks_of entry.time path ≡ ticks_of other.time path
+    same_ticks path =
+        let within : ticks_of entry.time path ≤ ticks_of other.time path =
+        (Covers-within entry.time other.time).1 (λ dot c. (m.time dot).1 ((n.time dot).0 c)) path in
+        let without : ticks_of other.time path ≤ ticks_of entry.time path =
+        (Covers-within other.time entry.time).1 (λ dot c. (n.time dot).1 ((m.time dot).0 c)) path in
+        omega (arith, within, without)

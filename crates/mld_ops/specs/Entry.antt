@@ -5,7 +5,7 @@ use Rattle.rdf_terms.specs.declared.terms.Triple.{Triple}
 use Rattle.tree_clock.specs.declared.dots.Range.{Range}
 use Rattle.tree_clock.specs.Lists.{IsAscending}
 use Rattle.tree_clock.specs.Dot.{IsIn}
-use Rattle.tree_clock.specs.Clock.{ticks_of, Covers}
+use Rattle.tree_clock.specs.Clock.{ticks_of, Covers, IsClock}
 use Rattle.mld_ops.specs.declared.tagged.Tagged.{Tagged}
 use Rattle.mld_ops.specs.Tagged.{tagged_cmp, insert_cmp}
 
@@ -21,6 +21,7 @@ pub record EntryValue : Type 0 where
 pub record IsEntry (entry : EntryValue) : Type 0 where
   pub first : 1 ≤ entry.range.first
   pub last : entry.range.first ≤ entry.range.last
+  pub clock : IsClock entry.time
   pub own : ticks_of entry.time entry.range.path ≡ entry.range.last
   pub deletes_ascend : IsAscending tagged_cmp entry.deletes
   pub deletes_covered : AllByRecursion (λ (pair : Tagged). Covers entry.time pair.dot) entry.deletes

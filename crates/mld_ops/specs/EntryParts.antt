@@ -5,14 +5,15 @@ use Rattle.rdf_terms.specs.declared.terms.Triple.{Triple}
 use Rattle.tree_clock.specs.declared.dots.Range.{Range}
 use Rattle.tree_clock.specs.Lists.{IsAscending}
 use Rattle.tree_clock.specs.Dot.{IsIn}
-use Rattle.tree_clock.specs.Clock.{ticks_of, Covers}
+use Rattle.tree_clock.specs.Clock.{ticks_of, Covers, IsClock}
 use Rattle.mld_ops.specs.declared.tagged.Tagged.{Tagged}
 use Rattle.mld_ops.specs.Tagged.{tagged_cmp, insert_cmp}
 
--- the range has a dot and no tick 0, and its path's ticks in the time are its last
+-- the range has a dot and no tick 0, and the time is a clock in which its path's ticks are its last
 pub record HasOwnTicks (range : Range) (time : List (List ℕ × ℕ)) : Type 0 where
   pub first : 1 ≤ range.first
   pub last : range.first ≤ range.last
+  pub clock : IsClock time
   pub own : ticks_of time range.path ≡ range.last
 
 -- the deletes of an entry: ascending, covered, outside the range

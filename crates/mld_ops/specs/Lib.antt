@@ -6,11 +6,15 @@ pub mod Meaning
 pub mod Net
 pub mod Deleted
 pub mod Effect
+pub mod Effects
+pub mod EffectEquality
 pub mod Picking
 pub mod Ready
 pub mod Cut
 pub mod Applies
 pub mod Messages
 pub mod Held
+pub mod InOrder
 pub mod Properties
+pub mod Present
 pub mod AscendingPlaces

@@ -1,9 +1,8 @@
 -- Single-valued properties, which are kept in order.
-use Rattle.std.specs.Prelude.{ℕ, List, ◌↔◌}
+use Rattle.std.specs.Prelude.{ℕ, List}
 use Rattle.rdf_terms.specs.Order.{iri_cmp}
-use Rattle.tree_clock.specs.Lists.{Has, IsAscending}
+use Rattle.mld_ops.specs.InOrder.{IsPutInOrder}
 
 -- the same IRIs, ascending as terms, each once
-pub record AreKept (given kept : List (List ℕ)) : Type 0 where
-  pub ascending : IsAscending iri_cmp kept
-  pub members : (property : List ℕ) → Has kept property ↔ Has given property
+abbrev pub AreKept : List (List ℕ) → List (List ℕ) → Type 0
+AreKept given kept = IsPutInOrder iri_cmp given kept

@@ -2,19 +2,22 @@
 #![tactic(auto)]
 
 mod cuts;
+mod effects;
 mod entries;
 mod laws;
 mod limits;
 mod messages;
 mod operations;
+mod ordered;
 mod pairs;
 mod places;
 mod properties;
 mod tagged;
 
 pub use cuts::{Cut, Tags};
+pub use effects::Effect;
 pub use entries::Entry;
-pub use laws::{meaning_of_taken, net_of_one, one_meaning};
+pub use laws::{made_by_effect, meaning_of_taken, net_of_one, one_meaning, present_triples};
 pub use limits::HELD_LIMIT;
 pub use messages::{Give, Message, Messages, Snapshot};
 pub use operations::{Operation, meaning};

@@ -7,11 +7,12 @@ use Rattle.tree_clock.specs.declared.dots.Range.{Range}
 use Rattle.tree_clock.specs.Lists.{Has}
 use Rattle.tree_clock.specs.Dot.{IsIn, Knows}
 use Rattle.tree_clock.specs.Clock.{ticks_of, Covers}
-use Rattle.tree_clock.proofs.ClockLaws.{Covers-max, Covers-within}
+use Rattle.tree_clock.proofs.ClockLaws.{Covers-max, Covers-within, clock_from_ticks}
 use Rattle.mld_ops.specs.declared.tagged.Tagged.{Tagged}
 use Rattle.mld_ops.specs.Tagged.{tagged_cmp, insert_cmp}
 use Rattle.mld_ops.proofs.TaggedLaws.{tagged_total, tagged_exact, insert_total, insert_exact}
 use Rattle.mld_ops.proofs.AscendingLaws.{same_ascending}
+use Rattle.mld_ops.proofs.NetLaws.{same_parts}
 use Rattle.mld_ops.specs.Entry.{EntryValue}
 use Rattle.mld_ops.specs.History.{Operation, dot_at, IsDone, IsInserted, IsLawful}
 use Rattle.mld_ops.specs.Net.{IsNetInsert, IsNetDelete, IsTime, IsNet}
@@ -22,16 +23,15 @@ use Rattle.op_fusion.proofs.Ticks.{tick_positive, earlier_is_cause, causes_grow}
 
 -- two fused entries of the same two have the same parts
 pub one_fused : OneFused
-one_fused first second one other f g = record {
-  range = f.range ∙ sym g.range;
-  inserts = same_ascending insert_cmp insert_total insert_exact one.inserts other.inserts f.inserts_ascend g.inserts_ascend
-      (λ insert h. (g.inserts insert.0 insert.1).1 ((f.inserts insert.0 insert.1).0 h))
-      (λ insert h. (f.inserts insert.0 insert.1).1 ((g.inserts insert.0 insert.1).0 h));
-  deletes = same_ascending tagged_cmp tagged_total tagged_exact one.deletes other.deletes f.deletes_ascend g.deletes_ascend
-      (λ pair h. (g.deletes pair).1 ((f.deletes pair).0 h))
-      (λ pair h. (f.deletes pair).1 ((g.deletes pair).0 h));
-  time = λ path. f.time path ∙ sym (g.time path);
-}
+one_fused first second one other f g =
+    same_parts one other (f.range ∙ sym g.range)
+    (clock_from_ticks one.time other.time f.clock g.clock (λ path. f.time path ∙ sym (g.time path)))
+    (same_ascending tagged_cmp tagged_total tagged_exact one.deletes other.deletes f.deletes_ascend g.deletes_ascend
+    (λ pair h. (g.deletes pair).1 ((f.deletes pair).0 h))
+    (λ pair h. (f.deletes pair).1 ((g.deletes pair).0 h)))
+    (same_ascending insert_cmp insert_total insert_exact one.inserts other.inserts f.inserts_ascend g.inserts_ascend
+    (λ insert h. (g.inserts insert.0 insert.1).1 ((f.inserts insert.0 insert.1).0 h))
+    (λ insert h. (f.inserts insert.0 insert.1).1 ((g.inserts insert.0 insert.1).0 h)))
 
 both_iff : {A B C : Type 0} → A ↔ B → B ↔ C → A ↔ C
 both_iff f g = (λ a. g.0 (f.0 a), λ c. f.1 (g.1 c))
@@ -261,6 +261,6 @@ fused_nets_are_net history left right first second fused lawful near done n m f 
     (net_second history left right first second fused near done n m) f lawful (done_entry history left right first second fused near done n m)))
 
 pub fused_time_is_second : FusedTimeIsSecond
-fused_time_is_second history left right first second fused lawful near done n m f =
-    second_time history first second fused (near_entries history left right first second fused near done n m) (net_first history left right first second fused near done n m)
-    (net_second history left right first second fused near done n m) f lawful (done_entry history left right first second fused near done n m)
+fused_time_is_second history left right first second fused lawful near done n m f clock =
+    clock_from_ticks fused.time second.time f.clock clock (second_time history first second fused (near_entries history left right first second fused near done n m) (net_first history left right first second fused near done n m)
+    (net_second history left right first second fused near done n m) f lawful (done_entry history left right first second fused near done n m))

@@ -7,14 +7,15 @@ use Rattle.tree_clock.specs.Lists.{Has}
 use Rattle.tree_clock.specs.Dot.{IsIn}
 use Rattle.tree_clock.specs.DotLaws.{IsIn_or_not}
 use Rattle.tree_clock.specs.Clock.{ticks_of}
+use Rattle.tree_clock.proofs.ClockLaws.{clock_from_ticks}
 use Rattle.mld_ops.specs.declared.tagged.Tagged.{Tagged}
 use Rattle.mld_ops.specs.Tagged.{tagged_cmp, insert_cmp}
 use Rattle.mld_ops.proofs.TaggedLaws.{tagged_total, tagged_exact, insert_total, insert_exact}
 use Rattle.mld_ops.specs.Entry.{EntryValue, IsEntry}
 use Rattle.mld_ops.specs.Held.{ranges_of}
 use Rattle.mld_ops.proofs.AscendingLaws.{same_ascending, has_append, has_left, has_right}
+use Rattle.mld_ops.proofs.NetLaws.{same_parts}
 use Rattle.op_fusion.specs.Fusion.{AreNeighbours, joined, pair_at, Fused}
-use Rattle.op_fusion.specs.FusionLaws.{AreOneEntry}
 use Rattle.op_fusion.specs.Compacting.{IsRun, IsFusedRun, alone, both}
 use Rattle.op_fusion.specs.CompactingLaws.{OneFusedRun}
 use Rattle.op_fusion.proofs.Runs.{AreRunOf, fused_run_ranges, near_all, fused_is_entry}
@@ -64,16 +65,14 @@ module _ (one other : EntryValue) (is : IsEntry one) (range : one.range ≡ othe
   ]
 
 same_entry : (one other : EntryValue) → IsEntry one → IsEntry other → one.range ≡ other.range → ((pair : Tagged) → Keeps one pair ↔ Keeps other pair)
-    → ((path : List ℕ) → ticks_of one.time path ≡ ticks_of other.time path) → AreOneEntry one other
+    → ((path : List ℕ) → ticks_of one.time path ≡ ticks_of other.time path) → one ≡ other
 same_entry one other is are range keeps time =
-    let back : (pair : Tagged) → Keeps other pair ↔ Keeps one pair = λ pair. ((keeps pair).1, (keeps pair).0) in record {
-      range = range;
-      inserts = same_ascending insert_cmp insert_total insert_exact one.inserts other.inserts is.inserts_ascend are.inserts_ascend
-          (inserts_too one other is range keeps) (inserts_too other one are (sym range) back);
-      deletes = same_ascending tagged_cmp tagged_total tagged_exact one.deletes other.deletes is.deletes_ascend are.deletes_ascend
-          (deletes_too one other is range keeps) (deletes_too other one are (sym range) back);
-      time = time;
-    }
+    let back : (pair : Tagged) → Keeps other pair ↔ Keeps one pair = λ pair. ((keeps pair).1, (keeps pair).0) in
+    same_parts one other range (clock_from_ticks one.time other.time is.clock are.clock time)
+    (same_ascending tagged_cmp tagged_total tagged_exact one.deletes other.deletes is.deletes_ascend are.deletes_ascend
+    (deletes_too one other is range keeps) (deletes_too other one are (sym range) back))
+    (same_ascending insert_cmp insert_total insert_exact one.inserts other.inserts is.inserts_ascend are.inserts_ascend
+    (inserts_too one other is range keeps) (inserts_too other one are (sym range) back))
 
 -- ---- a fused entry keeps what both keep
 

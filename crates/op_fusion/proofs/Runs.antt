@@ -144,6 +144,7 @@ module _ (first second fused : EntryValue) (one : IsEntry first) (two : IsEntry 
   is_entry = record {
     first = fused_first.2;
     last = omega (arith, fused_first.1, two.last, fused_last);
+    clock = f.clock;
     own = own_tick;
     deletes_ascend = f.deletes_ascend;
     deletes_covered = from_members (λ (pair : Tagged). Covers fused.time pair.dot) fused.deletes covered;

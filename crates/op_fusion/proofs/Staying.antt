@@ -161,6 +161,7 @@ module _ (first second : EntryValue) (one : IsEntry first) (two : IsEntry second
       record {
         first = omega (arith, first_is, one.first, two.first);
         last = omega (arith, first_is, last_is, two.last);
+        clock = f.clock;
         own = omega (arith, ap (λ (p : List ℕ). ticks_of fused.time p) path_is, f.time first.range.path, one.own, ap (λ (p : List ℕ). ticks_of second.time p) near.path, two.own, near.beyond, last_is);
         deletes_ascend = f.deletes_ascend;
         deletes_covered = from_members (λ (pair : Tagged). Covers fused.time pair.dot) fused.deletes covered;

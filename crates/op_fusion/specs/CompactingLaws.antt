@@ -1,5 +1,5 @@
 -- The laws of compacted entries, as statements. None of them speaks of a history.
-use Rattle.std.specs.Prelude.{ℕ, List}
+use Rattle.std.specs.Prelude.{◌≡◌, ℕ, List}
 use Rattle.tree_clock.specs.Lists.{Has}
 use Rattle.tree_clock.specs.Clock.{ticks_of, Covers, RaisesTo}
 use Rattle.mld_ops.specs.declared.tagged.Tagged.{Tagged}
@@ -8,7 +8,6 @@ use Rattle.mld_ops.specs.Held.{ranges_of}
 use Rattle.mld_ops.specs.Cut.{IsCutOf}
 use Rattle.mld_ops.specs.Ready.{last_dot, IsReadyEntry}
 use Rattle.op_fusion.specs.Fusion.{AreNeighbours, Fused}
-use Rattle.op_fusion.specs.FusionLaws.{AreOneEntry}
 use Rattle.op_fusion.specs.Compacting.{AreCompacted, IsFusedRun, AreFusedRuns}
 
 -- entries that are compacted have compacted ranges
@@ -18,7 +17,7 @@ FusedRunsAreCompacted = (entries compacted : List EntryValue) → AreFusedRuns e
 -- entries are fused to one entry at most, whatever the grouping: from the left, or by halves
 abbrev pub OneFusedRun : Type 0
 OneFusedRun = (entries : List EntryValue) (one other : EntryValue) → ((entry : EntryValue) → Has entries entry → IsEntry entry)
-    → IsFusedRun entries one → IsFusedRun entries other → AreOneEntry one other
+    → IsFusedRun entries one → IsFusedRun entries other → one ≡ other
 
 -- what is fused of two entries is an entry
 abbrev pub FusedIsEntry : Type 0

@@ -5,7 +5,7 @@ use Rattle.rdf_terms.specs.declared.terms.Triple.{Triple}
 use Rattle.tree_clock.specs.declared.dots.Range.{Range}
 use Rattle.tree_clock.specs.Lists.{Has, IsAscending}
 use Rattle.tree_clock.specs.Dot.{IsIn}
-use Rattle.tree_clock.specs.Clock.{ticks_of}
+use Rattle.tree_clock.specs.Clock.{ticks_of, IsClock}
 use Rattle.mld_ops.specs.declared.tagged.Tagged.{Tagged}
 use Rattle.mld_ops.specs.Tagged.{tagged_cmp, insert_cmp}
 use Rattle.mld_ops.specs.Entry.{EntryValue}
@@ -53,4 +53,5 @@ pub record Fused (first second fused : EntryValue) : Type 0 where
   pub deletes_ascend : IsAscending tagged_cmp fused.deletes
   pub deletes : (pair : Tagged) → Has fused.deletes pair ↔ StaysDeleted first second pair
   -- the join of both times
+  pub clock : IsClock fused.time
   pub time : (path : List ℕ) → ticks_of fused.time path ≡ max (ticks_of first.time path) (ticks_of second.time path)

@@ -4,7 +4,7 @@ use Rattle.tree_clock.specs.declared.dots.Dot.{Dot}
 use Rattle.tree_clock.specs.declared.dots.Range.{Range}
 use Rattle.tree_clock.specs.Lists.{Has}
 use Rattle.tree_clock.specs.Dot.{Knows}
-use Rattle.tree_clock.specs.Clock.{ticks_of, Covers}
+use Rattle.tree_clock.specs.Clock.{ticks_of, Covers, IsClock}
 use Rattle.mld_ops.specs.declared.tagged.Tagged.{Tagged}
 use Rattle.mld_ops.specs.Entry.{EntryValue}
 use Rattle.mld_ops.specs.History.{Operation, IsDone, IsClosed, IsLawful}
@@ -16,16 +16,9 @@ use Rattle.op_fusion.specs.Fusion.{AreNeighbours, joined, Fused}
 use Rattle.mld_ops.specs.Applies.{Applies}
 use Rattle.op_fusion.specs.Cutting.{AreCuts, AreCutsBehind}
 
--- the entries are one, but for the list that its clock is
-pub record AreOneEntry (one other : EntryValue) : Type 0 where
-  pub range : one.range ≡ other.range
-  pub inserts : one.inserts ≡ other.inserts
-  pub deletes : one.deletes ≡ other.deletes
-  pub time : (path : List ℕ) → ticks_of one.time path ≡ ticks_of other.time path
-
 -- two entries have one fused entry at most
 abbrev pub OneFused : Type 0
-OneFused = (first second one other : EntryValue) → Fused first second one → Fused first second other → AreOneEntry one other
+OneFused = (first second one other : EntryValue) → Fused first second one → Fused first second other → one ≡ other
 
 -- the fused entry of the net effects of two ranges, which may overlap, is the net effect of the range of both
 abbrev pub FusedNetsAreNet : Type 0
@@ -39,7 +32,7 @@ abbrev pub FusedTimeIsSecond : Type 0
 FusedTimeIsSecond = (history : List Operation) (left right : Range) (first second fused : EntryValue)
     → IsLawful history → AreNeighbours left right → IsDone history (last_dot right)
     → IsNet history left first → IsNet history right second → Fused first second fused
-    → (path : List ℕ) → ticks_of fused.time path ≡ ticks_of second.time path
+    → IsClock second.time → fused.time ≡ second.time
 
 -- what an entry is that may be taken by one who knows a closed set of dots, and has the clock of these dots: the net effect of a range
 -- with an end that was done, ready by the clock

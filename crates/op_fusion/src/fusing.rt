@@ -5,7 +5,7 @@ ghost use Rattle.mld_ops.specs.declared.tagged.Tagged.{Tagged};
 ghost use Rattle.op_fusion.specs.Fusion as fusion;
 ghost use Rattle.op_fusion.specs.declared.faults.FuseFault.TheVariants as faults;
 ghost use Rattle.rdf_terms.specs.declared.terms.Triple.{Triple};
-ghost use Rattle.tree_clock.specs.Clock.{ticks_of};
+ghost use Rattle.tree_clock.specs.Clock.{ticks_of, IsClock};
 ghost use Rattle.tree_clock.specs.Dot.{IsIn};
 ghost use Rattle.tree_clock.specs.Lists.{Has, IsAscending};
 
@@ -61,8 +61,9 @@ fn joined(first: &Range, second: &Range) -> Range
 
 // The join of both times.
 fn fused_time(alloc: Global, first: &Clock, second: &Clock) -> Result<Clock, AllocError>
-    ensures { IfOk result (λ time. (path : List ℕ)
+    ensures ticks { IfOk result (λ time. (path : List ℕ)
         → ticks_of time.ticks path ≡ max (ticks_of first.now.ticks path) (ticks_of second.now.ticks path)) }
+    ensures clock { IfOk result (λ time. IsClock time.ticks) }
 {
     let mut time = second.copy_in(alloc)?;
     time.merge(first)?;

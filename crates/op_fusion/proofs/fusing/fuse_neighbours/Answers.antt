@@ -12,5 +12,6 @@ unwrap-requires c =
       inserts = c.in_ok-inserts.ensures.members;
       deletes_ascend = c.in_ok-deletes.ensures.ascending;
       deletes = c.in_ok-deletes.ensures.members;
-      time = rw (c.time.ensures, c.time-2.ensures) at c.in_ok-time.ensures;
+      clock = c.in_ok-time.ensures.clock;
+      time = rw (c.time.ensures, c.time-2.ensures) at c.in_ok-time.ensures.ticks;
     }))
