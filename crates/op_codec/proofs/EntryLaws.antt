@@ -11,7 +11,7 @@ use Rattle.mld_ops.specs.Entry.{EntryValue, IsEntry}
 use Rattle.mld_ops.specs.Tagged.{tagged_cmp, insert_cmp}
 use Rattle.mld_ops.specs.declared.tagged.Tagged.{Tagged}
 use Rattle.rdf_terms.specs.declared.terms.Triple.{Triple}
-use Rattle.tree_clock.specs.Clock.{ticks_of, Covers}
+use Rattle.tree_clock.specs.Clock.{ticks_of, Covers, IsClock}
 use Rattle.tree_clock.specs.Dot.{IsIn}
 use Rattle.tree_clock.specs.DotLaws.{path_eq-Decides}
 use Rattle.tree_clock.specs.Lists.{IsBelowAll, IsAscending}
@@ -65,12 +65,12 @@ dot_of_range range dot =
     (Decides-and _ _ (Decides-and _ _ (path_eq-Decides dot.path range.path) (at_most range.first dot.tick)) (at_most dot.tick range.last))
 
 -- the test of an entry
-pub entry_decided : (entry : EntryValue) → Decides (is_entry entry) (IsEntry entry)
+pub entry_decided : (entry : EntryValue) → IsClock entry.time → Decides (is_entry entry) (IsEntry entry)
 unfolding is_entry
-entry_decided entry =
+entry_decided entry clock =
     let r = entry.range in
     Decides-like (is_entry entry)
-    (λ p. record { first = p.0.0.0.0; last = p.0.0.0.1; own = p.0.0.1; deletes_ascend = p.0.1.0.0; deletes_covered = p.0.1.0.1; deletes_outside = p.0.1.1; inserts_ascend = p.1.0; inserts_inside = p.1.1 })
+    (λ p. record { first = p.0.0.0.0; last = p.0.0.0.1; clock = clock; own = p.0.0.1; deletes_ascend = p.0.1.0.0; deletes_covered = p.0.1.0.1; deletes_outside = p.0.1.1; inserts_ascend = p.1.0; inserts_inside = p.1.1 })
     (λ e. ((((e.first, e.last), e.own), ((e.deletes_ascend, e.deletes_covered), e.deletes_outside)), (e.inserts_ascend, e.inserts_inside)))
     (Decides-and _ _
     (Decides-and _ _
@@ -84,14 +84,14 @@ entry_decided entry =
 
 -- parts of an entry are that entry
 pub entry_found : (place next : ℕ) (entry : EntryValue) (rest : List ℕ) → IsEntry entry → entry_at place entry next rest ≡ Found entry next rest
-entry_found place next entry rest h = let t = (entry_decided entry).1 h in rw t
+entry_found place next entry rest h = let t = (entry_decided entry h.clock).1 h in rw t
 
 -- parts of no entry are a fault where they begin
-pub entry_refused : (place next : ℕ) (entry : EntryValue) (rest : List ℕ) → ¬ IsEntry entry → entry_at place entry next rest ≡ Fault place
-entry_refused place next entry rest n = by (cases_Bool (is_entry entry))
+pub entry_refused : (place next : ℕ) (entry : EntryValue) (rest : List ℕ) → IsClock entry.time → ¬ IsEntry entry → entry_at place entry next rest ≡ Fault place
+entry_refused place next entry rest clock n = by (cases_Bool (is_entry entry))
   where
     by : (is_entry entry ≡ true) ⊎ (is_entry entry ≡ false) → entry_at place entry next rest ≡ Fault place
-    by (inl t) = absurd (n ((entry_decided entry).0 t))
+    by (inl t) = absurd (n ((entry_decided entry clock).0 t))
     by (inr f) = rw f
 
 -- the parts of an entry, one behind the other
@@ -117,5 +117,5 @@ entry_read input at entry end h e = record {
 }
 
 -- the parts of no entry are refused where they begin
-pub entry_missed : (input : List ℕ) (at : ℕ) (entry : EntryValue) (end : ℕ) → HasParts input at entry end → ¬ IsEntry entry → read_entry at (drop at input) ≡ Fault at
-entry_missed input at entry end h n = parts_read input at entry end h ∙ entry_refused at end entry (drop end input) n
+pub entry_missed : (input : List ℕ) (at : ℕ) (entry : EntryValue) (end : ℕ) → HasParts input at entry end → IsClock entry.time → ¬ IsEntry entry → read_entry at (drop at input) ≡ Fault at
+entry_missed input at entry end h clock n = parts_read input at entry end h ∙ entry_refused at end entry (drop end input) clock n

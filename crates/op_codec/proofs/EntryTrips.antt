@@ -18,6 +18,7 @@ use Rattle.op_codec.specs.Reading.{Reading, Found, Fault, chain}
 use Rattle.op_codec.specs.Stored.{ArePairs, IsRange, IsInsert, AreStoredInserts, IsStoredEntry}
 use Rattle.op_codec.specs.Triples.{stored_triple, read_stored}
 use Rattle.op_codec.proofs.EntryLaws.{entry_decided, entry_found}
+use Rattle.op_codec.proofs.Shapes.{clock_of_stored}
 use Rattle.op_codec.proofs.FieldTrips.{any_tick_back, any_tick_one}
 use Rattle.op_codec.proofs.ListTrips.{fitting_from_ascending, ascending_from_fitting, list_back, list_one}
 use Rattle.op_codec.proofs.PairTrips.{clock_back, clock_one, stored_back, stored_one, pairs_back, pairs_one}
@@ -198,7 +199,7 @@ entry_one place bytes entry next rest b h = by (splits (read_range place bytes) 
               let e = same_parts value entry k.place next k.rest rest (rw g at k.second) in
               let l = e.rest_is in
               subst (λ (n : EntryValue). IsWritten IsStoredEntry entry_bytes place bytes n next rest) e.value (record {
-                value_is = record { range = w.value_is; time = v.value_is; deletes = x.value_is; inserts = y.value_is; entry_kept = (entry_decided value).0 g };
+                value_is = record { range = w.value_is; time = v.value_is; deletes = x.value_is; inserts = y.value_is; entry_kept = (entry_decided value (clock_of_stored t.value v.value_is)).0 g };
                 front = rest_moved (entry_bytes value) bytes k.rest rest both.front l;
                 next_is = sym e.place_is ∙ both.next_is;
               })

@@ -15,3 +15,4 @@ pub mod EntryTrips
 pub mod MessageTrips
 pub mod ReadWritten
 pub mod Shapes
+pub mod ShortTriples

@@ -40,6 +40,15 @@ pub each_both : {X : Type 0} (P Q R : X → Type 0) → ((x : X) → P x → Q x
 each_both P Q R both [] p q = tt
 each_both P Q R both (x ∷ xs) p q = (both x p.0 q.0, each_both P Q R both xs p.1 q.1)
 
+-- ticks of the grammar are from 1 on
+from_one : (ticks : List (List ℕ × ℕ)) → AllByRecursion AreTicks ticks → AllByRecursion (λ (entry : List ℕ × ℕ). 1 ≤ entry.1) ticks
+from_one [] a = tt
+from_one (entry ∷ ticks) a = (a.0.positive, from_one ticks a.1)
+
+-- a clock of the grammar is a clock
+pub clock_of_stored : (ticks : List (List ℕ × ℕ)) → IsStoredClock ticks → IsClock ticks
+clock_of_stored ticks is = record { ascending = is.ascending; positive = from_one ticks is.each }
+
 -- a clock whose ticks may be written
 pub clock_stored : (ticks : List (List ℕ × ℕ)) → IsShort ticks → IsClock ticks → AllByRecursion HaveShape ticks → IsStoredClock ticks
 clock_stored ticks short clock shape = record {

@@ -57,7 +57,7 @@ is_ascending order (item ∷ items) = list_all (λ later. is_lt (order item late
 abbrev pub is_in : Range → Dot → Bool
 is_in range dot = pointwise nat_eq dot.path range.path && nat_le range.first dot.tick && nat_le dot.tick range.last
 
--- the invariant of an entry as a test
+-- the invariant of an entry whose time is a clock, as a test
 unfoldable pub is_entry : EntryValue → Bool
 is_entry entry =
     (nat_le 1 entry.range.first && nat_le entry.range.first entry.range.last && ticks_of entry.time entry.range.path == entry.range.last)

@@ -139,10 +139,9 @@ fn add_last(clock: &mut Clock, dot: &Dot) -> Result<(), AllocError>
 {
     clock.reserve(&dot.path)?;
 
-    // Each look-up says that the clock is in order.
+    // The look-up says that the clock is in order.
     let _before = clock.ticks(&dot.path);
     clock.raise(dot);
-    let _after = clock.ticks(&dot.path);
     Ok(())
 }
 

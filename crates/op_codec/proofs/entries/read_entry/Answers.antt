@@ -7,6 +7,7 @@ use Rattle.op_codec.proofs.EntryLaws.{HasParts, entry_read, entry_missed}
 use Rattle.op_codec.specs.Stored.{IsStoredEntry}
 use Rattle.op_codec.proofs.EntryTrips.{entry_one}
 use Rattle.op_codec.proofs.ReadWritten.{written_if_read}
+use Rattle.op_codec.proofs.Shapes.{clock_of_stored}
 use Rattle.op_codec.proofs.entries.read_entry.Goals as goal
 
 pub returns-in-Some-clause-agrees : goal.returns-in-Some-clause-agrees
@@ -36,7 +37,7 @@ returns-in-None-clause-agrees c =
       deletes = c.in_ok-deletes.ensures;
       inserts = c.in_ok-inserts.ensures;
     } in
-    entry_missed c.args.input.now c.args.at entry c.in_ok-inserts.end parts (λ e. false≢true (c.in-None.ensures.some.1 e))
+    entry_missed c.args.input.now c.args.at entry c.in_ok-inserts.end parts (clock_of_stored entry.time c.in_ok-time.ensures.written.value_is) (λ e. false≢true (c.in-None.ensures.some.1 e))
 
 pub returns-in-Some-clause-written : goal.returns-in-Some-clause-written
 returns-in-Some-clause-written c =
