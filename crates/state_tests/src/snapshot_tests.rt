@@ -5,10 +5,9 @@ ghost use Rattle.tree_clock.specs.Clock.{Covers};
 
 use crate::states::{clock, has_just, have_dots, left, pair, right, set};
 use mld_ops::{Snapshot, Tagged};
-use snapshot::{join, of_state};
 use std::alloc::{AllocError, Global};
 use std::test::Fail;
-use suset::TaggedSet;
+use suset::{TaggedSet, join, of_state};
 use tree_clock::Clock;
 
 // The snapshot of one who knows the dots of a clock, and has a pair.

@@ -1,4 +1,5 @@
 pub mod JoinedStates
+pub mod JoinedWith
 mod Steps
 mod Walking
 mod Joining

@@ -1,3 +1,4 @@
 pub mod StateJoin
 pub mod Walks
 pub mod JoinLaws
+pub mod SnapshotJoin

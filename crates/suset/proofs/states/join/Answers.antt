@@ -1,7 +1,7 @@
 use Rattle.std.proofs.Common.{rules}
 use Rattle.mld_ops.specs.Messages.{snapshot_value}
-use Rattle.snapshot.proofs.JoinedWith.{joined_covered}
-use Rattle.snapshot.proofs.states.join.Goals as goal
+use Rattle.suset.proofs.JoinedWith.{joined_covered}
+use Rattle.suset.proofs.states.join.Goals as goal
 
 pub returns-clause-joined : goal.returns-clause-joined
 returns-clause-joined c = record { known = search rules; pairs = search rules }

@@ -3,12 +3,12 @@ ghost use Rattle.std.specs.Prelude.{◌≡◌, IfOk};
 ghost use Rattle.mld_ops.specs.Messages.{snapshot_value, IsGoodSnapshot};
 ghost use Rattle.mld_ops.specs.Tagged.{tagged_cmp};
 ghost use Rattle.mld_ops.specs.declared.tagged.Tagged.{Tagged};
-ghost use Rattle.snapshot.specs.SnapshotJoin.{CoversAll, IsJoinedWith};
+ghost use Rattle.suset.specs.SnapshotJoin.{CoversAll, IsJoinedWith};
 ghost use Rattle.tree_clock.specs.Lists.{IsAscending};
 
+use crate::sets::TaggedSet;
 use mld_ops::{Snapshot, Tagged};
 use std::alloc::{AllocError, Global};
-use suset::TaggedSet;
 use tree_clock::Clock;
 
 /// What both know and have: the clock with the dots of both, and the join of their pairs.

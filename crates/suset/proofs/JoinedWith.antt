@@ -8,7 +8,7 @@ use Rattle.mld_ops.specs.History.{Operation}
 use Rattle.mld_ops.specs.Messages.{SnapshotValue, IsGoodSnapshot}
 use Rattle.suset.specs.JoinLaws.{IsStateOf}
 use Rattle.suset.proofs.JoinedStates.{state_of_join}
-use Rattle.snapshot.specs.SnapshotJoin.{CoversAll, IsJoinedWith}
+use Rattle.suset.specs.SnapshotJoin.{CoversAll, IsJoinedWith}
 
 -- the pairs are covered by the clock where both sides' pairs were
 pub joined_covered : (own : List (List ℕ × ℕ)) (mine : List Tagged) (snapshot : SnapshotValue) (ticks : List (List ℕ × ℕ)) (new : List Tagged)
