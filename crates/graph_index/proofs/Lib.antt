@@ -2,4 +2,5 @@ pub mod Changing
 pub mod Finding
 pub mod Keys
 pub mod Ranging
+pub mod Scanning
 pub mod Sorting

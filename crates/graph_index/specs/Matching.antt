@@ -1,5 +1,5 @@
 -- Which pairs match, by the parts of their triples, and which have a triple.
-use Rattle.std.specs.Prelude.{ℕ, List, Bool, true, ◌&&◌, nat_eq, nat_le, Option, None, Some, map}
+use Rattle.std.specs.Prelude.{ℕ, List, [], ◌∷◌, ◌↔◌, Bool, true, ◌&&◌, IsTrue, nat_eq, nat_le, Option, None, Some, map}
 use Rattle.std.specs.Cmp.Lexicographic.{pointwise}
 use Rattle.std.specs.List.{filter}
 use Rattle.std.specs.Ordering.{eq_by_cmp, is_lt, is_le}
@@ -25,6 +25,16 @@ is_term (Some given) term = eq_by_cmp term_cmp given term
 -- the pair's triple has the parts that are given
 abbrev pub matches : Option (List ℕ) → Option (List ℕ) → Option Term → Tagged → Bool
 matches s p o pair = has_iri s pair.triple.s && (has_iri p pair.triple.p && is_term o pair.triple.o)
+
+-- no pair stands twice in the list
+abbrev pub HasNoRepeat : List Tagged → Type 0
+HasNoRepeat [] = Unit {0}
+HasNoRepeat (pair ∷ pairs) = (¬ Has pairs pair) × HasNoRepeat pairs
+
+-- those of the pairs that pass the test are found, each once, in whatever order
+pub record FindsEach (test : Tagged → Bool) (pairs found : List Tagged) : Type 0 where
+  pub members : (pair : Tagged) → Has found pair ↔ (Has pairs pair × IsTrue (test pair))
+  pub once : HasNoRepeat found
 
 -- the pair has the triple
 abbrev pub is_of : Triple → Tagged → Bool

@@ -25,8 +25,8 @@ pub(crate) fn apply_to(pairs: &mut Chunked<Tagged>, index: &mut DotIndex, cut: C
     add_all(&PairOrder, pairs, &mut rest);
 }
 
-// Takes out those of the pairs that are there.
-fn remove_all(pairs: &mut Chunked<Tagged>, drops: &[Tagged])
+/// Takes out those of the pairs that are there.
+pub(crate) fn remove_all(pairs: &mut Chunked<Tagged>, drops: &[Tagged])
     requires { IsAscending tagged_cmp pairs.old.elements }
     ensures ascending { IsAscending tagged_cmp pairs.new.elements }
     ensures members { (pair : Tagged) → Has pairs.new.elements pair ↔ (Has pairs.old.elements pair × ¬ Has drops.now pair) }

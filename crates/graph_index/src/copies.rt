@@ -31,6 +31,31 @@ fn add_copies(list: &mut Vec<Tagged>, pairs: &[Tagged]) -> Result<(), AllocError
     Ok(())
 }
 
+/// The pairs in chunks, of which there are so many, where they stand.
+pub(crate) fn lend_chunks<'a>(
+    alloc: Global,
+    chunks: &'a [Chunk<Tagged>],
+    count: usize,
+) -> Result<Vec<&'a Tagged>, AllocError>
+    ensures { IfOk result (λ list. map (λ x. x.now) list.items ≡ joined_chunks chunks.now) }
+{
+    let mut list = Vec::with_capacity(alloc, count)?;
+    for chunk in chunks {
+        add_lent(&mut list, chunk.as_slice())?;
+    }
+    Ok(list)
+}
+
+// Adds pairs where they stand.
+fn add_lent<'a>(list: &mut Vec<&'a Tagged>, pairs: &'a [Tagged]) -> Result<(), AllocError>
+    ensures { OnOk result (map (λ x. x.now) list.new.items ≡ map (λ x. x.now) list.old.items ++ pairs.now) }
+{
+    for pair in pairs {
+        list.push(pair)?;
+    }
+    Ok(())
+}
+
 /// A copy of the pairs that were found.
 pub(crate) fn copy_found(alloc: Global, found: &[&Tagged]) -> Result<Vec<Tagged>, AllocError>
     ensures { IfOk result (λ list. list.items ≡ map (λ x. x.now) found.now) }

@@ -1,21 +1,22 @@
 //! The pairs of a clone.
-ghost use Rattle.std.specs.Prelude.{◌≡◌, ◌↔◌, ◌≤◌, [], length, map, IsTrue, IfOk, OnOk, vec_len};
+ghost use Rattle.std.specs.Prelude.{◌≡◌, ◌↔◌, [], length, map, IsTrue, IfOk, OnOk};
 ghost use Rattle.std.specs.List.{filter};
 ghost use Rattle.std.specs.Option.{option_copied};
-ghost use Rattle.chunked_list.specs.Joined.{joined_chunks};
-ghost use Rattle.graph_index.specs.Matching.{is_of, matches, dots_of, HasTriple};
+ghost use Rattle.graph_index.specs.Graphs.{Fits};
+ghost use Rattle.graph_index.specs.Matching.{is_of, matches, dots_of, FindsEach, HasTriple};
 ghost use Rattle.mld_ops.specs.Applies.{Applies};
 ghost use Rattle.mld_ops.specs.Tagged.{tagged_cmp};
+ghost use Rattle.mld_ops.specs.declared.cuts.Cut.{Cut};
 ghost use Rattle.tree_clock.specs.Lists.{IsAscending};
 
 use crate::changes::apply_to;
-use crate::copies::{copy_chunks, copy_found, dots_found};
+use crate::copies::{copy_chunks, copy_found, dots_found, lend_chunks};
 use crate::dot_index::{DotIndex, get_ready, no_index};
 use crate::matching::{BeforeTriple, Matching, UpToTriple};
 use crate::pair_order::PairOrder;
 use crate::ranges::of_range_in;
 use crate::steps::Steps;
-use chunked_list::{Chunk, Chunked};
+use chunked_list::Chunked;
 use mld_ops::{Cut, Tagged, Tags};
 use rdf_terms::{Iri, Term, Triple};
 use std::alloc::{AllocError, Global};
@@ -23,7 +24,7 @@ use std::marker::Model;
 use std::sync::ledger::Ledger;
 use tree_clock::{Dot, Range};
 
-/// The pairs of a clone. Contracts see them as an ascending list, and how many more can come in without memory.
+/// The pairs of a clone: a set. Contracts see them as an ascending list, and whether there is room for a cut.
 #[derive(Drop)]
 pub struct Graph {
     pairs: Chunked<Tagged>,
@@ -31,13 +32,12 @@ pub struct Graph {
 }
 
 impl Model for Graph {
-    ghost use Rattle.chunked_list.specs.Room.{ChunkedValue};
+    ghost use Rattle.graph_index.specs.Graphs.{GraphValue};
     ghost use Rattle.graph_index.specs.Indexing.{IsGraph};
-    ghost use Rattle.mld_ops.specs.declared.tagged.Tagged.{Tagged};
 
-    ghost Value = { ChunkedValue Tagged };
+    ghost Value = { GraphValue };
 
-    ghost view = { λ graph. graph.pairs };
+    ghost view = { λ graph. record { pairs = graph.pairs.elements; room = graph.pairs.room } };
 
     ghost invariant = { λ graph. IsGraph graph.pairs.elements graph.index };
 }
@@ -45,7 +45,7 @@ impl Model for Graph {
 impl Graph {
     /// No pair.
     pub fn empty(alloc: Global) -> Graph
-        ensures { result.elements ≡ [] }
+        ensures { result.pairs ≡ [] }
     {
         Graph {
             pairs: Chunked::new(alloc),
@@ -56,7 +56,7 @@ impl Graph {
     /// The graph of these pairs, which ascend.
     pub fn from_list(alloc: Global, list: Vec<Tagged>) -> Result<Graph, AllocError>
         requires { IsAscending tagged_cmp list.items }
-        ensures { IfOk result (λ graph. graph.elements ≡ list.items) }
+        ensures { IfOk result (λ graph. graph.pairs ≡ list.items) }
     {
         Ok(Graph {
             pairs: Chunked::from_vec(alloc, list)?,
@@ -66,31 +66,31 @@ impl Graph {
 
     /// Its pairs, ascending.
     pub fn to_list(&self, alloc: Global) -> Result<Vec<Tagged>, AllocError>
-        ensures pairs { IfOk result (λ list. list.items ≡ self.now.elements) }
-        ensures ascending { IsAscending tagged_cmp self.now.elements }
+        ensures pairs { IfOk result (λ list. list.items ≡ self.now.pairs) }
+        ensures ascending { IsAscending tagged_cmp self.now.pairs }
     {
         copy_chunks(alloc, self.pairs.chunks())
     }
 
-    /// Its pairs in chunks, ascending.
-    pub fn chunks(&self) -> &[Chunk<Tagged>]
-        ensures { joined_chunks result.now ≡ self.now.elements }
+    /// Its pairs, ascending, where they stand.
+    pub fn in_order(&self, alloc: Global) -> Result<Vec<&Tagged>, AllocError>
+        ensures { IfOk result (λ list. map (λ x. x.now) list.items ≡ self.now.pairs) }
     {
-        self.pairs.chunks()
+        lend_chunks(alloc, self.pairs.chunks(), self.pairs.len())
     }
 
     /// The number of pairs. It takes no memory.
     pub fn count(&self) -> usize
-        ensures { result ≡ length self.now.elements }
+        ensures { result ≡ length self.now.pairs }
     {
         self.pairs.len()
     }
 
     /// Makes room for the pairs that a cut adds.
     pub fn prepare(&mut self, alloc: Global, cut: &Cut) -> Result<(), AllocError>
-        ensures pairs { self.new.elements ≡ self.old.elements }
-        ensures ok { OnOk result (vec_len cut.now.adds ≤ self.new.room) }
-        ensures kept { self.old.room ≤ self.new.room }
+        ensures pairs { self.new.pairs ≡ self.old.pairs }
+        ensures ok { OnOk result (Fits cut.now self.new) }
+        ensures kept { (other : Cut) → Fits other self.old → Fits other self.new }
     {
         self.pairs.prepare(alloc, cut.adds.len())?;
         get_ready(alloc, &mut self.index, self.pairs.chunks(), &cut.adds)
@@ -98,13 +98,13 @@ impl Graph {
 
     /// Loses the pairs that a cut drops, and then gains those that it adds. It takes no memory.
     pub fn apply(&mut self, cut: Cut)
-        requires { vec_len cut.adds ≤ self.old.room }
-        ensures { Applies cut.drops.items cut.adds.items self.old.elements self.new.elements }
+        requires { Fits cut self.old }
+        ensures { Applies cut.drops.items cut.adds.items self.old.pairs self.new.pairs }
     {
         apply_to(&mut self.pairs, &mut self.index, cut);
     }
 
-    /// The pairs whose triple has the given parts, in order.
+    /// The pairs whose triple has the given parts, each once, in whatever order.
     pub fn scan<L: Ledger>(
         &self,
         alloc: Global,
@@ -113,15 +113,15 @@ impl Graph {
         o: Option<&Term>,
         _steps: &mut Steps<L>,
     ) -> Result<Vec<&Tagged>, AllocError>
-        ensures { IfOk result (λ found. map (λ x. x.now) found.items
-            ≡ filter (matches (option_copied s.entry) (option_copied p.entry) (option_copied o.entry)) self.now.elements) }
+        ensures { IfOk result (λ found. FindsEach (matches (option_copied s.entry) (option_copied p.entry) (option_copied o.entry))
+            self.now.pairs (map (λ x. x.now) found.items)) }
     {
         self.pairs.filtered(alloc, &Matching { s, p, o })
     }
 
     /// Whether some pair has the triple. It takes no memory.
     pub fn has_triple(&self, triple: &Triple) -> bool
-        ensures { IsTrue result ↔ HasTriple self.now.elements triple.now }
+        ensures { IsTrue result ↔ HasTriple self.now.pairs triple.now }
     {
         match self.pairs.first_from(&BeforeTriple { triple }) {
             Some(pair) => pair.triple == *triple,
@@ -131,7 +131,7 @@ impl Graph {
 
     /// The pairs with the triple, ascending.
     pub fn of_triple(&self, alloc: Global, triple: &Triple) -> Result<Vec<Tagged>, AllocError>
-        ensures { IfOk result (λ list. list.items ≡ filter (is_of triple.now) self.now.elements) }
+        ensures { IfOk result (λ list. list.items ≡ filter (is_of triple.now) self.now.pairs) }
     {
         let pairs = self.with_triple(alloc, triple)?;
         copy_found(alloc, &pairs)
@@ -139,7 +139,7 @@ impl Graph {
 
     /// The dots of the pairs with the triple, ascending.
     pub fn tags_of(&self, alloc: Global, triple: &Triple) -> Result<Vec<Dot>, AllocError>
-        ensures { IfOk result (λ dots. dots.items ≡ dots_of triple.now self.now.elements) }
+        ensures { IfOk result (λ dots. dots.items ≡ dots_of triple.now self.now.pairs) }
     {
         let pairs = self.with_triple(alloc, triple)?;
         dots_found(alloc, &pairs)
@@ -147,7 +147,7 @@ impl Graph {
 
     // The pairs with the triple, ascending. It looks at no others but those that a search by halves meets.
     fn with_triple(&self, alloc: Global, triple: &Triple) -> Result<Vec<&Tagged>, AllocError>
-        ensures { IfOk result (λ found. map (λ x. x.now) found.items ≡ filter (is_of triple.now) self.now.elements) }
+        ensures { IfOk result (λ found. map (λ x. x.now) found.items ≡ filter (is_of triple.now) self.now.pairs) }
     {
         self.pairs
             .between(alloc, &BeforeTriple { triple }, &UpToTriple { triple })
@@ -155,7 +155,7 @@ impl Graph {
 }
 
 impl Tags for Graph {
-    ghost pairs = { λ graph. graph.elements };
+    ghost pairs = { λ graph. graph.pairs };
 
     fn has(&self, pair: &Tagged) -> bool {
         self.pairs.contains(&PairOrder, pair)

@@ -8,8 +8,10 @@ mod dot_index;
 mod graphs;
 mod matching;
 mod pair_order;
+mod pair_sets;
 mod ranges;
 mod steps;
 
 pub use graphs::Graph;
+pub use pair_sets::PairSet;
 pub use steps::Steps;

@@ -32,8 +32,8 @@ pub(crate) fn of_range_in(
     }
 }
 
-// Those of the pairs, each of which is looked at.
-fn found_among_all(
+/// Those of the pairs, each of which is looked at.
+pub(crate) fn found_among_all(
     alloc: Global,
     pairs: &Chunked<Tagged>,
     range: &Range,

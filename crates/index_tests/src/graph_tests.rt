@@ -1,9 +1,9 @@
-//! A graph that is asked, changed by a cut, and asked again.
+//! A graph that is asked, changed by a cut, and asked again; and a small set that is changed twice.
 ghost use Rattle.std.specs.Prelude.{◌≡◌, ◌<◌, IfOk};
 ghost use Rattle.mld_ops.specs.Tagged.{tagged_cmp};
 ghost use Rattle.tree_clock.specs.Lists.{IsAscending};
 
-use graph_index::{Graph, Steps};
+use graph_index::{Graph, PairSet, Steps};
 use mld_ops::{Cut, Tagged, Tags, insert_pair};
 use rdf_terms::{Iri, Term, read_triple};
 use std::alloc::{AllocError, Global};
@@ -73,12 +73,17 @@ fn have_ticks(pairs: &[Tagged], ticks: &[u32]) -> bool {
 
 // Whether the graph has these ticks, in order.
 fn has_just(alloc: Global, graph: &Graph, ticks: &[u32]) -> Result<bool, AllocError> {
-    let list = graph.to_list(alloc)?;
-    Ok(graph.count() == ticks.len() && have_ticks(&list, ticks))
+    let list = Box::new(alloc, graph.to_list(alloc)?)?;
+    let lent = Box::new(alloc, graph.in_order(alloc)?)?;
+    let same = list
+        .iter()
+        .zip(lent.iter())
+        .all(|(own, there)| *own == **there);
+    Ok(graph.count() == lent.len() && same && have_ticks(&list, ticks))
 }
 
 // Whether the pairs of ticks 3 to 5 are these.
-fn has_of_range(alloc: Global, graph: &Graph, ticks: &[u32]) -> Result<bool, AllocError> {
+fn has_of_range<T: Tags>(alloc: Global, graph: &T, ticks: &[u32]) -> Result<bool, AllocError> {
     let range = Range {
         path: Path::root(),
         first: 3,
@@ -140,12 +145,34 @@ fn is_scanned(alloc: Global, graph: &Graph) -> Result<bool, Fail> {
 fn a_cut_drops_before_it_adds(rt: HostRuntime) -> Result<(), Fail> {
     let alloc = rt.alloc();
     let mut graph = Box::new(alloc, begun(alloc)?)?;
-    assert!(rt; has_just(alloc, &graph, &[1, 2, 7, 4])? && has_of_range(alloc, &graph, &[4])?);
+    assert!(rt; has_just(alloc, &graph, &[1, 2, 7, 4])? && has_of_range(alloc, &*graph, &[4])?);
     change(alloc, &mut graph)?;
     assert!(rt; has_just(alloc, &graph, &[2, 7, 5, 3, 4])?);
-    assert!(rt; has_of_range(alloc, &graph, &[5, 3, 4])?);
+    assert!(rt; has_of_range(alloc, &*graph, &[5, 3, 4])?);
     assert!(rt; has(alloc, &graph, (XA, 1))? == (false, true));
     assert!(rt; has(alloc, &graph, (YB, 4))? == (true, true));
     assert!(rt; has_tags(alloc, &graph)? && is_scanned(alloc, &graph)?);
+    Ok(())
+}
+
+// A set that gains three pairs, and then loses two, one of which it gains again with another.
+fn changed_set(alloc: Global) -> Result<PairSet, Fail> {
+    let mut set = Box::new(alloc, PairSet::empty(alloc))?;
+    let drops = Vec::new(alloc);
+    let adds = pairs(alloc, &[(XA, 1), (XA, 7), (YB, 4)])?;
+    set.change(alloc, Cut { drops, adds })?;
+    let drops = pairs(alloc, &[(XA, 1), (YB, 4)])?;
+    let adds = pairs(alloc, &[(XB, 5), (YB, 4)])?;
+    set.change(alloc, Cut { drops, adds })?;
+    Ok(Box::into_inner(set))
+}
+
+#[test]
+fn a_small_set_loses_before_it_gains(rt: HostRuntime) -> Result<(), Fail> {
+    let alloc = rt.alloc();
+    let set = Box::new(alloc, changed_set(alloc)?)?;
+    let list = Box::new(alloc, set.to_list(alloc)?)?;
+    assert!(rt; have_ticks(&list, &[7, 5, 4]) && has_of_range(alloc, &*set, &[5, 4])?);
+    assert!(rt; set.has(&pair(alloc, (YB, 4))?) && !set.has(&pair(alloc, (XA, 1))?));
     Ok(())
 }

@@ -6,7 +6,7 @@ pub first_from-requires : goal.first_from-requires
 first_from-requires c = before_triple c.args.triple.now c.self.inside.pairs.elements c.self.invariant.ascending
 
 pub returns-in-Some : goal.returns-in-Some
-returns-in-Some c = first_some c.args.triple.now c.self.inside.pairs.elements c.args.self.now.elements c.in-Some.pair.now c.eq.result (ap (λ w. w.elements) c.self.view_is) c.self.invariant.ascending c.in-Some.ensures c.eq.ensures
+returns-in-Some c = first_some c.args.triple.now c.self.inside.pairs.elements c.args.self.now.pairs c.in-Some.pair.now c.eq.result (ap (λ w. w.pairs) c.self.view_is) c.self.invariant.ascending c.in-Some.ensures c.eq.ensures
 
 pub returns-in-None : goal.returns-in-None
-returns-in-None c = first_none c.args.triple.now c.self.inside.pairs.elements c.args.self.now.elements (ap (λ w. w.elements) c.self.view_is) c.self.invariant.ascending c.in-None.ensures
+returns-in-None c = first_none c.args.triple.now c.self.inside.pairs.elements c.args.self.now.pairs (ap (λ w. w.pairs) c.self.view_is) c.self.invariant.ascending c.in-None.ensures

@@ -13,4 +13,4 @@ between-requires-clause-second c = up_to_triple c.args.triple.now c.self.inside.
 
 pub returns : goal.returns
 returns c =
-    ok_weaker c.between.result (λ found e. e ∙ with_triple_between c.args.triple.now c.self.inside.pairs.elements ∙ ap (λ w. filter (is_of c.args.triple.now) w.elements) c.self.view_is) c.between.ensures
+    ok_weaker c.between.result (λ found e. e ∙ with_triple_between c.args.triple.now c.self.inside.pairs.elements ∙ ap (λ w. filter (is_of c.args.triple.now) w.pairs) c.self.view_is) c.between.ensures
