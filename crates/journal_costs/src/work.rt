@@ -147,9 +147,9 @@ fn append_entry(
     journal: &mut Journal<PlainBanks>,
     entry: &Entry,
 ) -> Result<(), CostFault> {
-    if !is_short_entry(alloc, entry)? {
+    if !is_short_entry(entry) {
         return Err(CostFault::NoEntry);
     }
-    journal.append_entry(alloc, entry)?;
+    journal.append_entry(entry)?;
     Ok(())
 }

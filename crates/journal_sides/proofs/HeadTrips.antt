@@ -51,7 +51,7 @@ props_one place bytes props next rest b h =
 
 -- the head of these parts, with its generation
 abbrev opening_of : ℕ → List ℕ → List ℕ → List (List ℕ) → List ℕ → SnapshotValue → Opening
-opening_of generation id domain props path base = record { generation = generation; head = record { id = id; domain = domain; props = props; path = path; base = base } }
+opening_of generation id domain props path base = record { generation = generation; head = record { id = id; domain = domain; properties = props; path = path; base = base } }
 
 -- what is read behind each part
 abbrev behind_path : ℕ → List ℕ → List ℕ → List (List ℕ) → List ℕ → ℕ → List ℕ → Reading Opening
@@ -79,14 +79,14 @@ unfolding head_bytes read_head
 head_back opening place rest is =
     let g = opening.generation in
     let h = opening.head in
-    let six : (at : ℕ) → behind_props g h.id h.domain h.props at ((path_bytes h.path ++ snapshot_bytes h.base) ++ rest) ≡ Found opening (at + length (path_bytes h.path ++ snapshot_bytes h.base)) rest =
-    λ at. then_back read_path (behind_path g h.id h.domain h.props) at (path_bytes h.path) (snapshot_bytes h.base) rest h.path opening (path_back h.path at (snapshot_bytes h.base ++ rest) is.head.path)
-    (map_back (read_snapshot (at + length (path_bytes h.path)) (snapshot_bytes h.base ++ rest)) (opening_of g h.id h.domain h.props h.path) h.base (at + length (path_bytes h.path) + length (snapshot_bytes h.base)) rest
+    let six : (at : ℕ) → behind_props g h.id h.domain h.properties at ((path_bytes h.path ++ snapshot_bytes h.base) ++ rest) ≡ Found opening (at + length (path_bytes h.path ++ snapshot_bytes h.base)) rest =
+    λ at. then_back read_path (behind_path g h.id h.domain h.properties) at (path_bytes h.path) (snapshot_bytes h.base) rest h.path opening (path_back h.path at (snapshot_bytes h.base ++ rest) is.head.path)
+    (map_back (read_snapshot (at + length (path_bytes h.path)) (snapshot_bytes h.base ++ rest)) (opening_of g h.id h.domain h.properties h.path) h.base (at + length (path_bytes h.path) + length (snapshot_bytes h.base)) rest
     (snapshot_back h.base (at + length (path_bytes h.path)) rest is.head.base)) in
     let last : List ℕ = path_bytes h.path ++ snapshot_bytes h.base in
-    let five : (at : ℕ) → behind_domain g h.id h.domain at ((props_bytes h.props ++ last) ++ rest) ≡ Found opening (at + length (props_bytes h.props ++ last)) rest =
-    λ at. then_back read_props (behind_props g h.id h.domain) at (props_bytes h.props) last rest h.props opening (props_back h.props at (last ++ rest) is.head.props) (six (at + length (props_bytes h.props))) in
-    let more : List ℕ = props_bytes h.props ++ last in
+    let five : (at : ℕ) → behind_domain g h.id h.domain at ((props_bytes h.properties ++ last) ++ rest) ≡ Found opening (at + length (props_bytes h.properties ++ last)) rest =
+    λ at. then_back read_props (behind_props g h.id h.domain) at (props_bytes h.properties) last rest h.properties opening (props_back h.properties at (last ++ rest) is.head.props) (six (at + length (props_bytes h.properties))) in
+    let more : List ℕ = props_bytes h.properties ++ last in
     let four : (at : ℕ) → behind_id g h.id at ((piece_bytes h.domain ++ more) ++ rest) ≡ Found opening (at + length (piece_bytes h.domain ++ more)) rest =
     λ at. then_back (read_text is_domain) (behind_domain g h.id) at (piece_bytes h.domain) more rest h.domain opening (text_back is_domain h.domain at (more ++ rest) is.head.name) (five (at + length (piece_bytes h.domain))) in
     let named : List ℕ = piece_bytes h.domain ++ more in

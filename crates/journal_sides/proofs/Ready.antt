@@ -6,7 +6,7 @@ use Rattle.std.proofs.lemmas.Slice.Eq.{bytes_eq-Decides}
 use Rattle.std.specs.Cmp.Lexicographic.{pointwise}
 use Rattle.mld_ops.specs.Entry.{EntryValue, IsEntry}
 use Rattle.mld_ops.specs.Ready.{last_dot, IsReadyEntry}
-use Rattle.tree_clock.specs.Clock.{ticks_of, Covers, IsClock, entry_cmp}
+use Rattle.tree_clock.specs.Clock.{ticks_of, Covers, entry_cmp}
 use Rattle.tree_clock.proofs.ClockLaws.{same_test, apart_test, ticks_of-below}
 use Rattle.tree_clock.specs.Dot.{IsIn}
 use Rattle.tree_clock.specs.Lists.{IsAscending}
@@ -72,10 +72,10 @@ module _ (ticks : List (List ℕ × ℕ)) (path : List ℕ) where
 -- ---- entries
 
 -- an entry that is ready passes its test
-pub ready_tested : (ticks : List (List ℕ × ℕ)) (entry : EntryValue) → IsEntry entry → IsClock entry.time → IsReadyEntry ticks entry → is_ready_entry ticks entry ≡ true
+pub ready_tested : (ticks : List (List ℕ × ℕ)) (entry : EntryValue) → IsEntry entry → IsReadyEntry ticks entry → is_ready_entry ticks entry ≡ true
 unfolding is_ready_entry
-ready_tested ticks entry is clock ready =
-    and_from _ _ (and_from _ _ unknown (le-leb entry.range.first (ticks_of ticks entry.range.path + 1) ready.before)) (known_elsewhere ticks entry.range.path entry.time clock.ascending known)
+ready_tested ticks entry is ready =
+    and_from _ _ (and_from _ _ unknown (le-leb entry.range.first (ticks_of ticks entry.range.path + 1) ready.before)) (known_elsewhere ticks entry.range.path entry.time is.clock.ascending known)
   where
     unknown : not (leb entry.range.last (ticks_of ticks entry.range.path)) ≡ true
     unknown = elim (leb_tells entry.range.last (ticks_of ticks entry.range.path)) [
@@ -93,9 +93,9 @@ ready_tested ticks entry is clock ready =
             (ready.time dot (record { positive = omega arith; within = omega (arith, e) }) (λ inside. n inside.path)).within
 
 -- what passes the test is ready
-pub test_ready : (ticks : List (List ℕ × ℕ)) (entry : EntryValue) → IsEntry entry → IsClock entry.time → is_ready_entry ticks entry ≡ true → IsReadyEntry ticks entry
+pub test_ready : (ticks : List (List ℕ × ℕ)) (entry : EntryValue) → IsEntry entry → is_ready_entry ticks entry ≡ true → IsReadyEntry ticks entry
 unfolding is_ready_entry
-test_ready ticks entry is clock t = by (and_parts _ _ t)
+test_ready ticks entry is t = by (and_parts _ _ t)
   where
     by : ((not (leb entry.range.last (ticks_of ticks entry.range.path)) && leb entry.range.first (ticks_of ticks entry.range.path + 1)) ≡ true) × (is_known_elsewhere ticks entry.range.path entry.time ≡ true) → IsReadyEntry ticks entry
     by parts = record {

@@ -21,7 +21,6 @@ use Rattle.journal_sides.specs.Format.{entry_record_kind, fork_kind}
 use Rattle.journal_sides.specs.Heads.{HeadValue}
 use Rattle.journal_sides.specs.Records.{RecordValue, EntryRecord, ForkRecord, entries_in, path_after, raised_to, known_after, is_ready_entry, next_entry, read_entry_record, read_record_body, read_record, read_records}
 use Rattle.journal_sides.proofs.Ready.{ready_tested, test_ready, ready_same}
-use Rattle.journal_sides.proofs.RecordTrips.{clock_of_stored}
 
 -- ---- one record more
 
@@ -90,7 +89,7 @@ module _ (head : HeadValue) (records : List RecordValue) (input : List ℕ) (ent
       → Shows head (records ++ EntryRecord entry ∷ []) more after raised → TakesRecord head records (read_entry_record head records at (drop at input)) input more after raised end
   entry_taken at end entry more after raised r stored ready shown =
       let known : List (List ℕ × ℕ) = known_after head.base.ticks (entries_in records) in
-      let t = ready_tested known entry stored.entry_kept (clock_of_stored entry.time stored.time) (ready_same ticks known entry shows.ticks_are ready) in
+      let t = ready_tested known entry stored.entry_kept (ready_same ticks known entry shows.ticks_are ready) in
       record {
         taken = EntryRecord entry;
         reads = record {
@@ -106,7 +105,7 @@ module _ (head : HeadValue) (records : List RecordValue) (input : List ℕ) (ent
   entry_unready at end entry r stored unready =
       let known : List (List ℕ × ℕ) = known_after head.base.ticks (entries_in records) in
       elim (cases_Bool (is_ready_entry known entry)) [
-        | inl t ↦ absurd (unready (ready_same known ticks entry (λ p. sym (shows.ticks_are p)) (test_ready known entry stored.entry_kept (clock_of_stored entry.time stored.time) t)))
+        | inl t ↦ absurd (unready (ready_same known ticks entry (λ p. sym (shows.ticks_are p)) (test_ready known entry stored.entry_kept t)))
         | inr f ↦ ap (λ (x : Reading EntryValue). chain x (λ entry' next rest. next_entry known at entry' next rest)) r.found ∙ ap (λ (b : Bool). if b then Found (EntryRecord entry) end (drop end input) else Fault at) f
       ]
 

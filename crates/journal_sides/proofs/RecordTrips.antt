@@ -3,15 +3,12 @@ use Rattle.std.proofs.Common.{◌≡◌, ◌≢◌, ℕ, zero, suc, ◌+◌, ◌
 use Rattle.std.proofs.lemmas.Bool.{cases_Bool, le-leb, and_parts}
 use Rattle.std.proofs.lemmas.Bool.Decides.{eqb_tells, leb_tells}
 use Rattle.std.proofs.lemmas.List.{length-append}
-use Rattle.std.specs.List.{AllByRecursion}
 use Rattle.mld_ops.specs.Entry.{EntryValue}
 use Rattle.op_codec.specs.Entries.{entry_bytes, read_entry}
 use Rattle.op_codec.specs.CodecLaws.{AreBytes}
 use Rattle.op_codec.specs.Reading.{Reading, Found, Fault, chain}
-use Rattle.op_codec.specs.Stored.{IsStoredClock, AreTicks}
 use Rattle.op_codec.proofs.EntryTrips.{entry_back, entry_one}
 use Rattle.op_codec.proofs.Sequences.{Splits, splits, bytes_left, same_parts, fault_found}
-use Rattle.tree_clock.specs.Clock.{IsClock}
 use Rattle.tree_clock.specs.Limits.{path_limit}
 use Rattle.journal_sides.specs.Format.{open_gate, entry_record_kind, fork_kind}
 use Rattle.journal_sides.specs.Heads.{HeadValue}
@@ -19,22 +16,13 @@ use Rattle.journal_sides.specs.Records.{RecordValue, EntryRecord, ForkRecord, re
 use Rattle.journal_sides.specs.StoredVolumes.{IsStoredRecord, AreStoredRecords}
 use Rattle.journal_sides.proofs.Ready.{ready_tested, test_ready}
 
--- ticks of the grammar are from 1 on
-from_one : (ticks : List (List ℕ × ℕ)) → AllByRecursion AreTicks ticks → AllByRecursion (λ (entry : List ℕ × ℕ). 1 ≤ entry.1) ticks
-from_one [] a = tt
-from_one (entry ∷ ticks) a = (a.0.positive, from_one ticks a.1)
-
--- a clock of the grammar is a clock
-pub clock_of_stored : (ticks : List (List ℕ × ℕ)) → IsStoredClock ticks → IsClock ticks
-clock_of_stored ticks is = record { ascending = is.ascending; positive = from_one ticks is.each }
-
 -- a record is read back
 pub record_back : (head : HeadValue) (records : List RecordValue) (next : RecordValue) (place : ℕ) (rest : List ℕ) → IsStoredRecord head records next
     → read_record head records place (record_bytes next ++ rest) ≡ Found next (place + length (record_bytes next)) rest
 unfolding record_bytes read_record_body read_record
 record_back head records (EntryRecord entry) place rest is =
     let ticks : List (List ℕ × ℕ) = known_after head.base.ticks (entries_in records) in
-    let t = ready_tested ticks entry is.0.entry_kept (clock_of_stored entry.time is.0.time) is.1 in
+    let t = ready_tested ticks entry is.0.entry_kept is.1 in
     let e : place + 1 + length (entry_bytes entry) ≡ place + suc (length (entry_bytes entry)) = omega arith in
     ap (λ (r : Reading EntryValue). chain r (λ entry' next left. next_entry ticks (place + 1) entry' next left)) (entry_back entry (place + 1) rest is.0)
     ∙ ap (λ (b : Bool). if b then Found (EntryRecord entry) (place + 1 + length (entry_bytes entry)) rest else Fault (place + 1)) t
@@ -69,7 +57,7 @@ entry_was head records place bytes next end rest b h =
               let at = w.next_is in
               let stop = e.place_is in
               subst (λ (r : RecordValue). WasRecord head records r place (entry_record_kind ∷ bytes) end rest) e.value (record {
-                stored = (w.value_is, test_ready ticks s.value w.value_is.entry_kept (clock_of_stored s.value.time w.value_is.time) t);
+                stored = (w.value_is, test_ready ticks s.value w.value_is.entry_kept t);
                 front = ap (λ (m : List ℕ). entry_record_kind ∷ m) (w.front ∙ ap (λ (m : List ℕ). entry_bytes s.value ++ m) l);
                 end_is = omega arith;
               })

@@ -20,7 +20,7 @@ use Rattle.journal_sides.specs.Format.{head_mark, generation_size, u64_number}
 pub record HeadValue : Type 0 where
   pub id : List ℕ
   pub domain : List ℕ
-  pub props : List (List ℕ)
+  pub properties : List (List ℕ)
   pub path : List ℕ
   pub base : SnapshotValue
 
@@ -28,7 +28,7 @@ abbrev pub head_value : Head → HeadValue
 head_value head = record {
   id = head.id;
   domain = head.domain;
-  props = head.props.items;
+  properties = head.props.items;
   path = head.path;
   base = record { ticks = head.base.ticks; pairs = head.tagged.items };
 }
@@ -48,7 +48,7 @@ props_bytes props = list_bytes piece_bytes props
 unfoldable pub head_bytes : Opening → List ℕ
 head_bytes opening =
     head_mark ++ (u64_bytes opening.generation ++ (opening.head.id ++ (piece_bytes opening.head.domain
-    ++ (props_bytes opening.head.props ++ (path_bytes opening.head.path ++ snapshot_bytes opening.head.base)))))
+    ++ (props_bytes opening.head.properties ++ (path_bytes opening.head.path ++ snapshot_bytes opening.head.base)))))
 
 -- ---- as they are read
 
@@ -86,4 +86,4 @@ read_head place bytes =
     chain (read_props stop fourth) (λ props next fifth.
     chain (read_path next fifth) (λ path more sixth.
     chain (read_snapshot more sixth) (λ base end left.
-    Found (record { generation = generation; head = record { id = id; domain = domain; props = props; path = path; base = base } }) end left)))))))
+    Found (record { generation = generation; head = record { id = id; domain = domain; properties = props; path = path; base = base } }) end left)))))))

@@ -21,8 +21,8 @@ use Rattle.journal_sides.specs.SideReadings.{Volume, volume_bytes}
 -- dots of its ticks, all lists with counts of four bytes
 pub record IsGoodHead (head : HeadValue) : Type 0 where
   pub name : IsTrue (is_domain head.domain)
-  pub props_ascend : IsAscending iri_cmp head.props
-  pub props_count : IsShort head.props
+  pub props_ascend : IsAscending iri_cmp head.properties
+  pub props_count : IsShort head.properties
   pub base : IsGoodSnapshot head.base
   pub short : IsShortSnapshot head.base
 
@@ -44,7 +44,7 @@ pub record IsText (fits : List ℕ → Bool) (text : List ℕ) : Type 0 where
 pub record IsStoredHead (head : HeadValue) : Type 0 where
   pub id : IsId head.id
   pub name : IsText is_domain head.domain
-  pub props : IsList (IsText is_absolute) (IsAscending iri_cmp) head.props
+  pub props : IsList (IsText is_absolute) (IsAscending iri_cmp) head.properties
   pub path : IsPath head.path
   pub base : IsSnapshot head.base
 

@@ -131,16 +131,16 @@ fn append_blocks(out: &mut Vec<u8>, entries: &[Entry]) -> Result<(), AllocError>
     Ok(())
 }
 
-/// The record of an entry with the closed gate behind it.
-pub fn entry_body(alloc: Global, entry: &Entry) -> Result<Vec<u8>, AllocError>
+/// Puts the record of an entry, with the closed gate behind it, in place of what a buffer holds. The room that the buffer has
+/// is kept.
+pub fn fill_entry_body(body: &mut Vec<u8>, entry: &Entry) -> Result<(), AllocError>
     requires { IsShortEntry entry.now }
-    ensures ok { IfOk result (λ body. body.items ≡ record_bytes (EntryRecord entry.now) ++ closed_gate ∷ []) }
+    ensures ok { OnOk result (body.new.items ≡ record_bytes (EntryRecord entry.now) ++ closed_gate ∷ []) }
     ensures stored { OnOk result (IsStoredEntry entry.now) }
 {
-    let mut body = Vec::new(alloc);
-    append_record(&mut body, entry)?;
-    put_u8(&mut body, CLOSED_GATE)?;
-    Ok(body)
+    body.clear();
+    append_record(body, entry)?;
+    put_u8(body, CLOSED_GATE)
 }
 
 /// What stands behind the first gate of a side that has a head and entries, with the closed gate behind it.

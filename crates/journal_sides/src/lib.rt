@@ -8,7 +8,7 @@ mod laws;
 mod record_reading;
 mod side_reading;
 
-pub use head_writing::{FORK_BODY, entry_body, side_body};
+pub use head_writing::{FORK_BODY, fill_entry_body, side_body};
 pub use heads::Head;
 pub use laws::one_volume;
 pub use side_reading::{Found, is_opened, read_volume};

@@ -9,7 +9,15 @@ use Rattle.mld_io.specs.declared.faults.IoFault.TheVariants.{Failed, NoMemory}
 use Rattle.mld_io.specs.Disk.{Call, Sides, bytes_of, other_side, with_bytes, written, Torn, TornOn, Log, grown, grown_by, seen, LeavesOnly, IsSettled, Writes, Syncs, LeavesMeanwhile}
 use Rattle.mld_io.specs.Disk.Call.{Wrote, Broke, Synced}
 use Rattle.mld_io.proofs.DiskLaws.{bytes_of-with_bytes, bytes_of-with_bytes_other, IsSettledOn-synced, IsSettledOn-wrote_other, IsSettled-both, MayLeave-wrote_settled, LeavesMeanwhile-write, LeavesMeanwhile-sync, LeavesMeanwhile-then, AtEachMoment-weaken, Torn-done}
-use Rattle.journal_store.specs.Device.{HasOpened, IsAppending, appended, HasBytes, IsFilling, filled}
+use Rattle.mld_io.specs.Arm.{Arm, Unarmed, Armed, Caught, LowersBy}
+use Rattle.journal_store.specs.Crashes.{HasOpened, IsIssued, Allows, append_gate}
+use Rattle.journal_store.specs.Device.{IsAppending, appended, HasBytes, IsFilling, filled}
+
+-- calls that were done are calls that the arm let be done
+pub lets_done : (n : ℕ) (before now : Arm) → LowersBy n before now → Allows n before
+lets_done n Unarmed now h = tt
+lets_done n (Armed number leave) now h = h.0
+lets_done n Caught now h = h.0
 
 -- a piece that is written on a settled device and synced leaves it settled
 pub piece_settles : (side : Side) (at : ℕ) (piece : List ℕ) (log : Log) (now : Option Log) → IsSettled log → Syncs side (grown (Wrote side at piece) log) now
@@ -75,12 +83,12 @@ HasBytes-then side x y log mid now first second = record {
 }
 
 -- the body of an append, at each of its moments, whatever was called
-pub appending_body : (side : Side) (gate : ℕ) (body : List ℕ) (old : Sides) (calls : List Call) (image : Sides) → TornOn side (gate + 1) body old image → IsAppending side gate body old calls image
-appending_body side gate body old calls image torn = record { other = torn.other; side_is = inl torn.torn.before }
+pub appending_body : (arm : Arm) (side : Side) (gate : ℕ) (body : List ℕ) (old : Sides) (calls : List Call) (image : Sides) → TornOn side (gate + 1) body old image → IsAppending arm side gate body old calls image
+appending_body arm side gate body old calls image torn = record { other = torn.other; side_is = inl torn.torn.before }
 
 -- nothing of an append
-pub appending_none : (side : Side) (gate : ℕ) (body : List ℕ) (old : Sides) (calls : List Call) (image : Sides) → image ≡ old → IsAppending side gate body old calls image
-appending_none side gate body old calls image e = record {
+pub appending_none : (arm : Arm) (side : Side) (gate : ℕ) (body : List ℕ) (old : Sides) (calls : List Call) (image : Sides) → image ≡ old → IsAppending arm side gate body old calls image
+appending_none arm side gate body old calls image e = record {
   other = ap (bytes_of (other_side side)) e;
   side_is = inl (ap (λ (sides : Sides). take (gate + 1) (bytes_of side sides)) e);
 }
@@ -106,9 +114,9 @@ front_without_gate gate old now e =
     sym (take-take gate (gate + 1) now less) ∙ ap (take gate) e ∙ take-take gate (gate + 1) old less
 
 -- the gate of an append, at each of its moments, once it is being written
-pub appending_gate : (side : Side) (gate : ℕ) (body : List ℕ) (old mid : Sides) (calls : List Call) (image : Sides) → gate < length (bytes_of side old)
-    → mid ≡ with_bytes side (written (gate + 1) body (bytes_of side old)) old → HasOpened side gate calls → TornOn side gate (1 ∷ []) mid image → IsAppending side gate body old calls image
-appending_gate side gate body old mid calls image within e opened torn =
+pub appending_gate : (arm : Arm) (side : Side) (gate : ℕ) (body : List ℕ) (old mid : Sides) (calls : List Call) (image : Sides) → gate < length (bytes_of side old)
+    → mid ≡ with_bytes side (written (gate + 1) body (bytes_of side old)) old → IsIssued arm (append_gate side gate) calls → TornOn side gate (1 ∷ []) mid image → IsAppending arm side gate body old calls image
+appending_gate arm side gate body old mid calls image within e opened torn =
     let bytes = bytes_of side old in
     let now = written (gate + 1) body bytes in
     let on : bytes_of side mid ≡ now = ap (bytes_of side) e ∙ bytes_of-with_bytes side now old in
@@ -124,9 +132,9 @@ appending_gate side gate body old mid calls image within e opened torn =
     }
 
 -- nothing of the gate's write yet
-pub appending_shut : (side : Side) (gate : ℕ) (body : List ℕ) (old mid : Sides) (calls : List Call) (image : Sides) → gate < length (bytes_of side old)
-    → mid ≡ with_bytes side (written (gate + 1) body (bytes_of side old)) old → image ≡ mid → IsAppending side gate body old calls image
-appending_shut side gate body old mid calls image within e same =
+pub appending_shut : (arm : Arm) (side : Side) (gate : ℕ) (body : List ℕ) (old mid : Sides) (calls : List Call) (image : Sides) → gate < length (bytes_of side old)
+    → mid ≡ with_bytes side (written (gate + 1) body (bytes_of side old)) old → image ≡ mid → IsAppending arm side gate body old calls image
+appending_shut arm side gate body old mid calls image within e same =
     let bytes = bytes_of side old in
     let now = written (gate + 1) body bytes in
     let on : bytes_of side image ≡ now = ap (bytes_of side) (same ∙ e) ∙ bytes_of-with_bytes side now old in
@@ -136,48 +144,48 @@ appending_shut side gate body old mid calls image within e same =
     }
 
 -- the moments of an append whose body was written and synced, whatever the calls that open the gate answered
-pub appending_moments : {U : Type 0} (side : Side) (gate : ℕ) (body : List ℕ) (log : Log) (mid now : Option Log) (result : Result U IoFault) → IsSettled log → gate < length (bytes_of side (seen log))
+pub appending_moments : {U : Type 0} (arm : Arm) (side : Side) (gate : ℕ) (body : List ℕ) (log : Log) (mid now : Option Log) (result : Result U IoFault) → Allows 2 arm → IsSettled log → gate < length (bytes_of side (seen log))
     → Syncs side (grown (Wrote side (gate + 1) body) log) mid
     → ((l : Log) → mid ≡ Some l → OnOk result (Syncs side (grown (Wrote side gate (1 ∷ [])) l) now))
     → ((l : Log) → mid ≡ Some l → IsErrOf result Failed → Writes side gate (1 ∷ []) l now)
     → (IsErrOf result NoMemory → now ≡ mid)
-    → LeavesMeanwhile log now (IsAppending side gate body (seen log))
-appending_moments side gate body log mid now result settled within first done failed no_memory =
+    → LeavesMeanwhile log now (IsAppending arm side gate body (seen log))
+appending_moments arm side gate body log mid now result allowed settled within first done failed no_memory =
     let has = piece_settles side (gate + 1) body log mid settled first in
-    moments_then log has.log (IsAppending side gate body (seen log)) now
-    (moments_of_piece side (gate + 1) body log (IsAppending side gate body (seen log)) (Some has.log) settled (appending_none side gate body (seen log) []) (appending_body side gate body (seen log) (Wrote side (gate + 1) body ∷ [])) (appending_body side gate body (seen log) (Synced side ∷ Wrote side (gate + 1) body ∷ [])) (subst (λ (o : Option Log). Syncs side (grown (Wrote side (gate + 1) body) log) o) has.now_is first))
+    moments_then log has.log (IsAppending arm side gate body (seen log)) now
+    (moments_of_piece side (gate + 1) body log (IsAppending arm side gate body (seen log)) (Some has.log) settled (appending_none arm side gate body (seen log) []) (appending_body arm side gate body (seen log) (Wrote side (gate + 1) body ∷ [])) (appending_body arm side gate body (seen log) (Synced side ∷ Wrote side (gate + 1) body ∷ [])) (subst (λ (o : Option Log). Syncs side (grown (Wrote side (gate + 1) body) log) o) has.now_is first))
     (λ added. then_gate result added has.seen_is has.settled (done has.log has.now_is) (failed has.log has.now_is) (λ e. no_memory e ∙ has.now_is))
   where
     then_gate : {U : Type 0} (r : Result U IoFault) (added : List Call) {m : Log} → seen m ≡ with_bytes side (written (gate + 1) body (bytes_of side (seen log))) (seen log) → IsSettled m
         → OnOk r (Syncs side (grown (Wrote side gate (1 ∷ [])) m) now)
         → (IsErrOf r Failed → Writes side gate (1 ∷ []) m now)
         → (IsErrOf r NoMemory → now ≡ Some m)
-        → LeavesMeanwhile m now (λ calls image. IsAppending side gate body (seen log) (calls ++ added) image)
+        → LeavesMeanwhile m now (λ calls image. IsAppending arm side gate body (seen log) (calls ++ added) image)
     then_gate (Ok u) added {m} looks still done' failed' no_memory' =
-        moments_of_piece side gate (1 ∷ []) m (λ calls image. IsAppending side gate body (seen log) (calls ++ added) image) now still
-        (λ image e. appending_shut side gate body (seen log) (seen m) added image within looks e)
-        (λ image torn. appending_gate side gate body (seen log) (seen m) (Wrote side gate (1 ∷ []) ∷ added) image within looks (inl (refl, refl, refl)) torn)
-        (λ image torn. appending_gate side gate body (seen log) (seen m) (Synced side ∷ Wrote side gate (1 ∷ []) ∷ added) image within looks (inr (inl (refl, refl, refl))) torn)
+        moments_of_piece side gate (1 ∷ []) m (λ calls image. IsAppending arm side gate body (seen log) (calls ++ added) image) now still
+        (λ image e. appending_shut arm side gate body (seen log) (seen m) added image within looks e)
+        (λ image torn. appending_gate arm side gate body (seen log) (seen m) (Wrote side gate (1 ∷ []) ∷ added) image within looks (record { allowed = allowed; opened = inl (refl, refl, refl) }) torn)
+        (λ image torn. appending_gate arm side gate body (seen log) (seen m) (Synced side ∷ Wrote side gate (1 ∷ []) ∷ added) image within looks (record { allowed = allowed; opened = inr (inl (refl, refl, refl)) }) torn)
         done'
     then_gate (Err Failed) added {m} looks still done' failed' no_memory' =
-        moments_of_refused side gate (1 ∷ []) m (λ calls image. IsAppending side gate body (seen log) (calls ++ added) image) now still
-        (λ image e. appending_shut side gate body (seen log) (seen m) added image within looks e)
-        (λ image torn. appending_gate side gate body (seen log) (seen m) (Wrote side gate (1 ∷ []) ∷ added) image within looks (inl (refl, refl, refl)) torn)
-        (λ bytes image torn. appending_gate side gate body (seen log) (seen m) (Broke side gate (1 ∷ []) bytes ∷ added) image within looks (inl (refl, refl, refl)) torn)
+        moments_of_refused side gate (1 ∷ []) m (λ calls image. IsAppending arm side gate body (seen log) (calls ++ added) image) now still
+        (λ image e. appending_shut arm side gate body (seen log) (seen m) added image within looks e)
+        (λ image torn. appending_gate arm side gate body (seen log) (seen m) (Wrote side gate (1 ∷ []) ∷ added) image within looks (record { allowed = allowed; opened = inl (refl, refl, refl) }) torn)
+        (λ bytes image torn. appending_gate arm side gate body (seen log) (seen m) (Broke side gate (1 ∷ []) bytes ∷ added) image within looks (record { allowed = allowed; opened = inl (refl, refl, refl) }) torn)
         (failed' refl)
     then_gate (Err NoMemory) added {m} looks still done' failed' no_memory' = record {
       added = [];
       now_is = no_memory' refl;
-      each = λ image left. appending_shut side gate body (seen log) (seen m) added image within looks (still image left);
+      each = λ image left. appending_shut arm side gate body (seen log) (seen m) added image within looks (still image left);
     }
 
 -- the moments of an append whose body was refused
-pub appending_refused : (side : Side) (gate : ℕ) (body : List ℕ) (log : Log) (now : Option Log) → IsSettled log → Writes side (gate + 1) body log now → LeavesMeanwhile log now (IsAppending side gate body (seen log))
-appending_refused side gate body log now settled writes =
-    moments_of_refused side (gate + 1) body log (IsAppending side gate body (seen log)) now settled
-    (appending_none side gate body (seen log) [])
-    (appending_body side gate body (seen log) (Wrote side (gate + 1) body ∷ []))
-    (λ bytes. appending_body side gate body (seen log) (Broke side (gate + 1) body bytes ∷ []))
+pub appending_refused : (arm : Arm) (side : Side) (gate : ℕ) (body : List ℕ) (log : Log) (now : Option Log) → IsSettled log → Writes side (gate + 1) body log now → LeavesMeanwhile log now (IsAppending arm side gate body (seen log))
+appending_refused arm side gate body log now settled writes =
+    moments_of_refused side (gate + 1) body log (IsAppending arm side gate body (seen log)) now settled
+    (appending_none arm side gate body (seen log) [])
+    (appending_body arm side gate body (seen log) (Wrote side (gate + 1) body ∷ []))
+    (λ bytes. appending_body arm side gate body (seen log) (Broke side (gate + 1) body bytes ∷ []))
     writes
 
 -- what an append leaves once all its calls were done
@@ -255,11 +263,11 @@ shut_from_front (x ∷ now) front e =
     absurd (omega arith)
 
 -- nothing of a side that is written anew, and its first gate as it is being shut
-pub filling_none : (side : Side) (body : List ℕ) (old : Sides) (calls : List Call) (image : Sides) → image ≡ old → IsFilling side body old calls image
-filling_none side body old calls image e = record { other = ap (bytes_of (other_side side)) e; side_is = inl (ap (bytes_of side) e) }
+pub filling_none : (arm : Arm) (side : Side) (body : List ℕ) (old : Sides) (calls : List Call) (image : Sides) → image ≡ old → IsFilling arm side body old calls image
+filling_none arm side body old calls image e = record { other = ap (bytes_of (other_side side)) e; side_is = inl (ap (bytes_of side) e) }
 
-pub filling_shut : (side : Side) (body : List ℕ) (old : Sides) (calls : List Call) (image : Sides) → TornOn side 0 (0 ∷ []) old image → IsFilling side body old calls image
-filling_shut side body old calls image torn = record {
+pub filling_shut : (arm : Arm) (side : Side) (body : List ℕ) (old : Sides) (calls : List Call) (image : Sides) → TornOn side 0 (0 ∷ []) old image → IsFilling arm side body old calls image
+filling_shut arm side body old calls image torn = record {
   other = torn.other;
   side_is = elim (same_or_shut (bytes_of side old) (bytes_of side image) torn.torn) [ inl same ↦ inl same | inr shut ↦ inr (inl shut) ];
 }
@@ -270,14 +278,20 @@ HasOpened-append side gate [] added opened = absurd opened
 HasOpened-append side gate (call ∷ calls) added (inl opens) = inl opens
 HasOpened-append side gate (call ∷ calls) added (inr opened) = inr (HasOpened-append side gate calls added opened)
 
+-- where an arm let calls be done, and the arm then lets more, it let all of them be done
+pub allows_then : (m n : ℕ) (before mid : Arm) → LowersBy m before mid → Allows n mid → Allows (m + n) before
+allows_then m n Unarmed mid lowered more = tt
+allows_then m n (Armed number leave) mid lowered more = let left = subst (Allows n) lowered.1 more in omega (arith, lowered.0, left)
+allows_then m n Caught mid lowered more = let none = subst (Allows n) lowered.1 more in omega (arith, lowered.0, none)
+
 -- bytes behind a first gate are not what the gate is
 pub rest_of_shut : (body bytes : List ℕ) → drop (1 + length body) (written 0 (0 ∷ []) bytes) ≡ drop (1 + length body) bytes
 rest_of_shut body bytes = sym (drop-drop (length body) 1 (written 0 (0 ∷ []) bytes)) ∙ drop-drop (length body) 1 bytes
 
 -- the body is put behind a first gate that was shut as a record is put behind one
-pub filling_then : (side : Side) (body : List ℕ) (old mid : Sides) (calls added : List Call) (image : Sides) → mid ≡ with_bytes side (written 0 (0 ∷ []) (bytes_of side old)) old
-    → IsAppending side 0 body mid calls image → IsFilling side body old (calls ++ added) image
-filling_then side body old mid calls added image e at =
+pub filling_then : (arm later : Arm) (side : Side) (body : List ℕ) (old mid : Sides) (calls added : List Call) (image : Sides) → LowersBy 2 arm later → mid ≡ with_bytes side (written 0 (0 ∷ []) (bytes_of side old)) old
+    → IsAppending later side 0 body mid calls image → IsFilling arm side body old (calls ++ added) image
+filling_then arm later side body old mid calls added image lowered e at =
     let bytes = bytes_of side old in
     let shut = written 0 (0 ∷ []) bytes in
     let on : bytes_of side mid ≡ shut = ap (bytes_of side) e ∙ bytes_of-with_bytes side shut old in
@@ -285,7 +299,7 @@ filling_then side body old mid calls added image e at =
       other = at.other ∙ ap (bytes_of (other_side side)) e ∙ bytes_of-with_bytes_other side shut old;
       side_is = elim (at.side_is) [
         | inl kept ↦ inr (inl (shut_from_front (bytes_of side image) (kept ∙ ap (take 1) on)))
-        | inr h ↦ inr (inr (HasOpened-append side 0 calls added h.0, h.1.behind ∙ ap (λ (l : List ℕ). body ++ drop (1 + length body) l) on ∙ ap (λ (l : List ℕ). body ++ l) (rest_of_shut body bytes)))
+        | inr h ↦ inr (inr (record { allowed = allows_then 2 2 arm later lowered h.0.allowed; opened = HasOpened-append side 0 calls added h.0.opened }, h.1.behind ∙ ap (λ (l : List ℕ). body ++ drop (1 + length body) l) on ∙ ap (λ (l : List ℕ). body ++ l) (rest_of_shut body bytes)))
       ];
     }
 
@@ -294,28 +308,28 @@ pub filled_is : (body bytes : List ℕ) → appended 0 body (written 0 (0 ∷ []
 filled_is body bytes = ap (λ (l : List ℕ). 1 ∷ (body ++ l)) (rest_of_shut body bytes)
 
 -- the moments of a side that is written anew, once its first gate was shut
-pub filling_moments : (side : Side) (body : List ℕ) (log : Log) (mid now : Option Log) → IsSettled log
+pub filling_moments : (arm later : Arm) (side : Side) (body : List ℕ) (log : Log) (mid now : Option Log) → LowersBy 2 arm later → IsSettled log
     → Syncs side (grown (Wrote side 0 (0 ∷ [])) log) mid
-    → ((l : Log) → mid ≡ Some l → IsSettled l → LeavesMeanwhile l now (IsAppending side 0 body (seen l)))
-    → LeavesMeanwhile log now (IsFilling side body (seen log))
-filling_moments side body log mid now settled first next =
+    → ((l : Log) → mid ≡ Some l → IsSettled l → LeavesMeanwhile l now (IsAppending later side 0 body (seen l)))
+    → LeavesMeanwhile log now (IsFilling arm side body (seen log))
+filling_moments arm later side body log mid now lowered settled first next =
     let has = piece_settles side 0 (0 ∷ []) log mid settled first in
     let rest = next has.log has.now_is has.settled in
-    moments_then log has.log (IsFilling side body (seen log)) now
-    (moments_of_piece side 0 (0 ∷ []) log (IsFilling side body (seen log)) (Some has.log) settled (filling_none side body (seen log) []) (filling_shut side body (seen log) (Wrote side 0 (0 ∷ []) ∷ [])) (filling_shut side body (seen log) (Synced side ∷ Wrote side 0 (0 ∷ []) ∷ [])) (subst (λ (o : Option Log). Syncs side (grown (Wrote side 0 (0 ∷ [])) log) o) has.now_is first))
+    moments_then log has.log (IsFilling arm side body (seen log)) now
+    (moments_of_piece side 0 (0 ∷ []) log (IsFilling arm side body (seen log)) (Some has.log) settled (filling_none arm side body (seen log) []) (filling_shut arm side body (seen log) (Wrote side 0 (0 ∷ []) ∷ [])) (filling_shut arm side body (seen log) (Synced side ∷ Wrote side 0 (0 ∷ []) ∷ [])) (subst (λ (o : Option Log). Syncs side (grown (Wrote side 0 (0 ∷ [])) log) o) has.now_is first))
     (λ added. record {
       added = rest.added;
       now_is = rest.now_is;
-      each = AtEachMoment-weaken has.log rest.added (IsAppending side 0 body (seen has.log)) (λ calls image. IsFilling side body (seen log) (calls ++ added) image) (λ calls image at. filling_then side body (seen log) (seen has.log) calls added image has.seen_is at) rest.each;
+      each = AtEachMoment-weaken has.log rest.added (IsAppending later side 0 body (seen has.log)) (λ calls image. IsFilling arm side body (seen log) (calls ++ added) image) (λ calls image at. filling_then arm later side body (seen log) (seen has.log) calls added image lowered has.seen_is at) rest.each;
     })
 
 -- the moments of a side whose first gate was not shut
-pub filling_refused : (side : Side) (body : List ℕ) (log : Log) (now : Option Log) → IsSettled log → Writes side 0 (0 ∷ []) log now → LeavesMeanwhile log now (IsFilling side body (seen log))
-filling_refused side body log now settled writes =
-    moments_of_refused side 0 (0 ∷ []) log (IsFilling side body (seen log)) now settled
-    (filling_none side body (seen log) [])
-    (filling_shut side body (seen log) (Wrote side 0 (0 ∷ []) ∷ []))
-    (λ bytes. filling_shut side body (seen log) (Broke side 0 (0 ∷ []) bytes ∷ []))
+pub filling_refused : (arm : Arm) (side : Side) (body : List ℕ) (log : Log) (now : Option Log) → IsSettled log → Writes side 0 (0 ∷ []) log now → LeavesMeanwhile log now (IsFilling arm side body (seen log))
+filling_refused arm side body log now settled writes =
+    moments_of_refused side 0 (0 ∷ []) log (IsFilling arm side body (seen log)) now settled
+    (filling_none arm side body (seen log) [])
+    (filling_shut arm side body (seen log) (Wrote side 0 (0 ∷ []) ∷ []))
+    (λ bytes. filling_shut arm side body (seen log) (Broke side 0 (0 ∷ []) bytes ∷ []))
     writes
 
 -- what writing a side anew leaves once all its calls were done

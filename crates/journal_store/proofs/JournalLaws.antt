@@ -2,6 +2,7 @@
 use Rattle.std.specs.Prelude.{◌≡◌, ℕ, ◌+◌, ◌<◌, ◌^◌, ◌==◌, nat_le, Bool, true, false, cond, List, Option, Some, None}
 use Rattle.std.proofs.Common.{refl, sym, ◌∙◌, ap, subst, inl, inr, arith}
 use Rattle.std.proofs.lemmas.Bool.Decides.{eqb_tells, leb_tells}
+use Rattle.mld_io.specs.Arm.{Arm}
 use Rattle.mld_io.specs.Disk.{Call, Log, Sides, bytes_of, other_side, seen, IsSettled, LeavesMeanwhile}
 use Rattle.mld_io.proofs.DiskLaws.{sides_from_bytes}
 use Rattle.mld_io.specs.declared.banks.Side.{Side}
@@ -17,7 +18,7 @@ use Rattle.journal_sides.proofs.RecordReading.{entries_more, path_more, entries_
 use Rattle.journal_sides.proofs.WrittenLaws.{volume_more, entries_of-records, path_after-records}
 use Rattle.journal_store.specs.declared.faults.Why.{Why}
 use Rattle.journal_store.specs.Calls.{KeptBy, swapped}
-use Rattle.journal_store.specs.Crashes.{ReadsEither, LeavesEither}
+use Rattle.journal_store.specs.Crashes.{Gate, ReadsEither, LeavesEither, IsIssued, append_gate, first_gate, place_behind, gate_behind}
 use Rattle.journal_store.specs.Standing.{IsBehind, Stands, IsJournal, KeepsNothing, IsBlankLog, KeepsNow}
 use Rattle.journal_store.specs.WrittenSides.{HasVolume, IsAppendingTo, IsWritingTo}
 use Rattle.journal_store.proofs.DeviceLaws.{weaken_moments, no_moments}
@@ -169,14 +170,17 @@ keeps_more side generation stop end next after log now stands grows fits has kep
     }
 
 -- at each moment it keeps what it kept, or, once the gate's write was issued, that with the record
-pub either_more : (side : Side) (generation stop : ℕ) (next : RecordValue) (after : Kept → Kept) (log : Log) (now : Option Log) (stands : Stands side generation stop log)
+pub either_more : (arm : Arm) (side : Side) (generation stop : ℕ) (next : RecordValue) (after : Kept → Kept) (log : Log) (now : Option Log) (stands : Stands side generation stop log)
     → ((volume : Volume) → kept_on side (with_record next volume) ≡ after (kept_on side volume))
-    → LeavesMeanwhile log now (IsAppendingTo side stands.volume next (seen log))
-    → (kept : Kept) → read_banks (seen log) ≡ Keeps kept → LeavesEither log now (Keeps kept) (Keeps (after kept)) side
-either_more side generation stop next after log now stands grows moments kept reads =
-    weaken_moments log now (IsAppendingTo side stands.volume next (seen log)) (ReadsEither (Keeps kept) (Keeps (after kept)) side) by moments
+    → LeavesMeanwhile log now (IsAppendingTo arm side stop stands.volume next (seen log))
+    → (kept : Kept) → read_banks (seen log) ≡ Keeps kept → LeavesEither log now (Keeps kept) (Keeps (after kept)) arm (gate_behind side log)
+either_more arm side generation stop next after log now stands grows moments kept reads =
+    weaken_moments log now (IsAppendingTo arm side stop stands.volume next (seen log)) (ReadsEither (Keeps kept) (Keeps (after kept)) arm (gate_behind side log)) by moments
   where
-    by : (calls : List Call) (image : Sides) → IsAppendingTo side stands.volume next (seen log) calls image → ReadsEither (Keeps kept) (Keeps (after kept)) side calls image
+    gate : stop ≡ place_behind (read_side (bytes_of side (seen log)))
+    gate = stands.ends.stop_is ∙ ap place_behind (sym (ends_reads stands.volume stop (bytes_of side (seen log)) stands.stored stands.ends))
+
+    by : (calls : List Call) (image : Sides) → IsAppendingTo arm side stop stands.volume next (seen log) calls image → ReadsEither (Keeps kept) (Keeps (after kept)) arm (gate_behind side log) calls image
     by calls image at =
         let is = kept_is side generation stop log stands kept reads in
         let behind : IsBehind stands.volume.opening.generation (read_side (bytes_of (other_side side) image)) =
@@ -184,21 +188,21 @@ either_more side generation stop next after log now stands grows moments kept re
         (subst (λ (l : List ℕ). IsBehind generation (read_side l)) (sym at.other) stands.behind) in
         elim (at.reads) [
           | inl before ↦ inl (pair_reads side stands.volume image before behind ∙ ap Keeps (sym is))
-          | inr h ↦ inr (h.0, pair_reads side (with_record next stands.volume) image h.1 behind ∙ ap Keeps (grows stands.volume ∙ ap after (sym is)))
+          | inr h ↦ inr (subst (λ (place : ℕ). IsIssued arm (append_gate side place) calls) gate h.0, pair_reads side (with_record next stands.volume) image h.1 behind ∙ ap Keeps (grows stands.volume ∙ ap after (sym is)))
         ]
 
 -- ---- a side is written anew
 
 -- at each moment banks that kept nothing keep nothing, or, once the gate's write was issued, what was written
-pub either_made : (side : Side) (volume : Volume) (log : Log) (now : Option Log) → KeepsNothing log → LeavesMeanwhile log now (IsWritingTo side volume (seen log))
-    → LeavesEither log now KeepsNone (Keeps (kept_on side volume)) side
-either_made side volume log now nothing moments =
-    weaken_moments log now (IsWritingTo side volume (seen log)) (ReadsEither KeepsNone (Keeps (kept_on side volume)) side) by moments
+pub either_made : (arm : Arm) (side : Side) (volume : Volume) (log : Log) (now : Option Log) → KeepsNothing log → LeavesMeanwhile log now (IsWritingTo arm side volume (seen log))
+    → LeavesEither log now KeepsNone (Keeps (kept_on side volume)) arm (first_gate side)
+either_made arm side volume log now nothing moments =
+    weaken_moments log now (IsWritingTo arm side volume (seen log)) (ReadsEither KeepsNone (Keeps (kept_on side volume)) arm (first_gate side)) by moments
   where
     off : (image : Sides) → bytes_of (other_side side) image ≡ bytes_of (other_side side) (seen log) → read_side (bytes_of (other_side side) image) ≡ IsClosed
     off image e = ap read_side e ∙ none_closed (other_side side) (seen log) nothing.none
 
-    by : (calls : List Call) (image : Sides) → IsWritingTo side volume (seen log) calls image → ReadsEither KeepsNone (Keeps (kept_on side volume)) side calls image
+    by : (calls : List Call) (image : Sides) → IsWritingTo arm side volume (seen log) calls image → ReadsEither KeepsNone (Keeps (kept_on side volume)) arm (first_gate side) calls image
     by calls image at = elim (at.reads) [
       | inl same ↦ inl (closed_none side image (ap read_side same ∙ none_closed side (seen log) nothing.none) (off image at.other))
       | inr (inl closed) ↦ inl (closed_none side image closed (off image at.other))
@@ -248,13 +252,13 @@ stands_swapped side generation stop end volume log now stands next stored has ne
     subst (Stands (other_side side) (generation + 1) end) same here
 
 -- at each moment the journal keeps what it kept, or, once the gate's write was issued, what was written
-pub either_swapped : (side : Side) (generation stop : ℕ) (volume : Volume) (log : Log) (now : Option Log) (stands : Stands side generation stop log) → volume.opening.generation ≡ generation + 1
-    → LeavesMeanwhile log now (IsWritingTo (other_side side) volume (seen log))
-    → (kept : Kept) → read_banks (seen log) ≡ Keeps kept → LeavesEither log now (Keeps kept) (Keeps (kept_on (other_side side) volume)) (other_side side)
-either_swapped side generation stop volume log now stands next moments kept reads =
-    weaken_moments log now (IsWritingTo (other_side side) volume (seen log)) (ReadsEither (Keeps kept) (Keeps (kept_on (other_side side) volume)) (other_side side)) by moments
+pub either_swapped : (arm : Arm) (side : Side) (generation stop : ℕ) (volume : Volume) (log : Log) (now : Option Log) (stands : Stands side generation stop log) → volume.opening.generation ≡ generation + 1
+    → LeavesMeanwhile log now (IsWritingTo arm (other_side side) volume (seen log))
+    → (kept : Kept) → read_banks (seen log) ≡ Keeps kept → LeavesEither log now (Keeps kept) (Keeps (kept_on (other_side side) volume)) arm (first_gate (other_side side))
+either_swapped arm side generation stop volume log now stands next moments kept reads =
+    weaken_moments log now (IsWritingTo arm (other_side side) volume (seen log)) (ReadsEither (Keeps kept) (Keeps (kept_on (other_side side) volume)) arm (first_gate (other_side side))) by moments
   where
-    by : (calls : List Call) (image : Sides) → IsWritingTo (other_side side) volume (seen log) calls image → ReadsEither (Keeps kept) (Keeps (kept_on (other_side side) volume)) (other_side side) calls image
+    by : (calls : List Call) (image : Sides) → IsWritingTo arm (other_side side) volume (seen log) calls image → ReadsEither (Keeps kept) (Keeps (kept_on (other_side side) volume)) arm (first_gate (other_side side)) calls image
     by calls image at =
         let is = kept_is side generation stop log stands kept reads in
         let other : bytes_of side image ≡ bytes_of side (seen log) = (ap (λ (s : Side). bytes_of s image) (sym (other_other side)) ∙ at.other) ∙ ap (λ (s : Side). bytes_of s (seen log)) (other_other side) in
@@ -282,8 +286,8 @@ pub kept_at : (old : Option Log) (closed : Option Why) (kept : Kept) → KeptBy 
 kept_at old closed kept by log is = let same : by.log ≡ log = cc (by.now_is, is) in subst (λ (m : Log). read_banks (seen m) ≡ Keeps kept) same by.reads
 
 -- where nothing moved, all reads as before
-pub nothing_moves : (log : Log) (now : Option Log) (before after : PairReading) (side : Side) → now ≡ Some log → IsSettled log → read_banks (seen log) ≡ before → LeavesEither log now before after side
-nothing_moves log now before after side is settled reads = no_moments log now (ReadsEither before after side) is (λ image left. inl (ap read_banks (settled image left) ∙ reads))
+pub nothing_moves : (log : Log) (now : Option Log) (before after : PairReading) (arm : Arm) (gate : Gate) → now ≡ Some log → IsSettled log → read_banks (seen log) ≡ before → LeavesEither log now before after arm gate
+nothing_moves log now before after arm gate is settled reads = no_moments log now (ReadsEither before after arm gate) is (λ image left. inl (ap read_banks (settled image left) ∙ reads))
 
 -- a journal with one record more
 pub journal_more : (side : Side) (generation stop end : ℕ) (old now : Option Log) (next : RecordValue) (closed : Option Why)

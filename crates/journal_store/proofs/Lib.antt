@@ -5,3 +5,4 @@ pub mod DeviceLaws
 pub mod ReadLaws
 pub mod JournalLaws
 pub mod SettlingLaws
+pub mod ClosingLaws

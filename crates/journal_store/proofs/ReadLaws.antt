@@ -4,7 +4,6 @@ use Rattle.std.proofs.Common.{refl, sym, ◌∙◌, ap, subst, inl, inr, arith, 
 use Rattle.std.proofs.lemmas.Bool.Decides.{eqb_tells}
 use Rattle.std.proofs.lemmas.List.{take-append-drop, take_at, length-append, length-drop, drop_more}
 use Rattle.mld_io.specs.Disk.{Call, Log, Sides, bytes_of, other_side, written, seen}
-use Rattle.mld_io.specs.Disk.Call.{Wrote, Broke, Synced, Cut}
 use Rattle.mld_io.proofs.DiskLaws.{bytes_of-with_bytes, bytes_of-with_bytes_other}
 use Rattle.mld_io.specs.declared.banks.Side.{Side}
 use Rattle.journal_sides.specs.Format.{open_gate, closed_gate}
@@ -14,22 +13,10 @@ use Rattle.journal_sides.specs.StoredVolumes.{EndsAt, IsVolume}
 use Rattle.journal_sides.specs.WrittenRecords.{with_record}
 use Rattle.journal_sides.proofs.SideTrips.{side_back}
 use Rattle.journal_sides.proofs.WrittenLaws.{volume_bytes_more}
-use Rattle.journal_store.specs.Crashes.{OpensGate}
-use Rattle.journal_store.specs.Device.{HasOpened, KeepsGate, HasBehind, IsAppending, appended, HasBytes, IsFilling, filled}
+use Rattle.mld_io.specs.Arm.{Arm}
+use Rattle.journal_store.specs.Device.{KeepsGate, HasBehind, IsAppending, appended, HasBytes, IsFilling, filled}
 use Rattle.journal_store.specs.WrittenSides.{HasVolume, IsAppendingTo, IsWritingTo}
 use Rattle.journal_store.proofs.DeviceLaws.{behind_written, front_written, front_without_gate}
-
--- the write of just this gate is one of a gate of the side
-pub gate_opened : (side : Side) (gate : ℕ) (calls : List Call) → HasOpened side gate calls → OpensGate side calls
-gate_opened side gate [] h = absurd h
-gate_opened side gate (Wrote on at piece ∷ calls) (inl h) = (gate, inl (inl (λ i. Wrote (h.0 i) (h.1 i) (h.2 i))))
-gate_opened side gate (Broke on at piece now ∷ calls) (inl h) = (gate, inr (now, inl (λ i. Broke (h.0 i) (h.1 i) (h.2 i) now)))
-gate_opened side gate (Synced on ∷ calls) (inl h) = absurd h
-gate_opened side gate (Cut sides ∷ calls) (inl h) = absurd h
-gate_opened side gate (call ∷ calls) (inr h) = more (gate_opened side gate calls h) where
-  more : OpensGate side calls → OpensGate side (call ∷ calls)
-  more (at, inl has) = (at, inl (inr has))
-  more (at, inr (now, has)) = (at, inr (now, inr has))
 
 -- a side whose first gate isn't open is closed
 pub closed_reads : (bytes : List ℕ) → slice_get bytes 0 ≢ Some 1 → read_side bytes ≡ IsClosed
@@ -139,27 +126,27 @@ filled_reads volume body rest (gate ∷ now) is body_is behind = elim (eqb_tells
 -- ---- the moments
 
 -- the moments of an append, as what is read
-pub appending_reads : (side : Side) (volume : Volume) (next : RecordValue) (stop : ℕ) (body : List ℕ) (old : Sides) (calls : List Call) (image : Sides) → IsVolume volume → IsVolume (with_record next volume)
-    → EndsAt volume stop (bytes_of side old) → body ≡ record_bytes next ++ closed_gate ∷ [] → IsAppending side stop body old calls image → IsAppendingTo side volume next old calls image
-appending_reads side volume next stop body old calls image is more ends body_is at = record {
+pub appending_reads : (arm : Arm) (side : Side) (volume : Volume) (next : RecordValue) (stop : ℕ) (body : List ℕ) (old : Sides) (calls : List Call) (image : Sides) → IsVolume volume → IsVolume (with_record next volume)
+    → EndsAt volume stop (bytes_of side old) → body ≡ record_bytes next ++ closed_gate ∷ [] → IsAppending arm side stop body old calls image → IsAppendingTo arm side stop volume next old calls image
+appending_reads arm side volume next stop body old calls image is more ends body_is at = record {
   other = at.other;
   reads = elim (at.side_is) [
     | inl kept ↦ inl (kept_reads volume stop (bytes_of side old) (bytes_of side image) is ends kept)
     | inr h ↦
-        elim (behind_reads volume next stop body (bytes_of side old) (bytes_of side image) is more ends body_is h.1) [ inl before ↦ inl before | inr after ↦ inr (gate_opened side stop calls h.0, after) ]
+        elim (behind_reads volume next stop body (bytes_of side old) (bytes_of side image) is more ends body_is h.1) [ inl before ↦ inl before | inr after ↦ inr (h.0, after) ]
   ];
 }
 
 -- the moments of a side that is written anew, as what is read
-pub filling_reads : (side : Side) (volume : Volume) (body : List ℕ) (old : Sides) (calls : List Call) (image : Sides) → IsVolume volume → open_gate ∷ body ≡ volume_bytes volume ++ closed_gate ∷ []
-    → IsFilling side body old calls image → IsWritingTo side volume old calls image
-filling_reads side volume body old calls image is body_is at = record {
+pub filling_reads : (arm : Arm) (side : Side) (volume : Volume) (body : List ℕ) (old : Sides) (calls : List Call) (image : Sides) → IsVolume volume → open_gate ∷ body ≡ volume_bytes volume ++ closed_gate ∷ []
+    → IsFilling arm side body old calls image → IsWritingTo arm side volume old calls image
+filling_reads arm side volume body old calls image is body_is at = record {
   other = at.other;
   reads = elim (at.side_is) [
     | inl same ↦ inl same
     | inr (inl shut) ↦ inr (inl (closed_reads (bytes_of side image) shut))
     | inr (inr h) ↦
-        elim (filled_reads volume body (drop (1 + length body) (bytes_of side old)) (bytes_of side image) is body_is h.1) [ inl closed ↦ inr (inl closed) | inr opened ↦ inr (inr (gate_opened side 0 calls h.0, opened)) ]
+        elim (filled_reads volume body (drop (1 + length body) (bytes_of side old)) (bytes_of side image) is body_is h.1) [ inl closed ↦ inr (inl closed) | inr opened ↦ inr (inr (h.0, opened)) ]
   ];
 }
 

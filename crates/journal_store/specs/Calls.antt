@@ -1,6 +1,6 @@
 -- What the calls that write tell.
-use Rattle.std.specs.Prelude.{◌≡◌, ◌⊎◌, ◌+◌, ◌<◌, List, [], length, Option, None, Some, Result, Ok, Err}
-use Rattle.mld_io.specs.Disk.{Log, seen, other_side}
+use Rattle.std.specs.Prelude.{◌≡◌, ◌+◌, ◌<◌, List, [], length, Option, None, Some, Result, Ok, Err}
+use Rattle.mld_io.specs.Disk.{Log, seen, IsSettled, other_side}
 use Rattle.mld_io.specs.declared.banks.Side.TheVariants.{A}
 use Rattle.mld_ops.specs.Entry.{EntryValue}
 use Rattle.mld_ops.specs.Ready.{IsReadyEntry}
@@ -11,15 +11,15 @@ use Rattle.journal_sides.specs.Records.{known_after}
 use Rattle.journal_store.specs.declared.faults.MakeFault.{MakeFault}
 use Rattle.journal_store.specs.declared.faults.MakeFault.TheVariants as make
 use Rattle.journal_store.specs.declared.faults.Why.{Why}
-use Rattle.journal_store.specs.declared.faults.Why.TheVariants as why
 use Rattle.journal_store.specs.Standing.{JournalValue}
 
--- an open journal over banks that tell their log keeps this
+-- an open journal over banks that tell their log keeps this, and a crash now leaves that
 pub record KeptBy (now : Option Log) (closed : Option Why) (kept : Kept) : Type 0 where
   pub log : Log
   pub now_is : now ≡ Some log
   pub opened : closed ≡ None
   pub reads : read_banks (seen log) ≡ Keeps kept
+  pub settled : IsSettled log
 
 -- what a journal that was just made keeps
 abbrev pub made : HeadValue → Kept
@@ -36,10 +36,6 @@ MayAppend entry kept = IsReadyEntry (known_after kept.head.base.ticks kept.entri
 -- the path of the clone has room for a letter more
 abbrev pub MayFork : Kept → Type 0
 MayFork kept = length kept.head.path < path_limit
-
--- the journal is still the one that it was, or closed for want of memory
-abbrev pub StaysOrCloses : {B : Type 0} → JournalValue B → JournalValue B → Type 0
-StaysOrCloses old new = (new ≡ old) ⊎ (new.closed ≡ Some why.NoMemory)
 
 -- the banks of a journal that was made, or that was not
 abbrev pub made_banks : {B : Type 0} → Result (JournalValue B) (MakeFault × B) → B

@@ -3,19 +3,8 @@
 use Rattle.std.specs.Prelude.{◌≡◌, ◌≢◌, ◌⊎◌, ℕ, ◌+◌, List, [], ◌∷◌, ◌++◌, length, take, drop, slice_get, Option, Some}
 use Rattle.mld_io.specs.declared.banks.Side.{Side}
 use Rattle.mld_io.specs.Disk.{Call, Log, Sides, bytes_of, other_side, with_bytes, written, seen, IsSettled}
-use Rattle.mld_io.specs.Disk.Call.{Wrote, Broke, Synced, Cut}
-
--- the call writes the mark that opens the gate at this place
-abbrev pub Opens : Side → ℕ → Call → Type 0
-Opens side gate (Wrote on at piece) = (on ≡ side) × (at ≡ gate) × (piece ≡ 1 ∷ [])
-Opens side gate (Broke on at piece now) = (on ≡ side) × (at ≡ gate) × (piece ≡ 1 ∷ [])
-Opens side gate (Synced on) = ⊥
-Opens side gate (Cut sides) = ⊥
-
--- among these calls is the write that opens the gate at this place
-abbrev pub HasOpened : Side → ℕ → List Call → Type 0
-HasOpened side gate [] = ⊥
-HasOpened side gate (call ∷ calls) = Opens side gate call ⊎ HasOpened side gate calls
+use Rattle.mld_io.specs.Arm.{Arm}
+use Rattle.journal_store.specs.Crashes.{IsIssued, append_gate, first_gate}
 
 -- bytes up to a gate, and the gate, are as they were
 abbrev pub KeepsGate : ℕ → List ℕ → List ℕ → Type 0
@@ -28,10 +17,10 @@ pub record HasBehind (gate : ℕ) (body old now : List ℕ) : Type 0 where
 
 -- what may be there at a moment of an append: the bytes up to the gate as they were, with the gate, or, only once the write of
 -- the gate was issued, the body behind it
-pub record IsAppending (side : Side) (gate : ℕ) (body : List ℕ) (old : Sides) (calls : List Call) (image : Sides) : Type 0 where
+pub record IsAppending (arm : Arm) (side : Side) (gate : ℕ) (body : List ℕ) (old : Sides) (calls : List Call) (image : Sides) : Type 0 where
   pub other : bytes_of (other_side side) image ≡ bytes_of (other_side side) old
   pub side_is : KeepsGate gate (bytes_of side old) (bytes_of side image)
-      ⊎ (HasOpened side gate calls × HasBehind gate body (bytes_of side old) (bytes_of side image))
+      ⊎ (IsIssued arm (append_gate side gate) calls × HasBehind gate body (bytes_of side old) (bytes_of side image))
 
 -- the bytes once a body stands behind a gate that is open
 abbrev pub appended : ℕ → List ℕ → List ℕ → List ℕ
@@ -46,11 +35,11 @@ pub record HasBytes (side : Side) (bytes : List ℕ) (old : Log) (now : Option L
 
 -- what may be there at a moment while a side is written anew: it is as it was, or its first gate is shut, or, only once the
 -- write of the gate was issued, the body stands behind it
-pub record IsFilling (side : Side) (body : List ℕ) (old : Sides) (calls : List Call) (image : Sides) : Type 0 where
+pub record IsFilling (arm : Arm) (side : Side) (body : List ℕ) (old : Sides) (calls : List Call) (image : Sides) : Type 0 where
   pub other : bytes_of (other_side side) image ≡ bytes_of (other_side side) old
   pub side_is : (bytes_of side image ≡ bytes_of side old)
       ⊎ ((slice_get (bytes_of side image) 0 ≢ Some 1)
-      ⊎ (HasOpened side 0 calls × (drop 1 (bytes_of side image) ≡ body ++ drop (1 + length body) (bytes_of side old))))
+      ⊎ (IsIssued arm (first_gate side) calls × (drop 1 (bytes_of side image) ≡ body ++ drop (1 + length body) (bytes_of side old))))
 
 -- the bytes of a side that was written anew
 abbrev pub filled : List ℕ → List ℕ → List ℕ

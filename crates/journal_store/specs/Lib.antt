@@ -2,6 +2,7 @@ pub mod Found
 pub mod Standing
 pub mod Crashes
 pub mod Calls
+pub mod Closing
 pub mod Mounting
 pub mod Device
 pub mod WrittenSides

@@ -1,5 +1,8 @@
 -- What a journal keeps of calls on its device that were done or stopped.
 use Rattle.std.specs.Prelude.{◌≡◌, ◌⊎◌, ℕ, Option, None, Some, Result, Ok, Err}
+use Rattle.mld_io.specs.Arm.{Meter}
+use Rattle.mld_io.specs.Disk.{Log}
+use Rattle.journal_store.specs.Closing.{WasCalled}
 use Rattle.journal_store.specs.declared.device.Stop.{Stop}
 use Rattle.journal_store.specs.declared.device.Stop.TheVariants.{Before, Within}
 use Rattle.journal_store.specs.declared.faults.AppendFault.{AppendFault}
@@ -17,9 +20,19 @@ Settles {U = U} stop closed (Ok end) stop' closed' result = (stop' ≡ end) × (
 Settles stop closed (Err Before) stop' closed' result = (stop' ≡ stop) × (closed' ≡ closed) × (result ≡ Err why.NoMemory)
 Settles stop closed (Err (Within reason)) stop' closed' result = (stop' ≡ stop) × (closed' ≡ Some reason) × (result ≡ Err reason)
 
--- a call that was refused has closed the journal, or there was no memory for its first call and nothing has changed
-abbrev pub Closes : {B : Type 0} → B → B → ℕ → ℕ → Option Why → Why → Type 0
-Closes old new stop stop' closed reason = (closed ≡ Some reason) ⊎ ((reason ≡ why.NoMemory) × (new ≡ old) × (stop' ≡ stop) × (closed ≡ None))
+-- calls on a device ended behind the first of them, other than by a failure of the device
+abbrev pub IsCalled : {U : Type 0} → Result U Stop → Type 0
+IsCalled (Ok u) = Unit {0}
+IsCalled (Err Before) = ⊥
+IsCalled (Err (Within why.Device)) = ⊥
+IsCalled (Err (Within why.NoMemory)) = Unit {0}
+
+-- a call that was refused has closed the journal, for want of memory only where a call of the device was done, or there was no memory
+-- for its first call and nothing has changed
+abbrev pub Closes : {B : Type 0} → (B → Option Log) → (B → Meter) → B → B → ℕ → ℕ → Option Why → Why → Type 0
+Closes log meter old new stop stop' closed reason =
+    ((closed ≡ Some reason) × (reason ≡ why.NoMemory → WasCalled log meter old new))
+    ⊎ ((reason ≡ why.NoMemory) × (new ≡ old) × (stop' ≡ stop) × (closed ≡ None))
 
 -- the faults that tell of it
 abbrev pub append_fault : Why → AppendFault

@@ -1,12 +1,13 @@
 -- What the calls that write put on a side.
 use Rattle.std.specs.Prelude.{◌≡◌, ◌⊎◌, ℕ, List, Option, Some}
+use Rattle.mld_io.specs.Arm.{Arm}
 use Rattle.mld_io.specs.Disk.{Call, Log, Sides, bytes_of, other_side, seen, IsSettled}
 use Rattle.mld_io.specs.declared.banks.Side.{Side}
 use Rattle.journal_sides.specs.Records.{RecordValue}
 use Rattle.journal_sides.specs.SideReadings.{IsClosed, IsOpen, Volume, read_side}
 use Rattle.journal_sides.specs.StoredVolumes.{EndsAt}
 use Rattle.journal_sides.specs.WrittenRecords.{with_record}
-use Rattle.journal_store.specs.Crashes.{OpensGate}
+use Rattle.journal_store.specs.Crashes.{IsIssued, append_gate, first_gate}
 
 -- a side has a volume that ends at this place, and the other is as it was; a crash now leaves just that
 pub record HasVolume (side : Side) (volume : Volume) (stop : ℕ) (old : Log) (now : Option Log) : Type 0 where
@@ -18,14 +19,14 @@ pub record HasVolume (side : Side) (volume : Volume) (stop : ℕ) (old : Log) (n
 
 -- what may be there at a moment of an append: the side reads as before, or, only once the write of the gate was issued, with the
 -- record behind the others; the other side is as it was
-pub record IsAppendingTo (side : Side) (volume : Volume) (next : RecordValue) (old : Sides) (calls : List Call) (image : Sides) : Type 0 where
+pub record IsAppendingTo (arm : Arm) (side : Side) (stop : ℕ) (volume : Volume) (next : RecordValue) (old : Sides) (calls : List Call) (image : Sides) : Type 0 where
   pub other : bytes_of (other_side side) image ≡ bytes_of (other_side side) old
   pub reads : (read_side (bytes_of side image) ≡ IsOpen volume)
-      ⊎ (OpensGate side calls × (read_side (bytes_of side image) ≡ IsOpen (with_record next volume)))
+      ⊎ (IsIssued arm (append_gate side stop) calls × (read_side (bytes_of side image) ≡ IsOpen (with_record next volume)))
 
 -- what may be there at a moment while a side is written anew: it is as it was, or closed, or, only once the write of its gate was
 -- issued, as it is to be; the other side is as it was
-pub record IsWritingTo (side : Side) (volume : Volume) (old : Sides) (calls : List Call) (image : Sides) : Type 0 where
+pub record IsWritingTo (arm : Arm) (side : Side) (volume : Volume) (old : Sides) (calls : List Call) (image : Sides) : Type 0 where
   pub other : bytes_of (other_side side) image ≡ bytes_of (other_side side) old
   pub reads : (bytes_of side image ≡ bytes_of side old)
-      ⊎ ((read_side (bytes_of side image) ≡ IsClosed) ⊎ (OpensGate side calls × (read_side (bytes_of side image) ≡ IsOpen volume)))
+      ⊎ ((read_side (bytes_of side image) ≡ IsClosed) ⊎ (IsIssued arm (first_gate side) calls × (read_side (bytes_of side image) ≡ IsOpen volume)))

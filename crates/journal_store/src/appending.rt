@@ -8,7 +8,8 @@ ghost use Rattle.journal_sides.specs.Records.{RecordValue, record_bytes};
 ghost use Rattle.journal_sides.specs.SideReadings.{Volume};
 ghost use Rattle.journal_sides.specs.StoredVolumes.{EndsAt, IsGoodHead, AreGoodEntries, IsVolume};
 ghost use Rattle.journal_sides.specs.WrittenRecords.{with_record, volume_of};
-ghost use Rattle.journal_store.specs.Settling.{Settles, Closes};
+ghost use Rattle.journal_store.specs.Settling.{Settles, Closes, IsCalled};
+ghost use Rattle.journal_store.specs.Closing.{WasCalled, StaysTold};
 ghost use Rattle.journal_store.specs.WrittenSides.{HasVolume, IsAppendingTo, IsWritingTo};
 
 use crate::device::{Stop, append_body, fill_side};
@@ -34,9 +35,10 @@ pub(crate) fn put_record<B: Banks>(
         → IfOk result (λ end. HasVolume side (with_record next volume) end l (B.log banks.new)) }
     ensures moments { (l : Log) (volume : Volume) (next : RecordValue) → B.log banks.old ≡ Some l → IsSettled l → EndsAt volume stop (bytes_of side (seen l))
         → body.now ≡ record_bytes next ++ closed_gate ∷ [] → IsVolume volume → IsVolume (with_record next volume)
-        → LeavesMeanwhile l (B.log banks.new) (IsAppendingTo side volume next (seen l)) }
+        → LeavesMeanwhile l (B.log banks.new) (IsAppendingTo (B.meter banks.old).arm side stop volume next (seen l)) }
     ensures before { IsErrOf result Stop.Before → banks.new ≡ banks.old }
-    ensures untold { B.log banks.old ≡ None → B.log banks.new ≡ None }
+    ensures called { IsCalled result → WasCalled B.log B.meter banks.old banks.new }
+    ensures told { StaysTold (B.log banks.old) (B.log banks.new) }
     ensures meter { Metered 4 (B.meter banks.old) (B.meter banks.new) (IsOk result) (IsErrOf result (Stop.Within Why.Device)) }
 {
     append_body(banks, side, stop, body)?;
@@ -59,9 +61,10 @@ pub(crate) fn write_side<B: Banks>(
     ensures done { (l : Log) → B.log banks.old ≡ Some l → IsSettled l
         → IfOk result (λ end. HasVolume side (volume_of generation (head_value head.now) entries.now) end l (B.log banks.new)) }
     ensures moments { (l : Log) → B.log banks.old ≡ Some l → IsSettled l
-        → LeavesMeanwhile l (B.log banks.new) (IsWritingTo side (volume_of generation (head_value head.now) entries.now) (seen l)) }
+        → LeavesMeanwhile l (B.log banks.new) (IsWritingTo (B.meter banks.old).arm side (volume_of generation (head_value head.now) entries.now) (seen l)) }
     ensures before { IsErrOf result Stop.Before → banks.new ≡ banks.old }
-    ensures untold { B.log banks.old ≡ None → B.log banks.new ≡ None }
+    ensures called { IsCalled result → WasCalled B.log B.meter banks.old banks.new }
+    ensures told { StaysTold (B.log banks.old) (B.log banks.new) }
     ensures meter { Metered 6 (B.meter banks.old) (B.meter banks.new) (IsOk result) (IsErrOf result (Stop.Within Why.Device)) }
 {
     let body = side_body(alloc, generation, head, entries)?;
@@ -101,14 +104,15 @@ pub(crate) fn append_at<B: Banks>(
     requires gate { (l : Log) → B.log banks.old ≡ Some l → stop.old < length (bytes_of side (seen l)) }
     ensures room { stop.new + 1 < 2 ^ 64 }
     ensures opened { OnOk result (closed.new ≡ None) }
-    ensures refused { IfErr result (Closes banks.old banks.new stop.old stop.new closed.new) }
+    ensures called { OnOk result (WasCalled B.log B.meter banks.old banks.new) }
+    ensures refused { IfErr result (Closes B.log B.meter banks.old banks.new stop.old stop.new closed.new) }
     ensures done { (l : Log) (volume : Volume) (next : RecordValue) → B.log banks.old ≡ Some l → IsSettled l → EndsAt volume stop.old (bytes_of side (seen l))
         → body.now ≡ record_bytes next ++ closed_gate ∷ []
         → OnOk result (HasVolume side (with_record next volume) stop.new l (B.log banks.new)) }
     ensures moments { (l : Log) (volume : Volume) (next : RecordValue) → B.log banks.old ≡ Some l → IsSettled l → EndsAt volume stop.old (bytes_of side (seen l))
         → body.now ≡ record_bytes next ++ closed_gate ∷ [] → IsVolume volume → IsVolume (with_record next volume)
-        → LeavesMeanwhile l (B.log banks.new) (IsAppendingTo side volume next (seen l)) }
-    ensures untold { B.log banks.old ≡ None → B.log banks.new ≡ None }
+        → LeavesMeanwhile l (B.log banks.new) (IsAppendingTo (B.meter banks.old).arm side stop.old volume next (seen l)) }
+    ensures told { StaysTold (B.log banks.old) (B.log banks.new) }
     ensures meter { Metered 4 (B.meter banks.old) (B.meter banks.new) (IsOk result) (IsErrOf result Why.Device) }
 {
     let put = put_record(banks, side, *stop, body);
@@ -132,13 +136,14 @@ pub(crate) fn swap_at<B: Banks>(
     requires entries { AreGoodEntries (head_value head.now).base.ticks entries.now }
     ensures room { stop.new + 1 < 2 ^ 64 }
     ensures opened { OnOk result (closed.new ≡ None) }
-    ensures refused { IfErr result (Closes banks.old banks.new stop.old stop.new closed.new) }
+    ensures called { OnOk result (WasCalled B.log B.meter banks.old banks.new) }
+    ensures refused { IfErr result (Closes B.log B.meter banks.old banks.new stop.old stop.new closed.new) }
     ensures stored { OnOk result (IsVolume (volume_of generation (head_value head.now) entries.now)) }
     ensures done { (l : Log) → B.log banks.old ≡ Some l → IsSettled l
         → OnOk result (HasVolume side (volume_of generation (head_value head.now) entries.now) stop.new l (B.log banks.new)) }
     ensures moments { (l : Log) → B.log banks.old ≡ Some l → IsSettled l
-        → LeavesMeanwhile l (B.log banks.new) (IsWritingTo side (volume_of generation (head_value head.now) entries.now) (seen l)) }
-    ensures untold { B.log banks.old ≡ None → B.log banks.new ≡ None }
+        → LeavesMeanwhile l (B.log banks.new) (IsWritingTo (B.meter banks.old).arm side (volume_of generation (head_value head.now) entries.now) (seen l)) }
+    ensures told { StaysTold (B.log banks.old) (B.log banks.new) }
     ensures meter { Metered 6 (B.meter banks.old) (B.meter banks.new) (IsOk result) (IsErrOf result Why.Device) }
 {
     let put = write_side(alloc, banks, side, generation, head, entries);

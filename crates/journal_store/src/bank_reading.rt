@@ -3,6 +3,7 @@ ghost use Rattle.std.specs.Prelude.{◌≡◌, ◌≤◌, ◌+◌, ◌++◌, Som
 ghost use Rattle.mld_io.specs.Arm.{Metered};
 ghost use Rattle.mld_io.specs.Disk.{Log, Sides, bytes_of, seen};
 ghost use Rattle.journal_sides.specs.FoundVolumes.{HasPlaceBehind, MayBeWritten};
+ghost use Rattle.journal_store.specs.Closing.{StaysTold};
 ghost use Rattle.journal_store.specs.Crashes.{LeavesNoMore};
 ghost use Rattle.journal_store.specs.Found.{ReadsSame, TellsSide, TellsBoth, IsQuiet, IsFailed, fault_on};
 ghost use Rattle.journal_store.specs.Mounting.{IsSynced};
@@ -126,7 +127,7 @@ fn sync_both<B: Banks>(banks: &mut B) -> Result<(), MountFault>
     ensures refusals { IfErr result (λ fault. fault ≡ MountFault.Device) }
     ensures synced { (l : Log) → B.log banks.old ≡ Some l → IsSynced (IsOk result) l (B.log banks.new) }
     ensures moments { (l : Log) → B.log banks.old ≡ Some l → LeavesNoMore l (B.log banks.new) }
-    ensures untold { B.log banks.old ≡ None → B.log banks.new ≡ None }
+    ensures told { StaysTold (B.log banks.old) (B.log banks.new) }
     ensures meter { Metered 2 (B.meter banks.old) (B.meter banks.new) (IsQuiet result) (IsFailed result) }
 {
     banks.sync(Side::A)?;
@@ -166,7 +167,7 @@ pub(crate) fn find<B: Banks>(alloc: Global, banks: &mut B) -> Result<Option<Foun
     ensures good { IfOk result MayBeWritten }
     ensures synced { (l : Log) → B.log banks.old ≡ Some l → IsSynced (IsQuiet result) l (B.log banks.new) }
     ensures moments { (l : Log) → B.log banks.old ≡ Some l → LeavesNoMore l (B.log banks.new) }
-    ensures untold { B.log banks.old ≡ None → B.log banks.new ≡ None }
+    ensures told { StaysTold (B.log banks.old) (B.log banks.new) }
     ensures meter { Metered 2 (B.meter banks.old) (B.meter banks.new) (IsQuiet result) (IsFailed result) }
 {
     sync_both(banks)?;

@@ -3,6 +3,8 @@
 ghost use Rattle.std.specs.Prelude.{◌≡◌, ◌↔◌, ◌+◌, ◌^◌, ◌<◌, ◌≤◌, ◌∷◌, [], None, Some, length, OnOk, IsOk, IsErrOf};
 ghost use Rattle.mld_io.specs.Arm.{Metered};
 ghost use Rattle.mld_io.specs.Disk.{Log, Writes, Syncs, LeavesMeanwhile, IsSettled, Wrote, bytes_of, grown, seen};
+ghost use Rattle.journal_store.specs.Closing.{WasCalled, StaysTold};
+ghost use Rattle.journal_store.specs.Settling.{IsCalled};
 ghost use Rattle.journal_store.specs.Device.{IsAppending, IsFilling, HasBytes, appended, filled};
 
 use crate::faults::Why;
@@ -76,9 +78,10 @@ pub(crate) fn append_body<B: Banks>(
     requires gate { (l : Log) → B.log banks.old ≡ Some l → gate < length (bytes_of side (seen l)) }
     ensures small { OnOk result (gate + 1 + length body.now < 2 ^ 64) }
     ensures done { (l : Log) → B.log banks.old ≡ Some l → IsSettled l → OnOk result (HasBytes side (appended gate body.now (bytes_of side (seen l))) l (B.log banks.new)) }
-    ensures moments { (l : Log) → B.log banks.old ≡ Some l → IsSettled l → LeavesMeanwhile l (B.log banks.new) (IsAppending side gate body.now (seen l)) }
+    ensures moments { (l : Log) → B.log banks.old ≡ Some l → IsSettled l → LeavesMeanwhile l (B.log banks.new) (IsAppending (B.meter banks.old).arm side gate body.now (seen l)) }
     ensures before { IsErrOf result Stop.Before → banks.new ≡ banks.old }
-    ensures untold { B.log banks.old ≡ None → B.log banks.new ≡ None }
+    ensures called { IsCalled result → WasCalled B.log B.meter banks.old banks.new }
+    ensures told { StaysTold (B.log banks.old) (B.log banks.new) }
     ensures meter { Metered 4 (B.meter banks.old) (B.meter banks.new) (IsOk result) (IsErrOf result (Stop.Within Why.Device)) }
 {
     match write_body(banks, side, gate + 1, body) {
@@ -106,9 +109,10 @@ fn within(last: Result<(), IoFault>) -> Result<(), Stop>
 pub(crate) fn fill_side<B: Banks>(banks: &mut B, side: Side, body: &[u8]) -> Result<(), Stop>
     ensures small { OnOk result (1 + length body.now < 2 ^ 64) }
     ensures done { (l : Log) → B.log banks.old ≡ Some l → IsSettled l → OnOk result (HasBytes side (filled body.now (bytes_of side (seen l))) l (B.log banks.new)) }
-    ensures moments { (l : Log) → B.log banks.old ≡ Some l → IsSettled l → LeavesMeanwhile l (B.log banks.new) (IsFilling side body.now (seen l)) }
+    ensures moments { (l : Log) → B.log banks.old ≡ Some l → IsSettled l → LeavesMeanwhile l (B.log banks.new) (IsFilling (B.meter banks.old).arm side body.now (seen l)) }
     ensures before { IsErrOf result Stop.Before → banks.new ≡ banks.old }
-    ensures untold { B.log banks.old ≡ None → B.log banks.new ≡ None }
+    ensures called { IsCalled result → WasCalled B.log B.meter banks.old banks.new }
+    ensures told { StaysTold (B.log banks.old) (B.log banks.new) }
     ensures meter { Metered 6 (B.meter banks.old) (B.meter banks.new) (IsOk result) (IsErrOf result (Stop.Within Why.Device)) }
 {
     match shut_gate(banks, side) {

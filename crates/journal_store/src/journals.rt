@@ -1,6 +1,7 @@
 //! Journals, and banks that keep nothing.
 use crate::faults::Why;
 use mld_io::{Banks, CrashBanks, Leave, Side};
+use std::alloc::Global;
 use std::marker::Model;
 
 /// Banks that keep nothing: neither of their first gates is open. Contracts see the banks.
@@ -44,11 +45,11 @@ impl<B: CrashBanks> Blank<B> {
     ghost use Rattle.std.specs.Prelude.{◌≡◌};
     ghost use Rattle.mld_io.specs.Arm.{armed};
 
-    /// Has so many calls of the banks that write or sync done, and catches the next one. It calls no device and takes no
-    /// memory.
+    /// Has so many calls of the banks that write or sync done, and catches the next one; the crash then leaves this much of
+    /// the writes that aren't synced. It calls no device and takes no memory.
     pub fn arm(&mut self, calls: u32, leave: Leave)
         ensures log { B.log self.new ≡ B.log self.old }
-        ensures meter { B.meter self.new ≡ armed calls (B.meter self.old) }
+        ensures meter { B.meter self.new ≡ armed calls leave (B.meter self.old) }
     {
         self.banks.arm(calls, leave);
     }
@@ -65,6 +66,8 @@ pub struct Journal<B: Banks> {
     pub(crate) stop: u64,
     /// Why an earlier call closed the journal, if one did.
     pub(crate) closed: Option<Why>,
+    /// Where the record of an entry is made before it is written; its room is kept for the next one.
+    pub(crate) body: Vec<u8>,
 }
 
 impl<B: Banks> Model for Journal<B> {
@@ -80,11 +83,11 @@ impl<B: Banks> Model for Journal<B> {
 }
 
 impl<B: Banks> Journal<B> {
-    ghost use Rattle.std.specs.Prelude.{◌≡◌, None};
+    ghost use Rattle.std.specs.Prelude.{◌≡◌, None, Some};
     ghost use Rattle.journal_store.specs.Standing.{IsJournal};
 
     /// An open journal on banks, whose records end at this place.
-    pub(crate) fn new(banks: B, side: Side, generation: u64, stop: u64) -> Journal<B>
+    pub(crate) fn new(alloc: Global, banks: B, side: Side, generation: u64, stop: u64) -> Journal<B>
         requires { IsJournal (B.log banks) side generation stop None }
         ensures { result ≡ record { banks = banks; side = side; generation = generation; closed = None } }
     {
@@ -94,6 +97,7 @@ impl<B: Banks> Journal<B> {
             generation,
             stop,
             closed: None,
+            body: Vec::new(alloc),
         }
     }
 
@@ -102,6 +106,14 @@ impl<B: Banks> Journal<B> {
         ensures { result ≡ self.now.closed }
     {
         self.closed
+    }
+
+    /// Closes a journal that is open, as for a call that ended behind appends that were done. It calls no device and takes
+    /// no memory.
+    pub fn close(&mut self, why: Why)
+        ensures { self.new ≡ record self.old { closed = Some why } }
+    {
+        self.closed = Some(why);
     }
 
     /// The banks. It takes no memory.
@@ -116,11 +128,11 @@ impl<B: CrashBanks> Journal<B> {
     ghost use Rattle.std.specs.Prelude.{◌≡◌};
     ghost use Rattle.mld_io.specs.Arm.{armed};
 
-    /// Has so many calls of the banks that write or sync done, and catches the next one. It calls no device and takes no
-    /// memory.
+    /// Has so many calls of the banks that write or sync done, and catches the next one; the crash then leaves this much of
+    /// the writes that aren't synced. It calls no device and takes no memory.
     pub fn arm(&mut self, calls: u32, leave: Leave)
         ensures log { B.log self.new.banks ≡ B.log self.old.banks }
-        ensures meter { B.meter self.new.banks ≡ armed calls (B.meter self.old.banks) }
+        ensures meter { B.meter self.new.banks ≡ armed calls leave (B.meter self.old.banks) }
         ensures same { self.new ≡ record self.old { banks = self.new.banks } }
     {
         self.banks.arm(calls, leave);

@@ -1,8 +1,9 @@
 //! The mounting of banks: what is kept on them is read.
-ghost use Rattle.std.specs.Prelude.{◌≡◌, Some, None};
+ghost use Rattle.std.specs.Prelude.{◌≡◌, Some};
 ghost use Rattle.mld_io.specs.Arm.{Metered};
 ghost use Rattle.mld_io.specs.Disk.{Log, seen};
 ghost use Rattle.journal_sides.specs.Pairs.{read_banks};
+ghost use Rattle.journal_store.specs.Closing.{StaysTold};
 ghost use Rattle.journal_store.specs.Crashes.{LeavesNoMore};
 ghost use Rattle.journal_store.specs.Mounting.{mounted_banks, TellsPair, IsOpened, FindsGood, BothSynced, FailsToMount, IsSynced};
 
@@ -33,13 +34,13 @@ impl<B: Banks> Journal<B> {
         ensures good { FindsGood result }
         ensures synced { (l : Log) → B.log banks ≡ Some l → IsSynced (BothSynced result) l (B.log (mounted_banks result)) }
         ensures moments { (l : Log) → B.log banks ≡ Some l → LeavesNoMore l (B.log (mounted_banks result)) }
-        ensures untold { B.log banks ≡ None → B.log (mounted_banks result) ≡ None }
+        ensures told { StaysTold (B.log banks) (B.log (mounted_banks result)) }
         ensures meter { Metered 2 (B.meter banks) (B.meter (mounted_banks result)) (BothSynced result) (FailsToMount result) }
     {
         let mut banks = banks;
         match find(alloc, &mut banks) {
             Ok(Some(found)) => {
-                let journal = Journal::new(banks, found.side, found.generation, found.stop);
+                let journal = Journal::new(alloc, banks, found.side, found.generation, found.stop);
                 JournalMounted::Found(journal, found.head, found.entries)
             }
             Ok(None) => JournalMounted::Empty(Blank::new(banks)),

@@ -1,20 +1,21 @@
 //! The calls that write: a journal is made, appended to, and swapped for another.
-ghost use Rattle.std.specs.Prelude.{◌≡◌, ◌↔◌, ◌-◌, ◌^◌, ◌+◌, Option, Some, None, Result, Ok, Err, IsOk, IfOk, OnOk, MatchResult, IsErrOf};
+ghost use Rattle.std.specs.Prelude.{◌≡◌, ◌↔◌, ◌-◌, ◌^◌, false, Some, None, IsOk, IfOk, IfErr, OnOk, IsErrOf};
 ghost use Rattle.mld_io.specs.Arm.{Metered};
-ghost use Rattle.mld_io.specs.Disk.{Log, seen, other_side};
+ghost use Rattle.mld_io.specs.Disk.{other_side};
 ghost use Rattle.op_codec.specs.Stored.{IsShortEntry};
 ghost use Rattle.journal_sides.specs.Heads.{head_value};
-ghost use Rattle.journal_sides.specs.Pairs.{Kept, Keeps, KeepsNone, with_entry, with_fork};
+ghost use Rattle.journal_sides.specs.Pairs.{Kept, with_entry, with_fork};
 ghost use Rattle.journal_sides.specs.StoredVolumes.{IsGoodHead, AreGoodEntries};
-ghost use Rattle.journal_store.specs.Calls.{KeptBy, made, swapped, MayAppend, MayFork, StaysOrCloses, made_banks, FailsToMake};
-ghost use Rattle.journal_store.specs.Crashes.{LeavesEither};
+ghost use Rattle.journal_store.specs.Calls.{KeptBy, swapped, MayAppend, MayFork, made_banks, FailsToMake};
+ghost use Rattle.journal_store.specs.Closing.{LeavesChange, LeavesMaking, StaysTold, IsAppended, IsSwapped, IsMade, LeavesAppend, LeavesSwap, LeavesUnmade};
+ghost use Rattle.journal_store.specs.Crashes.{first_gate, gate_behind};
 ghost use Rattle.journal_store.specs.Standing.{KeepsNow};
 ghost use Rattle.journal_store.specs.declared.faults.Why.{Why};
 
 use crate::appending::{append_at, swap_at, write_side};
 use crate::faults::{AppendFault, MakeFault, SwapFault, Why};
 use crate::journals::{Blank, Journal};
-use journal_sides::{FORK_BODY, Head, entry_body};
+use journal_sides::{FORK_BODY, Head, fill_entry_body};
 use mld_io::{Banks, Side};
 use mld_ops::Entry;
 use std::alloc::Global;
@@ -38,18 +39,15 @@ impl<B: Banks> Journal<B> {
     /// `Device` where the device failed, and `NoMemory`. The banks are given back.
     pub fn create(alloc: Global, blank: Blank<B>, head: &Head) -> Result<Journal<B>, (MakeFault, B)>
         requires { IsGoodHead (head_value head.now) }
-        ensures opened { IfOk result (λ journal. journal.closed ≡ None) }
-        ensures kept { (l : Log) → B.log blank ≡ Some l → IfOk result (λ journal. KeepsNow (made (head_value head.now)) (B.log journal.banks)) }
-        ensures side { IfOk result (λ journal. journal.side ≡ Side.A) }
-        ensures generation { IfOk result (λ journal. journal.generation ≡ 1) }
-        ensures moments { (l : Log) → B.log blank ≡ Some l
-            → LeavesEither l (B.log (made_banks result)) KeepsNone (Keeps (made (head_value head.now))) Side.A }
-        ensures untold { B.log blank ≡ None → B.log (made_banks result) ≡ None }
+        ensures ok { IfOk result (IsMade B.log (head_value head.now) blank) }
+        ensures moments { LeavesMaking B.log B.meter (head_value head.now) blank (made_banks result) }
+        ensures err { IfErr result (LeavesUnmade B.log B.meter (head_value head.now) blank) }
+        ensures told { StaysTold (B.log blank) (B.log (made_banks result)) }
         ensures meter { Metered 6 (B.meter blank) (B.meter (made_banks result)) (IsOk result) (FailsToMake result) }
     {
         let mut banks = blank.into_banks();
         match write_side(alloc, &mut banks, Side::A, 1, head, &[]) {
-            Ok(stop) => Ok(Journal::new(banks, Side::A, 1, stop)),
+            Ok(stop) => Ok(Journal::new(alloc, banks, Side::A, 1, stop)),
             Err(stopped) => Err((MakeFault::from(stopped), banks)),
         }
     }
@@ -60,34 +58,30 @@ impl<B: Banks> Journal<B> {
     /// # Errors
     ///
     /// `Closed` where an earlier call on this journal answered `Device`, or `NoMemory` after a call of the device was
-    /// done. `Device` where the device failed, which closes the journal, and `NoMemory`.
-    pub fn append_entry(&mut self, alloc: Global, entry: &Entry) -> Result<(), AppendFault>
+    /// done, or where `close` closed it; nothing changes then. `Device` where the device failed, which closes the journal.
+    /// `NoMemory` leaves it as it was where no call of the device was done, and closes it else.
+    pub fn append_entry(&mut self, entry: &Entry) -> Result<(), AppendFault>
         requires follows { (kept : Kept) → KeptBy (B.log self.old.banks) self.old.closed kept → MayAppend entry.now kept }
         requires short { IsShortEntry entry.now }
         ensures kept { (kept : Kept) → KeptBy (B.log self.old.banks) self.old.closed kept
             → OnOk result (KeepsNow (with_entry entry.now kept) (B.log self.new.banks)) }
-        ensures moments { (l : Log) (kept : Kept) → B.log self.old.banks ≡ Some l → KeptBy (B.log self.old.banks) self.old.closed kept
-            → LeavesEither l (B.log self.new.banks) (Keeps kept) (Keeps (with_entry entry.now kept)) self.old.side }
+        ensures moments { LeavesChange B.log B.meter self.old self.new (with_entry entry.now) (gate_behind self.old.side) }
         ensures closed { (why : Why) → IsErrOf result (AppendFault.Closed why) ↔ (self.old.closed ≡ Some why) }
-        ensures unchanged { (why : Why) → IsErrOf result (AppendFault.Closed why) → self.new ≡ self.old }
-        ensures opened { OnOk result (self.new.closed ≡ None) }
-        ensures device { IsErrOf result AppendFault.Device → self.new.closed ≡ Some Why.Device }
-        ensures no_memory { IsErrOf result AppendFault.NoMemory → StaysOrCloses self.old self.new }
-        ensures side { self.new.side ≡ self.old.side }
-        ensures generation { self.new.generation ≡ self.old.generation }
-        ensures untold { B.log self.old.banks ≡ None → B.log self.new.banks ≡ None }
+        ensures ok { OnOk result (IsAppended B.log B.meter self.old self.new) }
+        ensures err { IfErr result (LeavesAppend B.log B.meter self.old self.new) }
+        ensures told { StaysTold (B.log self.old.banks) (B.log self.new.banks) }
         ensures meter { Metered 4 (B.meter self.old.banks) (B.meter self.new.banks) (IsOk result) (IsErrOf result AppendFault.Device) }
     {
         if let Some(why) = self.closed {
             return Err(AppendFault::Closed { why });
         }
-        let body = entry_body(alloc, entry)?;
+        fill_entry_body(&mut self.body, entry)?;
         append_at(
             &mut self.banks,
             self.side,
             &mut self.stop,
             &mut self.closed,
-            &body,
+            &self.body,
         )?;
         Ok(())
     }
@@ -102,16 +96,11 @@ impl<B: Banks> Journal<B> {
         requires { (kept : Kept) → KeptBy (B.log self.old.banks) self.old.closed kept → MayFork kept }
         ensures kept { (kept : Kept) → KeptBy (B.log self.old.banks) self.old.closed kept
             → OnOk result (KeepsNow (with_fork kept) (B.log self.new.banks)) }
-        ensures moments { (l : Log) (kept : Kept) → B.log self.old.banks ≡ Some l → KeptBy (B.log self.old.banks) self.old.closed kept
-            → LeavesEither l (B.log self.new.banks) (Keeps kept) (Keeps (with_fork kept)) self.old.side }
+        ensures moments { LeavesChange B.log B.meter self.old self.new with_fork (gate_behind self.old.side) }
         ensures closed { (why : Why) → IsErrOf result (AppendFault.Closed why) ↔ (self.old.closed ≡ Some why) }
-        ensures unchanged { (why : Why) → IsErrOf result (AppendFault.Closed why) → self.new ≡ self.old }
-        ensures opened { OnOk result (self.new.closed ≡ None) }
-        ensures device { IsErrOf result AppendFault.Device → self.new.closed ≡ Some Why.Device }
-        ensures no_memory { IsErrOf result AppendFault.NoMemory → StaysOrCloses self.old self.new }
-        ensures side { self.new.side ≡ self.old.side }
-        ensures generation { self.new.generation ≡ self.old.generation }
-        ensures untold { B.log self.old.banks ≡ None → B.log self.new.banks ≡ None }
+        ensures ok { OnOk result (IsAppended B.log B.meter self.old self.new) }
+        ensures err { IfErr result (LeavesAppend B.log B.meter self.old self.new) }
+        ensures told { StaysTold (B.log self.old.banks) (B.log self.new.banks) }
         ensures meter { Metered 4 (B.meter self.old.banks) (B.meter self.new.banks) (IsOk result) (IsErrOf result AppendFault.Device) }
     {
         if let Some(why) = self.closed {
@@ -139,18 +128,13 @@ impl<B: Banks> Journal<B> {
         requires entries { AreGoodEntries (head_value head.now).base.ticks entries.now }
         ensures kept { (kept : Kept) → KeptBy (B.log self.old.banks) self.old.closed kept
             → OnOk result (KeepsNow (swapped (head_value head.now) entries.now kept) (B.log self.new.banks)) }
-        ensures moments { (l : Log) (kept : Kept) → B.log self.old.banks ≡ Some l → KeptBy (B.log self.old.banks) self.old.closed kept
-            → LeavesEither l (B.log self.new.banks) (Keeps kept) (Keeps (swapped (head_value head.now) entries.now kept)) (other_side self.old.side) }
+        ensures moments { LeavesChange B.log B.meter self.old self.new (swapped (head_value head.now) entries.now)
+            (λ l. first_gate (other_side self.old.side)) }
         ensures closed { (why : Why) → IsErrOf result (SwapFault.Closed why) ↔ (self.old.closed ≡ Some why) }
         ensures spent { IsErrOf result SwapFault.GenerationsSpent ↔ ((self.old.closed ≡ None) × (self.old.generation ≡ 2 ^ 64 - 1)) }
-        ensures unchanged { (why : Why) → IsErrOf result (SwapFault.Closed why) → self.new ≡ self.old }
-        ensures spent_unchanged { IsErrOf result SwapFault.GenerationsSpent → self.new ≡ self.old }
-        ensures opened { OnOk result (self.new.closed ≡ None) }
-        ensures device { IsErrOf result SwapFault.Device → self.new.closed ≡ Some Why.Device }
-        ensures no_memory { IsErrOf result SwapFault.NoMemory → StaysOrCloses self.old self.new }
-        ensures side { MatchResult result (λ _. self.new.side ≡ other_side self.old.side) (λ _. self.new.side ≡ self.old.side) }
-        ensures generation { MatchResult result (λ _. self.new.generation ≡ self.old.generation + 1) (λ _. self.new.generation ≡ self.old.generation) }
-        ensures untold { B.log self.old.banks ≡ None → B.log self.new.banks ≡ None }
+        ensures ok { OnOk result (IsSwapped B.log B.meter self.old self.new) }
+        ensures err { IfErr result (LeavesSwap B.log B.meter false self.old self.new) }
+        ensures told { StaysTold (B.log self.old.banks) (B.log self.new.banks) }
         ensures meter { Metered 6 (B.meter self.old.banks) (B.meter self.new.banks) (IsOk result) (IsErrOf result SwapFault.Device) }
     {
         if let Some(why) = self.closed {

@@ -79,7 +79,7 @@ fn append_and_swap(
     requires ready { IsReadyEntry (head_value head.now).base.ticks entry.now }
     requires short { IsShortEntry entry.now }
 {
-    match journal.append_entry(alloc, entry) {
+    match journal.append_entry(entry) {
         Ok(()) => match journal.swap(alloc, head, &[]) {
             Ok(()) => Refused::Nothing,
             Err(SwapFault::Device) => Refused::Swap,

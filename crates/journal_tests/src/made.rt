@@ -51,7 +51,7 @@ pub fn first_entry(alloc: Global, head: &Head) -> Result<Box<Entry>, Fail>
     ensures short { IfOk result (λ entry. IsShortEntry entry.value) }
 {
     let (entry, _next) = read_entry(alloc, SIDE, ENTRY_PLACE)?;
-    if !is_short_entry(alloc, &entry)? {
+    if !is_short_entry(&entry) {
         return Err("a long entry".into());
     }
     if !is_ready(&head.base, &entry) {

@@ -10,14 +10,14 @@ use Rattle.journal_store.proofs.appending.put_record.Goals as goal
 
 pub returns-in_err-append_body-clause-moments : goal.returns-in_err-append_body-clause-moments
 returns-in_err-append_body-clause-moments g c l volume next e settled ends body_is is more =
-    weaken_moments l (g.B.Banks.log c.append_body.new.banks) (IsAppending c.args.side c.args.stop c.args.body.now (seen l)) (IsAppendingTo c.args.side volume next (seen l))
-    (λ calls image at. appending_reads c.args.side volume next c.args.stop c.args.body.now (seen l) calls image is more ends body_is at)
+    weaken_moments l (g.B.Banks.log c.append_body.new.banks) (IsAppending (g.B.Banks.meter c.args.banks.now).arm c.args.side c.args.stop c.args.body.now (seen l)) (IsAppendingTo (g.B.Banks.meter c.args.banks.now).arm c.args.side c.args.stop volume next (seen l))
+    (λ calls image at. appending_reads (g.B.Banks.meter c.args.banks.now).arm c.args.side volume next c.args.stop c.args.body.now (seen l) calls image is more ends body_is at)
     (c.append_body.ensures.moments l e settled)
 
 pub returns-clause-moments : goal.returns-clause-moments
 returns-clause-moments g c l volume next e settled ends body_is is more =
-    weaken_moments l (g.B.Banks.log c.append_body.new.banks) (IsAppending c.args.side c.args.stop c.args.body.now (seen l)) (IsAppendingTo c.args.side volume next (seen l))
-    (λ calls image at. appending_reads c.args.side volume next c.args.stop c.args.body.now (seen l) calls image is more ends body_is at)
+    weaken_moments l (g.B.Banks.log c.append_body.new.banks) (IsAppending (g.B.Banks.meter c.args.banks.now).arm c.args.side c.args.stop c.args.body.now (seen l)) (IsAppendingTo (g.B.Banks.meter c.args.banks.now).arm c.args.side c.args.stop volume next (seen l))
+    (λ calls image at. appending_reads (g.B.Banks.meter c.args.banks.now).arm c.args.side volume next c.args.stop c.args.body.now (seen l) calls image is more ends body_is at)
     (c.append_body.ensures.moments l e settled)
 
 pub returns-clause-done : goal.returns-clause-done

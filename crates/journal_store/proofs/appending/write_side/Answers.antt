@@ -15,16 +15,16 @@ pub returns-in_err-fill_side-clause-moments : goal.returns-in_err-fill_side-clau
 returns-in_err-fill_side-clause-moments g c l e settled =
     let volume : Volume = volume_of c.args.generation (head_value c.args.head.now) c.args.entries.now in
     let body_is : open_gate ∷ c.deref.result.now ≡ volume_bytes volume ++ closed_gate ∷ [] = ap (λ (b : List ℕ). open_gate ∷ b) c.deref.ensures.value ∙ c.in_ok-body.ensures.ok in
-    weaken_moments l (g.B.Banks.log c.fill_side.new.banks) (IsFilling c.args.side c.deref.result.now (seen l)) (IsWritingTo c.args.side volume (seen l))
-    (λ calls image at. filling_reads c.args.side volume c.deref.result.now (seen l) calls image c.in_ok-body.ensures.stored body_is at)
+    weaken_moments l (g.B.Banks.log c.fill_side.new.banks) (IsFilling (g.B.Banks.meter c.args.banks.now).arm c.args.side c.deref.result.now (seen l)) (IsWritingTo (g.B.Banks.meter c.args.banks.now).arm c.args.side volume (seen l))
+    (λ calls image at. filling_reads (g.B.Banks.meter c.args.banks.now).arm c.args.side volume c.deref.result.now (seen l) calls image c.in_ok-body.ensures.stored body_is at)
     (c.fill_side.ensures.moments l e settled)
 
 pub returns-clause-moments : goal.returns-clause-moments
 returns-clause-moments g c l e settled =
     let volume : Volume = volume_of c.args.generation (head_value c.args.head.now) c.args.entries.now in
     let body_is : open_gate ∷ c.deref.result.now ≡ volume_bytes volume ++ closed_gate ∷ [] = ap (λ (b : List ℕ). open_gate ∷ b) c.deref.ensures.value ∙ c.in_ok-body.ensures.ok in
-    weaken_moments l (g.B.Banks.log c.fill_side.new.banks) (IsFilling c.args.side c.deref.result.now (seen l)) (IsWritingTo c.args.side volume (seen l))
-    (λ calls image at. filling_reads c.args.side volume c.deref.result.now (seen l) calls image c.in_ok-body.ensures.stored body_is at)
+    weaken_moments l (g.B.Banks.log c.fill_side.new.banks) (IsFilling (g.B.Banks.meter c.args.banks.now).arm c.args.side c.deref.result.now (seen l)) (IsWritingTo (g.B.Banks.meter c.args.banks.now).arm c.args.side volume (seen l))
+    (λ calls image at. filling_reads (g.B.Banks.meter c.args.banks.now).arm c.args.side volume c.deref.result.now (seen l) calls image c.in_ok-body.ensures.stored body_is at)
     (c.fill_side.ensures.moments l e settled)
 
 pub returns-clause-done : goal.returns-clause-done

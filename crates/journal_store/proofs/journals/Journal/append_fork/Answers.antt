@@ -1,11 +1,11 @@
 -- A fork is appended: what the journal keeps at each moment, and once it is done.
 use Rattle.std.proofs.Common.{◌≡◌, ◌∙◌, ◌++◌, ◌∷◌, [], refl, ap, sym, subst, Some}
-use Rattle.mld_io.specs.declared.banks.Side.{Side}
 use Rattle.journal_sides.specs.Format.{closed_gate}
 use Rattle.journal_sides.specs.Pairs.{Keeps, kept_on, with_fork}
 use Rattle.journal_sides.specs.Records.{ForkRecord, record_bytes}
 use Rattle.journal_sides.proofs.WrittenLaws.{volume_more}
-use Rattle.journal_store.specs.Crashes.{LeavesEither}
+use Rattle.journal_store.specs.Crashes.{LeavesEither, gate_behind}
+use Rattle.journal_store.specs.Standing.{JournalValue}
 use Rattle.journal_store.proofs.JournalLaws.{stands_reads, fork_kept, keeps_more, either_more, kept_at, journal_more}
 use Rattle.journal_store.proofs.ReadLaws.{ends_within}
 use Rattle.journal_store.proofs.journals.Journal.append_fork.Goals as goal
@@ -29,9 +29,10 @@ returns-in_err-append_at-clause-moments g c l kept e k =
       now_is = e;
       opened = k.opened;
       reads = stands_reads c.self.inside.side c.self.inside.generation c.self.inside.stop l stands;
+      settled = stands.settled;
     }) in
-    subst (λ (s : Side). LeavesEither l (g.B.Banks.log c.append_at.new.banks) (Keeps kept) (Keeps (with_fork kept)) s) (ap (λ v. v.side) c.self.view_is)
-    (either_more c.self.inside.side c.self.inside.generation c.self.inside.stop ForkRecord with_fork l (g.B.Banks.log c.append_at.new.banks) stands
+    subst (λ (v : JournalValue g.row.B.Denot). LeavesEither l (g.B.Banks.log c.append_at.new.banks) (Keeps kept) (Keeps (with_fork kept)) (g.B.Banks.meter v.banks).arm (gate_behind v.side l)) c.self.view_is
+    (either_more (g.B.Banks.meter c.self.inside.banks).arm c.self.inside.side c.self.inside.generation c.self.inside.stop ForkRecord with_fork l (g.B.Banks.log c.append_at.new.banks) stands
     (fork_kept c.self.inside.side)
     (c.append_at.ensures.moments l stands.volume ForkRecord told stands.settled stands.ends fork_body stands.stored (volume_more stands.volume ForkRecord stands.stored ready))
     kept (kept_at _ _ kept k l e))
@@ -46,9 +47,10 @@ invariant_of-self-2 g c =
       now_is = sym (ap (λ v. g.B.Banks.log v.banks) c.self.view_is) ∙ told;
       opened = sym (ap (λ v. v.closed) c.self.view_is) ∙ c.in_default.is;
       reads = stands_reads c.self.inside.side c.self.inside.generation c.self.inside.stop l (c.self.invariant.stands l told c.in_default.is);
+      settled = (c.self.invariant.stands l told c.in_default.is).settled;
     }))
     (λ l volume told settled ends. c.in_ok-append_at.ensures.done l volume ForkRecord told settled ends fork_body)
-    c.in_ok-append_at.ensures.untold c.in_ok-append_at.ensures.room
+    c.in_ok-append_at.ensures.told.untold c.in_ok-append_at.ensures.room
 
 pub returns-clause-kept : goal.returns-clause-kept
 returns-clause-kept g c kept k =
@@ -59,6 +61,7 @@ returns-clause-kept g c kept k =
       now_is = k.now_is;
       opened = k.opened;
       reads = stands_reads c.self.inside.side c.self.inside.generation c.self.inside.stop k.log stands;
+      settled = stands.settled;
     }) in
     keeps_more c.self.inside.side c.self.inside.generation c.self.inside.stop c.append_at.new.stop ForkRecord with_fork k.log (g.B.Banks.log c.append_at.new.banks) stands
     (fork_kept c.self.inside.side) ready
@@ -73,9 +76,10 @@ returns-clause-moments g c l kept e k =
       now_is = e;
       opened = k.opened;
       reads = stands_reads c.self.inside.side c.self.inside.generation c.self.inside.stop l stands;
+      settled = stands.settled;
     }) in
-    subst (λ (s : Side). LeavesEither l (g.B.Banks.log c.append_at.new.banks) (Keeps kept) (Keeps (with_fork kept)) s) (ap (λ v. v.side) c.self.view_is)
-    (either_more c.self.inside.side c.self.inside.generation c.self.inside.stop ForkRecord with_fork l (g.B.Banks.log c.append_at.new.banks) stands
+    subst (λ (v : JournalValue g.row.B.Denot). LeavesEither l (g.B.Banks.log c.append_at.new.banks) (Keeps kept) (Keeps (with_fork kept)) (g.B.Banks.meter v.banks).arm (gate_behind v.side l)) c.self.view_is
+    (either_more (g.B.Banks.meter c.self.inside.banks).arm c.self.inside.side c.self.inside.generation c.self.inside.stop ForkRecord with_fork l (g.B.Banks.log c.append_at.new.banks) stands
     (fork_kept c.self.inside.side)
     (c.append_at.ensures.moments l stands.volume ForkRecord told stands.settled stands.ends fork_body stands.stored (volume_more stands.volume ForkRecord stands.stored ready))
     kept (kept_at _ _ kept k l e))

@@ -7,8 +7,8 @@ use Rattle.journal_sides.specs.Pairs.{Kept, Keeps}
 use Rattle.journal_sides.specs.SideReadings.{Volume}
 use Rattle.journal_sides.specs.WrittenRecords.{volume_of}
 use Rattle.journal_store.specs.Calls.{swapped}
-use Rattle.journal_store.specs.Crashes.{LeavesEither}
-use Rattle.journal_store.specs.Standing.{IsJournal}
+use Rattle.journal_store.specs.Crashes.{LeavesEither, first_gate}
+use Rattle.journal_store.specs.Standing.{IsJournal, JournalValue}
 use Rattle.journal_store.specs.WrittenSides.{HasVolume, IsWritingTo}
 use Rattle.journal_store.proofs.JournalLaws.{journal_swapped, keeps_swapped, either_swapped, nothing_moves, kept_at, swapped_is}
 use Rattle.journal_store.proofs.journals.Journal.swap.Goals as goal
@@ -17,7 +17,7 @@ pub returns-then-self-clause-moments : goal.returns-then-self-clause-moments
 returns-then-self-clause-moments g c l kept e k =
     let told : g.B.Banks.log c.self.inside.banks ≡ Some l = ap (λ v. g.B.Banks.log v.banks) c.self.view_is ∙ e in
     let stands = c.self.invariant.stands l told c.in_default.is in
-    nothing_moves l (g.B.Banks.log c.args.self.now.banks) (Keeps kept) (Keeps (swapped (head_value c.args.head.now) c.args.entries.now kept)) (other_side c.args.self.now.side) e stands.settled (kept_at _ _ kept k l e)
+    nothing_moves l (g.B.Banks.log c.args.self.now.banks) (Keeps kept) (Keeps (swapped (head_value c.args.head.now) c.args.entries.now kept)) (g.B.Banks.meter c.args.self.now.banks).arm (first_gate (other_side c.args.self.now.side)) e stands.settled (kept_at _ _ kept k l e)
 
 pub returns-in_err-swap_at-clause-moments : goal.returns-in_err-swap_at-clause-moments
 returns-in_err-swap_at-clause-moments g c l kept e k =
@@ -25,11 +25,11 @@ returns-in_err-swap_at-clause-moments g c l kept e k =
     let stands = c.self.invariant.stands l told c.in_default.is in
     let volume : Volume = volume_of (c.self.inside.generation + 1) (head_value c.args.head.now) c.args.entries.now in
     let reads = kept_at _ _ kept k l e in
-    subst (λ (s : Side). LeavesEither l (g.B.Banks.log c.swap_at.new.banks) (Keeps kept) (Keeps (swapped (head_value c.args.head.now) c.args.entries.now kept)) (other_side s)) (ap (λ v. v.side) c.self.view_is)
-    (subst (λ (after : Kept). LeavesEither l (g.B.Banks.log c.swap_at.new.banks) (Keeps kept) (Keeps after) (other_side c.self.inside.side))
+    subst (λ (v : JournalValue g.row.B.Denot). LeavesEither l (g.B.Banks.log c.swap_at.new.banks) (Keeps kept) (Keeps (swapped (head_value c.args.head.now) c.args.entries.now kept)) (g.B.Banks.meter v.banks).arm (first_gate (other_side v.side))) c.self.view_is
+    (subst (λ (after : Kept). LeavesEither l (g.B.Banks.log c.swap_at.new.banks) (Keeps kept) (Keeps after) (g.B.Banks.meter c.self.inside.banks).arm (first_gate (other_side c.self.inside.side)))
     (swapped_is c.self.inside.side c.self.inside.generation c.self.inside.stop l stands (head_value c.args.head.now) c.args.entries.now kept reads)
-    (either_swapped c.self.inside.side c.self.inside.generation c.self.inside.stop volume l (g.B.Banks.log c.swap_at.new.banks) stands refl
-    (subst (λ (s : Side). LeavesMeanwhile l (g.B.Banks.log c.swap_at.new.banks) (IsWritingTo s volume (seen l))) c.other_side-side.ensures (c.swap_at.ensures.moments l told stands.settled))
+    (either_swapped (g.B.Banks.meter c.self.inside.banks).arm c.self.inside.side c.self.inside.generation c.self.inside.stop volume l (g.B.Banks.log c.swap_at.new.banks) stands refl
+    (subst (λ (s : Side). LeavesMeanwhile l (g.B.Banks.log c.swap_at.new.banks) (IsWritingTo (g.B.Banks.meter c.self.inside.banks).arm s volume (seen l))) c.other_side-side.ensures (c.swap_at.ensures.moments l told stands.settled))
     kept reads))
 
 pub invariant_of-self-2 : goal.invariant_of-self-2
@@ -39,7 +39,7 @@ invariant_of-self-2 g c =
     (journal_swapped c.self.inside.side c.self.inside.generation c.self.inside.stop c.swap_at.new.stop volume (g.B.Banks.log c.self.inside.banks) (g.B.Banks.log c.swap_at.new.banks) c.swap_at.new.closed
     (λ l told. c.self.invariant.stands l told c.in_default.is) refl c.in_ok-swap_at.ensures.stored
     (λ l told settled. subst (λ (s : Side). HasVolume s volume c.swap_at.new.stop l (g.B.Banks.log c.swap_at.new.banks)) c.other_side-side.ensures (c.in_ok-swap_at.ensures.done l told settled))
-    c.in_ok-swap_at.ensures.untold c.in_ok-swap_at.ensures.room)
+    c.in_ok-swap_at.ensures.told.untold c.in_ok-swap_at.ensures.room)
 
 pub returns-clause-kept : goal.returns-clause-kept
 returns-clause-kept g c kept k =
@@ -57,9 +57,9 @@ returns-clause-moments g c l kept e k =
     let stands = c.self.invariant.stands l told c.in_default.is in
     let volume : Volume = volume_of (c.self.inside.generation + 1) (head_value c.args.head.now) c.args.entries.now in
     let reads = kept_at _ _ kept k l e in
-    subst (λ (s : Side). LeavesEither l (g.B.Banks.log c.swap_at.new.banks) (Keeps kept) (Keeps (swapped (head_value c.args.head.now) c.args.entries.now kept)) (other_side s)) (ap (λ v. v.side) c.self.view_is)
-    (subst (λ (after : Kept). LeavesEither l (g.B.Banks.log c.swap_at.new.banks) (Keeps kept) (Keeps after) (other_side c.self.inside.side))
+    subst (λ (v : JournalValue g.row.B.Denot). LeavesEither l (g.B.Banks.log c.swap_at.new.banks) (Keeps kept) (Keeps (swapped (head_value c.args.head.now) c.args.entries.now kept)) (g.B.Banks.meter v.banks).arm (first_gate (other_side v.side))) c.self.view_is
+    (subst (λ (after : Kept). LeavesEither l (g.B.Banks.log c.swap_at.new.banks) (Keeps kept) (Keeps after) (g.B.Banks.meter c.self.inside.banks).arm (first_gate (other_side c.self.inside.side)))
     (swapped_is c.self.inside.side c.self.inside.generation c.self.inside.stop l stands (head_value c.args.head.now) c.args.entries.now kept reads)
-    (either_swapped c.self.inside.side c.self.inside.generation c.self.inside.stop volume l (g.B.Banks.log c.swap_at.new.banks) stands refl
-    (subst (λ (s : Side). LeavesMeanwhile l (g.B.Banks.log c.swap_at.new.banks) (IsWritingTo s volume (seen l))) c.other_side-side.ensures (c.swap_at.ensures.moments l told stands.settled))
+    (either_swapped (g.B.Banks.meter c.self.inside.banks).arm c.self.inside.side c.self.inside.generation c.self.inside.stop volume l (g.B.Banks.log c.swap_at.new.banks) stands refl
+    (subst (λ (s : Side). LeavesMeanwhile l (g.B.Banks.log c.swap_at.new.banks) (IsWritingTo (g.B.Banks.meter c.self.inside.banks).arm s volume (seen l))) c.other_side-side.ensures (c.swap_at.ensures.moments l told stands.settled))
     kept reads))
