@@ -220,7 +220,7 @@ place_of_message world zero message is = absurd (cc)
 place_of_message world (suc before) message is = (before, is)
 
 -- a number at which a clone asks is one of the list's places
-place_of_asking : (clones : List Clone) (number : ℕ) → get_or clones number Absent ≡ Asking → number < length clones
+pub place_of_asking : (clones : List Clone) (number : ℕ) → get_or clones number Absent ≡ Asking → number < length clones
 place_of_asking clones number asks = elim (cases_lt number (length clones)) [
   | inl inside ↦ inside
   | inr past ↦ absurd (none (sym (get_or_past clones number Absent past) ∙ asks))

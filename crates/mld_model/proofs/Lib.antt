@@ -20,3 +20,7 @@ pub mod MergedLaws
 pub mod LeadsLaws
 pub mod TruncatedStands
 pub mod MergedStands
+pub mod AnswersStand
+pub mod UpdateLaws
+pub mod ComparingLaws
+pub mod LocalSteps

@@ -4,7 +4,7 @@ use Rattle.std.proofs.lemmas.Bool.{cases_lt}
 use Rattle.rdf_terms.specs.declared.terms.Triple.{Triple}
 use Rattle.tree_clock.specs.declared.dots.Dot.{Dot}
 use Rattle.tree_clock.specs.declared.dots.Range.{Range}
-use Rattle.tree_clock.specs.Lists.{Has}
+use Rattle.tree_clock.specs.Lists.{Has, IsAscending}
 use Rattle.tree_clock.specs.Dot.{IsIn, Knows}
 use Rattle.tree_clock.specs.DotLaws.{Knows-append}
 use Rattle.tree_clock.specs.Clock.{ticks_of, Covers, RaisesTo}
@@ -12,7 +12,10 @@ use Rattle.tree_clock.proofs.ClockLaws.{Covers-raised}
 use Rattle.mld_ops.specs.declared.tagged.Tagged.{Tagged}
 use Rattle.mld_ops.specs.Entry.{EntryValue}
 use Rattle.mld_ops.specs.History.{Operation, IsClosed, IsNext, IsLawful, dot_at}
-use Rattle.mld_ops.specs.Effect.{range_of}
+use Rattle.mld_ops.specs.Effect.{range_of, IsEffect}
+use Rattle.mld_ops.specs.Effects.{EffectValue, operation_of}
+use Rattle.mld_ops.specs.Tagged.{tagged_cmp, insert_cmp}
+use Rattle.mld_ops.proofs.EffectLaws.{effect_carried, ticks_ascend}
 use Rattle.mld_ops.proofs.OperationLaws.{same_dot, closed_with_unknown}
 use Rattle.mld_ops.specs.Meaning.{IsMeaning}
 use Rattle.mld_ops.proofs.MeaningLaws.{meaning_with_unknown, meaning_of_taken}
@@ -28,13 +31,10 @@ use Rattle.mld_model.specs.Clone.{Stored, known_of, with_range, IsKnown, IsReady
 use Rattle.mld_model.specs.CloneStep.{IsNextTick}
 use Rattle.mld_model.specs.Sound.{IsDoneRange}
 use Rattle.mld_model.specs.Local.{LocalClone, LocalStored, stored_of, next_dot, LocallyMakes}
+pub use Rattle.mld_model.specs.StandsFor.{kept_by}
 use Rattle.mld_model.specs.StandsFor.{EntryStandsFor, StoredStandsFor, LocalStandsFor, SnapshotStandsFor}
 use Rattle.mld_model.proofs.KnownLaws.{known_with, known_with-old, known_with-new, known_with-split}
 use Rattle.mld_model.proofs.HistoryLaws.{done_not_fresh}
-
--- what a running clone stands for has its path
-abbrev pub kept_by : LocalClone → List Range → List Range → Stored
-kept_by running base journal = record { path = running.path; base = base; journal = journal }
 
 -- the tick after the clock's is the next that the model allows
 pub next_tick_of : (running : LocalClone) (known : List Range) → ((dot : Dot) → Covers running.ticks dot ↔ Knows known dot)
@@ -109,34 +109,35 @@ local_still_stands history next running stored held is_next unknown journal_done
 -- ---- making an operation
 
 -- the operation that a clone makes
-abbrev pub made_by : LocalClone → List Range → List Range → List Tagged → List Triple → Operation
-made_by running base journal deletes inserts =
-    record { dot = next_dot running; causes = known_of (kept_by running base journal); deletes = deletes; inserts = inserts }
+abbrev pub made_by : LocalClone → List Range → List Range → EffectValue → Operation
+made_by running base journal effect = operation_of (next_dot running) (known_of (kept_by running base journal)) effect
 
-module _ (history : List Operation) (old : LocalClone) (base journal held : List Range) (deletes : List Tagged) (inserts : List Triple) (new : LocalClone) (entry : EntryValue)
-    (stands : LocalStandsFor history old (kept_by old base journal) held) (makes : LocallyMakes old deletes inserts new entry)
+module _ (history : List Operation) (old : LocalClone) (base journal held : List Range) (effect : EffectValue) (new : LocalClone) (entry : EntryValue)
+    (stands : LocalStandsFor history old (kept_by old base journal) held) (makes : LocallyMakes old effect new entry)
     (lawful : IsLawful history) (closed : IsClosed history (known_of (kept_by old base journal)))
-    (is_next : IsNext history (made_by old base journal deletes inserts)) where
+    (is_next : IsNext history (made_by old base journal effect)) where
   unknown_yet : ¬ Knows (known_of (kept_by old base journal)) (next_dot old)
-  unknown_yet known = done_not_fresh history (made_by old base journal deletes inserts) (next_dot old) is_next (closed.done (next_dot old) known) refl
+  unknown_yet known = done_not_fresh history (made_by old base journal effect) (next_dot old) is_next (closed.done (next_dot old) known) refl
 
   -- the entry that it made stands for the operation's range
-  pub made_entry : EntryStandsFor (made_by old base journal deletes inserts ∷ history) entry (range_of (next_dot old))
-  made_entry = net_of_one (made_by old base journal deletes inserts ∷ history) (made_by old base journal deletes inserts) (is_next, lawful) (inl refl) entry makes.range
-      makes.deletes_ascend makes.inserts_ascend (record {
-        deletes = makes.deletes_same;
-        inserts = makes.inserts_same;
-        time = λ dot. (
-          λ c. elim ((covers_next old.ticks entry.time old.path dot makes.time).0 c) [ inl before ↦ inl ((stands.known dot).0 before) | inr is ↦ inr is ],
-          λ e. (covers_next old.ticks entry.time old.path dot makes.time).1 (elim e [ inl known ↦ inl ((stands.known dot).1 known) | inr is ↦ inr is ]),
-        );
-      })
+  pub made_entry : EntryStandsFor (made_by old base journal effect ∷ history) entry (range_of (next_dot old))
+  made_entry =
+      let operation : Operation = made_by old base journal effect in
+      let ends : IsEffect operation entry = subst (IsEffect operation) (sym makes.carries)
+      (effect_carried (next_dot old) (known_of (kept_by old base journal)) entry.time effect (λ dot. (
+        λ c. elim ((covers_next old.ticks entry.time old.path dot makes.time).0 c) [ inl before ↦ inl ((stands.known dot).0 before) | inr is ↦ inr is ],
+        λ e. (covers_next old.ticks entry.time old.path dot makes.time).1 (elim e [ inl known ↦ inl ((stands.known dot).1 known) | inr is ↦ inr is ]),
+      ))) in
+      net_of_one (operation ∷ history) operation (is_next, lawful) (inl refl) entry (ap (λ (e : EntryValue). e.range) makes.carries)
+      (subst (λ (pairs : List Tagged). IsAscending tagged_cmp pairs) (sym (ap (λ (e : EntryValue). e.deletes) makes.carries)) makes.ordered.deletes)
+      (subst (λ (ticked : List (Triple × ℕ)). IsAscending insert_cmp ticked) (sym (ap (λ (e : EntryValue). e.inserts) makes.carries))
+      (ticks_ascend (next_dot old).tick effect.inserts makes.ordered.inserts)) ends
 
   -- the clone that made the operation stands for what it knows then
   pub maker_stands : ((range : Range) → Has journal range → IsDoneRange history range) → ((range : Range) → Has held range → IsDoneRange history range)
-      → LocalStandsFor (made_by old base journal deletes inserts ∷ history) new (with_range (kept_by old base journal) (range_of (next_dot old))) held
+      → LocalStandsFor (made_by old base journal effect ∷ history) new (with_range (kept_by old base journal) (range_of (next_dot old))) held
   maker_stands journal_done held_done =
-      let operation : Operation = made_by old base journal deletes inserts in
+      let operation : Operation = made_by old base journal effect in
       let still : LocalStandsFor (operation ∷ history) old (kept_by old base journal) held =
       local_still_stands history operation old (kept_by old base journal) held is_next unknown_yet journal_done held_done stands in
       record {

@@ -5,8 +5,8 @@ use Rattle.tree_clock.specs.declared.dots.Range.{Range}
 use Rattle.mld_ops.specs.Held.{held_limit}
 use Rattle.mld_ops.specs.History.{Operation, IsClosed, IsLawful}
 use Rattle.mld_ops.specs.Messages.{SnapshotValue}
-use Rattle.snapshot.specs.SnapshotJoin.{CoversAll}
-use Rattle.snapshot.proofs.JoinedWith.{joined_is_state}
+use Rattle.suset.specs.SnapshotJoin.{CoversAll}
+use Rattle.suset.proofs.JoinedWith.{joined_is_state}
 use Rattle.suset.specs.JoinLaws.{IsStateOf}
 use Rattle.mld_model.specs.Clone.{Stored, known_of, merged_with, AreKnownTo}
 use Rattle.mld_model.specs.Sound.{IsSoundClone}

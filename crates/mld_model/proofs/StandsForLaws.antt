@@ -13,12 +13,12 @@ use Rattle.mld_ops.proofs.PickingLaws.{pairs_as}
 use Rattle.mld_ops.specs.Messages.{MessageValue, CarriesEntry, CarriesWant, CarriesSnapshot, CarriesAsk, CarriesGive, SnapshotValue, IsGoodSnapshot, IsGoodMessage}
 use Rattle.mld_model.specs.Clone.{Clone, Absent, Asking, Empty, Down, Live, Stored}
 use Rattle.mld_model.specs.World.{World, Message, RangeOf, Want, SnapshotOf, JoinAsk, JoinGive, clone_at, clone_count}
-use Rattle.mld_model.specs.Local.{LocalAsker, LocalClone, CloneValue, IsSameClone}
+use Rattle.mld_model.specs.Local.{LocalAsker, LocalClone, IsSameClone}
 use Rattle.mld_model.proofs.PairsLaws.{PairAt, pair_at}
-use Rattle.mld_model.specs.declared.NoDevice.{NoDevice}
 use Rattle.mld_model.specs.Sound.{IsSoundMessage, IsSound}
 use Rattle.mld_model.specs.declared.CloneState.TheVariants as states
-use Rattle.mld_model.specs.StandsFor.{RunningClone, RunningWorld, IsCloneOf, IsAskerOf, LocalStandsFor, CloneStandsFor, SnapshotStandsFor, MessageStandsFor, StandsFor, id_of}
+pub use Rattle.mld_model.specs.StandsFor.{LiveAt, AskingAt}
+use Rattle.mld_model.specs.StandsFor.{RunningClone, RunningWorld, IsCloneOf, LocalStandsFor, CloneStandsFor, SnapshotStandsFor, MessageStandsFor, StandsFor, id_of}
 use Rattle.mld_model.proofs.SoundLaws.{live_sound}
 use Rattle.mld_model.proofs.JournalLaws.{journal_done}
 use Rattle.mld_model.proofs.HistoryLaws.{done_not_fresh}
@@ -26,37 +26,23 @@ use Rattle.mld_model.proofs.LocalLaws.{kept_by, entry_still_stands, local_still_
 
 -- ---- clones, one by one
 
--- a live clone and what it stands for
-pub record LiveAt (world : World) (number : ℕ) (running : LocalClone) : Type 0 where
-  pub base : List Range
-  pub journal : List Range
-  pub held : List Range
-  pub live : clone_at world number ≡ Live (kept_by running base journal) held
-  pub is : IsCloneOf world number running
-  pub stands : LocalStandsFor world.history running (kept_by running base journal) held
-
--- one who asks, where the model's clone asks
-pub record AskingAt (world : World) (number : ℕ) (running : LocalAsker) : Type 0 where
-  pub asking : clone_at world number ≡ Asking
-  pub is : IsAskerOf world number running
-
 -- the clone of a number
 module _ (world : World) (number : ℕ) where
-  live_from : (running : CloneValue) (clone : Clone) → clone_at world number ≡ clone → CloneStandsFor world number (states.Live running) clone
-      → LiveAt world number running.local
+  pub live_from : (running : LocalClone) (clone : Clone) → clone_at world number ≡ clone → CloneStandsFor world number (states.Live running) clone
+      → LiveAt world number running
   live_from running (Live stored held) at stands =
-      let same : kept_by running.local stored.base stored.journal ≡ stored = λ i. record { path = stands.1.kept.path i; base = stored.base; journal = stored.journal } in
+      let same : kept_by running stored.base stored.journal ≡ stored = λ i. record { path = stands.1.kept.path i; base = stored.base; journal = stored.journal } in
       record {
         base = stored.base;
         journal = stored.journal;
         held = held;
         live = at ∙ ap (λ (s : Stored). Live s held) (sym same);
         is = stands.0;
-        stands = subst (λ (s : Stored). LocalStandsFor world.history running.local s held) (sym same) stands.1;
+        stands = subst (λ (s : Stored). LocalStandsFor world.history running s held) (sym same) stands.1;
       }
   live_from running clone at stands = absurd stands
 
-  absent_from : (blank : NoDevice) (clone : Clone) → CloneStandsFor world number (states.Absent blank) clone → clone ≡ Absent
+  absent_from : (blank : Unit {0}) (clone : Clone) → CloneStandsFor world number (states.Absent blank) clone → clone ≡ Absent
   absent_from blank Absent stands = refl
   absent_from blank clone stands = absurd stands
 
@@ -68,12 +54,12 @@ module _ (world : World) (number : ℕ) where
 -- a running world that stands for a world
 module _ (running : RunningWorld) (world : World) (stands : StandsFor running world) where
   -- where a clone runs, the model has a live clone for which it stands
-  pub live_at : (number : ℕ) (live : CloneValue) → slice_get running.clones number ≡ Some (states.Live live) → LiveAt world number live.local
+  pub live_at : (number : ℕ) (live : LocalClone) → slice_get running.clones number ≡ Some (states.Live live) → LiveAt world number live
   live_at number live is =
       live_from world number live (clone_at world number) refl (stands.clones number (states.Live live) is)
 
   -- where a clone is absent, the model's clone is
-  pub absent_at : (number : ℕ) (blank : NoDevice) → slice_get running.clones number ≡ Some (states.Absent blank) → clone_at world number ≡ Absent
+  pub absent_at : (number : ℕ) (blank : Unit {0}) → slice_get running.clones number ≡ Some (states.Absent blank) → clone_at world number ≡ Absent
   absent_at number blank is =
       absent_from world number blank (clone_at world number) (stands.clones number (states.Absent blank) is)
 
@@ -102,7 +88,7 @@ clone_stands_as world next number (states.Asking running) Asking history domain 
     record { id = stands.id; domain = stands.domain ∙ sym domain; properties = stands.properties ∙ sym properties }
 clone_stands_as world next number (states.Live running) (Live stored held) history domain properties stands = (
   record { id = stands.0.id; domain = stands.0.domain ∙ sym domain; properties = stands.0.properties ∙ sym properties },
-  subst (λ (h : List Operation). LocalStandsFor h running.local stored held) (sym history) stands.1,
+  subst (λ (h : List Operation). LocalStandsFor h running stored held) (sym history) stands.1,
 )
 clone_stands_as world next number running clone history domain properties stands = absurd stands
 
@@ -149,8 +135,8 @@ clone_still_stands world next operation number (states.Asking running) Asking so
 clone_still_stands world next operation number (states.Live running) (Live stored held) sound is_next history domain properties at stands =
     let whole = live_sound world number stored held sound at in (
       record { id = stands.0.id; domain = stands.0.domain ∙ sym domain; properties = stands.0.properties ∙ sym properties },
-      subst (λ (h : List Operation). LocalStandsFor h running.local stored held) (sym history)
-          (local_still_stands world.history operation running.local stored held is_next
+      subst (λ (h : List Operation). LocalStandsFor h running stored held) (sym history)
+          (local_still_stands world.history operation running stored held is_next
           (λ known. done_not_fresh world.history operation operation.dot is_next (whole.closed.done operation.dot known) refl)
           (journal_done world.history stored.base stored.journal whole.journal)
           (sound.held number stored held at) stands.1),

@@ -10,7 +10,7 @@ use Rattle.mld_ops.specs.declared.tagged.Tagged.{Tagged}
 use Rattle.mld_ops.specs.Entry.{EntryValue}
 use Rattle.mld_ops.specs.History.{Operation, IsLawful}
 use Rattle.mld_ops.specs.Meaning.{IsMeaning}
-use Rattle.snapshot.specs.SnapshotJoin.{CoversAll}
+use Rattle.suset.specs.SnapshotJoin.{CoversAll}
 use Rattle.mld_model.specs.Clone.{Stored, known_of, truncated_to}
 use Rattle.mld_model.specs.Sound.{IsSoundJournal, IsSoundClone}
 use Rattle.mld_model.specs.Local.{LocalClone, LeadsTo, IsLocal, LocallyTruncates}

@@ -5,19 +5,20 @@ use Rattle.rdf_terms.specs.declared.terms.Triple.{Triple}
 use Rattle.tree_clock.specs.Limits.{path_limit}
 use Rattle.tree_clock.specs.Path.{zero_letter, one_letter}
 use Rattle.tree_clock.specs.declared.dots.Range.{Range}
-use Rattle.tree_clock.specs.Lists.{Has, IsAscending}
+use Rattle.tree_clock.specs.Lists.{Has}
 use Rattle.tree_clock.specs.Dot.{Knows}
 use Rattle.mld_ops.specs.declared.tagged.Tagged.{Tagged}
-use Rattle.mld_ops.specs.Tagged.{tagged_cmp}
 use Rattle.mld_ops.specs.History.{Operation, dot_at}
 use Rattle.mld_ops.specs.Effect.{range_of}
+use Rattle.mld_ops.specs.Effects.{EffectValue, ChangesNothing, inserting, DeletesAll, operation_of}
 use Rattle.mld_ops.specs.Meaning.{IsMeaning}
 use Rattle.mld_ops.specs.Picking.{DropsThose}
 use Rattle.op_fusion.specs.Compacting.{AreCompacted}
 use Rattle.mld_model.specs.Clone.{Clone, Absent, Asking, Empty, Down, Live, Stored, known_of, with_range, merged_with, truncated_to, IsKnown, IsReady, IsHeldBack, AreKnownTo, Releases}
 use Rattle.mld_ops.specs.Held.{held_limit}
+use Rattle.mld_model.specs.Comparing.{ComparesBy}
 use Rattle.mld_model.specs.World.{World, Message, RangeOf, Want, SnapshotOf, JoinAsk, JoinGive, with_clone}
-use Rattle.mld_model.specs.Reply.{Reply, Did, NoOperation, Took, Merged, Held, HeldFull, AlreadyKnown, Shows, Same, Less, More, Apart, Sent, Answer, NothingToSend, Kept, Joined, Deep, Ignored, IsAbsent, IsAsking, IsDown, IsLive, Stopped, Opened}
+use Rattle.mld_model.specs.Reply.{Reply, Did, NoOperation, Took, Merged, Held, HeldFull, AlreadyKnown, Shows, Sent, Answer, NothingToSend, Kept, Joined, Deep, Ignored, IsAbsent, IsAsking, IsDown, IsLive, Stopped, Opened}
 
 -- a reply that changes nothing
 abbrev pub Answers : World → Reply → Reply → World → Type 0
@@ -51,34 +52,35 @@ after_operation world number stored held operation =
       messages = world.messages ++ RangeOf range ∷ [];
     }
 
--- a local change: an operation with the next tick, whose causes are all that the clone knows
-pub record Makes (world : World) (number : ℕ) (stored : Stored) (held : List Range) (deletes : List Tagged) (inserts : List Triple) (reply : Reply) (next : World) : Type 0 where
+-- a local change: the operation of an effect with the next tick, whose causes are all that the clone knows
+pub record Makes (world : World) (number : ℕ) (stored : Stored) (held : List Range) (effect : EffectValue) (reply : Reply) (next : World) : Type 0 where
   pub tick : ℕ
   pub is_next : IsNextTick (known_of stored) stored.path tick
   pub replies : reply ≡ Did (dot_at stored.path tick) (length world.messages + 1)
-  pub changes : next ≡ after_operation world number stored held
-      (record { dot = dot_at stored.path tick; causes = known_of stored; deletes = deletes; inserts = inserts })
+  pub changes : next ≡ after_operation world number stored held (operation_of (dot_at stored.path tick) (known_of stored) effect)
 
--- a triple is added by the operation that inserts it
+-- a live clone makes an update by its effect: it changes nothing and no operation is made, or one is made
+pub data Updates (world : World) (number : ℕ) (stored : Stored) (held : List Range) (effect : EffectValue) (reply : Reply) (next : World) : Type 0 where
+  changes_nothing : ChangesNothing effect → Answers world NoOperation reply next → Updates world number stored held effect reply next
+  makes_operation : ¬ ChangesNothing effect → Makes world number stored held effect reply next → Updates world number stored held effect reply next
+
+-- a clone makes an update, by a rule that says which effect it has on the pairs that are present for the clone
+abbrev pub UpdatesBy : World → ℕ → (List Tagged → EffectValue → Type 0) → Clone → Reply → World → Type 0
+UpdatesBy world number rule clone reply next = IfLive world clone reply next (λ stored held.
+    (pairs : List Tagged) × (effect : EffectValue) × IsMeaning world.history (known_of stored) pairs × rule pairs effect
+    × Updates world number stored held effect reply next)
+
+-- to add a triple inserts it, whatever is present
+abbrev pub AddsTriple : Triple → List Tagged → EffectValue → Type 0
+AddsTriple triple pairs effect = effect ≡ inserting triple
+
+-- a triple is added
 abbrev pub Adds : World → ℕ → Triple → Clone → Reply → World → Type 0
-Adds world number triple clone reply next =
-    IfLive world clone reply next (λ stored held. Makes world number stored held [] (triple ∷ []) reply next)
+Adds world number triple clone reply next = UpdatesBy world number (AddsTriple triple) clone reply next
 
--- the pairs of a triple, ascending
-pub record ArePairsOf (triple : Triple) (pairs deletes : List Tagged) : Type 0 where
-  pub ascending : IsAscending tagged_cmp deletes
-  pub members : (pair : Tagged) → Has deletes pair ↔ (Has pairs pair × (pair.triple ≡ triple))
-
--- a live clone deletes these pairs: there are none and no operation is made, or one operation deletes them all
-pub data Deletes (world : World) (number : ℕ) (stored : Stored) (held : List Range) (deletes : List Tagged) (reply : Reply) (next : World) : Type 0 where
-  finds_none : deletes ≡ [] → Answers world NoOperation reply next → Deletes world number stored held deletes reply next
-  deletes_all : deletes ≢ [] → Makes world number stored held deletes [] reply next → Deletes world number stored held deletes reply next
-
--- a triple is removed where all pairs that are present for it are deleted
+-- a triple is removed: all its pairs that are present are deleted
 abbrev pub Removes : World → ℕ → Triple → Clone → Reply → World → Type 0
-Removes world number triple clone reply next = IfLive world clone reply next (λ stored held.
-    (pairs : List Tagged) × (deletes : List Tagged) × IsMeaning world.history (known_of stored) pairs × ArePairsOf triple pairs deletes
-    × Deletes world number stored held deletes reply next)
+Removes world number triple clone reply next = UpdatesBy world number (DeletesAll triple) clone reply next
 
 -- a live clone takes a range that is ready, and then those held back that this releases
 pub record Accepts (world : World) (number : ℕ) (stored : Stored) (held : List Range) (range : Range) (reply : Reply) (next : World) : Type 0 where
@@ -225,11 +227,8 @@ Lists world clone reply next = IfLive world clone reply next (λ stored held.
     (pairs : List Tagged) × IsMeaning world.history (known_of stored) pairs × Answers world (Shows pairs) reply next)
 
 -- how two sets of dots compare
-pub data Compares (known other : List Range) (reply : Reply) : Type 0 where
-  same_dots : AreKnownTo known other → AreKnownTo other known → reply ≡ Same → Compares known other reply
-  fewer_dots : AreKnownTo known other → ¬ AreKnownTo other known → reply ≡ Less → Compares known other reply
-  more_dots : ¬ AreKnownTo known other → AreKnownTo other known → reply ≡ More → Compares known other reply
-  dots_apart : ¬ AreKnownTo known other → ¬ AreKnownTo other known → reply ≡ Apart → Compares known other reply
+abbrev pub Compares : List Range → List Range → Reply → Type 0
+Compares known other reply = ComparesBy (AreKnownTo known other) (AreKnownTo other known) reply
 
 -- the dots of a live clone beside those of another
 abbrev pub ComparesWith : World → Stored → Clone → Reply → World → Type 0

@@ -1,8 +1,10 @@
 pub mod Clone
 pub mod World
 pub mod Reply
+pub mod Comparing
 pub mod CloneStep
 pub mod Durable
 pub mod Sound
 pub mod StandsFor
 pub mod Local
+pub mod LocalStep

@@ -1,7 +1,6 @@
 -- One clone alone: what it has of its own, without the history, and its steps.
-use Rattle.std.specs.Prelude.{◌≡◌, ℕ, ◌+◌, ◌-◌, ◌<◌, ◌≤◌, List, [], ◌∷◌, ◌++◌, ◌⊎◌, ◌↔◌, IsTrue, length, take, drop}
+use Rattle.std.specs.Prelude.{◌≡◌, ℕ, ◌+◌, ◌-◌, ◌<◌, ◌≤◌, List, [], ◌∷◌, ◌++◌, ◌⊎◌, IsTrue, length, take, drop}
 use Rattle.iri_rules.specs.Domain.{is_domain}
-use Rattle.rdf_terms.specs.declared.terms.Triple.{Triple}
 use Rattle.rdf_terms.specs.Order.{iri_cmp}
 use Rattle.tree_clock.specs.Limits.{path_limit}
 use Rattle.tree_clock.specs.Path.{zero_letter, one_letter}
@@ -10,17 +9,17 @@ use Rattle.tree_clock.specs.declared.dots.Range.{Range}
 use Rattle.tree_clock.specs.Lists.{Has, IsAscending}
 use Rattle.tree_clock.specs.Clock.{ticks_of, Covers, IsClock, RaisesTo}
 use Rattle.mld_ops.specs.declared.tagged.Tagged.{Tagged}
-use Rattle.mld_ops.specs.Tagged.{tagged_cmp, insert_cmp}
+use Rattle.mld_ops.specs.Tagged.{tagged_cmp}
 use Rattle.mld_ops.specs.Entry.{EntryValue}
 use Rattle.mld_ops.specs.Messages.{SnapshotValue, GiveValue}
-use Rattle.mld_ops.specs.Effect.{range_of, PairsAfter}
+use Rattle.mld_ops.specs.Effects.{EffectValue, IsInOrder, IsAfterEffect, entry_of}
 use Rattle.mld_ops.specs.History.{dot_at}
 use Rattle.mld_ops.specs.Picking.{HasNone, DropsThose, TakesFirst}
 use Rattle.mld_ops.specs.Ready.{last_dot, IsKnownEntry, IsReadyEntry}
 use Rattle.mld_ops.specs.Cut.{IsCutOf}
 use Rattle.mld_ops.specs.Held.{held_limit, ranges_of}
 use Rattle.op_fusion.specs.Compacting.{AreFusedRuns}
-use Rattle.snapshot.specs.SnapshotJoin.{IsJoinedWith}
+use Rattle.suset.specs.SnapshotJoin.{IsJoinedWith}
 
 -- a clone alone: its id, domain, single-valued properties and path; the clock and the pairs of its base; the entries of its
 -- journal; and those that it holds back, in order of arrival. Its own clock and pairs follow from these (`IsLocal`)
@@ -35,10 +34,6 @@ pub record LocalClone : Type 0 where
   pub held : List EntryValue
   pub ticks : List (List ℕ × ℕ)
   pub pairs : List Tagged
-
--- a clone as contracts see it; what is known of the device that it is on will stand beside it
-pub record CloneValue : Type 0 where
-  pub local : LocalClone
 
 -- what a clone's device has of it: its path, the clock and the pairs of its base, and the entries of its journal
 pub record LocalStored : Type 0 where
@@ -113,20 +108,17 @@ pub record IsSameClone (old new : LocalClone) : Type 0 where
 abbrev pub next_dot : LocalClone → Dot
 next_dot clone = dot_at clone.path (ticks_of clone.ticks clone.path + 1)
 
--- the clone makes an operation of these deletes and inserts, and the entry carries it
-pub record LocallyMakes (old : LocalClone) (deletes : List Tagged) (inserts : List Triple) (new : LocalClone) (entry : EntryValue) : Type 0 where
+-- the clone makes the operation of an effect, and the entry carries it
+pub record LocallyMakes (old : LocalClone) (effect : EffectValue) (new : LocalClone) (entry : EntryValue) : Type 0 where
+  pub ordered : IsInOrder effect
   pub same : IsSameClone old new
   pub entries : new.entries ≡ old.entries ++ entry ∷ []
   pub held : new.held ≡ old.held
   pub clock : RaisesTo old.ticks new.ticks (next_dot old)
   pub ascending : IsAscending tagged_cmp new.pairs
-  pub pairs : PairsAfter old.pairs deletes (λ pair. (pair.dot ≡ next_dot old) × Has inserts pair.triple) new.pairs
-  pub range : entry.range ≡ range_of (next_dot old)
+  pub pairs : IsAfterEffect effect (next_dot old) old.pairs new.pairs
   pub time : RaisesTo old.ticks entry.time (next_dot old)
-  pub deletes_ascend : IsAscending tagged_cmp entry.deletes
-  pub deletes_same : (pair : Tagged) → Has entry.deletes pair ↔ Has deletes pair
-  pub inserts_ascend : IsAscending insert_cmp entry.inserts
-  pub inserts_same : (triple : Triple) (tick : ℕ) → Has entry.inserts (triple, tick) ↔ ((tick ≡ (next_dot old).tick) × Has inserts triple)
+  pub carries : entry ≡ entry_of (next_dot old) entry.time effect
 
 -- of the entries held back, in order of arrival, those that are known are dropped, then the first ready one is taken, and so on
 -- until none is ready: the entries taken, the clock then, and what is still held back

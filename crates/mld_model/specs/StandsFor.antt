@@ -16,14 +16,13 @@ use Rattle.mld_ops.specs.Net.{IsNet}
 use Rattle.std.specs.List.{AllZip}
 use Rattle.mld_model.specs.declared.CloneState.{CloneState}
 use Rattle.mld_model.specs.declared.CloneState.TheVariants as states
-use Rattle.mld_model.specs.declared.NoDevice.{NoDevice}
 use Rattle.mld_model.specs.Clone.{Clone, Absent, Asking, Empty, Down, Live, Stored, known_of}
-use Rattle.mld_model.specs.Local.{LocalAsker, LocalClone, CloneValue, LocalStored, stored_of, blank_clone}
+use Rattle.mld_model.specs.Local.{LocalAsker, LocalClone, LocalStored, stored_of, blank_clone}
 use Rattle.mld_model.specs.World.{World, Message, RangeOf, Want, SnapshotOf, JoinAsk, JoinGive, clone_at, founded_path, clone_count}
 
--- a clone as it runs
+-- a clone as it runs, in memory: of one that is absent or down nothing is there
 abbrev pub RunningClone : Type 0
-RunningClone = CloneState NoDevice LocalAsker NoDevice CloneValue
+RunningClone = CloneState (Unit {0}) LocalAsker (Unit {0}) LocalClone
 
 -- a world as it runs: its domain, its single-valued properties, its clones, the messages that were sent, and the number of steps made
 pub record RunningWorld : Type 0 where
@@ -40,7 +39,7 @@ id_of number = to_be_bytes w128 number
 -- a clone as it runs in a world that was just founded
 abbrev pub founded_local : List ℕ → List (List ℕ) → ℕ → ℕ → RunningClone
 founded_local domain properties count number =
-    if nat_lt number count then states.Live (record { local = blank_clone (id_of number) domain properties (founded_path count number) }) else states.Absent (record {})
+    if nat_lt number count then states.Live (blank_clone (id_of number) domain properties (founded_path count number)) else states.Absent tt
 
 -- a world as it runs when it was just founded
 abbrev pub founded_running : List ℕ → List (List ℕ) → ℕ → RunningWorld
@@ -84,13 +83,38 @@ pub record IsAskerOf (world : World) (number : ℕ) (running : LocalAsker) : Typ
   pub domain : running.domain ≡ world.domain
   pub properties : running.properties ≡ world.properties
 
--- a clone stands for the clone of the model of its number, in the same state; one that is down has no device yet
+-- what a running clone stands for has its path
+abbrev pub kept_by : LocalClone → List Range → List Range → Stored
+kept_by running base journal = record { path = running.path; base = base; journal = journal }
+
+-- a clone alone stands for the clone of the number, which is live
+pub record LiveAt (world : World) (number : ℕ) (running : LocalClone) : Type 0 where
+  pub base : List Range
+  pub journal : List Range
+  pub held : List Range
+  pub live : clone_at world number ≡ Live (kept_by running base journal) held
+  pub is : IsCloneOf world number running
+  pub stands : LocalStandsFor world.history running (kept_by running base journal) held
+
+-- one who asks stands for the clone of the number, which asks
+pub record AskingAt (world : World) (number : ℕ) (running : LocalAsker) : Type 0 where
+  pub asking : clone_at world number ≡ Asking
+  pub is : IsAskerOf world number running
+
+-- what a device has of a clone stands for what the clone of the number keeps, which is down
+pub record DownAt (world : World) (number : ℕ) (running : LocalClone) : Type 0 where
+  pub stored : Stored
+  pub down : clone_at world number ≡ Down stored
+  pub is : IsCloneOf world number running
+  pub stands : StoredStandsFor world.history (stored_of running) stored
+
+-- a clone stands for the clone of the model of its number, in the same state; of one that is down nothing is in memory
 abbrev pub CloneStandsFor : World → ℕ → RunningClone → Clone → Type 0
 CloneStandsFor world number (states.Absent blank) Absent = Unit {0}
 CloneStandsFor world number (states.Asking running) Asking = IsAskerOf world number running
 CloneStandsFor world number (states.Down device) Empty = Unit {0}
 CloneStandsFor world number (states.Down device) (Down stored) = Unit {0}
-CloneStandsFor world number (states.Live running) (Live stored held) = IsCloneOf world number running.local × LocalStandsFor world.history running.local stored held
+CloneStandsFor world number (states.Live running) (Live stored held) = IsCloneOf world number running × LocalStandsFor world.history running stored held
 CloneStandsFor world number running clone = ⊥
 
 -- a snapshot stands for these dots: its clock has just them, and its pairs are their meaning

@@ -1,14 +1,12 @@
 //! The model of clones and of the world that they are in: what they keep and know, what they do, and what every world keeps.
-//! Another program can stand on it: it knows no lines and no commands.
+//! Another program can stand on it: it knows no lines and no commands. Its function has no code, and carries laws as its contract.
 #![tactic(auto)]
 
 mod limits;
+mod steps;
 
 pub use limits::CLONE_COUNT;
-
-/// What stands in the place of a clone's device: clones live in memory alone so far.
-#[derive(Drop)]
-pub struct NoDevice;
+pub use steps::local_steps_follow;
 
 /// The state of a clone of a world that runs, with what the clone has in it.
 #[derive(Drop)]

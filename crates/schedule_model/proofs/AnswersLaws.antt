@@ -3,7 +3,6 @@ use Rattle.std.specs.Prelude.{◌≡◌, ℕ, ◌<◌, List, [], ◌∷◌, ◌+
 use Rattle.std.proofs.Common.{refl, sym, ◌∙◌, ap, subst, inl, inr, get_or, set, append_assoc}
 use Rattle.std.proofs.lemmas.Bool.{cases_eq}
 use Rattle.std.proofs.lemmas.List.{get_or-set_same, get_or-set_other, take-append-drop}
-use Rattle.rdf_terms.specs.declared.terms.Triple.{Triple}
 use Rattle.tree_clock.specs.declared.dots.Dot.{Dot}
 use Rattle.tree_clock.specs.declared.dots.Range.{Range}
 use Rattle.tree_clock.specs.Lists.{Has}
@@ -15,10 +14,11 @@ use Rattle.mld_ops.specs.Meaning.{IsMeaning}
 use Rattle.mld_ops.specs.Effect.{range_of}
 use Rattle.mld_ops.proofs.OperationLaws.{range_of_has}
 use Rattle.schedule_model.specs.declared.Command.TheVariants.{Add, Remove, Deliver, Show, Compare, Join, Ask, Compact, Truncate, Stop, Open}
+use Rattle.mld_ops.specs.Effects.{EffectValue, DeletesAll, operation_of}
 use Rattle.mld_model.specs.Clone.{Clone, Absent, Asking, Down, Live, Stored, kept_of, known_of, with_range, merged_with, truncated_to}
 use Rattle.mld_model.specs.World.{World, Message, RangeOf, Want, SnapshotOf, JoinAsk, JoinGive, message_at, clone_at, with_clone}
 use Rattle.mld_model.specs.Reply.{Reply, Did, NoMessage, IsAbsent, IsDown}
-use Rattle.mld_model.specs.CloneStep.{Answers, Makes, Adds, ArePairsOf, Deletes, finds_none, deletes_all, Removes, holds_already, holds_too_many, holds_from_now, TakesRange, knows_already, accepts, holds_back, Asks, Joins, left_half, TakesAsk, asked_itself, is_too_deep, forks, joined_with, TakesLeaf, becomes_live, leaves_it, AskerTakes, LiveTakes, Takes, Stops, Reopens, Lists, Compares, same_dots, fewer_dots, more_dots, dots_apart, ComparesWith, Weighs, TakesWant, lacks_nothing, sends_ranges, sends_snapshot, TakesSnapshot, knows_all, merges, Wants, Compacts, Truncates}
+use Rattle.mld_model.specs.CloneStep.{Answers, Makes, Updates, changes_nothing, makes_operation, UpdatesBy, AddsTriple, holds_already, holds_too_many, holds_from_now, TakesRange, knows_already, accepts, holds_back, Asks, Joins, left_half, TakesAsk, asked_itself, is_too_deep, forks, joined_with, TakesLeaf, becomes_live, leaves_it, AskerTakes, LiveTakes, Takes, Stops, Reopens, Lists, Compares, ComparesWith, Weighs, TakesWant, lacks_nothing, sends_ranges, sends_snapshot, TakesSnapshot, knows_all, merges, Wants, Compacts, Truncates}
 use Rattle.mld_model.proofs.StateLaws.{by_state, IsState, is_absent, is_asking, is_down, if_live, IsStanding, stands_absent, stands_asking, stands_live, if_opens}
 use Rattle.schedule_model.specs.Step.{Step}
 use Rattle.schedule_model.specs.Runs.{Stage, Waiting, SetUp, Running, Commands, Acts, says_nothing, commands, Runs}
@@ -29,7 +29,7 @@ use Rattle.mld_model.proofs.CompactedJournals.{known_compacted}
 use Rattle.mld_model.proofs.ReleaseLaws.{releases_known}
 use Rattle.mld_model.proofs.KnownLaws.{known_with-old, known_with-new}
 use Rattle.schedule_model.proofs.StepSoundLaws.{lists_same, weighs_same}
-use Rattle.schedule_model.specs.Answers.{Remembers, RemembersAdd, RemembersRemove}
+use Rattle.schedule_model.specs.Answers.{Remembers, RemembersUpdate}
 use Rattle.schedule_model.specs.Laws.{AddRemembers, RemoveRemembers, DidRemembers, StepRemembers, AnswersSurvive}
 
 -- ---- the step that makes an operation
@@ -40,17 +40,17 @@ place_of_live world number stored held is =
     place_of_clone world.clones number stored (subst (λ (clone : Clone). Keeps clone stored) (sym is) refl)
 
 -- the operation of a clone with this tick
-abbrev own_operation : Stored → ℕ → List Tagged → List Triple → Operation
-own_operation stored tick deletes inserts = record { dot = dot_at stored.path tick; causes = known_of stored; deletes = deletes; inserts = inserts }
+abbrev own_operation : Stored → ℕ → EffectValue → Operation
+own_operation stored tick effect = operation_of (dot_at stored.path tick) (known_of stored) effect
 
 -- the clone that made an operation remembers it
-makes_remembers : (world : World) (number : ℕ) (stored : Stored) (held : List Range) (deletes : List Tagged) (inserts : List Triple) (reply : Reply) (next : World)
-    → clone_at world number ≡ Live stored held → (made : Makes world number stored held deletes inserts reply next)
-    → Remembers next number (own_operation stored made.tick deletes inserts)
-makes_remembers world number stored held deletes inserts reply next is made =
+makes_remembers : (world : World) (number : ℕ) (stored : Stored) (held : List Range) (effect : EffectValue) (reply : Reply) (next : World)
+    → clone_at world number ≡ Live stored held → (made : Makes world number stored held effect reply next)
+    → Remembers next number (own_operation stored made.tick effect)
+makes_remembers world number stored held effect reply next is made =
     let own : Dot = dot_at stored.path made.tick in
     let inside : number < length world.clones = place_of_live world number stored held is in
-    subst (λ (world : World). Remembers world number (own_operation stored made.tick deletes inserts)) (sym made.changes) (record {
+    subst (λ (world : World). Remembers world number (own_operation stored made.tick effect)) (sym made.changes) (record {
       stored = with_range stored (range_of own);
       keeps = subst (λ (clone : Clone). Keeps clone (with_range stored (range_of own)))
           (sym (get_or-set_same world.clones number (Live (with_range stored (range_of own)) held) Absent inside)) refl;
@@ -59,10 +59,10 @@ makes_remembers world number stored held deletes inserts reply next is made =
     })
 
 -- and it stands at the head of the history
-made_head : (world : World) (number : ℕ) (stored : Stored) (held : List Range) (deletes : List Tagged) (inserts : List Triple) (reply : Reply) (next : World)
-    → (made : Makes world number stored held deletes inserts reply next)
-    → next.history ≡ own_operation stored made.tick deletes inserts ∷ world.history
-made_head world number stored held deletes inserts reply next made = ap (λ (w : World). w.history) made.changes
+made_head : (world : World) (number : ℕ) (stored : Stored) (held : List Range) (effect : EffectValue) (reply : Reply) (next : World)
+    → (made : Makes world number stored held effect reply next)
+    → next.history ≡ own_operation stored made.tick effect ∷ world.history
+made_head world number stored held effect reply next made = ap (λ (w : World). w.history) made.changes
 
 -- the answer tells of the operation's dot
 told_dot : (own dot : Dot) (count message : ℕ) → Did dot message ≡ Did own count → own ≡ dot
@@ -70,10 +70,7 @@ told_dot own dot count message told = cc
 
 -- how two sets of dots compare is told without a dot
 compares_tell_none : (known other : List Range) (dot : Dot) (message : ℕ) → ¬ Compares known other (Did dot message)
-compares_tell_none known other dot message (same_dots within back told) = cc told
-compares_tell_none known other dot message (fewer_dots within beyond told) = cc told
-compares_tell_none known other dot message (more_dots outside back told) = cc told
-compares_tell_none known other dot message (dots_apart outside beyond told) = cc told
+compares_tell_none known other dot message compares = compares
 
 -- a step that is answered with a dot, and the world after it
 module _ (world next : World) (dot : Dot) (message : ℕ) where
@@ -89,49 +86,34 @@ module _ (world next : World) (dot : Dot) (message : ℕ) where
   standing_tells_none answer stands_asking p = cc (p.0)
   standing_tells_none answer stands_live p = cc (p.0)
 
-  -- an `add` that tells of a dot made an operation, and its clone remembers it
-  adds_remembers : (number : ℕ) (triple : Triple) (clone : Clone) → clone_at world number ≡ clone → Adds world number triple clone (Did dot message) next
-      → RemembersAdd world number triple dot next
-  adds_remembers number triple clone is =
-      if_live (RemembersAdd world number triple dot next) world clone (Did dot message) next
-      (λ stored held. Makes world number stored held [] (triple ∷ []) (Did dot message) next)
-      (λ answer state p. absurd (state_tells_none answer state p))
-      (λ stored held live p. (
-        own_operation stored p.tick [] (triple ∷ []),
-        record { is = told_dot (dot_at stored.path p.tick) dot _ message p.replies; inserts = refl; deletes = refl },
-        made_head world number stored held [] (triple ∷ []) (Did dot message) next p,
-        makes_remembers world number stored held [] (triple ∷ []) (Did dot message) next (is ∙ live) p,
-      ))
-
-  -- where pairs were deleted that are the triple's, and the answer tells of a dot
-  deletes_remembers : (number : ℕ) (triple : Triple) (stored : Stored) (held : List Range) (pairs deletes : List Tagged) → clone_at world number ≡ Live stored held
-      → IsMeaning world.history (known_of stored) pairs → ArePairsOf triple pairs deletes → Deletes world number stored held deletes (Did dot message) next
-      → RemembersRemove world number triple dot next
-  deletes_remembers number triple stored held pairs deletes is meant are (finds_none none p) = absurd (cc (p.0))
-  deletes_remembers number triple stored held pairs deletes is meant are (deletes_all some p) = (
-    own_operation stored p.tick deletes [],
+  -- an update that tells of a dot made an operation, and its clone remembers it
+  updates_remember : (number : ℕ) (rule : List Tagged → EffectValue → Type 0) (stored : Stored) (held : List Range) (pairs : List Tagged) (effect : EffectValue)
+      → clone_at world number ≡ Live stored held → IsMeaning world.history (known_of stored) pairs → rule pairs effect
+      → Updates world number stored held effect (Did dot message) next → RemembersUpdate world number rule dot next
+  updates_remember number rule stored held pairs effect is meant does (changes_nothing none p) = absurd (cc (p.0))
+  updates_remember number rule stored held pairs effect is meant does (makes_operation some p) = (
+    own_operation stored p.tick effect,
     record {
-      is = told_dot (dot_at stored.path p.tick) dot _ message p.replies;
-      inserts = refl;
+      effect = effect;
       some = some;
       stored = stored;
       held = held;
       live = is;
       pairs = pairs;
       meant = meant;
-      deletes = are;
+      does = does;
+      is = ap (λ (d : Dot). operation_of d (known_of stored) effect) (told_dot (dot_at stored.path p.tick) dot _ message p.replies);
     },
-    made_head world number stored held deletes [] (Did dot message) next p,
-    makes_remembers world number stored held deletes [] (Did dot message) next is p,
+    made_head world number stored held effect (Did dot message) next p,
+    makes_remembers world number stored held effect (Did dot message) next is p,
   )
 
-  -- so did a `remove`
-  removes_remembers : (number : ℕ) (triple : Triple) (clone : Clone) → clone_at world number ≡ clone → Removes world number triple clone (Did dot message) next
-      → RemembersRemove world number triple dot next
-  removes_remembers number triple clone is =
-      if_live (RemembersRemove world number triple dot next) world clone (Did dot message) next _
+  updates_by_remember : (number : ℕ) (rule : List Tagged → EffectValue → Type 0) (clone : Clone) → clone_at world number ≡ clone
+      → UpdatesBy world number rule clone (Did dot message) next → RemembersUpdate world number rule dot next
+  updates_by_remember number rule clone is =
+      if_live (RemembersUpdate world number rule dot next) world clone (Did dot message) next _
       (λ answer state p. absurd (state_tells_none answer state p))
-      (λ stored held live p. deletes_remembers number triple stored held p.0 p.1 (is ∙ live) p.2 p.3 p.4)
+      (λ stored held live p. updates_remember number rule stored held p.0 p.1 (is ∙ live) p.2 p.3 p.4)
 
   -- a range that comes to a live clone is answered without a dot
   receives_tell_none : (number : ℕ) (stored : Stored) (held : List Range) (range : Range) → ¬ TakesRange world number stored held range (Did dot message) next
@@ -237,23 +219,23 @@ module _ (world next : World) (dot : Dot) (message : ℕ) where
 -- the dot that an `add` tells of is that of an operation which inserts just the triple, and the clone remembers it
 pub add_remembers : AddRemembers
 unfolding Step
-add_remembers world number triple dot message next p = adds_remembers world next dot message number triple (clone_at world number) refl p
+add_remembers world number triple dot message next p = updates_by_remember world next dot message number (AddsTriple triple) (clone_at world number) refl p
 
 -- the dot that a `remove` tells of is that of an operation which deletes the pairs of the triple, and the clone remembers it
 pub remove_remembers : RemoveRemembers
 unfolding Step
-remove_remembers world number triple dot message next p = removes_remembers world next dot message number triple (clone_at world number) refl p
+remove_remembers world number triple dot message next p = updates_by_remember world next dot message number (DeletesAll triple) (clone_at world number) refl p
 
 -- the dot that a command tells of is that of an operation which its step put at the head of the history, and its clone
 -- remembers it
 pub did_remembers : DidRemembers
 unfolding Step
 did_remembers world (Add number triple) dot message next p =
-    let made = adds_remembers world next dot message number triple (clone_at world number) refl p in
-    record { operation = made.0; is = made.1.is; made = made.2; remembers = made.3 }
+    let made = updates_by_remember world next dot message number (AddsTriple triple) (clone_at world number) refl p in
+    record { operation = made.0; is = ap (λ (o : Operation). o.dot) made.1.is; made = made.2; remembers = made.3 }
 did_remembers world (Remove number triple) dot message next p =
-    let made = removes_remembers world next dot message number triple (clone_at world number) refl p in
-    record { operation = made.0; is = made.1.is; made = made.2; remembers = made.3 }
+    let made = updates_by_remember world next dot message number (DeletesAll triple) (clone_at world number) refl p in
+    record { operation = made.0; is = ap (λ (o : Operation). o.dot) made.1.is; made = made.2; remembers = made.3 }
 did_remembers world (Deliver sent number) dot message next p = absurd (delivers_tell_none world next dot message number (message_at world sent) p)
 did_remembers world (Show number) dot message next p = absurd (lists_tell_none world next dot message (clone_at world number) p)
 did_remembers world (Join number) dot message next p = absurd (joins_tell_none world next dot message number (clone_at world number) p)
@@ -321,31 +303,22 @@ module _ (world next : World) (number : ℕ) (operation : Operation) (remembers 
       ]
 
   -- a clone that makes an operation leads to such a world
-  makes_keeps : (maker : ℕ) (stored : Stored) (held : List Range) (deletes : List Tagged) (inserts : List Triple) (reply : Reply) → clone_at world maker ≡ Live stored held
-      → Makes world maker stored held deletes inserts reply next → Remembers next number operation
-  makes_keeps maker stored held deletes inserts reply is made =
+  makes_keeps : (maker : ℕ) (stored : Stored) (held : List Range) (effect : EffectValue) (reply : Reply) → clone_at world maker ≡ Live stored held
+      → Makes world maker stored held effect reply next → Remembers next number operation
+  makes_keeps maker stored held effect reply is made =
       grown_remembers maker stored (with_range stored (range_of (dot_at stored.path made.tick))) held held is (ap (λ (w : World). w.clones) made.changes) (known_with-old stored (range_of (dot_at stored.path made.tick))) (λ other stands. subst (λ (w : World). Has w.history other) (sym made.changes) (inr stands))
 
-  -- what is remembered stays so at an `add`
-  adds_keep : (maker : ℕ) (triple : Triple) (clone : Clone) (reply : Reply) → clone_at world maker ≡ clone → Adds world maker triple clone reply next
-      → Remembers next number operation
-  adds_keep maker triple clone reply is =
-      if_live (Remembers next number operation) world clone reply next _ (λ answer state p. same_remembers p.1)
-      (λ stored held live p. makes_keeps maker stored held [] (triple ∷ []) reply (is ∙ live) p)
+  -- what is remembered stays so at an update
+  updates_keep : (maker : ℕ) (stored : Stored) (held : List Range) (effect : EffectValue) (reply : Reply) → clone_at world maker ≡ Live stored held
+      → Updates world maker stored held effect reply next → Remembers next number operation
+  updates_keep maker stored held effect reply is (changes_nothing none p) = same_remembers p.1
+  updates_keep maker stored held effect reply is (makes_operation some p) = makes_keeps maker stored held effect reply is p
 
-  -- where pairs are deleted
-  deletes_keep : (maker : ℕ) (stored : Stored) (held : List Range) (deletes : List Tagged) (reply : Reply) → clone_at world maker ≡ Live stored held
-      → Deletes world maker stored held deletes reply next → Remembers next number operation
-  deletes_keep maker stored held deletes reply is (finds_none none p) = same_remembers p.1
-  deletes_keep maker stored held deletes reply is (deletes_all some p) =
-      makes_keeps maker stored held deletes [] reply is p
-
-  -- at a `remove`
-  removes_keep : (maker : ℕ) (triple : Triple) (clone : Clone) (reply : Reply) → clone_at world maker ≡ clone → Removes world maker triple clone reply next
-      → Remembers next number operation
-  removes_keep maker triple clone reply is =
+  updates_by_keep : (maker : ℕ) (rule : List Tagged → EffectValue → Type 0) (clone : Clone) (reply : Reply) → clone_at world maker ≡ clone
+      → UpdatesBy world maker rule clone reply next → Remembers next number operation
+  updates_by_keep maker rule clone reply is =
       if_live (Remembers next number operation) world clone reply next _ (λ answer state p. same_remembers p.1)
-      (λ stored held live p. deletes_keep maker stored held p.1 reply (is ∙ live) p.4)
+      (λ stored held live p. updates_keep maker stored held p.1 reply (is ∙ live) p.4)
 
   -- where a range comes to a live clone
   receives_keep : (taker : ℕ) (stored : Stored) (held : List Range) (range : Range) (reply : Reply) → clone_at world taker ≡ Live stored held
@@ -492,9 +465,9 @@ module _ (world next : World) (number : ℕ) (operation : Operation) (remembers 
 pub step_remembers : StepRemembers
 unfolding Step
 step_remembers world number operation (Add maker triple) reply next remembers p =
-    adds_keep world next number operation remembers maker triple (clone_at world maker) reply refl p
+    updates_by_keep world next number operation remembers maker (AddsTriple triple) (clone_at world maker) reply refl p
 step_remembers world number operation (Remove maker triple) reply next remembers p =
-    removes_keep world next number operation remembers maker triple (clone_at world maker) reply refl p
+    updates_by_keep world next number operation remembers maker (DeletesAll triple) (clone_at world maker) reply refl p
 step_remembers world number operation (Deliver message taker) reply next remembers p =
     delivers_keep world next number operation remembers taker (message_at world message) reply p
 step_remembers world number operation (Show shower) reply next remembers p =

@@ -9,28 +9,27 @@ use Rattle.tree_clock.specs.Dot.{Knows}
 use Rattle.tree_clock.specs.Clock.{Covers}
 use Rattle.mld_ops.specs.Entry.{EntryValue}
 use Rattle.mld_ops.specs.Held.{ranges_of}
-use Rattle.mld_ops.specs.History.{Operation}
 use Rattle.mld_ops.specs.Messages.{MessageValue, CarriesEntry, CarriesWant, CarriesSnapshot}
 use Rattle.mld_ops.specs.Picking.{DropsThose}
-use Rattle.mld_ops.specs.Ready.{IsKnownEntry}
-use Rattle.mld_ops.proofs.PickingLaws.{kept_members, pairs_drop}
+use Rattle.mld_ops.proofs.PickingLaws.{kept_members}
 use Rattle.op_fusion.specs.Compacting.{AreCompacted}
 use Rattle.schedule_model.specs.declared.Command.TheVariants.{Deliver, Ask, Compact}
 use Rattle.mld_model.specs.declared.CloneState.TheVariants as states
-use Rattle.mld_model.specs.Clone.{Live, Stored, known_of, IsKnown, AreKnownTo}
+use Rattle.mld_model.specs.Clone.{Live, Stored, known_of, IsKnown}
 use Rattle.mld_model.specs.World.{World, Message, RangeOf, Want, SnapshotOf, message_at, clone_at, with_clone}
 use Rattle.mld_model.specs.CloneStep.{lacks_nothing, sends_ranges, sends_snapshot}
 use Rattle.mld_model.specs.Reply.{Reply, Sent, Answer, NothingToSend, Kept}
 use Rattle.mld_model.specs.Sound.{IsSoundClone, IsSound}
-use Rattle.mld_model.specs.Local.{LocalClone, CloneValue, snapshot_of, LocallyCompacts, LocallyAnswersWant}
-use Rattle.mld_model.specs.StandsFor.{RunningClone, RunningWorld, EntryStandsFor, LocalStandsFor, IsCloneOf, MessageStandsFor, StandsFor}
+use Rattle.mld_model.specs.Local.{LocalClone, snapshot_of, LocallyCompacts, LocallyAnswersWant}
+use Rattle.mld_model.specs.StandsFor.{RunningClone, RunningWorld, EntryStandsFor, IsCloneOf, MessageStandsFor, StandsFor}
+use Rattle.mld_model.proofs.AnswersStand.{entries_sent, some_ranges, no_ranges, base_known_to, ranges_left}
 use Rattle.mld_model.proofs.StateLaws.{live_does}
 use Rattle.mld_model.proofs.JournalLaws.{journal_done}
 use Rattle.mld_model.proofs.SoundLaws.{live_sound}
 use Rattle.mld_model.proofs.SendingLaws.{wanted_sound, ranges_sent_sound}
 use Rattle.mld_model.proofs.CompactedJournals.{compacted_sound}
 use Rattle.mld_model.proofs.CompactedStands.{journal_compacted, compacted_stands}
-use Rattle.mld_model.proofs.LocalLaws.{kept_by, known_alike}
+use Rattle.mld_model.proofs.LocalLaws.{kept_by}
 use Rattle.mld_model.proofs.MergedLaws.{snapshot_sent_sound}
 use Rattle.mld_model.proofs.PairsLaws.{pairs_count, pairs_append}
 use Rattle.mld_model.proofs.StandsForLaws.{LiveAt, live_at, clone_stands_as}
@@ -48,32 +47,6 @@ want_from : (world : World) (ticks : List (List ℕ × ℕ)) (message : ℕ) (ot
     → MessageStandsFor world.history (CarriesWant ticks) other → SentWant world ticks message
 want_from world ticks message (Want dots) at relates = record { dots = dots; at = at; alike = relates }
 want_from world ticks message other at relates = absurd relates
-
--- entries that stand for ranges do so as messages
-entries_sent : (history : List Operation) (entries : List EntryValue) (ranges : List Range) → AllZip (EntryStandsFor history) entries ranges
-    → AllZip (MessageStandsFor history) (map CarriesEntry entries) (map RangeOf ranges)
-entries_sent history [] [] all = tt
-entries_sent history (entry ∷ entries) (range ∷ ranges) all = (all.0, entries_sent history entries ranges all.1)
-entries_sent history [] (range ∷ ranges) all = absurd all
-entries_sent history (entry ∷ entries) [] all = absurd all
-
--- ranges for which some entries stand are some
-some_ranges : (history : List Operation) (entries : List EntryValue) (ranges : List Range) → AllZip (EntryStandsFor history) entries ranges → entries ≢ [] → ranges ≢ []
-some_ranges history [] ranges all some none = some refl
-some_ranges history (entry ∷ entries) [] all some none = all
-some_ranges history (entry ∷ entries) (range ∷ ranges) all some none = cc
-
--- what a live clone answers to a want, in the model
-module _ (history : List Operation) (live : LocalClone) (stored : Stored) (held dots : List Range) (ticks : List (List ℕ × ℕ)) (entries : List EntryValue)
-    (stands : LocalStandsFor history live stored held) (alike : (dot : Dot) → Covers ticks dot ↔ Knows dots dot) where
-  base_known : ((dot : Dot) → Covers live.base dot → Covers ticks dot) → AreKnownTo stored.base dots
-  base_known within dot known = (alike dot).0 (within dot ((stands.kept.base dot).1 known))
-
-  ranges_left : DropsThose (IsKnownEntry ticks) live.entries entries
-      → (ranges : List Range) × DropsThose (IsKnown dots) stored.journal ranges × AllZip (EntryStandsFor history) entries ranges
-  ranges_left drops =
-      pairs_drop (EntryStandsFor history) (IsKnownEntry ticks) (IsKnown dots) (λ entry range net. known_alike history ticks dots alike range entry net)
-      live.entries stored.journal entries stands.kept.entries drops
 
 -- a running world that stands for a sound world
 module _ (running : RunningWorld) (world : World) (stands : StandsFor running world) (sound : IsSound world) where
@@ -97,19 +70,19 @@ module _ (running : RunningWorld) (world : World) (stands : StandsFor running wo
   -- ---- ask
 
   -- a live clone asks for what it lacks
-  pub ask_follows : (number : ℕ) (live : CloneValue) → slice_get running.clones number ≡ Some (states.Live live)
-      → Follows world (Ask number) (Sent (length running.messages + 1)) (stepped_saying running (CarriesWant live.local.ticks ∷ []))
+  pub ask_follows : (number : ℕ) (live : LocalClone) → slice_get running.clones number ≡ Some (states.Live live)
+      → Follows world (Ask number) (Sent (length running.messages + 1)) (stepped_saying running (CarriesWant live.ticks ∷ []))
   unfolding Step
   ask_follows number live is =
-      let at : LiveAt world number live.local = live_at running world stands number live is in
-      let stored : Stored = kept_by live.local at.base at.journal in
+      let at : LiveAt world number live = live_at running world stands number live is in
+      let stored : Stored = kept_by live at.base at.journal in
       let next : World = record world { messages = world.messages ++ Want (known_of stored) ∷ [] } in
       record {
         next = next;
         steps = live_does world (clone_at world number) (Sent (length running.messages + 1)) next _ stored at.held at.live
             (ap (λ n. Sent (n + 1)) said_count, refl {a = next});
         sound = wanted_sound world number stored at.held sound at.live;
-        stands = saying_stands (CarriesWant live.local.ticks ∷ []) (Want (known_of stored) ∷ []) (at.stands.known, tt);
+        stands = saying_stands (CarriesWant live.ticks ∷ []) (Want (known_of stored) ∷ []) (at.stands.known, tt);
       }
 
   -- a clone that isn't live doesn't
@@ -128,38 +101,34 @@ module _ (running : RunningWorld) (world : World) (stands : StandsFor running wo
       want_from world ticks message s.other s.at s.relates
 
   -- a live clone has nothing to tell who sent it
-  pub want_nothing : (message number : ℕ) (ticks : List (List ℕ × ℕ)) (live : CloneValue)
-      → sent_message running message ≡ Some (CarriesWant ticks) → slice_get running.clones number ≡ Some (states.Live live) → LocallyAnswersWant live.local ticks []
+  pub want_nothing : (message number : ℕ) (ticks : List (List ℕ × ℕ)) (live : LocalClone)
+      → sent_message running message ≡ Some (CarriesWant ticks) → slice_get running.clones number ≡ Some (states.Live live) → LocallyAnswersWant live ticks []
       → Follows world (Deliver message number) NothingToSend (stepped running)
   want_nothing message number ticks live told is answers =
       let s : SentWant world ticks message = sent_want message ticks told in
-      let at : LiveAt world number live.local = live_at running world stands number live is in
-      let stored : Stored = kept_by live.local at.base at.journal in
-      let left = ranges_left world.history live.local stored at.held s.dots ticks [] at.stands s.alike answers.unknown in
+      let at : LiveAt world number live = live_at running world stands number live is in
+      let stored : Stored = kept_by live at.base at.journal in
+      let left = ranges_left world.history live stored at.held s.dots ticks [] at.stands s.alike answers.unknown in
       taking_follows (stepped running) world world message number (Want s.dots) (Live stored at.held) NothingToSend s.at at.live
-      (lacks_nothing (base_known world.history live.local stored at.held s.dots ticks [] at.stands s.alike answers.base)
-      (subst (λ (ranges : List Range). DropsThose (IsKnown s.dots) stored.journal ranges) (no_ranges left.0 left.2) left.1) (refl, refl))
+      (lacks_nothing (base_known_to world.history live stored at.held s.dots ticks [] at.stands s.alike answers.base)
+      (subst (λ (ranges : List Range). DropsThose (IsKnown s.dots) stored.journal ranges) (no_ranges world.history left.0 left.2) left.1) (refl, refl))
       sound (stepped_stands running world stands)
-    where
-      no_ranges : (ranges : List Range) → AllZip (EntryStandsFor world.history) [] ranges → ranges ≡ []
-      no_ranges [] all = refl
-      no_ranges (range ∷ ranges) all = absurd all
 
   -- or it sends the entries that the other one lacks
-  pub want_answered : (message number : ℕ) (ticks : List (List ℕ × ℕ)) (live : CloneValue) (entries : List EntryValue)
+  pub want_answered : (message number : ℕ) (ticks : List (List ℕ × ℕ)) (live : LocalClone) (entries : List EntryValue)
       → sent_message running message ≡ Some (CarriesWant ticks) → slice_get running.clones number ≡ Some (states.Live live)
-      → LocallyAnswersWant live.local ticks entries → entries ≢ []
+      → LocallyAnswersWant live ticks entries → entries ≢ []
       → Follows world (Deliver message number) (Answer (range_with_len (length running.messages + 1) (length entries))) (stepped_saying running (map CarriesEntry entries))
   want_answered message number ticks live entries told is answers some =
       let s : SentWant world ticks message = sent_want message ticks told in
-      let at : LiveAt world number live.local = live_at running world stands number live is in
-      let stored : Stored = kept_by live.local at.base at.journal in
-      let left = ranges_left world.history live.local stored at.held s.dots ticks entries at.stands s.alike answers.unknown in
+      let at : LiveAt world number live = live_at running world stands number live is in
+      let stored : Stored = kept_by live at.base at.journal in
+      let left = ranges_left world.history live stored at.held s.dots ticks entries at.stands s.alike answers.unknown in
       let whole : IsSoundClone world.history stored = live_sound world number stored at.held sound at.live in
       let reply : Reply = Answer (range_with_len (length running.messages + 1) (length entries)) in
       let next : World = record world { messages = world.messages ++ map RangeOf left.0 } in
       taking_follows (stepped_saying running (map CarriesEntry entries)) world next message number (Want s.dots) (Live stored at.held) reply s.at at.live
-      (sends_ranges left.0 (base_known world.history live.local stored at.held s.dots ticks entries at.stands s.alike answers.base) left.1
+      (sends_ranges left.0 (base_known_to world.history live stored at.held s.dots ticks entries at.stands s.alike answers.base) left.1
       (some_ranges world.history entries left.0 left.2 some)
       (λ i. Answer (range_with_len (said_count i + 1) (pairs_count (EntryStandsFor world.history) entries left.0 left.2 i))) (refl {a = next}))
       (ranges_sent_sound left.0 world sound (λ range h.
@@ -167,46 +136,46 @@ module _ (running : RunningWorld) (world : World) (stands : StandsFor running wo
       (saying_stands (map CarriesEntry entries) (map RangeOf left.0) (entries_sent world.history entries left.0 left.2))
 
   -- one who lacks dots of the base is sent a snapshot of all that the clone knows and has
-  pub want_snapshot : (message number : ℕ) (ticks : List (List ℕ × ℕ)) (live : CloneValue)
+  pub want_snapshot : (message number : ℕ) (ticks : List (List ℕ × ℕ)) (live : LocalClone)
       → sent_message running message ≡ Some (CarriesWant ticks) → slice_get running.clones number ≡ Some (states.Live live)
-      → ¬ ((dot : Dot) → Covers live.local.base dot → Covers ticks dot)
-      → Follows world (Deliver message number) (Answer ((length running.messages + 1) ∷ [])) (stepped_saying running (CarriesSnapshot (snapshot_of live.local) ∷ []))
+      → ¬ ((dot : Dot) → Covers live.base dot → Covers ticks dot)
+      → Follows world (Deliver message number) (Answer ((length running.messages + 1) ∷ [])) (stepped_saying running (CarriesSnapshot (snapshot_of live) ∷ []))
   want_snapshot message number ticks live told is behind =
       let s : SentWant world ticks message = sent_want message ticks told in
-      let at : LiveAt world number live.local = live_at running world stands number live is in
-      let stored : Stored = kept_by live.local at.base at.journal in
+      let at : LiveAt world number live = live_at running world stands number live is in
+      let stored : Stored = kept_by live at.base at.journal in
       let next : World = record world { messages = world.messages ++ SnapshotOf (known_of stored) ∷ [] } in
-      taking_follows (stepped_saying running (CarriesSnapshot (snapshot_of live.local) ∷ [])) world next message number (Want s.dots) (Live stored at.held)
+      taking_follows (stepped_saying running (CarriesSnapshot (snapshot_of live) ∷ [])) world next message number (Want s.dots) (Live stored at.held)
       (Answer ((length running.messages + 1) ∷ [])) s.at at.live
       (sends_snapshot (λ known. behind (λ dot covered. (s.alike dot).1 (known dot ((at.stands.kept.base dot).0 covered))))
       (λ i. Answer ((said_count i + 1) ∷ [])) (refl {a = next}))
       (snapshot_sent_sound world number stored at.held sound at.live)
-      (saying_stands (CarriesSnapshot (snapshot_of live.local) ∷ []) (SnapshotOf (known_of stored) ∷ []) (record { known = at.stands.known; pairs = at.stands.pairs }, tt))
+      (saying_stands (CarriesSnapshot (snapshot_of live) ∷ []) (SnapshotOf (known_of stored) ∷ []) (record { known = at.stands.known; pairs = at.stands.pairs }, tt))
 
   -- ---- compact
 
   -- a live clone compacts its journal
-  pub compact_follows : (number : ℕ) (live new : CloneValue) → slice_get running.clones number ≡ Some (states.Live live) → LocallyCompacts live.local new.local
-      → Follows world (Compact number) (Kept (length new.local.entries)) (stepped_with running number new)
+  pub compact_follows : (number : ℕ) (live new : LocalClone) → slice_get running.clones number ≡ Some (states.Live live) → LocallyCompacts live new
+      → Follows world (Compact number) (Kept (length new.entries)) (stepped_with running number new)
   unfolding Step
   compact_follows number live new is compacts =
-      let at : LiveAt world number live.local = live_at running world stands number live is in
-      let stored : Stored = kept_by live.local at.base at.journal in
+      let at : LiveAt world number live = live_at running world stands number live is in
+      let stored : Stored = kept_by live at.base at.journal in
       let whole : IsSoundClone world.history stored = live_sound world number stored at.held sound at.live in
-      let ranges : List Range = ranges_of new.local.entries in
+      let ranges : List Range = ranges_of new.entries in
       let compacted : AreCompacted stored.journal ranges =
-      journal_compacted world.history live.local new.local stored at.held sound.lawful whole at.stands compacts in
+      journal_compacted world.history live new stored at.held sound.lawful whole at.stands compacts in
       let next : World = with_clone world number (Live (record stored { journal = ranges }) at.held) in
-      let of : IsCloneOf world number (record live.local { entries = new.local.entries }) =
+      let of : IsCloneOf world number (record live { entries = new.entries }) =
       record { id = at.is.id; domain = at.is.domain; properties = at.is.properties } in
       record {
         next = next;
-        steps = live_does world (clone_at world number) (Kept (length new.local.entries)) next _ stored at.held at.live
-            (ranges, compacted, ap (λ n. Kept n) (sym (length-map new.local.entries (λ (entry : EntryValue). entry.range))), refl {a = next});
+        steps = live_does world (clone_at world number) (Kept (length new.entries)) next _ stored at.held at.live
+            (ranges, compacted, ap (λ n. Kept n) (sym (length-map new.entries (λ (entry : EntryValue). entry.range))), refl {a = next});
         sound = compacted_sound world number stored at.held ranges sound at.live compacted;
         stands = changed_stands running world stands sound number new (record stored { journal = ranges }) at.held
             (subst (λ (clone : LocalClone). IsCloneOf world number clone) (sym compacts.rest) of)
-            (compacted_stands world.history live.local new.local stored at.held sound.lawful whole at.stands compacts);
+            (compacted_stands world.history live new stored at.held sound.lawful whole at.stands compacts);
       }
 
   -- a clone that isn't live doesn't

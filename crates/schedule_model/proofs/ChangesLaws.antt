@@ -3,7 +3,6 @@
 use Rattle.std.specs.Prelude.{◌≡◌, ◌≢◌, ℕ, List, [], ◌∷◌, ◌++◌, Option, Some, None, MatchOption}
 use Rattle.std.proofs.Common.{refl, sym, ◌∙◌, ap, subst}
 use Rattle.std.proofs.lemmas.List.{get_or-set_other}
-use Rattle.rdf_terms.specs.declared.terms.Triple.{Triple}
 use Rattle.tree_clock.specs.declared.dots.Range.{Range}
 use Rattle.tree_clock.specs.Lists.{Has}
 use Rattle.tree_clock.specs.Dot.{Knows}
@@ -12,13 +11,15 @@ use Rattle.mld_ops.specs.History.{Operation, IsInserted, IsNext, dot_at}
 use Rattle.mld_ops.specs.Meaning.{IsMeaning}
 use Rattle.schedule_model.specs.declared.Command.{Command}
 use Rattle.schedule_model.specs.declared.Command.TheVariants.{Add, Remove, Deliver, Show, Compare, Join, Ask, Compact, Truncate, Stop, Open}
+use Rattle.mld_ops.specs.Effects.{EffectValue, DeletesAll, operation_of}
 use Rattle.mld_model.specs.Clone.{Clone, Absent, Asking, Down, Live, Stored, known_of, truncated_to}
 use Rattle.mld_model.specs.World.{World, Message, RangeOf, Want, SnapshotOf, JoinAsk, JoinGive, message_at, clone_at, with_clone}
 use Rattle.mld_model.specs.Local.{LocalStored}
 use Rattle.mld_model.specs.Reply.{Reply, NoMessage}
 use Rattle.mld_model.specs.Sound.{Keeps, IsSoundClone, IsSound}
 use Rattle.mld_model.specs.StandsFor.{StoredStandsFor}
-use Rattle.mld_model.specs.CloneStep.{Answers, Makes, Adds, ArePairsOf, Deletes, finds_none, deletes_all, Removes, holds_already, holds_too_many, holds_from_now, TakesRange, knows_already, accepts, holds_back, Asks, Joins, left_half, TakesAsk, asked_itself, is_too_deep, forks, joined_with, TakesLeaf, becomes_live, leaves_it, AskerTakes, LiveTakes, Takes, Stops, Reopens, TakesWant, lacks_nothing, sends_ranges, sends_snapshot, TakesSnapshot, knows_all, merges, Wants, Compacts, Truncates}
+use Rattle.mld_model.specs.CloneStep.{Answers, Makes, Updates, changes_nothing, makes_operation, UpdatesBy, AddsTriple, holds_already, holds_too_many, holds_from_now, TakesRange, knows_already, accepts, holds_back, Asks, Joins, left_half, TakesAsk, asked_itself, is_too_deep, forks, joined_with, TakesLeaf, becomes_live, leaves_it, AskerTakes, LiveTakes, Takes, Stops, Reopens, TakesWant, lacks_nothing, sends_ranges, sends_snapshot, TakesSnapshot, knows_all, merges, Wants, Compacts, Truncates}
+use Rattle.mld_model.proofs.UpdateLaws.{DeletesPresent, adds_present, removes_present}
 use Rattle.mld_model.proofs.StateLaws.{by_state, if_live, if_opens}
 use Rattle.mld_model.proofs.SoundLaws.{made_is_next, live_sound}
 use Rattle.mld_model.proofs.StoredLaws.{stored_still_stands}
@@ -69,40 +70,33 @@ module _ (world next : World) (number : ℕ) where
   -- ---- local changes
 
   -- an operation is made, whose deletes are pairs that the clone knows
-  makes_changes : (stored : Stored) (held : List Range) (deletes : List Tagged) (inserts : List Triple) (reply : Reply) → clone_at world number ≡ Live stored held
-      → ((pair : Tagged) → Has deletes pair → Knows (known_of stored) pair.dot) → ((pair : Tagged) → Has deletes pair → IsInserted world.history pair)
-      → Makes world number stored held deletes inserts reply next → Changes world next number
-  makes_changes stored held deletes inserts reply is covered inserted p =
-      let operation : Operation = record { dot = dot_at stored.path p.tick; causes = known_of stored; deletes = deletes; inserts = inserts } in
+  makes_changes : (stored : Stored) (held : List Range) (effect : EffectValue) (reply : Reply) → clone_at world number ≡ Live stored held
+      → ((pair : Tagged) → Has effect.deletes pair → Knows (known_of stored) pair.dot) → ((pair : Tagged) → Has effect.deletes pair → IsInserted world.history pair)
+      → Makes world number stored held effect reply next → Changes world next number
+  makes_changes stored held effect reply is covered inserted p =
+      let operation : Operation = operation_of (dot_at stored.path p.tick) (known_of stored) effect in
       record {
         domain = ap (λ (w : World). w.domain) p.changes;
         properties = ap (λ (w : World). w.properties) p.changes;
         others = λ other differs. ap (λ (w : World). clone_at w other) p.changes ∙ get_or-set_other world.clones number other _ Absent differs;
         grows = λ sound. grows_by operation
-            (made_is_next world.history stored p.tick deletes inserts (live_sound world number stored held sound is) p.is_next covered inserted)
+            (made_is_next world.history stored p.tick effect.deletes effect.inserts (live_sound world number stored held sound is) p.is_next covered inserted)
             (ap (λ (w : World). w.history) p.changes);
       }
 
-  -- an `add`
-  adds_change : (triple : Triple) (clone : Clone) (reply : Reply) → clone_at world number ≡ clone → Adds world number triple clone reply next → Changes world next number
-  adds_change triple clone reply is =
-      if_live (Changes world next number) world clone reply next _ (λ answer state p. same_changes p.1)
-      (λ stored held live. makes_changes stored held [] (triple ∷ []) reply (is ∙ live) (λ pair h. absurd h) (λ pair h. absurd h))
+  -- an update that deletes pairs of the clone
+  updates_change : (stored : Stored) (held : List Range) (pairs : List Tagged) (effect : EffectValue) (reply : Reply) → clone_at world number ≡ Live stored held
+      → IsMeaning world.history (known_of stored) pairs → ((pair : Tagged) → Has effect.deletes pair → Has pairs pair)
+      → Updates world number stored held effect reply next → Changes world next number
+  updates_change stored held pairs effect reply is meant among (changes_nothing none p) = same_changes p.1
+  updates_change stored held pairs effect reply is meant among (makes_operation some p) =
+      makes_changes stored held effect reply is (λ pair h. (meant.sound pair (among pair h)).covered) (λ pair h. (meant.sound pair (among pair h)).inserted) p
 
-  -- pairs of the clone are deleted
-  deletes_change : (stored : Stored) (held : List Range) (triple : Triple) (pairs deletes : List Tagged) (reply : Reply) → clone_at world number ≡ Live stored held
-      → IsMeaning world.history (known_of stored) pairs → ArePairsOf triple pairs deletes → Deletes world number stored held deletes reply next → Changes world next number
-  deletes_change stored held triple pairs deletes reply is meant are (finds_none none p) = same_changes p.1
-  deletes_change stored held triple pairs deletes reply is meant are (deletes_all some p) =
-      makes_changes stored held deletes [] reply is
-      (λ pair h. (meant.sound pair ((are.members pair).0 h).0).covered) (λ pair h. (meant.sound pair ((are.members pair).0 h).0).inserted) p
-
-  -- a `remove`
-  removes_change : (triple : Triple) (clone : Clone) (reply : Reply) → clone_at world number ≡ clone → Removes world number triple clone reply next
-      → Changes world next number
-  removes_change triple clone reply is =
+  updates_by_change : (rule : List Tagged → EffectValue → Type 0) → DeletesPresent rule → (clone : Clone) (reply : Reply) → clone_at world number ≡ clone
+      → UpdatesBy world number rule clone reply next → Changes world next number
+  updates_by_change rule present clone reply is =
       if_live (Changes world next number) world clone reply next _ (λ answer state p. same_changes p.1)
-      (λ stored held live p. deletes_change stored held triple p.0 p.1 reply (is ∙ live) p.2 p.3 p.4)
+      (λ stored held live p. updates_change stored held p.0 p.1 reply (is ∙ live) p.2 (present p.0 p.1 p.3) p.4)
 
   -- ---- messages
 
@@ -207,8 +201,8 @@ module _ (world next : World) (number : ℕ) where
 -- each step
 step_changes : (world : World) (command : Command) (reply : Reply) (next : World) → Step world command reply next → Changes world next (number_of_clone command)
 unfolding Step
-step_changes world (Add number triple) reply next p = adds_change world next number triple (clone_at world number) reply refl p
-step_changes world (Remove number triple) reply next p = removes_change world next number triple (clone_at world number) reply refl p
+step_changes world (Add number triple) reply next p = updates_by_change world next number (AddsTriple triple) (adds_present triple) (clone_at world number) reply refl p
+step_changes world (Remove number triple) reply next p = updates_by_change world next number (DeletesAll triple) (removes_present triple) (clone_at world number) reply refl p
 step_changes world (Deliver message number) reply next p = delivers_change world next number (message_at world message) reply p
 step_changes world (Show number) reply next p = same_changes world next number (lists_same world (clone_at world number) reply next p)
 step_changes world (Join number) reply next p = joins_change world next number (clone_at world number) reply p

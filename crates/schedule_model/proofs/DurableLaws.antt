@@ -3,16 +3,16 @@ use Rattle.std.specs.Prelude.{◌≡◌, ◌≢◌, ℕ, ◌<◌, List, [], ◌�
 use Rattle.std.proofs.Common.{refl, sym, ◌∙◌, ap, arith, subst, inl, inr, get_or, set, append-nil, append_assoc}
 use Rattle.std.proofs.lemmas.Bool.{cases_order}
 use Rattle.std.proofs.lemmas.List.{get_or-set_same, get_or-set_other, length-drop}
-use Rattle.rdf_terms.specs.declared.terms.Triple.{Triple}
 use Rattle.tree_clock.specs.declared.dots.Range.{Range}
 use Rattle.mld_ops.specs.declared.tagged.Tagged.{Tagged}
 use Rattle.mld_ops.specs.History.{Operation, dot_at}
 use Rattle.schedule_model.specs.declared.Command.{Command}
 use Rattle.schedule_model.specs.declared.Command.TheVariants.{Add, Remove, Deliver, Show, Compare, Join, Ask, Compact, Truncate, Stop, Open}
+use Rattle.mld_ops.specs.Effects.{EffectValue, DeletesAll, operation_of}
 use Rattle.mld_model.specs.Clone.{Clone, Absent, Asking, Empty, Down, Live, Stored, known_of, with_range, merged_with, truncated_to, Releases, kept_of}
 use Rattle.mld_model.specs.World.{World, Message, RangeOf, Want, SnapshotOf, JoinAsk, JoinGive, message_at, clone_count, clone_at, with_clone}
 use Rattle.mld_model.specs.Reply.{Reply, Did, Took, Merged, AlreadyKnown, Answer, Joined, NoMessage, Ignored, IsAbsent, IsDown}
-use Rattle.mld_model.specs.CloneStep.{Answers, Makes, Adds, Deletes, finds_none, deletes_all, Removes, Accepts, HoldsBack, holds_already, holds_too_many, holds_from_now, TakesRange, knows_already, accepts, holds_back, Asks, Joins, left_half, TakesAsk, asked_itself, is_too_deep, forks, joined_with, TakesLeaf, becomes_live, leaves_it, AskerTakes, LiveTakes, Takes, Stops, Reopens, TakesWant, lacks_nothing, sends_ranges, sends_snapshot, Merges, TakesSnapshot, knows_all, merges, Wants, Compacts, Truncates}
+use Rattle.mld_model.specs.CloneStep.{Answers, Makes, Updates, changes_nothing, makes_operation, UpdatesBy, AddsTriple, Accepts, HoldsBack, holds_already, holds_too_many, holds_from_now, TakesRange, knows_already, accepts, holds_back, Asks, Joins, left_half, TakesAsk, asked_itself, is_too_deep, forks, joined_with, TakesLeaf, becomes_live, leaves_it, AskerTakes, LiveTakes, Takes, Stops, Reopens, TakesWant, lacks_nothing, sends_ranges, sends_snapshot, Merges, TakesSnapshot, knows_all, merges, Wants, Compacts, Truncates}
 use Rattle.mld_model.proofs.StateLaws.{by_state, IsState, is_absent, is_asking, is_down, if_live, if_opens}
 use Rattle.op_fusion.specs.Compacting.{AreCompacted}
 use Rattle.mld_model.proofs.CompactedJournals.{compacted_shrinks}
@@ -172,10 +172,10 @@ module _ (world next : World) (number : ℕ) where
       ([], subst (λ (r : Reply). MakesDurably world r next []) (sym p.0) none, same_leads p.1)
 
   -- where an operation is made, its append is the one step
-  makes_leads : (stored : Stored) (held : List Range) (deletes : List Tagged) (inserts : List Triple) (reply : Reply) → number < length world.clones
-      → clone_at world number ≡ Live stored held → Makes world number stored held deletes inserts reply next → MakesAndLeads world number reply next
-  makes_leads stored held deletes inserts reply inside is p =
-      let operation : Operation = record { dot = dot_at stored.path p.tick; causes = known_of stored; deletes = deletes; inserts = inserts } in
+  makes_leads : (stored : Stored) (held : List Range) (effect : EffectValue) (reply : Reply) → number < length world.clones
+      → clone_at world number ≡ Live stored held → Makes world number stored held effect reply next → MakesAndLeads world number reply next
+  makes_leads stored held effect reply inside is p =
+      let operation : Operation = operation_of (dot_at stored.path p.tick) (known_of stored) effect in
       let steps : List DurableStep = AppendsMade operation ∷ [] in
       let joined : next.history ≡ operation ∷ world.history = ap (λ (w : World). w.history) p.changes in (
         steps,
@@ -189,25 +189,17 @@ module _ (world next : World) (number : ℕ) where
   state_leads answer reply is_asking p = unmade_leads _ reply refl p
   state_leads answer reply is_down p = unmade_leads _ reply refl p
 
-  -- an `add` has such steps
-  adds_lead : (triple : Triple) (clone : Clone) (reply : Reply) → number < length world.clones → clone_at world number ≡ clone → Adds world number triple clone reply next
-      → MakesAndLeads world number reply next
-  adds_lead triple clone reply inside is =
-      if_live (MakesAndLeads world number reply next) world clone reply next _ (λ answer state. state_leads answer reply state)
-      (λ stored held live. makes_leads stored held [] (triple ∷ []) reply inside (is ∙ live))
+  -- an update has such steps
+  updates_lead : (stored : Stored) (held : List Range) (effect : EffectValue) (reply : Reply) → number < length world.clones
+      → clone_at world number ≡ Live stored held → Updates world number stored held effect reply next → MakesAndLeads world number reply next
+  updates_lead stored held effect reply inside is (changes_nothing none p) = unmade_leads _ reply refl p
+  updates_lead stored held effect reply inside is (makes_operation some p) = makes_leads stored held effect reply inside is p
 
-  -- so has the deletion of pairs
-  deletes_lead : (stored : Stored) (held : List Range) (deletes : List Tagged) (reply : Reply) → number < length world.clones → clone_at world number ≡ Live stored held
-      → Deletes world number stored held deletes reply next → MakesAndLeads world number reply next
-  deletes_lead stored held deletes reply inside is (finds_none none p) = unmade_leads _ reply refl p
-  deletes_lead stored held deletes reply inside is (deletes_all some p) = makes_leads stored held deletes [] reply inside is p
-
-  -- and so has a `remove`
-  removes_lead : (triple : Triple) (clone : Clone) (reply : Reply) → number < length world.clones → clone_at world number ≡ clone
-      → Removes world number triple clone reply next → MakesAndLeads world number reply next
-  removes_lead triple clone reply inside is =
+  updates_by_lead : (rule : List Tagged → EffectValue → Type 0) (clone : Clone) (reply : Reply) → number < length world.clones → clone_at world number ≡ clone
+      → UpdatesBy world number rule clone reply next → MakesAndLeads world number reply next
+  updates_by_lead rule clone reply inside is =
       if_live (MakesAndLeads world number reply next) world clone reply next _ (λ answer state. state_leads answer reply state)
-      (λ stored held live p. deletes_lead stored held p.1 reply inside (is ∙ live) p.4)
+      (λ stored held live p. updates_lead stored held p.1 reply inside (is ∙ live) p.4)
 
   -- ---- messages
 
@@ -412,10 +404,10 @@ place_of world number small count = omega (arith, small, count)
 pub durable_steps_lead : DurableStepsLead
 unfolding Step DurableSteps
 durable_steps_lead world (Add number triple) reply next small count p =
-    let made = adds_lead world next number triple (clone_at world number) reply (place_of world number small count) refl p in
+    let made = updates_by_lead world next number (AddsTriple triple) (clone_at world number) reply (place_of world number small count) refl p in
     leads_durably world (Add number triple) reply next made.0 made.1 made.2
 durable_steps_lead world (Remove number triple) reply next small count p =
-    let made = removes_lead world next number triple (clone_at world number) reply (place_of world number small count) refl p in
+    let made = updates_by_lead world next number (DeletesAll triple) (clone_at world number) reply (place_of world number small count) refl p in
     leads_durably world (Remove number triple) reply next made.0 made.1 made.2
 durable_steps_lead world (Deliver message number) reply next small count p =
     let given = delivers_lead world next number (message_at world message) reply (place_of world number small count) p in

@@ -1,35 +1,34 @@
 -- A running world where a clone asks for a leaf, or gives one, or takes one, stands for what the model's step makes.
-use Rattle.std.proofs.Common.{◌≡◌, ◌≢◌, ℕ, ◌+◌, ◌<◌, ◌≤◌, List, [], ◌∷◌, ◌++◌, refl, sym, ◌∙◌, ap, arith, subst, length, set, Some, append-nil}
+use Rattle.std.proofs.Common.{◌≡◌, ◌≢◌, ℕ, ◌+◌, ◌<◌, ◌≤◌, List, [], ◌∷◌, ◌++◌, refl, sym, ◌∙◌, ap, arith, subst, length, set, Some}
 use Rattle.std.specs.Prelude.{slice_get}
 use Rattle.std.proofs.lemmas.List.{length-set}
 use Rattle.tree_clock.specs.Limits.{path_limit}
 use Rattle.tree_clock.specs.Path.{zero_letter, one_letter}
 use Rattle.tree_clock.specs.declared.dots.Range.{Range}
 use Rattle.tree_clock.specs.Lists.{Has}
-use Rattle.mld_ops.specs.Messages.{GiveValue, MessageValue, CarriesEntry, CarriesWant, CarriesSnapshot, CarriesAsk, CarriesGive}
-use Rattle.mld_model.specs.declared.NoDevice.{NoDevice}
-use Rattle.mld_ops.specs.History.{Operation}
+use Rattle.mld_ops.specs.Messages.{GiveValue, MessageValue, CarriesAsk, CarriesGive}
 use Rattle.mld_ops.proofs.PickingLaws.{pairs_more}
 use Rattle.schedule_model.specs.declared.Command.TheVariants.{Deliver, Join}
 use Rattle.mld_model.specs.declared.CloneState.TheVariants as states
 use Rattle.mld_model.specs.Clone.{Clone, Absent, Asking, Empty, Down, Live, Stored, known_of}
-use Rattle.mld_model.specs.World.{World, Message, RangeOf, Want, SnapshotOf, JoinAsk, JoinGive, message_at, clone_at, clone_count, with_clone}
+use Rattle.mld_model.specs.World.{World, Message, JoinAsk, JoinGive, message_at, clone_at, clone_count, with_clone}
 use Rattle.schedule_model.specs.Step.{Step}
-use Rattle.mld_model.specs.CloneStep.{Joins, asked_itself, is_too_deep, forks, becomes_live, leaves_it, Takes, after_asking, after_fork, left_half, joined_with}
+use Rattle.mld_model.specs.CloneStep.{Joins, asked_itself, is_too_deep, forks, becomes_live, after_asking, after_fork, left_half, joined_with}
 use Rattle.mld_model.specs.Reply.{Sent, Answer, Joined, Deep, Ignored, IsDown, IsLive}
 use Rattle.mld_model.specs.Sound.{Keeps, IsSound}
-use Rattle.mld_model.specs.Local.{LocalAsker, LocalClone, CloneValue, LocallyForks, joined_clone}
-use Rattle.mld_model.specs.StandsFor.{RunningClone, RunningWorld, LocalStandsFor, SnapshotStandsFor, IsCloneOf, IsAskerOf, CloneStandsFor, GiveStandsFor, MessageStandsFor, StandsFor, id_of}
+use Rattle.mld_model.specs.Local.{LocalAsker, LocalClone, LocallyForks, joined_clone}
+use Rattle.mld_model.specs.StandsFor.{RunningClone, RunningWorld, LocalStandsFor, IsCloneOf, IsAskerOf, CloneStandsFor, GiveStandsFor, MessageStandsFor, StandsFor, id_of}
+use Rattle.mld_model.proofs.AnswersStand.{number_of_id, others_ask, give_stands, joined_stands, passed_over}
 use Rattle.mld_model.proofs.JoiningLaws.{asked_sound, forked_sound, joined_sound, place_of_message}
 use Rattle.mld_model.proofs.LocalLaws.{kept_by}
 use Rattle.mld_model.proofs.PairsLaws.{pairs_count}
-use Rattle.mld_model.proofs.StandsForLaws.{LiveAt, AskingAt, live_at, absent_at, asking_at, place_of_state, set_as_it_is, same_number}
+use Rattle.mld_model.proofs.StandsForLaws.{LiveAt, AskingAt, live_at, absent_at, asking_at, place_of_state, set_as_it_is}
 use Rattle.schedule_model.proofs.WorldLaws.{stepped, stepped_with, stepped_stands, sent_message, SentAs, sent_as, clones_set_stand, changed_stands, taking_follows}
 use Rattle.schedule_model.specs.WorldStep.{Follows}
 pub use Rattle.schedule_model.specs.WorldStep.{stepped_telling}
 
 -- in the model a clone that is down asks for none
-joins_down : (world : World) (number : ℕ) (device : NoDevice) (clone : Clone) → CloneStandsFor world number (states.Down device) clone → Joins world number clone IsDown world
+joins_down : (world : World) (number : ℕ) (device : Unit {0}) (clone : Clone) → CloneStandsFor world number (states.Down device) clone → Joins world number clone IsDown world
 joins_down world number device Empty stands = (refl, refl)
 joins_down world number device (Down stored) stands = (refl, refl)
 joins_down world number device clone stands = absurd stands
@@ -45,24 +44,6 @@ ask_from : (world : World) (id : List ℕ) (message : ℕ) (other : Message) →
     → MessageStandsFor world.history (CarriesAsk id) other → SentAsk world id message
 ask_from world id message (JoinAsk number) at stands relates = record { number = number; at = at; stands = stands; is = relates }
 ask_from world id message other at stands relates = absurd relates
-
--- the ids of two clones of a world are equal just where their numbers are
-number_of_id : (one other : ℕ) → one < clone_count → other < clone_count → id_of one ≡ id_of other → one ≡ other
-number_of_id one other below under same = same_number one other (omega (arith, below)) (omega (arith, under)) same
-
--- the numbers of two clones differ where their ids do
-others_ask : (world : World) (number asked : ℕ) (id : List ℕ) (live : LocalClone) → IsCloneOf world number live → id ≡ id_of asked → id ≢ live.id → asked ≢ number
-others_ask world number asked id live is of differs same = differs (of ∙ ap id_of same ∙ sym is.id)
-
--- the leaf that a clone gives stands for the one that the model's clone gives
-give_stands : (world : World) (asked : ℕ) (id : List ℕ) (live new : LocalClone) (give : GiveValue) (stored : Stored) (held : List Range) → LocallyForks live id new give
-    → id ≡ id_of asked → LocalStandsFor world.history live stored held → GiveStandsFor world.history give asked (stored.path ++ one_letter ∷ []) (known_of stored)
-give_stands world asked id live new give stored held gives is stands =
-    subst (λ (g : GiveValue). GiveStandsFor world.history g asked (stored.path ++ one_letter ∷ []) (known_of stored)) (sym gives.right) (record {
-      id = is;
-      leaf = ap (λ path. path ++ one_letter ∷ []) stands.kept.path;
-      snapshot = record { known = stands.known; pairs = stands.pairs };
-    })
 
 -- the leaf of the model that was sent as this one
 pub record SentGive (world : World) (give : GiveValue) (message : ℕ) : Type 0 where
@@ -98,28 +79,6 @@ module _ (running : RunningWorld) (world : World) (stands : StandsFor running wo
       let s : SentAs world (CarriesGive give) message = sent_as running world stands message (CarriesGive give) is in
       give_from world give message s.other s.at s.stands s.relates
 
--- a clone that took a leaf stands for what the model's clone keeps then
-joined_stands : (history : List Operation) (asker : LocalAsker) (give : GiveValue) (number : ℕ) (path : List ℕ) (dots : List Range)
-    → GiveStandsFor history give number path dots → LocalStandsFor history (joined_clone asker give) (joined_with path dots) []
-joined_stands history asker give number path dots stands =
-    let same : SnapshotStandsFor history give.snapshot (dots ++ []) = subst (λ (d : List Range). SnapshotStandsFor history give.snapshot d) (sym (append-nil dots)) stands.snapshot in
-    record {
-      kept = record { path = stands.leaf; base = stands.snapshot.known; base_pairs = stands.snapshot.pairs; entries = tt };
-      held = tt;
-      known = same.known;
-      pairs = same.pairs;
-    }
-
--- what one who asks does with a message that gives it no leaf
-passed_over : (world : World) (number : ℕ) (asker : LocalAsker) (what : MessageValue) (other : Message) → IsAskerOf world number asker
-    → ((give : GiveValue) → what ≡ CarriesGive give → give.id ≢ asker.id) → MessageStandsFor world.history what other → Takes world number other Asking Ignored world
-passed_over world number asker (CarriesGive give) (JoinGive id path dots) is none relates = leaves_it (λ same. none give refl (relates.id ∙ ap id_of same ∙ sym is.id)) (refl, refl)
-passed_over world number asker (CarriesEntry entry) (RangeOf range) is none relates = (refl, refl)
-passed_over world number asker (CarriesWant ticks) (Want dots) is none relates = (refl, refl)
-passed_over world number asker (CarriesSnapshot snapshot) (SnapshotOf dots) is none relates = (refl, refl)
-passed_over world number asker (CarriesAsk id) (JoinAsk asked) is none relates = (refl, refl)
-passed_over world number asker what other is none relates = absurd relates
-
 -- a running world that stands for a sound world
 module _ (running : RunningWorld) (world : World) (stands : StandsFor running world) (sound : IsSound world) where
   -- it stands for the world with that state of the clone and that message
@@ -154,7 +113,7 @@ module _ (running : RunningWorld) (world : World) (stands : StandsFor running wo
       }
 
   -- an absent clone asks for a leaf
-  pub join_absent : (number : ℕ) (blank : NoDevice) (asker : LocalAsker)
+  pub join_absent : (number : ℕ) (blank : Unit {0}) (asker : LocalAsker)
       → slice_get running.clones number ≡ Some (states.Absent blank)
       → asker.id ≡ id_of number → asker.domain ≡ running.domain → asker.properties ≡ running.properties
       → Follows world (Join number) (Sent (length running.messages + 1)) (stepped_telling running number (states.Asking asker) (CarriesAsk (id_of number)))
@@ -187,7 +146,7 @@ module _ (running : RunningWorld) (world : World) (stands : StandsFor running wo
       at.asking (λ stored keeps. absurd keeps) (asked_reply running world stands, refl) at.is)
 
   -- a live clone doesn't
-  pub join_live : (number : ℕ) (live : CloneValue)
+  pub join_live : (number : ℕ) (live : LocalClone)
       → slice_get running.clones number ≡ Some (states.Live live) → Follows world (Join number) IsLive (stepped running)
   unfolding Step
   join_live number live is =
@@ -195,7 +154,7 @@ module _ (running : RunningWorld) (world : World) (stands : StandsFor running wo
       record { next = world; steps = subst P (sym (live_at running world stands number live is).live) (refl, refl); sound = sound; stands = stepped_stands running world stands }
 
   -- so a clone that is down asks for none
-  pub join_down : (number : ℕ) (device : NoDevice)
+  pub join_down : (number : ℕ) (device : Unit {0})
       → slice_get running.clones number ≡ Some (states.Down device) → Follows world (Join number) IsDown (stepped running)
   unfolding Step
   join_down number device is = record {
@@ -208,36 +167,36 @@ module _ (running : RunningWorld) (world : World) (stands : StandsFor running wo
   -- ---- a clone is asked for a leaf
 
   -- a live clone is asked by its own question
-  pub deliver_ask_own : (message number : ℕ) (id : List ℕ) (live : CloneValue)
-      → sent_message running message ≡ Some (CarriesAsk id) → slice_get running.clones number ≡ Some (states.Live live) → id ≡ live.local.id
+  pub deliver_ask_own : (message number : ℕ) (id : List ℕ) (live : LocalClone)
+      → sent_message running message ≡ Some (CarriesAsk id) → slice_get running.clones number ≡ Some (states.Live live) → id ≡ live.id
       → Follows world (Deliver message number) Ignored (stepped running)
   deliver_ask_own message number id live told is own =
       let s : SentAsk world id message = sent_ask running world stands message id told in
-      let at : LiveAt world number live.local = live_at running world stands number live is in
+      let at : LiveAt world number live = live_at running world stands number live is in
       let same : s.number ≡ number = number_of_id s.number number (sound.messages (JoinAsk s.number) s.stands) (place_of_state running world stands number (states.Live live) is) (sym s.is ∙ own ∙ at.is.id) in
-      taking_follows (stepped running) world world message number (JoinAsk s.number) (Live (kept_by live.local at.base at.journal) at.held) Ignored s.at at.live
+      taking_follows (stepped running) world world message number (JoinAsk s.number) (Live (kept_by live at.base at.journal) at.held) Ignored s.at at.live
       (asked_itself same (refl, refl)) sound (stepped_stands running world stands)
 
   -- a live clone is asked whose leaf is too deep
-  pub deliver_deep : (message number : ℕ) (id : List ℕ) (live : CloneValue)
-      → sent_message running message ≡ Some (CarriesAsk id) → slice_get running.clones number ≡ Some (states.Live live) → id ≢ live.local.id → path_limit ≤ length live.local.path
+  pub deliver_deep : (message number : ℕ) (id : List ℕ) (live : LocalClone)
+      → sent_message running message ≡ Some (CarriesAsk id) → slice_get running.clones number ≡ Some (states.Live live) → id ≢ live.id → path_limit ≤ length live.path
       → Follows world (Deliver message number) Deep (stepped running)
   deliver_deep message number id live told is differs deep =
       let s : SentAsk world id message = sent_ask running world stands message id told in
-      let at : LiveAt world number live.local = live_at running world stands number live is in
-      taking_follows (stepped running) world world message number (JoinAsk s.number) (Live (kept_by live.local at.base at.journal) at.held) Deep s.at at.live
-      (is_too_deep (others_ask world number s.number id live.local at.is s.is differs) deep (refl, refl)) sound (stepped_stands running world stands)
+      let at : LiveAt world number live = live_at running world stands number live is in
+      taking_follows (stepped running) world world message number (JoinAsk s.number) (Live (kept_by live at.base at.journal) at.held) Deep s.at at.live
+      (is_too_deep (others_ask world number s.number id live at.is s.is differs) deep (refl, refl)) sound (stepped_stands running world stands)
 
   -- a live clone forks its leaf, and sends the right half of it
-  pub deliver_ask : (message number : ℕ) (id : List ℕ) (live new : CloneValue) (give : GiveValue)
-      → sent_message running message ≡ Some (CarriesAsk id) → slice_get running.clones number ≡ Some (states.Live live) → id ≢ live.local.id
-      → LocallyForks live.local id new.local give
+  pub deliver_ask : (message number : ℕ) (id : List ℕ) (live new : LocalClone) (give : GiveValue)
+      → sent_message running message ≡ Some (CarriesAsk id) → slice_get running.clones number ≡ Some (states.Live live) → id ≢ live.id
+      → LocallyForks live id new give
       → Follows world (Deliver message number) (Answer ((length running.messages + 1) ∷ [])) (stepped_telling running number (states.Live new) (CarriesGive give))
   deliver_ask message number id live new give told is differs gives =
       let s : SentAsk world id message = sent_ask running world stands message id told in
-      let at : LiveAt world number live.local = live_at running world stands number live is in
-      let stored : Stored = kept_by live.local at.base at.journal in
-      let left : LocalClone = record live.local { path = live.local.path ++ zero_letter ∷ [] } in
+      let at : LiveAt world number live = live_at running world stands number live is in
+      let stored : Stored = kept_by live at.base at.journal in
+      let left : LocalClone = record live { path = live.path ++ zero_letter ∷ [] } in
       let of : IsCloneOf world number left = record { id = at.is.id; domain = at.is.domain; properties = at.is.properties } in
       let now : LocalStandsFor world.history left (left_half stored) at.held = record {
         kept = record { path = refl; base = at.stands.kept.base; base_pairs = at.stands.kept.base_pairs; entries = at.stands.kept.entries };
@@ -247,28 +206,28 @@ module _ (running : RunningWorld) (world : World) (stands : StandsFor running wo
       } in
       taking_follows (stepped_telling running number (states.Live new) (CarriesGive give)) world (after_fork world number stored at.held s.number) message number
       (JoinAsk s.number) (Live stored at.held) (Answer ((length running.messages + 1) ∷ [])) s.at at.live
-      (forks (others_ask world number s.number id live.local at.is s.is differs) gives.room (ap (λ n. Answer ((n + 1) ∷ [])) (sent_count running world stands)) refl)
+      (forks (others_ask world number s.number id live at.is s.is differs) gives.room (ap (λ n. Answer ((n + 1) ∷ [])) (sent_count running world stands)) refl)
       (forked_sound world number stored at.held sound at.live s.number (sound.messages (JoinAsk s.number) s.stands))
       (telling_stands number (states.Live new) (Live (left_half stored) at.held) (CarriesGive give) (JoinGive s.number (stored.path ++ one_letter ∷ []) (known_of stored))
       (subst (λ (c : LocalClone). IsCloneOf world number c × LocalStandsFor world.history c (left_half stored) at.held) (sym gives.left) (of, now))
-      (give_stands world s.number id live.local new.local give stored at.held gives s.is at.stands))
+      (give_stands world s.number id live new give stored at.held gives s.is at.stands))
 
   -- ---- a leaf comes
 
   -- a live clone takes no leaf
-  pub deliver_give_live : (message number : ℕ) (give : GiveValue) (live : CloneValue)
+  pub deliver_give_live : (message number : ℕ) (give : GiveValue) (live : LocalClone)
       → sent_message running message ≡ Some (CarriesGive give) → slice_get running.clones number ≡ Some (states.Live live)
       → Follows world (Deliver message number) Ignored (stepped running)
   deliver_give_live message number give live told is =
       let s : SentGive world give message = sent_give running world stands message give told in
-      let at : LiveAt world number live.local = live_at running world stands number live is in
-      taking_follows (stepped running) world world message number (JoinGive s.number s.path s.dots) (Live (kept_by live.local at.base at.journal) at.held) Ignored s.at at.live
+      let at : LiveAt world number live = live_at running world stands number live is in
+      taking_follows (stepped running) world world message number (JoinGive s.number s.path s.dots) (Live (kept_by live at.base at.journal) at.held) Ignored s.at at.live
       (refl, refl) sound (stepped_stands running world stands)
 
   -- one who asks takes the leaf that was given for it
-  pub deliver_joined : (message number : ℕ) (give : GiveValue) (asker : LocalAsker) (new : CloneValue)
+  pub deliver_joined : (message number : ℕ) (give : GiveValue) (asker : LocalAsker) (new : LocalClone)
       → sent_message running message ≡ Some (CarriesGive give) → slice_get running.clones number ≡ Some (states.Asking asker) → give.id ≡ asker.id
-      → new.local ≡ joined_clone asker give
+      → new ≡ joined_clone asker give
       → Follows world (Deliver message number) (Joined give.path) (stepped_with running number new)
   deliver_joined message number give asker new told is own joins =
       let s : SentGive world give message = sent_give running world stands message give told in

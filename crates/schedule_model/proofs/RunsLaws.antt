@@ -2,12 +2,14 @@
 use Rattle.std.specs.Prelude.{◌≡◌, ℕ, suc, ◌+◌, List, [], ◌∷◌, ◌++◌, length}
 use Rattle.std.proofs.Common.{refl, sym, ◌∙◌, subst, subst₂, ap, arith}
 use Rattle.schedule_model.specs.declared.Command.{Command}
-use Rattle.mld_model.specs.World.{World}
+use Rattle.mld_ops.specs.Properties.{AreKept}
+use Rattle.mld_ops.proofs.PropertiesLaws.{kept_same}
+use Rattle.mld_model.specs.World.{World, founded}
 use Rattle.mld_model.specs.Reply.{Ready}
 use Rattle.schedule_model.specs.ReplyText.{reply_text}
 use Rattle.schedule_model.specs.Step.{Step}
 use Rattle.schedule_model.specs.Schedule.{Setup}
-use Rattle.schedule_model.specs.Runs.{Stage, Waiting, SetUp, Running, founded_by, IsWorldOf, SetsUp, Commands, Acts, says_nothing, sets_up, commands, Runs, IsUnbuilt, IsBad, IsFirst, IsBadRest, bad_line, no_domain, Outcome, Finished, BadLine, UnbuiltLine, Verdict}
+use Rattle.schedule_model.specs.Runs.{Stage, Waiting, SetUp, Running, IsFoundedBy, IsWorldOf, SetsUp, Commands, Acts, says_nothing, sets_up, commands, Runs, IsUnbuilt, IsBad, IsFirst, IsBadRest, bad_line, no_domain, Outcome, Finished, BadLine, UnbuiltLine, Verdict}
 use Rattle.schedule_model.specs.Laws.{OneAct, OneOutcome, OneRun, OneVerdict}
 use Rattle.schedule_model.proofs.ScheduleLaws.{one_kind, one_setup, one_command}
 use Rattle.schedule_model.proofs.StepLaws.{one_step}
@@ -20,10 +22,23 @@ sets_up_once line text other next after p q =
     let same = one_setup line p.setup q.setup p.spells q.spells in
     (p.replies ∙ ap (λ (setup : Setup). reply_text (Ready setup.count)) same ∙ sym q.replies, p.changes ∙ ap SetUp same ∙ sym q.changes)
 
+-- a setup founds one world
+founded_once : (setup : Setup) (world other : World) → IsFoundedBy setup world → IsFoundedBy setup other → world ≡ other
+founded_once setup world other p q =
+    let both : AreKept q.kept p.kept = record {
+      ascending = p.each.ascending;
+      members = λ property. (
+        λ has. (q.each.members property).1 ((p.each.members property).0 has),
+        λ has. (p.each.members property).1 ((q.each.members property).0 has),
+      );
+    } in
+    let same : p.kept ≡ q.kept = kept_same q.kept p.kept both q.each.ascending in
+    p.is ∙ ap (λ (kept : List (List ℕ)). founded setup.domain kept setup.count) same ∙ sym q.is
+
 -- the clones of a stage are founded in one world
 world_once : (stage : Stage) (world other : World) → IsWorldOf stage world → IsWorldOf stage other → world ≡ other
 world_once Waiting world other p q = absurd p
-world_once (SetUp setup) world other p q = p ∙ sym q
+world_once (SetUp setup) world other p q = founded_once setup world other p q
 world_once (Running now) world other p q = p ∙ sym q
 
 -- a command line makes one step
@@ -112,14 +127,14 @@ data ReadsLine (stage : Stage) (line : List ℕ) (after : Stage → Outcome → 
 -- what becomes of lines that are read from the stage on, by the lines
 abbrev Reads : List (List ℕ) → Stage → Outcome → Type 0
 Reads [] Waiting outcome = outcome ≡ BadLine 1 [] Waiting
-Reads [] (SetUp setup) outcome = outcome ≡ Finished [] (founded_by setup)
+Reads [] (SetUp setup) outcome = (world : World) × IsFoundedBy setup world × (outcome ≡ Finished [] world)
 Reads [] (Running world) outcome = outcome ≡ Finished [] world
 Reads (line ∷ lines) stage outcome = ReadsLine stage line (Reads lines) outcome
 
 -- lines are read in one way
 reads_once : (lines : List (List ℕ)) (stage : Stage) (outcome other : Outcome) → Reads lines stage outcome → Reads lines stage other → outcome ≡ other
 reads_once [] Waiting outcome other p q = p ∙ sym q
-reads_once [] (SetUp setup) outcome other p q = p ∙ sym q
+reads_once [] (SetUp setup) outcome other p q = p.2 ∙ ap (λ (world : World). Finished [] world) (founded_once setup p.0 q.0 p.1 q.1) ∙ sym q.2
 reads_once [] (Running world) outcome other p q = p ∙ sym q
 reads_once (line ∷ lines) stage outcome other (stops_bad bad is) (stops_bad too was) = is ∙ sym was
 reads_once (line ∷ lines) stage outcome other (stops_bad bad is) (stops_unbuilt unbuilt was) = absurd (bad_unbuilt stage line bad unbuilt)
@@ -137,7 +152,7 @@ reads_once (line ∷ lines) stage outcome other (reads_on p) (reads_on q) =
 -- at the end the world of the stage is the one that is read
 reads_end : (stage : Stage) (text : List ℕ) (world : World) → text ≡ [] → IsWorldOf stage world → Reads [] stage (Finished text world)
 reads_end Waiting text world none is = absurd is
-reads_end (SetUp setup) text world none is = cc (none, is)
+reads_end (SetUp setup) text world none founds = (world, founds, ap (λ (t : List ℕ). Finished t world) none)
 reads_end (Running other) text world none is = cc (none, is)
 
 -- a run over all lines reads them

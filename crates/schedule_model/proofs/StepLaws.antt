@@ -3,21 +3,19 @@ use Rattle.std.specs.Prelude.{◌≡◌, ℕ, ◌+◌, ◌<◌, List, [], ◌∷
 use Rattle.std.specs.List.{range_with_len}
 use Rattle.std.proofs.Common.{sym, ◌∙◌, ap, arith, inl, inr, subst}
 use Rattle.std.proofs.lemmas.Bool.{cases_order}
-use Rattle.rdf_terms.specs.declared.terms.Triple.{Triple}
 use Rattle.tree_clock.specs.declared.dots.Range.{Range}
-use Rattle.tree_clock.specs.Lists.{Has}
 use Rattle.mld_ops.specs.declared.tagged.Tagged.{Tagged}
 use Rattle.mld_ops.specs.History.{dot_at}
-use Rattle.mld_ops.specs.Tagged.{tagged_cmp}
-use Rattle.mld_ops.proofs.TaggedLaws.{tagged_total, tagged_exact}
-use Rattle.mld_ops.proofs.AscendingLaws.{same_ascending}
 use Rattle.mld_ops.proofs.MeaningLaws.{one_meaning}
 use Rattle.schedule_model.specs.declared.Command.TheVariants.{Add, Remove, Deliver, Show, Compare, Join, Ask, Compact, Truncate, Stop, Open}
 use Rattle.mld_ops.proofs.PickingLaws.{drops_one}
-use Rattle.mld_model.specs.Clone.{Clone, Live, Stored, known_of, with_range, merged_with, IsKnown}
+use Rattle.mld_ops.specs.Effects.{EffectValue, DeletesAll, operation_of}
+use Rattle.mld_model.specs.Clone.{Clone, Live, Stored, known_of, with_range, merged_with, IsKnown, AreKnownTo}
 use Rattle.mld_model.specs.World.{World, Message, RangeOf, Want, SnapshotOf, JoinAsk, JoinGive, message_at, clone_at, with_clone}
 use Rattle.mld_model.specs.Reply.{Reply, Did, Took, Merged, Shows, Answer, Kept, NoMessage}
-use Rattle.mld_model.specs.CloneStep.{Answers, IsNextTick, after_operation, Makes, Adds, ArePairsOf, Deletes, finds_none, deletes_all, Removes, Accepts, HoldsBack, holds_already, holds_too_many, holds_from_now, TakesRange, knows_already, accepts, holds_back, Joins, TakesAsk, asked_itself, is_too_deep, forks, TakesLeaf, becomes_live, leaves_it, AskerTakes, LiveTakes, Takes, Stops, Lists, Compares, same_dots, fewer_dots, more_dots, dots_apart, ComparesWith, Weighs, TakesWant, lacks_nothing, sends_ranges, sends_snapshot, Merges, TakesSnapshot, knows_all, merges, Wants, Compacts, Truncates}
+use Rattle.mld_model.proofs.ComparingLaws.{compares_once}
+use Rattle.mld_model.specs.CloneStep.{Answers, IsNextTick, after_operation, Makes, Updates, changes_nothing, makes_operation, UpdatesBy, AddsTriple, Accepts, HoldsBack, holds_already, holds_too_many, holds_from_now, TakesRange, knows_already, accepts, holds_back, Joins, TakesAsk, asked_itself, is_too_deep, forks, TakesLeaf, becomes_live, leaves_it, AskerTakes, LiveTakes, Takes, Stops, Lists, Compares, ComparesWith, Weighs, TakesWant, lacks_nothing, sends_ranges, sends_snapshot, Merges, TakesSnapshot, knows_all, merges, Wants, Compacts, Truncates}
+use Rattle.mld_model.proofs.UpdateLaws.{HasOneEffect, adds_one, removes_one}
 use Rattle.mld_model.proofs.StateLaws.{by_one_state, AreSame, answers_once, once_if_live, opens_once}
 use Rattle.schedule_model.specs.Step.{Step}
 use Rattle.mld_model.proofs.ReleaseLaws.{releases_once}
@@ -38,13 +36,6 @@ one_next_tick known path tick other p q = elim (cases_order tick other) [
   | inr (inr above) ↦ absurd (not_below known path other tick q p above)
 ]
 
--- a triple has one list of pairs among the pairs of a clone
-pairs_once : (triple : Triple) (pairs others deletes second : List Tagged) → pairs ≡ others → ArePairsOf triple pairs deletes → ArePairsOf triple others second → deletes ≡ second
-pairs_once triple pairs others deletes second same p q =
-    same_ascending tagged_cmp tagged_total tagged_exact deletes second p.ascending q.ascending
-    (λ x h. let m = (p.members x).0 h in (q.members x).1 (subst (λ (ps : List Tagged). Has ps x) same m.0, m.1))
-    (λ x h. let m = (q.members x).0 h in (p.members x).1 (subst (λ (ps : List Tagged). Has ps x) (sym same) m.0, m.1))
-
 -- a `show` has one outcome: what a clone knows has one meaning
 lists_once : (world : World) (clone : Clone) (reply other : Reply) (next after : World)
     → Lists world clone reply next → Lists world clone other after → AreSame reply next other after
@@ -52,30 +43,11 @@ lists_once world clone reply other next after =
     once_if_live world clone reply other next after _ _ (λ stored held p q.
     (p.2.0 ∙ ap Shows (one_meaning world.history (known_of stored) p.0 q.0 p.1 q.1) ∙ sym q.2.0, p.2.1 ∙ sym q.2.1))
 
--- two sets of dots compare in one way
-compares_once : (known others : List Range) (reply other : Reply) → Compares known others reply → Compares known others other → reply ≡ other
-compares_once known others reply other (same_dots within back told) (same_dots too again said) = told ∙ sym said
-compares_once known others reply other (same_dots within back told) (fewer_dots too beyond said) = absurd (beyond back)
-compares_once known others reply other (same_dots within back told) (more_dots outside too said) = absurd (outside within)
-compares_once known others reply other (same_dots within back told) (dots_apart outside beyond said) = absurd (outside within)
-compares_once known others reply other (fewer_dots within beyond told) (same_dots too back said) = absurd (beyond back)
-compares_once known others reply other (fewer_dots within beyond told) (fewer_dots too again said) = told ∙ sym said
-compares_once known others reply other (fewer_dots within beyond told) (more_dots outside back said) = absurd (outside within)
-compares_once known others reply other (fewer_dots within beyond told) (dots_apart outside too said) = absurd (outside within)
-compares_once known others reply other (more_dots outside back told) (same_dots within too said) = absurd (outside within)
-compares_once known others reply other (more_dots outside back told) (fewer_dots within beyond said) = absurd (outside within)
-compares_once known others reply other (more_dots outside back told) (more_dots too again said) = told ∙ sym said
-compares_once known others reply other (more_dots outside back told) (dots_apart too beyond said) = absurd (beyond back)
-compares_once known others reply other (dots_apart outside beyond told) (same_dots within back said) = absurd (outside within)
-compares_once known others reply other (dots_apart outside beyond told) (fewer_dots within too said) = absurd (outside within)
-compares_once known others reply other (dots_apart outside beyond told) (more_dots too back said) = absurd (beyond back)
-compares_once known others reply other (dots_apart outside beyond told) (dots_apart too again said) = told ∙ sym said
-
 -- a live clone beside another has one outcome
 compares_with_once : (world : World) (stored : Stored) (clone : Clone) (reply other : Reply) (next after : World)
     → ComparesWith world stored clone reply next → ComparesWith world stored clone other after → AreSame reply next other after
 compares_with_once world stored clone reply other next after =
-    once_if_live world clone reply other next after _ _ (λ others held p q. (compares_once (known_of stored) (known_of others) reply other p.0 q.0, p.1 ∙ sym q.1))
+    once_if_live world clone reply other next after _ _ (λ others held p q. (compares_once (AreKnownTo (known_of stored) (known_of others)) (AreKnownTo (known_of others) (known_of stored)) reply other p.0 q.0, p.1 ∙ sym q.1))
 
 -- a `compare` has one outcome
 weighs_once : (world : World) (clone others : Clone) (reply other : Reply) (next after : World)
@@ -86,34 +58,30 @@ weighs_once world clone others reply other next after =
 -- each step has one outcome: two of them that are given
 module _ (world : World) (number : ℕ) (reply other : Reply) (next after : World) where
   -- a local change has one outcome
-  makes_once : (stored : Stored) (held : List Range) (deletes : List Tagged) (inserts : List Triple) → Makes world number stored held deletes inserts reply next
-      → Makes world number stored held deletes inserts other after → AreSame reply next other after
-  makes_once stored held deletes inserts p q =
+  makes_once : (stored : Stored) (held : List Range) (effect : EffectValue) → Makes world number stored held effect reply next
+      → Makes world number stored held effect other after → AreSame reply next other after
+  makes_once stored held effect p q =
       let same = one_next_tick (known_of stored) stored.path p.tick q.tick p.is_next q.is_next in (
         p.replies ∙ ap (λ (tick : ℕ). Did (dot_at stored.path tick) (length world.messages + 1)) same ∙ sym q.replies,
-        p.changes ∙ ap (λ (tick : ℕ). after_operation world number stored held
-            (record { dot = dot_at stored.path tick; causes = known_of stored; deletes = deletes; inserts = inserts })) same ∙ sym q.changes,
+        p.changes ∙ ap (λ (tick : ℕ). after_operation world number stored held (operation_of (dot_at stored.path tick) (known_of stored) effect)) same ∙ sym q.changes,
       )
 
-  -- an `add` has one outcome
-  adds_once : (triple : Triple) (clone : Clone) → Adds world number triple clone reply next → Adds world number triple clone other after → AreSame reply next other after
-  adds_once triple clone =
-      once_if_live world clone reply other next after _ _ (λ stored held. makes_once stored held [] (triple ∷ []))
+  -- an update of one effect has one outcome
+  updates_once : (stored : Stored) (held : List Range) (effect : EffectValue) → Updates world number stored held effect reply next
+      → Updates world number stored held effect other after → AreSame reply next other after
+  updates_once stored held effect (changes_nothing none p) (changes_nothing too q) = answers_once p q
+  updates_once stored held effect (changes_nothing none p) (makes_operation some q) = absurd (some none)
+  updates_once stored held effect (makes_operation some p) (changes_nothing none q) = absurd (some none)
+  updates_once stored held effect (makes_operation some p) (makes_operation too q) = makes_once stored held effect p q
 
-  -- these pairs are deleted in one way
-  deletes_once : (stored : Stored) (held : List Range) (deletes others : List Tagged) → deletes ≡ others → Deletes world number stored held deletes reply next
-      → Deletes world number stored held others other after → AreSame reply next other after
-  deletes_once stored held deletes others same (finds_none none p) (finds_none too q) = answers_once p q
-  deletes_once stored held deletes others same (finds_none none p) (deletes_all some q) = absurd (some (sym same ∙ none))
-  deletes_once stored held deletes others same (deletes_all some p) (finds_none none q) = absurd (some (same ∙ none))
-  deletes_once stored held deletes others same (deletes_all some p) (deletes_all too q) =
-      makes_once stored held deletes [] p (subst (λ (ds : List Tagged). Makes world number stored held ds [] other after) (sym same) q)
-
-  -- a `remove` has one outcome
-  removes_once : (triple : Triple) (clone : Clone) → Removes world number triple clone reply next → Removes world number triple clone other after
-      → AreSame reply next other after
-  removes_once triple clone =
-      once_if_live world clone reply other next after _ _ (λ stored held p q. deletes_once stored held p.1 q.1 (pairs_once triple p.0 q.0 p.1 q.1 (one_meaning world.history (known_of stored) p.0 q.0 p.2 q.2) p.3 q.3) p.4 q.4)
+  -- so has one by a rule of one effect
+  updates_by_once : (rule : List Tagged → EffectValue → Type 0) → HasOneEffect rule → (clone : Clone) → UpdatesBy world number rule clone reply next
+      → UpdatesBy world number rule clone other after → AreSame reply next other after
+  updates_by_once rule one clone =
+      once_if_live world clone reply other next after _ _ (λ stored held p q.
+      let same : p.0 ≡ q.0 = one_meaning world.history (known_of stored) p.0 q.0 p.2 q.2 in
+      let effect : p.1 ≡ q.1 = one q.0 p.1 q.1 (subst (λ (pairs : List Tagged). rule pairs p.1) same p.3) q.3 in
+      updates_once stored held p.1 p.4 (subst (λ (e : EffectValue). Updates world number stored held e other after) (sym effect) q.4))
 
   -- a range that is taken has one outcome
   accepts_once : (stored : Stored) (held : List Range) (range : Range) → Accepts world number stored held range reply next
@@ -267,8 +235,10 @@ module _ (world : World) (number : ℕ) (reply other : Reply) (next after : Worl
 -- a step of a world by a command has one reply, and leads to one world
 pub one_step : OneStep
 unfolding Step
-one_step world (Add number triple) reply other next after p q = adds_once world number reply other next after triple (clone_at world number) p q
-one_step world (Remove number triple) reply other next after p q = removes_once world number reply other next after triple (clone_at world number) p q
+one_step world (Add number triple) reply other next after p q =
+    updates_by_once world number reply other next after (AddsTriple triple) (adds_one triple) (clone_at world number) p q
+one_step world (Remove number triple) reply other next after p q =
+    updates_by_once world number reply other next after (DeletesAll triple) (removes_one triple) (clone_at world number) p q
 one_step world (Deliver message number) reply other next after p q = delivers_once world number reply other next after (message_at world message) p q
 one_step world (Show number) reply other next after p q = lists_once world (clone_at world number) reply other next after p q
 one_step world (Join number) reply other next after p q = joins_once world number reply other next after (clone_at world number) p q

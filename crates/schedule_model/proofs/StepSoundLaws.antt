@@ -1,17 +1,17 @@
 -- Each world that a schedule reaches is sound, and what a reader may take from that.
 use Rattle.std.specs.Prelude.{◌≡◌, ℕ, ◌<◌, List, [], ◌∷◌, Option, Some, None, MatchOption, slice_get}
 use Rattle.std.proofs.Common.{refl, sym, ◌∙◌, subst}
-use Rattle.rdf_terms.specs.declared.terms.Triple.{Triple}
 use Rattle.tree_clock.specs.declared.dots.Range.{Range}
 use Rattle.tree_clock.specs.Lists.{Has}
 use Rattle.mld_ops.specs.declared.tagged.Tagged.{Tagged}
 use Rattle.mld_ops.specs.Meaning.{IsMeaning}
 use Rattle.mld_ops.proofs.MeaningLaws.{one_meaning, same_known}
 use Rattle.schedule_model.specs.declared.Command.TheVariants.{Add, Remove, Deliver, Show, Compare, Join, Ask, Compact, Truncate, Stop, Open}
+use Rattle.mld_ops.specs.Effects.{EffectValue, DeletesAll}
 use Rattle.mld_model.specs.Clone.{Clone, Absent, Asking, Live, Stored, known_of, IsKnown}
 use Rattle.mld_model.specs.World.{World, Message, RangeOf, Want, SnapshotOf, JoinAsk, JoinGive, message_at, clone_count, clone_at}
 use Rattle.mld_model.specs.Reply.{Reply, NoMessage}
-use Rattle.mld_model.specs.CloneStep.{Answers, Makes, Adds, ArePairsOf, Deletes, finds_none, deletes_all, Removes, holds_already, holds_too_many, holds_from_now, TakesRange, knows_already, accepts, holds_back, Asks, Joins, TakesAsk, asked_itself, is_too_deep, forks, TakesLeaf, becomes_live, leaves_it, AskerTakes, LiveTakes, Takes, Stops, Reopens, Lists, ComparesWith, Weighs, TakesWant, lacks_nothing, sends_ranges, sends_snapshot, TakesSnapshot, knows_all, merges, Wants, Compacts, Truncates}
+use Rattle.mld_model.specs.CloneStep.{Answers, Updates, changes_nothing, makes_operation, UpdatesBy, AddsTriple, holds_already, holds_too_many, holds_from_now, TakesRange, knows_already, accepts, holds_back, Asks, Joins, TakesAsk, asked_itself, is_too_deep, forks, TakesLeaf, becomes_live, leaves_it, AskerTakes, LiveTakes, Takes, Stops, Reopens, Lists, ComparesWith, Weighs, TakesWant, lacks_nothing, sends_ranges, sends_snapshot, TakesSnapshot, knows_all, merges, Wants, Compacts, Truncates}
 use Rattle.mld_model.proofs.StateLaws.{by_state, if_live, if_opens}
 use Rattle.schedule_model.specs.Step.{Step}
 use Rattle.schedule_model.specs.Runs.{Stage, Waiting, SetUp, Running, IsWorldOf, Commands, Acts, says_nothing, sets_up, commands, Runs}
@@ -22,6 +22,7 @@ use Rattle.mld_model.proofs.JournalLaws.{journal_done}
 use Rattle.mld_model.proofs.SoundLaws.{made_sound, taken_sound, holding_sound, live_sound}
 use Rattle.mld_model.proofs.SendingLaws.{wanted_sound, ranges_sent_sound}
 use Rattle.mld_model.proofs.CompactedJournals.{compacted_sound}
+use Rattle.mld_model.proofs.UpdateLaws.{DeletesPresent, adds_present, removes_present}
 use Rattle.mld_model.proofs.MergedLaws.{truncated_sound, merged_sound, snapshot_sent_sound}
 use Rattle.mld_model.proofs.StoredLaws.{stopped_sound, opened_sound, opened_empty_sound}
 use Rattle.mld_model.proofs.JoiningLaws.{asked_sound, forked_sound, stands_at, joined_sound, place_of_message}
@@ -37,25 +38,20 @@ same_sound world next sound same = subst IsSound (sym same) sound
 
 -- each step of a sound world leads to a sound world
 module _ (world next : World) (reply : Reply) (sound : IsSound world) where
-  -- an `add` leads to a sound world
-  adds_sound : (number : ℕ) (triple : Triple) (clone : Clone) → clone_at world number ≡ clone → Adds world number triple clone reply next → IsSound next
-  adds_sound number triple clone is =
-      if_live (IsSound next) world clone reply next (λ stored held. Makes world number stored held [] (triple ∷ []) reply next)
-      (λ answer state p. same_sound world next sound p.1) (λ stored held live p. subst IsSound (sym p.changes)
-      (made_sound world number stored held sound (is ∙ live) p.tick [] (triple ∷ []) p.is_next (λ pair h. absurd h) (λ pair h. absurd h)))
+  -- an update that deletes pairs of the clone leads to a sound world
+  updates_sound : (number : ℕ) (stored : Stored) (held : List Range) (pairs : List Tagged) (effect : EffectValue) → clone_at world number ≡ Live stored held
+      → IsMeaning world.history (known_of stored) pairs → ((pair : Tagged) → Has effect.deletes pair → Has pairs pair)
+      → Updates world number stored held effect reply next → IsSound next
+  updates_sound number stored held pairs effect is meant among (changes_nothing none p) = same_sound world next sound p.1
+  updates_sound number stored held pairs effect is meant among (makes_operation some p) =
+      subst IsSound (sym p.changes) (made_sound world number stored held sound is p.tick effect.deletes effect.inserts p.is_next
+      (λ pair h. (meant.sound pair (among pair h)).covered) (λ pair h. (meant.sound pair (among pair h)).inserted))
 
-  -- and so do pairs of the clone that are deleted
-  deletes_sound : (number : ℕ) (stored : Stored) (held : List Range) (triple : Triple) (pairs deletes : List Tagged) → clone_at world number ≡ Live stored held
-      → IsMeaning world.history (known_of stored) pairs → ArePairsOf triple pairs deletes → Deletes world number stored held deletes reply next → IsSound next
-  deletes_sound number stored held triple pairs deletes is meant are (finds_none none p) = same_sound world next sound p.1
-  deletes_sound number stored held triple pairs deletes is meant are (deletes_all some p) =
-      subst IsSound (sym p.changes) (made_sound world number stored held sound is p.tick deletes [] p.is_next (λ pair h. (meant.sound pair ((are.members pair).0 h).0).covered) (λ pair h. (meant.sound pair ((are.members pair).0 h).0).inserted))
-
-  -- and so does a `remove`
-  removes_sound : (number : ℕ) (triple : Triple) (clone : Clone) → clone_at world number ≡ clone → Removes world number triple clone reply next → IsSound next
-  removes_sound number triple clone is =
+  updates_by_sound : (number : ℕ) (rule : List Tagged → EffectValue → Type 0) → DeletesPresent rule → (clone : Clone) → clone_at world number ≡ clone
+      → UpdatesBy world number rule clone reply next → IsSound next
+  updates_by_sound number rule present clone is =
       if_live (IsSound next) world clone reply next _ (λ answer state p. same_sound world next sound p.1)
-      (λ stored held live p. deletes_sound number stored held triple p.0 p.1 (is ∙ live) p.2 p.3 p.4)
+      (λ stored held live p. updates_sound number stored held p.0 p.1 (is ∙ live) p.2 (present p.0 p.1 p.3) p.4)
 
   -- a range that comes to a live clone leads to a sound world
   receives_sound : (number : ℕ) (stored : Stored) (held : List Range) (range : Range) → clone_at world number ≡ Live stored held → Has world.messages (RangeOf range)
@@ -192,8 +188,10 @@ weighs_same world clone other reply next =
 -- a step of a sound world, by a command whose clones there are, leads to a sound world
 pub step_sound : StepIsSound
 unfolding Step
-step_sound world (Add number triple) reply next small sound p = adds_sound world next reply sound number triple (clone_at world number) refl p
-step_sound world (Remove number triple) reply next small sound p = removes_sound world next reply sound number triple (clone_at world number) refl p
+step_sound world (Add number triple) reply next small sound p =
+    updates_by_sound world next reply sound number (AddsTriple triple) (adds_present triple) (clone_at world number) refl p
+step_sound world (Remove number triple) reply next small sound p =
+    updates_by_sound world next reply sound number (DeletesAll triple) (removes_present triple) (clone_at world number) refl p
 step_sound world (Deliver message number) reply next small sound p = delivers_sound world next reply sound number (message_at world message) (place_of_message world message) p
 step_sound world (Show number) reply next small sound p = same_sound world next sound (lists_same world (clone_at world number) reply next p)
 step_sound world (Join number) reply next small sound p = joins_sound world next reply sound number (clone_at world number) small refl p
@@ -216,7 +214,7 @@ IsSoundStage (Running world) = IsSound world
 -- and so is the world that the clones of such a stage are founded in
 world_sound : (stage : Stage) (world : World) → IsSoundStage stage → IsWorldOf stage world → IsSound world
 world_sound Waiting world sound is = absurd is
-world_sound (SetUp setup) world sound is = subst IsSound (sym is) (founded_sound setup.domain setup.properties setup.count)
+world_sound (SetUp setup) world sound founds = subst IsSound (sym founds.is) (founded_sound setup.domain founds.kept setup.count)
 world_sound (Running now) world sound is = subst IsSound (sym is) sound
 
 -- a command leads from such a stage to another

@@ -2,14 +2,13 @@
 use Rattle.std.proofs.Common.{◌≡◌, ℕ, [], refl, sym, subst, Some, None}
 use Rattle.std.specs.Prelude.{slice_get}
 use Rattle.schedule_model.specs.declared.Command.TheVariants.{Stop, Open}
-use Rattle.mld_model.specs.declared.NoDevice.{NoDevice}
 use Rattle.mld_model.specs.declared.CloneState.TheVariants as states
 use Rattle.mld_model.specs.Clone.{Clone, Absent, Asking, Empty, Down, Live, Stored, kept_of}
 use Rattle.mld_model.specs.World.{World, clone_at, with_clone}
 use Rattle.mld_model.specs.CloneStep.{Reopens}
 use Rattle.mld_model.specs.Reply.{Reply, IsAsking, Stopped, Opened}
 use Rattle.mld_model.specs.Sound.{Keeps, IsSound}
-use Rattle.mld_model.specs.Local.{LocalAsker, LocalClone, CloneValue, stored_of, IsLocal}
+use Rattle.mld_model.specs.Local.{LocalAsker, LocalClone, stored_of, IsLocal}
 use Rattle.mld_model.specs.StandsFor.{RunningClone, RunningWorld, IsCloneOf, IsAskerOf, StoredStandsFor, CloneStandsFor, StandsFor}
 use Rattle.mld_model.proofs.StateLaws.{live_does}
 use Rattle.mld_model.proofs.LocalLaws.{kept_by}
@@ -30,14 +29,14 @@ standing_replies world number (states.Down device) clone reply is stands = absur
 standing_replies world number state clone reply is stands = absurd stands
 
 -- where the running clone is down, the model's is down with what it keeps
-down_from : (world : World) (number : ℕ) (device : NoDevice) (clone : Clone) (stored : Stored) → CloneStandsFor world number (states.Down device) clone
+down_from : (world : World) (number : ℕ) (device : Unit {0}) (clone : Clone) (stored : Stored) → CloneStandsFor world number (states.Down device) clone
     → kept_of clone ≡ Some stored → clone ≡ Down stored
 down_from world number device Empty stored stands kept = absurd (cc kept)
 down_from world number device (Down other) stored stands kept = let same : other ≡ stored = cc in (λ i. Down (same i))
 down_from world number device clone stored stands kept = absurd stands
 
 -- or it keeps nothing
-empty_from : (world : World) (number : ℕ) (device : NoDevice) (clone : Clone) → CloneStandsFor world number (states.Down device) clone
+empty_from : (world : World) (number : ℕ) (device : Unit {0}) (clone : Clone) → CloneStandsFor world number (states.Down device) clone
     → kept_of clone ≡ None → clone ≡ Empty
 empty_from world number device Empty stands kept = refl
 empty_from world number device (Down other) stands kept = absurd (cc kept)
@@ -48,18 +47,18 @@ module _ (running : RunningWorld) (world : World) (stands : StandsFor running wo
   -- ---- stop
 
   -- a live clone stops, and its model then is down with what it kept
-  pub stop_live : (number : ℕ) (live : CloneValue)
-      → slice_get running.clones number ≡ Some (states.Live live) → Follows world (Stop number) Stopped (stepped_into running number (states.Down (record {})))
+  pub stop_live : (number : ℕ) (live : LocalClone)
+      → slice_get running.clones number ≡ Some (states.Live live) → Follows world (Stop number) Stopped (stepped_into running number (states.Down tt))
   unfolding Step
   stop_live number live is =
-      let at : LiveAt world number live.local = live_at running world stands number live is in
-      let stored : Stored = kept_by live.local at.base at.journal in
+      let at : LiveAt world number live = live_at running world stands number live is in
+      let stored : Stored = kept_by live at.base at.journal in
       let next : World = with_clone world number (Down stored) in
       record {
         next = next;
         steps = live_does world (clone_at world number) Stopped next _ stored at.held at.live (refl, refl {a = next});
         sound = stopped_sound world number sound stored at.held at.live;
-        stands = into_stands running world stands sound number (states.Down (record {})) (Down stored) tt;
+        stands = into_stands running world stands sound number (states.Down tt) (Down stored) tt;
       }
 
   -- a clone that isn't live stops nothing
@@ -81,10 +80,10 @@ module _ (running : RunningWorld) (world : World) (stands : StandsFor running wo
       (standing_replies world number state (clone_at world number) reply standing (stands.clones number state is))
 
   -- a clone that is down opens with what its device has of it
-  pub open_stored : (number : ℕ) (device : NoDevice) (stored : Stored) (local : LocalClone)
+  pub open_stored : (number : ℕ) (device : Unit {0}) (stored : Stored) (local : LocalClone)
       → slice_get running.clones number ≡ Some (states.Down device) → kept_of (clone_at world number) ≡ Some stored
       → IsCloneOf world number local → IsLocal local → local.held ≡ [] → StoredStandsFor world.history (stored_of local) stored
-      → Follows world (Open number) Opened (stepped_into running number (states.Live (record { local = local })))
+      → Follows world (Open number) Opened (stepped_into running number (states.Live local))
   unfolding Step
   open_stored number device stored local is kept of whole none has =
       let down : clone_at world number ≡ Down stored = down_from world number device (clone_at world number) stored (stands.clones number (states.Down device) is) kept in
@@ -94,12 +93,12 @@ module _ (running : RunningWorld) (world : World) (stands : StandsFor running wo
         next = next;
         steps = subst (λ (c : Clone). Reopens world number c Opened next) (sym down) (refl, refl);
         sound = opened_sound world number sound stored down;
-        stands = into_stands running world stands sound number (states.Live (record { local = local })) (Live stored [])
+        stands = into_stands running world stands sound number (states.Live local) (Live stored [])
             (of, opened_stands world number local stored sound keeps whole none has);
       }
 
   -- one that keeps nothing asks from then on
-  pub open_empty : (number : ℕ) (device : NoDevice) (asker : LocalAsker)
+  pub open_empty : (number : ℕ) (device : Unit {0}) (asker : LocalAsker)
       → slice_get running.clones number ≡ Some (states.Down device) → kept_of (clone_at world number) ≡ None → IsAskerOf world number asker
       → Follows world (Open number) IsAsking (stepped_into running number (states.Asking asker))
   unfolding Step

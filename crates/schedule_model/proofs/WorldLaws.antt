@@ -11,38 +11,43 @@ use Rattle.tree_clock.specs.declared.dots.Dot.{Dot}
 use Rattle.tree_clock.specs.declared.dots.Range.{Range}
 use Rattle.tree_clock.specs.Lists.{Has}
 use Rattle.tree_clock.specs.Dot.{Knows}
-use Rattle.tree_clock.specs.Clock.{ticks_of, Covers}
+use Rattle.tree_clock.specs.Clock.{ticks_of}
 use Rattle.mld_ops.specs.declared.tagged.Tagged.{Tagged}
 use Rattle.mld_ops.specs.Messages.{MessageValue, CarriesEntry}
 use Rattle.mld_ops.specs.Entry.{EntryValue}
 use Rattle.mld_ops.specs.History.{Operation, IsDone, IsInserted, IsNext, dot_at}
+use Rattle.mld_ops.specs.Effects.{EffectValue, inserting, deleting, ArePairsOf}
 use Rattle.mld_ops.specs.Effect.{range_of}
 use Rattle.std.specs.List.{AllZip}
 use Rattle.mld_ops.proofs.PickingLaws.{pairs_more}
-use Rattle.mld_ops.specs.Ready.{last_dot, IsKnownEntry}
+use Rattle.mld_ops.specs.Ready.{IsKnownEntry}
 use Rattle.schedule_model.specs.declared.Command.{Command}
 use Rattle.schedule_model.specs.declared.Command.TheVariants.{Add, Remove, Deliver, Show, Compare}
 use Rattle.mld_model.specs.declared.CloneState.TheVariants as states
-use Rattle.mld_model.specs.Clone.{Clone, Absent, Asking, Empty, Down, Live, Stored, known_of, with_range, IsReady, IsHeldBack, AreKnownTo}
+use Rattle.mld_model.specs.Clone.{Clone, Absent, Asking, Empty, Down, Live, Stored, known_of, with_range, IsReady, AreKnownTo}
 use Rattle.mld_ops.specs.Held.{held_limit}
 use Rattle.mld_model.specs.World.{World, Message, RangeOf, message_at, clone_at, with_clone, founded, founded_clone, clone_count}
 use Rattle.schedule_model.specs.Step.{Step}
-use Rattle.mld_model.specs.CloneStep.{Answers, IfLive, ArePairsOf, finds_none, deletes_all, IsNextTick, Makes, after_operation, holds_already, holds_too_many, holds_from_now, TakesRange, knows_already, accepts, holds_back, Takes, Compares, same_dots, fewer_dots, more_dots, dots_apart}
+use Rattle.mld_model.specs.CloneStep.{Answers, IfLive, changes_nothing, makes_operation, IsNextTick, Makes, after_operation, holds_already, holds_too_many, holds_from_now, TakesRange, knows_already, accepts, holds_back, Takes, Compares}
 use Rattle.mld_model.proofs.StateLaws.{live_does}
 use Rattle.mld_model.specs.Reply.{Reply, Did, NoOperation, Took, Held, HeldFull, AlreadyKnown, Shows, NoMessage}
 use Rattle.mld_model.specs.Sound.{IsDoneRange, IsSoundClone, IsSound}
-use Rattle.mld_model.specs.Local.{LocalClone, CloneValue, next_dot, LocallyMakes, LocallyAccepts, MustBeHeld, IsFullFor, IsForeign}
+use Rattle.mld_model.specs.Local.{LocalClone, next_dot, LocallyMakes, LocallyAccepts, MustBeHeld, IsFullFor, IsForeign}
 use Rattle.mld_ops.specs.Held.{ranges_of}
 use Rattle.mld_model.specs.StandsFor.{RunningClone, RunningWorld, EntryStandsFor, LocalStandsFor, IsCloneOf, CloneStandsFor, MessageStandsFor, StandsFor, founded_local, founded_running}
 use Rattle.mld_model.proofs.JournalLaws.{journal_done}
 use Rattle.mld_model.proofs.SoundLaws.{made_is_next, made_sound, taken_sound, holding_sound, live_sound}
-use Rattle.mld_model.proofs.LocalLaws.{kept_by, next_tick_of, made_by, maker_stands, made_entry, known_alike, ready_alike}
+use Rattle.mld_model.proofs.LocalLaws.{kept_by, next_tick_of, made_by, maker_stands, made_entry, known_alike}
+use Rattle.mld_model.proofs.AnswersStand.{must_be_held, held_alike}
 pub use Rattle.mld_model.proofs.CompactedStands.{same_ranges}
+use Rattle.mld_model.proofs.LocalSteps.{entry_not_foreign}
 use Rattle.mld_model.proofs.ReleasedLaws.{StandsDone, stand_done, Released, accepted_ready, accepted_releases, accepted_told, accepted_stands}
 use Rattle.mld_model.proofs.PairsLaws.{PairAt, pair_at, no_pair_at, pairs_count}
 use Rattle.mld_model.proofs.StandsForLaws.{LiveAt, live_at, clone_stands_as, still_clone_of, clones_stand_set, clones_still_stand, messages_still_stand}
 use Rattle.schedule_model.specs.WorldStep.{Follows, IsMissingReply, IsAwayReply}
-pub use Rattle.schedule_model.specs.WorldStep.{stepped, stepped_with, stepped_into, stepped_sending, sent_message, LocallyWithin, LocallyCompares}
+use Rattle.mld_model.specs.Comparing.{IsAmongDots}
+use Rattle.mld_model.proofs.ComparingLaws.{compares_alike}
+pub use Rattle.schedule_model.specs.WorldStep.{stepped, stepped_with, stepped_into, stepped_sending, sent_message, LocallyCompares}
 
 -- the founded world
 module _ (domain : List ℕ) (properties : List (List ℕ)) (count : ℕ) where
@@ -99,11 +104,15 @@ missing_replies world number (states.Down device) (Down stored) reply does is st
 missing_replies world number (states.Live live) clone reply does is stands = absurd is
 missing_replies world number state clone reply does is stands = absurd stands
 
+-- one triple is some
+some_inserts : {triple : Triple} → triple ∷ [] ≢ []
+some_inserts same = cc
+
 -- what making an operation gives
-pub record MakesSoundly (world : World) (number : ℕ) (live : LocalClone) (deletes : List Tagged) (inserts : List Triple) (reply : Reply) (running : RunningWorld) : Type 0 where
+pub record MakesSoundly (world : World) (number : ℕ) (live : LocalClone) (effect : EffectValue) (reply : Reply) (running : RunningWorld) : Type 0 where
   pub at : LiveAt world number live
   pub next : World
-  pub makes : Makes world number (kept_by live at.base at.journal) at.held deletes inserts reply next
+  pub makes : Makes world number (kept_by live at.base at.journal) at.held effect reply next
   pub sound : IsSound next
   pub stands : StandsFor running next
 
@@ -178,31 +187,15 @@ takes_away world number what (states.Live live) clone reply away stands = absurd
 takes_away world number what state clone reply away stands = absurd stands
 
 -- how a live clone's answer to an entry follows the model
-answer_follows : (running next : RunningWorld) (world after : World) (message number : ℕ) (entry : EntryValue) (live : CloneValue) (reply : Reply)
-    → (s : SentRange world entry message) → (at : LiveAt world number live.local)
-    → TakesRange world number (kept_by live.local at.base at.journal) at.held s.range reply after → IsSound after → StandsFor next after
+answer_follows : (running next : RunningWorld) (world after : World) (message number : ℕ) (entry : EntryValue) (live : LocalClone) (reply : Reply)
+    → (s : SentRange world entry message) → (at : LiveAt world number live)
+    → TakesRange world number (kept_by live at.base at.journal) at.held s.range reply after → IsSound after → StandsFor next after
     → Follows world (Deliver message number) reply next
 answer_follows running next world after message number entry live reply s at receives sound stands =
-    taking_follows next world after message number (RangeOf s.range) (Live (kept_by live.local at.base at.journal) at.held) reply s.at at.live receives sound stands
-
--- the entry would have to be held back in the model too
-must_be_held : (world : World) (live : LocalClone) (stored : Stored) (held : List Range) (range : Range) (entry : EntryValue) → LocalStandsFor world.history live stored held
-    → EntryStandsFor world.history entry range → 1 ≤ range.first → MustBeHeld live entry → IsHeldBack world.history (known_of stored) range
-must_be_held world live stored held range entry stands entry_stands positive must = record {
-  unknown = λ k. must.unknown ((known_alike world.history live.ticks (known_of stored) stands.known range entry entry_stands).1 k);
-  unready = λ r. must.unready ((ready_alike world.history live.ticks (known_of stored) stands.known range entry entry_stands positive).1 r);
-}
-
--- a range is held just where an entry of it is
-held_alike : (history : List Operation) (entries : List EntryValue) (ranges : List Range) (entry : EntryValue) (range : Range) → AllZip (EntryStandsFor history) entries ranges
-    → entry.range ≡ range → Has (ranges_of entries) entry.range ↔ Has ranges range
-held_alike history entries ranges entry range all same = (
-  λ h. subst (λ (r : Range). Has ranges r) same (subst (λ (rs : List Range). Has rs entry.range) (same_ranges history entries ranges all) h),
-  λ h. subst (λ (rs : List Range). Has rs entry.range) (sym (same_ranges history entries ranges all)) (subst (λ (r : Range). Has ranges r) (sym same) h),
-)
+    taking_follows next world after message number (RangeOf s.range) (Live (kept_by live at.base at.journal) at.held) reply s.at at.live receives sound stands
 
 within_alike : (history : List Operation) (live other : LocalClone) (stored kept : Stored) (held back : List Range) → LocalStandsFor history live stored held
-    → LocalStandsFor history other kept back → LocallyWithin live other ↔ AreKnownTo (known_of stored) (known_of kept)
+    → LocalStandsFor history other kept back → IsAmongDots live.ticks other.ticks ↔ AreKnownTo (known_of stored) (known_of kept)
 within_alike history live other stored kept held back a b = (
   λ local dot known. (b.known dot).0 (local dot ((a.known dot).1 known)),
   λ within dot covered. (b.known dot).1 (within dot ((a.known dot).0 covered)),
@@ -231,46 +224,46 @@ module _ (running : RunningWorld) (world : World) (stands : StandsFor running wo
   ]
 
   -- a live clone that makes an operation does so in the model, and the running world stands for what that makes
-  pub makes_soundly : (number : ℕ) (live : CloneValue)
-      → slice_get running.clones number ≡ Some (states.Live live) → (deletes : List Tagged) (inserts : List Triple) (new : CloneValue) (entry : EntryValue)
-      → ((pair : Tagged) → Has deletes pair → Has live.local.pairs pair) → LocallyMakes live.local deletes inserts new.local entry
-      → MakesSoundly world number live.local deletes inserts (Did (next_dot live.local) (length running.messages + 1)) (stepped_sending running number new entry)
-  makes_soundly number live is deletes inserts new entry present makes =
-      let at : LiveAt world number live.local = live_at running world stands number live is in
-      let stored : Stored = kept_by live.local at.base at.journal in
+  pub makes_soundly : (number : ℕ) (live : LocalClone)
+      → slice_get running.clones number ≡ Some (states.Live live) → (effect : EffectValue) (new : LocalClone) (entry : EntryValue)
+      → ((pair : Tagged) → Has effect.deletes pair → Has live.pairs pair) → LocallyMakes live effect new entry
+      → MakesSoundly world number live effect (Did (next_dot live) (length running.messages + 1)) (stepped_sending running number new entry)
+  makes_soundly number live is effect new entry present makes =
+      let at : LiveAt world number live = live_at running world stands number live is in
+      let stored : Stored = kept_by live at.base at.journal in
       let whole : IsSoundClone world.history stored = live_sound world number stored at.held sound at.live in
-      let tick : IsNextTick (known_of stored) live.local.path (next_dot live.local).tick = next_tick_of live.local (known_of stored) at.stands.known in
-      let covered : (pair : Tagged) → Has deletes pair → Knows (known_of stored) pair.dot = λ pair h. (at.stands.pairs.sound pair (present pair h)).covered in
-      let inserted : (pair : Tagged) → Has deletes pair → IsInserted world.history pair = λ pair h. (at.stands.pairs.sound pair (present pair h)).inserted in
-      let operation : Operation = made_by live.local at.base at.journal deletes inserts in
-      let is_next : IsNext world.history operation = made_is_next world.history stored (next_dot live.local).tick deletes inserts whole tick covered inserted in
+      let tick : IsNextTick (known_of stored) live.path (next_dot live).tick = next_tick_of live (known_of stored) at.stands.known in
+      let covered : (pair : Tagged) → Has effect.deletes pair → Knows (known_of stored) pair.dot = λ pair h. (at.stands.pairs.sound pair (present pair h)).covered in
+      let inserted : (pair : Tagged) → Has effect.deletes pair → IsInserted world.history pair = λ pair h. (at.stands.pairs.sound pair (present pair h)).inserted in
+      let operation : Operation = made_by live at.base at.journal effect in
+      let is_next : IsNext world.history operation = made_is_next world.history stored (next_dot live).tick effect.deletes effect.inserts whole tick covered inserted in
       let next : World = after_operation world number stored at.held operation in
       record {
         at = at;
         next = next;
         makes = record {
-          tick = (next_dot live.local).tick;
+          tick = (next_dot live).tick;
           is_next = tick;
-          replies = ap (λ n. Did (next_dot live.local) (n + 1)) (pairs_count (MessageStandsFor world.history) running.messages world.messages stands.messages);
+          replies = ap (λ n. Did (next_dot live) (n + 1)) (pairs_count (MessageStandsFor world.history) running.messages world.messages stands.messages);
           changes = refl;
         };
-        sound = made_sound world number stored at.held sound at.live (next_dot live.local).tick deletes inserts tick covered inserted;
+        sound = made_sound world number stored at.held sound at.live (next_dot live).tick effect.deletes effect.inserts tick covered inserted;
         stands = record {
           domain = stands.domain;
           properties = stands.properties;
           count = length-set running.clones number (states.Live new) ∙ stands.count;
-          clones = clones_stand_set next running.clones world.clones number (states.Live new) (Live (with_range stored (range_of (next_dot live.local))) at.held)
+          clones = clones_stand_set next running.clones world.clones number (states.Live new) (Live (with_range stored (range_of (next_dot live))) at.held)
               (stands.count ∙ sym sound.count)
               (clones_still_stand running world next operation stands sound is_next refl refl refl) (
-                still_clone_of world next number live.local new.local makes.same refl refl at.is,
-                maker_stands world.history live.local at.base at.journal at.held deletes inserts new.local entry at.stands makes sound.lawful whole.closed is_next
+                still_clone_of world next number live new makes.same refl refl at.is,
+                maker_stands world.history live at.base at.journal at.held effect new entry at.stands makes sound.lawful whole.closed is_next
                     (journal_done world.history at.base at.journal whole.journal) (sound.held number stored at.held at.live),
               );
-          messages = pairs_more (MessageStandsFor (operation ∷ world.history)) running.messages world.messages (CarriesEntry entry) (RangeOf (range_of (next_dot live.local)))
+          messages = pairs_more (MessageStandsFor (operation ∷ world.history)) running.messages world.messages (CarriesEntry entry) (RangeOf (range_of (next_dot live)))
               (messages_still_stand world.history operation running.messages world.messages stands.messages sound.messages is_next)
-              (made_entry world.history live.local at.base at.journal at.held deletes inserts new.local entry at.stands makes sound.lawful whole.closed is_next);
+              (made_entry world.history live at.base at.journal at.held effect new entry at.stands makes sound.lawful whole.closed is_next);
           ticks = λ other h. elim h [
-            | inl same ↦ let P : Operation → Type 0 = λ o. o.dot.tick ≤ running.steps + 1 in subst P same (next_tick_within number live.local at)
+            | inl same ↦ let P : Operation → Type 0 = λ o. o.dot.tick ≤ running.steps + 1 in subst P same (next_tick_within number live at)
             | inr old ↦ omega (arith, stands.ticks other old)
           ];
         };
@@ -279,17 +272,18 @@ module _ (running : RunningWorld) (world : World) (stands : StandsFor running wo
   -- ---- add
 
   -- a live clone adds a triple
-  pub add_follows : (number : ℕ) (triple : Triple) (live : CloneValue)
-      → slice_get running.clones number ≡ Some (states.Live live) → (new : CloneValue) (entry : EntryValue) → LocallyMakes live.local [] (triple ∷ []) new.local entry
-      → Follows world (Add number triple) (Did (next_dot live.local) (length running.messages + 1)) (stepped_sending running number new entry)
+  pub add_follows : (number : ℕ) (triple : Triple) (live : LocalClone)
+      → slice_get running.clones number ≡ Some (states.Live live) → (new : LocalClone) (entry : EntryValue) → LocallyMakes live (inserting triple) new entry
+      → Follows world (Add number triple) (Did (next_dot live) (length running.messages + 1)) (stepped_sending running number new entry)
   unfolding Step
   add_follows number triple live is new entry makes =
-      let made : MakesSoundly world number live.local [] (triple ∷ []) (Did (next_dot live.local) (length running.messages + 1)) (stepped_sending running number new entry)
-      = makes_soundly number live is [] (triple ∷ []) new entry (λ pair h. absurd h) makes in
+      let made : MakesSoundly world number live (inserting triple) (Did (next_dot live) (length running.messages + 1)) (stepped_sending running number new entry)
+      = makes_soundly number live is (inserting triple) new entry (λ pair h. absurd h) makes in
       record {
         next = made.next;
-        steps = live_does world (clone_at world number) (Did (next_dot live.local) (length running.messages + 1)) made.next _
-            (kept_by live.local made.at.base made.at.journal) made.at.held made.at.live made.makes;
+        steps = live_does world (clone_at world number) (Did (next_dot live) (length running.messages + 1)) made.next _
+            (kept_by live made.at.base made.at.journal) made.at.held made.at.live
+            (live.pairs, inserting triple, made.at.stands.pairs, refl {a = inserting triple}, makes_operation (λ none. some_inserts none.inserts) made.makes);
         sound = made.sound;
         stands = made.stands;
       }
@@ -305,32 +299,32 @@ module _ (running : RunningWorld) (world : World) (stands : StandsFor running wo
   -- ---- remove
 
   -- a live clone that has pairs of a triple removes it
-  pub remove_follows : (number : ℕ) (triple : Triple) (live : CloneValue)
-      → slice_get running.clones number ≡ Some (states.Live live) → (deletes : List Tagged) (new : CloneValue) (entry : EntryValue) → ArePairsOf triple live.local.pairs deletes → deletes ≢ []
-      → LocallyMakes live.local deletes [] new.local entry
-      → Follows world (Remove number triple) (Did (next_dot live.local) (length running.messages + 1)) (stepped_sending running number new entry)
+  pub remove_follows : (number : ℕ) (triple : Triple) (live : LocalClone)
+      → slice_get running.clones number ≡ Some (states.Live live) → (deletes : List Tagged) (new : LocalClone) (entry : EntryValue) → ArePairsOf triple live.pairs deletes → deletes ≢ []
+      → LocallyMakes live (deleting deletes) new entry
+      → Follows world (Remove number triple) (Did (next_dot live) (length running.messages + 1)) (stepped_sending running number new entry)
   unfolding Step
   remove_follows number triple live is deletes new entry are some makes =
-      let reply : Reply = Did (next_dot live.local) (length running.messages + 1) in
-      let made : MakesSoundly world number live.local deletes [] reply (stepped_sending running number new entry)
-      = makes_soundly number live is deletes [] new entry (λ pair h. ((are.members pair).0 h).0) makes in
+      let reply : Reply = Did (next_dot live) (length running.messages + 1) in
+      let made : MakesSoundly world number live (deleting deletes) reply (stepped_sending running number new entry)
+      = makes_soundly number live is (deleting deletes) new entry (λ pair h. ((are.members pair).0 h).0) makes in
       record {
         next = made.next;
-        steps = live_does world (clone_at world number) reply made.next _ (kept_by live.local made.at.base made.at.journal) made.at.held made.at.live
-            (live.local.pairs, deletes, made.at.stands.pairs, are, deletes_all some made.makes);
+        steps = live_does world (clone_at world number) reply made.next _ (kept_by live made.at.base made.at.journal) made.at.held made.at.live
+            (live.pairs, deleting deletes, made.at.stands.pairs, record { found = deletes; are = are; is = refl {a = deleting deletes} }, makes_operation (λ none. some none.deletes) made.makes);
         sound = made.sound;
         stands = made.stands;
       }
 
   -- a live clone that has none removes nothing
-  pub remove_nothing : (number : ℕ) (triple : Triple) (live : CloneValue)
-      → slice_get running.clones number ≡ Some (states.Live live) → ArePairsOf triple live.local.pairs [] → Follows world (Remove number triple) NoOperation (stepped running)
+  pub remove_nothing : (number : ℕ) (triple : Triple) (live : LocalClone)
+      → slice_get running.clones number ≡ Some (states.Live live) → ArePairsOf triple live.pairs [] → Follows world (Remove number triple) NoOperation (stepped running)
   unfolding Step
   remove_nothing number triple live is none =
-      let at : LiveAt world number live.local = live_at running world stands number live is in
+      let at : LiveAt world number live = live_at running world stands number live is in
       staying_follows (Remove number triple) NoOperation
-      (live_does world (clone_at world number) NoOperation world _ (kept_by live.local at.base at.journal) at.held at.live
-      (live.local.pairs, [], at.stands.pairs, none, finds_none refl (refl, refl)))
+      (live_does world (clone_at world number) NoOperation world _ (kept_by live at.base at.journal) at.held at.live
+      (live.pairs, deleting [], at.stands.pairs, record { found = []; are = none; is = refl {a = deleting []} }, changes_nothing (record { deletes = refl; inserts = refl }) (refl, refl)))
 
   -- a clone that isn't live removes nothing
   pub remove_missing : (number : ℕ) (triple : Triple) (state : RunningClone) (reply : Reply)
@@ -370,14 +364,14 @@ module _ (running : RunningWorld) (world : World) (stands : StandsFor running wo
       (clone_stands_as world next number new clone history domain properties now)
 
   -- a message comes to a clone that knows it
-  pub deliver_known : (message number : ℕ) (entry : EntryValue) (live : CloneValue)
-      → sent_message running message ≡ Some (CarriesEntry entry) → slice_get running.clones number ≡ Some (states.Live live) → IsKnownEntry live.local.ticks entry
+  pub deliver_known : (message number : ℕ) (entry : EntryValue) (live : LocalClone)
+      → sent_message running message ≡ Some (CarriesEntry entry) → slice_get running.clones number ≡ Some (states.Live live) → IsKnownEntry live.ticks entry
       → Follows world (Deliver message number) AlreadyKnown (stepped running)
   deliver_known message number entry live sent is known =
       let s : SentRange world entry message = sent_range running world stands message entry sent in
-      let at : LiveAt world number live.local = live_at running world stands number live is in
+      let at : LiveAt world number live = live_at running world stands number live is in
       answer_follows running (stepped running) world world message number entry live AlreadyKnown s at
-      (knows_already ((known_alike world.history live.local.ticks (known_of (kept_by live.local at.base at.journal)) at.stands.known s.range entry s.entry_stands).0 known) (refl, refl))
+      (knows_already ((known_alike world.history live.ticks (known_of (kept_by live at.base at.journal)) at.stands.known s.range entry s.entry_stands).0 known) (refl, refl))
       sound (stepped_stands running world stands)
 
   -- a running world where one clone is in another state, and nothing else has changed
@@ -393,28 +387,28 @@ module _ (running : RunningWorld) (world : World) (stands : StandsFor running wo
   }
 
   -- a running world where one clone is live as another, and nothing else has changed
-  pub changed_stands : (number : ℕ) (new : CloneValue) (stored : Stored) (held : List Range)
-      → IsCloneOf world number new.local → LocalStandsFor world.history new.local stored held
+  pub changed_stands : (number : ℕ) (new : LocalClone) (stored : Stored) (held : List Range)
+      → IsCloneOf world number new → LocalStandsFor world.history new stored held
       → StandsFor (stepped_with running number new) (with_clone world number (Live stored held))
   changed_stands number new stored held of now = into_stands number (states.Live new) (Live stored held) (of, now)
 
   -- a message comes to a clone that is ready for it
-  pub deliver_taken : (message number : ℕ) (entry : EntryValue) (live new : CloneValue) (ranges : List Range)
-      → sent_message running message ≡ Some (CarriesEntry entry) → slice_get running.clones number ≡ Some (states.Live live) → LocallyAccepts live.local entry new.local ranges
+  pub deliver_taken : (message number : ℕ) (entry : EntryValue) (live new : LocalClone) (ranges : List Range)
+      → sent_message running message ≡ Some (CarriesEntry entry) → slice_get running.clones number ≡ Some (states.Live live) → LocallyAccepts live entry new ranges
       → Follows world (Deliver message number) (Took ranges) (stepped_with running number new)
   deliver_taken message number entry live new ranges sent is locally =
       let s : SentRange world entry message = sent_range running world stands message entry sent in
-      let at : LiveAt world number live.local = live_at running world stands number live is in
-      let stored : Stored = kept_by live.local at.base at.journal in
+      let at : LiveAt world number live = live_at running world stands number live is in
+      let stored : Stored = kept_by live at.base at.journal in
       let whole : IsSoundClone world.history stored = live_sound world number stored at.held sound at.live in
       let both : StandsDone world.history entry s.range =
       record { stands = s.entry_stands; done = sound.messages (RangeOf s.range) s.stands } in
-      let ready : IsReady world.history (known_of stored) s.range = accepted_ready world.history live.local new.local stored at.held s.range entry ranges at.stands both locally in
-      let all : AllZip (StandsDone world.history) live.local.held at.held =
-      stand_done world.history live.local.held at.held at.stands.held (sound.held number stored at.held at.live) in
-      let released : Released world.history (with_range stored s.range) at.held locally.taken new.local.held new.local.ticks new.local.pairs =
-      accepted_releases world.history live.local new.local stored at.held s.range entry ranges at.stands both locally all sound.lawful whole in
-      let after : Stored = record { path = live.local.path; base = at.base; journal = (at.journal ++ s.range ∷ []) ++ released.ranges } in
+      let ready : IsReady world.history (known_of stored) s.range = accepted_ready world.history live new stored at.held s.range entry ranges at.stands both locally in
+      let all : AllZip (StandsDone world.history) live.held at.held =
+      stand_done world.history live.held at.held at.stands.held (sound.held number stored at.held at.live) in
+      let released : Released world.history (with_range stored s.range) at.held locally.taken new.held new.ticks new.pairs =
+      accepted_releases world.history live new stored at.held s.range entry ranges at.stands both locally all sound.lawful whole in
+      let after : Stored = record { path = live.path; base = at.base; journal = (at.journal ++ s.range ∷ []) ++ released.ranges } in
       let next : World = with_clone world number (Live after released.rest) in
       answer_follows running (stepped_with running number new) world next message number entry live (Took ranges) s at
       (accepts (record {
@@ -423,70 +417,70 @@ module _ (running : RunningWorld) (world : World) (stands : StandsFor running wo
         after = after;
         left = released.rest;
         releases = released.releases;
-        replies = ap Took (accepted_told world.history live.local new.local stored at.held s.range entry ranges at.stands both locally released);
+        replies = ap Took (accepted_told world.history live new stored at.held s.range entry ranges at.stands both locally released);
         changes = refl {a = next};
       }))
       (taken_sound world number stored at.held sound at.live s.range released.ranges after released.rest both.done ready released.releases)
       (changed_stands number new after released.rest
-      (still_clone_of world world number live.local new.local locally.same refl refl at.is)
-      (accepted_stands world.history live.local new.local stored at.held s.range entry ranges at.stands both locally released))
+      (still_clone_of world world number live new locally.same refl refl at.is)
+      (accepted_stands world.history live new stored at.held s.range entry ranges at.stands both locally released))
 
   -- a message comes to a clone that holds one of its range already
-  pub deliver_held_already : (message number : ℕ) (entry : EntryValue) (live : CloneValue)
-      → sent_message running message ≡ Some (CarriesEntry entry) → slice_get running.clones number ≡ Some (states.Live live) → MustBeHeld live.local entry → Has (ranges_of live.local.held) entry.range
+  pub deliver_held_already : (message number : ℕ) (entry : EntryValue) (live : LocalClone)
+      → sent_message running message ≡ Some (CarriesEntry entry) → slice_get running.clones number ≡ Some (states.Live live) → MustBeHeld live entry → Has (ranges_of live.held) entry.range
       → Follows world (Deliver message number) Held (stepped running)
   deliver_held_already message number entry live sent is must has =
       let s : SentRange world entry message = sent_range running world stands message entry sent in
-      let at : LiveAt world number live.local = live_at running world stands number live is in
+      let at : LiveAt world number live = live_at running world stands number live is in
       let positive : 1 ≤ s.range.first = (sound.messages (RangeOf s.range) s.stands).positive in
       answer_follows running (stepped running) world world message number entry live Held s at
       (holds_back
-      (must_be_held world live.local (kept_by live.local at.base at.journal) at.held s.range entry at.stands s.entry_stands positive must)
-      (holds_already ((held_alike world.history live.local.held at.held entry s.range at.stands.held s.entry_stands.same).0 has) (refl, refl)))
+      (must_be_held world live (kept_by live at.base at.journal) at.held s.range entry at.stands s.entry_stands positive must)
+      (holds_already ((held_alike world.history live.held at.held entry s.range at.stands.held s.entry_stands.same).0 has) (refl, refl)))
       sound (stepped_stands running world stands)
 
   -- a message comes to a clone that holds too many others back
-  pub deliver_full : (message number : ℕ) (entry : EntryValue) (live : CloneValue)
-      → sent_message running message ≡ Some (CarriesEntry entry) → slice_get running.clones number ≡ Some (states.Live live) → MustBeHeld live.local entry → IsFullFor live.local entry
+  pub deliver_full : (message number : ℕ) (entry : EntryValue) (live : LocalClone)
+      → sent_message running message ≡ Some (CarriesEntry entry) → slice_get running.clones number ≡ Some (states.Live live) → MustBeHeld live entry → IsFullFor live entry
       → Follows world (Deliver message number) HeldFull (stepped running)
   deliver_full message number entry live sent is must full =
       let s : SentRange world entry message = sent_range running world stands message entry sent in
-      let at : LiveAt world number live.local = live_at running world stands number live is in
+      let at : LiveAt world number live = live_at running world stands number live is in
       let positive : 1 ≤ s.range.first = (sound.messages (RangeOf s.range) s.stands).positive in
       answer_follows running (stepped running) world world message number entry live HeldFull s at
       (holds_back
-      (must_be_held world live.local (kept_by live.local at.base at.journal) at.held s.range entry at.stands s.entry_stands positive must)
+      (must_be_held world live (kept_by live at.base at.journal) at.held s.range entry at.stands s.entry_stands positive must)
       (holds_too_many
-      (λ h. full.lacks ((held_alike world.history live.local.held at.held entry s.range at.stands.held s.entry_stands.same).1 h))
-      (omega (arith, full.full, pairs_count (EntryStandsFor world.history) live.local.held at.held at.stands.held))
+      (λ h. full.lacks ((held_alike world.history live.held at.held entry s.range at.stands.held s.entry_stands.same).1 h))
+      (omega (arith, full.full, pairs_count (EntryStandsFor world.history) live.held at.held at.stands.held))
       (refl, refl)))
       sound (stepped_stands running world stands)
 
   -- a message comes to a clone that holds it back from now on
-  pub deliver_held : (message number : ℕ) (entry : EntryValue) (live new : CloneValue)
-      → sent_message running message ≡ Some (CarriesEntry entry) → slice_get running.clones number ≡ Some (states.Live live) → MustBeHeld live.local entry
-      → ¬ Has (ranges_of live.local.held) entry.range → length live.local.held < held_limit → new.local ≡ record live.local { held = live.local.held ++ entry ∷ [] }
+  pub deliver_held : (message number : ℕ) (entry : EntryValue) (live new : LocalClone)
+      → sent_message running message ≡ Some (CarriesEntry entry) → slice_get running.clones number ≡ Some (states.Live live) → MustBeHeld live entry
+      → ¬ Has (ranges_of live.held) entry.range → length live.held < held_limit → new ≡ record live { held = live.held ++ entry ∷ [] }
       → Follows world (Deliver message number) Held (stepped_with running number new)
   deliver_held message number entry live new sent is must lacks few same =
       let s : SentRange world entry message = sent_range running world stands message entry sent in
-      let at : LiveAt world number live.local = live_at running world stands number live is in
-      let stored : Stored = kept_by live.local at.base at.journal in
+      let at : LiveAt world number live = live_at running world stands number live is in
+      let stored : Stored = kept_by live at.base at.journal in
       let done : IsDoneRange world.history s.range = sound.messages (RangeOf s.range) s.stands in
       let held : List Range = at.held ++ s.range ∷ [] in
-      let holds : LocalClone = record live.local { held = live.local.held ++ entry ∷ [] } in
+      let holds : LocalClone = record live { held = live.held ++ entry ∷ [] } in
       let of : IsCloneOf world number holds = record { id = at.is.id; domain = at.is.domain; properties = at.is.properties } in
       let now : LocalStandsFor world.history holds stored held = record {
         kept = record { path = refl; base = at.stands.kept.base; base_pairs = at.stands.kept.base_pairs; entries = at.stands.kept.entries };
-        held = pairs_more (EntryStandsFor world.history) live.local.held at.held entry s.range at.stands.held s.entry_stands;
+        held = pairs_more (EntryStandsFor world.history) live.held at.held entry s.range at.stands.held s.entry_stands;
         known = at.stands.known;
         pairs = at.stands.pairs;
       } in
       answer_follows running (stepped_with running number new) world (with_clone world number (Live stored held)) message number entry live Held s at
       (holds_back
-      (must_be_held world live.local stored at.held s.range entry at.stands s.entry_stands done.positive must)
+      (must_be_held world live stored at.held s.range entry at.stands s.entry_stands done.positive must)
       (holds_from_now
-      (λ h. lacks ((held_alike world.history live.local.held at.held entry s.range at.stands.held s.entry_stands.same).1 h))
-      (omega (arith, few, pairs_count (EntryStandsFor world.history) live.local.held at.held at.stands.held))
+      (λ h. lacks ((held_alike world.history live.held at.held entry s.range at.stands.held s.entry_stands.same).1 h))
+      (omega (arith, few, pairs_count (EntryStandsFor world.history) live.held at.held at.stands.held))
       refl refl))
       (holding_sound world number stored at.held sound at.live s.range done)
       (changed_stands number new stored held
@@ -494,34 +488,23 @@ module _ (running : RunningWorld) (world : World) (stands : StandsFor running wo
       (subst (λ (c : LocalClone). LocalStandsFor world.history c stored held) (sym same) now))
 
   -- an entry that was sent is none of a clone's own path beyond what the clone knows
-  pub never_foreign : (message number : ℕ) (entry : EntryValue) (live : CloneValue)
-      → sent_message running message ≡ Some (CarriesEntry entry) → slice_get running.clones number ≡ Some (states.Live live) → ¬ IsForeign live.local entry
-  never_foreign message number entry live sent is foreign =
+  pub never_foreign : (message number : ℕ) (entry : EntryValue) (live : LocalClone)
+      → sent_message running message ≡ Some (CarriesEntry entry) → slice_get running.clones number ≡ Some (states.Live live) → ¬ IsForeign live entry
+  never_foreign message number entry live sent is =
       let s : SentRange world entry message = sent_range running world stands message entry sent in
-      let at : LiveAt world number live.local = live_at running world stands number live is in
-      let stored : Stored = kept_by live.local at.base at.journal in
-      let same : entry.range ≡ s.range = s.entry_stands.same in
-      let sent_whole : IsDoneRange world.history s.range = sound.messages (RangeOf s.range) s.stands in
-      let last : Dot = last_dot s.range in
-      let done : IsDone world.history last = sent_whole.done last (record { path = refl; above = sent_whole.some; below = omega arith }) in
-      let path : s.range.path ≡ live.local.path = sym (ap (λ (r : Range). r.path) same) ∙ foreign.own in
-      let known : Knows (known_of stored) done.operation.dot = (live_sound world number stored at.held sound at.live).own done.operation done.stands (ap (λ (d : Dot). d.path) done.is ∙ path) in
-      let again : Covers live.local.ticks last = (at.stands.known last).1 (subst (λ (d : Dot). Knows (known_of stored) d) done.is known) in
-      let within : s.range.last ≤ ticks_of live.local.ticks live.local.path = subst (λ (p : List ℕ). s.range.last ≤ ticks_of live.local.ticks p) path again.within in
-      let last_is : entry.range.last ≡ s.range.last = ap (λ (r : Range). r.last) same in
-      omega (arith, within, last_is, foreign.beyond)
+      entry_not_foreign world number live entry s.range sound (live_at running world stands number live is) s.stands s.entry_stands
 
   -- ---- show
 
   -- a live clone shows its pairs
-  pub show_follows : (number : ℕ) (live : CloneValue)
-      → slice_get running.clones number ≡ Some (states.Live live) → Follows world (Show number) (Shows live.local.pairs) (stepped running)
+  pub show_follows : (number : ℕ) (live : LocalClone)
+      → slice_get running.clones number ≡ Some (states.Live live) → Follows world (Show number) (Shows live.pairs) (stepped running)
   unfolding Step
   show_follows number live is =
-      let at : LiveAt world number live.local = live_at running world stands number live is in
-      staying_follows (Show number) (Shows live.local.pairs)
-      (live_does world (clone_at world number) (Shows live.local.pairs) world _ (kept_by live.local at.base at.journal) at.held at.live
-      (live.local.pairs, at.stands.pairs, (refl, refl)))
+      let at : LiveAt world number live = live_at running world stands number live is in
+      staying_follows (Show number) (Shows live.pairs)
+      (live_does world (clone_at world number) (Shows live.pairs) world _ (kept_by live at.base at.journal) at.held at.live
+      (live.pairs, at.stands.pairs, (refl, refl)))
 
   -- a clone that isn't live shows no pairs
   pub show_missing : (number : ℕ) (state : RunningClone) (reply : Reply)
@@ -534,27 +517,18 @@ module _ (running : RunningWorld) (world : World) (stands : StandsFor running wo
   -- ---- compare
 
   -- two live clones compare
-  pub compare_follows : (number second : ℕ) (live other : CloneValue) (reply : Reply)
-      → slice_get running.clones number ≡ Some (states.Live live) → slice_get running.clones second ≡ Some (states.Live other) → LocallyCompares live.local other.local reply
+  pub compare_follows : (number second : ℕ) (live other : LocalClone) (reply : Reply)
+      → slice_get running.clones number ≡ Some (states.Live live) → slice_get running.clones second ≡ Some (states.Live other) → LocallyCompares live other reply
       → Follows world (Compare number second) reply (stepped running)
   unfolding Step
   compare_follows number second live other reply is was compares =
-      let a : LiveAt world number live.local = live_at running world stands number live is in
-      let b : LiveAt world second other.local = live_at running world stands second other was in
-      let one = within_alike world.history live.local other.local (kept_by live.local a.base a.journal) (kept_by other.local b.base b.journal) a.held b.held a.stands b.stands in
-      let two = within_alike world.history other.local live.local (kept_by other.local b.base b.journal) (kept_by live.local a.base a.journal) b.held a.held b.stands a.stands in
-      let stored : Stored = kept_by live.local a.base a.journal in
-      let kept : Stored = kept_by other.local b.base b.journal in
-      let found : Compares (known_of stored) (known_of kept) reply = elim compares [
-        | inl same ↦ same_dots (one.0 same.0) (two.0 same.1) same.2
-        | inr rest ↦ elim rest [
-          | inl less ↦ fewer_dots (one.0 less.0) (λ w. less.1 (two.1 w)) less.2
-          | inr rest ↦ elim rest [
-            | inl more ↦ more_dots (λ w. more.0 (one.1 w)) (two.0 more.1) more.2
-            | inr apart ↦ dots_apart (λ w. apart.0 (one.1 w)) (λ w. apart.1 (two.1 w)) apart.2
-          ]
-        ]
-      ] in
+      let a : LiveAt world number live = live_at running world stands number live is in
+      let b : LiveAt world second other = live_at running world stands second other was in
+      let one = within_alike world.history live other (kept_by live a.base a.journal) (kept_by other b.base b.journal) a.held b.held a.stands b.stands in
+      let two = within_alike world.history other live (kept_by other b.base b.journal) (kept_by live a.base a.journal) b.held a.held b.stands a.stands in
+      let stored : Stored = kept_by live a.base a.journal in
+      let kept : Stored = kept_by other b.base b.journal in
+      let found : Compares (known_of stored) (known_of kept) reply = compares_alike one two reply compares in
       staying_follows (Compare number second) reply
       (live_does world (clone_at world number) reply world _ stored a.held a.live
       (live_does world (clone_at world second) reply world _ kept b.held b.live (found, refl)))
@@ -568,12 +542,12 @@ module _ (running : RunningWorld) (world : World) (stands : StandsFor running wo
       (missing_replies world number state (clone_at world number) reply _ missing (stands.clones number state is))
 
   -- the second of two clones isn't live
-  pub compare_missing_second : (number second : ℕ) (live : CloneValue) (state : RunningClone) (reply : Reply)
+  pub compare_missing_second : (number second : ℕ) (live : LocalClone) (state : RunningClone) (reply : Reply)
       → slice_get running.clones number ≡ Some (states.Live live) → slice_get running.clones second ≡ Some state → IsMissingReply state reply
       → Follows world (Compare number second) reply (stepped running)
   unfolding Step
   compare_missing_second number second live state reply is was missing =
-      let a : LiveAt world number live.local = live_at running world stands number live is in
+      let a : LiveAt world number live = live_at running world stands number live is in
       staying_follows (Compare number second) reply
-      (live_does world (clone_at world number) reply world _ (kept_by live.local a.base a.journal) a.held a.live
+      (live_does world (clone_at world number) reply world _ (kept_by live a.base a.journal) a.held a.live
       (missing_replies world second state (clone_at world second) reply _ missing (stands.clones second state was)))

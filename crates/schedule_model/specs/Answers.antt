@@ -1,11 +1,11 @@
 -- What an answer that tells of a dot promises: the operation of that dot is remembered by its clone.
-use Rattle.std.specs.Prelude.{◌≡◌, ◌≢◌, ℕ, List, [], ◌∷◌, ◌++◌}
-use Rattle.rdf_terms.specs.declared.terms.Triple.{Triple}
+use Rattle.std.specs.Prelude.{◌≡◌, ℕ, List, ◌∷◌, ◌++◌}
 use Rattle.tree_clock.specs.declared.dots.Dot.{Dot}
 use Rattle.tree_clock.specs.declared.dots.Range.{Range}
 use Rattle.tree_clock.specs.Lists.{Has}
 use Rattle.tree_clock.specs.Dot.{Knows}
 use Rattle.mld_ops.specs.declared.tagged.Tagged.{Tagged}
+use Rattle.mld_ops.specs.Effects.{EffectValue, ChangesNothing, operation_of}
 use Rattle.mld_ops.specs.History.{Operation}
 use Rattle.mld_ops.specs.Meaning.{IsMeaning}
 use Rattle.schedule_model.specs.declared.Command.{Command}
@@ -13,7 +13,6 @@ use Rattle.mld_model.specs.Clone.{Stored, Live, known_of}
 use Rattle.mld_model.specs.World.{World, clone_at}
 use Rattle.mld_model.specs.Sound.{Keeps}
 use Rattle.mld_model.specs.Reply.{Did}
-use Rattle.mld_model.specs.CloneStep.{ArePairsOf}
 use Rattle.schedule_model.specs.Step.{Step, number_of_clone}
 use Rattle.schedule_model.specs.Schedule.{SpellsCommand}
 use Rattle.schedule_model.specs.Runs.{Stage, Waiting, Running, IsWorldOf, Runs}
@@ -25,34 +24,23 @@ pub record Remembers (world : World) (number : ℕ) (operation : Operation) : Ty
   pub known : Knows (known_of stored) operation.dot
   pub stands : Has world.history operation
 
--- the operation of the dot, with the triple as its one insert and no deletes
-pub record InsertsTriple (triple : Triple) (dot : Dot) (operation : Operation) : Type 0 where
-  pub is : operation.dot ≡ dot
-  pub inserts : operation.inserts ≡ triple ∷ []
-  pub deletes : operation.deletes ≡ []
-
--- the operation of the dot, with no inserts; its deletes, of which there are some, are the pairs of the triple in the
--- meaning of what the clone knew before
-pub record DeletesTriple (before : World) (number : ℕ) (triple : Triple) (dot : Dot) (operation : Operation) : Type 0 where
-  pub is : operation.dot ≡ dot
-  pub inserts : operation.inserts ≡ []
-  pub some : operation.deletes ≢ []
+-- the operation is of the dot, and a live clone made it by an update: its effect, which changes something, is that which the update's rule
+-- has on the pairs that were present for the clone, and its causes are all that the clone knew
+pub record IsMadeBy (before : World) (number : ℕ) (rule : List Tagged → EffectValue → Type 0) (dot : Dot) (operation : Operation) : Type 0 where
+  pub effect : EffectValue
+  pub some : ¬ ChangesNothing effect
   pub stored : Stored
   pub held : List Range
   pub live : clone_at before number ≡ Live stored held
   pub pairs : List Tagged
   pub meant : IsMeaning before.history (known_of stored) pairs
-  pub deletes : ArePairsOf triple pairs operation.deletes
+  pub does : rule pairs effect
+  pub is : operation ≡ operation_of dot (known_of stored) effect
 
--- an operation with the triple as its one insert was put at the head of the history, and the clone of the number remembers it
-abbrev pub RemembersAdd : World → ℕ → Triple → Dot → World → Type 0
-RemembersAdd before number triple dot next =
-    (operation : Operation) × InsertsTriple triple dot operation × (next.history ≡ operation ∷ before.history) × Remembers next number operation
-
--- and one that deletes the pairs of the triple
-abbrev pub RemembersRemove : World → ℕ → Triple → Dot → World → Type 0
-RemembersRemove before number triple dot next =
-    (operation : Operation) × DeletesTriple before number triple dot operation × (next.history ≡ operation ∷ before.history) × Remembers next number operation
+-- it was put at the head of the history, and the clone of the number remembers it
+abbrev pub RemembersUpdate : World → ℕ → (List Tagged → EffectValue → Type 0) → Dot → World → Type 0
+RemembersUpdate before number rule dot next =
+    (operation : Operation) × IsMadeBy before number rule dot operation × (next.history ≡ operation ∷ before.history) × Remembers next number operation
 
 -- one of the lines is a command at the clone of the number, its answer tells of the dot, and the run that it stands in leads to
 -- the world

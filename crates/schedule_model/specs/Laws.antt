@@ -4,17 +4,19 @@ use Rattle.rdf_terms.specs.declared.terms.Triple.{Triple}
 use Rattle.tree_clock.specs.declared.dots.Dot.{Dot}
 use Rattle.tree_clock.specs.declared.dots.Range.{Range}
 use Rattle.mld_ops.specs.declared.tagged.Tagged.{Tagged}
+use Rattle.mld_ops.specs.Effects.{DeletesAll}
 use Rattle.mld_ops.specs.History.{Operation}
 use Rattle.mld_ops.specs.Meaning.{IsMeaning}
 use Rattle.schedule_model.specs.declared.Command.{Command}
 use Rattle.schedule_model.specs.declared.Command.TheVariants.{Add, Remove}
 use Rattle.mld_model.specs.Clone.{AreKnownTo}
+use Rattle.mld_model.specs.CloneStep.{AddsTriple}
 use Rattle.mld_model.specs.World.{World, founded}
 use Rattle.mld_model.specs.Reply.{Reply, Did}
 use Rattle.schedule_model.specs.Step.{HasCloneNumbers, number_of_clone, Step}
 use Rattle.mld_model.specs.Sound.{IsSound}
 use Rattle.schedule_model.specs.Schedule.{IsNothing, is_unbuilt, Setup, SpellsSetup, SpellsCommand}
-use Rattle.schedule_model.specs.Answers.{Remembers, RemembersAdd, RemembersRemove, Survives}
+use Rattle.schedule_model.specs.Answers.{Remembers, RemembersUpdate, Survives}
 use Rattle.schedule_model.specs.Promises.{AnswersHold, LeavesDiffer, KeepsPromises}
 use Rattle.schedule_model.specs.Runs.{Stage, Waiting, IsWorldOf, Acts, Runs, IsBad, IsUnbuilt, Outcome, Verdict}
 
@@ -85,17 +87,17 @@ abbrev pub SamePairs : Type 0
 SamePairs = (history : List Operation) (known other : List Range) (pairs others : List Tagged)
     → AreKnownTo known other → AreKnownTo other known → IsMeaning history known pairs → IsMeaning history other others → pairs ≡ others
 
--- the dot that an `add` tells of is that of an operation with the triple as its one insert and no deletes; the step put it at
--- the head of the history, and its clone remembers it
+-- the dot that an `add` tells of is that of an operation that its clone made to insert the triple alone; the step put it at the head of
+-- the history, and its clone remembers it
 abbrev pub AddRemembers : Type 0
 AddRemembers = (world : World) (number : ℕ) (triple : Triple) (dot : Dot) (message : ℕ) (next : World)
-    → Step world (Add number triple) (Did dot message) next → RemembersAdd world number triple dot next
+    → Step world (Add number triple) (Did dot message) next → RemembersUpdate world number (AddsTriple triple) dot next
 
--- the dot that a `remove` tells of is that of an operation with no inserts, which deletes the pairs of the triple that
--- its clone had, at least one; the step put it at the head of the history, and its clone remembers it
+-- the dot that a `remove` tells of is that of an operation that its clone made to delete all pairs of the triple that it had, at least one;
+-- the step put it at the head of the history, and its clone remembers it
 abbrev pub RemoveRemembers : Type 0
 RemoveRemembers = (world : World) (number : ℕ) (triple : Triple) (dot : Dot) (message : ℕ) (next : World)
-    → Step world (Remove number triple) (Did dot message) next → RemembersRemove world number triple dot next
+    → Step world (Remove number triple) (Did dot message) next → RemembersUpdate world number (DeletesAll triple) dot next
 
 -- the dot that a command tells of is that of an operation which its step put at the head of the history, and the clone that
 -- the command says of remembers it

@@ -5,7 +5,7 @@ use Rattle.mld_model.specs.World.{World, founded}
 use Rattle.mld_model.specs.Reply.{Reply, Ready}
 use Rattle.schedule_model.specs.ReplyText.{reply_text}
 use Rattle.schedule_model.specs.Step.{Step}
-use Rattle.schedule_model.specs.Schedule.{IsNothing, is_unbuilt, Setup, SpellsSetup, SpellsCommand}
+use Rattle.schedule_model.specs.Schedule.{IsNothing, is_unbuilt, Setup, KeepsEachOnce, SpellsSetup, SpellsCommand}
 
 -- how far a schedule has come
 pub data Stage : Type 0 where
@@ -16,14 +16,16 @@ pub data Stage : Type 0 where
   -- the clones are founded
   Running : World → Stage
 
--- the world that is founded with a setup
-abbrev pub founded_by : Setup → World
-founded_by setup = founded setup.domain setup.properties setup.count
+-- the world is founded with a setup: each single-valued property of that is kept once
+pub record IsFoundedBy (setup : Setup) (world : World) : Type 0 where
+  pub kept : List (List ℕ)
+  pub each : KeepsEachOnce setup.properties kept
+  pub is : world ≡ founded setup.domain kept setup.count
 
 -- the world that the clones of a stage are founded in: the first command founds them, and so does the end of the lines
 abbrev pub IsWorldOf : Stage → World → Type 0
 IsWorldOf Waiting world = ⊥
-IsWorldOf (SetUp setup) world = world ≡ founded_by setup
+IsWorldOf (SetUp setup) world = IsFoundedBy setup world
 IsWorldOf (Running now) world = world ≡ now
 
 -- the domain line sets up

@@ -7,7 +7,7 @@ use Rattle.std.specs.Fmt.{decimal}
 use Rattle.iri_rules.specs.Domain.{is_domain}
 use Rattle.rdf_terms.specs.Grammar.{SpellsTriple, IsTripleWithin}
 use Rattle.schedule_model.specs.Characters.{space, hash_mark}
-use Rattle.mld_model.specs.Local.{IsNamed}
+use Rattle.mld_ops.specs.Properties.{AreKept}
 use Rattle.mld_model.specs.World.{clone_count}
 use Rattle.schedule_model.specs.declared.Command.{Command}
 use Rattle.schedule_model.specs.declared.Command.TheVariants.{Add, Remove, Deliver, Show, Compare, Join, Ask, Compact, Truncate, Stop, Open}
@@ -33,16 +33,19 @@ unbuilt_words = codes "query" ∷ codes "update" ∷ codes "single" ∷ codes "c
 unfoldable pub is_unbuilt : List ℕ → Bool
 is_unbuilt line = list_any (λ word. is_word word (first_word line)) unbuilt_words
 
--- what a domain is set up with: its name, its single-valued properties, and how many clones it begins with
+-- what a domain is set up with: its name, its single-valued properties as they were given, and how many clones it begins with
 pub record Setup : Type 0 where
   pub domain : List ℕ
   pub properties : List (List ℕ)
   pub count : ℕ
 
--- a setup by which clones may be founded: its domain's name is one, its properties ascend as terms, each once, and it has as many
--- clones as there may be
+-- each of the given single-valued properties is kept once: those that are kept are the same, in the order of terms
+abbrev pub KeepsEachOnce : List (List ℕ) → List (List ℕ) → Type 0
+KeepsEachOnce given kept = AreKept given kept
+
+-- a setup by which clones may be founded: its domain's name is one, and it has as many clones as there may be
 pub record IsSetup (setup : Setup) : Type 0 where
-  pub named : IsNamed setup.domain setup.properties
+  pub name : IsTrue (is_domain setup.domain)
   pub some : 1 ≤ setup.count
   pub most : setup.count ≤ clone_count
 

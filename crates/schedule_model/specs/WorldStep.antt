@@ -1,24 +1,27 @@
 -- What a step of a running world has to do with the model.
-use Rattle.std.specs.Prelude.{◌≡◌, ℕ, ◌+◌, List, [], ◌∷◌, ◌++◌, ◌⊎◌, Option, slice_set}
-use Rattle.tree_clock.specs.declared.dots.Dot.{Dot}
-use Rattle.tree_clock.specs.Clock.{Covers}
+use Rattle.std.specs.Prelude.{◌≡◌, ℕ, ◌+◌, List, [], ◌∷◌, ◌++◌, Option, slice_set}
 use Rattle.mld_ops.specs.Entry.{EntryValue}
 use Rattle.mld_ops.specs.Messages.{MessageValue, CarriesEntry}
 use Rattle.schedule_model.specs.declared.Command.{Command}
+use Rattle.mld_model.specs.Comparing.{ClocksCompare}
 use Rattle.mld_model.specs.World.{World, numbered}
-use Rattle.mld_model.specs.Reply.{Reply, Same, Less, More, Apart, IsAbsent, IsAsking, IsDown, IsLive}
+use Rattle.mld_model.specs.Reply.{Reply, IsAbsent, IsAsking, IsDown, IsLive}
 use Rattle.schedule_model.specs.Step.{Step}
 use Rattle.mld_model.specs.Sound.{IsSound}
 use Rattle.mld_model.specs.declared.CloneState.TheVariants as states
-use Rattle.mld_model.specs.Local.{LocalClone, CloneValue}
+use Rattle.mld_model.specs.Local.{LocalClone}
 use Rattle.mld_model.specs.StandsFor.{RunningClone, RunningWorld, StandsFor}
+
+-- how many steps a running world may make: no tick is above the number of steps, so a clone has a tick left for each of them
+abbrev pub step_limit : ℕ
+step_limit = 4294967295
 
 -- a running world after one more step
 abbrev pub stepped : RunningWorld → RunningWorld
 stepped running = record running { steps = running.steps + 1 }
 
 -- with another clone
-abbrev pub stepped_with : RunningWorld → ℕ → CloneValue → RunningWorld
+abbrev pub stepped_with : RunningWorld → ℕ → LocalClone → RunningWorld
 stepped_with running number clone = record running { clones = slice_set running.clones number (states.Live clone); steps = running.steps + 1 }
 
 -- with another state of a clone
@@ -31,7 +34,7 @@ stepped_telling running number state message =
     record running { clones = slice_set running.clones number state; messages = running.messages ++ message ∷ []; steps = running.steps + 1 }
 
 -- with another clone and the message of one more entry
-abbrev pub stepped_sending : RunningWorld → ℕ → CloneValue → EntryValue → RunningWorld
+abbrev pub stepped_sending : RunningWorld → ℕ → LocalClone → EntryValue → RunningWorld
 stepped_sending running number clone entry = stepped_telling running number (states.Live clone) (CarriesEntry entry)
 
 -- with more messages
@@ -69,14 +72,6 @@ IsAwayReply (states.Absent blank) reply = reply ≡ IsAbsent
 IsAwayReply (states.Down device) reply = reply ≡ IsDown
 IsAwayReply state reply = ⊥
 
--- the first clock's dots are all among the second's
-abbrev pub LocallyWithin : LocalClone → LocalClone → Type 0
-LocallyWithin live other = (dot : Dot) → Covers live.ticks dot → Covers other.ticks dot
-
--- how two clocks compare
+-- how the dots of two clones alone compare
 abbrev pub LocallyCompares : LocalClone → LocalClone → Reply → Type 0
-LocallyCompares live other reply =
-    (LocallyWithin live other × LocallyWithin other live × (reply ≡ Same))
-    ⊎ ((LocallyWithin live other × ¬ LocallyWithin other live × (reply ≡ Less))
-    ⊎ ((¬ LocallyWithin live other × LocallyWithin other live × (reply ≡ More))
-    ⊎ (¬ LocallyWithin live other × ¬ LocallyWithin other live × (reply ≡ Apart))))
+LocallyCompares live other reply = ClocksCompare live.ticks other.ticks reply

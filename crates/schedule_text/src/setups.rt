@@ -18,7 +18,7 @@ pub struct Setup {
     pub domain: Text,
     /// How many clones are founded, 1 to `CLONE_COUNT`.
     pub clones: u8,
-    /// The single-valued properties. No line sets one yet.
+    /// The single-valued properties, as they were given. No line sets one yet.
     pub props: Vec<Iri>,
 }
 
