@@ -16,7 +16,9 @@ use Rattle.mld_ops.specs.Ready.{last_dot, IsReadyEntry}
 use Rattle.mld_ops.specs.Held.{held_limit}
 use Rattle.mld_model.specs.Local.{LocalClone, LeadsTo, IsLocal}
 use Rattle.mld_ops.specs.Effect.{PairsAfter}
-use Rattle.clone_plans.specs.Making.{IsNextEntry}
+use Rattle.mld_ops.specs.Effects.{EffectValue, IsAfterEffect}
+use Rattle.mld_ops.proofs.EffectLaws.{has_ticks}
+use Rattle.clone_plans.specs.Making.{IsNextEntry, IsEntryOf}
 
 -- ---- taking entries in order
 
@@ -152,3 +154,16 @@ module _ (ticks : List (List ℕ × ℕ)) (dot : Dot) (entry : EntryValue) (next
           })
     ]),
   )
+
+-- the entry of an effect is one of the next dot
+pub next_entry : (ticks : List (List ℕ × ℕ)) (dot : Dot) (effect : EffectValue) (entry : EntryValue) → IsEntryOf ticks dot effect entry → IsNextEntry ticks dot entry
+next_entry ticks dot effect entry is = record { tick = is.may.next; range = ap (λ (e : EntryValue). e.range) is.carries; time = is.time }
+
+-- its cut are the pairs behind the effect
+pub effect_cut : (ticks : List (List ℕ × ℕ)) (dot : Dot) (effect : EffectValue) (entry : EntryValue) (old new : List Tagged) → IsEntryOf ticks dot effect entry
+    → IsCutOf entry (ticks_of ticks entry.range.path) old new → IsAfterEffect effect dot old new
+effect_cut ticks dot effect entry old new is =
+    own_cut ticks dot entry (next_entry ticks dot effect entry is) effect.deletes effect.inserts old new
+    (λ pair. subst (λ (e : EntryValue). Has e.deletes pair ↔ Has effect.deletes pair) (sym is.carries) (λ h. h, λ h. h))
+    (λ triple tick. subst (λ (e : EntryValue). Has e.inserts (triple, tick) ↔ ((tick ≡ dot.tick) × Has effect.inserts triple)) (sym is.carries)
+    (has_ticks dot.tick effect.inserts triple tick))

@@ -9,7 +9,7 @@ use Rattle.mld_ops.specs.Held.{ranges_of}
 use Rattle.mld_ops.specs.Tagged.{tagged_cmp}
 use Rattle.mld_model.specs.Local.{LeadsTo, LocallyReleases}
 use Rattle.mld_model.proofs.LeadsLaws.{leads_cover}
-use Rattle.snapshot.specs.SnapshotJoin.{CoversAll}
+use Rattle.suset.specs.SnapshotJoin.{CoversAll}
 use Rattle.clone_plans.specs.Merges.{IsReleasedFrom}
 use Rattle.clone_plans.specs.Plans.{IsGrownFrom, TakesNothing, PlansReleases, left_of}
 use Rattle.clone_plans.specs.declared.merges.Released.{Released}
@@ -24,14 +24,14 @@ each_entry (first ∷ entries) all entry (inr h) = each_entry entries all.1 entr
 -- a plan that began with nothing, and has grown by what its clock releases, once its cut is applied to the pairs
 pub released_from : (ticks : List (List ℕ × ℕ)) (pairs : List Tagged) (held : List EntryValue) (empty all : Growing) (after : Released)
     → IsAscending tagged_cmp pairs → CoversAll ticks pairs → TakesNothing ticks empty → PlansReleases pairs empty held all (left_of after.left held)
-    → Applies all.drops.elements all.adds.elements pairs after.pairs.elements
+    → Applies all.drops all.adds pairs after.pairs.pairs
     → after.clock ≡ all.clock → after.entries.items ≡ all.entries.items → after.ranges ≡ all.ranges → IsReleasedFrom ticks pairs held after
 released_from ticks pairs held empty all after ascending covered e r applies clock entries ranges =
     let grown : IsGrownFrom ticks pairs all = r.leads ticks ascending (nothing_from ticks pairs empty ascending e) in
     let ticks_are = ap (λ k. k.ticks) clock in
     let are = subst (λ (es : List EntryValue). AllByRecursion IsEntry es) (sym entries) grown.are_entries in
-    let leads = subst (λ (es : List EntryValue). LeadsTo ticks pairs es after.clock.ticks after.pairs.elements) (sym entries)
-    (subst (λ (ts : List (List ℕ × ℕ)). LeadsTo ticks pairs all.entries.items ts after.pairs.elements) (sym ticks_are) (grown.leads after.pairs.elements applies)) in
+    let leads = subst (λ (es : List EntryValue). LeadsTo ticks pairs es after.clock.ticks after.pairs.pairs) (sym entries)
+    (subst (λ (ts : List (List ℕ × ℕ)). LeadsTo ticks pairs all.entries.items ts after.pairs.pairs) (sym ticks_are) (grown.leads after.pairs.pairs applies)) in
     let taken : r.taken ≡ after.entries.items = sym (entries ∙ r.entries ∙ ap (λ (es : List EntryValue). es ++ r.taken) e.entries) in
     record {
       are_entries = are;
@@ -39,6 +39,6 @@ released_from ticks pairs held empty all after ascending covered e r applies clo
           (subst (λ (ts : List (List ℕ × ℕ)). LocallyReleases ticks held r.taken ts (left_of after.left held)) (sym ticks_are)
           (subst (λ (ts : List (List ℕ × ℕ)). LocallyReleases ts held r.taken all.clock.ticks (left_of after.left held)) e.clock r.releases));
       leads = leads;
-      covered = leads_cover ticks pairs after.entries.items after.clock.ticks after.pairs.elements (each_entry after.entries.items are) leads covered;
+      covered = leads_cover ticks pairs after.entries.items after.clock.ticks after.pairs.pairs (each_entry after.entries.items are) leads covered;
       ranges = ranges ∙ grown.ranges ∙ ap ranges_of (sym entries);
     }

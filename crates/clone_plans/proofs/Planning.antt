@@ -71,13 +71,13 @@ leads_more ticks middle after pairs drops adds more_drops more_adds entries entr
 -- the plan with one more entry
 pub plans_more : (pairs : List Tagged) (old new : Growing) (entry : EntryValue) → IsEntry entry → IsReadyEntry old.clock.ticks entry
     → RaisesTo old.clock.ticks new.clock.ticks (last_dot entry.range)
-    → AreCutsBehind entry (ticks_of old.clock.ticks entry.range.path) pairs old.drops.elements old.adds.elements new.drops.elements new.adds.elements
+    → AreCutsBehind entry (ticks_of old.clock.ticks entry.range.path) pairs old.drops old.adds new.drops new.adds
     → new.entries.items ≡ old.entries.items ++ entry ∷ [] → new.ranges ≡ old.ranges ++ entry.range ∷ [] → PlansEntry pairs old entry new
 plans_more pairs old new entry e ready raised cuts entries ranges = record {
   leads = λ ticks a from. record {
     are_entries = subst (λ (es : List EntryValue). AllByRecursion IsEntry es) (sym entries) (all_more old.entries.items entry from.are_entries e);
     leads = λ news both. subst (λ (es : List EntryValue). LeadsTo ticks pairs es new.clock.ticks news) (sym entries)
-        (leads_more ticks old.clock.ticks new.clock.ticks pairs old.drops.elements old.adds.elements new.drops.elements new.adds.elements old.entries.items entry
+        (leads_more ticks old.clock.ticks new.clock.ticks pairs old.drops old.adds new.drops new.adds old.entries.items entry
         a ready raised cuts from.leads news both);
     ranges = ranges ∙ ap (λ (rs : List Range). rs ++ entry.range ∷ []) from.ranges ∙ sym (ranges_more old.entries.items entry) ∙ ap ranges_of (sym entries);
   };
@@ -174,19 +174,19 @@ pub nothing_from : (ticks : List (List ℕ × ℕ)) (pairs : List Tagged) (empty
 nothing_from ticks pairs empty a e = record {
   are_entries = subst (λ (es : List EntryValue). AllByRecursion IsEntry es) (sym e.entries) tt;
   leads = λ new h. subst (λ (es : List EntryValue). LeadsTo ticks pairs es empty.clock.ticks new) (sym e.entries)
-      (e.clock, applies_none pairs new a (subst (λ (drops : List Tagged). Applies drops [] pairs new) e.drops (subst (λ (adds : List Tagged). Applies empty.drops.elements adds pairs new) e.adds h)));
+      (e.clock, applies_none pairs new a (subst (λ (drops : List Tagged). Applies drops [] pairs new) e.drops (subst (λ (adds : List Tagged). Applies empty.drops adds pairs new) e.adds h)));
   ranges = e.ranges ∙ ap ranges_of (sym e.entries);
 }
 
 -- the plan that has grown by an entry and by those that it releases, once its drops and its adds are lists
 pub plan_from : (ticks : List (List ℕ × ℕ)) (pairs : List Tagged) (held : List EntryValue) (entry : EntryValue) (empty one all : Growing) (left : Option (List EntryValue)) (cut : Cut)
     → IsAscending tagged_cmp pairs → TakesNothing ticks empty → PlansEntry pairs empty entry one → PlansReleases pairs one held all (left_of left held)
-    → cut.drops.items ≡ all.drops.elements → cut.adds.items ≡ all.adds.elements
+    → cut.drops.items ≡ all.drops → cut.adds.items ≡ all.adds
     → IsPlanOf ticks pairs held entry (record { clock = all.clock; left = left; entries = all.entries; cut = cut; ranges = all.ranges })
 plan_from ticks pairs held entry empty one all left cut a e p r drops adds = record {
   leads = let grown = r.leads ticks a (p.leads ticks a (nothing_from ticks pairs empty a e)) in record {
     are_entries = grown.are_entries;
-    leads = λ new h. grown.leads new (subst (λ (ds : List Tagged). Applies ds all.adds.elements pairs new) drops (subst (λ (came : List Tagged). Applies cut.drops.items came pairs new) adds h));
+    leads = λ new h. grown.leads new (subst (λ (ds : List Tagged). Applies ds all.adds pairs new) drops (subst (λ (came : List Tagged). Applies cut.drops.items came pairs new) adds h));
     ranges = grown.ranges;
   };
   taken = r.taken;

@@ -6,7 +6,7 @@ use Rattle.mld_ops.specs.declared.tagged.Tagged.{Tagged}
 use Rattle.mld_ops.specs.Cut.{IsCutOf}
 use Rattle.mld_ops.specs.Entry.{EntryValue, IsEntry}
 use Rattle.mld_ops.specs.Ready.{last_dot}
-use Rattle.snapshot.specs.SnapshotJoin.{CoversAll}
+use Rattle.suset.specs.SnapshotJoin.{CoversAll}
 use Rattle.mld_model.specs.Local.{LeadsTo}
 use Rattle.clone_plans.specs.Replays.{AreReadyEntries}
 use Rattle.clone_plans.proofs.MakingLaws.{cut_covered, leads_append}

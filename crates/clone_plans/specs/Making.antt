@@ -1,13 +1,10 @@
 -- The entry of an operation of the clone's own.
-use Rattle.std.specs.Prelude.{◌≡◌, ℕ, ◌+◌, List, [], ◌∷◌}
-use Rattle.rdf_terms.specs.declared.terms.Triple.{Triple}
+use Rattle.std.specs.Prelude.{◌≡◌, ℕ, ◌+◌, List}
 use Rattle.tree_clock.specs.declared.dots.Dot.{Dot}
-use Rattle.tree_clock.specs.Lists.{Has, IsAscending}
-use Rattle.tree_clock.specs.Clock.{ticks_of, Covers, RaisesTo}
-use Rattle.mld_ops.specs.declared.tagged.Tagged.{Tagged}
-use Rattle.mld_ops.specs.Tagged.{tagged_cmp}
-use Rattle.mld_ops.specs.Entry.{EntryValue}
+use Rattle.tree_clock.specs.Clock.{ticks_of, RaisesTo}
 use Rattle.mld_ops.specs.Effect.{range_of}
+use Rattle.mld_ops.specs.Effects.{EffectValue, MayMake, entry_of}
+use Rattle.mld_ops.specs.Entry.{EntryValue}
 
 -- the entry is of the next dot of the clock at the path, behind all dots of the clock
 pub record IsNextEntry (ticks : List (List ℕ × ℕ)) (dot : Dot) (entry : EntryValue) : Type 0 where
@@ -15,19 +12,8 @@ pub record IsNextEntry (ticks : List (List ℕ × ℕ)) (dot : Dot) (entry : Ent
   pub range : entry.range ≡ range_of dot
   pub time : RaisesTo ticks entry.time dot
 
--- the entry inserts the triple at the dot, behind all dots of the clock
-pub record IsInsertion (ticks : List (List ℕ × ℕ)) (dot : Dot) (triple : Triple) (entry : EntryValue) : Type 0 where
-  pub next : IsNextEntry ticks dot entry
-  pub deletes : entry.deletes ≡ []
-  pub inserts : entry.inserts ≡ (triple, dot.tick) ∷ []
-
--- an operation of a clone with this clock may delete the pairs: they ascend, and the clock has their dots
-pub record MayBeDeleted (ticks : List (List ℕ × ℕ)) (deletes : List Tagged) : Type 0 where
-  pub ascending : IsAscending tagged_cmp deletes
-  pub covered : (pair : Tagged) → Has deletes pair → Covers ticks pair.dot
-
--- the entry deletes the pairs at the dot, behind all dots of the clock
-pub record IsDeletion (ticks : List (List ℕ × ℕ)) (dot : Dot) (pairs : List Tagged) (entry : EntryValue) : Type 0 where
-  pub next : IsNextEntry ticks dot entry
-  pub deletes : entry.deletes ≡ pairs
-  pub inserts : entry.inserts ≡ []
+-- the entry carries the effect at the dot, which is the next one of the clock, behind all dots of the clock
+pub record IsEntryOf (ticks : List (List ℕ × ℕ)) (dot : Dot) (effect : EffectValue) (entry : EntryValue) : Type 0 where
+  pub may : MayMake ticks dot effect
+  pub time : RaisesTo ticks entry.time dot
+  pub carries : entry ≡ entry_of dot entry.time effect

@@ -7,7 +7,7 @@ use Rattle.mld_ops.specs.Entry.{EntryValue, IsEntry}
 use Rattle.mld_ops.specs.Held.{ranges_of}
 use Rattle.mld_ops.specs.Messages.{SnapshotValue}
 use Rattle.mld_model.specs.Local.{LeadsTo, LocallyReleases}
-use Rattle.snapshot.specs.SnapshotJoin.{CoversAll, IsJoinedWith}
+use Rattle.suset.specs.SnapshotJoin.{CoversAll, IsJoinedWith}
 use Rattle.clone_plans.specs.declared.merges.Merge.{Merge}
 use Rattle.clone_plans.specs.declared.merges.Released.{Released}
 use Rattle.clone_plans.specs.Plans.{left_of}
@@ -17,8 +17,8 @@ use Rattle.clone_plans.specs.Plans.{left_of}
 pub record IsReleasedFrom (ticks : List (List ℕ × ℕ)) (pairs : List Tagged) (held : List EntryValue) (after : Released) : Type 0 where
   pub are_entries : AllByRecursion IsEntry after.entries.items
   pub releases : LocallyReleases ticks held after.entries.items after.clock.ticks (left_of after.left held)
-  pub leads : LeadsTo ticks pairs after.entries.items after.clock.ticks after.pairs.elements
-  pub covered : CoversAll after.clock.ticks after.pairs.elements
+  pub leads : LeadsTo ticks pairs after.entries.items after.clock.ticks after.pairs.pairs
+  pub covered : CoversAll after.clock.ticks after.pairs.pairs
   pub ranges : after.ranges ≡ ranges_of after.entries.items
 
 -- the base is what both sides know and have, and then it releases of those held back

@@ -43,14 +43,14 @@ pub record IsPlanOf (ticks : List (List ℕ × ℕ)) (pairs : List Tagged) (held
 
 -- the entries so far lead from the clock and the pairs to the clock so far, by what is dropped and added so far
 abbrev pub IsGrownFrom : List (List ℕ × ℕ) → List Tagged → Growing → Type 0
-IsGrownFrom ticks pairs plan = LeadByCut ticks pairs plan.entries.items plan.clock.ticks plan.drops.elements plan.adds.elements plan.ranges
+IsGrownFrom ticks pairs plan = LeadByCut ticks pairs plan.entries.items plan.clock.ticks plan.drops plan.adds plan.ranges
 
 -- nothing is taken so far
 pub record TakesNothing (ticks : List (List ℕ × ℕ)) (plan : Growing) : Type 0 where
   pub clock : plan.clock.ticks ≡ ticks
   pub entries : plan.entries.items ≡ []
-  pub drops : plan.drops.elements ≡ []
-  pub adds : plan.adds.elements ≡ []
+  pub drops : plan.drops ≡ []
+  pub adds : plan.adds ≡ []
   pub ranges : plan.ranges ≡ []
 
 -- a plan for ascending pairs goes on as one

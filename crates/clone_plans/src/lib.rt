@@ -9,7 +9,7 @@ mod replays;
 mod unknown;
 
 pub use begun::begun_with;
-pub use making::{deletion, insertion};
+pub use making::entry_of_effect;
 pub use merges::{Merge, Released, prepare_merge};
 pub use plans::{Plan, prepare_own, prepare_plan};
 pub use replays::{Replayed, led_to, replay, tell_clock};

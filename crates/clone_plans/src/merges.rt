@@ -3,17 +3,16 @@ ghost use Rattle.std.specs.Prelude.{IfOk};
 ghost use Rattle.clone_plans.specs.Merges.{IsMergeOf, IsReleasedFrom};
 ghost use Rattle.mld_ops.specs.Messages.{snapshot_value, IsGoodSnapshot};
 ghost use Rattle.mld_ops.specs.Tagged.{tagged_cmp};
-ghost use Rattle.snapshot.specs.SnapshotJoin.{CoversAll};
+ghost use Rattle.suset.specs.SnapshotJoin.{CoversAll};
 ghost use Rattle.tree_clock.specs.Clock.{IsClock};
 ghost use Rattle.tree_clock.specs.Lists.{IsAscending};
 
-use crate::plans::{begin, change, cut_of, release_held};
+use crate::plans::{begin, cut_of, release_held};
 use causal_buffer::Held;
 use graph_index::Graph;
 use mld_ops::{Entry, Snapshot, Tagged, copy_pairs};
-use snapshot::join;
 use std::alloc::{AllocError, Global};
-use suset::TaggedSet;
+use suset::{TaggedSet, join};
 use tree_clock::{Clock, Ranges};
 
 /// What a clone has that merges a snapshot.
@@ -51,9 +50,9 @@ pub fn prepare_merge(
     held: &Held,
     snapshot: &Snapshot,
 ) -> Result<Merge, AllocError>
-    requires covered { CoversAll clock.now.ticks pairs.now.elements }
+    requires covered { CoversAll clock.now.ticks pairs.now.pairs }
     requires good { IsGoodSnapshot (snapshot_value snapshot.now) }
-    ensures { IfOk result (IsMergeOf clock.now.ticks pairs.now.elements held.now (snapshot_value snapshot.now)) }
+    ensures { IfOk result (IsMergeOf clock.now.ticks pairs.now.pairs held.now (snapshot_value snapshot.now)) }
 {
     let own = TaggedSet::from_list(pairs.to_list(alloc)?)?;
     let (base, set) = join(alloc, clock, &own, snapshot)?;
@@ -83,7 +82,8 @@ fn release_from(
     let mut plan = begin(alloc, base)?;
     let left = release_held(alloc, &mut plan, &pairs, held)?;
     let cut = cut_of(alloc, &plan.drops, &plan.adds)?;
-    change(alloc, &mut pairs, cut)?;
+    pairs.prepare(alloc, &cut)?;
+    pairs.apply(cut);
     Ok(Released {
         clock: plan.clock,
         pairs,

@@ -1,7 +1,7 @@
 //! The plan of an update and of a delivery: the cut of the pairs, which entries are taken, and all room.
 ghost use Rattle.std.specs.Prelude.{◌≡◌, ◌+◌, ◌<◌, ◌≤◌, IfOk, OnOk, vec_len, vec_capacity};
 ghost use Rattle.clone_plans.specs.Plans.{left_of, IsPlanOf, TakesNothing, PlansEntry, PlansReleases};
-ghost use Rattle.mld_ops.specs.Applies.{Applies};
+ghost use Rattle.graph_index.specs.Graphs.{Fits};
 ghost use Rattle.mld_ops.specs.Entry.{IsEntry};
 ghost use Rattle.mld_ops.specs.Ready.{IsReadyEntry};
 ghost use Rattle.mld_ops.specs.Tagged.{tagged_cmp};
@@ -10,7 +10,7 @@ ghost use Rattle.tree_clock.specs.Clock.{HasRoom, IsClock, ticks_of};
 ghost use Rattle.tree_clock.specs.Lists.{IsAscending};
 
 use causal_buffer::Held;
-use graph_index::Graph;
+use graph_index::{Graph, PairSet};
 use mld_ops::{Cut, Entry};
 use op_fusion::cut;
 use std::alloc::{AllocError, Global};
@@ -38,8 +38,8 @@ pub(crate) struct Growing {
     pub(crate) clock: Clock,
     pub(crate) entries: Vec<Entry>,
     pub(crate) ranges: Ranges,
-    pub(crate) drops: Graph,
-    pub(crate) adds: Graph,
+    pub(crate) drops: PairSet,
+    pub(crate) adds: PairSet,
 }
 
 /// The cut of an entry of the clone's own, once there is room for it and for the last dot of its range.
@@ -51,13 +51,13 @@ pub fn prepare_own(
     entry: &Entry,
 ) -> Result<Cut, AllocError>
     ensures entry { IsEntry entry.now }
-    ensures cut { IfOk result (λ cut. AreCuts entry.now (ticks_of clock.old.ticks entry.now.range.path) pairs.old.elements cut.drops.items cut.adds.items) }
+    ensures cut { IfOk result (λ cut. AreCuts entry.now (ticks_of clock.old.ticks entry.now.range.path) pairs.old.pairs cut.drops.items cut.adds.items) }
     ensures ticks { clock.new.ticks ≡ clock.old.ticks }
     ensures entries { entries.new.items ≡ entries.old.items }
-    ensures pairs { pairs.new.elements ≡ pairs.old.elements }
+    ensures pairs { pairs.new.pairs ≡ pairs.old.pairs }
     ensures clock_room { OnOk result (HasRoom clock.new entry.now.range.path) }
     ensures entries_room { OnOk result (vec_len entries.new < vec_capacity entries.new) }
-    ensures pairs_room { IfOk result (λ cut. vec_len cut.adds ≤ pairs.new.room) }
+    ensures pairs_room { IfOk result (λ cut. Fits cut pairs.new) }
 {
     let range = entry.range();
     let cut = cut(alloc, entry, clock, pairs)?;
@@ -76,13 +76,13 @@ pub fn prepare_plan(
     pairs: &mut Graph,
     entry: &Entry,
 ) -> Result<Plan, AllocError>
-    requires pairs { IsAscending tagged_cmp pairs.old.elements }
+    requires pairs { IsAscending tagged_cmp pairs.old.pairs }
     requires ready { IsReadyEntry clock.now.ticks entry.now }
-    ensures plan { IfOk result (λ plan. IsPlanOf clock.now.ticks pairs.old.elements held.now entry.now plan) }
+    ensures plan { IfOk result (λ plan. IsPlanOf clock.now.ticks pairs.old.pairs held.now entry.now plan) }
     ensures entries { entries.new.items ≡ entries.old.items }
-    ensures pairs { pairs.new.elements ≡ pairs.old.elements }
+    ensures pairs { pairs.new.pairs ≡ pairs.old.pairs }
     ensures entries_room { IfOk result (λ plan. vec_len entries.new + vec_len plan.entries ≤ vec_capacity entries.new) }
-    ensures pairs_room { IfOk result (λ plan. vec_len plan.cut.adds ≤ pairs.new.room) }
+    ensures pairs_room { IfOk result (λ plan. Fits plan.cut pairs.new) }
 {
     let mut plan = begin(alloc, clock)?;
     take(alloc, &mut plan, pairs, entry.copy_in(alloc)?)?;
@@ -108,15 +108,15 @@ pub(crate) fn begin(alloc: Global, clock: &Clock) -> Result<Growing, AllocError>
         clock: clock.copy_in(alloc)?,
         entries: Vec::new(alloc),
         ranges: Ranges::new(alloc),
-        drops: Graph::empty(alloc),
-        adds: Graph::empty(alloc),
+        drops: PairSet::empty(alloc),
+        adds: PairSet::empty(alloc),
     })
 }
 
 // The cut of what is dropped and what is added.
-pub(crate) fn cut_of(alloc: Global, drops: &Graph, adds: &Graph) -> Result<Cut, AllocError>
-    ensures drops { IfOk result (λ cut. cut.drops.items ≡ drops.now.elements) }
-    ensures adds { IfOk result (λ cut. cut.adds.items ≡ adds.now.elements) }
+pub(crate) fn cut_of(alloc: Global, drops: &PairSet, adds: &PairSet) -> Result<Cut, AllocError>
+    ensures drops { IfOk result (λ cut. cut.drops.items ≡ drops.now) }
+    ensures adds { IfOk result (λ cut. cut.adds.items ≡ adds.now) }
 {
     Ok(Cut {
         drops: drops.to_list(alloc)?,
@@ -127,7 +127,7 @@ pub(crate) fn cut_of(alloc: Global, drops: &Graph, adds: &Graph) -> Result<Cut, 
 // Adds an entry that is ready then.
 fn take(alloc: Global, plan: &mut Growing, pairs: &Graph, entry: Entry) -> Result<(), AllocError>
     requires { IsReadyEntry plan.old.clock.ticks entry }
-    ensures { OnOk result (PlansEntry pairs.now.elements plan.old entry plan.new) }
+    ensures { OnOk result (PlansEntry pairs.now.pairs plan.old entry plan.new) }
 {
     let range = entry.range();
     put_behind(
@@ -153,12 +153,12 @@ fn take(alloc: Global, plan: &mut Growing, pairs: &Graph, entry: Entry) -> Resul
 fn put_behind(
     alloc: Global,
     clock: &Clock,
-    drops: &mut Graph,
-    adds: &mut Graph,
+    drops: &mut PairSet,
+    adds: &mut PairSet,
     pairs: &Graph,
     entry: &Entry,
 ) -> Result<(), AllocError>
-    ensures { OnOk result (AreCutsBehind entry.now (ticks_of clock.now.ticks entry.now.range.path) pairs.now.elements drops.old.elements adds.old.elements drops.new.elements adds.new.elements) }
+    ensures { OnOk result (AreCutsBehind entry.now (ticks_of clock.now.ticks entry.now.range.path) pairs.now.pairs drops.old adds.old drops.new adds.new) }
 {
     let base = cut(alloc, entry, clock, pairs)?;
     let own = cut(alloc, entry, clock, adds)?;
@@ -166,17 +166,8 @@ fn put_behind(
         drops: Vec::new(alloc),
         adds: base.drops,
     };
-    change(alloc, drops, more)?;
-    change(alloc, adds, own)
-}
-
-// Applies a cut, once there is room for it.
-pub(crate) fn change(alloc: Global, pairs: &mut Graph, cut: Cut) -> Result<(), AllocError>
-    ensures { OnOk result (Applies cut.drops.items cut.adds.items pairs.old.elements pairs.new.elements) }
-{
-    pairs.prepare(alloc, &cut)?;
-    pairs.apply(cut);
-    Ok(())
+    drops.change(alloc, more)?;
+    adds.change(alloc, own)
 }
 
 // Adds the entries that its clock releases of those held back, and gives which are left, where any is released or dropped.
@@ -186,7 +177,7 @@ pub(crate) fn release_held(
     pairs: &Graph,
     held: &Held,
 ) -> Result<Option<Held>, AllocError>
-    ensures { IfOk result (λ left. PlansReleases pairs.now.elements plan.old held.now plan.new (left_of left held.now)) }
+    ensures { IfOk result (λ left. PlansReleases pairs.now.pairs plan.old held.now plan.new (left_of left held.now)) }
 {
     if held.is_settled(&plan.clock) {
         return Ok(None);
@@ -203,7 +194,7 @@ fn release(
     pairs: &Graph,
     held: &mut Held,
 ) -> Result<(), AllocError>
-    ensures { OnOk result (PlansReleases pairs.now.elements plan.old held.old plan.new held.new) }
+    ensures { OnOk result (PlansReleases pairs.now.pairs plan.old held.old plan.new held.new) }
 {
     loop {
         held.drop_known(&plan.clock);

@@ -5,7 +5,7 @@ ghost use Rattle.journal_sides.specs.Heads.{head_value};
 ghost use Rattle.journal_sides.specs.StoredVolumes.{IsGoodHead, AreGoodEntries};
 ghost use Rattle.mld_model.specs.Local.{LeadsTo};
 ghost use Rattle.mld_ops.specs.Tagged.{tagged_cmp};
-ghost use Rattle.snapshot.specs.SnapshotJoin.{CoversAll};
+ghost use Rattle.suset.specs.SnapshotJoin.{CoversAll};
 ghost use Rattle.tree_clock.specs.Clock.{IsClock};
 ghost use Rattle.tree_clock.specs.Lists.{IsAscending};
 
@@ -33,8 +33,8 @@ pub fn replay(alloc: Global, head: &Head, entries: Vec<Entry>) -> Result<Replaye
     requires entries { AreGoodEntries head.now.base.ticks entries.items }
     ensures clock { IfOk result (λ _. IsClock head.now.base.ticks) }
     ensures entries { IfOk result (λ replayed. replayed.entries.items ≡ entries.items) }
-    ensures leads { IfOk result (λ replayed. LeadsTo head.now.base.ticks head.now.tagged.items entries.items replayed.clock.ticks replayed.pairs.elements) }
-    ensures covered { IfOk result (λ replayed. CoversAll replayed.clock.ticks replayed.pairs.elements) }
+    ensures leads { IfOk result (λ replayed. LeadsTo head.now.base.ticks head.now.tagged.items entries.items replayed.clock.ticks replayed.pairs.pairs) }
+    ensures covered { IfOk result (λ replayed. CoversAll replayed.clock.ticks replayed.pairs.pairs) }
 {
     let mut clock = head.base.copy_in(alloc)?;
     let list = copy_pairs(alloc, head.tagged.as_slice())?;
@@ -86,9 +86,9 @@ fn take_all(
     entries: &[Entry],
 ) -> Result<(), AllocError>
     requires ready { AreReadyEntries clock.old.ticks entries.now }
-    requires covered { CoversAll clock.old.ticks pairs.old.elements }
-    ensures leads { OnOk result (LeadsTo clock.old.ticks pairs.old.elements entries.now clock.new.ticks pairs.new.elements) }
-    ensures covered { OnOk result (CoversAll clock.new.ticks pairs.new.elements) }
+    requires covered { CoversAll clock.old.ticks pairs.old.pairs }
+    ensures leads { OnOk result (LeadsTo clock.old.ticks pairs.old.pairs entries.now clock.new.ticks pairs.new.pairs) }
+    ensures covered { OnOk result (CoversAll clock.new.ticks pairs.new.pairs) }
 {
     for entry in entries {
         let range = entry.range();

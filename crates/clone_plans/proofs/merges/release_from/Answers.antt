@@ -13,11 +13,12 @@ returns-clause-released c =
     let cut = c.in_ok-cut.cut in
     let plan = c.release_held.new.plan in
     let left = c.in_ok-left.left in
-    let new = c.change.new.pairs.elements in
-    let same : c.in_ok-pairs.pairs.elements ≡ pairs = c.in_ok-pairs.ensures ∙ c.in_ok-list.ensures in
-    let applies = subst (λ (ps : List Tagged). Applies plan.drops.elements plan.adds.elements ps new) same
-    (subst (λ (drops : List Tagged). Applies drops plan.adds.elements c.in_ok-pairs.pairs.elements new) c.in_ok-cut.ensures.drops
-    (subst (λ (adds : List Tagged). Applies cut.drops.items adds c.in_ok-pairs.pairs.elements new) c.in_ok-cut.ensures.adds c.in_ok-change.ensures)) in
-    let after : Released = record { clock = plan.clock; pairs = c.change.new.pairs; entries = plan.entries; ranges = plan.ranges; left = left } in
+    let new = c.apply.new.self.pairs in
+    let same : c.in_ok-pairs.pairs.pairs ≡ pairs = c.in_ok-pairs.ensures ∙ c.in_ok-list.ensures in
+    let applies = subst (λ (ps : List Tagged). Applies plan.drops plan.adds ps new) same
+    (subst (λ (drops : List Tagged). Applies drops plan.adds c.in_ok-pairs.pairs.pairs new) c.in_ok-cut.ensures.drops
+    (subst (λ (adds : List Tagged). Applies cut.drops.items adds c.in_ok-pairs.pairs.pairs new) c.in_ok-cut.ensures.adds
+    (subst (λ (ps : List Tagged). Applies cut.drops.items cut.adds.items ps new) c.prepare.ensures.pairs c.apply.ensures))) in
+    let after : Released = record { clock = plan.clock; pairs = c.apply.new.self; entries = plan.entries; ranges = plan.ranges; left = left } in
     released_from c.args.base.now.ticks pairs held c.in_ok-plan.plan plan after c.requires.ascending c.requires.covered c.in_ok-plan.ensures.nothing
     (subst (λ (ps : List Tagged). PlansReleases ps c.in_ok-plan.plan held plan (left_of left held)) same c.in_ok-left.ensures) applies refl refl refl

@@ -9,15 +9,15 @@ use Rattle.clone_plans.proofs.plans.release.Goals as goal
 pub returns-in_default : goal.returns-in_default
 returns-in_default c =
     let kept = c.drop_known.new.self in
-    subst (λ (left : List EntryValue). PlansReleases c.args.pairs.now.elements c.args.plan.now c.args.held.now c.loop-entry.plan left) (sym c.in_default.ensures.unchanged)
-    (releasing_all c.args.pairs.now.elements c.args.plan.now c.args.held.now c.loop-entry.plan c.loop-entry.held kept c.loop-entry.invariant c.drop_known.ensures (c.in_default.ensures.none.0 refl))
+    subst (λ (left : List EntryValue). PlansReleases c.args.pairs.now.pairs c.args.plan.now c.args.held.now c.loop-entry.plan left) (sym c.in_default.ensures.unchanged)
+    (releasing_all c.args.pairs.now.pairs c.args.plan.now c.args.held.now c.loop-entry.plan c.loop-entry.held kept c.loop-entry.invariant c.drop_known.ensures (c.in_default.ensures.none.0 refl))
 
 pub take-requires : goal.take-requires
 take-requires c = first_is (IsReadyEntry c.loop-entry.plan.clock.ticks) c.drop_known.new.self c.in-Some.entry c.take_ready.new.self c.in-Some.ensures.some
 
 pub loop-entry-preserved : goal.loop-entry-preserved
 loop-entry-preserved c =
-    releasing_more c.args.pairs.now.elements c.args.plan.now c.args.held.now c.loop-entry.plan c.take.new.plan c.loop-entry.held c.drop_known.new.self c.take_ready.new.self c.in-Some.entry
+    releasing_more c.args.pairs.now.pairs c.args.plan.now c.args.held.now c.loop-entry.plan c.take.new.plan c.loop-entry.held c.drop_known.new.self c.take_ready.new.self c.in-Some.entry
     c.loop-entry.invariant c.drop_known.ensures c.in-Some.ensures.some c.in_ok-take.ensures
 
 pub loop-entry-smaller : goal.loop-entry-smaller

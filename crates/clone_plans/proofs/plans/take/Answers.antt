@@ -10,7 +10,7 @@ pub returns : goal.returns
 returns c =
     let entry = c.args.entry in
     let old = c.args.plan.now in
-    let pairs = c.args.pairs.now.elements in
+    let pairs = c.args.pairs.now.pairs in
     let ticks = old.clock.ticks in
     let after = c.raise.new.self.ticks in
     let range : c.range-range.result ≡ entry.range = c.range-range.ensures.value in

@@ -2,7 +2,7 @@ use Rattle.std.proofs.Common.{◌≡◌, ◌∙◌, ℕ, List, sym, subst}
 use Rattle.tree_clock.specs.Lists.{IsAscending}
 use Rattle.mld_ops.specs.declared.tagged.Tagged.{Tagged}
 use Rattle.mld_ops.specs.Tagged.{tagged_cmp}
-use Rattle.snapshot.specs.SnapshotJoin.{CoversAll}
+use Rattle.suset.specs.SnapshotJoin.{CoversAll}
 use Rattle.mld_model.specs.Local.{LeadsTo}
 use Rattle.clone_plans.proofs.replays.led_to.Goals as goal
 
@@ -16,9 +16,9 @@ take_all-requires-clause-covered c =
 
 pub returns-clause-leads : goal.returns-clause-leads
 returns-clause-leads c =
-    let same : c.in_ok-graph.graph.elements ≡ c.args.pairs.now = c.in_ok-graph.ensures ∙ c.in_ok-list.ensures in
+    let same : c.in_ok-graph.graph.pairs ≡ c.args.pairs.now = c.in_ok-graph.ensures ∙ c.in_ok-list.ensures in
     let ticks = c.take_all.new.clock.ticks in
     let entries = c.args.entries.now in
     subst (λ (ps : List Tagged). LeadsTo c.args.base.now.ticks c.args.pairs.now entries ticks ps) (sym c.in_ok-led.ensures.pairs)
-    (subst (λ (ts : List (List ℕ × ℕ)). LeadsTo ts c.args.pairs.now entries ticks c.take_all.new.pairs.elements) c.in_ok-clock.ensures.ok
-    (subst (λ (ps : List Tagged). LeadsTo c.in_ok-clock.clock.ticks ps entries ticks c.take_all.new.pairs.elements) same c.in_ok-take_all.ensures.leads))
+    (subst (λ (ts : List (List ℕ × ℕ)). LeadsTo ts c.args.pairs.now entries ticks c.take_all.new.pairs.pairs) c.in_ok-clock.ensures.ok
+    (subst (λ (ps : List Tagged). LeadsTo c.in_ok-clock.clock.ticks ps entries ticks c.take_all.new.pairs.pairs) same c.in_ok-take_all.ensures.leads))

@@ -3,7 +3,7 @@ use Rattle.tree_clock.specs.Lists.{IsAscending}
 use Rattle.mld_ops.specs.declared.tagged.Tagged.{Tagged}
 use Rattle.mld_ops.specs.Entry.{EntryValue}
 use Rattle.mld_ops.specs.Tagged.{tagged_cmp}
-use Rattle.snapshot.specs.SnapshotJoin.{CoversAll}
+use Rattle.suset.specs.SnapshotJoin.{CoversAll}
 use Rattle.mld_model.specs.Local.{LeadsTo}
 use Rattle.clone_plans.specs.Replays.{AreReadyEntries}
 use Rattle.clone_plans.proofs.ReadyLaws.{good_ready}
@@ -22,15 +22,15 @@ take_all-requires-clause-ready c =
 
 pub take_all-requires-clause-covered : goal.take_all-requires-clause-covered
 take_all-requires-clause-covered c =
-    let same : c.in_ok-pairs.pairs.elements ≡ c.args.head.now.tagged.items = c.in_ok-pairs.ensures ∙ c.in_ok-list.ensures ∙ c.as_slice.ensures.value in
+    let same : c.in_ok-pairs.pairs.pairs ≡ c.args.head.now.tagged.items = c.in_ok-pairs.ensures ∙ c.in_ok-list.ensures ∙ c.as_slice.ensures.value in
     subst (λ (ps : List Tagged). CoversAll c.in_ok-clock.clock.ticks ps) (sym same)
     (subst (λ (ts : List (List ℕ × ℕ)). CoversAll ts c.args.head.now.tagged.items) (sym c.in_ok-clock.ensures.ok) c.requires.head.base.covered)
 
 pub returns-clause-leads : goal.returns-clause-leads
 returns-clause-leads c =
-    let same : c.in_ok-pairs.pairs.elements ≡ c.args.head.now.tagged.items = c.in_ok-pairs.ensures ∙ c.in_ok-list.ensures ∙ c.as_slice.ensures.value in
+    let same : c.in_ok-pairs.pairs.pairs ≡ c.args.head.now.tagged.items = c.in_ok-pairs.ensures ∙ c.in_ok-list.ensures ∙ c.as_slice.ensures.value in
     let ticks = c.take_all.new.clock.ticks in
-    let pairs = c.take_all.new.pairs.elements in
+    let pairs = c.take_all.new.pairs.pairs in
     subst (λ (ts : List (List ℕ × ℕ)). LeadsTo ts c.args.head.now.tagged.items c.args.entries.items ticks pairs) c.in_ok-clock.ensures.ok
     (subst (λ (ps : List Tagged). LeadsTo c.in_ok-clock.clock.ticks ps c.args.entries.items ticks pairs) same
-    (subst (λ (es : List EntryValue). LeadsTo c.in_ok-clock.clock.ticks c.in_ok-pairs.pairs.elements es ticks pairs) c.as_slice-2.ensures.value c.in_ok-take_all.ensures.leads))
+    (subst (λ (es : List EntryValue). LeadsTo c.in_ok-clock.clock.ticks c.in_ok-pairs.pairs.pairs es ticks pairs) c.as_slice-2.ensures.value c.in_ok-take_all.ensures.leads))

@@ -16,19 +16,19 @@ loop-entry-preserved c =
     let entry = c.entry-item.result in
     let before = c.loop-entry.clock.ticks in
     let after = c.raise.new.self.ticks in
-    let pairs = c.loop-entry.pairs.elements in
+    let pairs = c.loop-entry.pairs.pairs in
     let cut = c.in_ok-cut.cut in
-    let new = c.apply.new.self.elements in
+    let new = c.apply.new.self.pairs in
     let raised = subst (λ (r : Range). RaisesTo before after (last_dot r)) c.range-range.ensures.value
     (subst (λ ts. RaisesTo ts after (last_dot c.range-range.result)) c.reserve.ensures.ticks c.raise.ensures.raised) in
     let leaves = cut_is_applied entry (ticks_of before entry.range.path) pairs cut.drops.items cut.adds.items new c.in_ok-cut.ensures
     (subst (λ (ps : List Tagged). Applies cut.drops.items cut.adds.items ps new) c.prepare.ensures.pairs c.apply.ensures) in
-    replaying_more c.args.clock.now.ticks c.args.pairs.now.elements c.args.entries.now c.loop-entry.entry-index before after
+    replaying_more c.args.clock.now.ticks c.args.pairs.now.pairs c.args.entries.now c.loop-entry.entry-index before after
     pairs new entry c.loop-entry-test.true c.entry-item.is c.loop-entry.invariant c.range-range.ensures.entry raised leaves
 
 pub returns-clause-leads : goal.returns-clause-leads
 returns-clause-leads c =
-    replaying_all c.args.clock.now.ticks c.args.pairs.now.elements c.args.entries.now c.loop-entry.entry-index c.loop-entry.clock.ticks c.loop-entry.pairs.elements
+    replaying_all c.args.clock.now.ticks c.args.pairs.now.pairs c.args.entries.now c.loop-entry.entry-index c.loop-entry.clock.ticks c.loop-entry.pairs.pairs
     (omega (arith, c.loop-entry-test.false)) c.loop-entry.invariant
 
 pub returns-clause-covered : goal.returns-clause-covered
