@@ -1,3 +1,4 @@
+pub mod StepLaws
 pub mod MeterLaws
 pub mod RefusedLaws
 pub mod Appended

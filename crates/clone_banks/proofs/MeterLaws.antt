@@ -7,7 +7,7 @@ use Rattle.journal_store.proofs.Reading.{metered_as}
 -- no call was made
 none_lowers : (arm : Arm) → LowersBy 0 arm arm
 none_lowers Unarmed = refl
-none_lowers (Armed number) = let e : number ≡ number - 0 = omega arith in (omega arith, ap Armed e)
+none_lowers (Armed number leave) = let e : number ≡ number - 0 = omega arith in (omega arith, ap (λ (k : ℕ). Armed k leave) e)
 none_lowers Caught = (refl, refl)
 
 pub Metered-none : {D F : Type 0} (meter : Meter) → ¬ F → Metered 0 meter meter D F

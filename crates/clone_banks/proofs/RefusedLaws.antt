@@ -1,51 +1,92 @@
--- Laws of what a refused append leaves, and of the fault that it tells.
+-- Laws of what a refused append leaves of a change that began before, and of the fault that it tells.
 use Rattle.std.proofs.Common.{◌≡◌, ◌∙◌, ℕ, Option, None, Some, Bool, true, false, Result, Ok, Err, IsOk, IsErrOf, refl, sym, ap, subst, inl, inr}
 use Rattle.mld_io.specs.Arm.{Meter, Metered}
-use Rattle.journal_store.specs.Calls.{StaysOrCloses}
+use Rattle.mld_io.specs.Disk.{Log}
+use Rattle.journal_store.specs.Closing.{WasCalled, MayTurn, GoesOn, ClosesFor, LeavesRefused, LeavesAppend}
 use Rattle.journal_store.specs.Standing.{JournalValue}
 use Rattle.journal_store.specs.declared.faults.AppendFault.{AppendFault}
 use Rattle.journal_store.specs.declared.faults.AppendFault.TheVariants as append
 use Rattle.journal_store.specs.declared.faults.Why.{Why}
 use Rattle.journal_store.specs.declared.faults.Why.TheVariants as why
-use Rattle.clone_banks.specs.Appending.{LeavesStopped, IsRefusedBy}
+use Rattle.journal_store.proofs.ClosingLaws.{called_trans}
 use Rattle.journal_store.proofs.Reading.{metered_as}
+use Rattle.clone_banks.specs.Beginning.{IsBegun, IsRefusedBy}
 
 pub none_some : {X : Type 0} {x : X} → ¬ (◌≡◌ {A = Option X} None (Some x))
 none_some e = cc
 
--- what an append that was refused leaves
-pub refused_leaves : {B : Type 0} (done : Bool) (old new : JournalValue B) (closed : Option Why) (fault : AppendFault) (told : Why) → old.closed ≡ None
-    → ((reason : Why) → fault ≡ append.Closed reason → old.closed ≡ Some reason)
-    → (fault ≡ append.Device → new.closed ≡ Some why.Device)
-    → (fault ≡ append.NoMemory → StaysOrCloses old new)
-    → IsRefusedBy fault told
-    → (done ≡ false → new.closed ≡ None → closed ≡ None)
-    → (done ≡ true → closed ≡ Some told)
-    → ((reason : Why) → new.closed ≡ Some reason → closed ≡ Some told)
-    → LeavesStopped done old new closed told
-refused_leaves done old new closed (append.Closed reason) told is_open shut device memory is stays by_done by_shut = absurd (none_some (sym is_open ∙ shut reason refl))
-refused_leaves done old new closed append.Device told is_open shut device memory is stays by_done by_shut =
-    subst (λ (w : Why). LeavesStopped done old new closed w) (sym is) (by_shut why.Device (device refl) ∙ ap Some is)
-refused_leaves done old new closed append.NoMemory told is_open shut device memory is stays by_done by_shut =
-    subst (λ (w : Why). LeavesStopped done old new closed w) (sym is) (by done stays by_done (memory refl))
-  where
-    by : (did : Bool) → (did ≡ false → new.closed ≡ None → closed ≡ None) → (did ≡ true → closed ≡ Some told) → StaysOrCloses old new → LeavesStopped did old new closed why.NoMemory
-    by true s d m = inr (d refl ∙ ap Some is)
-    by false s d (inl e) = inl (refl, e, s refl (ap (λ (j : JournalValue _). j.closed) e ∙ is_open))
-    by false s d (inr c) = inr (by_shut why.NoMemory c ∙ ap Some is)
+-- side and generation that stay are as they may be
+pub turned_on : {B : Type 0} (swaps : Bool) (first old new : JournalValue B) → MayTurn swaps first old → new.side ≡ old.side → new.generation ≡ old.generation → MayTurn swaps first new
+turned_on false first old new t side generation = (side ∙ t.0, generation ∙ t.1)
+turned_on true first old new (inl t) side generation = inl (side ∙ t.0, generation ∙ t.1)
+turned_on true first old new (inr t) side generation = inr (side ∙ t.0, generation ∙ t.1)
+
+module _ {B : Type 0} (log : B → Option Log) (meter : B → Meter) (swaps : Bool) (first : JournalValue B) where
+  -- a change that nothing was done for, and one behind an append that was done
+  pub begun_now : first.closed ≡ None → MayTurn swaps first first → IsBegun log meter swaps false first first
+  begun_now is_open turned = record { was = is_open; turned = turned; fresh = λ e. refl; called = λ e. absurd (let c : false ≡ true = e in cc) }
+
+  pub begun_more : (begun : Bool) (old new : JournalValue B) → IsBegun log meter swaps begun first old → GoesOn old new → WasCalled log meter old.banks new.banks → IsBegun log meter swaps true first new
+  begun_more begun old new is on called = record {
+    was = is.was;
+    turned = turned_on swaps first old new is.turned on.side on.generation;
+    fresh = λ e. absurd (let c : true ≡ false = e in cc);
+    called = λ e. by begun is.fresh is.called;
+  } where
+    by : (did : Bool) → (did ≡ false → old ≡ first) → (did ≡ true → WasCalled log meter first.banks old.banks) → WasCalled log meter first.banks new.banks
+    by true fresh called' = called_trans log meter first.banks old.banks new.banks (called' refl) called
+    by false fresh called' = subst (λ (j : JournalValue B). WasCalled log meter j.banks new.banks) (fresh refl) called
+
+  module _ (done : Bool) (old mid new : JournalValue B) (begun : IsBegun log meter swaps done first old) (is_open : old.closed ≡ None) (told : Why)
+      (fresh : done ≡ false → new ≡ mid) (shut : (reason : Why) → mid.closed ≡ Some reason → new ≡ mid)
+      (closes : done ≡ true → mid.closed ≡ None → new ≡ record mid { closed = Some told }) where
+    -- an append closed the journal
+    closed_by : (reason : Why) → (reason ≡ told) → ClosesFor log meter false reason old mid → ClosesFor log meter swaps reason first new
+    closed_by reason is c = subst (ClosesFor log meter swaps reason first) (sym (shut reason c.now)) (record {
+      was = begun.was;
+      now = c.now;
+      called = λ e. by done begun.fresh begun.called (c.called e);
+      turned = turned_on swaps first old mid begun.turned c.turned.0 c.turned.1;
+    }) where
+      by : (did : Bool) → (did ≡ false → old ≡ first) → (did ≡ true → WasCalled log meter first.banks old.banks) → WasCalled log meter old.banks mid.banks → WasCalled log meter first.banks mid.banks
+      by true fresh' called' called = called_trans log meter first.banks old.banks mid.banks (called' refl) called
+      by false fresh' called' called = subst (λ (j : JournalValue B). WasCalled log meter j.banks mid.banks) (fresh' refl) called
+
+    -- an append left it as it was
+    left_by : why.NoMemory ≡ told → mid ≡ old → LeavesRefused log meter swaps first new why.NoMemory
+    left_by is same = by done fresh closes begun.fresh begun.called where
+      by : (did : Bool) → (did ≡ false → new ≡ mid) → (did ≡ true → mid.closed ≡ None → new ≡ record mid { closed = Some told }) → (did ≡ false → old ≡ first) → (did ≡ true → WasCalled log meter first.banks old.banks)
+          → LeavesRefused log meter swaps first new why.NoMemory
+      by false fresh' closes' fresh'' called' = inl (fresh' refl ∙ same ∙ fresh'' refl)
+      by true fresh' closes' fresh'' called' =
+          let is_new : new ≡ record old { closed = Some told } =
+          closes' refl (ap (λ (j : JournalValue B). j.closed) same ∙ is_open) ∙ ap (λ (j : JournalValue B). record j { closed = Some told }) same in
+          inr (subst (ClosesFor log meter swaps why.NoMemory first) (sym is_new) (record {
+            was = begun.was;
+            now = ap Some (sym is);
+            called = λ e. called' refl;
+            turned = turned_on swaps first old (record old { closed = Some told }) begun.turned refl refl;
+          }))
+
+    -- what a refused append leaves of the change
+    pub refused_leaves : (fault : AppendFault) → LeavesAppend log meter old mid fault → IsRefusedBy fault told → LeavesRefused log meter swaps first new told
+    refused_leaves (append.Closed reason) left is = absurd (none_some (sym is_open ∙ left.0))
+    refused_leaves append.Device left is = subst (LeavesRefused log meter swaps first new) (sym is) (closed_by why.Device (sym is) left)
+    refused_leaves append.NoMemory (inl same) is = subst (LeavesRefused log meter swaps first new) (sym is) (left_by (sym is) same)
+    refused_leaves append.NoMemory (inr c) is = subst (LeavesRefused log meter swaps first new) (sym is) (inr (closed_by why.NoMemory (sym is) c))
 
 -- the cause that is told is the device's just where the fault is
-pub refused_device : (fault : AppendFault) (told : Why) → IsRefusedBy fault told → ((reason : Why) → ¬ (fault ≡ append.Closed reason)) → told ≡ why.Device → fault ≡ append.Device
+refused_device : (fault : AppendFault) (told : Why) → IsRefusedBy fault told → ((reason : Why) → ¬ (fault ≡ append.Closed reason)) → told ≡ why.Device → fault ≡ append.Device
 refused_device (append.Closed reason) told is not_closed e = absurd (not_closed reason refl)
 refused_device append.Device told is not_closed e = refl
 refused_device append.NoMemory told is not_closed e = absurd (let f : why.NoMemory ≡ why.Device = sym is ∙ e in cc)
 
-pub refused_failed : (fault : AppendFault) (told : Why) → IsRefusedBy fault told → fault ≡ append.Device → told ≡ why.Device
+refused_failed : (fault : AppendFault) (told : Why) → IsRefusedBy fault told → fault ≡ append.Device → told ≡ why.Device
 refused_failed (append.Closed reason) told is e = absurd cc
 refused_failed append.Device told is e = is
 refused_failed append.NoMemory told is e = absurd cc
 
-pub err_same : {T E : Type 0} {a b : E} → ◌≡◌ {A = Result T E} (Err a) (Err b) → a ≡ b
+err_same : {T E : Type 0} {a b : E} → ◌≡◌ {A = Result T E} (Err a) (Err b) → a ≡ b
 err_same e = cc
 
 pub ok_err : {T E : Type 0} {x : T} {e : E} → ¬ (◌≡◌ {A = Result T E} (Ok x) (Err e))

@@ -1,3 +1,4 @@
 pub mod Appending
 pub mod BankCalls
-pub mod Swapping
+pub mod Beginning
+pub mod KeptSteps

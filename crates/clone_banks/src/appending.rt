@@ -1,161 +1,182 @@
 //! Appends to the journal on a clone's banks, and the making of one.
-ghost use Rattle.std.specs.Prelude.{◌≡◌, ◌*◌, ◌∷◌, [], false, true, None, Some, IfOk, IfErr, IsOk, IsErrOf, IsTrue, OnOk, length};
+ghost use Rattle.std.specs.Prelude.{◌≡◌, ◌*◌, ◌∷◌, [], Bool, false, true, None, Some, IfOk, IfErr, IsOk, IsErrOf, IsTrue, OnOk, length};
 ghost use Rattle.std.specs.List.{AllByRecursion};
-ghost use Rattle.iri_rules.specs.Domain.{is_domain};
 ghost use Rattle.mld_io.specs.Arm.{Metered};
-ghost use Rattle.mld_ops.specs.Messages.{IsGoodSnapshot};
-ghost use Rattle.op_codec.specs.Stored.{IsShort, IsShortEntry, IsShortSnapshot};
-ghost use Rattle.rdf_terms.specs.Order.{iri_cmp};
-ghost use Rattle.tree_clock.specs.Lists.{IsAscending};
+ghost use Rattle.op_codec.specs.Stored.{IsShortEntry};
 ghost use Rattle.journal_sides.specs.Heads.{head_value};
 ghost use Rattle.journal_sides.specs.Pairs.{Kept, with_entry, with_fork};
-ghost use Rattle.journal_store.specs.Calls.{made, made_banks, FailsToMake};
+ghost use Rattle.journal_store.specs.Calls.{KeptBy, made_banks, FailsToMake};
+ghost use Rattle.journal_store.specs.Closing.{StaysTold, GoesOn, IsAppended, IsMade, LeavesRefused, LeavesUnmade};
+ghost use Rattle.journal_store.specs.Standing.{JournalValue, KeepsNow};
 ghost use Rattle.journal_store.specs.declared.faults.Why.{Why};
-ghost use Rattle.clone_banks.specs.Appending.{KeepsIfTold, with_entries, MayAppendAll, MayForkNow, LeavesOpen, LeavesStopped, IsRefusedBy, AreShortParts, BeginsJournal};
+ghost use Rattle.clone_banks.specs.Appending.{with_entries, MayAppendAll, MayForkNow, IsHeadInOrder, AreShortParts};
 ghost use Rattle.clone_banks.specs.BankCalls.{append_calls, create_calls};
+ghost use Rattle.clone_banks.specs.Beginning.{IsBegun, IsRefusedBy};
+ghost use Rattle.clone_banks.specs.KeptSteps.{Appended, Forked, LeavesSteps, LeavesMade, appends};
 
 use journal_store::{AppendFault, Blank, Head, Journal, MakeFault, Why};
 use mld_io::Banks;
 use mld_ops::Entry;
 use op_codec::{is_short_clock, is_short_entry, is_short_list};
-use std::alloc::{AllocError, Global};
+use std::alloc::Global;
 
-/// Appends entries in order, to an open journal behind whose entries they may stand, where earlier calls of the device were done for the
-/// same message or weren't. Where that fails behind a call of the device, the clone is closed.
-pub fn append_entries<B: Banks>(
-    alloc: Global,
+/// Appends entries in order, each in four calls of the device, to an open journal behind whose entries they may stand.
+///
+/// # Errors
+///
+/// `Device` where the device failed, and `NoMemory`. Each closes the journal, but `NoMemory` before the first call of the
+/// device, which leaves it as it was.
+pub fn append_entries<B: Banks>(journal: &mut Journal<B>, entries: &[Entry]) -> Result<(), Why>
+    requires { MayAppendAll B.log journal.old entries.now }
+    ensures kept { (kept : Kept) → KeptBy (B.log journal.old.banks) journal.old.closed kept
+        → OnOk result (KeepsNow (with_entries entries.now kept) (B.log journal.new.banks)) }
+    ensures moments { LeavesSteps B.log B.meter journal.old journal.new (appends entries.now) }
+    ensures ok { OnOk result (GoesOn journal.old journal.new) }
+    ensures err { IfErr result (LeavesRefused B.log B.meter false journal.old journal.new) }
+    ensures told { StaysTold (B.log journal.old.banks) (B.log journal.new.banks) }
+    ensures meter { Metered (append_calls * length entries.now) (B.meter journal.old.banks) (B.meter journal.new.banks) (IsOk result) (IsErrOf result Why.Device) }
+{
+    if !are_short(entries) {
+        return Err(Why::NoMemory);
+    }
+    append_short(journal, false, entries)
+}
+
+/// Appends entries of short lists in order, where calls of the device were done before for the same change or weren't.
+pub(crate) fn append_short<B: Banks>(
     journal: &mut Journal<B>,
-    closed: &mut Option<Why>,
     done: bool,
     entries: &[Entry],
 ) -> Result<(), Why>
-    requires opened { closed.old ≡ None }
-    requires journal { journal.old.closed ≡ None }
-    requires follow { MayAppendAll (B.log journal.old.banks) entries.now }
-    ensures kept { (kept : Kept) → KeepsIfTold kept (B.log journal.old.banks)
-        → OnOk result (KeepsIfTold (with_entries entries.now kept) (B.log journal.new.banks)) }
-    ensures ok { OnOk result (LeavesOpen journal.new closed.new) }
-    ensures err { IfErr result (LeavesStopped done journal.old journal.new closed.new) }
-    ensures side { journal.new.side ≡ journal.old.side }
-    ensures generation { journal.new.generation ≡ journal.old.generation }
+    requires follow { MayAppendAll B.log journal.old entries.now }
+    requires short { AllByRecursion IsShortEntry entries.now }
+    ensures kept { (kept : Kept) → KeptBy (B.log journal.old.banks) journal.old.closed kept
+        → OnOk result (KeepsNow (with_entries entries.now kept) (B.log journal.new.banks)) }
+    ensures moments { LeavesSteps B.log B.meter journal.old journal.new (appends entries.now) }
+    ensures ok { OnOk result (GoesOn journal.old journal.new) }
+    ensures err { (first : JournalValue B) (swaps : Bool) → IsBegun B.log B.meter swaps done first journal.old
+        → IfErr result (LeavesRefused B.log B.meter swaps first journal.new) }
+    ensures told { StaysTold (B.log journal.old.banks) (B.log journal.new.banks) }
     ensures meter { Metered (append_calls * length entries.now) (B.meter journal.old.banks) (B.meter journal.new.banks) (IsOk result) (IsErrOf result Why.Device) }
 {
-    if !are_short(alloc, entries) {
-        return Err(refused(journal, closed, done, AppendFault::NoMemory));
-    }
     let mut begun = done;
     for entry in entries {
-        append_one(alloc, journal, closed, begun, entry)?;
+        append_one(journal, begun, entry)?;
         begun = true;
     }
     Ok(())
 }
 
-/// Whether the lists of each entry have counts of four bytes; not where there is no memory to tell.
-pub(crate) fn are_short(alloc: Global, entries: &[Entry]) -> bool
+/// Appends an entry of short lists, where calls of the device were done before for the same change or weren't.
+fn append_one<B: Banks>(journal: &mut Journal<B>, done: bool, entry: &Entry) -> Result<(), Why>
+    requires follow { MayAppendAll B.log journal.old (entry.now ∷ []) }
+    requires short { IsShortEntry entry.now }
+    ensures kept { (kept : Kept) → KeptBy (B.log journal.old.banks) journal.old.closed kept
+        → OnOk result (KeepsNow (with_entry entry.now kept) (B.log journal.new.banks)) }
+    ensures moments { LeavesSteps B.log B.meter journal.old journal.new (Appended entry.now ∷ []) }
+    ensures ok { OnOk result (IsAppended B.log B.meter journal.old journal.new) }
+    ensures err { (first : JournalValue B) (swaps : Bool) → IsBegun B.log B.meter swaps done first journal.old
+        → IfErr result (LeavesRefused B.log B.meter swaps first journal.new) }
+    ensures told { StaysTold (B.log journal.old.banks) (B.log journal.new.banks) }
+    ensures meter { Metered append_calls (B.meter journal.old.banks) (B.meter journal.new.banks) (IsOk result) (IsErrOf result Why.Device) }
+{
+    match journal.append_entry(entry) {
+        Ok(()) => Ok(()),
+        Err(fault) => Err(refused(journal, done, fault)),
+    }
+}
+
+/// Why an append was refused. It closes a journal that is open where calls of the device were done before for the same change.
+fn refused<B: Banks>(journal: &mut Journal<B>, done: bool, fault: AppendFault) -> Why
+    ensures why { IsRefusedBy fault result }
+    ensures banks { journal.new.banks ≡ journal.old.banks }
+    ensures fresh { done ≡ false → journal.new ≡ journal.old }
+    ensures closed { (why : Why) → journal.old.closed ≡ Some why → journal.new ≡ journal.old }
+    ensures shut { done ≡ true → journal.old.closed ≡ None → journal.new ≡ record journal.old { closed = Some result } }
+{
+    let why = reason(fault);
+    if !done {
+        return why;
+    }
+    if journal.is_closed().is_some() {
+        return why;
+    }
+    journal.close(why);
+    why
+}
+
+/// Why an append was refused.
+fn reason(fault: AppendFault) -> Why
+    ensures { IsRefusedBy fault result }
+{
+    match fault {
+        AppendFault::Closed { why } => why,
+        AppendFault::Device => Why::Device,
+        AppendFault::NoMemory => Why::NoMemory,
+    }
+}
+
+/// Whether the lists of each entry have counts of four bytes.
+pub(crate) fn are_short(entries: &[Entry]) -> bool
     ensures { IsTrue result → AllByRecursion IsShortEntry entries.now }
 {
     for entry in entries {
-        let Ok(true) = is_short_entry(alloc, entry) else {
+        if !is_short_entry(entry) {
             return false;
-        };
+        }
     }
     true
 }
 
-/// Appends an entry of such lists, where earlier calls of the device were done for the same message or weren't.
-fn append_one<B: Banks>(
-    alloc: Global,
-    journal: &mut Journal<B>,
-    closed: &mut Option<Why>,
-    done: bool,
-    entry: &Entry,
-) -> Result<(), Why>
-    requires opened { closed.old ≡ None }
-    requires journal { journal.old.closed ≡ None }
-    requires follows { MayAppendAll (B.log journal.old.banks) (entry.now ∷ []) }
-    requires short { IsShortEntry entry.now }
-    ensures kept { (kept : Kept) → KeepsIfTold kept (B.log journal.old.banks)
-        → OnOk result (KeepsIfTold (with_entry entry.now kept) (B.log journal.new.banks)) }
-    ensures ok { OnOk result (LeavesOpen journal.new closed.new) }
-    ensures err { IfErr result (LeavesStopped done journal.old journal.new closed.new) }
-    ensures side { journal.new.side ≡ journal.old.side }
-    ensures generation { journal.new.generation ≡ journal.old.generation }
-    ensures meter { Metered append_calls (B.meter journal.old.banks) (B.meter journal.new.banks) (IsOk result) (IsErrOf result Why.Device) }
-{
-    match journal.append_entry(alloc, entry) {
-        Ok(()) => Ok(()),
-        Err(fault) => Err(refused(journal, closed, done, fault)),
-    }
-}
-
-/// Appends a fork to an open journal whose path has room for it. Where that fails behind a call of the device, the clone is closed.
-pub fn append_fork<B: Banks>(journal: &mut Journal<B>, closed: &mut Option<Why>) -> Result<(), Why>
-    requires opened { closed.old ≡ None }
-    requires journal { journal.old.closed ≡ None }
-    requires follows { MayForkNow (B.log journal.old.banks) }
-    ensures kept { (kept : Kept) → KeepsIfTold kept (B.log journal.old.banks)
-        → OnOk result (KeepsIfTold (with_fork kept) (B.log journal.new.banks)) }
-    ensures ok { OnOk result (LeavesOpen journal.new closed.new) }
-    ensures err { IfErr result (LeavesStopped false journal.old journal.new closed.new) }
-    ensures side { journal.new.side ≡ journal.old.side }
-    ensures generation { journal.new.generation ≡ journal.old.generation }
+/// Appends a fork, in four calls of the device, to an open journal whose path has room for it. It takes no memory.
+///
+/// # Errors
+///
+/// As those of `append_entries`.
+pub fn append_fork<B: Banks>(journal: &mut Journal<B>) -> Result<(), Why>
+    requires { MayForkNow B.log journal.old }
+    ensures kept { (kept : Kept) → KeptBy (B.log journal.old.banks) journal.old.closed kept
+        → OnOk result (KeepsNow (with_fork kept) (B.log journal.new.banks)) }
+    ensures moments { LeavesSteps B.log B.meter journal.old journal.new (Forked ∷ []) }
+    ensures ok { OnOk result (GoesOn journal.old journal.new) }
+    ensures err { IfErr result (LeavesRefused B.log B.meter false journal.old journal.new) }
+    ensures told { StaysTold (B.log journal.old.banks) (B.log journal.new.banks) }
     ensures meter { Metered append_calls (B.meter journal.old.banks) (B.meter journal.new.banks) (IsOk result) (IsErrOf result Why.Device) }
 {
     match journal.append_fork() {
         Ok(()) => Ok(()),
-        Err(fault) => Err(refused(journal, closed, false, fault)),
+        Err(fault) => Err(reason(fault)),
     }
 }
 
-/// Why an append was refused; it closes the clone where a call of the device was done, in this append or in one before.
-fn refused<B: Banks>(
-    journal: &Journal<B>,
-    closed: &mut Option<Why>,
-    done: bool,
-    fault: AppendFault,
-) -> Why
-    ensures why { IsRefusedBy fault result }
-    ensures stays { done ≡ false → journal.now.closed ≡ None → closed.new ≡ closed.old }
-    ensures done { done ≡ true → closed.new ≡ Some result }
-    ensures shut { (why : Why) → journal.now.closed ≡ Some why → closed.new ≡ Some result }
-{
-    let why = match fault {
-        AppendFault::Closed { why } => why,
-        AppendFault::Device => Why::Device,
-        AppendFault::NoMemory => Why::NoMemory,
-    };
-    if done || journal.is_closed().is_some() {
-        *closed = Some(why);
-    }
-    why
-}
-
-/// Makes the journal of a head, whose domain is one, whose properties ascend and whose base is good.
+/// Makes the journal of a head that is in order, in six calls of the device.
+///
+/// # Errors
+///
+/// `Device` where the device failed, and `NoMemory`. The banks are given back.
 pub fn create<B: Banks>(
     alloc: Global,
     blank: Blank<B>,
     head: &Head,
 ) -> Result<Journal<B>, (MakeFault, B)>
-    requires name { IsTrue (is_domain head.now.domain) }
-    requires ascending { IsAscending iri_cmp head.now.props.items }
-    requires base { IsGoodSnapshot (head_value head.now).base }
-    ensures begins { IfOk result (λ journal. BeginsJournal (head_value head.now) journal (B.log journal.banks)) }
+    requires { IsHeadInOrder (head_value head.now) }
+    ensures ok { IfOk result (IsMade B.log (head_value head.now) blank) }
+    ensures moments { LeavesMade B.log B.meter (head_value head.now) blank (made_banks result) }
+    ensures err { IfErr result (LeavesUnmade B.log B.meter (head_value head.now) blank) }
+    ensures told { StaysTold (B.log blank) (B.log (made_banks result)) }
     ensures meter { Metered create_calls (B.meter blank) (B.meter (made_banks result)) (IsOk result) (FailsToMake result) }
 {
-    match is_short_head(alloc, head) {
-        Ok(true) => Journal::create(alloc, blank, head),
-        Ok(false) | Err(AllocError) => Err((MakeFault::NoMemory, blank.into_banks())),
+    if !is_short_head(head) {
+        return Err((MakeFault::NoMemory, blank.into_banks()));
     }
+    Journal::create(alloc, blank, head)
 }
 
 /// Whether the lists of a head have fewer than 2^32 items, and its texts fewer than 2^32 bytes.
-pub(crate) fn is_short_head(alloc: Global, head: &Head) -> Result<bool, AllocError>
-    ensures { IfOk result (λ short. IsTrue short → AreShortParts (head_value head.now)) }
+pub(crate) fn is_short_head(head: &Head) -> bool
+    ensures { IsTrue result → AreShortParts (head_value head.now) }
 {
-    Ok(
-        u32::try_from(head.props.len()).is_ok()
-            && is_short_clock(alloc, &head.base)?
-            && is_short_list(alloc, head.tagged.as_slice())?,
-    )
+    u32::try_from(head.props.len()).is_ok()
+        && is_short_clock(&head.base)
+        && is_short_list(head.tagged.as_slice())
 }

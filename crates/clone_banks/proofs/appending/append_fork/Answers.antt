@@ -1,19 +1,17 @@
-use Rattle.std.proofs.Common.{◌∙◌, false, Err, sym, ap}
-use Rattle.clone_banks.proofs.RefusedLaws.{none_some, refused_leaves, refused_metered}
+-- A fork is appended: what a crash leaves.
+use Rattle.std.proofs.Common.{refl}
+use Rattle.journal_sides.specs.Pairs.{Keeps}
+use Rattle.journal_store.specs.Crashes.{gate_behind}
+use Rattle.clone_banks.specs.KeptSteps.{Forked}
+use Rattle.clone_banks.proofs.StepLaws.{some_one}
 use Rattle.clone_banks.proofs.appending.append_fork.Goals as goal
 
-pub returns-in-Err-clause-err : goal.returns-in-Err-clause-err
-returns-in-Err-clause-err g c =
-    refused_leaves false c.args.journal.now c.append_fork.new.self c.refused.new.closed c.in-Err.fault c.refused.result c.requires.journal
-    (λ reason e. (c.in-Err.ensures.closed reason).0 (ap Err e))
-    (λ e. c.in-Err.ensures.device (ap Err e))
-    (λ e. c.in-Err.ensures.no_memory (ap Err e))
-    c.refused.ensures.why
-    (λ first none. c.refused.ensures.stays first none ∙ c.requires.opened)
-    c.refused.ensures.done c.refused.ensures.shut
+pub returns-in-Ok-clause-moments : goal.returns-in-Ok-clause-moments
+returns-in-Ok-clause-moments g c l kept e k =
+    some_one l (g.B.Banks.log c.append_fork.new.self.banks) (Keeps kept) Forked (g.B.Banks.meter c.args.journal.now.banks).arm (g.B.Banks.meter c.append_fork.new.self.banks).arm
+    (gate_behind c.args.journal.now.side l) refl (c.append_fork.ensures.moments l kept e k) c.append_fork.ensures.meter.lowered
 
-pub returns-in-Err-clause-meter : goal.returns-in-Err-clause-meter
-returns-in-Err-clause-meter g c =
-    refused_metered 4 (g.B.Banks.meter c.args.journal.now.banks) (g.B.Banks.meter c.append_fork.new.self.banks) c.in-Err.fault c.refused.result c.refused.ensures.why
-    (λ reason e. none_some (sym c.requires.journal ∙ (c.in-Err.ensures.closed reason).0 (ap Err e)))
-    c.in-Err.ensures.meter
+pub returns-in-Err-clause-moments : goal.returns-in-Err-clause-moments
+returns-in-Err-clause-moments g c l kept e k =
+    some_one l (g.B.Banks.log c.append_fork.new.self.banks) (Keeps kept) Forked (g.B.Banks.meter c.args.journal.now.banks).arm (g.B.Banks.meter c.append_fork.new.self.banks).arm
+    (gate_behind c.args.journal.now.side l) refl (c.append_fork.ensures.moments l kept e k) c.append_fork.ensures.meter.lowered
