@@ -1,28 +1,15 @@
 -- Journals that are truncated.
-use Rattle.std.proofs.Common.{ℕ, zero, suc, ◌-◌, ◌<◌, ◌≤◌, List, [], ◌∷◌, length, take, drop, inl, inr, refl, arith}
-use Rattle.std.proofs.lemmas.Bool.{cases_lt}
+use Rattle.std.proofs.Common.{ℕ, zero, suc, ◌-◌, List, [], ◌∷◌, length, take, drop, refl}
 use Rattle.tree_clock.specs.Clock.{IsClock}
 use Rattle.mld_ops.specs.declared.tagged.Tagged.{Tagged}
 use Rattle.mld_ops.specs.Entry.{EntryValue}
 use Rattle.mld_ops.specs.Ready.{last_dot}
-use Rattle.snapshot.specs.SnapshotJoin.{CoversAll}
+use Rattle.suset.specs.SnapshotJoin.{CoversAll}
 use Rattle.journal_sides.specs.Records.{raised_to}
 use Rattle.mld_model.specs.Local.{LocalClone, IsLocal, LeadsTo, LocallyTruncates}
 use Rattle.mld_model.proofs.TruncatedStands.{truncated_local}
 use Rattle.clone_plans.specs.Replays.{AreReadyEntries}
 use Rattle.clone_plans.proofs.ReadyLaws.{leads_ready}
-use Rattle.clone_banks.specs.BankCalls.{swap_calls}
-use Rattle.clone_core.specs.Keeping.{CutCalls}
-
-none_both : (keep count : ℕ) → keep < count → ¬ (count ≤ keep)
-none_both keep count more less = omega (arith, more, less)
-
--- how many calls of the device a truncation makes
-pub cut_calls : (entries : List EntryValue) (keep : ℕ) → (calls : ℕ) × CutCalls entries keep calls
-cut_calls entries keep = elim (cases_lt keep (length entries)) [
-  | inl more ↦ (swap_calls, record { swaps = λ _. refl; stays = λ less. absurd (none_both keep (length entries) more less) })
-  | inr less ↦ (0, record { swaps = λ more. absurd (none_both keep (length entries) more less); stays = λ _. refl })
-]
 
 -- the first of entries that are ready one after another are, too
 ready_front : (count : ℕ) (ticks : List (List ℕ × ℕ)) (entries : List EntryValue) → AreReadyEntries ticks entries → AreReadyEntries ticks (take count entries)

@@ -3,8 +3,9 @@ pub mod Taking
 pub mod Joining
 pub mod AppendLaws
 pub mod StopLaws
+pub mod DurableLaws
 pub mod Begun
-pub mod Removing
+pub mod Updating
 pub mod Mounting
 pub mod FusedRuns
 pub mod Sending

@@ -1,20 +1,20 @@
 -- What a mount finds is the clone that the banks keep.
-use Rattle.std.proofs.Common.{◌≡◌, ◌∙◌, ℕ, List, Option, None, Some, refl, sym, ap, subst}
+use Rattle.std.proofs.Common.{◌≡◌, ◌∙◌, ℕ, List, Option, None, Some, sym, ap, subst}
 use Rattle.mld_io.specs.Disk.{Log, seen, IsSettled}
 use Rattle.mld_io.specs.declared.banks.Side.{Side}
 use Rattle.mld_ops.specs.Entry.{EntryValue}
 use Rattle.journal_sides.specs.Heads.{HeadValue}
 use Rattle.journal_sides.specs.Pairs.{Kept, Keeps, read_banks}
 use Rattle.journal_store.specs.Mounting.{IsSynced}
-use Rattle.journal_store.specs.declared.faults.Why.{Why}
+use Rattle.journal_store.specs.Calls.{made as made_kept}
+use Rattle.journal_store.specs.Closing.{StaysTold, IsMade}
+use Rattle.journal_store.specs.Standing.{JournalValue, KeepsJust}
 use Rattle.mld_model.specs.Local.{LocalClone}
 use Rattle.clone_core.specs.Banked.{kept_as, IsOnBanks}
 use Rattle.clone_core.specs.Beginning.{found_clone}
 use Rattle.clone_plans.specs.declared.replays.Replayed.{Replayed}
-use Rattle.clone_banks.proofs.RefusedLaws.{none_some}
-
-some_same : {X : Type 0} {x y : X} → ◌≡◌ {A = Option X} (Some x) (Some y) → x ≡ y
-some_same e = cc
+use Rattle.clone_core.specs.Parts.{BeginsJournal}
+use Rattle.clone_core.proofs.AppendLaws.{some_same, told_before}
 
 -- what was found, as what banks keep of the clone
 pub found_kept : (side : Side) (generation : ℕ) (head : HeadValue) (entries : List EntryValue) (path : List ℕ) (replayed : Replayed) → path ≡ head.path → replayed.entries.items ≡ entries
@@ -22,27 +22,36 @@ pub found_kept : (side : Side) (generation : ℕ) (head : HeadValue) (entries : 
 found_kept side generation head entries path replayed at are = λ i. record {
   side = side;
   generation = generation;
-  head = record { id = head.id; domain = head.domain; props = head.props; path = sym at i; base = head.base };
+  head = record { id = head.id; domain = head.domain; properties = head.properties; path = sym at i; base = head.base };
   entries = sym are i;
 }
 
 -- the banks of a journal that was found keep the clone
-pub mounted_on_banks : (before now : Option Log) (journal : Option Why) (side : Side) (generation : ℕ) (clone : LocalClone) (kept : Kept) → journal ≡ None
+pub mounted_on_banks : (before now : Option Log) (side : Side) (generation : ℕ) (clone : LocalClone) (kept : Kept)
     → ((l : Log) → before ≡ Some l → read_banks (seen l) ≡ Keeps kept)
     → ((l : Log) → before ≡ Some l → IsSynced (Unit {0}) l now)
-    → (before ≡ None → now ≡ None) → kept ≡ kept_as side generation clone → IsOnBanks now journal None side generation clone
-mounted_on_banks None now journal side generation clone kept is_open tells synced untold same = record {
-  opened = λ e. is_open;
-  keeps = λ log told not_closed. absurd (none_some (sym (untold refl) ∙ told));
+    → StaysTold before now → kept ≡ kept_as side generation clone → IsOnBanks now None side generation clone
+mounted_on_banks before now side generation clone kept tells synced told same = record {
+  keeps = λ is_open log is.
+      let was = told_before before now told log is in
+      let s = synced was.0 was.1 in
+      let at : s.log ≡ log = some_same (sym s.now_is ∙ is) in
+      record {
+        reads = ap (λ (x : Log). read_banks (seen x)) (sym at) ∙ (ap read_banks s.same ∙ (tells was.0 was.1 ∙ ap Keeps same));
+        settled = subst (λ (x : Log). IsSettled x) at (s.settled tt);
+      };
 }
-mounted_on_banks (Some l) now journal side generation clone kept is_open tells synced untold same =
-    let s = synced l refl in
-    record {
-      opened = λ e. is_open;
-      keeps = λ log told not_closed.
-          let at : s.log ≡ log = some_same (sym s.now_is ∙ told) in
-          record {
-            reads = ap (λ (x : Log). read_banks (seen x)) (sym at) ∙ (ap read_banks s.same ∙ (tells l refl ∙ ap Keeps same));
-            settled = subst (λ (x : Log). IsSettled x) at (s.settled tt);
-          };
-    }
+
+-- a journal that was just made of a head
+pub begins_made : {B : Type 0} (log : B → Option Log) (head : HeadValue) (blank : B) (journal : JournalValue B) → IsMade log head blank journal → StaysTold (log blank) (log journal.banks)
+    → BeginsJournal head journal (log journal.banks)
+begins_made log head blank journal made told = record {
+  opened = made.opened;
+  side = made.side;
+  generation = made.generation;
+  keeps = λ l is.
+      let was = told_before (log blank) (log journal.banks) told l is in
+      let kept = made.kept was.0 was.1 in
+      let at : kept.log ≡ l = some_same (sym kept.now_is ∙ is) in
+      subst (λ (x : Log). KeepsJust (made_kept head) x) at kept.keeps;
+}

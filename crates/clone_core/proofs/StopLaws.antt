@@ -1,55 +1,81 @@
--- Laws of how many calls of the device a clone makes, where its appends are done and where they are refused.
-use Rattle.std.proofs.Common.{◌≡◌, ℕ, Result, Ok, Err, IsOk, IsErrOf, refl, sym, subst}
-use Rattle.mld_io.specs.Arm.{Meter, Metered}
-use Rattle.mld_io.proofs.ArmLaws.{Metered-refused}
+-- Laws of what a clone's calls leave that were refused.
+use Rattle.std.proofs.Common.{◌≡◌, ◌∙◌, ◌+◌, ◌⊎◌, Bool, true, false, Option, None, Some, inl, inr, refl, sym, ap, subst}
+use Rattle.mld_io.specs.Arm.{Meter}
+use Rattle.mld_io.specs.Disk.{Log}
+use Rattle.journal_store.specs.Closing.{ClosesFor, MayTurn, LeavesRefused, LeavesSwap}
+use Rattle.journal_store.specs.Standing.{JournalValue}
+use Rattle.journal_store.specs.declared.faults.SwapFault.{SwapFault}
+use Rattle.journal_store.specs.declared.faults.SwapFault.TheVariants as swap
 use Rattle.journal_store.specs.declared.faults.Why.{Why}
 use Rattle.journal_store.specs.declared.faults.Why.TheVariants as why
-use Rattle.clone_banks.specs.BankCalls.{append_calls}
-use Rattle.clone_banks.proofs.MeterLaws.{Metered-none}
-use Rattle.journal_store.proofs.Reading.{metered_as}
-use Rattle.clone_banks.proofs.RefusedLaws.{ok_err}
-use Rattle.clone_core.specs.CloneFaults.{receive_fault_of}
-use Rattle.clone_core.specs.Closing.{UpdateCalls, ReceiveCalls}
-use Rattle.clone_core.specs.declared.answers.Done.{Done}
-use Rattle.clone_core.specs.declared.answers.Got.{Got}
-use Rattle.clone_core.specs.declared.faults.ReceiveFault.{ReceiveFault}
-use Rattle.clone_core.specs.declared.faults.ReceiveFault.TheVariants as receive
-use Rattle.clone_core.specs.declared.faults.UpdateFault.{UpdateFault}
-use Rattle.clone_core.specs.declared.faults.UpdateFault.TheVariants as update
-use Rattle.causal_buffer.specs.declared.faults.HeldFault.{HeldFault}
-use Rattle.causal_buffer.specs.declared.faults.HeldFault.TheVariants as held
-use Rattle.clone_core.specs.CloneFaults.{fault_of_held}
+use Rattle.mld_model.specs.Local.{LocalClone}
+use Rattle.clone_core.specs.Banked.{BankedClone}
+use Rattle.clone_core.specs.CloneFaults.{update_fault_of, receive_fault_of, receive_fault_of_swap, keep_fault_of}
+use Rattle.clone_core.specs.Closing.{Shuts, LeavesClone, update_stop, receive_stop}
+use Rattle.clone_core.specs.Parts.{StopsClone, StopsMerge, StopsKeep}
+use Rattle.clone_banks.proofs.RefusedLaws.{none_some}
 
--- a meter that was the same before
-moved : {D F : Type 0} (n : ℕ) (had before now : Meter) → had ≡ before → Metered n had now D F → Metered n before now D F
-moved {D = D} {F = F} n had before now same h = subst (λ k. Metered n k now D F) same h
+-- a clone on its journal
+abbrev pub banked : {B : Type 0} → LocalClone → JournalValue B → BankedClone B
+banked local journal = record { local = local; generation = journal.generation; closed = journal.closed; banks = journal.banks }
 
--- the calls of a message whose append was refused, and of one whose appends were done
-module _ {U : Type 0} (n : ℕ) (had before now : Meter) (same : had ≡ before) where
-  pub stopped_calls : (told : Why) → Metered n had now (IsOk {T = U} {E = Why} (Err told)) (IsErrOf {T = U} (Err told) why.Device)
-      → (calls : ℕ) × ReceiveCalls (Err (receive_fault_of told)) calls
-      × Metered calls before now (IsOk {T = Got} {E = ReceiveFault} (Err (receive_fault_of told))) (IsErrOf {T = Got} (Err (receive_fault_of told)) receive.Device)
-  stopped_calls why.Device m = (n, tt, moved n had before now same (metered_as n had now (λ e. absurd cc) (λ e. refl) (λ e. refl) m))
-  stopped_calls why.NoMemory m = (n, tt, moved n had before now same (metered_as n had now (λ e. absurd cc) (λ e. absurd cc) (λ e. absurd cc) m))
+-- a generation that stays, or turns, where the call may have swapped
+turned : {B : Type 0} {Swaps : Type 0} (swaps : Bool) (before behind : JournalValue B) → (swaps ≡ true → Swaps) → MayTurn swaps before behind
+    → (behind.generation ≡ before.generation) ⊎ (Swaps × (behind.generation ≡ before.generation + 1))
+turned false before behind may h = inl h.1
+turned true before behind may (inl h) = inl h.1
+turned true before behind may (inr h) = inr (may refl, h.1)
 
-  pub done_calls : (x : U) (got : Got) → Metered n had now (IsOk {T = U} {E = Why} (Ok x)) (IsErrOf {T = U} (Ok x) why.Device)
-      → Metered n before now (IsOk {T = Got} {E = ReceiveFault} (Ok got)) (IsErrOf {T = Got} (Ok got) receive.Device)
-  done_calls x got m =
-      metered_as n before now (λ d. refl) (λ e. absurd (ok_err e)) (λ e. absurd (ok_err e))
-      (subst (λ k. Metered n k now (IsOk {T = U} {E = Why} (Ok x)) (IsErrOf {T = U} (Ok x) why.Device)) same m)
+module _ {B : Type 0} (log : B → Option Log) (meter : B → Meter) {Due Swaps : Type 0} (due : Due) (swaps : Bool) (may : swaps ≡ true → Swaps) (before behind : JournalValue B)
+    (local : LocalClone) (old : BankedClone B) (same : banked local before ≡ old) where
+  shuts : (reason : Why) → ClosesFor log meter swaps reason before behind → Shuts log meter Due Swaps old reason (banked local behind)
+  shuts reason h =
+      subst (λ (clone : BankedClone B). Shuts log meter Due Swaps clone reason (banked local behind)) same
+      (record { was = h.was; due = due; now = h.now; called = h.called; local = refl; generation = turned swaps before behind may h.turned })
 
--- ---- calls that found no memory before any call of the device
+  stays : behind ≡ before → banked local behind ≡ old
+  stays j = ap (banked local) j ∙ same
 
-pub no_update_calls : (meter : Meter) (result : Result Done UpdateFault) → result ≡ Err update.NoMemory
-    → (calls : ℕ) × UpdateCalls result calls × Metered calls meter meter (IsOk result) (IsErrOf result update.Device)
-no_update_calls meter result is = rw (is) (append_calls, refl, Metered-refused append_calls meter (λ d. absurd cc) (λ f. absurd cc))
+  -- appends were refused
+  pub refused_leaves : (told : Why) → LeavesRefused log meter swaps before behind told → LeavesClone log meter Due Swaps old (banked local behind) (Some told)
+  refused_leaves why.Device h = shuts why.Device h
+  refused_leaves why.NoMemory (inl j) = inl (stays j)
+  refused_leaves why.NoMemory (inr h) = inr (shuts why.NoMemory h)
 
--- and an entry that could not be held
-pub no_hold_calls : (meter now : Meter) (fault : HeldFault) (result : Result Got ReceiveFault) → now ≡ meter → result ≡ Err (fault_of_held fault)
-    → (calls : ℕ) × ReceiveCalls result calls × Metered calls meter now (IsOk result) (IsErrOf result receive.Device)
-no_hold_calls meter now held.Full result same is =
-    subst (λ (k : Meter). (calls : ℕ) × ReceiveCalls result calls × Metered calls meter k (IsOk result) (IsErrOf result receive.Device)) (sym same)
-    (rw (is) (0, refl, Metered-none meter (λ f. absurd cc)))
-no_hold_calls meter now held.NoMemory result same is =
-    subst (λ (k : Meter). (calls : ℕ) × ReceiveCalls result calls × Metered calls meter k (IsOk result) (IsErrOf result receive.Device)) (sym same)
-    (rw (is) (0, tt, Metered-none meter (λ f. absurd cc)))
+  -- so it is of the parts that append
+  pub receive_stops : (told : Why) → LeavesRefused log meter swaps before behind told → StopsClone log meter Due Swaps old (banked local behind) (receive_stop (receive_fault_of told))
+  receive_stops why.Device h = refused_leaves why.Device h
+  receive_stops why.NoMemory h = refused_leaves why.NoMemory h
+
+  pub update_stops : (told : Why) → LeavesRefused log meter swaps before behind told → StopsClone log meter Due Swaps old (banked local behind) (update_stop (update_fault_of told))
+  update_stops why.Device h = refused_leaves why.Device h
+  update_stops why.NoMemory h = refused_leaves why.NoMemory h
+
+  closed_no : (reason : Why) → old.closed ≡ None → before.closed ≡ Some reason → ⊥
+  closed_no reason is_open shut = none_some (sym is_open ∙ (sym (ap (λ (clone : BankedClone B). clone.closed) same) ∙ shut))
+
+-- a swap with appends behind it was refused
+module _ {B : Type 0} (log : B → Option Log) (meter : B → Meter) {Due : Type 0} (due : Due) (before behind : JournalValue B) (local : LocalClone) (old : BankedClone B)
+    (same : banked local before ≡ old) (is_open : old.closed ≡ None) where
+  pub unmerged_stops : (told : SwapFault) → LeavesSwap log meter true before behind told → StopsMerge log meter Due old (banked local behind) (receive_fault_of_swap told)
+  unmerged_stops (swap.Closed reason) h = absurd (closed_no log meter {Due = Due} {Swaps = Unit {0}} due true (λ e. tt) before behind local old same reason is_open h.0)
+  unmerged_stops swap.GenerationsSpent h = ap (banked local) h ∙ same
+  unmerged_stops swap.Device h = refused_leaves log meter due true (λ e. tt) before behind local old same why.Device h
+  unmerged_stops swap.NoMemory h = refused_leaves log meter due true (λ e. tt) before behind local old same why.NoMemory h
+
+  -- and a swap alone
+  pub unswapped_stops : (told : SwapFault) → LeavesSwap log meter false before behind told → StopsKeep log meter Due old (banked local behind) (keep_fault_of told)
+  unswapped_stops (swap.Closed reason) h = absurd (closed_no log meter {Due = Due} {Swaps = ⊥} due false (λ e. absurd cc) before behind local old same reason is_open h.0)
+  unswapped_stops swap.GenerationsSpent h = ap (banked local) h ∙ same
+  unswapped_stops swap.Device h = refused_leaves log meter due false (λ e. absurd cc) before behind local old same why.Device h
+  unswapped_stops swap.NoMemory h = refused_leaves log meter due false (λ e. absurd cc) before behind local old same why.NoMemory h
+
+-- ---- what a part of a call leaves, where there is something to do
+pub stops_due : {B : Type 0} (log : B → Option Log) (meter : B → Meter) (Due : Type 0) (old new : BankedClone B) (stop : Option Why) → Due
+    → StopsClone log meter (Unit {0}) ⊥ old new stop → StopsClone log meter Due ⊥ old new stop
+stops_due log meter Due old new None due h = h
+stops_due log meter Due old new (Some why.Device) due s =
+    record { was = s.was; due = due; now = s.now; called = s.called; local = s.local; generation = s.generation }
+stops_due log meter Due old new (Some why.NoMemory) due (inl same) = inl same
+stops_due log meter Due old new (Some why.NoMemory) due (inr s) =
+    inr (record { was = s.was; due = due; now = s.now; called = s.called; local = s.local; generation = s.generation })

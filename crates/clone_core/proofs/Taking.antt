@@ -1,5 +1,5 @@
 -- A clone takes an entry that is ready, or holds one back.
-use Rattle.std.proofs.Common.{◌≡◌, ◌≢◌, ◌∙◌, ℕ, suc, ◌+◌, ◌<◌, ◌≤◌, List, [], ◌∷◌, ◌++◌, length, get_or, take, ◌↔◌, Result, Ok, Err, IsErrOf, refl, sym, ap, subst, inl, inr, arith}
+use Rattle.std.proofs.Common.{◌≡◌, ◌≢◌, ◌∙◌, ℕ, ◌+◌, ◌<◌, ◌≤◌, List, [], ◌∷◌, ◌++◌, length, get_or, take, ◌↔◌, Result, Ok, Err, IsErrOf, refl, sym, ap, subst, inl, inr, arith}
 use Rattle.std.proofs.lemmas.List.{take_all}
 use Rattle.tree_clock.specs.declared.dots.Range.{Range}
 use Rattle.tree_clock.specs.Lists.{Has}
@@ -16,9 +16,10 @@ use Rattle.causal_buffer.specs.HeldEntries.{IsHeldRange, IsAddedTo, HasNoRoomFor
 use Rattle.mld_model.specs.Local.{LocalClone, IsLocal, LeadsTo, LocallyReleases, LocallyAccepts, LocallyHolds}
 use Rattle.mld_ops.specs.Held.{ranges_of}
 use Rattle.clone_core.specs.CloneCalls.{LacksRange}
-use Rattle.clone_plans.proofs.MakingLaws.{local_taken, taken_by}
+use Rattle.clone_plans.proofs.MakingLaws.{local_ascends, local_taken, taken_by}
 use Rattle.clone_plans.specs.Plans.{IsPlanOf, left_of}
-use Rattle.clone_core.specs.Takes.{IsFullAt}
+use Rattle.clone_core.specs.Parts.{IsFullAt}
+use Rattle.op_fusion.proofs.Applied.{applied}
 use Rattle.clone_plans.specs.declared.plans.Plan.{Plan}
 use Rattle.clone_plans.proofs.Planning.{drops_shorter, first_shorter}
 
@@ -63,6 +64,19 @@ module _ (old : LocalClone) (entry : EntryValue) (plan : Plan) (pairs : List Tag
     leads = subst (λ (es : List EntryValue). LeadsTo old.ticks old.pairs es plan.clock.ticks pairs) of.entries (of.leads.leads pairs applies);
     told = of.leads.ranges ∙ ap ranges_of of.entries;
   }
+
+-- the step that the clone would make
+pub planned_step : (old : LocalClone) (entry : EntryValue) (plan : Plan) → IsLocal old → IsPlanOf old.ticks old.pairs old.held entry plan → IsReadyEntry old.ticks entry
+    → (new : LocalClone) × (ranges : List Range) × LocallyAccepts old entry new ranges × (new.entries ≡ old.entries ++ plan.entries.items)
+planned_step old entry plan local of ready =
+    let pairs = applied plan.cut.drops.items plan.cut.adds.items old.pairs (local_ascends old local) in
+    let journal = old.entries ++ plan.entries.items in
+    let held = left_of plan.left old.held in (
+      planned old entry plan pairs.0 journal held of pairs.1 refl refl,
+      plan.ranges,
+      planned_accepts old entry plan pairs.0 journal held of pairs.1 refl refl ready,
+      refl,
+    )
 
 -- ---- an entry that is held back
 
@@ -125,8 +139,3 @@ lacks_all entries range i past lacks = subst (λ (es : List EntryValue). LacksRa
 -- the entry at a place is one of the list
 pub has_item : (entries : List EntryValue) (i : ℕ) (entry : EntryValue) → i < length entries → entry ≡ get_or entries i entry → Has entries entry
 has_item entries i entry l e = subst (λ (w : EntryValue). Has entries w) (sym e) (has_at entries i entry l)
-
--- a range is told for each entry
-pub ranges_length : (entries : List EntryValue) → length (ranges_of entries) ≡ length entries
-ranges_length [] = refl
-ranges_length (entry ∷ entries) = ap (λ n. suc n) (ranges_length entries)

@@ -27,7 +27,7 @@ abbrev pub head_of : LocalClone → HeadValue
 head_of clone = record {
   id = clone.id;
   domain = clone.domain;
-  props = clone.properties;
+  properties = clone.properties;
   path = clone.path;
   base = record { ticks = clone.base; pairs = clone.base_pairs };
 }
@@ -44,8 +44,6 @@ kept_as side generation clone = record { side = side; generation = generation; h
 abbrev pub KeepsClone : LocalClone → ℕ → Log → Type 0
 KeepsClone clone generation log = (side : Side) × KeepsJust (kept_as side generation clone) log
 
--- what is known of the banks of a clone with this journal: where the clone isn't closed, nor is the journal, and the banks keep
--- the clone where they tell their log
-pub record IsOnBanks (now : Option Log) (journal closed : Option Why) (side : Side) (generation : ℕ) (clone : LocalClone) : Type 0 where
-  pub opened : closed ≡ None → journal ≡ None
-  pub keeps : (log : Log) → now ≡ Some log → closed ≡ None → KeepsJust (kept_as side generation clone) log
+-- what is known of the banks of a clone: where it isn't closed they keep it, if they tell their log
+pub record IsOnBanks (now : Option Log) (closed : Option Why) (side : Side) (generation : ℕ) (clone : LocalClone) : Type 0 where
+  pub keeps : closed ≡ None → (log : Log) → now ≡ Some log → KeepsJust (kept_as side generation clone) log

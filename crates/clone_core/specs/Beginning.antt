@@ -9,14 +9,14 @@ abbrev pub found_clone : HeadValue → List ℕ → Replayed → LocalClone
 found_clone head path replayed = record {
   id = head.id;
   domain = head.domain;
-  properties = head.props;
+  properties = head.properties;
   path = path;
   base = head.base.ticks;
   base_pairs = head.base.pairs;
   entries = replayed.entries.items;
   held = [];
   ticks = replayed.clock.ticks;
-  pairs = replayed.pairs.elements;
+  pairs = replayed.pairs.pairs;
 }
 
 -- the clone of a head with no entries
@@ -24,7 +24,7 @@ abbrev pub begun_clone : HeadValue → LocalClone
 begun_clone head = record {
   id = head.id;
   domain = head.domain;
-  properties = head.props;
+  properties = head.properties;
   path = head.path;
   base = head.base.ticks;
   base_pairs = head.base.pairs;

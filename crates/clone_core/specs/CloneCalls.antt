@@ -1,20 +1,19 @@
 -- What a clone answers to an update, to a message, and to a comparison with another clone.
-use Rattle.std.specs.Prelude.{◌≡◌, ◌≢◌, ℕ, [], ◌∷◌, List, Bool, true, false}
-use Rattle.rdf_terms.specs.declared.terms.Triple.{Triple}
+use Rattle.std.specs.Prelude.{◌≡◌, ◌≢◌, ℕ, List}
 use Rattle.tree_clock.specs.declared.dots.Dot.{Dot}
 use Rattle.tree_clock.specs.declared.dots.Range.{Range}
 use Rattle.tree_clock.specs.Lists.{Has}
-use Rattle.tree_clock.specs.Clock.{Covers}
+use Rattle.tree_clock.specs.Clock.{ticks_of, Covers}
 use Rattle.mld_ops.specs.declared.messages.Message.{Message}
 use Rattle.mld_ops.specs.declared.messages.Message.TheVariants as message
 use Rattle.mld_ops.specs.declared.tagged.Tagged.{Tagged}
+use Rattle.mld_ops.specs.Effects.{EffectValue, ChangesNothing}
 use Rattle.mld_ops.specs.Entry.{EntryValue}
 use Rattle.mld_ops.specs.Messages.{snapshot_value}
 use Rattle.mld_ops.specs.Ready.{IsKnownEntry}
-use Rattle.mld_model.specs.CloneStep.{ArePairsOf}
-use Rattle.mld_model.specs.Local.{LocalClone, LocallyMakes, LocallyAccepts, MustBeHeld, LocallyHolds, IsForeign, IsForeignSnapshot}
+use Rattle.mld_model.specs.Local.{LocalClone, LocallyMakes, LocallyAccepts, MustBeHeld, LocallyHolds, IsFullFor, IsForeign, IsForeignSnapshot}
+use Rattle.mld_model.specs.Reply.{Reply, Same, Less, More, Apart}
 use Rattle.clone_core.specs.Joining.{LocallyGives, RefusesAsk}
-use Rattle.clone_core.specs.Takes.{RefusesEntry}
 use Rattle.clone_core.specs.Merging.{ReceivesSnapshot, RefusesSnapshot}
 use Rattle.clone_core.specs.Wants.{AnswersWant, RefusesWant}
 use Rattle.clone_core.specs.declared.answers.Covering.{Covering}
@@ -26,20 +25,14 @@ use Rattle.clone_core.specs.declared.answers.Got.TheVariants as got
 use Rattle.clone_core.specs.declared.faults.ReceiveFault.{ReceiveFault}
 use Rattle.clone_core.specs.declared.faults.ReceiveFault.TheVariants as fault
 
--- the clone made the operation that deletes these pairs of the triple, at least one
-pub record RemovesPairs (old : LocalClone) (triple : Triple) (new : LocalClone) (entry : EntryValue) : Type 0 where
-  pub deletes : List Tagged
-  pub are : ArePairsOf triple old.pairs deletes
-  pub some : deletes ≢ []
-  pub makes : LocallyMakes old deletes [] new entry
+-- the effect deletes pairs that the clone has
+abbrev pub DeletesOwn : LocalClone → EffectValue → Type 0
+DeletesOwn clone effect = (pair : Tagged) → Has effect.deletes pair → Has clone.pairs pair
 
--- the triple was to be there: the clone made the operation that inserts it. Or it was to be gone: there was no pair of it and nothing
--- was done, or the operation that deletes all its pairs was made
-abbrev pub Sets : LocalClone → Triple → Bool → Done → LocalClone → Type 0
-Sets old triple true done.Nothing new = ⊥
-Sets old triple true (done.Made entry) new = LocallyMakes old [] (triple ∷ []) new entry
-Sets old triple false done.Nothing new = ArePairsOf triple old.pairs [] × (new ≡ old)
-Sets old triple false (done.Made entry) new = RemovesPairs old triple new entry
+-- what became of an update: its effect changes nothing, and nothing was done; or the clone made the operation of it
+abbrev pub LocallyUpdates : LocalClone → EffectValue → Done → LocalClone → Type 0
+LocallyUpdates old effect done.Nothing new = ChangesNothing effect × (new ≡ old)
+LocallyUpdates old effect (done.Made entry) new = ¬ ChangesNothing effect × LocallyMakes old effect new entry
 
 -- what became of an entry: it was known; or it was taken with those that it released, whose ranges are told; or it is held, where it is
 -- neither known nor ready
@@ -51,6 +44,18 @@ ReceivesEntry old entry (got.Merged ranges) new = ⊥
 ReceivesEntry old entry (got.Answer messages) new = ⊥
 ReceivesEntry old entry got.Nothing new = ⊥
 ReceivesEntry old entry got.Ignored new = ⊥
+
+-- why an entry was refused: it is foreign, and the fault names its last tick and the clone's own; or it would be
+-- held where too many are; or the clone is closed, the device failed, or memory ran out, of which the clone says more
+abbrev pub RefusesEntry : LocalClone → EntryValue → ReceiveFault → Type 0
+RefusesEntry old entry (fault.ForeignTick said own) =
+    IsForeign old entry × (said ≡ entry.range.last) × (own ≡ ticks_of old.ticks old.path)
+RefusesEntry old entry fault.HeldFull = ¬ IsForeign old entry × MustBeHeld old entry × IsFullFor old entry
+RefusesEntry old entry fault.Deep = ⊥
+RefusesEntry old entry fault.GenerationsSpent = ⊥
+RefusesEntry old entry (fault.Closed why) = Unit {0}
+RefusesEntry old entry fault.Device = Unit {0}
+RefusesEntry old entry fault.NoMemory = Unit {0}
 
 -- what became of an ask by an id: it was the clone's own and is ignored; or the leaf was forked, and one message gives its right half
 abbrev pub ReceivesAsk : LocalClone → List ℕ → Got → LocalClone → Type 0
@@ -86,13 +91,9 @@ pub record HasRange (entries : List EntryValue) (range : Range) (entry : EntryVa
 abbrev pub LacksRange : List EntryValue → Range → Type 0
 LacksRange entries range = (entry : EntryValue) → Has entries entry → entry.range ≢ range
 
--- the dots of the first clock are all among the second's
-abbrev pub IsAmongDots : List (List ℕ × ℕ) → List (List ℕ × ℕ) → Type 0
-IsAmongDots ticks other = (dot : Dot) → Covers ticks dot → Covers other dot
-
--- how the dots of two clocks compare
-abbrev pub ComparesAs : List (List ℕ × ℕ) → List (List ℕ × ℕ) → Covering → Type 0
-ComparesAs ticks other covering.Same = IsAmongDots ticks other × IsAmongDots other ticks
-ComparesAs ticks other covering.Less = IsAmongDots ticks other × ¬ IsAmongDots other ticks
-ComparesAs ticks other covering.More = ¬ IsAmongDots ticks other × IsAmongDots other ticks
-ComparesAs ticks other covering.Apart = ¬ IsAmongDots ticks other × ¬ IsAmongDots other ticks
+-- the reply that says the same
+abbrev pub covering_reply : Covering → Reply
+covering_reply covering.Same = Same
+covering_reply covering.Less = Less
+covering_reply covering.More = More
+covering_reply covering.Apart = Apart

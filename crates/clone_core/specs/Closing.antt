@@ -1,71 +1,67 @@
--- What a refused call leaves of a clone, and how many calls of its device a call makes.
-use Rattle.std.specs.Prelude.{◌≡◌, ◌⊎◌, ℕ, ◌*◌, None, Some, Result, Ok, Err, length}
+-- What a refused call leaves of a clone.
+use Rattle.std.specs.Prelude.{◌≡◌, ◌⊎◌, ◌+◌, Option, None, Some, Result, Ok, Err}
+use Rattle.mld_io.specs.Arm.{Meter}
+use Rattle.mld_io.specs.Disk.{Log}
+use Rattle.journal_store.specs.Closing.{WasCalled}
 use Rattle.journal_store.specs.declared.faults.MakeFault.{MakeFault}
 use Rattle.journal_store.specs.declared.faults.MakeFault.TheVariants as make
 use Rattle.journal_store.specs.declared.faults.Why.{Why}
 use Rattle.journal_store.specs.declared.faults.Why.TheVariants as why
-use Rattle.clone_banks.specs.BankCalls.{append_calls}
 use Rattle.clone_core.specs.Banked.{BankedClone}
-use Rattle.clone_core.specs.declared.answers.Done.{Done}
-use Rattle.clone_core.specs.declared.answers.Done.TheVariants as done
-use Rattle.clone_core.specs.declared.answers.Got.{Got}
-use Rattle.clone_core.specs.declared.answers.Got.TheVariants as got
+use Rattle.clone_core.specs.declared.faults.KeepFault.{KeepFault}
+use Rattle.clone_core.specs.declared.faults.KeepFault.TheVariants as keep
 use Rattle.clone_core.specs.declared.faults.ReceiveFault.{ReceiveFault}
 use Rattle.clone_core.specs.declared.faults.ReceiveFault.TheVariants as receive
 use Rattle.clone_core.specs.declared.faults.UpdateFault.{UpdateFault}
 use Rattle.clone_core.specs.declared.faults.UpdateFault.TheVariants as update
 
--- a clone that was open is closed for this reason, and has in memory what it had
-pub record Shuts {B : Type 0} (old : BankedClone B) (reason : Why) (new : BankedClone B) : Type 0 where
+-- A clone that was open is closed for this reason. There was something to do on its banks (`Due`), and want of memory closes it only where
+-- a call of the device was done. It has in memory what it had; what its banks keep is of the same generation, or of the next one where a
+-- swap may have been done before (`Swaps`).
+pub record Shuts {B : Type 0} (log : B → Option Log) (meter : B → Meter) (Due Swaps : Type 0) (old : BankedClone B) (reason : Why) (new : BankedClone B) : Type 0 where
   pub was : old.closed ≡ None
+  pub due : Due
   pub now : new.closed ≡ Some reason
+  pub called : reason ≡ why.NoMemory → WasCalled log meter old.banks new.banks
   pub local : new.local ≡ old.local
-  pub generation : new.generation ≡ old.generation
+  pub generation : (new.generation ≡ old.generation) ⊎ (Swaps × (new.generation ≡ old.generation + 1))
 
--- what a fault of memory leaves: the clone as it was, or closed, where a call of its device was done before
-abbrev pub StaysOrShuts : {B : Type 0} → BankedClone B → BankedClone B → Type 0
-StaysOrShuts old new = (new ≡ old) ⊎ Shuts old why.NoMemory new
+-- what a refused call leaves, by what stopped it: the clone as it was; but a fault of the device closes it, and want of memory does so or
+-- leaves it as it was
+abbrev pub LeavesClone : {B : Type 0} → (B → Option Log) → (B → Meter) → (Due Swaps : Type 0) → BankedClone B → BankedClone B → Option Why → Type 0
+LeavesClone log meter Due Swaps old new None = new ≡ old
+LeavesClone log meter Due Swaps old new (Some why.Device) = Shuts log meter Due Swaps old why.Device new
+LeavesClone log meter Due Swaps old new (Some why.NoMemory) = (new ≡ old) ⊎ Shuts log meter Due Swaps old why.NoMemory new
 
--- what a refused update leaves: the clone as it was, but for a fault of its device, or of memory behind a call of the device
-abbrev pub LeavesUpdate : {B : Type 0} → BankedClone B → BankedClone B → UpdateFault → Type 0
-LeavesUpdate old new update.Device = Shuts old why.Device new
-LeavesUpdate old new update.NoMemory = StaysOrShuts old new
-LeavesUpdate old new (update.Closed reason) = new ≡ old
-LeavesUpdate old new update.TicksSpent = new ≡ old
+-- what stopped a call, where it was the device or memory
+abbrev pub update_stop : UpdateFault → Option Why
+update_stop update.Device = Some why.Device
+update_stop update.NoMemory = Some why.NoMemory
+update_stop (update.Closed reason) = None
+update_stop update.TicksSpent = None
 
--- and what a refused message leaves
-abbrev pub LeavesReceive : {B : Type 0} → BankedClone B → BankedClone B → ReceiveFault → Type 0
-LeavesReceive old new receive.Device = Shuts old why.Device new
-LeavesReceive old new receive.NoMemory = StaysOrShuts old new
-LeavesReceive old new fault = new ≡ old
+abbrev pub receive_stop : ReceiveFault → Option Why
+receive_stop receive.Device = Some why.Device
+receive_stop receive.NoMemory = Some why.NoMemory
+receive_stop other = None
+
+abbrev pub keep_stop : KeepFault → Option Why
+keep_stop keep.Device = Some why.Device
+keep_stop keep.NoMemory = Some why.NoMemory
+keep_stop (keep.Closed reason) = None
+keep_stop keep.GenerationsSpent = None
+
+-- ---- what is left where nothing was refused
 
 -- a clone that stays open keeps its generation
 pub record StaysOpen {B : Type 0} (old new : BankedClone B) : Type 0 where
   pub opened : new.closed ≡ None
   pub generation : new.generation ≡ old.generation
 
--- ---- how many calls that write or sync
-
--- a mount makes two
-abbrev pub mount_calls : ℕ
-mount_calls = 2
-
--- those of an update: one append for the operation that was made
-abbrev pub UpdateCalls : Result Done UpdateFault → ℕ → Type 0
-UpdateCalls (Ok done.Nothing) calls = calls ≡ 0
-UpdateCalls (Ok (done.Made entry)) calls = calls ≡ append_calls
-UpdateCalls (Err update.Device) calls = calls ≡ append_calls
-UpdateCalls (Err update.NoMemory) calls = calls ≡ append_calls
-UpdateCalls (Err refused) calls = calls ≡ 0
-
--- those of a message: one append for each range taken, and one for a fork
-abbrev pub ReceiveCalls : Result Got ReceiveFault → ℕ → Type 0
-ReceiveCalls (Ok (got.Took ranges)) calls = calls ≡ append_calls * length ranges
-ReceiveCalls (Ok (got.Answer messages)) calls = calls ≡ append_calls
-ReceiveCalls (Ok other) calls = calls ≡ 0
-ReceiveCalls (Err receive.Device) calls = Unit {0}
-ReceiveCalls (Err receive.NoMemory) calls = Unit {0}
-ReceiveCalls (Err refused) calls = calls ≡ 0
+-- a clone whose banks were swapped is open, and what they keep is of the next generation
+pub record IsSwappedOpen {B : Type 0} (old new : BankedClone B) : Type 0 where
+  pub opened : new.closed ≡ None
+  pub generation : new.generation ≡ old.generation + 1
 
 -- ---- a clone that was made, or that was not
 
@@ -73,6 +69,10 @@ ReceiveCalls (Err refused) calls = calls ≡ 0
 abbrev pub banks_of_made : {B : Type 0} → Result (BankedClone B) (MakeFault × B) → B
 banks_of_made (Ok clone) = clone.banks
 banks_of_made (Err refused) = refused.1
+
+-- what a refusal gives back for want of memory is as it was, or the device was called
+abbrev pub GivesBack : {B : Type 0} → (B → Option Log) → (B → Meter) → B → MakeFault × B → Type 0
+GivesBack log meter old refused = refused.0 ≡ make.NoMemory → (refused.1 ≡ old) ⊎ WasCalled log meter old refused.1
 
 -- the device failed, so no clone was made
 abbrev pub FailsToFound : {B : Type 0} → Result (BankedClone B) (MakeFault × B) → Type 0

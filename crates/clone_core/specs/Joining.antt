@@ -1,5 +1,7 @@
 -- Joining: what a clone gives to who asks, and what becomes of who asked.
-use Rattle.std.specs.Prelude.{◌≡◌, ◌≢◌, ℕ, List, [], ◌∷◌, length, None}
+use Rattle.std.specs.Prelude.{◌≡◌, ◌≢◌, ℕ, List, [], ◌∷◌, length, Option, None}
+use Rattle.mld_io.specs.Arm.{Meter}
+use Rattle.mld_io.specs.Disk.{Log}
 use Rattle.tree_clock.specs.Limits.{path_limit}
 use Rattle.tree_clock.specs.Lists.{Has}
 use Rattle.mld_ops.specs.declared.messages.Give.{Give}
@@ -10,6 +12,7 @@ use Rattle.journal_store.specs.declared.faults.MakeFault.TheVariants as make
 use Rattle.mld_model.specs.Local.{LocalClone, LocalAsker, LocallyForks, joined_clone}
 use Rattle.clone_banks.specs.BankCalls.{create_calls}
 use Rattle.clone_core.specs.Banked.{BankedAsker}
+use Rattle.clone_core.specs.Closing.{GivesBack}
 use Rattle.clone_core.specs.declared.askers.Adopted.{Adopted}
 use Rattle.clone_core.specs.declared.askers.Adopted.TheVariants as adopted
 use Rattle.clone_core.specs.declared.answers.Got.{Got}
@@ -90,3 +93,9 @@ abbrev pub AdoptsWhole : {B : Type 0} → Adopted B → Type 0
 AdoptsWhole (adopted.Joined new) = Unit {0}
 AdoptsWhole (adopted.Ignored same) = Unit {0}
 AdoptsWhole (adopted.Refused fault banks) = ⊥
+
+-- banks that are given back for want of memory are as they were, or the device was called
+abbrev pub GivesBackAdopted : {B : Type 0} → (B → Option Log) → (B → Meter) → B → Adopted B → Type 0
+GivesBackAdopted log meter old (adopted.Joined new) = Unit {0}
+GivesBackAdopted log meter old (adopted.Ignored same) = Unit {0}
+GivesBackAdopted log meter old (adopted.Refused fault banks) = GivesBack log meter old (fault, banks)

@@ -3,11 +3,12 @@ pub mod Beginning
 pub mod CloneCalls
 pub mod CloneFaults
 pub mod Closing
+pub mod Due
+pub mod Durable
 pub mod Joining
 pub mod Keeping
 pub mod Merging
 pub mod Opening
-pub mod Stopping
-pub mod Takes
+pub mod Parts
 pub mod View
 pub mod Wants

@@ -1,5 +1,5 @@
 -- What is found on banks where a clone is to run again.
-use Rattle.std.specs.Prelude.{◌≡◌, [], None}
+use Rattle.std.specs.Prelude.{◌≡◌, ℕ, [], None}
 use Rattle.mld_io.specs.declared.banks.Side.{Side}
 use Rattle.journal_sides.specs.Pairs.{PairReading, KeepsNone, Keeps, Damages}
 use Rattle.journal_store.specs.declared.faults.MountFault.TheVariants.{Damaged, Device, NoMemory}
@@ -37,6 +37,10 @@ abbrev pub banks_of_mounted : {B : Type 0} → Mounted B → B
 banks_of_mounted (Live clone) = clone.banks
 banks_of_mounted (Empty blank) = blank
 banks_of_mounted (Refused fault banks) = banks
+
+-- how many calls of the device a mount makes: it syncs both sides
+abbrev pub mount_calls : ℕ
+mount_calls = 2
 
 -- both sides were synced
 abbrev pub SyncsBoth : {B : Type 0} → Mounted B → Type 0

@@ -13,5 +13,5 @@ local_of c = record {
   entries = c.entries.items;
   held = c.held;
   ticks = c.clock.ticks;
-  pairs = c.pairs.elements;
+  pairs = c.pairs.pairs;
 }

@@ -58,7 +58,12 @@ impl<B: Banks> Asker<B> {
     ghost use Rattle.mld_ops.specs.declared.messages.Message.TheVariants as message;
     ghost use Rattle.mld_ops.specs.Messages.{snapshot_value, message_value, IsGoodSnapshot, IsGoodMessage};
     ghost use Rattle.mld_ops.specs.Properties.{AreKept};
-    ghost use Rattle.clone_core.specs.Joining.{IsGiveFor, GivesNone, LocallyAdopts, TakesGive, banks_of_adopted, adopting_calls, FailsToAdopt, AdoptsWhole};
+    ghost use Rattle.mld_ops.specs.Messages.{give_value};
+    ghost use Rattle.mld_ops.specs.declared.messages.Give.{Give};
+    ghost use Rattle.mld_model.specs.Local.{joined_clone};
+    ghost use Rattle.clone_core.specs.Banked.{head_of};
+    ghost use Rattle.clone_core.specs.Durable.{Creates};
+    ghost use Rattle.clone_core.specs.Joining.{IsGiveFor, GivesNone, LocallyAdopts, TakesGive, banks_of_adopted, adopting_calls, FailsToAdopt, AdoptsWhole, GivesBackAdopted};
 
     /// One who asks, who keeps these properties in order. It calls no device and takes no memory.
     pub fn new(blank: Blank<B>, id: Uuid, domain: Text, properties: Vec<Iri>) -> Asker<B>
@@ -120,6 +125,9 @@ impl<B: Banks> Asker<B> {
     pub fn receive<R: Threads>(self, _rt: &R, alloc: Global, message: &Message) -> Adopted<B>
         requires { IsGoodMessage (message_value message.now) }
         ensures adopts { LocallyAdopts self message.now result }
+        ensures durable { (give : Give) → IsGiveFor self.asker message.now give
+            → Creates B.log B.meter (head_of (joined_clone self.asker (give_value give))) self.banks (banks_of_adopted result) (AdoptsWhole result) (FailsToAdopt result) }
+        ensures back { GivesBackAdopted B.log B.meter self.banks result }
         ensures meter { Metered (adopting_calls result) (B.meter self.banks) (B.meter (banks_of_adopted result)) (AdoptsWhole result) (FailsToAdopt result) }
     {
         match self.given(message) {
@@ -132,7 +140,8 @@ impl<B: Banks> Asker<B> {
     fn adopt(self, alloc: Global, give: &Give) -> Adopted<B>
         requires { IsGoodSnapshot (snapshot_value give.now.snapshot) }
         ensures adopts { TakesGive self give.now result }
-        ensures meter { Metered (adopting_calls result) (B.meter self.banks) (B.meter (banks_of_adopted result)) (AdoptsWhole result) (FailsToAdopt result) }
+        ensures durable { Creates B.log B.meter (head_of (joined_clone self.asker (give_value give.now))) self.banks (banks_of_adopted result) (AdoptsWhole result) (FailsToAdopt result) }
+        ensures back { GivesBackAdopted B.log B.meter self.banks result }
     {
         let Ok((base, clock, pairs)) = begun_with(alloc, &give.snapshot) else {
             return Adopted::Refused(MakeFault::NoMemory, self.stop());
@@ -175,11 +184,11 @@ impl<B: CrashBanks> Asker<B> {
     ghost use Rattle.std.specs.Prelude.{◌≡◌};
     ghost use Rattle.mld_io.specs.Arm.{armed};
 
-    /// Has so many calls of the banks that write or sync done, and catches the next one. It calls no device and takes no
-    /// memory.
+    /// Has so many calls of the banks that write or sync done, and catches the next one; the crash then leaves this much of
+    /// the writes that aren't synced. It calls no device and takes no memory.
     pub fn arm(&mut self, calls: u32, leave: Leave)
         ensures log { B.log self.new.banks ≡ B.log self.old.banks }
-        ensures meter { B.meter self.new.banks ≡ armed calls (B.meter self.old.banks) }
+        ensures meter { B.meter self.new.banks ≡ armed calls leave (B.meter self.old.banks) }
         ensures same { self.new ≡ record self.old { banks = self.new.banks } }
     {
         self.blank.arm(calls, leave);

@@ -7,12 +7,12 @@ use crate::answers::{Covering, Done, Got};
 use crate::faults::{ReceiveFault, UpdateFault};
 use causal_buffer::{Held, HeldFault, is_known, is_ready};
 use clone_banks::{append_entries, append_fork, create, push_all};
-use clone_plans::{Replayed, deletion, insertion, prepare_own, prepare_plan};
+use clone_plans::{Replayed, entry_of_effect, prepare_own, prepare_plan};
 use graph_index::Graph;
 use iri_rules::Text;
 use journal_store::{Blank, Head, Journal, MakeFault, Why};
 use mld_io::{Banks, CrashBanks, Leave};
-use mld_ops::{Entry, Give, Message, Messages, Snapshot, Tagged, kept_properties};
+use mld_ops::{Effect, Entry, Give, Message, Messages, Snapshot, Tagged, kept_properties};
 use rdf_terms::{Iri, Triple};
 use std::alloc::{AllocError, Global};
 use std::marker::Model;
@@ -22,7 +22,7 @@ use tree_clock::{Clock, Dot, Leaf, PATH_LIMIT, Path, Range, TICK_LIMIT};
 use uuid::Uuid;
 
 /// A clone on its banks: its id, domain, single-valued properties and leaf; the clock and the pairs of its base; its clock, the entries
-/// of its journal, those that it holds back, and its pairs, ascending; the journal on its banks; and whether an earlier call closed it.
+/// of its journal, those that it holds back, and its pairs, ascending; and the journal on its banks, which is closed where the clone is.
 #[derive(Drop)]
 pub struct MldClone<B: Banks> {
     pub(crate) id: Uuid,
@@ -36,7 +36,6 @@ pub struct MldClone<B: Banks> {
     pub(crate) held: Held,
     pub(crate) pairs: Graph,
     pub(crate) journal: Journal<B>,
-    pub(crate) closed: Option<Why>,
 }
 
 impl<B: Banks> Model for MldClone<B> {
@@ -46,33 +45,36 @@ impl<B: Banks> Model for MldClone<B> {
 
     ghost Value = { BankedClone B };
 
-    ghost view = { λ c. record { local = local_of c; generation = c.journal.generation; closed = c.closed; banks = c.journal.banks } };
+    ghost view = { λ c. record { local = local_of c; generation = c.journal.generation; closed = c.journal.closed; banks = c.journal.banks } };
 
     ghost invariant = { λ c. IsLocal (local_of c)
-        × IsOnBanks (B.log c.journal.banks) c.journal.closed c.closed c.journal.side c.journal.generation (local_of c) };
+        × IsOnBanks (B.log c.journal.banks) c.journal.closed c.journal.side c.journal.generation (local_of c) };
 }
 
 impl<B: Banks> MldClone<B> {
-    ghost use Rattle.std.specs.Prelude.{◌≡◌, ◌≢◌, ◌<◌, ◌↔◌, ◌∷◌, [], ℕ, true, false, length, None, Some, IsTrue, IfOk, IfErr, IsOk, OnOk, OnErr, IsErrOf, MatchOption};
-    ghost use Rattle.mld_io.specs.Arm.{Metered};
+    ghost use Rattle.std.specs.Prelude.{◌≡◌, ◌≢◌, ◌<◌, ◌↔◌, ◌∷◌, [], ℕ, List, true, false, length, None, Some, IsTrue, IfOk, IfErr, IsOk, OnOk, OnErr, IsErrOf, MatchOption};
     ghost use Rattle.mld_io.specs.Disk.{Log};
     ghost use Rattle.journal_sides.specs.Heads.{head_value};
+    ghost use Rattle.journal_store.specs.Closing.{IsMade};
     ghost use Rattle.journal_store.specs.declared.faults.Why.{Why};
-    ghost use Rattle.clone_banks.specs.Appending.{BeginsJournal};
-    ghost use Rattle.clone_banks.specs.BankCalls.{append_calls, create_calls};
-    ghost use Rattle.clone_core.specs.Banked.{IsOnBanks, KeepsClone};
+    ghost use Rattle.clone_banks.specs.KeptSteps.{KeptStep};
+    ghost use Rattle.clone_core.specs.Banked.{IsOnBanks, KeepsClone, head_of};
     ghost use Rattle.clone_core.specs.Beginning.{begun_clone, found_clone};
-    ghost use Rattle.clone_core.specs.Closing.{Shuts, StaysOrShuts, StaysOpen, LeavesUpdate, UpdateCalls, ReceiveCalls, banks_of_made, FailsToFound};
+    ghost use Rattle.clone_core.specs.Closing.{StaysOpen, LeavesClone, update_stop, receive_stop, banks_of_made, FailsToFound, GivesBack};
+    ghost use Rattle.clone_core.specs.Durable.{Changes, Creates, UpdateSteps, MessageSteps};
+    ghost use Rattle.clone_core.specs.Due.{IsDueUpdate, IsDueEntry, IsDueAsk, IsDueMessage, IsSwapDue, IsMessageSpent};
     ghost use Rattle.clone_core.specs.Joining.{LocallyGives, AreGood, AnswersGood, RefusesAsk};
     ghost use Rattle.iri_rules.specs.Domain.{is_domain};
     ghost use Rattle.rdf_terms.specs.Order.{iri_cmp};
+    ghost use Rattle.mld_ops.specs.declared.messages.Message.TheVariants as kinds;
+    ghost use Rattle.mld_ops.specs.Effects.{ArePairsOf};
     ghost use Rattle.mld_ops.specs.Messages.{snapshot_value, message_value, IsGoodSnapshot, IsGoodMessage};
     ghost use Rattle.mld_ops.specs.Properties.{AreKept};
-    ghost use Rattle.clone_core.specs.CloneCalls.{Sets, LocallyReceives, ReceivesEntry, ReceivesAsk, Refuses, RemovesPairs, ComparesAs, HasRange, LacksRange};
+    ghost use Rattle.clone_core.specs.CloneCalls.{LocallyUpdates, DeletesOwn, LocallyReceives, ReceivesEntry, RefusesEntry, ReceivesAsk, Refuses, covering_reply, HasRange, LacksRange};
     ghost use Rattle.clone_plans.specs.Making.{IsNextEntry};
-    ghost use Rattle.clone_core.specs.Stopping.{StopsUpdate, StopsReceive, StopsTaking};
-    ghost use Rattle.clone_core.specs.Takes.{MakesDone, IsFullAt, RefusesEntry};
-    ghost use Rattle.clone_core.specs.Merging.{StaysOpenBy, IsMessageSpent, LeavesMessage, MessageCalls};
+    ghost use Rattle.clone_core.specs.Parts.{StopsClone, StopsOpen, MakeSteps, MakesDone, IsFullAt, BeginsJournal};
+    ghost use Rattle.clone_core.specs.Merging.{StaysOpenBy};
+    ghost use Rattle.mld_model.specs.Comparing.{ClocksCompare};
     ghost use Rattle.mld_model.specs.Local.{IsLocal, IsNamed, blank_clone, joined_clone, snapshot_of, next_dot, LocallyMakes, LocallyAccepts, LocallyHolds, IsForeign};
     ghost use Rattle.mld_ops.specs.Ready.{IsReadyEntry};
     ghost use Rattle.mld_ops.specs.Tagged.{tagged_cmp};
@@ -98,7 +100,9 @@ impl<B: Banks> MldClone<B> {
         ensures blank { IfOk result (λ clone. clone.local ≡ blank_clone id domain clone.local.properties []) }
         ensures opened { IfOk result (λ clone. clone.closed ≡ None) }
         ensures generation { IfOk result (λ clone. clone.generation ≡ 1) }
-        ensures meter { Metered create_calls (B.meter blank) (B.meter (banks_of_made result)) (IsOk result) (FailsToFound result) }
+        ensures durable { (kept : List (List ℕ)) × AreKept properties.items kept
+            × Creates B.log B.meter (head_of (blank_clone id domain kept [])) blank (banks_of_made result) (IsOk result) (FailsToFound result) }
+        ensures err { IfErr result (GivesBack B.log B.meter blank) }
     {
         let head = Head {
             id,
@@ -108,16 +112,17 @@ impl<B: Banks> MldClone<B> {
             base: Clock::empty(alloc),
             tagged: Vec::new(alloc),
         };
-        let journal = create(alloc, blank, &head)?;
-        let clock = Clock::empty(alloc);
-        Ok(MldClone::beginning(
-            alloc,
-            head,
-            Leaf::genesis(),
-            clock,
-            Graph::empty(alloc),
-            journal,
-        ))
+        match create(alloc, blank, &head) {
+            Ok(journal) => Ok(MldClone::beginning(
+                alloc,
+                head,
+                Leaf::genesis(),
+                Clock::empty(alloc),
+                Graph::empty(alloc),
+                journal,
+            )),
+            Err(refused) => Err(refused),
+        }
     }
 
     // An open clone that begins with what a head has, of whose base the clock and the pairs are copies, at this leaf, with no entries.
@@ -134,7 +139,7 @@ impl<B: Banks> MldClone<B> {
         requires base { IsGoodSnapshot (head_value head).base }
         requires path { leaf ≡ head.path }
         requires clock { clock.ticks ≡ head.base.ticks }
-        requires pairs { pairs.elements ≡ head.tagged.items }
+        requires pairs { pairs.pairs ≡ head.tagged.items }
         requires begins { BeginsJournal (head_value head) journal (B.log journal.banks) }
         ensures { result ≡ record { local = begun_clone (head_value head); generation = 1; closed = None; banks = journal.banks } }
     {
@@ -155,7 +160,8 @@ impl<B: Banks> MldClone<B> {
         journal: Journal<B>,
     ) -> MldClone<B>
         requires local { IsLocal (found_clone (head_value head) leaf replayed) }
-        requires banks { IsOnBanks (B.log journal.banks) journal.closed None journal.side journal.generation (found_clone (head_value head) leaf replayed) }
+        requires opened { journal.closed ≡ None }
+        requires banks { IsOnBanks (B.log journal.banks) None journal.side journal.generation (found_clone (head_value head) leaf replayed) }
         ensures { result ≡ record { local = found_clone (head_value head) leaf replayed; generation = journal.generation; closed = None; banks = journal.banks } }
     {
         let Head {
@@ -178,7 +184,6 @@ impl<B: Banks> MldClone<B> {
             held: Held::empty(alloc),
             pairs: replayed.pairs,
             journal,
-            closed: None,
         }
     }
 
@@ -250,7 +255,7 @@ impl<B: Banks> MldClone<B> {
 
     /// The clone's pairs, ascending.
     pub fn pairs(&self) -> &Graph
-        ensures pairs { result.now.elements ≡ self.now.local.pairs }
+        ensures pairs { result.now.pairs ≡ self.now.local.pairs }
         ensures ascending { IsAscending tagged_cmp self.now.local.pairs }
     {
         &self.pairs
@@ -263,6 +268,13 @@ impl<B: Banks> MldClone<B> {
         self.pairs.to_list(alloc)
     }
 
+    /// The clone's pairs of a triple, ascending.
+    pub fn pairs_of(&self, alloc: Global, triple: &Triple) -> Result<Vec<Tagged>, AllocError>
+        ensures { IfOk result (λ found. ArePairsOf triple.now self.now.local.pairs found.items) }
+    {
+        self.pairs().of_triple(alloc, triple)
+    }
+
     /// The entry of the journal that has this very range.
     pub fn entry_of(&self, range: &Range) -> Option<&Entry>
         ensures { MatchOption result (LacksRange self.now.local.entries range.now) (λ entry. HasRange self.now.local.entries range.now entry.now) }
@@ -270,11 +282,13 @@ impl<B: Banks> MldClone<B> {
         entry_in(self.journal(), range)
     }
 
-    /// Why an earlier call closed the clone, if one did: its device failed, or there was no memory behind a call of the device.
+    /// Why an earlier call closed the clone, if one did: its device failed, or there was no memory behind a call of the device. Where none
+    /// did, its banks keep it, whatever a crash leaves of them.
     pub fn is_closed(&self) -> Option<Why>
-        ensures { result ≡ self.now.closed }
+        ensures closed { result ≡ self.now.closed }
+        ensures kept { self.now.closed ≡ None → (log : Log) → B.log self.now.banks ≡ Some log → KeepsClone self.now.local self.now.generation log }
     {
-        self.closed
+        self.journal.is_closed()
     }
 
     /// The banks of the clone, which stops. What it holds back is forgotten. It takes no memory.
@@ -287,7 +301,7 @@ impl<B: Banks> MldClone<B> {
 
     /// How the dots that this clone knows compare with those of another.
     pub fn compare(&self, other: &MldClone<B>) -> Covering
-        ensures { ComparesAs self.now.local.ticks other.now.local.ticks result }
+        ensures { ClocksCompare self.now.local.ticks other.now.local.ticks (covering_reply result) }
     {
         match (self.clock.leq(&other.clock), other.clock.leq(&self.clock)) {
             (true, true) => Covering::Same,
@@ -297,29 +311,27 @@ impl<B: Banks> MldClone<B> {
         }
     }
 
-    /// Makes the operation that inserts a triple, or the one that deletes all its pairs, where there are any. Its entry is appended to the
-    /// journal on the banks before it is handed out.
+    /// Makes the operation of an effect, unless this changes nothing: the effect deletes pairs that the clone has. Its entry is appended to
+    /// the journal on the banks before it is handed out.
     ///
     /// # Errors
     ///
     /// In this order: `Closed` where an earlier call closed the clone; `TicksSpent` where its path has no tick left; `Device` where the
     /// device failed, which closes the clone. `NoMemory` leaves it as it was, or closes it where a call of the device was done. After the
     /// others it is as it was.
-    pub fn set(
-        &mut self,
-        alloc: Global,
-        triple: &Triple,
-        present: bool,
-    ) -> Result<Done, UpdateFault>
-        ensures ok { IfOk result (λ done. Sets self.old.local triple.now present done self.new.local) }
+    pub fn update(&mut self, alloc: Global, effect: &Effect) -> Result<Done, UpdateFault>
+        requires { DeletesOwn self.old.local effect.now }
+        ensures ok { IfOk result (λ done. LocallyUpdates self.old.local effect.now done self.new.local) }
         ensures opened { OnOk result (StaysOpen self.old self.new) }
         ensures closed { (why : Why) → IsErrOf result (UpdateFault.Closed why) ↔ (self.old.closed ≡ Some why) }
         ensures spent { IsErrOf result UpdateFault.TicksSpent
             ↔ ((self.old.closed ≡ None) × (ticks_of self.old.local.ticks self.old.local.path ≡ tick_limit)) }
-        ensures left { IfErr result (LeavesUpdate self.old self.new) }
-        ensures meter { (calls : ℕ) × UpdateCalls result calls × Metered calls (B.meter self.old.banks) (B.meter self.new.banks) (IsOk result) (IsErrOf result UpdateFault.Device) }
+        ensures left { IfErr result (λ fault.
+            LeavesClone B.log B.meter (IsDueUpdate effect.now) ⊥ self.old self.new (update_stop fault)) }
+        ensures durable { (steps : List KeptStep) × UpdateSteps self.old.local effect.now result steps
+            × Changes B.log B.meter steps self.old self.new.banks (IsOk result) (IsErrOf result UpdateFault.Device) }
     {
-        if let Some(why) = self.closed {
+        if let Some(why) = self.is_closed() {
             return Err(UpdateFault::Closed { why });
         }
         let path = self.path();
@@ -331,40 +343,25 @@ impl<B: Banks> MldClone<B> {
             path,
             tick: tick + 1,
         };
-        if present {
-            self.insert(alloc, &dot, triple)
-        } else {
-            self.remove(alloc, &dot, triple)
-        }
-    }
-
-    // Makes the operation at the next dot that inserts a triple.
-    fn insert(&mut self, alloc: Global, dot: &Dot, triple: &Triple) -> Result<Done, UpdateFault>
-        requires opened { self.old.closed ≡ None }
-        requires dot { dot.now ≡ next_dot self.old.local }
-        ensures ok { IfOk result (λ done. Sets self.old.local triple.now true done self.new.local) }
-        ensures opened { OnOk result (StaysOpen self.old self.new) }
-        ensures err { IfErr result (StopsUpdate self.old self.new) }
-        ensures meter { (calls : ℕ) × UpdateCalls result calls × Metered calls (B.meter self.old.banks) (B.meter self.new.banks) (IsOk result) (IsErrOf result UpdateFault.Device) }
-    {
-        let entry = insertion(alloc, self.known(), dot, triple)?;
-        self.make(alloc, dot, entry)
-    }
-
-    // Makes the operation at the next dot that deletes the pairs of a triple, if there are any.
-    fn remove(&mut self, alloc: Global, dot: &Dot, triple: &Triple) -> Result<Done, UpdateFault>
-        requires opened { self.old.closed ≡ None }
-        requires dot { dot.now ≡ next_dot self.old.local }
-        ensures ok { IfOk result (λ done. Sets self.old.local triple.now false done self.new.local) }
-        ensures opened { OnOk result (StaysOpen self.old self.new) }
-        ensures err { IfErr result (StopsUpdate self.old self.new) }
-        ensures meter { (calls : ℕ) × UpdateCalls result calls × Metered calls (B.meter self.old.banks) (B.meter self.new.banks) (IsOk result) (IsErrOf result UpdateFault.Device) }
-    {
-        let deletes = self.pairs().of_triple(alloc, triple)?;
-        if deletes.is_empty() {
+        if effect.is_empty() {
             return Ok(Done::Nothing);
         }
-        let entry = deletion(alloc, self.known(), dot, deletes)?;
+        self.make_by(alloc, &dot, effect)
+    }
+
+    // Makes the operation of an effect, which changes something, at the next dot.
+    fn make_by(&mut self, alloc: Global, dot: &Dot, effect: &Effect) -> Result<Done, UpdateFault>
+        requires opened { self.old.closed ≡ None }
+        requires dot { dot.now ≡ next_dot self.old.local }
+        requires own { DeletesOwn self.old.local effect.now }
+        requires due { IsDueUpdate effect.now }
+        ensures ok { IfOk result (λ done. LocallyUpdates self.old.local effect.now done self.new.local) }
+        ensures opened { OnOk result (StaysOpen self.old self.new) }
+        ensures err { IfErr result (λ fault. StopsClone B.log B.meter (IsDueUpdate effect.now) ⊥ self.old self.new (update_stop fault)) }
+        ensures durable { (steps : List KeptStep) × UpdateSteps self.old.local effect.now result steps
+            × Changes B.log B.meter steps self.old self.new.banks (IsOk result) (IsErrOf result UpdateFault.Device) }
+    {
+        let entry = entry_of_effect(alloc, self.known(), dot, effect)?;
         self.make(alloc, dot, entry)
     }
 
@@ -375,8 +372,9 @@ impl<B: Banks> MldClone<B> {
         requires next { IsNextEntry self.old.local.ticks dot.now entry }
         ensures ok { IfOk result (MakesDone self.old.local entry self.new.local) }
         ensures opened { OnOk result (StaysOpen self.old self.new) }
-        ensures err { IfErr result (StopsUpdate self.old self.new) }
-        ensures meter { Metered append_calls (B.meter self.old.banks) (B.meter self.new.banks) (IsOk result) (IsErrOf result UpdateFault.Device) }
+        ensures err { IfErr result (λ fault. StopsClone B.log B.meter (Unit {0}) ⊥ self.old self.new (update_stop fault)) }
+        ensures durable { (steps : List KeptStep) × MakeSteps entry result steps
+            × Changes B.log B.meter steps self.old self.new.banks (IsOk result) (IsErrOf result UpdateFault.Device) }
     {
         let made = entry.copy_in(alloc)?;
         let cut = prepare_own(
@@ -386,13 +384,7 @@ impl<B: Banks> MldClone<B> {
             &mut self.pairs,
             &entry,
         )?;
-        append_entries(
-            alloc,
-            &mut self.journal,
-            &mut self.closed,
-            false,
-            slice::from_ref(&entry),
-        )?;
+        append_entries(&mut self.journal, slice::from_ref(&entry))?;
         self.clock.raise(dot);
         self.pairs.apply(cut);
         self.entries.push_reserved(entry);
@@ -424,10 +416,12 @@ impl<B: Banks> MldClone<B> {
         ensures closed { (why : Why) → IsErrOf result (ReceiveFault.Closed why) ↔ (self.old.closed ≡ Some why) }
         ensures err { IfErr result (Refuses self.old.local message.now) }
         ensures spent { IsErrOf result ReceiveFault.GenerationsSpent ↔ (IsMessageSpent self.old message.now × ¬ IsErrOf result ReceiveFault.NoMemory) }
-        ensures left { IfErr result (LeavesMessage self.old message.now self.new) }
-        ensures meter { (calls : ℕ) × MessageCalls message.now result calls × Metered calls (B.meter self.old.banks) (B.meter self.new.banks) (IsOk result) (IsErrOf result ReceiveFault.Device) }
+        ensures left { IfErr result (λ fault.
+            LeavesClone B.log B.meter (IsDueMessage self.old.local message.now) (IsSwapDue message.now) self.old self.new (receive_stop fault)) }
+        ensures durable { (steps : List KeptStep) × MessageSteps self.old.local message.now self.new.local result steps
+            × Changes B.log B.meter steps self.old self.new.banks (IsOk result) (IsErrOf result ReceiveFault.Device) }
     {
-        if let Some(why) = self.closed {
+        if let Some(why) = self.is_closed() {
             return Err(ReceiveFault::Closed { why });
         }
         match message {
@@ -446,8 +440,9 @@ impl<B: Banks> MldClone<B> {
         ensures good { IfOk result AnswersGood }
         ensures opened { OnOk result (StaysOpen self.old self.new) }
         ensures err { IfErr result (RefusesAsk self.old.local id.now) }
-        ensures left { IfErr result (StopsReceive self.old self.new) }
-        ensures meter { (calls : ℕ) × ReceiveCalls result calls × Metered calls (B.meter self.old.banks) (B.meter self.new.banks) (IsOk result) (IsErrOf result ReceiveFault.Device) }
+        ensures left { IfErr result (StopsOpen B.log B.meter (IsDueAsk self.old.local id.now) ⊥ self.old self.new) }
+        ensures durable { (steps : List KeptStep) × MessageSteps self.old.local (kinds.JoinAsk id.now) self.new.local result steps
+            × Changes B.log B.meter steps self.old self.new.banks (IsOk result) (IsErrOf result ReceiveFault.Device) }
     {
         if *id == self.id {
             return Ok(Got::Ignored);
@@ -462,17 +457,17 @@ impl<B: Banks> MldClone<B> {
     // the clone has.
     fn give(&mut self, alloc: Global, id: &Uuid) -> Result<Got, ReceiveFault>
         requires opened { self.old.closed ≡ None }
-        requires other { id.now ≢ self.old.local.id }
-        requires room { length self.old.local.path < path_limit }
+        requires due { IsDueAsk self.old.local id.now }
         ensures ok { IfOk result (λ got. ReceivesAsk self.old.local id.now got self.new.local) }
         ensures good { IfOk result AnswersGood }
         ensures opened { OnOk result (StaysOpen self.old self.new) }
-        ensures err { IfErr result (StopsTaking self.old self.new) }
-        ensures meter { (calls : ℕ) × ReceiveCalls result calls × Metered calls (B.meter self.old.banks) (B.meter self.new.banks) (IsOk result) (IsErrOf result ReceiveFault.Device) }
+        ensures err { IfErr result (λ fault. StopsClone B.log B.meter (IsDueAsk self.old.local id.now) ⊥ self.old self.new (receive_stop fault)) }
+        ensures durable { (steps : List KeptStep) × MessageSteps self.old.local (kinds.JoinAsk id.now) self.new.local result steps
+            × Changes B.log B.meter steps self.old self.new.banks (IsOk result) (IsErrOf result ReceiveFault.Device) }
     {
         let snapshot = self.snapshot(alloc)?;
         let mut messages = Vec::with_capacity(alloc, 1)?;
-        append_fork(&mut self.journal, &mut self.closed)?;
+        append_fork(&mut self.journal)?;
         let right = self.leaf.give().unwrap();
         messages.push_reserved(Message::JoinGive(Give {
             id: *id,
@@ -500,8 +495,9 @@ impl<B: Banks> MldClone<B> {
         ensures good { IfOk result AnswersGood }
         ensures opened { OnOk result (StaysOpen self.old self.new) }
         ensures err { IfErr result (RefusesEntry self.old.local entry.now) }
-        ensures left { IfErr result (StopsReceive self.old self.new) }
-        ensures meter { (calls : ℕ) × ReceiveCalls result calls × Metered calls (B.meter self.old.banks) (B.meter self.new.banks) (IsOk result) (IsErrOf result ReceiveFault.Device) }
+        ensures left { IfErr result (StopsOpen B.log B.meter (IsDueEntry self.old.local entry.now) ⊥ self.old self.new) }
+        ensures durable { (steps : List KeptStep) × MessageSteps self.old.local (kinds.Range entry.now) self.new.local result steps
+            × Changes B.log B.meter steps self.old self.new.banks (IsOk result) (IsErrOf result ReceiveFault.Device) }
     {
         let path = self.path();
         let range = entry.range();
@@ -534,12 +530,13 @@ impl<B: Banks> MldClone<B> {
     // Takes an entry that is ready, and then those held back that this releases.
     fn accept(&mut self, alloc: Global, entry: &Entry) -> Result<Got, ReceiveFault>
         requires opened { self.old.closed ≡ None }
-        requires ready { IsReadyEntry self.old.local.ticks entry.now }
+        requires due { IsDueEntry self.old.local entry.now }
         ensures ok { IfOk result (λ got. ReceivesEntry self.old.local entry.now got self.new.local) }
         ensures good { IfOk result AnswersGood }
         ensures opened { OnOk result (StaysOpen self.old self.new) }
-        ensures err { IfErr result (StopsTaking self.old self.new) }
-        ensures meter { (calls : ℕ) × ReceiveCalls result calls × Metered calls (B.meter self.old.banks) (B.meter self.new.banks) (IsOk result) (IsErrOf result ReceiveFault.Device) }
+        ensures err { IfErr result (λ fault. StopsClone B.log B.meter (IsDueEntry self.old.local entry.now) ⊥ self.old self.new (receive_stop fault)) }
+        ensures durable { (steps : List KeptStep) × MessageSteps self.old.local (kinds.Range entry.now) self.new.local result steps
+            × Changes B.log B.meter steps self.old self.new.banks (IsOk result) (IsErrOf result ReceiveFault.Device) }
     {
         let plan = prepare_plan(
             alloc,
@@ -549,13 +546,7 @@ impl<B: Banks> MldClone<B> {
             &mut self.pairs,
             entry,
         )?;
-        append_entries(
-            alloc,
-            &mut self.journal,
-            &mut self.closed,
-            false,
-            &plan.entries,
-        )?;
+        append_entries(&mut self.journal, &plan.entries)?;
         self.pairs.apply(plan.cut);
         push_all(&mut self.entries, plan.entries);
         self.clock = plan.clock;
@@ -568,11 +559,11 @@ impl<B: CrashBanks> MldClone<B> {
     ghost use Rattle.std.specs.Prelude.{◌≡◌};
     ghost use Rattle.mld_io.specs.Arm.{armed};
 
-    /// Has so many calls of the banks that write or sync done, and catches the next one. It calls no device and takes no
-    /// memory.
+    /// Has so many calls of the banks that write or sync done, and catches the next one; the crash then leaves this much of
+    /// the writes that aren't synced. It calls no device and takes no memory.
     pub fn arm(&mut self, calls: u32, leave: Leave)
         ensures log { B.log self.new.banks ≡ B.log self.old.banks }
-        ensures meter { B.meter self.new.banks ≡ armed calls (B.meter self.old.banks) }
+        ensures meter { B.meter self.new.banks ≡ armed calls leave (B.meter self.old.banks) }
         ensures same { self.new ≡ record self.old { banks = self.new.banks } }
     {
         self.journal.arm(calls, leave);

@@ -10,13 +10,18 @@ use std::alloc::{AllocError, Global};
 use tree_clock::Clock;
 
 impl<B: Banks> MldClone<B> {
-    ghost use Rattle.std.specs.Prelude.{◌≡◌, ◌-◌, ◌^◌, ◌↔◌, ℕ, length, None, Some, IfOk, IfErr, IsOk, OnOk, IsErrOf};
-    ghost use Rattle.mld_io.specs.Arm.{Metered};
+    ghost use Rattle.std.specs.Prelude.{◌≡◌, ◌-◌, ◌^◌, ◌↔◌, List, length, None, Some, IfOk, IfErr, IsOk, OnOk, IsErrOf};
+    ghost use Rattle.clone_banks.specs.KeptSteps.{KeptStep};
     ghost use Rattle.journal_sides.specs.Heads.{head_value};
     ghost use Rattle.journal_store.specs.declared.faults.Why.{Why};
     ghost use Rattle.clone_core.specs.Banked.{head_over};
-    ghost use Rattle.clone_banks.specs.BankCalls.{swap_calls};
-    ghost use Rattle.clone_core.specs.Keeping.{KeepsCompacted, StaysUnclosed, IsSpent, LeavesKeep, KeepCalls, SwapsCompacted, StopsKeep};
+    ghost use Rattle.op_fusion.specs.Compacting.{HasNeighbours};
+    ghost use Rattle.mld_model.specs.Local.{LocallyCompacts};
+    ghost use Rattle.clone_core.specs.Closing.{LeavesClone, IsSwappedOpen, keep_stop};
+    ghost use Rattle.clone_core.specs.Durable.{Changes, KeepSteps};
+    ghost use Rattle.clone_core.specs.Due.{IsSpent};
+    ghost use Rattle.clone_core.specs.Keeping.{KeepsCompacted, StaysUnclosed};
+    ghost use Rattle.clone_core.specs.Parts.{StopsKeep};
 
     /// Compacts the journal: the entries of each run of neighbouring ranges are fused into one, and what the banks keep is swapped for
     /// that, by one swap. Where no two neighbours stand side by side, nothing changes and no device is called. Gives the number of
@@ -31,11 +36,14 @@ impl<B: Banks> MldClone<B> {
         ensures ok { IfOk result (λ count. KeepsCompacted self.old self.new × (count ≡ length self.new.local.entries)) }
         ensures opened { OnOk result (StaysUnclosed self.old self.new) }
         ensures closed { (why : Why) → IsErrOf result (KeepFault.Closed why) ↔ (self.old.closed ≡ Some why) }
-        ensures spent { IsErrOf result KeepFault.GenerationsSpent ↔ (IsSpent self.old × ¬ IsErrOf result KeepFault.NoMemory) }
-        ensures left { IfErr result (LeavesKeep self.old self.new) }
-        ensures meter { (calls : ℕ) × KeepCalls self.old.local.entries calls × Metered calls (B.meter self.old.banks) (B.meter self.new.banks) (IsOk result) (IsErrOf result KeepFault.Device) }
+        ensures spent { IsErrOf result KeepFault.GenerationsSpent
+            ↔ (IsSpent (HasNeighbours self.old.local.entries) self.old × ¬ IsErrOf result KeepFault.NoMemory) }
+        ensures left { IfErr result (λ fault.
+            LeavesClone B.log B.meter (HasNeighbours self.old.local.entries) ⊥ self.old self.new (keep_stop fault)) }
+        ensures durable { (steps : List KeptStep) × KeepSteps (HasNeighbours self.old.local.entries) (LocallyCompacts self.old.local) self.new.local result steps
+            × Changes B.log B.meter steps self.old self.new.banks (IsOk result) (IsErrOf result KeepFault.Device) }
     {
-        if let Some(why) = self.closed {
+        if let Some(why) = self.is_closed() {
             return Err(KeepFault::Closed { why });
         }
         if !has_neighbours(self.journal()) {
@@ -47,17 +55,20 @@ impl<B: Banks> MldClone<B> {
 
     // Swaps what the banks keep for the compacted journal, and then the entries.
     fn swap_compacted(&mut self, alloc: Global) -> Result<(), KeepFault>
-        requires { self.old.closed ≡ None }
-        ensures ok { OnOk result (SwapsCompacted self.old self.new) }
+        requires opened { self.old.closed ≡ None }
+        requires due { HasNeighbours self.old.local.entries }
+        ensures ok { OnOk result (LocallyCompacts self.old.local self.new.local) }
+        ensures opened { OnOk result (IsSwappedOpen self.old self.new) }
         ensures spent { IsErrOf result KeepFault.GenerationsSpent ↔ ((self.old.generation ≡ 2 ^ 64 - 1) × ¬ IsErrOf result KeepFault.NoMemory) }
-        ensures left { IfErr result (StopsKeep self.old self.new) }
-        ensures meter { Metered swap_calls (B.meter self.old.banks) (B.meter self.new.banks) (IsOk result) (IsErrOf result KeepFault.Device) }
+        ensures left { IfErr result (StopsKeep B.log B.meter (HasNeighbours self.old.local.entries) self.old self.new) }
+        ensures durable { (steps : List KeptStep) × KeepSteps (HasNeighbours self.old.local.entries) (LocallyCompacts self.old.local) self.new.local result steps
+            × Changes B.log B.meter steps self.old self.new.banks (IsOk result) (IsErrOf result KeepFault.Device) }
     {
         let entries = compacted(alloc, &self.entries)?;
         let base = self.base.copy_in(alloc)?;
         let pairs = copy_pairs(alloc, &self.base_pairs)?;
         let head = self.head_over(alloc, base, pairs)?;
-        swap_kept(alloc, &mut self.journal, &mut self.closed, &head, &entries)?;
+        swap_kept(alloc, &mut self.journal, &head, &entries)?;
         self.entries = entries;
         Ok(())
     }

@@ -9,12 +9,16 @@ use mld_ops::Snapshot;
 use std::alloc::Global;
 
 impl<B: Banks> MldClone<B> {
-    ghost use Rattle.std.specs.Prelude.{◌≡◌, ◌↔◌, ◌-◌, ◌^◌, ℕ, None, IfOk, IfErr, IsOk, IsErrOf};
-    ghost use Rattle.mld_io.specs.Arm.{Metered};
+    ghost use Rattle.std.specs.Prelude.{◌≡◌, ◌↔◌, ◌-◌, ◌^◌, List, None, IfOk, IfErr, IsOk, IsErrOf};
+    ghost use Rattle.clone_banks.specs.KeptSteps.{KeptStep};
     ghost use Rattle.mld_ops.specs.Messages.{snapshot_value, IsGoodSnapshot};
-    ghost use Rattle.mld_model.specs.Local.{IsForeignSnapshot, KnowsSnapshot};
+    ghost use Rattle.mld_ops.specs.declared.messages.Message.TheVariants as kinds;
+    ghost use Rattle.mld_model.specs.Local.{IsForeignSnapshot};
+    ghost use Rattle.clone_core.specs.Durable.{Changes, MessageSteps};
+    ghost use Rattle.clone_core.specs.Due.{IsDueSnapshot, IsSpent};
     ghost use Rattle.clone_core.specs.Joining.{AnswersGood};
-    ghost use Rattle.clone_core.specs.Merging.{ReceivesSnapshot, RefusesSnapshot, IsMergeSpent, StaysOpenBy, StopsSnapshot, StopsMerge, MergeCalls};
+    ghost use Rattle.clone_core.specs.Merging.{ReceivesSnapshot, RefusesSnapshot, StaysOpenBy};
+    ghost use Rattle.clone_core.specs.Parts.{StopsOpen, StopsMerge};
 
     /// Merges a snapshot that has dots which the clone lacks.
     pub(crate) fn receive_snapshot(
@@ -30,9 +34,10 @@ impl<B: Banks> MldClone<B> {
         ensures opened { IfOk result (StaysOpenBy self.old self.new) }
         ensures err { IfErr result (RefusesSnapshot self.old.local (snapshot_value snapshot.now)) }
         ensures spent { IsErrOf result ReceiveFault.GenerationsSpent
-            ↔ (IsMergeSpent self.old (snapshot_value snapshot.now) × ¬ IsErrOf result ReceiveFault.NoMemory) }
-        ensures left { IfErr result (StopsSnapshot self.old self.new) }
-        ensures meter { (calls : ℕ) × MergeCalls result calls × Metered calls (B.meter self.old.banks) (B.meter self.new.banks) (IsOk result) (IsErrOf result ReceiveFault.Device) }
+            ↔ (IsSpent (IsDueSnapshot self.old.local (snapshot_value snapshot.now)) self.old × ¬ IsErrOf result ReceiveFault.NoMemory) }
+        ensures left { IfErr result (StopsOpen B.log B.meter (IsDueSnapshot self.old.local (snapshot_value snapshot.now)) (Unit {0}) self.old self.new) }
+        ensures durable { (steps : List KeptStep) × MessageSteps self.old.local (kinds.Snapshot snapshot.now) self.new.local result steps
+            × Changes B.log B.meter steps self.old self.new.banks (IsOk result) (IsErrOf result ReceiveFault.Device) }
     {
         let path = self.path();
         let own = self.known().ticks(&path);
@@ -51,13 +56,14 @@ impl<B: Banks> MldClone<B> {
     fn merge(&mut self, alloc: Global, snapshot: &Snapshot) -> Result<Got, ReceiveFault>
         requires opened { self.old.closed ≡ None }
         requires good { IsGoodSnapshot (snapshot_value snapshot.now) }
-        requires lacks { ¬ KnowsSnapshot self.old.local (snapshot_value snapshot.now) }
+        requires due { IsDueSnapshot self.old.local (snapshot_value snapshot.now) }
         ensures ok { IfOk result (λ got. ReceivesSnapshot self.old.local (snapshot_value snapshot.now) got self.new.local) }
         ensures good { IfOk result AnswersGood }
         ensures opened { IfOk result (StaysOpenBy self.old self.new) }
         ensures spent { IsErrOf result ReceiveFault.GenerationsSpent ↔ ((self.old.generation ≡ 2 ^ 64 - 1) × ¬ IsErrOf result ReceiveFault.NoMemory) }
-        ensures left { IfErr result (StopsMerge self.old self.new) }
-        ensures meter { (calls : ℕ) × MergeCalls result calls × Metered calls (B.meter self.old.banks) (B.meter self.new.banks) (IsOk result) (IsErrOf result ReceiveFault.Device) }
+        ensures left { IfErr result (StopsMerge B.log B.meter (IsDueSnapshot self.old.local (snapshot_value snapshot.now)) self.old self.new) }
+        ensures durable { (steps : List KeptStep) × MessageSteps self.old.local (kinds.Snapshot snapshot.now) self.new.local result steps
+            × Changes B.log B.meter steps self.old self.new.banks (IsOk result) (IsErrOf result ReceiveFault.Device) }
     {
         let Merge {
             base,
@@ -65,13 +71,7 @@ impl<B: Banks> MldClone<B> {
             after,
         } = prepare_merge(alloc, &self.clock, &self.pairs, &self.held, snapshot)?;
         let head = self.head_over(alloc, base, base_pairs)?;
-        swap_and_append(
-            alloc,
-            &mut self.journal,
-            &mut self.closed,
-            &head,
-            &after.entries,
-        )?;
+        swap_and_append(alloc, &mut self.journal, &head, &after.entries)?;
         replace_base(&mut self.base, &mut self.base_pairs, head);
         self.clock = after.clock;
         self.pairs = after.pairs;

@@ -7,11 +7,15 @@ use mld_io::Banks;
 use std::alloc::Global;
 
 impl<B: Banks> MldClone<B> {
-    ghost use Rattle.std.specs.Prelude.{◌≡◌, ◌<◌, ◌-◌, ◌^◌, ◌↔◌, ℕ, length, None, Some, IfOk, IfErr, IsOk, OnOk, IsErrOf};
-    ghost use Rattle.mld_io.specs.Arm.{Metered};
+    ghost use Rattle.std.specs.Prelude.{◌≡◌, ◌<◌, ◌-◌, ◌^◌, ◌↔◌, List, length, None, Some, IfOk, IfErr, IsOk, OnOk, IsErrOf};
+    ghost use Rattle.clone_banks.specs.KeptSteps.{KeptStep};
     ghost use Rattle.journal_store.specs.declared.faults.Why.{Why};
-    ghost use Rattle.clone_banks.specs.BankCalls.{swap_calls};
-    ghost use Rattle.clone_core.specs.Keeping.{KeepsTruncated, StaysUnclosed, IsCutSpent, LeavesKeep, CutCalls, SwapsTruncated, StopsKeep};
+    ghost use Rattle.mld_model.specs.Local.{LocallyTruncates};
+    ghost use Rattle.clone_core.specs.Closing.{LeavesClone, IsSwappedOpen, keep_stop};
+    ghost use Rattle.clone_core.specs.Durable.{Changes, KeepSteps};
+    ghost use Rattle.clone_core.specs.Due.{IsSpent};
+    ghost use Rattle.clone_core.specs.Keeping.{KeepsTruncated, StaysUnclosed};
+    ghost use Rattle.clone_core.specs.Parts.{StopsKeep};
 
     /// Truncates the journal: its last `keep` entries stay, or all where it has fewer, and the clone's base is what the others led to. What
     /// the banks keep is swapped for that, by one swap. Where the journal has no more entries than that, nothing changes and no device is
@@ -26,11 +30,14 @@ impl<B: Banks> MldClone<B> {
         ensures ok { IfOk result (λ count. KeepsTruncated self.old keep self.new × (count ≡ length self.new.local.entries)) }
         ensures opened { OnOk result (StaysUnclosed self.old self.new) }
         ensures closed { (why : Why) → IsErrOf result (KeepFault.Closed why) ↔ (self.old.closed ≡ Some why) }
-        ensures spent { IsErrOf result KeepFault.GenerationsSpent ↔ (IsCutSpent self.old keep × ¬ IsErrOf result KeepFault.NoMemory) }
-        ensures left { IfErr result (LeavesKeep self.old self.new) }
-        ensures meter { (calls : ℕ) × CutCalls self.old.local.entries keep calls × Metered calls (B.meter self.old.banks) (B.meter self.new.banks) (IsOk result) (IsErrOf result KeepFault.Device) }
+        ensures spent { IsErrOf result KeepFault.GenerationsSpent
+            ↔ (IsSpent (keep < length self.old.local.entries) self.old × ¬ IsErrOf result KeepFault.NoMemory) }
+        ensures left { IfErr result (λ fault.
+            LeavesClone B.log B.meter (keep < length self.old.local.entries) ⊥ self.old self.new (keep_stop fault)) }
+        ensures durable { (steps : List KeptStep) × KeepSteps (keep < length self.old.local.entries) (LocallyTruncates self.old.local keep) self.new.local result steps
+            × Changes B.log B.meter steps self.old self.new.banks (IsOk result) (IsErrOf result KeepFault.Device) }
     {
-        if let Some(why) = self.closed {
+        if let Some(why) = self.is_closed() {
             return Err(KeepFault::Closed { why });
         }
         let count = self.journal().len();
@@ -45,22 +52,18 @@ impl<B: Banks> MldClone<B> {
     fn swap_truncated(&mut self, alloc: Global, keep: usize) -> Result<(), KeepFault>
         requires opened { self.old.closed ≡ None }
         requires more { keep < length self.old.local.entries }
-        ensures ok { OnOk result (SwapsTruncated self.old keep self.new) }
+        ensures ok { OnOk result (LocallyTruncates self.old.local keep self.new.local) }
+        ensures opened { OnOk result (IsSwappedOpen self.old self.new) }
         ensures spent { IsErrOf result KeepFault.GenerationsSpent ↔ ((self.old.generation ≡ 2 ^ 64 - 1) × ¬ IsErrOf result KeepFault.NoMemory) }
-        ensures left { IfErr result (StopsKeep self.old self.new) }
-        ensures meter { Metered swap_calls (B.meter self.old.banks) (B.meter self.new.banks) (IsOk result) (IsErrOf result KeepFault.Device) }
+        ensures left { IfErr result (StopsKeep B.log B.meter (keep < length self.old.local.entries) self.old self.new) }
+        ensures durable { (steps : List KeptStep) × KeepSteps (keep < length self.old.local.entries) (LocallyTruncates self.old.local keep) self.new.local result steps
+            × Changes B.log B.meter steps self.old self.new.banks (IsOk result) (IsErrOf result KeepFault.Device) }
     {
         let cut = self.entries.len() - keep;
         let (base, pairs) = led_to(alloc, &self.base, &self.base_pairs, &self.entries[..cut])?;
         tell_clock(&self.clock);
         let head = self.head_over(alloc, base, pairs)?;
-        swap_kept(
-            alloc,
-            &mut self.journal,
-            &mut self.closed,
-            &head,
-            &self.entries[cut..],
-        )?;
+        swap_kept(alloc, &mut self.journal, &head, &self.entries[cut..])?;
         replace_base(&mut self.base, &mut self.base_pairs, head);
         drop_front(&mut self.entries, cut);
         Ok(())

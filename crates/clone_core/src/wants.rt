@@ -9,12 +9,12 @@ use std::alloc::{AllocError, Global};
 use tree_clock::Clock;
 
 impl<B: Banks> MldClone<B> {
-    ghost use Rattle.std.specs.Prelude.{◌≡◌, ℕ, None, IfOk, IfErr, IsOk, OnOk, IsErrOf};
-    ghost use Rattle.mld_io.specs.Arm.{Metered};
+    ghost use Rattle.std.specs.Prelude.{◌≡◌, [], None, IfOk, IfErr, IsOk, OnOk, IsErrOf};
+    ghost use Rattle.clone_core.specs.Durable.{Changes};
     ghost use Rattle.mld_ops.specs.Messages.{CarriesWant, IsGoodMessage, message_value};
     ghost use Rattle.clone_core.specs.Closing.{StaysOpen};
     ghost use Rattle.clone_core.specs.Joining.{AnswersGood};
-    ghost use Rattle.clone_core.specs.Stopping.{StopsReceive};
+    ghost use Rattle.clone_core.specs.Parts.{StopsOpen};
     ghost use Rattle.clone_core.specs.Wants.{AnswersWant, RefusesWant, SendsWhole};
 
     /// A question for what the clone lacks: it tells the dots that the clone knows.
@@ -33,8 +33,8 @@ impl<B: Banks> MldClone<B> {
         ensures good { IfOk result AnswersGood }
         ensures opened { OnOk result (StaysOpen self.now self.now) }
         ensures err { IfErr result RefusesWant }
-        ensures left { IfErr result (StopsReceive self.now self.now) }
-        ensures meter { Metered 0 (B.meter self.now.banks) (B.meter self.now.banks) (IsOk result) (IsErrOf result ReceiveFault.Device) }
+        ensures left { IfErr result (StopsOpen B.log B.meter ⊥ ⊥ self.now self.now) }
+        ensures durable { Changes B.log B.meter [] self.now self.now.banks (IsOk result) (IsErrOf result ReceiveFault.Device) }
     {
         if !self.base().leq(known) {
             return self.answer_behind(alloc);

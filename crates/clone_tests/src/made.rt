@@ -7,8 +7,8 @@ use clone_core::{Asker, Done, Got, MldClone, Mounted, ReceiveFault, UpdateFault}
 use disk_model::MemoryBanks;
 use iri_rules::{Text, is_domain};
 use journal_store::Blank;
-use mld_ops::{Entry, Message};
-use rdf_terms::{Iri, read_triple};
+use mld_ops::{Effect, Entry, Message};
+use rdf_terms::{Iri, Triple, read_triple};
 use std::alloc::{AllocError, Global};
 use std::test::Fail;
 use std::thread::Threads;
@@ -63,9 +63,36 @@ fn word_of_got(got: Result<Got, ReceiveFault>) -> Word {
 /// What a clone answers where it is to add the triple, or to remove it.
 pub fn set(clone: &mut TestClone, alloc: Global, present: bool) -> Word {
     match read_triple(alloc, TRIPLE) {
-        Ok(triple) => word_of_done(clone.set(alloc, &triple, present)),
+        Ok(triple) => word_of_done(set_to(clone, alloc, triple, present)),
         Err(_fault) => Word::Other,
     }
+}
+
+/// Makes the update that inserts a triple, or the one that deletes its pairs.
+fn set_to(
+    clone: &mut TestClone,
+    alloc: Global,
+    triple: Triple,
+    present: bool,
+) -> Result<Done, UpdateFault> {
+    if present {
+        add(clone, alloc, triple)
+    } else {
+        remove(clone, alloc, &triple)
+    }
+}
+
+/// Makes the update that inserts a triple.
+fn add(clone: &mut TestClone, alloc: Global, triple: Triple) -> Result<Done, UpdateFault> {
+    let effect = Effect::insertion(alloc, triple)?;
+    clone.update(alloc, &effect)
+}
+
+/// Makes the update that deletes the pairs of a triple.
+fn remove(clone: &mut TestClone, alloc: Global, triple: &Triple) -> Result<Done, UpdateFault> {
+    let pairs = clone.pairs_of(alloc, triple)?;
+    let effect = Effect::deletion(alloc, pairs);
+    clone.update(alloc, &effect)
 }
 
 /// What a clone answers to the entry of a range that deletes and inserts nothing.

@@ -17,7 +17,7 @@ found-requires-clause-local g c =
     let replayed = c.in-Ok.replayed in
     let good = c.in-Found.ensures.good.0 in
     found_local head c.at-leaf.result replayed (record { name = good.name; ascending = good.props_ascend }) c.in-Ok.ensures.clock good.base
-    (subst (λ (es : List EntryValue). LeadsTo head.base.ticks head.base.pairs es replayed.clock.ticks replayed.pairs.elements) (sym c.in-Ok.ensures.entries) c.in-Ok.ensures.leads)
+    (subst (λ (es : List EntryValue). LeadsTo head.base.ticks head.base.pairs es replayed.clock.ticks replayed.pairs.pairs) (sym c.in-Ok.ensures.entries) c.in-Ok.ensures.leads)
     c.in-Ok.ensures.covered
 
 pub found-requires-clause-banks : goal.found-requires-clause-banks
@@ -26,9 +26,9 @@ found-requires-clause-banks g c =
     let replayed = c.in-Ok.replayed in
     let journal = c.in-Found.journal in
     let entries = c.in-Found.entries.items in
-    mounted_on_banks (g.B.Banks.log c.args.banks) (g.B.Banks.log journal.banks) journal.closed journal.side journal.generation (found_clone head c.at-leaf.result replayed)
-    (record { side = journal.side; generation = journal.generation; head = head; entries = entries }) c.in-Found.ensures.opened c.in-Found.ensures.tells c.in-Found.ensures.synced
-    c.in-Found.ensures.untold (found_kept journal.side journal.generation head entries c.at-leaf.result replayed c.at-leaf.ensures c.in-Ok.ensures.entries)
+    mounted_on_banks (g.B.Banks.log c.args.banks) (g.B.Banks.log journal.banks) journal.side journal.generation (found_clone head c.at-leaf.result replayed)
+    (record { side = journal.side; generation = journal.generation; head = head; entries = entries }) c.in-Found.ensures.tells c.in-Found.ensures.synced
+    c.in-Found.ensures.told (found_kept journal.side journal.generation head entries c.at-leaf.result replayed c.at-leaf.ensures c.in-Ok.ensures.entries)
 
 pub returns-in-Ok-clause-tells : goal.returns-in-Ok-clause-tells
 returns-in-Ok-clause-tells g c = λ l told.

@@ -1,0 +1,225 @@
+-- Laws of the changes that a clone's calls make of what its banks keep.
+use Rattle.std.proofs.Common.{◌≡◌, ◌∙◌, ℕ, ◌*◌, List, [], ◌∷◌, ◌↔◌, Bool, Option, None, Some, Result, Ok, Err, IsOk, IfOk, IsErrOf, length, inl, inr, refl, sym, ap, subst}
+use Rattle.mld_io.specs.Arm.{Meter, Metered}
+use Rattle.mld_io.specs.Disk.{Log}
+use Rattle.mld_ops.specs.Entry.{EntryValue}
+use Rattle.journal_sides.specs.Pairs.{Kept, Keeps, KeepsNone}
+use Rattle.journal_store.specs.Calls.{KeptBy}
+use Rattle.journal_store.specs.Closing.{StaysTold, LeavesSwap}
+use Rattle.journal_store.specs.Standing.{JournalValue, IsBlankLog}
+use Rattle.journal_store.specs.declared.faults.SwapFault.{SwapFault}
+use Rattle.journal_store.specs.declared.faults.SwapFault.TheVariants as swap
+use Rattle.journal_store.specs.declared.faults.Why.{Why}
+use Rattle.journal_store.specs.declared.faults.Why.TheVariants as why
+use Rattle.journal_store.proofs.ClosingLaws.{told_same}
+use Rattle.journal_store.proofs.Reading.{metered_as}
+use Rattle.mld_model.specs.Local.{LocalClone, next_dot}
+use Rattle.clone_banks.specs.BankCalls.{append_calls, create_calls}
+use Rattle.clone_banks.specs.KeptSteps.{KeptStep, Created, Appended, calls_of_all, appends, LeavesSome}
+use Rattle.clone_banks.proofs.Appended.{appends_calls}
+use Rattle.clone_banks.proofs.StepLaws.{some_none}
+use Rattle.mld_io.proofs.ArmLaws.{Metered-refused}
+use Rattle.journal_sides.specs.Heads.{HeadValue}
+use Rattle.clone_banks.proofs.MeterLaws.{Metered-none}
+use Rattle.clone_banks.proofs.RefusedLaws.{none_some, ok_err}
+use Rattle.clone_core.specs.Banked.{BankedClone, kept_as}
+use Rattle.clone_core.specs.Closing.{update_stop, receive_stop}
+use Rattle.causal_buffer.specs.declared.faults.HeldFault.{HeldFault}
+use Rattle.causal_buffer.specs.declared.faults.HeldFault.TheVariants as held
+use Rattle.mld_ops.specs.declared.messages.Message.TheVariants as message
+use Rattle.clone_core.specs.declared.answers.Got.{Got}
+use Rattle.clone_core.specs.CloneFaults.{fault_of_held, update_fault_of, receive_fault_of, receive_fault_of_swap, keep_fault_of}
+use Rattle.mld_ops.specs.Effects.{EffectValue}
+use Rattle.clone_plans.specs.Making.{IsEntryOf}
+use Rattle.clone_core.specs.Durable.{Changes, Creates, RefusedSteps, AppendsOwn, UpdateSteps, WouldReceive}
+use Rattle.clone_core.specs.Parts.{MakesDone, MakeSteps}
+use Rattle.clone_core.specs.declared.answers.Done.{Done}
+use Rattle.clone_core.specs.declared.answers.Done.TheVariants as done
+use Rattle.clone_core.specs.declared.faults.KeepFault.TheVariants as keep
+use Rattle.clone_core.specs.declared.faults.ReceiveFault.{ReceiveFault}
+use Rattle.clone_core.specs.declared.faults.ReceiveFault.TheVariants as receive
+use Rattle.clone_core.specs.declared.faults.UpdateFault.{UpdateFault}
+use Rattle.clone_core.specs.declared.faults.UpdateFault.TheVariants as update
+use Rattle.clone_core.proofs.AppendLaws.{OnJournal, kept_by}
+use Rattle.clone_core.proofs.StopLaws.{banked}
+
+pub err_same : {T E : Type 0} {x y : E} → ◌≡◌ {A = Result T E} (Err x) (Err y) → x ≡ y
+err_same e = cc
+
+-- ---- no call of the device
+
+module _ {B : Type 0} (log : B → Option Log) (meter : B → Meter) (old : BankedClone B) (now : B) (same : now ≡ old.banks) where
+  pub changes_none : {Whole Failed : Type 0} → ¬ Failed → Changes log meter [] old now Whole Failed
+  changes_none {Whole = Whole} {Failed = Failed} quiet = record {
+    metered = subst (λ (m : Meter). Metered 0 (meter old.banks) m Whole Failed) (sym (ap meter same)) (Metered-none (meter old.banks) quiet);
+    told = told_same (log old.banks) (log now) (ap log same);
+    moments = same;
+  }
+
+-- ---- calls of the device
+
+module _ {B : Type 0} (log : B → Option Log) (meter : B → Meter) (was now : JournalValue B) (local : LocalClone) (old : BankedClone B) (same : banked local was ≡ old)
+    (banks : OnJournal log was local) (is_open : was.closed ≡ None) (told : StaysTold (log was.banks) (log now.banks)) where
+  -- changes, of which there are some
+  pub changes_made : {Whole Failed : Type 0} (step : KeptStep) (steps : List KeptStep)
+      → ((l : Log) (kept : Kept) → log was.banks ≡ Some l → KeptBy (log was.banks) was.closed kept
+      → LeavesSome l (log now.banks) (Keeps kept) (step ∷ steps) (meter was.banks).arm (meter now.banks).arm)
+      → Metered (calls_of_all (step ∷ steps)) (meter was.banks) (meter now.banks) Whole Failed → Changes log meter (step ∷ steps) old now.banks Whole Failed
+  changes_made {Whole = Whole} {Failed = Failed} step steps moments metered =
+      subst (λ (clone : BankedClone B). Changes log meter (step ∷ steps) clone now.banks Whole Failed) same
+      (record {
+        metered = metered;
+        told = told;
+        moments = λ l is. (was.side, moments l (kept_as was.side was.generation local) is (kept_by log was now local banks is_open l is));
+      })
+
+  -- an append for each of some entries
+  pub appends_made : {Whole Failed : Type 0} (entry : EntryValue) (taken entries : List EntryValue) → entries ≡ entry ∷ taken
+      → ((l : Log) (kept : Kept) → log was.banks ≡ Some l → KeptBy (log was.banks) was.closed kept
+      → LeavesSome l (log now.banks) (Keeps kept) (appends entries) (meter was.banks).arm (meter now.banks).arm)
+      → Metered (append_calls * length entries) (meter was.banks) (meter now.banks) Whole Failed → Changes log meter (appends (entry ∷ taken)) old now.banks Whole Failed
+  appends_made {Whole = Whole} {Failed = Failed} entry taken entries is moments metered =
+      changes_made (Appended entry) (appends taken)
+      (subst (λ (es : List EntryValue). (l : Log) (kept : Kept) → log was.banks ≡ Some l → KeptBy (log was.banks) was.closed kept
+      → LeavesSome l (log now.banks) (Keeps kept) (appends es) (meter was.banks).arm (meter now.banks).arm) is moments)
+      (subst (λ (n : ℕ). Metered n (meter was.banks) (meter now.banks) Whole Failed)
+      (ap (λ (es : List EntryValue). append_calls * length es) is ∙ sym (appends_calls (entry ∷ taken))) metered)
+
+-- ---- how calls ended
+
+-- those that were done
+pub done_metered : {U E T F : Type 0} (n : ℕ) (before now : Meter) (x : U) (y : T) (told : E) (fault : F)
+    → Metered n before now (IsOk {T = U} {E = E} (Ok x)) (IsErrOf {T = U} {E = E} (Ok x) told)
+    → Metered n before now (IsOk {T = T} {E = F} (Ok y)) (IsErrOf {T = T} {E = F} (Ok y) fault)
+done_metered n before now x y told fault m = metered_as n before now (λ d. refl) (λ e. absurd (ok_err e)) (λ e. absurd (ok_err e)) m
+
+-- and those that were refused, where one fault tells of the device just where the other does
+module _ {U E T F : Type 0} (n : ℕ) (before now : Meter) (device : E) (fault_device : F) (told : E) (fault : F) (tells : (fault ≡ fault_device) ↔ (told ≡ device)) where
+  pub stopped_metered : Metered n before now (IsOk {T = U} {E = E} (Err told)) (IsErrOf {T = U} {E = E} (Err told) device)
+      → Metered n before now (IsOk {T = T} {E = F} (Err fault)) (IsErrOf {T = T} {E = F} (Err fault) fault_device)
+  stopped_metered m = metered_as n before now (λ d. absurd (not_ok d)) (λ e. ap Err (tells.0 (err_same e))) (λ e. ap Err (tells.1 (err_same e))) m
+    where
+      not_ok : IsOk {T = T} {E = F} (Err fault) → ⊥
+      not_ok d = cc
+
+pub receive_tells : (told : Why) → (receive_fault_of told ≡ receive.Device) ↔ (told ≡ why.Device)
+receive_tells why.Device = (λ e. refl, λ e. refl)
+receive_tells why.NoMemory = (λ e. absurd cc, λ e. absurd cc)
+
+pub update_tells : (told : Why) → (update_fault_of told ≡ update.Device) ↔ (told ≡ why.Device)
+update_tells why.Device = (λ e. refl, λ e. refl)
+update_tells why.NoMemory = (λ e. absurd cc, λ e. absurd cc)
+
+pub merge_tells : (told : SwapFault) → (receive_fault_of_swap told ≡ receive.Device) ↔ (told ≡ swap.Device)
+merge_tells swap.Device = (λ e. refl, λ e. refl)
+merge_tells swap.NoMemory = (λ e. absurd cc, λ e. absurd cc)
+merge_tells swap.GenerationsSpent = (λ e. absurd cc, λ e. absurd cc)
+merge_tells (swap.Closed reason) = (λ e. absurd cc, λ e. absurd cc)
+
+pub keep_tells : (told : SwapFault) → (keep_fault_of told ≡ keep.Device) ↔ (told ≡ swap.Device)
+keep_tells swap.Device = (λ e. refl, λ e. refl)
+keep_tells swap.NoMemory = (λ e. absurd cc, λ e. absurd cc)
+keep_tells swap.GenerationsSpent = (λ e. absurd cc, λ e. absurd cc)
+keep_tells (swap.Closed reason) = (λ e. absurd cc, λ e. absurd cc)
+
+-- what was refused by the device or memory may have made the changes that it was to make
+pub receive_would : (Would : List KeptStep → Type 0) (told : Why) (steps : List KeptStep) → Would steps → RefusedSteps Would (receive_stop (receive_fault_of told)) steps
+receive_would Would why.Device steps h = h
+receive_would Would why.NoMemory steps h = inr h
+
+pub update_would : (Would : List KeptStep → Type 0) (told : Why) (steps : List KeptStep) → Would steps → RefusedSteps Would (update_stop (update_fault_of told)) steps
+update_would Would why.Device steps h = h
+update_would Would why.NoMemory steps h = inr h
+
+-- ---- appends and swaps that were refused
+
+module _ {B : Type 0} (U T : Type 0) (log : B → Option Log) (meter : B → Meter) (was now : JournalValue B) (local : LocalClone) (old : BankedClone B) (same : banked local was ≡ old)
+    (banks : OnJournal log was local) (is_open : was.closed ≡ None) (told : StaysTold (log was.banks) (log now.banks)) (Would : List KeptStep → Type 0)
+    (step : KeptStep) (steps : List KeptStep) (would : Would (step ∷ steps))
+    (moments : (l : Log) (kept : Kept) → log was.banks ≡ Some l → KeptBy (log was.banks) was.closed kept
+    → LeavesSome l (log now.banks) (Keeps kept) (step ∷ steps) (meter was.banks).arm (meter now.banks).arm) where
+  abbrev calls : ℕ
+  calls = calls_of_all (step ∷ steps)
+
+  -- where a swap was
+  module _ (swaps : Bool) (Stop : Type 0) (device : Stop) (fault_of : SwapFault → Stop) (stop_of : Stop → Option Why)
+      (tells : (fault : SwapFault) → (fault_of fault ≡ device) ↔ (fault ≡ swap.Device))
+      (spent : stop_of (fault_of swap.GenerationsSpent) ≡ None) (failed : stop_of (fault_of swap.Device) ≡ Some why.Device)
+      (memory : stop_of (fault_of swap.NoMemory) ≡ Some why.NoMemory) where
+    abbrev Ends : SwapFault → Type 0
+    Ends fault = (made : List KeptStep) × RefusedSteps Would (stop_of (fault_of fault)) made
+        × Changes log meter made old now.banks (IsOk {T = T} {E = Stop} (Err (fault_of fault))) (IsErrOf {T = T} {E = Stop} (Err (fault_of fault)) device)
+
+    some_made : (fault : SwapFault) → Metered calls (meter was.banks) (meter now.banks) (IsOk {T = U} {E = SwapFault} (Err fault)) (IsErrOf {T = U} {E = SwapFault} (Err fault) swap.Device)
+        → Changes log meter (step ∷ steps) old now.banks (IsOk {T = T} {E = Stop} (Err (fault_of fault))) (IsErrOf {T = T} {E = Stop} (Err (fault_of fault)) device)
+    some_made fault m =
+        changes_made log meter was now local old same banks is_open told step steps moments
+        (stopped_metered {U = U} {E = SwapFault} {T = T} {F = Stop} calls (meter was.banks) (meter now.banks) swap.Device device fault (fault_of fault) (tells fault) m)
+
+    pub swap_refused : (fault : SwapFault) → LeavesSwap log meter swaps was now fault
+        → Metered calls (meter was.banks) (meter now.banks) (IsOk {T = U} {E = SwapFault} (Err fault)) (IsErrOf {T = U} {E = SwapFault} (Err fault) swap.Device) → Ends fault
+    swap_refused (swap.Closed reason) h m = absurd (none_some (sym is_open ∙ h.0))
+    swap_refused swap.GenerationsSpent h m = (
+      [],
+      subst (λ (stop : Option Why). RefusedSteps Would stop []) (sym spent) refl,
+      changes_none log meter old now.banks (ap (λ (j : JournalValue B). j.banks) h ∙ ap (λ (clone : BankedClone B). clone.banks) same)
+          (λ f. no_device ((tells swap.GenerationsSpent).0 (err_same f))),
+    )
+      where
+        no_device : ¬ (swap.GenerationsSpent ≡ swap.Device)
+        no_device e = cc
+    swap_refused swap.Device h m = (step ∷ steps, subst (λ (stop : Option Why). RefusedSteps Would stop (step ∷ steps)) (sym failed) would, some_made swap.Device m)
+    swap_refused swap.NoMemory h m = (step ∷ steps, subst (λ (stop : Option Why). RefusedSteps Would stop (step ∷ steps)) (sym memory) (inr would), some_made swap.NoMemory m)
+
+-- ---- an update
+
+-- the append of an entry of the clone's own is that of an update
+module _ {B : Type 0} (log : B → Option Log) (meter : B → Meter) (old new : BankedClone B) (effect : EffectValue) (entry : EntryValue) (own : IsEntryOf old.local.ticks (next_dot old.local) effect entry) where
+  would_make : (stop : Option Why) (steps : List KeptStep) → RefusedSteps (λ (made : List KeptStep). made ≡ Appended entry ∷ []) stop steps
+      → RefusedSteps (AppendsOwn old.local effect) stop steps
+  would_make None steps h = h
+  would_make (Some why.Device) steps h = (entry, own, h)
+  would_make (Some why.NoMemory) steps (inl h) = inl h
+  would_make (Some why.NoMemory) steps (inr h) = inr (entry, own, h)
+
+  steps_make : (result : Result Done UpdateFault) → IfOk result (MakesDone old.local entry new.local) → (steps : List KeptStep) → MakeSteps entry result steps
+      → UpdateSteps old.local effect result steps
+  steps_make (Ok done.Nothing) ok steps h = absurd ok
+  steps_make (Ok (done.Made made)) ok steps h = h ∙ ap (λ (e : EntryValue). Appended e ∷ []) (sym ok.0)
+  steps_make (Err refused) ok steps h = would_make (update_stop refused) steps h
+
+  pub makes_update : (result : Result Done UpdateFault) → IfOk result (MakesDone old.local entry new.local)
+      → (steps : List KeptStep) × MakeSteps entry result steps × Changes log meter steps old new.banks (IsOk result) (IsErrOf result update.Device)
+      → (steps : List KeptStep) × UpdateSteps old.local effect result steps × Changes log meter steps old new.banks (IsOk result) (IsErrOf result update.Device)
+  makes_update result ok made = (made.0, steps_make result ok made.0 made.1, made.2)
+
+-- ---- an entry that can't be held
+
+pub held_steps : {B : Type 0} (log : B → Option Log) (meter : B → Meter) (old : BankedClone B) (now : B) → now ≡ old.banks → (entry : EntryValue) (told : HeldFault)
+    → (steps : List KeptStep) × RefusedSteps (WouldReceive old.local (message.Range entry)) (receive_stop (fault_of_held told)) steps
+    × Changes log meter steps old now (IsOk {T = Got} {E = ReceiveFault} (Err (fault_of_held told))) (IsErrOf {T = Got} (Err (fault_of_held told)) receive.Device)
+held_steps log meter old now same entry held.Full = ([], refl, changes_none log meter old now same (λ f. absurd cc))
+held_steps log meter old now same entry held.NoMemory = ([], inl refl, changes_none log meter old now same (λ f. absurd cc))
+
+-- ---- a clone that is made
+
+module _ {B : Type 0} (log : B → Option Log) (meter : B → Meter) (blank now : B) {Whole Failed : Type 0} where
+  -- the head that was made is this one
+  pub creates_as : (made head : HeadValue) → made ≡ head
+      → ((l : Log) → log blank ≡ Some l → LeavesSome l (log now) KeepsNone (Created made ∷ []) (meter blank).arm (meter now).arm) → StaysTold (log blank) (log now)
+      → Metered create_calls (meter blank) (meter now) Whole Failed → Creates log meter head blank now Whole Failed
+  creates_as made head is moments told metered = record {
+    metered = metered;
+    told = told;
+    moments = subst (λ (h : HeadValue). (l : Log) → log blank ≡ Some l → LeavesSome l (log now) KeepsNone (Created h ∷ []) (meter blank).arm (meter now).arm) is moments;
+  }
+
+  -- nothing was done, so the banks are blank still
+  pub creates_none : (head : HeadValue) → now ≡ blank → IsBlankLog (log blank) → ¬ Whole → ¬ Failed → Creates log meter head blank now Whole Failed
+  creates_none head same none not_whole quiet = record {
+    metered = subst (λ (m : Meter). Metered create_calls (meter blank) m Whole Failed) (sym (ap meter same)) (Metered-refused create_calls (meter blank) not_whole quiet);
+    told = told_same (log blank) (log now) (ap log same);
+    moments = λ l is.
+        let keeps = none l is in
+        some_none l (log now) KeepsNone (Created head ∷ []) (meter blank).arm (meter now).arm (ap log same ∙ is) keeps.settled keeps.none (λ c. inl (sym (ap (λ (b : B). (meter b).arm) same) ∙ c));
+  }
