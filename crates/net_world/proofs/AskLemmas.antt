@@ -6,7 +6,7 @@ use Rattle.mld_ops.specs.Messages.{MessageValue, CarriesWant, message_value}
 use Rattle.mld_ops.specs.declared.messages.Message.{Message}
 use Rattle.mld_model.specs.declared.CloneState.TheVariants as states
 use Rattle.mld_model.specs.Reply.{Sent}
-use Rattle.mld_model.specs.Local.{CloneValue}
+use Rattle.mld_model.specs.Local.{LocalClone}
 use Rattle.mld_model.specs.StandsFor.{RunningClone, RunningWorld}
 use Rattle.schedule_model.specs.declared.Command.TheVariants.{Ask}
 use Rattle.schedule_model.specs.WorldStep.{IsMissingReply}
@@ -26,10 +26,10 @@ use Rattle.net_world.proofs.BankLemmas.{memory_at}
 use Rattle.net_world.proofs.WorldLemmas.{after_step, moved, does_still}
 
 -- a live clone asks for what it lacks
-asks_for : (running : RunningWorld) (number : ℕ) (live : CloneValue) (want : Message) (new : List RunningClone) (sent : List MessageValue) (reply : CodeReply) → HasState running.clones number (states.Live live)
-    → message_value want ≡ CarriesWant live.local.ticks → new ≡ running.clones → SendsQuestion running.messages want sent reply → Moves running (Ask number) (reply_value reply) (after_step running new sent)
+asks_for : (running : RunningWorld) (number : ℕ) (live : LocalClone) (want : Message) (new : List RunningClone) (sent : List MessageValue) (reply : CodeReply) → HasState running.clones number (states.Live live)
+    → message_value want ≡ CarriesWant live.ticks → new ≡ running.clones → SendsQuestion running.messages want sent reply → Moves running (Ask number) (reply_value reply) (after_step running new sent)
 asks_for running number live want new sent (replies.Sent message) at is same sends =
-    moved running (Ask number) (Sent (length running.messages + 1)) (Sent message) running.clones new (running.messages ++ CarriesWant live.local.ticks ∷ []) sent
+    moved running (Ask number) (Sent (length running.messages + 1)) (Sent message) running.clones new (running.messages ++ CarriesWant live.ticks ∷ []) sent
     (λ i. Sent (sym sends.1 i)) (sym same) (sym (sends.0 ∙ ap (λ (m : MessageValue). running.messages ++ m ∷ []) is))
     (λ world stands sound. ask_follows running world stands sound number live at)
 asks_for running number live want new sent reply at is same sends = absurd sends
@@ -43,7 +43,7 @@ module _ {B : Type 0} (log : B → Option Log) (meter : B → Meter) (old new : 
   ask_done live want (Err fault) at is sends = tt
   ask_done live want (Ok reply) at is sends =
       does_still log meter old new domain properties (Ask number) reply
-      (λ steps. asks_for (memory_of (running_of old steps)) number (record { local = live.local }) want (map in_memory new.clones.items) (map message_value new.messages.items) reply
+      (λ steps. asks_for (memory_of (running_of old steps)) number live.local want (map in_memory new.clones.items) (map message_value new.messages.items) reply
       (memory_at old.clones.items number (states.Live live) at) is (ap (λ (l : List (BankedState B)). map in_memory l) same) sends)
       tt same
 

@@ -4,7 +4,7 @@ use Rattle.std.specs.Prelude.{slice_get}
 use Rattle.std.proofs.lemmas.Bool.{cases_eq}
 use Rattle.std.proofs.lemmas.List.{map-set, length-set}
 use Rattle.std.proofs.lemmas.Option.{slice_get-map}
-use Rattle.mld_io.specs.Arm.{Arm, Unarmed, Meter, Metered, LowersAtMost}
+use Rattle.mld_io.specs.Arm.{Arm, Meter, Metered, LowersAtMost}
 use Rattle.mld_io.specs.Disk.{Log}
 use Rattle.mld_io.specs.Faults.{Rose}
 use Rattle.journal_store.specs.declared.faults.MakeFault.{MakeFault}
@@ -28,7 +28,8 @@ use Rattle.schedule_model.proofs.ChangesLaws.{step_keeps_domain, step_keeps_othe
 use Rattle.net_world.specs.declared.faults.WorldFault.{WorldFault}
 use Rattle.net_world.specs.declared.faults.WorldFault.TheVariants as faults
 use Rattle.net_world.specs.States.{HasState, Becomes}
-use Rattle.net_world.specs.WorldBanks.{BankedState, BankedWorld, in_memory, banks_of_state, memory_of, KeepsNoneNow, KeepsStored, BanksStandFor, IsReached, IsDownOn, IsOpenAt, IsBacked, StandsOnBanks, GoesOn, MetersGoOn, HadNoFault, HadNoFaults, HasFailed, HasFaultsOf, HasFaultsBy, FailsAt, HasFaultsAt, UsesBanksOf, StaysOpenNext, IsNextGeneration, is_first, is_next, IsOpenNext, IsCarried, IsCarriedAt}
+use Rattle.net_world.specs.WorldBanks.{BankedState, BankedWorld, in_memory, banks_of_state, memory_of, KeepsNoneNow, KeepsStored, BanksStandFor, IsReached, IsDownOn, IsOpenAt, IsBacked, StandsOnBanks, GoesOn, MetersGoOn, HadNoFault, HadNoFaults, HadFault, HasFailed, HasFaultsFor}
+use Rattle.net_world.specs.OneCall.{FailsAt, HasFaultsAt, UsesBanksOf, StaysOpenNext, IsNextGeneration, is_first, is_next, IsOpenNext, IsCarried, IsCarriedAt}
 use Rattle.net_world.specs.WorldFaults.{fault_of_made}
 use Rattle.net_world.specs.Worlds.{Moves, MovesOnBanks}
 use Rattle.net_world.proofs.Places.{here_at, other_at, elsewhere_at, set_here}
@@ -53,25 +54,19 @@ module _ {B : Type 0} where
 
 -- banks that were not used
 pub goes_on_same : (meter : Meter) → GoesOn meter meter
-goes_on_same meter = record { later = omega arith; unarmed = λ is. is }
+goes_on_same meter = record { later = omega arith; unarmed = λ is. is; caught = λ is. is }
 
 -- banks that were used
 pub goes_on : (calls : ℕ) (before now : Meter) (Done Failed : Type 0) → Metered calls before now Done Failed → GoesOn before now
 goes_on calls before now Done Failed metered = record {
   later = metered.real_later;
   unarmed = λ is. subst (λ (a : Arm). LowersAtMost calls a now.arm) is metered.lowered;
+  caught = λ is. subst (λ (a : Arm). LowersAtMost calls a now.arm) is metered.lowered;
 }
 
 -- what wasn't told to have failed had no real fault
 pub quiet_metered : (calls : ℕ) (before now : Meter) (Done Failed : Type 0) → Metered calls before now Done Failed → ¬ Failed → HadNoFault before now
 quiet_metered calls before now Done Failed metered none = (metered.quiet none).1
-
--- what failed where it wasn't armed had a real fault
-pub rose_unarmed : (calls : ℕ) (before now : Meter) (Done Failed : Type 0) → Metered calls before now Done Failed → Failed → before.arm ≡ Unarmed → Rose before.real_faults now.real_faults
-rose_unarmed calls before now Done Failed metered failed unarmed = elim (metered.cause failed) [
-  | inl caught ↦ absurd (cc (caught, (goes_on calls before now Done Failed metered).unarmed unarmed))
-  | inr rose ↦ rose
-]
 
 -- where the banks had no fault, and memory ran out at most
 pub memory_at_one : {T : Type 0} (number : ℕ) (before now : Meter) (r : Result T WorldFault) → HadNoFault before now → IfErr r (λ fault. fault ≡ faults.NoMemory)
@@ -82,7 +77,7 @@ memory_at_one number before now (Err fault) quiet none = subst (FailsAt number b
 -- the fault of a clone that could not be made is one of its banks
 pub faults_made : (number calls : ℕ) (before now : Meter) (Done : Type 0) (fault : MakeFault) → Metered calls before now Done (fault ≡ make.Device)
     → FailsAt number before now (fault_of_made number fault)
-faults_made number calls before now Done make.Device metered = (refl, λ unarmed. rose_unarmed calls before now Done (make.Device ≡ make.Device) metered refl unarmed)
+faults_made number calls before now Done make.Device metered = (refl, metered.cause refl)
 faults_made number calls before now Done make.NoMemory metered = quiet_metered calls before now Done (make.NoMemory ≡ make.Device) metered (λ fails. absurd (cc fails))
 
 module _ {B : Type 0} (meter : B → Meter) where
@@ -150,7 +145,7 @@ module _ {B : Type 0} (meter : B → Meter) where
     | inr differs ↦ quiet_kept before after (cc (had, other_at old number other now after differs has))
   ]
 
-  failed_set : (old : List B) (number : ℕ) (was now : B) → slice_get old number ≡ Some was → ((meter was).arm ≡ Unarmed → Rose (meter was).real_faults (meter now).real_faults)
+  failed_set : (old : List B) (number : ℕ) (was now : B) → slice_get old number ≡ Some was → HadFault (meter was) (meter now)
       → HasFailed meter number old (set old number now)
   failed_set old number was now at fault = record {
     was = was;
@@ -163,16 +158,15 @@ module _ {B : Type 0} (meter : B → Meter) where
 
   -- where the banks of one clone were used
   faults_at : {T : Type 0} (old : List B) (number : ℕ) (was now : B) (r : Result T WorldFault) → slice_get old number ≡ Some was → HasFaultsAt number (meter was) (meter now) r
-      → HasFaultsBy meter old (set old number now) r
+      → HasFaultsFor number meter old (set old number now) r
   faults_at old number was now (Ok reply) at by = quiet_set old number was now at by
   faults_at old number was now (Err faults.NoMemory) at by = quiet_set old number was now at by
-  faults_at old number was now (Err (faults.Device clone)) at by =
-      subst (λ (k : ℕ). HasFailed meter k old (set old number now)) (sym by.0) (failed_set old number was now at by.1)
+  faults_at old number was now (Err (faults.Device clone)) at by = (by.0, failed_set old number was now at by.1)
 
   pub faults_set : {T : Type 0} (old new : List (BankedState B)) (number : ℕ) (before after : BankedState B) (r : Result T WorldFault) → Becomes old new number before after
-      → HasFaultsAt number (meter (banks_of_state before)) (meter (banks_of_state after)) r → HasFaultsBy meter (map banks_of_state old) (map banks_of_state new) r
+      → HasFaultsAt number (meter (banks_of_state before)) (meter (banks_of_state after)) r → HasFaultsFor number meter (map banks_of_state old) (map banks_of_state new) r
   faults_set old new number before after r becomes by =
-      subst (λ (l : List B). HasFaultsBy meter (map banks_of_state old) l r) (sym (banks_become old new number after becomes.now))
+      subst (λ (l : List B). HasFaultsFor number meter (map banks_of_state old) l r) (sym (banks_become old new number after becomes.now))
       (faults_at (map banks_of_state old) number (banks_of_state before) (banks_of_state after) r (banks_at old number before becomes.was) by)
 
   pub quiet_becomes : (old new : List (BankedState B)) (number : ℕ) (before after : BankedState B) → Becomes old new number before after
@@ -190,9 +184,10 @@ module _ {B : Type 0} (meter : B → Meter) where
       subst (λ (l : List (BankedState B)). HadNoFaults meter (map banks_of_state old) (map banks_of_state l)) (sym same) (quiet_same (map banks_of_state old))
 
   -- want of memory is none of them
-  pub faults_memory : {T : Type 0} (old new : List B) (r : Result T WorldFault) → HadNoFaults meter old new → IfErr r (λ fault. fault ≡ faults.NoMemory) → HasFaultsBy meter old new r
-  faults_memory old new (Ok reply) quiet none = quiet
-  faults_memory old new (Err fault) quiet none = subst (HasFaultsOf meter old new) (sym none) quiet
+  pub faults_memory : {T : Type 0} (number : ℕ) (old new : List B) (r : Result T WorldFault) → HadNoFaults meter old new → IfErr r (λ fault. fault ≡ faults.NoMemory)
+      → HasFaultsFor number meter old new r
+  faults_memory number old new (Ok reply) quiet none = quiet
+  faults_memory {T = T} number old new (Err fault) quiet none = subst (λ (f : WorldFault). HasFaultsFor {T = T} number meter old new (Err f)) (sym none) quiet
 
 -- ---- what banks stand for after a step
 
@@ -222,19 +217,19 @@ StaysShut (Open number) = ⊥
 StaysShut command = Unit {0}
 
 down_by : (world : World) (number : ℕ) (clone : Clone) (away asking down : Type 0) (live : Stored → List _ → Type 0)
-    → CloneStandsFor world number (states.Down (record {})) clone → ByState clone away asking down live → down
+    → CloneStandsFor world number (states.Down tt) clone → ByState clone away asking down live → down
 down_by world number model.Empty away asking down live stands h = h
 down_by world number (model.Down stored) away asking down live stands h = h
 down_by world number clone away asking down live stands h = absurd stands
 
 -- one that is absent or down takes no message
-down_takes : (world next : World) (number : ℕ) (reply : Reply) (sent : Option Message) (clone : Clone) → CloneStandsFor world number (states.Down (record {})) clone
+down_takes : (world next : World) (number : ℕ) (reply : Reply) (sent : Option Message) (clone : Clone) → CloneStandsFor world number (states.Down tt) clone
     → MatchOption sent (Answers world NoMessage reply next) (λ message. Takes world number message clone reply next) → next ≡ world
 down_takes world next number reply None clone stands h = h.1
 down_takes world next number reply (Some message) clone stands h = (down_by world number clone _ _ _ _ stands h).1
 
 down_stays : (world next : World) (command : Command) (reply : Reply) → StaysShut command
-    → CloneStandsFor world (number_of_clone command) (states.Down (record {})) (clone_at world (number_of_clone command)) → Step world command reply next → next ≡ world
+    → CloneStandsFor world (number_of_clone command) (states.Down tt) (clone_at world (number_of_clone command)) → Step world command reply next → next ≡ world
 unfolding Step
 down_stays world next (Add number triple) reply shut stands step = (down_by world number (clone_at world number) _ _ _ _ stands step).1
 down_stays world next (Remove number triple) reply shut stands step = (down_by world number (clone_at world number) _ _ _ _ stands step).1
@@ -294,8 +289,8 @@ module _ {B : Type 0} (log : B → Option Log) (old new : BankedWorld B) (comman
   here_backed world next stands step shut (states.Live clone) at = open_still clone (stands.backed (number_of_clone command) (states.Live clone) at)
   here_backed world next stands step shut (states.Down banks) at =
       let number : ℕ = number_of_clone command in
-      let down : CloneStandsFor world number (states.Down (record {})) (clone_at world number) =
-      stands.memory.clones number (states.Down (record {})) (memory_at old.clones number (states.Down banks) at) in
+      let down : CloneStandsFor world number (states.Down tt) (clone_at world number) =
+      stands.memory.clones number (states.Down tt) (memory_at old.clones number (states.Down banks) at) in
       let backed : IsDownOn world old.steps number (log banks) = stands.backed number (states.Down banks) at in
       down_still world next number (log banks) backed
       (subst (λ (w : World). BanksStandFor w number (log banks)) (sym (down_stays world next command reply shut down step)) backed.stands)

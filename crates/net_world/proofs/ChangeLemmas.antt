@@ -1,17 +1,21 @@
 -- What `add` and `remove` do is the model's step.
-use Rattle.std.proofs.Common.{◌≡◌, ℕ, ◌+◌, List, [], ◌∷◌, ◌++◌, true, false, Option, Result, Ok, Err, IfOk, OnOk, refl, sym, ◌∙◌, ap, subst, length, map, set}
+use Rattle.std.proofs.Common.{◌≡◌, ℕ, ◌+◌, List, [], ◌∷◌, ◌++◌, Bool, true, false, Option, Result, Ok, Err, IfOk, OnOk, refl, sym, ◌∙◌, ap, subst, length, map, set}
 use Rattle.mld_io.specs.Arm.{Meter}
 use Rattle.mld_io.specs.Disk.{Log}
 use Rattle.rdf_terms.specs.declared.terms.Triple.{Triple}
 use Rattle.tree_clock.specs.declared.dots.Dot.{Dot}
+use Rattle.tree_clock.specs.Lists.{Has}
+use Rattle.mld_ops.specs.declared.tagged.Tagged.{Tagged}
+use Rattle.mld_ops.specs.Effects.{EffectValue, ChangesNothing, ArePairsOf}
 use Rattle.mld_ops.specs.Entry.{EntryValue}
 use Rattle.mld_ops.specs.Ready.{last_dot}
 use Rattle.mld_ops.specs.Messages.{MessageValue, CarriesEntry, message_value}
 use Rattle.mld_ops.specs.declared.messages.Message.{Message}
 use Rattle.mld_model.specs.declared.CloneState.TheVariants as states
 use Rattle.mld_model.specs.Reply.{Reply, Did, NoOperation}
-use Rattle.mld_model.specs.Local.{LocalClone, CloneValue, next_dot}
+use Rattle.mld_model.specs.Local.{LocalClone, next_dot, LocallyMakes}
 use Rattle.mld_model.specs.StandsFor.{RunningClone, RunningWorld}
+use Rattle.mld_model.proofs.UpdateLaws.{adds_present, removes_present}
 use Rattle.schedule_model.specs.declared.Command.{Command}
 use Rattle.schedule_model.specs.declared.Command.TheVariants.{Add, Remove}
 use Rattle.schedule_model.specs.WorldStep.{IsMissingReply}
@@ -22,7 +26,7 @@ use Rattle.net_world.specs.declared.faults.WorldFault.{WorldFault}
 use Rattle.net_world.specs.declared.parts.Parts.{Parts}
 use Rattle.schedule_replies.specs.declared.replies.Reply.{Reply as CodeReply}
 use Rattle.schedule_replies.specs.declared.replies.Reply.TheVariants as replies
-use Rattle.net_world.specs.Changes.{SetsAs}
+use Rattle.net_world.specs.Changes.{IsSetting, SetsAs}
 use Rattle.schedule_replies.specs.Replies.{reply_value}
 use Rattle.net_world.specs.States.{HasState, Becomes}
 use Rattle.net_world.specs.WorldBanks.{BankedState, in_memory, memory_of}
@@ -33,7 +37,7 @@ use Rattle.net_world.proofs.BankLemmas.{memory_at, memory_becomes, stays_next}
 use Rattle.net_world.proofs.WorldLemmas.{after_step, moved, does_carried, does_still}
 
 -- the reply of an operation that was made, and the clones and messages after it
-made : (running : RunningWorld) (command : Command) (number : ℕ) (after : CloneValue) (entry : EntryValue) (next : Dot) (dot : Dot) (message : ℕ) (new : List RunningClone) (sent : List MessageValue)
+made : (running : RunningWorld) (command : Command) (number : ℕ) (after : LocalClone) (entry : EntryValue) (next : Dot) (dot : Dot) (message : ℕ) (new : List RunningClone) (sent : List MessageValue)
     → next ≡ last_dot entry.range → new ≡ set running.clones number (states.Live after) → sent ≡ running.messages ++ CarriesEntry entry ∷ [] → dot ≡ last_dot entry.range → message ≡ length running.messages + 1
     → Moves running command (Did next (length running.messages + 1)) (stepped_sending running number after entry)
     → Moves running command (Did dot message) (after_step running new sent)
@@ -41,27 +45,50 @@ made running command number after entry next dot message new sent is clones send
     moved running command (Did next (length running.messages + 1)) (Did dot message) (set running.clones number (states.Live after)) new (running.messages ++ CarriesEntry entry ∷ []) sent
     (λ i. Did ((is ∙ sym same) i) (sym counted i)) (sym clones) (sym sends) moves
 
+-- the effect of setting a triple deletes pairs that are there
+pub setting_own : (triple : Triple) (present : Bool) (pairs : List Tagged) (effect : EffectValue) → IsSetting triple present pairs effect
+    → (pair : Tagged) → Has effect.deletes pair → Has pairs pair
+setting_own triple true pairs effect is = adds_present triple pairs effect is
+setting_own triple false pairs effect is = removes_present triple pairs effect is
+
+-- the dot of the entry of an effect
+made_dot : (before : LocalClone) (effect : EffectValue) (after : LocalClone) (entry : EntryValue) → LocallyMakes before effect after entry → next_dot before ≡ last_dot entry.range
+made_dot before effect after entry makes = λ i. last_dot (sym (ap (λ (e : EntryValue). e.range) makes.carries) i)
+
+-- one triple is some
+some_inserts : (triple : Triple) → ¬ (triple ∷ [] ≡ [])
+some_inserts triple same = cc
+
 -- a live clone adds a triple
-pub added : (running : RunningWorld) (number : ℕ) (triple : Triple) (before after : CloneValue) (new : List RunningClone) (sent : List MessageValue) (reply : CodeReply)
+pub added : (running : RunningWorld) (number : ℕ) (triple : Triple) (before after : LocalClone) (new : List RunningClone) (sent : List MessageValue) (reply : CodeReply)
     → HasState running.clones number (states.Live before) → new ≡ set running.clones number (states.Live after)
-    → SetsAs before.local running.messages triple true after.local sent reply → Moves running (Add number triple) (reply_value reply) (after_step running new sent)
+    → SetsAs before running.messages triple true after sent reply → Moves running (Add number triple) (reply_value reply) (after_step running new sent)
 added running number triple before after new sent (replies.Did dot message) at clones sets =
-    made running (Add number triple) number after sets.entry (next_dot before.local) dot message new sent (λ i. last_dot (sym sets.sets.range i)) clones sets.sends.0 sets.sends.1 sets.sends.2
-    (λ world stands sound. add_follows running world stands sound number triple before at after sets.entry sets.sets)
-added running number triple before after new sent replies.NoOperation at clones sets = absurd sets.0
+    made running (Add number triple) number after sets.entry (next_dot before) dot message new sent (made_dot before sets.effect after sets.entry sets.makes.1) clones
+    sets.sends.0 sets.sends.1 sets.sends.2
+    (λ world stands sound. add_follows running world stands sound number triple before at after sets.entry
+    (subst (λ (effect : EffectValue). LocallyMakes before effect after sets.entry) sets.sets sets.makes.1))
+added running number triple before after new sent replies.NoOperation at clones sets =
+    absurd (some_inserts triple (subst (λ (effect : EffectValue). effect.inserts ≡ []) sets.sets sets.makes.0.inserts))
 added running number triple before after new sent reply at clones sets = absurd sets.sends
 
 -- a live clone removes a triple, or has no pair of it
-pub removed : (running : RunningWorld) (number : ℕ) (triple : Triple) (before after : CloneValue) (new : List RunningClone) (sent : List MessageValue) (reply : CodeReply)
+pub removed : (running : RunningWorld) (number : ℕ) (triple : Triple) (before after : LocalClone) (new : List RunningClone) (sent : List MessageValue) (reply : CodeReply)
     → HasState running.clones number (states.Live before) → new ≡ set running.clones number (states.Live after)
-    → SetsAs before.local running.messages triple false after.local sent reply → Moves running (Remove number triple) (reply_value reply) (after_step running new sent)
+    → SetsAs before running.messages triple false after sent reply → Moves running (Remove number triple) (reply_value reply) (after_step running new sent)
 removed running number triple before after new sent (replies.Did dot message) at clones sets =
-    made running (Remove number triple) number after sets.entry (next_dot before.local) dot message new sent (λ i. last_dot (sym sets.sets.makes.range i)) clones sets.sends.0 sets.sends.1 sets.sends.2
-    (λ world stands sound. remove_follows running world stands sound number triple before at sets.sets.deletes after sets.entry sets.sets.are sets.sets.some sets.sets.makes)
+    let found : List Tagged = sets.sets.found in
+    made running (Remove number triple) number after sets.entry (next_dot before) dot message new sent (made_dot before sets.effect after sets.entry sets.makes.1) clones
+    sets.sends.0 sets.sends.1 sets.sends.2
+    (λ world stands sound. remove_follows running world stands sound number triple before at found after sets.entry sets.sets.are
+    (λ none. sets.makes.0 (subst ChangesNothing (sym sets.sets.is) (record { deletes = none; inserts = refl })))
+    (subst (λ (effect : EffectValue). LocallyMakes before effect after sets.entry) sets.sets.is sets.makes.1))
 removed running number triple before after new sent replies.NoOperation at clones sets =
+    let none : sets.sets.found ≡ [] = subst (λ (effect : EffectValue). effect.deletes ≡ []) sets.sets.is sets.makes.0.deletes in
     moved running (Remove number triple) NoOperation NoOperation running.clones new running.messages sent refl
-    (sym (clones ∙ ap (λ (l : LocalClone). set running.clones number (states.Live (record { local = l }))) sets.0.1 ∙ set_again running.clones number (states.Live before) at)) (sym sets.1)
-    (λ world stands sound. remove_nothing running world stands sound number triple before at sets.0.0)
+    (sym (clones ∙ ap (λ (l : LocalClone). set running.clones number (states.Live l)) sets.makes.1 ∙ set_again running.clones number (states.Live before) at)) (sym sets.sends)
+    (λ world stands sound. remove_nothing running world stands sound number triple before at
+    (subst (λ (pairs : List Tagged). ArePairsOf triple before.pairs pairs) none sets.sets.are))
 removed running number triple before after new sent reply at clones sets = absurd sets.sends
 
 -- a clone that isn't live does neither
@@ -87,7 +114,7 @@ module _ {B : Type 0} (log : B → Option Log) (meter : B → Meter) (old new : 
   add_done before after (Err fault) becomes sets opened = tt
   add_done before after (Ok reply) becomes sets opened =
       does_carried log meter old new domain properties (Add number triple) reply
-      (λ steps. added (memory_of (running_of old steps)) number triple (record { local = before.local }) (record { local = after.local })
+      (λ steps. added (memory_of (running_of old steps)) number triple before.local after.local
       (map in_memory new.clones.items) (map message_value new.messages.items) reply
       (memory_at old.clones.items number (states.Live before) becomes.was)
       (memory_becomes old.clones.items new.clones.items number (states.Live before) (states.Live after) becomes).now sets)
@@ -100,7 +127,7 @@ module _ {B : Type 0} (log : B → Option Log) (meter : B → Meter) (old new : 
   remove_done before after (Err fault) becomes sets opened = tt
   remove_done before after (Ok reply) becomes sets opened =
       does_carried log meter old new domain properties (Remove number triple) reply
-      (λ steps. removed (memory_of (running_of old steps)) number triple (record { local = before.local }) (record { local = after.local })
+      (λ steps. removed (memory_of (running_of old steps)) number triple before.local after.local
       (map in_memory new.clones.items) (map message_value new.messages.items) reply
       (memory_at old.clones.items number (states.Live before) becomes.was)
       (memory_becomes old.clones.items new.clones.items number (states.Live before) (states.Live after) becomes).now sets)

@@ -10,7 +10,7 @@ use Rattle.mld_ops.specs.declared.messages.Message.TheVariants as kinds
 use Rattle.mld_model.specs.declared.CloneState.TheVariants as states
 use Rattle.mld_model.specs.World.{World}
 use Rattle.mld_model.specs.Reply as model
-use Rattle.mld_model.specs.Local.{LocalClone, CloneValue}
+use Rattle.mld_model.specs.Local.{LocalClone}
 use Rattle.mld_model.specs.Sound.{IsSound}
 use Rattle.mld_model.specs.StandsFor.{RunningClone, RunningWorld, StandsFor}
 use Rattle.mld_model.proofs.StandsForLaws.{good_sent}
@@ -35,12 +35,14 @@ use Rattle.net_world.specs.declared.deliver.Received.TheVariants as received
 use Rattle.schedule_replies.specs.declared.replies.Reply.{Reply}
 use Rattle.schedule_replies.specs.declared.replies.Reply.TheVariants as replies
 use Rattle.net_world.specs.declared.parts.Parts.{Parts}
-use Rattle.net_world.specs.Delivering.{IsForeignTo, IsFitFor, ReceivesLive, ReceivesAsking, StaysAway, IsToldOf, ReceivesAt, WhereAway, WhereLive, WhereAsking, SendsAnswers}
+use Rattle.mld_model.specs.LocalStep.{IsForeignTo}
+use Rattle.net_world.specs.Delivering.{IsFitFor, ReceivesLive, ReceivesAsking, StaysAway, IsToldOf, ReceivesAt, WhereAway, WhereLive, WhereAsking, SendsAnswers}
 use Rattle.mld_model.specs.World.{numbered}
 use Rattle.net_world.specs.WorldParts.{running_of, HasStepLeft, Does}
 use Rattle.schedule_replies.specs.Replies.{reply_value, numbers_between}
 use Rattle.net_world.specs.States.{HasState, Becomes, reply_of_state}
-use Rattle.net_world.specs.WorldBanks.{BankedState, in_memory, banks_of_state, memory_of, GoesOn, HasFaultsAt, is_first, IsCarried, IsCarriedAt}
+use Rattle.net_world.specs.WorldBanks.{BankedState, in_memory, banks_of_state, memory_of, GoesOn}
+use Rattle.net_world.specs.OneCall.{HasFaultsAt, is_first, IsCarried, IsCarriedAt}
 use Rattle.net_world.specs.Worlds.{Moves}
 use Rattle.net_world.proofs.Places.{set_again}
 use Rattle.net_world.proofs.BankLemmas.{memory_at, memory_becomes, goes_on, quiet_metered, faults_made}
@@ -71,8 +73,8 @@ good_at running world stands sound zero what is = absurd (cc (is))
 good_at running world stands sound (suc before) what is = good_sent running world stands sound before what is
 
 -- a message that was sent is foreign to no live clone
-own_at : (running : RunningWorld) (world : World) → StandsFor running world → IsSound world → (message number : ℕ) (what : MessageValue) (live : CloneValue)
-    → sent_message running message ≡ Some what → HasState running.clones number (states.Live live) → ¬ IsForeignTo live.local what
+own_at : (running : RunningWorld) (world : World) → StandsFor running world → IsSound world → (message number : ℕ) (what : MessageValue) (live : LocalClone)
+    → sent_message running message ≡ Some what → HasState running.clones number (states.Live live) → ¬ IsForeignTo live what
 own_at running world stands sound message number (CarriesEntry entry) live is at = never_foreign running world stands sound message number entry live is at
 own_at running world stands sound message number (CarriesSnapshot snapshot) live is at = never_foreign_snapshot running world stands sound message number snapshot live is at
 own_at running world stands sound message number what live is at = λ foreign. foreign
@@ -87,7 +89,7 @@ is_fit log parts message number what left told =
     let is : sent_message running message ≡ Some (message_value what) = sym (same_message running message) ∙ value_at parts.messages.items message what told in
     record {
       own = λ live live_is.
-          own_at running world stands left.standing.sound message number (message_value what) (record { local = live.local }) is
+          own_at running world stands left.standing.sound message number (message_value what) live.local is
           (memory_at parts.clones.items number (states.Live live) live_is);
       opened = λ live live_is. is_open log parts number live left live_is;
       left = λ live live_is. has_generation log parts number live left live_is;
@@ -111,9 +113,9 @@ away_carried clones number (states.Down banks) at none = at
 away_carried clones number (states.Live live) at none = absurd (none live refl)
 
 -- a live clone that is as it was
-unchanged : (clones new : List RunningClone) (number : ℕ) (before after : CloneValue) → Becomes clones new number (states.Live before) (states.Live after) → after.local ≡ before.local → new ≡ clones
+unchanged : (clones new : List RunningClone) (number : ℕ) (before after : LocalClone) → Becomes clones new number (states.Live before) (states.Live after) → after ≡ before → new ≡ clones
 unchanged clones new number before after becomes same =
-    becomes.now ∙ ap (λ (l : LocalClone). set clones number (states.Live (record { local = l }))) same ∙ set_again clones number (states.Live before) becomes.was
+    becomes.now ∙ ap (λ (l : LocalClone). set clones number (states.Live l)) same ∙ set_again clones number (states.Live before) becomes.was
 
 -- a message whose value gives a leaf is one that does
 gives_as : (what : Message) (leaf : GiveValue) → message_value what ≡ CarriesGive leaf → (give : Give) × (what ≡ kinds.JoinGive give) × (give_value give ≡ leaf)
@@ -138,7 +140,7 @@ module _ (running : RunningWorld) (message number : ℕ) (new : List RunningClon
       moved running (Deliver message number) (reply_value told) (reply_value reply) running.clones new running.messages sent (ap reply_value (sym tells.0)) (sym same) (sym tells.1) moves
 
   -- an answer by which one clone is another
-  moving : (told reply : Reply) (now : CloneValue) → (reply ≡ told) × (sent ≡ running.messages) → new ≡ set running.clones number (states.Live now)
+  moving : (told reply : Reply) (now : LocalClone) → (reply ≡ told) × (sent ≡ running.messages) → new ≡ set running.clones number (states.Live now)
       → Moves running (Deliver message number) (reply_value told) (stepped_with running number now) → Ends reply
   moving told reply now tells same moves =
       moved running (Deliver message number) (reply_value told) (reply_value reply) (set running.clones number (states.Live now)) new running.messages sent (ap reply_value (sym tells.0)) (sym same) (sym tells.1) moves
@@ -157,8 +159,8 @@ module _ (running : RunningWorld) (message number : ℕ) (new : List RunningClon
   answering answers told clones reply one sends same moves = absurd sends
 
   -- a live clone answers an entry
-  entry_answered : (entry : EntryValue) (answer : Received) (reply : Reply) (before after : CloneValue) → sent_message running message ≡ Some (CarriesEntry entry)
-      → Becomes running.clones new number (states.Live before) (states.Live after) → ReceivesLive before.local (kinds.Range entry) after.local answer → Tells answer reply → Ends reply
+  entry_answered : (entry : EntryValue) (answer : Received) (reply : Reply) (before after : LocalClone) → sent_message running message ≡ Some (CarriesEntry entry)
+      → Becomes running.clones new number (states.Live before) (states.Live after) → ReceivesLive before (kinds.Range entry) after answer → Tells answer reply → Ends reply
   entry_answered entry (received.Told replies.Known) reply before after is becomes h told =
       calm replies.Known reply told (unchanged running.clones new number before after becomes h.1.1)
       (λ world stands sound. deliver_known running world stands sound message number entry before is becomes.was h.1.0)
@@ -182,8 +184,8 @@ module _ (running : RunningWorld) (message number : ℕ) (new : List RunningClon
   entry_answered entry answer reply before after is becomes h told = absurd h
 
   -- a live clone answers one who asks for a leaf
-  ask_answered : (id : List ℕ) (answer : Received) (reply : Reply) (before after : CloneValue) → sent_message running message ≡ Some (CarriesAsk id)
-      → Becomes running.clones new number (states.Live before) (states.Live after) → ReceivesLive before.local (kinds.JoinAsk id) after.local answer → Tells answer reply → Ends reply
+  ask_answered : (id : List ℕ) (answer : Received) (reply : Reply) (before after : LocalClone) → sent_message running message ≡ Some (CarriesAsk id)
+      → Becomes running.clones new number (states.Live before) (states.Live after) → ReceivesLive before (kinds.JoinAsk id) after answer → Tells answer reply → Ends reply
   ask_answered id (received.Told replies.Ignored) reply before after is becomes h told =
       calm replies.Ignored reply told (unchanged running.clones new number before after becomes h.1)
       (λ world stands sound. deliver_ask_own running world stands sound message number id before is becomes.was h.0)
@@ -197,8 +199,8 @@ module _ (running : RunningWorld) (message number : ℕ) (new : List RunningClon
   ask_answered id answer reply before after is becomes h told = absurd h
 
   -- a live clone takes no leaf
-  give_answered : (give : Give) (answer : Received) (reply : Reply) (before after : CloneValue) → sent_message running message ≡ Some (CarriesGive (give_value give))
-      → Becomes running.clones new number (states.Live before) (states.Live after) → ReceivesLive before.local (kinds.JoinGive give) after.local answer → Tells answer reply → Ends reply
+  give_answered : (give : Give) (answer : Received) (reply : Reply) (before after : LocalClone) → sent_message running message ≡ Some (CarriesGive (give_value give))
+      → Becomes running.clones new number (states.Live before) (states.Live after) → ReceivesLive before (kinds.JoinGive give) after answer → Tells answer reply → Ends reply
   give_answered give (received.Told replies.Ignored) reply before after is becomes h told =
       calm replies.Ignored reply told (unchanged running.clones new number before after becomes h.1)
       (λ world stands sound. deliver_give_live running world stands sound message number (give_value give) before is becomes.was)
@@ -225,8 +227,8 @@ module _ (running : RunningWorld) (message number : ℕ) (new : List RunningClon
   sending answers entries reply carry sends same moves = absurd sends
 
   -- a live clone tells one who lacks something
-  lacked_sent : (clock : ClockValue) (answers : List Message) (reply : Reply) (before : CloneValue) → sent_message running message ≡ Some (CarriesWant clock.ticks)
-      → HasState running.clones number (states.Live before) → SendsLacked before.local clock.ticks answers → new ≡ running.clones → SendsAnswers running.messages answers sent reply → Ends reply
+  lacked_sent : (clock : ClockValue) (answers : List Message) (reply : Reply) (before : LocalClone) → sent_message running message ≡ Some (CarriesWant clock.ticks)
+      → HasState running.clones number (states.Live before) → SendsLacked before clock.ticks answers → new ≡ running.clones → SendsAnswers running.messages answers sent reply → Ends reply
   lacked_sent clock answers reply before is at (sends_entries entries unknown some carry) same told =
       sending answers entries reply carry told same
       (λ world stands sound. want_answered running world stands sound message number clock.ticks before entries is at unknown some)
@@ -236,8 +238,8 @@ module _ (running : RunningWorld) (message number : ℕ) (new : List RunningClon
       (sym lacks.whole) (want_snapshot running world stands sound message number clock.ticks before is at lacks.behind))
 
   -- a live clone answers a want
-  want_told : (clock : ClockValue) (answer : Received) (reply : Reply) (before after : CloneValue) → sent_message running message ≡ Some (CarriesWant clock.ticks)
-      → Becomes running.clones new number (states.Live before) (states.Live after) → ReceivesLive before.local (kinds.Want clock) after.local answer → Tells answer reply → Ends reply
+  want_told : (clock : ClockValue) (answer : Received) (reply : Reply) (before after : LocalClone) → sent_message running message ≡ Some (CarriesWant clock.ticks)
+      → Becomes running.clones new number (states.Live before) (states.Live after) → ReceivesLive before (kinds.Want clock) after answer → Tells answer reply → Ends reply
   want_told clock (received.Told replies.Nothing) reply before after is becomes h told =
       calm replies.Nothing reply told (unchanged running.clones new number before after becomes h.1)
       (λ world stands sound. want_nothing running world stands sound message number clock.ticks before is becomes.was h.0)
@@ -248,8 +250,8 @@ module _ (running : RunningWorld) (message number : ℕ) (new : List RunningClon
   want_told clock answer reply before after is becomes h told = absurd h
 
   -- a live clone receives a snapshot
-  snapshot_told : (snapshot : Snapshot) (answer : Received) (reply : Reply) (before after : CloneValue) → sent_message running message ≡ Some (CarriesSnapshot (snapshot_value snapshot))
-      → Becomes running.clones new number (states.Live before) (states.Live after) → ReceivesLive before.local (kinds.Snapshot snapshot) after.local answer → Tells answer reply → Ends reply
+  snapshot_told : (snapshot : Snapshot) (answer : Received) (reply : Reply) (before after : LocalClone) → sent_message running message ≡ Some (CarriesSnapshot (snapshot_value snapshot))
+      → Becomes running.clones new number (states.Live before) (states.Live after) → ReceivesLive before (kinds.Snapshot snapshot) after answer → Tells answer reply → Ends reply
   snapshot_told snapshot (received.Told replies.Known) reply before after is becomes h told =
       calm replies.Known reply told (unchanged running.clones new number before after becomes h.1.1)
       (λ world stands sound. deliver_snapshot_known running world stands sound message number (snapshot_value snapshot) before is becomes.was h.1.0)
@@ -266,8 +268,8 @@ module _ (running : RunningWorld) (message number : ℕ) (new : List RunningClon
   snapshot_told snapshot answer reply before after is becomes h told = absurd h
 
   -- a live clone answers
-  live_answered : (what : Message) (answer : Received) (reply : Reply) (before after : CloneValue) → sent_message running message ≡ Some (message_value what)
-      → Becomes running.clones new number (states.Live before) (states.Live after) → ReceivesLive before.local what after.local answer → Tells answer reply → Ends reply
+  live_answered : (what : Message) (answer : Received) (reply : Reply) (before after : LocalClone) → sent_message running message ≡ Some (message_value what)
+      → Becomes running.clones new number (states.Live before) (states.Live after) → ReceivesLive before what after answer → Tells answer reply → Ends reply
   live_answered (kinds.Range entry) answer reply before after is becomes h told = entry_answered entry answer reply before after is becomes h told
   live_answered (kinds.JoinAsk id) answer reply before after is becomes h told = ask_answered id answer reply before after is becomes h told
   live_answered (kinds.JoinGive give) answer reply before after is becomes h told = give_answered give answer reply before after is becomes h told
@@ -352,14 +354,14 @@ module _ {B : Type 0} (meter : B → Meter) (old new : List (BankedState B)) (nu
   asking_received (adopted.Joined clone) told at now adopts is =
       let r : Result Received WorldFault = Ok (received.Told (replies.Joined clone.local.path)) in
       subst (λ (x : Result Received WorldFault). IfOk x (ReceivesAt (map in_memory old) (map in_memory new) number sent)) (sym is.1)
-      (WhereAsking (states.Asking asking.asker) (states.Live (record { local = clone.local }))
+      (WhereAsking (states.Asking asking.asker) (states.Live clone.local)
       (memory_becomes old new number (states.Asking asking) (states.Live clone) (record { was = at; now = now ∙ ap (λ (s : BankedState B). set old number s) is.0 }))
       (record {
         asker = asking.asker;
         was = refl;
         give = adopts.0;
         is = adopts.1;
-        live = record { local = clone.local };
+        live = clone.local;
         joins = adopts.2;
         now = refl;
         at = refl;

@@ -8,15 +8,15 @@ use Rattle.journal_store.specs.Standing.{KeepsNothing}
 use Rattle.tree_clock.specs.Lists.{Has}
 use Rattle.mld_model.specs.Clone.{Clone, Stored, kept_of}
 use Rattle.mld_model.specs.Clone as model
-use Rattle.mld_model.specs.World.{World, clone_at}
+use Rattle.mld_model.specs.World.{World, clone_at, founded}
 use Rattle.mld_model.specs.declared.CloneState.TheVariants as states
 use Rattle.mld_model.specs.StandsFor.{RunningWorld, StandsFor, CloneStandsFor, founded_running}
+use Rattle.mld_model.specs.Sound.{IsSound}
 use Rattle.mld_model.proofs.FoundedLaws.{founded_sound}
-use Rattle.schedule_model.specs.Runs.{founded_by}
-use Rattle.schedule_model.specs.Schedule.{Setup}
+use Rattle.schedule_model.specs.Schedule.{Setup, KeepsEachOnce}
 use Rattle.schedule_model.proofs.WorldLaws.{founded_stands}
 use Rattle.clone_core.specs.Banked.{kept_as}
-use Rattle.net_world.specs.Founding.{IsOpenState, AreFounded}
+use Rattle.net_world.specs.Founding.{IsOpenState, AreFounded, StandsFounded}
 use Rattle.net_world.specs.WorldBanks.{BankedState, BankedWorld, in_memory, banks_of_state, memory_of, KeepsNoneNow, KeepsStored, BanksStandFor, AllBanksStandFor, IsBacked, StandsOnBanks}
 use Rattle.net_world.specs.WorldEnds.{KeepsState, KeepAll}
 use Rattle.net_world.specs.Worlds.{IsStanding}
@@ -39,26 +39,40 @@ module _ {B : Type 0} (log : B → Option Log) where
   founded_backed world steps number (states.Down banks) opened = absurd opened
   founded_backed world steps number (states.Live clone) opened = record { opened = opened.opened; reached = omega (arith, opened.first) }
 
-  -- the world that was founded stands for the model's
-  pub founded_on_banks : (setup : Setup) (running : BankedWorld B) → AreFounded setup running.clones → running.domain ≡ setup.domain → running.properties ≡ setup.properties
-      → running.messages ≡ [] → running.steps ≡ 0 → StandsOnBanks log running (founded_by setup)
-  founded_on_banks setup running founded domain properties messages steps =
+  -- the world that was founded with kept properties stands for the model's
+  founded_on_banks : (setup : Setup) (running : BankedWorld B) → AreFounded setup running.clones → running.domain ≡ setup.domain → running.properties ≡ setup.properties
+      → running.messages ≡ [] → running.steps ≡ 0 → StandsOnBanks log running (founded setup.domain setup.properties setup.count)
+  founded_on_banks setup running are domain properties messages steps =
       let same : memory_of running ≡ founded_running setup.domain setup.properties setup.count = λ i. record {
         domain = domain i;
         properties = properties i;
-        clones = founded.memory i;
+        clones = are.memory i;
         messages = messages i;
         steps = steps i;
       } in
+      let world : World = founded setup.domain setup.properties setup.count in
       record {
-        memory = subst (λ (r : RunningWorld). StandsFor r (founded_by setup)) (sym same) (founded_stands setup.domain setup.properties setup.count);
-        backed = λ number state at. founded_backed (founded_by setup) running.steps number state (founded.opened state (member_at running.clones number state at));
+        memory = subst (λ (r : RunningWorld). StandsFor r world) (sym same) (founded_stands setup.domain setup.properties setup.count);
+        backed = λ number state at. founded_backed world running.steps number state (are.opened state (member_at running.clones number state at));
       }
 
+  -- so it does for that of a setup whose properties those are, each once
+  pub founded_from : (given setup : Setup) (running : BankedWorld B) → KeepsEachOnce given.properties setup.properties → setup.domain ≡ given.domain → setup.count ≡ given.count
+      → AreFounded setup running.clones → running.domain ≡ setup.domain → running.properties ≡ setup.properties → running.messages ≡ [] → running.steps ≡ 0
+      → StandsFounded log given running
+  founded_from given setup running each domain_is count_is are domain properties messages steps = record {
+    world = founded setup.domain setup.properties setup.count;
+    founds = record { kept = setup.properties; each = each; is = λ i. founded (domain_is i) setup.properties (count_is i) };
+    stands = founded_on_banks setup running are domain properties messages steps;
+  }
+
   -- which is sound
-  pub founded_standing_on : (setup : Setup) (running : BankedWorld B) → StandsOnBanks log running (founded_by setup) → IsStanding log running
-  founded_standing_on setup running stands =
-      record { world = founded_by setup; stands = stands; sound = founded_sound setup.domain setup.properties setup.count }
+  pub founded_standing_on : (setup : Setup) (running : BankedWorld B) → StandsFounded log setup running → IsStanding log running
+  founded_standing_on setup running stands = record {
+    world = stands.world;
+    stands = stands.stands;
+    sound = subst (λ (world : World). IsSound world) (sym stands.founds.is) (founded_sound setup.domain stands.founds.kept setup.count);
+  }
 
   -- ---- stopping
 

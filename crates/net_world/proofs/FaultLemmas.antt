@@ -10,8 +10,9 @@ use Rattle.clone_core.specs.Banked.{BankedClone}
 use Rattle.clone_core.specs.Closing.{FailsToFound}
 use Rattle.net_world.specs.declared.faults.WorldFault.{WorldFault}
 use Rattle.net_world.specs.declared.faults.WorldFault.TheVariants as faults
-use Rattle.net_world.specs.WorldBanks.{BankedState, banks_of_state, GoesOn, MetersGoOn, HadNoFault, HadNoFaults, HasFailed, HasFaultsOf, HasFaultsBy, FailsAt, HasFaultsAt}
-use Rattle.net_world.specs.Founding.{IsMadeFirst}
+use Rattle.net_world.specs.WorldBanks.{BankedState, banks_of_state, GoesOn, MetersGoOn, HadNoFault, HadNoFaults, HadFault, HasFailed, HasFaultsFor}
+use Rattle.net_world.specs.Founding.{HasFaultsOf, HasFaultsBy, IsMadeFirst}
+use Rattle.net_world.specs.OneCall.{FailsAt, HasFaultsAt}
 use Rattle.net_world.specs.WorldFaults.{fault_of_made}
 use Rattle.net_world.proofs.BankLemmas.{quiet_metered, faults_made}
 
@@ -29,7 +30,21 @@ first_faults {B = B} {U = U} calls made told before now Done first metered = by 
     by (Err fault) ok err = subst (FailsAt 0 before now) (sym err.2) (faults_made 0 calls before now Done err.0.0 (of_made (Err err.0) err.1))
 
 pub goes_then : (before mid now : Meter) → GoesOn before mid → GoesOn mid now → GoesOn before now
-goes_then before mid now first second = record { later = omega (arith, first.later, second.later); unarmed = λ is. second.unarmed (first.unarmed is) }
+goes_then before mid now first second = record { later = omega (arith, first.later, second.later); unarmed = λ is. second.unarmed (first.unarmed is); caught = λ is. second.caught (first.caught is) }
+
+-- a call that failed later, and none before
+pub fault_later : (before mid now : Meter) → HadNoFault before mid → HadFault mid now → HadFault before now
+fault_later before mid now quiet fault = elim fault [
+  | inl caught ↦ inl caught
+  | inr rose ↦ inr (subst (λ (count : ℕ). Rose count now.real_faults) quiet rose)
+]
+
+-- and one that failed, and none after it
+fault_kept : (before mid now : Meter) → GoesOn mid now → HadNoFault mid now → HadFault before mid → HadFault before now
+fault_kept before mid now goes quiet fault = elim fault [
+  | inl caught ↦ inl (goes.caught caught)
+  | inr rose ↦ inr (subst (λ (count : ℕ). Rose before.real_faults count) (sym quiet) rose)
+]
 
 module _ {B : Type 0} (meter : B → Meter) where
   -- banks that stand in a place of one list stand there in the other
@@ -69,9 +84,7 @@ module _ {B : Type 0} (meter : B → Meter) where
         now = failed.now;
         before = begun.1;
         behind = failed.behind;
-        fault = λ unarmed.
-            subst (λ (count : ℕ). Rose count (meter failed.now).real_faults) same
-            (failed.fault ((on.each number begun.0 failed.was begun.1 failed.before).unarmed unarmed));
+        fault = fault_later (meter begun.0) (meter failed.was) (meter failed.now) same failed.fault;
         others = λ other one two differs had has.
             let between : (b : B) × (slice_get mid other ≡ Some b) = stands_too old mid other one on had in
             failed.others other between.0 two differs between.1 has ∙ quiet other one between.0 had between.1;
@@ -88,11 +101,17 @@ module _ {B : Type 0} (meter : B → Meter) where
         now = ended.0;
         before = failed.before;
         behind = ended.1;
-        fault = λ unarmed. subst (λ (count : ℕ). Rose (meter failed.was).real_faults count) (sym same) (failed.fault unarmed);
+        fault = fault_kept (meter failed.was) (meter failed.now) (meter ended.0) (second.each number failed.now ended.0 failed.behind ended.1) same failed.fault;
         others = λ other one two differs had has.
             let between : (b : B) × (slice_get mid other ≡ Some b) = stands_too old mid other one first had in
             quiet other between.0 two between.1 has ∙ failed.others other one between.0 differs had between.1;
       }
+
+  -- a fault of one clone is one of a clone
+  pub faults_of : {T : Type 0} (number : ℕ) (old new : List B) (r : Result T WorldFault) → HasFaultsFor number meter old new r → HasFaultsBy meter old new r
+  faults_of number old new (Ok value) by = by
+  faults_of number old new (Err faults.NoMemory) by = by
+  faults_of number old new (Err (faults.Device clone)) by = subst (λ (k : ℕ). HasFailed meter k old new) (sym by.0) by.1
 
   -- so it is of how a call ended
   pub then_fails : (old mid new : List B) (fault : WorldFault) → MetersGoOn meter old mid → HadNoFaults meter old mid → HasFaultsOf meter mid new fault → HasFaultsOf meter old new fault

@@ -8,7 +8,7 @@ use Rattle.std.proofs.lemmas.List.FromFn.{get_or-map-range_with_len, length-map-
 use Rattle.std.proofs.lemmas.Option.{slice_get-map, slice_get_cases, slice_get_within, get_or_from_slice_get}
 use Rattle.mld_model.specs.World.{clone_count, founded_path}
 use Rattle.mld_model.specs.declared.CloneState.TheVariants as states
-use Rattle.mld_model.specs.Local.{LocalAsker, LocalClone, CloneValue, blank_clone, joined_clone}
+use Rattle.mld_model.specs.Local.{LocalAsker, LocalClone, blank_clone, joined_clone}
 use Rattle.mld_model.specs.StandsFor.{RunningClone, id_of, founded_local}
 use Rattle.mld_model.proofs.StandsForLaws.{same_number}
 use Rattle.mld_ops.specs.Messages.{GiveValue, give_value}
@@ -19,8 +19,8 @@ use Rattle.mld_ops.specs.declared.messages.Message.{Message}
 use Rattle.mld_ops.specs.declared.messages.Message.TheVariants as kinds
 use Rattle.clone_core.specs.Banked.{BankedClone}
 use Rattle.clone_core.specs.Joining.{LocallyGives, AreGood, IsGiveFor}
-use Rattle.schedule_model.specs.Schedule.{Setup, IsSetup}
-use Rattle.net_world.specs.Founding.{IsNewAsker, GivesLeaf, IsOpenFirst, AreFounded, IsFoundedTo, AreFoundedTo, IsAbsentAt, TakesHalf, HasGiver}
+use Rattle.schedule_model.specs.Schedule.{Setup}
+use Rattle.net_world.specs.Founding.{IsKeptSetup, IsNewAsker, GivesLeaf, IsOpenFirst, AreFounded, IsFoundedTo, AreFoundedTo, IsAbsentAt, TakesHalf, HasGiver}
 use Rattle.net_world.specs.States.{HasState, Becomes}
 use Rattle.net_world.specs.WorldBanks.{BankedState, in_memory}
 use Rattle.net_world.proofs.Places.{here_at, other_at}
@@ -35,10 +35,10 @@ abbrev pub founded_there : Setup → ℕ → ℕ → LocalClone
 founded_there setup number place = blank_clone (id_of place) setup.domain setup.properties (founded_path number place)
 
 founded_within : (setup : Setup) (number place : ℕ) → place < number
-    → founded_local setup.domain setup.properties number place ≡ states.Live (record { local = founded_there setup number place })
+    → founded_local setup.domain setup.properties number place ≡ states.Live (founded_there setup number place)
 founded_within setup number place below = rw (lt-ltb place number below) refl
 
-founded_past : (setup : Setup) (number place : ℕ) → number ≤ place → founded_local setup.domain setup.properties number place ≡ states.Absent (record {})
+founded_past : (setup : Setup) (number place : ℕ) → number ≤ place → founded_local setup.domain setup.properties number place ≡ states.Absent tt
 founded_past setup number place past = rw (le-ltb place number past) refl
 
 -- what the first clone has of its leaf, and gives of it, for one more clone
@@ -67,10 +67,10 @@ others_rest setup number (suc before) first other = elim (cases_lt (suc before) 
 ]
 
 abbrev local_in : LocalClone → RunningClone → LocalClone
-local_in other (states.Live live) = live.local
+local_in other (states.Live live) = live
 local_in other state = other
 
-live_not_absent : (live : CloneValue) → ¬ (◌≡◌ {A = RunningClone} (states.Live live) (states.Absent (record {})))
+live_not_absent : (live : LocalClone) → ¬ (◌≡◌ {A = RunningClone} (states.Live live) (states.Absent tt))
 live_not_absent live e = cc
 
 -- a member of a list stands in a place of it
@@ -91,7 +91,7 @@ module _ {B : Type 0} (setup : Setup) where
   absent_still number place (states.Asking asking) past is = absurd is.opened
   absent_still number place (states.Down banks) past is = absurd is.opened
   absent_still number place (states.Live clone) past is =
-      absurd (live_not_absent (record { local = clone.local }) (is.memory ∙ founded_past setup number place past))
+      absurd (live_not_absent clone.local (is.memory ∙ founded_past setup number place past))
 
   pub absent_there : (number : ℕ) (clones : List (BankedState B)) → number < clone_count → AreFoundedTo setup number clones → IsAbsentAt clones number
   absent_there number clones below founded = elim (slice_get_cases clones number).1 [
@@ -107,7 +107,7 @@ module _ {B : Type 0} (setup : Setup) where
   first_live number (states.Asking asking) some is = absurd is.opened
   first_live number (states.Down banks) some is = absurd is.opened
   first_live number (states.Absent banks) some is =
-      absurd (live_not_absent (record { local = founded_there setup number 0 }) (sym (is.memory ∙ founded_within setup number 0 (omega (arith, some)))))
+      absurd (live_not_absent (founded_there setup number 0) (sym (is.memory ∙ founded_within setup number 0 (omega (arith, some)))))
 
   -- ---- the first clone
 
@@ -123,12 +123,12 @@ module _ {B : Type 0} (setup : Setup) where
         let same : states.Absent banks ≡ state = cc e in
         subst (λ (s : BankedState B). IsFoundedTo setup 0 place s) same (record { memory = sym (founded_past setup 0 place (omega arith)); opened = tt })
 
-  pub first_founded : (old new : List (BankedState B)) (clone : BankedClone B) (id domain : List ℕ) (given : List (List ℕ)) → IsSetup setup → AreFoundedTo setup 0 old
+  pub first_founded : (old new : List (BankedState B)) (clone : BankedClone B) (id domain : List ℕ) (given : List (List ℕ)) → IsKeptSetup setup → AreFoundedTo setup 0 old
       → id ≡ id_of 0 → domain ≡ setup.domain → given ≡ setup.properties → AreKept given clone.local.properties
       → clone.local ≡ blank_clone id domain clone.local.properties [] → IsOpenFirst clone → new ≡ set old 0 (states.Live clone) → AreFoundedTo setup 1 new
   first_founded old new clone id domain given is absent id_is domain_is given_is kept blank opened sets =
       let same : clone.local.properties ≡ setup.properties =
-      kept_same setup.properties clone.local.properties (subst (λ (g : List (List ℕ)). AreKept g clone.local.properties) given_is kept) is.named.ascending in
+      kept_same setup.properties clone.local.properties (subst (λ (g : List (List ℕ)). AreKept g clone.local.properties) given_is kept) is.ascending in
       let local : clone.local ≡ founded_there setup 1 0 = blank ∙ (λ i. blank_clone (id_is i) (domain_is i) (same i) []) in
       record {
         count = ap (λ (l : List (BankedState B)). length l) sets ∙ length-set old 0 (states.Live clone) ∙ absent.count;
@@ -138,7 +138,7 @@ module _ {B : Type 0} (setup : Setup) where
               | inl first ↦
                   let now : states.Live clone ≡ state = here_at old 0 (states.Live clone) state (subst (λ (k : ℕ). HasState (set old 0 (states.Live clone)) k state) first there) in
                   subst (λ (k : ℕ). IsFoundedTo setup 1 k state) (sym first) (subst (λ (s : BankedState B). IsFoundedTo setup 1 0 s) now (record {
-                    memory = ap (λ (l : LocalClone). states.Live (record { local = l })) local ∙ sym (founded_within setup 1 0 (omega arith));
+                    memory = ap (λ (l : LocalClone). states.Live l) local ∙ sym (founded_within setup 1 0 (omega arith));
                     opened = opened;
                   }))
               | inr differs ↦
@@ -151,7 +151,7 @@ module _ {B : Type 0} (setup : Setup) where
   -- ---- one more clone
 
   -- the first of the clones may give a leaf to the next one
-  pub giver_there : (number : ℕ) (clones : List (BankedState B)) (asker : LocalAsker) → 1 ≤ number → number < setup.count → IsSetup setup → asker.id ≡ id_of number
+  pub giver_there : (number : ℕ) (clones : List (BankedState B)) (asker : LocalAsker) → 1 ≤ number → number < setup.count → IsKeptSetup setup → asker.id ≡ id_of number
       → AreFoundedTo setup number clones → HasGiver asker clones
   giver_there number clones asker some below is id founded =
       let inside : 0 < length clones = omega (arith, founded.count) in
@@ -167,9 +167,9 @@ module _ {B : Type 0} (setup : Setup) where
               record {
                 opened = there.opened.opened;
                 other = λ same.
-                    let alike : number ≡ 0 = same_number number 0 (omega (arith, below, is.most)) (omega arith) (sym id ∙ same ∙ ap (λ (c : LocalClone). c.id) local) in
+                    let alike : number ≡ 0 = same_number number 0 (omega (arith, below, is.may.most)) (omega arith) (sym id ∙ same ∙ ap (λ (c : LocalClone). c.id) local) in
                     omega (arith, alike, some);
-                room = omega (arith, long, below, is.most);
+                room = omega (arith, long, below, is.may.most);
               },
             )
         | inr past ↦ absurd (omega (arith, past.0, inside))
@@ -182,15 +182,15 @@ module _ {B : Type 0} (setup : Setup) where
       let local : now.local ≡ founded_there setup (number + 1) 0 = takes.forks.left ∙ (λ i. record (was_is i) { path = (was_is i).path ++ zero_letter ∷ [] })
       ∙ ap (λ (leaf : List ℕ). blank_clone (id_of 0) setup.domain setup.properties leaf) (left_after number some) in
       record {
-        memory = ap (λ (l : LocalClone). states.Live (record { local = l })) local ∙ sym (founded_within setup (number + 1) 0 (omega arith));
+        memory = ap (λ (l : LocalClone). states.Live l) local ∙ sym (founded_within setup (number + 1) 0 (omega arith));
         opened = record { opened = takes.opened.opened; first = takes.opened.generation ∙ first.first };
       }
 
   -- the next one
-  next_lives : (number : ℕ) (asker : LocalAsker) (was now : BankedClone B) (state : BankedState B) → IsSetup setup → 1 ≤ number → was.local ≡ founded_there setup number 0
+  next_lives : (number : ℕ) (asker : LocalAsker) (was now : BankedClone B) (state : BankedState B) → IsKeptSetup setup → 1 ≤ number → was.local ≡ founded_there setup number 0
       → IsNewAsker setup.domain setup.properties number asker → TakesHalf asker was now state → IsFoundedTo setup (number + 1) number state
   next_lives number asker was now state is some was_is new takes =
-      let kept : asker.properties ≡ setup.properties = kept_same setup.properties asker.properties new.kept is.named.ascending in
+      let kept : asker.properties ≡ setup.properties = kept_same setup.properties asker.properties new.kept is.ascending in
       let local : takes.lives.clone.local ≡ founded_there setup (number + 1) number = takes.lives.local ∙ (λ i. joined_clone asker (takes.forks.right i)) ∙ (λ i. record {
         id = new.id i;
         domain = new.domain_is i;
@@ -204,11 +204,11 @@ module _ {B : Type 0} (setup : Setup) where
         pairs = (was_is i).pairs;
       }) ∙ ap (λ (leaf : List ℕ). blank_clone (id_of number) setup.domain setup.properties leaf) (right_for number some) in
       subst (λ (s : BankedState B). IsFoundedTo setup (number + 1) number s) (sym takes.lives.is) (record {
-        memory = ap (λ (l : LocalClone). states.Live (record { local = l })) local ∙ sym (founded_within setup (number + 1) number (omega arith));
+        memory = ap (λ (l : LocalClone). states.Live l) local ∙ sym (founded_within setup (number + 1) number (omega arith));
         opened = takes.lives.opened;
       })
 
-  pub one_more : (number : ℕ) (old new : List (BankedState B)) (asker : LocalAsker) (was now : BankedClone B) (state : BankedState B) → IsSetup setup → 1 ≤ number
+  pub one_more : (number : ℕ) (old new : List (BankedState B)) (asker : LocalAsker) (was now : BankedClone B) (state : BankedState B) → IsKeptSetup setup → 1 ≤ number
       → IsNewAsker setup.domain setup.properties number asker → AreFoundedTo setup number old → HasState old 0 (states.Live was) → TakesHalf asker was now state
       → new ≡ set (set old number state) 0 (states.Live now) → AreFoundedTo setup (number + 1) new
   one_more number old new asker was now state is some begins founded at takes sets =
@@ -243,7 +243,7 @@ module _ {B : Type 0} (setup : Setup) where
   pub all_founded : (clones : List (BankedState B)) → AreFoundedTo setup setup.count clones → AreFounded setup clones
   all_founded clones founded =
       let one : ℕ → RunningClone = founded_local setup.domain setup.properties setup.count in
-      let none : RunningClone = states.Absent (record {}) in
+      let none : RunningClone = states.Absent tt in
       let long : length (map in_memory clones) ≡ clone_count = length-map clones in_memory ∙ founded.count in
       record {
         memory = ext_get_or none (map in_memory clones) (map one (range_with_len 0 clone_count)) (long ∙ sym (length-map-range_with_len one 0 clone_count)) (λ place below.

@@ -7,7 +7,6 @@ use Rattle.mld_ops.proofs.PropertiesLaws.{kept_same}
 use Rattle.mld_ops.specs.declared.messages.Message.{Message}
 use Rattle.mld_ops.specs.declared.messages.Message.TheVariants as kinds
 use Rattle.mld_model.specs.declared.CloneState.TheVariants as states
-use Rattle.mld_model.specs.declared.NoDevice.{NoDevice}
 use Rattle.mld_model.specs.Reply.{Reply, Sent, IsLive, IsDown}
 use Rattle.mld_model.specs.Local.{LocalAsker, IsNamed}
 use Rattle.mld_model.specs.StandsFor.{RunningClone, RunningWorld, id_of}
@@ -25,7 +24,7 @@ use Rattle.net_world.specs.Asking.{AsksFirst, SendsQuestion}
 use Rattle.net_world.specs.Founding.{IsNewAsker}
 use Rattle.schedule_replies.specs.Replies.{reply_value}
 use Rattle.net_world.specs.States.{HasState, reply_of_state}
-use Rattle.net_world.specs.WorldBanks.{BankedState, in_memory, banks_of_state, memory_of, GoesOn, HadNoFault, HasFaultsBy}
+use Rattle.net_world.specs.WorldBanks.{BankedState, in_memory, banks_of_state, memory_of, GoesOn, HadNoFault, HasFaultsFor}
 use Rattle.net_world.specs.WorldParts.{running_of, KeepsDomain, Does}
 use Rattle.net_world.specs.Worlds.{Moves}
 use Rattle.net_world.proofs.BankLemmas.{memory_at, memory_becomes, goes_on_same, memory_at_one, faults_set}
@@ -43,7 +42,7 @@ asks_again running number asker question sent (replies.Sent message) at is sends
 asks_again running number asker question sent reply at is sends = absurd sends
 
 -- one who wasn't there asks
-pub asks_first : (running : RunningWorld) (number : ℕ) (blank : NoDevice) (asker : LocalAsker) (question : Message) (new : List RunningClone) (sent : List MessageValue) (reply : CodeReply)
+pub asks_first : (running : RunningWorld) (number : ℕ) (blank : Unit {0}) (asker : LocalAsker) (question : Message) (new : List RunningClone) (sent : List MessageValue) (reply : CodeReply)
     → IsNamed running.domain running.properties → HasState running.clones number (states.Absent blank) → IsNewAsker running.domain running.properties number asker → question ≡ kinds.JoinAsk asker.id
     → new ≡ set running.clones number (states.Asking asker) → SendsQuestion running.messages question sent reply → Moves running (Join number) (reply_value reply) (after_step running new sent)
 asks_first running number blank asker question new sent (replies.Sent message) named at begins is clones sends =
@@ -59,10 +58,10 @@ pub settled : {B : Type 0} (running : RunningWorld) (number : ℕ) (state : Bank
     → ((asking : BankedAsker B) → state ≡ states.Asking asking → ⊥) → ((blank : B) → state ≡ states.Absent blank → ⊥) → Moves running (Join number) reply (stepped running)
 settled running number (states.Live live) reply is at busy absent =
     moved running (Join number) IsLive reply running.clones running.clones running.messages running.messages (sym is) refl refl
-    (λ world stands sound. join_live running world stands sound number (record { local = live.local }) at)
+    (λ world stands sound. join_live running world stands sound number live.local at)
 settled running number (states.Down banks) reply is at busy absent =
     moved running (Join number) IsDown reply running.clones running.clones running.messages running.messages (sym is) refl refl
-    (λ world stands sound. join_down running world stands sound number (record {}) at)
+    (λ world stands sound. join_down running world stands sound number tt at)
 settled running number (states.Asking asking) reply is at busy absent = absurd (busy asking refl)
 settled running number (states.Absent banks) reply is at busy absent = absurd (absent banks refl)
 
@@ -85,7 +84,7 @@ module _ {B : Type 0} (log : B → Option Log) (meter : B → Meter) (old new : 
   join_first_done question (Ok reply) named asks sends =
       let becomes = memory_becomes old.clones.items new.clones.items number (states.Absent asks.blank) (states.Asking asks.asking) asks.becomes in
       does_carried log meter old new domain properties (Join number) reply
-      (λ steps. asks_first (memory_of (running_of old steps)) number (record {}) asks.asking.asker question (map in_memory new.clones.items) (map message_value new.messages.items) reply
+      (λ steps. asks_first (memory_of (running_of old steps)) number tt asks.asking.asker question (map in_memory new.clones.items) (map message_value new.messages.items) reply
       named becomes.was asks.begins asks.is becomes.now sends)
       tt (record { state = states.Asking asks.asking; now = asks.becomes.now; carried = tt })
 
@@ -109,7 +108,7 @@ module _ {B : Type 0} (log : B → Option Log) (meter : B → Meter) (old new : 
 -- one who begins to ask uses no banks, and memory ran out at most
 pub join_first_faults : {B T : Type 0} (meter : B → Meter) (domain : List ℕ) (properties : List (List ℕ)) (old new : List (BankedState B)) (number : ℕ) (question : Message)
     (r : Result T WorldFault) → AsksFirst domain properties number old new question → IfErr r (λ fault. fault ≡ faults.NoMemory)
-    → HasFaultsBy meter (map banks_of_state old) (map banks_of_state new) r
+    → HasFaultsFor number meter (map banks_of_state old) (map banks_of_state new) r
 join_first_faults {B = B} meter domain properties old new number question r asks none =
     let same : HadNoFault (meter asks.blank) (meter asks.asking.banks) = ap (λ (b : B). (meter b).real_faults) asks.banks in
     faults_set meter old new number (states.Absent asks.blank) (states.Asking asks.asking) r asks.becomes

@@ -7,7 +7,7 @@ use Rattle.mld_ops.specs.Messages.{message_value}
 use Rattle.mld_ops.specs.declared.messages.Message.{Message}
 use Rattle.mld_model.specs.declared.CloneState.TheVariants as states
 use Rattle.mld_model.specs.Reply.{Reply, Kept}
-use Rattle.mld_model.specs.Local.{LocalClone, CloneValue, LeadsTo, LocallyCompacts, LocallyTruncates}
+use Rattle.mld_model.specs.Local.{LocalClone, LeadsTo, LocallyCompacts, LocallyTruncates}
 use Rattle.mld_model.specs.Sound.{IsSound}
 use Rattle.mld_model.specs.StandsFor.{RunningClone, RunningWorld, StandsFor}
 use Rattle.mld_model.specs.World.{World}
@@ -26,7 +26,8 @@ use Rattle.net_world.specs.declared.keeping.Keeping.TheVariants as keepings
 use Rattle.net_world.specs.declared.parts.Parts.{Parts}
 use Rattle.net_world.specs.KeptJournals.{keeping_command, KeepsBy, KeepsAs}
 use Rattle.net_world.specs.States.{HasState, Becomes}
-use Rattle.net_world.specs.WorldBanks.{BankedState, in_memory, memory_of, is_next, IsCarriedAt}
+use Rattle.net_world.specs.WorldBanks.{BankedState, in_memory, memory_of}
+use Rattle.net_world.specs.OneCall.{is_next, IsCarriedAt}
 use Rattle.net_world.specs.WorldParts.{running_of, Does}
 use Rattle.net_world.proofs.BankLemmas.{memory_at, memory_becomes, StaysShut}
 use Rattle.net_world.proofs.WorldLemmas.{moved, does_carried, does_still}
@@ -80,8 +81,8 @@ opens_none number keepings.Compacted = tt
 opens_none number (keepings.Last count) = tt
 
 module _ (running : RunningWorld) (world : World) (stands : StandsFor running world) (sound : IsSound world) where
-  keep_follows : (keeping : Keeping) (number : ℕ) (live new : CloneValue) → slice_get running.clones number ≡ Some (states.Live live) → LocallyKeeps keeping live.local new.local
-      → Follows world (keeping_command number keeping) (Kept (length new.local.entries)) (stepped_with running number new)
+  keep_follows : (keeping : Keeping) (number : ℕ) (live new : LocalClone) → slice_get running.clones number ≡ Some (states.Live live) → LocallyKeeps keeping live new
+      → Follows world (keeping_command number keeping) (Kept (length new.entries)) (stepped_with running number new)
   keep_follows keepings.Compacted number live new is keeps = compact_follows running world stands sound number live new is keeps
   keep_follows (keepings.Last count) number live new is keeps = truncate_follows running world stands sound number count live new is keeps
 
@@ -97,10 +98,10 @@ module _ {B : Type 0} (log : B → Option Log) (meter : B → Meter) (old new : 
   keeps_journal before after (replies.Kept count) becomes keeps opened =
       does_carried log meter old new domain properties (keeping_command number keeping) (replies.Kept count)
       (λ steps. moved (memory_of (running_of old steps)) (keeping_command number keeping) (Kept (length after.local.entries)) (Kept count)
-      (set (map in_memory old.clones.items) number (states.Live (record { local = after.local }))) (map in_memory new.clones.items) (map message_value old.messages.items) (map message_value new.messages.items)
+      (set (map in_memory old.clones.items) number (states.Live after.local)) (map in_memory new.clones.items) (map message_value old.messages.items) (map message_value new.messages.items)
       (λ i. Kept (sym keeps.1 i)) (sym (memory_becomes old.clones.items new.clones.items number (states.Live before) (states.Live after) becomes).now)
       (ap (λ (m : List Message). map message_value m) (sym sent))
-      (λ world stands sound. keep_follows (memory_of (running_of old steps)) world stands sound keeping number (record { local = before.local }) (record { local = after.local })
+      (λ world stands sound. keep_follows (memory_of (running_of old steps)) world stands sound keeping number before.local after.local
       (memory_at old.clones.items number (states.Live before) becomes.was) (keeps_locally keeping before after keeps.0)))
       (opens_none number keeping)
       (subst (λ (n : ℕ). IsCarriedAt old.clones.items new.clones.items n) (of_clone number keeping)

@@ -1,12 +1,12 @@
 -- What `show` and `compare` do is the model's step.
-use Rattle.std.proofs.Common.{◌≡◌, ℕ, List, Option, Bor, inl, inr, refl, sym, map}
-use Rattle.chunked_list.specs.Room.{ChunkedValue}
+use Rattle.std.proofs.Common.{◌≡◌, ℕ, List, Option, Bor, refl, sym, map}
+use Rattle.graph_index.specs.Graphs.{GraphValue}
 use Rattle.mld_io.specs.Arm.{Meter}
 use Rattle.mld_io.specs.Disk.{Log}
 use Rattle.mld_ops.specs.declared.tagged.Tagged.{Tagged}
 use Rattle.mld_model.specs.declared.CloneState.TheVariants as states
 use Rattle.mld_model.specs.Reply.{Reply, Shows}
-use Rattle.mld_model.specs.Local.{LocalClone, CloneValue}
+use Rattle.mld_model.specs.Local.{LocalClone}
 use Rattle.mld_model.specs.StandsFor.{RunningWorld}
 use Rattle.schedule_model.specs.declared.Command.{Command}
 use Rattle.schedule_model.specs.declared.Command.TheVariants.{Show, Compare}
@@ -15,7 +15,6 @@ use Rattle.clone_core.specs.Banked.{BankedClone}
 use Rattle.net_world.specs.declared.parts.Parts.{Parts}
 use Rattle.schedule_replies.specs.declared.replies.Reply.{Reply as CodeReply}
 use Rattle.schedule_replies.specs.declared.replies.Reply.TheVariants as replies
-use Rattle.net_world.specs.Comparing.{IsHowTheyCompare}
 use Rattle.schedule_replies.specs.Replies.{reply_value}
 use Rattle.net_world.specs.States.{HasState, IsMissingAt}
 use Rattle.net_world.specs.WorldBanks.{in_memory, memory_of}
@@ -24,32 +23,23 @@ use Rattle.net_world.specs.Worlds.{Moves}
 use Rattle.net_world.proofs.BankLemmas.{memory_at, StaysShut}
 use Rattle.net_world.proofs.WorldLemmas.{moved, does_still}
 
-pub shown : (running : RunningWorld) (number : ℕ) (live : CloneValue) (pairs : List Tagged) → HasState running.clones number (states.Live live) → pairs ≡ live.local.pairs
+pub shown : (running : RunningWorld) (number : ℕ) (live : LocalClone) (pairs : List Tagged) → HasState running.clones number (states.Live live) → pairs ≡ live.pairs
     → Moves running (Show number) (Shows pairs) (stepped running)
 shown running number live pairs at are =
-    moved running (Show number) (Shows live.local.pairs) (Shows pairs) running.clones running.clones running.messages running.messages (λ i. Shows (sym are i)) refl refl
+    moved running (Show number) (Shows live.pairs) (Shows pairs) running.clones running.clones running.messages running.messages (λ i. Shows (sym are i)) refl refl
     (λ world stands sound. show_follows running world stands sound number live at)
 
 pub not_shown : (running : RunningWorld) (number : ℕ) (reply : Reply) → IsMissingAt running.clones number reply → Moves running (Show number) reply (stepped running)
 not_shown running number reply missing world stands sound = show_missing running world stands sound number missing.state reply missing.at missing.is
 
--- how two clones compare is the reply of the comparison
-compares_as : (live other : LocalClone) (reply : CodeReply) → IsHowTheyCompare live other reply → LocallyCompares live other (reply_value reply)
-compares_as live other replies.Same h = inl (h.0, h.1, refl)
-compares_as live other replies.Less h = inr (inl (h.0, h.1, refl))
-compares_as live other replies.More h = inr (inr (inl (h.0, h.1, refl)))
-compares_as live other replies.Apart h = inr (inr (inr (h.0, h.1, refl)))
-compares_as live other reply h = absurd h
-
-pub weighed : (running : RunningWorld) (number second : ℕ) (live other : CloneValue) (reply : CodeReply) → HasState running.clones number (states.Live live) → HasState running.clones second (states.Live other)
-    → IsHowTheyCompare live.local other.local reply → Moves running (Compare number second) (reply_value reply) (stepped running)
-weighed running number second live other reply is was compares world stands sound =
-    compare_follows running world stands sound number second live other (reply_value reply) is was (compares_as live.local other.local reply compares)
+pub weighed : (running : RunningWorld) (number second : ℕ) (live other : LocalClone) (reply : Reply) → HasState running.clones number (states.Live live) → HasState running.clones second (states.Live other)
+    → LocallyCompares live other reply → Moves running (Compare number second) reply (stepped running)
+weighed running number second live other reply is was compares world stands sound = compare_follows running world stands sound number second live other reply is was compares
 
 pub first_missing : (running : RunningWorld) (number second : ℕ) (reply : Reply) → IsMissingAt running.clones number reply → Moves running (Compare number second) reply (stepped running)
 first_missing running number second reply missing world stands sound = compare_missing_first running world stands sound number second missing.state reply missing.at missing.is
 
-pub second_missing : (running : RunningWorld) (number second : ℕ) (live : CloneValue) (reply : Reply) → HasState running.clones number (states.Live live) → IsMissingAt running.clones second reply
+pub second_missing : (running : RunningWorld) (number second : ℕ) (live : LocalClone) (reply : Reply) → HasState running.clones number (states.Live live) → IsMissingAt running.clones second reply
     → Moves running (Compare number second) reply (stepped running)
 second_missing running number second live reply is missing world stands sound =
     compare_missing_second running world stands sound number second live missing.state reply is missing.at missing.is
@@ -62,19 +52,19 @@ module _ {B : Type 0} (log : B → Option Log) (meter : B → Meter) (parts : Pa
       → Does log parts command parts reply
   looks command reply shut moves = does_still log meter parts parts refl refl command reply moves shut refl
 
-  pub show_done : (number : ℕ) (live : BankedClone B) (pairs : Bor (ChunkedValue Tagged)) → HasState parts.clones.items number (states.Live live) → pairs.now.elements ≡ live.local.pairs → Does log parts (Show number) parts (replies.Shows pairs)
+  pub show_done : (number : ℕ) (live : BankedClone B) (pairs : Bor GraphValue) → HasState parts.clones.items number (states.Live live) → pairs.now.pairs ≡ live.local.pairs → Does log parts (Show number) parts (replies.Shows pairs)
   show_done number live pairs at are =
       looks (Show number) (replies.Shows pairs) tt
-      (λ steps. shown (memory_of (running_of parts steps)) number (record { local = live.local }) pairs.now.elements (memory_at parts.clones.items number (states.Live live) at) are)
+      (λ steps. shown (memory_of (running_of parts steps)) number live.local pairs.now.pairs (memory_at parts.clones.items number (states.Live live) at) are)
 
   pub show_missing_done : (number : ℕ) (reply : CodeReply) → IsMissingAt (map in_memory parts.clones.items) number (reply_value reply) → Does log parts (Show number) parts reply
   show_missing_done number reply missing = looks (Show number) reply tt (λ steps. not_shown (memory_of (running_of parts steps)) number (reply_value reply) missing)
 
   pub compare_done : (number second : ℕ) (live other : BankedClone B) (reply : CodeReply) → HasState parts.clones.items number (states.Live live) → HasState parts.clones.items second (states.Live other)
-      → IsHowTheyCompare live.local other.local reply → Does log parts (Compare number second) parts reply
+      → LocallyCompares live.local other.local (reply_value reply) → Does log parts (Compare number second) parts reply
   compare_done number second live other reply is was compares =
       looks (Compare number second) reply tt
-      (λ steps. weighed (memory_of (running_of parts steps)) number second (record { local = live.local }) (record { local = other.local }) reply
+      (λ steps. weighed (memory_of (running_of parts steps)) number second live.local other.local (reply_value reply)
       (memory_at parts.clones.items number (states.Live live) is) (memory_at parts.clones.items second (states.Live other) was) compares)
 
   pub compare_first_missing_done : (number second : ℕ) (reply : CodeReply) → IsMissingAt (map in_memory parts.clones.items) number (reply_value reply) → Does log parts (Compare number second) parts reply
@@ -85,4 +75,4 @@ module _ {B : Type 0} (log : B → Option Log) (meter : B → Meter) (parts : Pa
       → IsMissingAt (map in_memory parts.clones.items) second (reply_value reply) → Does log parts (Compare number second) parts reply
   compare_second_missing_done number second live reply is missing =
       looks (Compare number second) reply tt
-      (λ steps. second_missing (memory_of (running_of parts steps)) number second (record { local = live.local }) (reply_value reply) (memory_at parts.clones.items number (states.Live live) is) missing)
+      (λ steps. second_missing (memory_of (running_of parts steps)) number second live.local (reply_value reply) (memory_at parts.clones.items number (states.Live live) is) missing)

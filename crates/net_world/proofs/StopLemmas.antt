@@ -30,8 +30,7 @@ use Rattle.schedule_model.specs.WorldStep.{Follows, IsMissingReply, IsStandingRe
 use Rattle.schedule_model.proofs.ChangesLaws.{step_keeps_domain}
 use Rattle.schedule_model.proofs.StopLaws.{stop_live, stop_missing, open_standing, open_stored, open_empty}
 use Rattle.clone_core.specs.Banked.{KeepsClone, kept_as}
-use Rattle.clone_core.specs.Closing.{mount_calls}
-use Rattle.clone_core.specs.Opening.{TellsClone, OpensClone, banks_of_mounted, SyncsBoth, FailsToOpen}
+use Rattle.clone_core.specs.Opening.{TellsClone, OpensClone, banks_of_mounted, SyncsBoth, FailsToOpen, mount_calls}
 use Rattle.clone_core.specs.declared.mounts.Mounted.{Mounted}
 use Rattle.clone_core.specs.declared.mounts.Mounted.TheVariants as mounted
 use Rattle.net_world.specs.declared.faults.WorldFault.{WorldFault}
@@ -42,9 +41,10 @@ use Rattle.net_world.specs.OpeningBanks.{IsWholeAt, IsUndamaged, IsOpenedAs, Ope
 use Rattle.schedule_replies.specs.Replies.{reply_value}
 use Rattle.net_world.specs.States.{HasState, Becomes, reply_of_state}
 use Rattle.net_world.specs.StoppedClones.{StopsOnBanks}
-use Rattle.net_world.specs.WorldBanks.{BankedState, in_memory, banks_of_state, memory_of, stored_in, KeepsNoneNow, KeepsStored, IsReached, IsDownOn, IsOpenAt, IsBacked, StandsOnBanks, GoesOn, HadNoFaults, HasFaultsAt}
+use Rattle.net_world.specs.WorldBanks.{BankedState, in_memory, banks_of_state, memory_of, stored_in, KeepsNoneNow, KeepsStored, IsReached, IsDownOn, IsOpenAt, IsBacked, StandsOnBanks, GoesOn, HadNoFaults}
+use Rattle.net_world.specs.OneCall.{HasFaultsAt}
 use Rattle.net_world.specs.WorldParts.{running_of, HasStepLeft, KeepsDomain, Does}
-use Rattle.net_world.proofs.BankLemmas.{memory_at, memory_becomes, goes_on, goes_on_same, quiet_metered, rose_unarmed, quiet_becomes}
+use Rattle.net_world.proofs.BankLemmas.{memory_at, memory_becomes, goes_on, goes_on_same, quiet_metered, quiet_becomes}
 use Rattle.net_world.proofs.WorldLemmas.{after_step, moved, does_at, does_still, keeps_set}
 
 -- ---- the model's step
@@ -73,7 +73,7 @@ module _ {B : Type 0} (log : B → Option Log) (meter : B → Meter) (old new : 
   stopped_backed s steps world next stands sound step =
       let running : RunningWorld = memory_of (running_of old steps) in
       let was = memory_at old.clones.items number (states.Live s.clone) s.becomes.was in
-      let at : LiveAt world number s.clone.local = live_at running world stands.memory number (record { local = s.clone.local }) was in
+      let at : LiveAt world number s.clone.local = live_at running world stands.memory number s.clone.local was in
       let stored : Stored = kept_by s.clone.local at.base at.journal in
       let now : next ≡ with_clone world number (model.Down stored) = stopped_next world next number stored at.held at.live step in
       let inside : number < length world.clones = omega (arith, slice_get_within running.clones number _ was, stands.memory.count, sound.count) in
@@ -107,11 +107,11 @@ module _ {B : Type 0} (log : B → Option Log) (meter : B → Meter) (old new : 
   stop_done s sent =
       does_at log meter old new domain properties (Stop number) replies.Stopped (states.Down s.clone.banks)
       (λ steps world stands sound.
-      moved (memory_of (running_of old steps)) (Stop number) Stopped Stopped (set (map in_memory old.clones.items) number (states.Down (record {}))) (map in_memory new.clones.items)
+      moved (memory_of (running_of old steps)) (Stop number) Stopped Stopped (set (map in_memory old.clones.items) number (states.Down tt)) (map in_memory new.clones.items)
       (map message_value old.messages.items) (map message_value new.messages.items) refl
       (sym (memory_becomes old.clones.items new.clones.items number (states.Live s.clone) (states.Down s.clone.banks) s.becomes).now)
       (ap (λ (m : List Message). map message_value m) (sym sent))
-      (λ w st so. stop_live (memory_of (running_of old steps)) w st so number (record { local = s.clone.local }) (memory_at old.clones.items number (states.Live s.clone) s.becomes.was))
+      (λ w st so. stop_live (memory_of (running_of old steps)) w st so number s.clone.local (memory_at old.clones.items number (states.Live s.clone) s.becomes.was))
       world stands.memory sound)
       s.becomes.now
       (λ steps world next stands sound step. stopped_backed s steps world next stands sound step)
@@ -158,17 +158,17 @@ module _ {B : Type 0} (log : B → Option Log) (meter : B → Meter) (old new : 
   -- the step of a clone that is live with what its banks read to
   live_follows : (o : OpensLive log old.clones.items new.clones.items number) (steps : ℕ) (world : World) → StandsOnBanks log (running_of old steps) world → IsSound world
       → (kept : Option Stored) → kept_of (clone_at world number) ≡ kept → MatchOption kept (KeepsNoneNow (log o.banks)) (λ stored. KeepsStored world number stored (log o.banks))
-      → Follows world (Open number) Opened (after_step (memory_of (running_of old steps)) (set (map in_memory old.clones.items) number (states.Live (record { local = o.clone.local }))) (map message_value old.messages.items))
+      → Follows world (Open number) Opened (after_step (memory_of (running_of old steps)) (set (map in_memory old.clones.items) number (states.Live o.clone.local)) (map message_value old.messages.items))
   live_follows o steps world stands sound None is h = absurd (cc (h.keeps.none, (o.found h.log h.now_is).reads))
   live_follows o steps world stands sound (Some stored) is h =
       let found = o.found h.log h.now_is in
       let same : h.kept ≡ kept_as found.side o.clone.generation o.clone.local = cc (h.keeps.reads, found.reads) in
-      open_stored (memory_of (running_of old steps)) world stands.memory sound number (record {}) stored o.clone.local
+      open_stored (memory_of (running_of old steps)) world stands.memory sound number tt stored o.clone.local
       (memory_at old.clones.items number (states.Down o.banks) o.becomes.was) is
       (record {
         id = ap (λ (k : Kept). k.head.id) (sym same) ∙ h.id;
         domain = ap (λ (k : Kept). k.head.domain) (sym same) ∙ h.domain;
-        properties = ap (λ (k : Kept). k.head.props) (sym same) ∙ h.properties;
+        properties = ap (λ (k : Kept). k.head.properties) (sym same) ∙ h.properties;
       })
       o.begins.local o.begins.held (subst (λ (k : Kept). StoredStandsFor world.history (stored_in k) stored) same h.stands)
 
@@ -190,7 +190,7 @@ module _ {B : Type 0} (log : B → Option Log) (meter : B → Meter) (old new : 
       → Follows world (Open number) IsAsking (after_step (memory_of (running_of old steps)) (set (map in_memory old.clones.items) number (states.Asking o.asking.asker)) (map message_value old.messages.items))
   asking_follows o steps world named stands sound (Some stored) is h = absurd (cc (h.keeps.reads, o.none h.log h.now_is))
   asking_follows o steps world named stands sound None is h =
-      open_empty (memory_of (running_of old steps)) world stands.memory sound number (record {}) o.asking.asker
+      open_empty (memory_of (running_of old steps)) world stands.memory sound number tt o.asking.asker
       (memory_at old.clones.items number (states.Down o.banks) o.becomes.was) is
       (record {
         id = o.begins.id;
@@ -312,7 +312,7 @@ module _ {B : Type 0} (log : B → Option Log) (meter : B → Meter) (domain : L
       (quiet_metered mount_calls (meter banks) (meter blank) (SyncsBoth (mounted.Empty blank)) (FailsToOpen (mounted.Empty blank)) metered (λ fails. fails))
   opened_by (mounted.Refused mount.Device back) told is metered =
       subst (HasFaultsAt number (meter banks) (meter back)) (sym is.1)
-      (refl, rose_unarmed mount_calls (meter banks) (meter back) (SyncsBoth (mounted.Refused mount.Device back)) (FailsToOpen (mounted.Refused mount.Device back)) metered refl)
+      (refl, metered.cause refl)
   opened_by (mounted.Refused mount.NoMemory back) told is metered =
       subst (HasFaultsAt number (meter banks) (meter back)) (sym is.1)
       (quiet_metered mount_calls (meter banks) (meter back) (SyncsBoth (mounted.Refused mount.NoMemory back)) (FailsToOpen (mounted.Refused mount.NoMemory back)) metered (λ fails. absurd (cc fails)))

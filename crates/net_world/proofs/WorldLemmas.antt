@@ -9,15 +9,13 @@ use Rattle.mld_ops.specs.Messages.{MessageValue, message_value}
 use Rattle.mld_model.specs.declared.CloneState.TheVariants as states
 use Rattle.mld_model.specs.Reply.{Reply}
 use Rattle.mld_model.specs.Sound.{IsSound}
-use Rattle.mld_model.specs.StandsFor.{RunningClone, RunningWorld, StandsFor, founded_running}
+use Rattle.mld_model.specs.StandsFor.{RunningClone, RunningWorld, StandsFor}
 use Rattle.mld_model.specs.World.{World}
 use Rattle.mld_model.proofs.StandsForLaws.{live_at}
 use Rattle.schedule_model.specs.declared.Command.{Command}
-use Rattle.schedule_model.specs.Schedule.{Setup}
-use Rattle.schedule_model.specs.Runs.{founded_by}
 use Rattle.schedule_model.specs.Step.{Step, number_of_clone}
 use Rattle.schedule_model.specs.WorldStep.{Follows, IsMissingReply}
-use Rattle.schedule_model.proofs.WorldLaws.{founded_stands, next_tick_within}
+use Rattle.schedule_model.proofs.WorldLaws.{next_tick_within}
 use Rattle.clone_core.specs.Banked.{BankedClone}
 use Rattle.net_world.specs.declared.parts.Parts.{Parts}
 use Rattle.schedule_replies.specs.declared.replies.Reply.{Reply as CodeReply}
@@ -25,15 +23,12 @@ use Rattle.net_world.specs.Commands.{Answered}
 use Rattle.net_world.specs.WorldParts.{running_of, HasStepLeft, KeepsDomain, Does}
 use Rattle.schedule_replies.specs.Replies.{reply_value}
 use Rattle.net_world.specs.States.{HasState, Becomes, reply_of_state}
-use Rattle.net_world.specs.WorldBanks.{BankedState, BankedWorld, in_memory, banks_of_state, memory_of, banks_of, IsOpenAt, IsBacked, StandsOnBanks, GoesOn, UsesBanksOf, IsCarriedAt}
+use Rattle.net_world.specs.WorldBanks.{BankedState, BankedWorld, in_memory, banks_of_state, memory_of, banks_of, IsOpenAt, IsBacked, StandsOnBanks, GoesOn}
+use Rattle.net_world.specs.OneCall.{UsesBanksOf, IsCarriedAt}
 use Rattle.net_world.specs.Worlds.{IsStanding, Moves, FollowsOnBanks, Stepped}
 use Rattle.net_world.proofs.BankLemmas.{memory_at, uses_same, uses_set, StaysShut, moves_at, moves_still, moves_carried}
 
 -- ---- the world
-
--- the world that was founded stands for the model's
-pub founded_follows : (setup : Setup) (running : RunningWorld) → running ≡ founded_running setup.domain setup.properties setup.count → StandsFor running (founded_by setup)
-founded_follows setup running is = subst (λ (r : RunningWorld). StandsFor r (founded_by setup)) (sym is) (founded_stands setup.domain setup.properties setup.count)
 
 -- after a step it stands for a sound world again
 pub standing_after : {B : Type 0} (log : B → Option Log) (old : BankedWorld B) (command : Command) (new : BankedWorld B) (before after : List ℕ) → IsStanding log old
@@ -68,7 +63,7 @@ has_next_tick log parts number live left at =
     omega (
       arith,
       next_tick_within running left.standing.world stands left.standing.sound number live.local
-          (live_at running left.standing.world stands number (record { local = live.local }) (memory_at parts.clones.items number (states.Live live) at)),
+          (live_at running left.standing.world stands number live.local (memory_at parts.clones.items number (states.Live live) at)),
       left.few,
     )
 

@@ -4,7 +4,8 @@ use Rattle.mld_ops.specs.Messages.{MessageValue, CarriesEntry, CarriesSnapshot, 
 use Rattle.mld_ops.specs.declared.messages.Give.{Give}
 use Rattle.mld_ops.specs.declared.messages.Message.{Message}
 use Rattle.mld_model.specs.declared.CloneState.TheVariants as states
-use Rattle.mld_model.specs.Local.{LocalAsker, LocalClone, CloneValue, IsForeign, IsForeignSnapshot, joined_clone}
+use Rattle.mld_model.specs.Local.{LocalAsker, LocalClone, joined_clone}
+use Rattle.mld_model.specs.LocalStep.{IsForeignTo}
 use Rattle.mld_model.specs.StandsFor.{RunningClone}
 use Rattle.schedule_model.specs.WorldStep.{IsAwayReply}
 use Rattle.clone_core.specs.Banked.{BankedClone}
@@ -23,12 +24,6 @@ use Rattle.schedule_replies.specs.Replies.{reply_value}
 use Rattle.net_world.specs.States.{HasState, Becomes}
 use Rattle.net_world.specs.WorldFaults.{fault_of_made}
 use Rattle.net_world.specs.WorldBanks.{BankedState}
-
--- the message says more of the clone's own path than the clone knows, by its entry or its snapshot: another one has used its leaf
-abbrev pub IsForeignTo : LocalClone → MessageValue → Type 0
-IsForeignTo clone (CarriesEntry entry) = IsForeign clone entry
-IsForeignTo clone (CarriesSnapshot snapshot) = IsForeignSnapshot clone snapshot
-IsForeignTo clone other = ⊥
 
 -- the message says no more of the path of the clone of the number than that clone knows, which is open and has a generation left; and the
 -- message's snapshot, where it has one, is a good one
@@ -57,10 +52,10 @@ pub record LivesAt (old new : RunningClone) (sent : Message) (path : List ℕ) :
   pub was : old ≡ states.Asking asker
   pub give : Give
   pub is : IsGiveFor asker sent give
-  pub live : CloneValue
-  pub joins : live.local ≡ joined_clone asker (give_value give)
+  pub live : LocalClone
+  pub joins : live ≡ joined_clone asker (give_value give)
   pub now : new ≡ states.Live live
-  pub at : path ≡ live.local.path
+  pub at : path ≡ live.path
 
 -- one who asks got no leaf by the message
 pub record PassesOver (old new : RunningClone) (sent : Message) : Type 0 where
@@ -89,7 +84,7 @@ StaysAway state other = ⊥
 -- what the clone of the number does with a message, by its state
 pub data ReceivesAt (old new : List RunningClone) (number : ℕ) (sent : Message) (answer : Received) : Type 0 where
   WhereAway : (state : RunningClone) → HasState old number state → StaysAway state answer → new ≡ old → ReceivesAt old new number sent answer
-  WhereLive : (before after : CloneValue) → Becomes old new number (states.Live before) (states.Live after) → ReceivesLive before.local sent after.local answer
+  WhereLive : (before after : LocalClone) → Becomes old new number (states.Live before) (states.Live after) → ReceivesLive before sent after answer
       → ReceivesAt old new number sent answer
   WhereAsking : (before after : RunningClone) → Becomes old new number before after → ReceivesAsking before after sent answer → ReceivesAt old new number sent answer
 

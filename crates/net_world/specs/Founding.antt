@@ -1,7 +1,9 @@
 -- How a world is founded: the first clone forks its leaf for the others, one after another.
-use Rattle.std.specs.Prelude.{◌≡◌, ◌≢◌, ◌<◌, ℕ, List, [], ◌∷◌, None, Result, Ok, Err, OnOk, IfErr, map, length}
+use Rattle.std.specs.Prelude.{◌≡◌, ◌≢◌, ◌<◌, ℕ, List, [], ◌∷◌, None, Result, Ok, Err, OnOk, IfErr, Option, map, length}
 use Rattle.std.specs.List.{range_with_len}
 use Rattle.mld_io.specs.Arm.{Meter}
+use Rattle.mld_io.specs.Disk.{Log}
+use Rattle.rdf_terms.specs.Order.{iri_cmp}
 use Rattle.tree_clock.specs.Limits.{path_limit}
 use Rattle.journal_store.specs.declared.faults.MakeFault.{MakeFault}
 use Rattle.mld_ops.specs.Messages.{GiveValue, give_value, IsGoodSnapshot}
@@ -11,17 +13,30 @@ use Rattle.mld_ops.specs.declared.messages.Message.{Message}
 use Rattle.mld_ops.specs.declared.messages.Message.TheVariants as kinds
 use Rattle.mld_model.specs.Local.{LocalAsker, LocallyForks, joined_clone}
 use Rattle.mld_model.specs.StandsFor.{id_of, founded_local}
-use Rattle.mld_model.specs.World.{clone_count}
+use Rattle.mld_model.specs.World.{World, clone_count}
 use Rattle.mld_model.specs.declared.CloneState.TheVariants as states
 use Rattle.clone_core.specs.Banked.{BankedAsker, BankedClone}
 use Rattle.clone_core.specs.Closing.{banks_of_made, StaysOpen}
-use Rattle.schedule_model.specs.Schedule.{Setup}
-use Rattle.tree_clock.specs.Lists.{Has}
+use Rattle.schedule_model.specs.Schedule.{Setup, IsSetup}
+use Rattle.schedule_model.specs.Runs.{IsFoundedBy}
+use Rattle.tree_clock.specs.Lists.{Has, IsAscending}
 use Rattle.net_world.specs.declared.faults.WorldFault.{WorldFault}
 use Rattle.net_world.specs.declared.faults.WorldFault.TheVariants as faults
 use Rattle.net_world.specs.States.{HasState, Becomes}
-use Rattle.net_world.specs.WorldBanks.{BankedState, in_memory, banks_of_state, GoesOn, MetersGoOn, HadNoFault, HasFailed, HasFaultsAt}
+use Rattle.net_world.specs.WorldBanks.{BankedState, BankedWorld, StandsOnBanks, in_memory, banks_of_state, GoesOn, HadNoFault, HadNoFaults, HasFailed}
+use Rattle.net_world.specs.OneCall.{HasFaultsAt}
 use Rattle.net_world.specs.WorldFaults.{fault_of_made}
+
+-- a setup by which clones are founded, whose single-valued properties are kept: they ascend as terms, each once
+pub record IsKeptSetup (setup : Setup) : Type 0 where
+  pub may : IsSetup setup
+  pub ascending : IsAscending iri_cmp setup.properties
+
+-- the running world stands for the world that is founded with the setup
+pub record StandsFounded {B : Type 0} (log : B → Option Log) (setup : Setup) (running : BankedWorld B) : Type 0 where
+  pub world : World
+  pub founds : IsFoundedBy setup world
+  pub stands : StandsOnBanks log running world
 
 -- one who asks begins with the id of its number, this domain, and these properties as they are kept
 pub record IsNewAsker (domain : List ℕ) (properties : List (List ℕ)) (number : ℕ) (asker : LocalAsker) : Type 0 where
@@ -54,11 +69,16 @@ pub record AreFounded {B : Type 0} (setup : Setup) (clones : List (BankedState B
   pub memory : map in_memory clones ≡ map (founded_local setup.domain setup.properties setup.count) (range_with_len 0 clone_count)
   pub opened : (state : BankedState B) → Has clones state → IsOpenState state
 
--- why no clones were founded: memory ran out, and no banks are given back; or the banks of a clone had a real fault, and no others had
--- one, and all are given back, in order
-abbrev pub RefusesFounding : {B : Type 0} → (B → Meter) → List B → WorldFault → List B → Type 0
-RefusesFounding meter blanks faults.NoMemory banks = banks ≡ []
-RefusesFounding meter blanks (faults.Device clone) banks = MetersGoOn meter blanks banks × HasFailed meter clone blanks banks
+-- which banks had real faults where a call was refused: a call of those of the clone that the fault names failed, and no others had any;
+-- or none had any
+abbrev pub HasFaultsOf : {B : Type 0} → (B → Meter) → List B → List B → WorldFault → Type 0
+HasFaultsOf meter old new (faults.Device clone) = HasFailed meter clone old new
+HasFaultsOf meter old new faults.NoMemory = HadNoFaults meter old new
+
+-- and by how it ended: none had any where it was not refused
+abbrev pub HasFaultsBy : {B T : Type 0} → (B → Meter) → List B → List B → Result T WorldFault → Type 0
+HasFaultsBy meter old new (Ok value) = HadNoFaults meter old new
+HasFaultsBy meter old new (Err fault) = HasFaultsOf meter old new fault
 
 -- ---- the parts of founding
 

@@ -5,11 +5,11 @@ pub mod WorldParts
 pub mod Changes
 pub mod Delivering
 pub mod Asking
-pub mod Comparing
 pub mod Commands
 pub mod WorldSummary
 pub mod SummaryLaws
 pub mod WorldBanks
+pub mod OneCall
 pub mod WorldFaults
 pub mod StoppedClones
 pub mod OpeningBanks

@@ -23,7 +23,7 @@ clone_told world number (states.Asking asker) Asking summary stands told = told
 clone_told world number (states.Down device) Empty summary stands told = told
 clone_told world number (states.Down device) (Down stored) summary stands told = told
 clone_told world number (states.Live live) (Live stored held) summary stands told =
-    let at : LocalStandsFor world.history live.local stored held = stands.1 in
+    let at : LocalStandsFor world.history live stored held = stands.1 in
     let P : List (List ℕ × ℕ) → Type 0 = λ ticks. (dot : Dot) → Covers ticks dot ↔ Knows (known_of stored) dot in
     let B : List (List ℕ × ℕ) → Type 0 = λ ticks. (dot : Dot) → Covers ticks dot ↔ Knows stored.base dot in
     let Q : List (List ℕ × ℕ) → Type 0 = λ ticks. IsClock ticks in
@@ -35,7 +35,7 @@ clone_told world number (states.Live live) (Live stored held) summary stands tol
       known = subst P (sym told.known) at.known;
       base_clock = subst Q (sym told.base) told.base_clock;
       base = subst B (sym told.base) at.kept.base;
-      journal = told.journal ∙ same_ranges world.history live.local.entries stored.journal at.kept.entries;
+      journal = told.journal ∙ same_ranges world.history live.entries stored.journal at.kept.entries;
       tagged = subst R (sym told.tagged) at.pairs;
     }
 clone_told world number running clone summary stands told = absurd stands

@@ -1,6 +1,6 @@
 -- A running world on banks: what it has in memory, and what the banks of its clones keep.
-use Rattle.std.specs.Prelude.{◌≡◌, ◌≢◌, ◌+◌, ◌≤◌, ℕ, List, Option, Some, None, MatchOption, Result, Ok, Err, map, length, slice_get, slice_set}
-use Rattle.mld_io.specs.Arm.{Meter, Unarmed}
+use Rattle.std.specs.Prelude.{◌≡◌, ◌≢◌, ◌+◌, ◌≤◌, ◌⊎◌, ℕ, List, [], Option, Some, None, MatchOption, Result, Ok, Err, map, length, slice_get}
+use Rattle.mld_io.specs.Arm.{Meter, Unarmed, Caught}
 use Rattle.mld_io.specs.Disk.{Log}
 use Rattle.mld_io.specs.Faults.{Rose}
 use Rattle.journal_sides.specs.Pairs.{Kept}
@@ -24,10 +24,10 @@ BankedState B = CloneState B (BankedAsker B) B (BankedClone B)
 
 -- what it has in memory
 abbrev pub in_memory : {B : Type 0} → BankedState B → RunningClone
-in_memory (states.Absent banks) = states.Absent (record {})
+in_memory (states.Absent banks) = states.Absent tt
 in_memory (states.Asking asking) = states.Asking asking.asker
-in_memory (states.Down banks) = states.Down (record {})
-in_memory (states.Live clone) = states.Live (record { local = clone.local })
+in_memory (states.Down banks) = states.Down tt
+in_memory (states.Live clone) = states.Live clone.local
 
 -- its banks
 abbrev pub banks_of_state : {B : Type 0} → BankedState B → B
@@ -79,7 +79,7 @@ pub record KeepsStored (world : World) (number : ℕ) (stored : Stored) (now : O
   pub keeps : KeepsJust kept log
   pub id : kept.head.id ≡ id_of number
   pub domain : kept.head.domain ≡ world.domain
-  pub properties : kept.head.props ≡ world.properties
+  pub properties : kept.head.properties ≡ world.properties
   pub stands : StoredStandsFor world.history (stored_in kept) stored
 
 -- banks stand for the model's clone of this number: they keep what it keeps, if anything
@@ -118,10 +118,11 @@ pub record StandsOnBanks {B : Type 0} (log : B → Option Log) (running : Banked
 
 -- ---- faults of banks
 
--- the meter of banks that were used: no real fault is forgotten, and no call arms them
+-- the meter of banks that were used: no real fault is forgotten, no call arms them, and an arm that caught a call still does
 pub record GoesOn (before now : Meter) : Type 0 where
   pub later : before.real_faults ≤ now.real_faults
   pub unarmed : before.arm ≡ Unarmed → now.arm ≡ Unarmed
+  pub caught : before.arm ≡ Caught → now.arm ≡ Caught
 
 -- so it is of each of these banks, by number
 pub record MetersGoOn {B : Type 0} (meter : B → Meter) (old new : List B) : Type 0 where
@@ -136,70 +137,32 @@ HadNoFault before now = now.real_faults ≡ before.real_faults
 abbrev pub HadNoFaults : {B : Type 0} → (B → Meter) → List B → List B → Type 0
 HadNoFaults {B = B} meter old new = (number : ℕ) (was now : B) → slice_get old number ≡ Some was → slice_get new number ≡ Some now → HadNoFault (meter was) (meter now)
 
--- the banks of this number, which there are, had a real fault where they were not armed, and no others had one
+-- a call failed: a real fault was counted, or the arm catches it; what isn't armed catches none
+abbrev pub HadFault : Meter → Meter → Type 0
+HadFault before now = (now.arm ≡ Caught) ⊎ Rose before.real_faults now.real_faults
+
+-- a call of the banks of this number failed, which there are, and no others had a real fault
 pub record HasFailed {B : Type 0} (meter : B → Meter) (number : ℕ) (old new : List B) : Type 0 where
   pub was : B
   pub now : B
   pub before : slice_get old number ≡ Some was
   pub behind : slice_get new number ≡ Some now
-  pub fault : (meter was).arm ≡ Unarmed → Rose (meter was).real_faults (meter now).real_faults
+  pub fault : HadFault (meter was) (meter now)
   pub others : (other : ℕ) (one two : B) → other ≢ number → slice_get old other ≡ Some one → slice_get new other ≡ Some two → HadNoFault (meter one) (meter two)
 
--- which banks had real faults where a call was refused: those of the clone that the fault names, and no others; or none had any
-abbrev pub HasFaultsOf : {B : Type 0} → (B → Meter) → List B → List B → WorldFault → Type 0
-HasFaultsOf meter old new (faults.Device clone) = HasFailed meter clone old new
-HasFaultsOf meter old new faults.NoMemory = HadNoFaults meter old new
+-- why no clones were founded: memory ran out, and no banks are given back; or a call of the banks of a clone failed, and all are given
+-- back, in order
+abbrev pub RefusesFounding : {B : Type 0} → (B → Meter) → List B → WorldFault → List B → Type 0
+RefusesFounding meter blanks faults.NoMemory banks = banks ≡ []
+RefusesFounding meter blanks (faults.Device clone) banks = MetersGoOn meter blanks banks × HasFailed meter clone blanks banks
 
--- and by how it ended: none had any where it was not refused
-abbrev pub HasFaultsBy : {B T : Type 0} → (B → Meter) → List B → List B → Result T WorldFault → Type 0
-HasFaultsBy meter old new (Ok value) = HadNoFaults meter old new
-HasFaultsBy meter old new (Err fault) = HasFaultsOf meter old new fault
+-- which banks had real faults, by how a command of the clone of this number ended: a fault names that clone, and a call of its banks
+-- failed; else none had any
+abbrev pub HasFaultsFor : {B T : Type 0} → ℕ → (B → Meter) → List B → List B → Result T WorldFault → Type 0
+HasFaultsFor number meter old new (Ok value) = HadNoFaults meter old new
+HasFaultsFor number meter old new (Err (faults.Device clone)) = (clone ≡ number) × HasFailed meter number old new
+HasFaultsFor number meter old new (Err faults.NoMemory) = HadNoFaults meter old new
 
--- the banks of all other numbers are as they were
-abbrev pub OthersStay : {B : Type 0} → ℕ → List B → List B → Type 0
+-- what is at all other numbers is as it was
+abbrev pub OthersStay : {X : Type 0} → ℕ → List X → List X → Type 0
 OthersStay number old new = (other : ℕ) → other ≢ number → slice_get new other ≡ slice_get old other
-
--- the same of the banks of the clone of this number, where a call used those alone: a fault names it, and they had a real fault where they
--- were not armed; or they had none
-abbrev pub FailsAt : ℕ → Meter → Meter → WorldFault → Type 0
-FailsAt number before now (faults.Device clone) = (clone ≡ number) × (before.arm ≡ Unarmed → Rose before.real_faults now.real_faults)
-FailsAt number before now faults.NoMemory = HadNoFault before now
-
-abbrev pub HasFaultsAt : {T : Type 0} → ℕ → Meter → Meter → Result T WorldFault → Type 0
-HasFaultsAt number before now (Ok value) = HadNoFault before now
-HasFaultsAt number before now (Err fault) = FailsAt number before now fault
-
--- the banks of no other clone than that of this number were used
-pub record UsesBanksOf {B : Type 0} (meter : B → Meter) (number : ℕ) (old new : List B) : Type 0 where
-  pub meters : MetersGoOn meter old new
-  pub others : OthersStay number old new
-
--- ---- one clone changes
-
--- a live clone is open after a call, with its generation or the next one
-pub record StaysOpenNext {B : Type 0} (old new : BankedClone B) : Type 0 where
-  pub opened : new.closed ≡ None
-  pub next : new.generation ≤ old.generation + 1
-
--- the generation of the live clone of the number after one call: it is a clone's first, or at most the next one
-pub data IsNextGeneration {B : Type 0} (old : List (BankedState B)) (number generation : ℕ) : Type 0 where
-  is_first : generation ≡ 1 → IsNextGeneration old number generation
-  is_next : (was : BankedClone B) → slice_get old number ≡ Some (states.Live was) → generation ≤ was.generation + 1 → IsNextGeneration old number generation
-
--- a live clone after one call is open, and its generation is at most the next one
-pub record IsOpenNext {B : Type 0} (old : List (BankedState B)) (number : ℕ) (clone : BankedClone B) : Type 0 where
-  pub opened : clone.closed ≡ None
-  pub next : IsNextGeneration old number clone.generation
-
--- a state that the clone of the number may be in after a call that opens no banks: a live clone is open, and one that is down was just so
-abbrev pub IsCarried : {B : Type 0} → List (BankedState B) → ℕ → BankedState B → Type 0
-IsCarried old number (states.Absent banks) = Unit {0}
-IsCarried old number (states.Asking asking) = Unit {0}
-IsCarried old number (states.Down banks) = slice_get old number ≡ Some (states.Down banks)
-IsCarried old number (states.Live clone) = IsOpenNext old number clone
-
--- of the clones the one of the number alone may have changed, into such a state
-pub record IsCarriedAt {B : Type 0} (old new : List (BankedState B)) (number : ℕ) : Type 0 where
-  pub state : BankedState B
-  pub now : new ≡ slice_set old number state
-  pub carried : IsCarried old number state

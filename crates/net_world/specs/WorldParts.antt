@@ -2,14 +2,15 @@
 use Rattle.std.specs.Prelude.{◌≡◌, ℕ, ◌+◌, ◌<◌, Result, map, length, Option}
 use Rattle.mld_io.specs.Arm.{Meter}
 use Rattle.mld_io.specs.Disk.{Log}
-use Rattle.tree_clock.specs.Limits.{tick_limit}
 use Rattle.mld_ops.specs.Messages.{message_value}
+use Rattle.schedule_model.specs.WorldStep.{step_limit}
 use Rattle.schedule_model.specs.declared.Command.{Command}
 use Rattle.net_world.specs.declared.faults.WorldFault.{WorldFault}
 use Rattle.net_world.specs.declared.parts.Parts.{Parts}
 use Rattle.schedule_replies.specs.declared.replies.Reply.{Reply}
 use Rattle.schedule_replies.specs.Replies.{reply_value}
-use Rattle.net_world.specs.WorldBanks.{BankedWorld, banks_of_state, UsesBanksOf, HasFaultsBy}
+use Rattle.net_world.specs.WorldBanks.{BankedWorld, banks_of_state, HasFaultsFor}
+use Rattle.net_world.specs.OneCall.{UsesBanksOf}
 use Rattle.net_world.specs.Worlds.{IsStanding, MovesOnBanks}
 
 -- the running world that has these parts, after so many steps
@@ -25,7 +26,7 @@ running_of parts steps = record {
 -- the parts stand for a sound world after so many steps that one more may be made
 pub record HasStepLeft {B : Type 0} (log : B → Option Log) (parts : Parts B) : Type 0 where
   pub steps : ℕ
-  pub few : steps < tick_limit
+  pub few : steps < step_limit
   pub standing : IsStanding log (running_of parts steps)
 
 -- what a command of the clone of this number leaves as it was: the domain, how many clones there are, the banks of the other clones,
@@ -36,9 +37,9 @@ pub record KeepsDomain {B : Type 0} (meter : B → Meter) (number : ℕ) (old ne
   pub count : length new.clones.items ≡ length old.clones.items
   pub banks : UsesBanksOf meter number (map banks_of_state old.clones.items) (map banks_of_state new.clones.items)
 
--- which banks had real faults, by how a command ended
-abbrev pub HasFaultsOfParts : {B T : Type 0} → (B → Meter) → Parts B → Parts B → Result T WorldFault → Type 0
-HasFaultsOfParts meter old new result = HasFaultsBy meter (map banks_of_state old.clones.items) (map banks_of_state new.clones.items) result
+-- which banks had real faults, by how a command of the clone of this number ended
+abbrev pub HasFaultsOfParts : {B T : Type 0} → (B → Meter) → ℕ → Parts B → Parts B → Result T WorldFault → Type 0
+HasFaultsOfParts meter number old new result = HasFaultsFor number meter (map banks_of_state old.clones.items) (map banks_of_state new.clones.items) result
 
 -- the command was done, and this is its reply: it is the model's step with that reply, after any number of steps
 pub record Does {B : Type 0} (log : B → Option Log) (old : Parts B) (command : Command) (new : Parts B) (reply : Reply) : Type 0 where

@@ -68,7 +68,7 @@ abbrev pub Summarizes : RunningClone → CloneSummary → Type 0
 Summarizes (running.Absent blank) summary = IsBlank summary states.Absent
 Summarizes (running.Asking asker) summary = IsBlank summary states.Asking
 Summarizes (running.Down device) summary = IsBlank summary states.Down
-Summarizes (running.Live live) summary = IsSummaryOf live.local summary
+Summarizes (running.Live live) summary = IsSummaryOf live summary
 
 -- what is told of clones as they run, one by one
 abbrev pub SummarizesAll : List RunningClone → List CloneSummary → Type 0

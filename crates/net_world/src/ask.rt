@@ -21,7 +21,7 @@ pub fn ask<B: CrashBanks>(
     requires { number < vec_len parts.old.clones }
     ensures keeps { KeepsDomain B.meter number parts.old parts.new }
     ensures done { IfOk result (Does B.log parts.old (commands.Ask number) parts.new) }
-    ensures faults { HasFaultsOfParts B.meter parts.old parts.new result }
+    ensures faults { HasFaultsOfParts B.meter number parts.old parts.new result }
 {
     match &parts.clones[usize::from(number)] {
         CloneState::Live(clone) => {

@@ -5,9 +5,10 @@ ghost use Rattle.tree_clock.specs.Clock.{ticks_of};
 ghost use Rattle.mld_ops.specs.Messages.{message_value};
 ghost use Rattle.schedule_model.specs.declared.Command.TheVariants as commands;
 ghost use Rattle.clone_core.specs.Closing.{StaysOpen};
-ghost use Rattle.net_world.specs.Changes.{SetsAs, SendsEntry};
+ghost use Rattle.net_world.specs.Changes.{IsSetting, SetsAs, SendsEntry};
 ghost use Rattle.net_world.specs.WorldParts.{HasStepLeft, KeepsDomain, HasFaultsOfParts, Does};
-ghost use Rattle.net_world.specs.WorldBanks.{GoesOn, HasFaultsAt};
+ghost use Rattle.net_world.specs.WorldBanks.{GoesOn};
+ghost use Rattle.net_world.specs.OneCall.{HasFaultsAt};
 
 use crate::faults::WorldFault;
 use crate::parts::{Parts, send};
@@ -15,7 +16,7 @@ use crate::states::state_reply;
 use clone_core::{Done, MldClone, UpdateFault};
 use mld_io::{Banks, CrashBanks};
 use mld_model::CloneState;
-use mld_ops::{Entry, Message};
+use mld_ops::{Effect, Entry, Message};
 use rdf_terms::Triple;
 use schedule_replies::Reply;
 use std::alloc::{AllocError, Global};
@@ -32,7 +33,7 @@ pub fn add<B: CrashBanks>(
     requires number { number < vec_len parts.old.clones }
     ensures keeps { KeepsDomain B.meter number parts.old parts.new }
     ensures done { IfOk result (Does B.log parts.old (commands.Add number triple.now) parts.new) }
-    ensures faults { HasFaultsOfParts B.meter parts.old parts.new result }
+    ensures faults { HasFaultsOfParts B.meter number parts.old parts.new result }
 {
     match &mut parts.clones[usize::from(number)] {
         CloneState::Live(clone) => set(alloc, number, clone, &mut parts.messages, triple, true),
@@ -51,7 +52,7 @@ pub fn remove<B: CrashBanks>(
     requires number { number < vec_len parts.old.clones }
     ensures keeps { KeepsDomain B.meter number parts.old parts.new }
     ensures done { IfOk result (Does B.log parts.old (commands.Remove number triple.now) parts.new) }
-    ensures faults { HasFaultsOfParts B.meter parts.old parts.new result }
+    ensures faults { HasFaultsOfParts B.meter number parts.old parts.new result }
 {
     match &mut parts.clones[usize::from(number)] {
         CloneState::Live(clone) => set(alloc, number, clone, &mut parts.messages, triple, false),
@@ -59,7 +60,7 @@ pub fn remove<B: CrashBanks>(
     }
 }
 
-/// A live clone makes the operation that inserts a triple, or the one that deletes the pairs of it, and its entry is sent.
+/// A live clone makes the update that inserts a triple, or the one that deletes the pairs of it, and its entry is sent.
 fn set<B: CrashBanks>(
     alloc: Global,
     number: u8,
@@ -75,13 +76,30 @@ fn set<B: CrashBanks>(
     ensures faults { HasFaultsAt number (B.meter clone.old.banks) (B.meter clone.new.banks) result }
     ensures done { IfOk result (SetsAs clone.old.local (map message_value messages.old.items) triple.now present clone.new.local (map message_value messages.new.items)) }
 {
-    match clone.set(alloc, triple, present) {
+    let effect = effect_of(alloc, clone, triple, present)?;
+    match clone.update(alloc, &effect) {
         Ok(Done::Nothing) => Ok(Reply::NoOperation),
         Ok(Done::Made(entry)) => Ok(send_entry(messages, entry)?),
         Err(UpdateFault::NoMemory) => Err(WorldFault::NoMemory),
         Err(UpdateFault::Device) => Err(WorldFault::Device { clone: number }),
         Err(UpdateFault::Closed { .. }) => unreachable!(),
         Err(UpdateFault::TicksSpent) => unreachable!(),
+    }
+}
+
+/// What an update does to the pairs of a clone that inserts a triple, or deletes the pairs of it.
+fn effect_of<B: CrashBanks>(
+    alloc: Global,
+    clone: &MldClone<B>,
+    triple: &Triple,
+    present: bool,
+) -> Result<Effect, AllocError>
+    ensures { IfOk result (λ effect. IsSetting triple.now present clone.now.local.pairs effect) }
+{
+    if present {
+        Effect::insertion(alloc, triple.share()?)
+    } else {
+        Ok(Effect::deletion(alloc, clone.pairs_of(alloc, triple)?))
     }
 }
 

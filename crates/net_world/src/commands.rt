@@ -1,6 +1,5 @@
 //! Commands: each has a function of its name in a file of its own, which gives its reply.
 ghost use Rattle.std.specs.Prelude.{◌≡◌, vec_len, IfErr, OnOk, OnErr};
-ghost use Rattle.rdf_terms.specs.Kept.{KeepsStart};
 ghost use Rattle.mld_model.specs.Local.{IsNamed};
 ghost use Rattle.mld_model.specs.World.{clone_count};
 ghost use Rattle.schedule_model.specs.Step.{HasCloneNumbers, number_of_clone};
@@ -24,7 +23,7 @@ use schedule_replies::{Reply, push_reply};
 use std::alloc::Global;
 use std::thread::Threads;
 
-/// Does a command, and adds the text of its reply to the output.
+/// Does a command, and adds the text of its reply to the output, which is as it was where the command is refused.
 pub fn answer<R: Threads, B: CrashBanks>(
     rt: &R,
     alloc: Global,
@@ -38,43 +37,37 @@ pub fn answer<R: Threads, B: CrashBanks>(
     requires numbers { HasCloneNumbers command.now }
     ensures keeps { KeepsDomain B.meter (number_of_clone command.now) parts.old parts.new }
     ensures done { OnOk result (Answered B.log parts.old command.now parts.new out.old.items out.new.items) }
-    ensures faults { HasFaultsOfParts B.meter parts.old parts.new result }
-    ensures out { OnErr result (KeepsStart out.old.items out.new.items) }
+    ensures faults { HasFaultsOfParts B.meter (number_of_clone command.now) parts.old parts.new result }
+    ensures out { OnErr result (out.new.items ≡ out.old.items) }
 {
     match command {
-        Command::Add(number, triple) => tell(alloc, out, add(alloc, parts, *number, triple)),
-        Command::Remove(number, triple) => tell(alloc, out, remove(alloc, parts, *number, triple)),
+        Command::Add(number, triple) => tell(out, add(alloc, parts, *number, triple)),
+        Command::Remove(number, triple) => tell(out, remove(alloc, parts, *number, triple)),
         Command::Deliver(message, number) => {
-            tell(alloc, out, deliver(rt, alloc, parts, *message, *number))
+            tell(out, deliver(rt, alloc, parts, *message, *number))
         }
-        Command::Join(number) => tell(alloc, out, join(alloc, parts, *number)),
-        Command::Ask(number) => tell(alloc, out, ask(alloc, parts, *number)),
-        Command::Compact(number) => {
-            tell(alloc, out, keep(alloc, parts, *number, Keeping::Compacted))
-        }
+        Command::Join(number) => tell(out, join(alloc, parts, *number)),
+        Command::Ask(number) => tell(out, ask(alloc, parts, *number)),
+        Command::Compact(number) => { tell(out, keep(alloc, parts, *number, Keeping::Compacted)) }
         Command::Truncate(number, count) => {
             let last = Keeping::Last(*count);
-            tell(alloc, out, keep(alloc, parts, *number, last))
+            tell(out, keep(alloc, parts, *number, last))
         }
-        Command::Stop(number) => tell(alloc, out, Ok(stop(parts, *number))),
-        Command::Open(number) => tell(alloc, out, open(rt, alloc, parts, *number)),
-        Command::Show(number) => tell(alloc, out, Ok(show(parts, *number))),
-        Command::Compare(number, other) => tell(alloc, out, Ok(compare(parts, *number, *other))),
+        Command::Stop(number) => tell(out, Ok(stop(parts, *number))),
+        Command::Open(number) => tell(out, open(rt, alloc, parts, *number)),
+        Command::Show(number) => tell(out, Ok(show(parts, *number))),
+        Command::Compare(number, other) => tell(out, Ok(compare(parts, *number, *other))),
     }
 }
 
-/// Adds the text of a reply that was found to an output.
-fn tell(
-    alloc: Global,
-    out: &mut Vec<u8>,
-    reply: Result<Reply<'_>, WorldFault>,
-) -> Result<(), WorldFault>
+/// Adds the text of a reply that was found to an output, which is as it was where there is none.
+fn tell(out: &mut Vec<u8>, reply: Result<Reply<'_>, WorldFault>) -> Result<(), WorldFault>
     ensures told { OnOk result (TellsReply reply.entry out.old.items out.new.items) }
     ensures cause { IfErr result (FailsToTell reply.entry) }
-    ensures out { OnErr result (KeepsStart out.old.items out.new.items) }
+    ensures out { OnErr result (out.new.items ≡ out.old.items) }
 {
     match reply {
-        Ok(reply) => Ok(push_reply(alloc, out, &reply)?),
+        Ok(reply) => Ok(push_reply(out, &reply)?),
         Err(fault) => Err(fault),
     }
 }

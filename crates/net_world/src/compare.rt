@@ -1,7 +1,8 @@
 //! The command `compare`.
 ghost use Rattle.std.specs.Prelude.{◌<◌, vec_len};
 ghost use Rattle.schedule_model.specs.declared.Command.TheVariants as commands;
-ghost use Rattle.net_world.specs.Comparing.{IsHowTheyCompare};
+ghost use Rattle.schedule_model.specs.WorldStep.{LocallyCompares};
+ghost use Rattle.schedule_replies.specs.Replies.{reply_value};
 ghost use Rattle.net_world.specs.WorldParts.{Does};
 
 use crate::parts::Parts;
@@ -28,7 +29,7 @@ pub fn compare<'a, B: CrashBanks>(parts: &'a Parts<B>, number: u8, other: u8) ->
 
 /// How the dots compare that two live clones know.
 fn compared<B: CrashBanks>(first: &MldClone<B>, second: &MldClone<B>) -> Reply<'static>
-    ensures { IsHowTheyCompare first.now.local second.now.local result }
+    ensures { LocallyCompares first.now.local second.now.local (reply_value result) }
 {
     match first.compare(second) {
         Covering::Same => Reply::Same,

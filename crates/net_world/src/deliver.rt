@@ -4,9 +4,11 @@ ghost use Rattle.mld_ops.specs.Messages.{message_value, IsGoodMessage};
 ghost use Rattle.mld_model.specs.declared.CloneState.TheVariants as kinds;
 ghost use Rattle.schedule_model.specs.declared.Command.TheVariants as commands;
 ghost use Rattle.clone_core.specs.Banked.{BankedAsker};
-ghost use Rattle.net_world.specs.Delivering.{IsForeignTo, IsFitFor, ReceivesAt, ReceivesLive, IsToldOf, SendsAnswers};
+ghost use Rattle.mld_model.specs.LocalStep.{IsForeignTo};
+ghost use Rattle.net_world.specs.Delivering.{IsFitFor, ReceivesAt, ReceivesLive, IsToldOf, SendsAnswers};
 ghost use Rattle.net_world.specs.States.{HasState};
-ghost use Rattle.net_world.specs.WorldBanks.{in_memory, banks_of_state, UsesBanksOf, GoesOn, HasFaultsAt, HasFaultsBy, StaysOpenNext, IsCarriedAt};
+ghost use Rattle.net_world.specs.WorldBanks.{in_memory, banks_of_state, GoesOn, HasFaultsFor};
+ghost use Rattle.net_world.specs.OneCall.{UsesBanksOf, HasFaultsAt, StaysOpenNext, IsCarriedAt};
 ghost use Rattle.mld_model.specs.World.{numbered};
 ghost use Rattle.net_world.specs.declared.faults.WorldFault.TheVariants.{NoMemory};
 ghost use Rattle.net_world.specs.WorldParts.{HasStepLeft, KeepsDomain, HasFaultsOfParts, Does};
@@ -43,7 +45,7 @@ pub fn deliver<R: Threads, B: CrashBanks>(
     requires number { number < vec_len parts.old.clones }
     ensures keeps { KeepsDomain B.meter number parts.old parts.new }
     ensures done { IfOk result (Does B.log parts.old (commands.Deliver message number) parts.new) }
-    ensures faults { HasFaultsOfParts B.meter parts.old parts.new result }
+    ensures faults { HasFaultsOfParts B.meter number parts.old parts.new result }
 {
     let Some(message) = message_at(parts.messages.as_slice(), message) else {
         return Ok(Reply::NoMessage);
@@ -76,7 +78,7 @@ fn receive_at<R: Threads, B: CrashBanks>(
     ensures ok { IfOk result (ReceivesAt (map in_memory clones.old.items) (map in_memory clones.new.items) number message.now) }
     ensures carried { OnOk result (IsCarriedAt clones.old.items clones.new.items number) }
     ensures banks { UsesBanksOf B.meter number (map banks_of_state clones.old.items) (map banks_of_state clones.new.items) }
-    ensures faults { HasFaultsBy B.meter (map banks_of_state clones.old.items) (map banks_of_state clones.new.items) result }
+    ensures faults { HasFaultsFor number B.meter (map banks_of_state clones.old.items) (map banks_of_state clones.new.items) result }
 {
     match &mut clones[usize::from(number)] {
         CloneState::Live(clone) => receive_live(rt, alloc, number, clone, message),
@@ -133,7 +135,7 @@ fn receive_asking<R: Threads, B: CrashBanks>(
     ensures ok { IfOk result (ReceivesAt (map in_memory clones.old.items) (map in_memory clones.new.items) number message.now) }
     ensures carried { OnOk result (IsCarriedAt clones.old.items clones.new.items number) }
     ensures banks { UsesBanksOf B.meter number (map banks_of_state clones.old.items) (map banks_of_state clones.new.items) }
-    ensures faults { HasFaultsBy B.meter (map banks_of_state clones.old.items) (map banks_of_state clones.new.items) result }
+    ensures faults { HasFaultsFor number B.meter (map banks_of_state clones.old.items) (map banks_of_state clones.new.items) result }
 {
     let CloneState::Asking(asker) = take_state(clones, number) else {
         unreachable!()

@@ -3,13 +3,13 @@ ghost use Rattle.std.specs.Prelude.{◌≡◌, ◌+◌, ◌<◌, ◌≤◌, [], 
 ghost use Rattle.mld_ops.specs.Messages.{GiveValue};
 ghost use Rattle.mld_model.specs.World.{clone_count};
 ghost use Rattle.mld_model.specs.declared.CloneState.TheVariants as kinds;
-ghost use Rattle.schedule_model.specs.Schedule.{IsSetup};
 ghost use Rattle.clone_core.specs.Closing.{StaysOpen};
 ghost use Rattle.clone_core.specs.Joining.{LocallyGives, AreGood};
-ghost use Rattle.net_world.specs.Founding.{GivesLeaf, AreFounded, AreFoundedTo, RefusesFounding, IsAbsentAt, IsMadeFirst, MayGive, LivesAtLeaf, JoinsBy, HasGiver, JoinsFirst};
+ghost use Rattle.net_world.specs.Founding.{IsKeptSetup, GivesLeaf, AreFounded, AreFoundedTo, IsAbsentAt, IsMadeFirst, MayGive, LivesAtLeaf, JoinsBy, HasGiver, JoinsFirst, HasFaultsBy};
+ghost use Rattle.net_world.specs.WorldBanks.{BankedState, banks_of_state, GoesOn, MetersGoOn, HadNoFaults, RefusesFounding};
 ghost use Rattle.schedule_text.specs.ReadLines.{setup_of};
 ghost use Rattle.net_world.specs.States.{HasState};
-ghost use Rattle.net_world.specs.WorldBanks.{BankedState, banks_of_state, GoesOn, MetersGoOn, HadNoFaults, HasFaultsAt, HasFaultsBy};
+ghost use Rattle.net_world.specs.OneCall.{HasFaultsAt};
 
 use crate::faults::{WorldFault, made_fault};
 use crate::states::{RunningClone, copy_named, id_of, new_asker, put_state, take_state};
@@ -31,7 +31,7 @@ pub fn found_clones<R: Threads, B: CrashBanks>(
     setup: &Setup,
     blanks: Vec<Blank<B>>,
 ) -> Result<Vec<RunningClone<B>>, (WorldFault, Vec<B>)>
-    requires setup { IsSetup (setup_of setup.now) }
+    requires setup { IsKeptSetup (setup_of setup.now) }
     requires count { vec_len blanks ≡ clone_count }
     ensures ok { IfOk result (λ clones. AreFounded (setup_of setup.now) clones.items) }
     ensures meters { IfOk result (λ clones. MetersGoOn B.meter blanks.items (map banks_of_state clones.items)) }
@@ -75,7 +75,7 @@ fn found_each<R: Threads, B: CrashBanks>(
     setup: &Setup,
     clones: &mut Vec<RunningClone<B>>,
 ) -> Result<(), WorldFault>
-    requires setup { IsSetup (setup_of setup.now) }
+    requires setup { IsKeptSetup (setup_of setup.now) }
     requires absent { AreFoundedTo (setup_of setup.now) 0 clones.old.items }
     ensures ok { OnOk result (AreFoundedTo (setup_of setup.now) setup.now.clones clones.new.items) }
     ensures meters { MetersGoOn B.meter (map banks_of_state clones.old.items) (map banks_of_state clones.new.items) }
@@ -94,7 +94,7 @@ fn found_first<B: CrashBanks>(
     setup: &Setup,
     clones: &mut Vec<RunningClone<B>>,
 ) -> Result<(), WorldFault>
-    requires setup { IsSetup (setup_of setup.now) }
+    requires setup { IsKeptSetup (setup_of setup.now) }
     requires absent { AreFoundedTo (setup_of setup.now) 0 clones.old.items }
     ensures ok { OnOk result (AreFoundedTo (setup_of setup.now) 1 clones.new.items) }
     ensures meters { MetersGoOn B.meter (map banks_of_state clones.old.items) (map banks_of_state clones.new.items) }
@@ -142,7 +142,7 @@ fn found_other<R: Threads, B: CrashBanks>(
     clones: &mut Vec<RunningClone<B>>,
     number: u8,
 ) -> Result<(), WorldFault>
-    requires setup { IsSetup (setup_of setup.now) }
+    requires setup { IsKeptSetup (setup_of setup.now) }
     requires some { 1 ≤ number }
     requires below { number < setup.now.clones }
     requires founded { AreFoundedTo (setup_of setup.now) number clones.old.items }

@@ -31,7 +31,7 @@ pub fn join<B: CrashBanks>(
     requires number { number < vec_len parts.old.clones }
     ensures keeps { KeepsDomain B.meter number parts.old parts.new }
     ensures done { IfOk result (Does B.log parts.old (commands.Join number) parts.new) }
-    ensures faults { HasFaultsOfParts B.meter parts.old parts.new result }
+    ensures faults { HasFaultsOfParts B.meter number parts.old parts.new result }
 {
     match &parts.clones[usize::from(number)] {
         CloneState::Asking(asker) => send_question(&mut parts.messages, asker.ask()),

@@ -3,7 +3,8 @@ ghost use Rattle.std.specs.Prelude.{◌≡◌, ◌≢◌, ◌<◌, ◌^◌, ◌-
 ghost use Rattle.mld_io.specs.Arm.{Metered};
 ghost use Rattle.journal_store.specs.declared.faults.Why.{Why};
 ghost use Rattle.net_world.specs.KeptJournals.{keeping_command, KeepsBy, KeepsAs};
-ghost use Rattle.net_world.specs.WorldBanks.{GoesOn, HasFaultsAt};
+ghost use Rattle.net_world.specs.WorldBanks.{GoesOn};
+ghost use Rattle.net_world.specs.OneCall.{HasFaultsAt};
 ghost use Rattle.net_world.specs.WorldParts.{HasStepLeft, KeepsDomain, HasFaultsOfParts, Does};
 
 use crate::faults::WorldFault;
@@ -35,7 +36,7 @@ pub fn keep<B: CrashBanks>(
     requires number { number < vec_len parts.old.clones }
     ensures keeps { KeepsDomain B.meter number parts.old parts.new }
     ensures done { IfOk result (Does B.log parts.old (keeping_command number keeping) parts.new) }
-    ensures faults { HasFaultsOfParts B.meter parts.old parts.new result }
+    ensures faults { HasFaultsOfParts B.meter number parts.old parts.new result }
 {
     match &mut parts.clones[usize::from(number)] {
         CloneState::Live(clone) => keep_live(alloc, number, clone, keeping),

@@ -4,7 +4,8 @@ ghost use Rattle.iri_rules.specs.Domain.{is_domain};
 ghost use Rattle.mld_model.specs.Local.{IsNamed};
 ghost use Rattle.schedule_model.specs.declared.Command.TheVariants as commands;
 ghost use Rattle.net_world.specs.OpeningBanks.{IsWholeAt, IsUndamaged, IsOpenedAs, OpensBanks};
-ghost use Rattle.net_world.specs.WorldBanks.{banks_of_state, UsesBanksOf, HasFaultsBy};
+ghost use Rattle.net_world.specs.WorldBanks.{banks_of_state, HasFaultsFor};
+ghost use Rattle.net_world.specs.OneCall.{UsesBanksOf};
 ghost use Rattle.net_world.specs.WorldParts.{HasStepLeft, KeepsDomain, HasFaultsOfParts, Does};
 
 use crate::faults::WorldFault;
@@ -32,7 +33,7 @@ pub fn open<R: Threads, B: CrashBanks>(
     requires number { number < vec_len parts.old.clones }
     ensures keeps { KeepsDomain B.meter number parts.old parts.new }
     ensures done { IfOk result (Does B.log parts.old (commands.Open number) parts.new) }
-    ensures faults { HasFaultsOfParts B.meter parts.old parts.new result }
+    ensures faults { HasFaultsOfParts B.meter number parts.old parts.new result }
 {
     match &parts.clones[usize::from(number)] {
         CloneState::Down(_) => {
@@ -55,7 +56,7 @@ fn open_banks<R: Threads, B: CrashBanks>(
     requires whole { IsWholeAt B.log clones.old.items number }
     ensures ok { IfOk result (OpensBanks B.log named.domain named.properties.items clones.old.items clones.new.items number) }
     ensures banks { UsesBanksOf B.meter number (map banks_of_state clones.old.items) (map banks_of_state clones.new.items) }
-    ensures faults { HasFaultsBy B.meter (map banks_of_state clones.old.items) (map banks_of_state clones.new.items) result }
+    ensures faults { HasFaultsFor number B.meter (map banks_of_state clones.old.items) (map banks_of_state clones.new.items) result }
 {
     let CloneState::Down(banks) = take_state(clones, number) else {
         unreachable!()

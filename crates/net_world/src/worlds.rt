@@ -10,6 +10,7 @@ use crate::summaries::{Summary, summarize};
 use journal_store::Blank;
 use mld_io::{Banks, CrashBanks};
 use mld_model::CloneState;
+use mld_ops::kept_properties;
 use schedule_model::Command;
 use schedule_text::Setup;
 use std::alloc::{AllocError, Global};
@@ -39,16 +40,14 @@ impl<B: CrashBanks> Model for World<B> {
 
 impl<B: CrashBanks> World<B> {
     ghost use Rattle.std.specs.Prelude.{◌≡◌, ◌+◌, ◌<◌, vec_len, IsTrue, IfOk, IfErr, OnOk, OnErr};
-    ghost use Rattle.tree_clock.specs.Limits.{tick_limit};
+    ghost use Rattle.schedule_model.specs.WorldStep.{step_limit};
     ghost use Rattle.iri_rules.specs.Domain.{is_domain};
-    ghost use Rattle.rdf_terms.specs.Kept.{KeepsStart};
     ghost use Rattle.mld_model.specs.World.{World as ModelWorld, clone_count};
-    ghost use Rattle.net_world.specs.Founding.{RefusesFounding};
-    ghost use Rattle.net_world.specs.WorldBanks.{StandsOnBanks, AllBanksStandFor, banks_of, MetersGoOn, HadNoFaults, HasFaultsBy, OthersStay, memory_of};
-    ghost use Rattle.schedule_model.specs.Runs.{founded_by};
+    ghost use Rattle.net_world.specs.WorldBanks.{StandsOnBanks, AllBanksStandFor, banks_of, MetersGoOn, HadNoFaults, RefusesFounding, HasFaultsFor, OthersStay, memory_of};
     ghost use Rattle.schedule_model.specs.Schedule.{IsSetup};
     ghost use Rattle.schedule_model.specs.Step.{HasCloneNumbers, number_of_clone};
     ghost use Rattle.schedule_text.specs.ReadLines.{setup_of};
+    ghost use Rattle.net_world.specs.Founding.{StandsFounded};
     ghost use Rattle.net_world.specs.Worlds.{IsStanding, Stepped};
     ghost use Rattle.net_world.specs.WorldSummary.{Tells};
 
@@ -66,7 +65,7 @@ impl<B: CrashBanks> World<B> {
     ) -> Result<World<B>, (WorldFault, Vec<B>)>
         requires setup { IsSetup (setup_of setup.now) }
         requires count { vec_len blanks ≡ clone_count }
-        ensures founded { IfOk result (λ world. StandsOnBanks B.log world (founded_by (setup_of setup.now))) }
+        ensures founded { IfOk result (λ world. StandsFounded B.log (setup_of setup.now) world) }
         ensures standing { IfOk result (IsStanding B.log) }
         ensures steps { IfOk result (λ world. world.steps ≡ 0) }
         ensures meters { IfOk result (λ world. MetersGoOn B.meter blanks.items (banks_of world)) }
@@ -76,11 +75,16 @@ impl<B: CrashBanks> World<B> {
         let Ok(named) = copy_named(alloc, &setup.domain, setup.props.as_slice()) else {
             return Err((WorldFault::NoMemory, Vec::new(alloc)));
         };
-        let clones = found_clones(rt, alloc, setup, blanks)?;
+        let kept = Setup {
+            domain: named.domain,
+            clones: setup.clones,
+            props: kept_properties(named.properties),
+        };
+        let clones = found_clones(rt, alloc, &kept, blanks)?;
         Ok(World {
             parts: Parts {
-                domain: named.domain,
-                properties: named.properties,
+                domain: kept.domain,
+                properties: kept.props,
                 clones,
                 messages: Vec::new(alloc),
             },
@@ -114,11 +118,11 @@ impl<B: CrashBanks> World<B> {
     }
 
     /// Does a command, and adds the text of its reply to the output. It uses the banks of the command's clone alone. After `Device` and
-    /// `NoMemory` the world may have done a part of it, and is only asked for its banks; what stood in the output still stands in front.
+    /// `NoMemory` the world may have done a part of it, and is only asked for its banks; the output is as it was.
     ///
     /// # Errors
     ///
-    /// `Device` where the device of the clone failed; and `NoMemory`.
+    /// `Device` where the device of the command's clone failed, which it names; and `NoMemory`.
     pub fn step<R: Threads>(
         &mut self,
         rt: &R,
@@ -126,16 +130,16 @@ impl<B: CrashBanks> World<B> {
         command: &Command,
         out: &mut Vec<u8>,
     ) -> Result<(), WorldFault>
-        requires few { self.old.steps < tick_limit }
+        requires few { self.old.steps < step_limit }
         requires standing { IsStanding B.log self.old }
         requires numbers { HasCloneNumbers command.now }
         ensures done { OnOk result (Stepped B.log self.old command.now self.new out.old.items out.new.items) }
         ensures standing { OnOk result (IsStanding B.log self.new) }
         ensures steps { OnOk result (self.new.steps ≡ self.old.steps + 1) }
         ensures meters { MetersGoOn B.meter (banks_of self.old) (banks_of self.new) }
-        ensures faults { HasFaultsBy B.meter (banks_of self.old) (banks_of self.new) result }
+        ensures faults { HasFaultsFor (number_of_clone command.now) B.meter (banks_of self.old) (banks_of self.new) result }
         ensures others { OthersStay (number_of_clone command.now) (banks_of self.old) (banks_of self.new) }
-        ensures out { OnErr result (KeepsStart out.old.items out.new.items) }
+        ensures out { OnErr result (out.new.items ≡ out.old.items) }
     {
         answer(rt, alloc, &mut self.parts, command, out)?;
         self.steps += 1;

@@ -1,13 +1,10 @@
 -- The text of a clone's pairs, and words behind an output.
-use Rattle.std.proofs.Common.{◌≡◌, ◌∙◌, sym, arith, zero, suc, ◌+◌, append-nil, ℕ, ◌<◌, ◌≤◌, List, [], ◌∷◌, ◌++◌, codes, length, get_or, take, ap, if◌then◌else◌, Result, Ok, Err, OnOk, OnErr, is_ok, subst}
+use Rattle.std.proofs.Common.{◌≡◌, ◌∙◌, sym, arith, zero, suc, ◌+◌, append-nil, ℕ, ◌≤◌, List, [], ◌∷◌, ◌++◌, codes, length, take, ap, if◌then◌else◌, Result, Ok, Err, OnOk, OnErr, is_ok, subst}
 use Rattle.std.specs.Fmt.{decimal}
 use Rattle.std.specs.List.{flat_map, range_with_len}
-use Rattle.std.proofs.lemmas.Grind.{flat_map-append}
 use Rattle.std.proofs.lemmas.List.{append_assoc, take_all}
 use Rattle.rdf_terms.specs.Kept.{KeepsStart}
 use Rattle.rdf_terms.proofs.Appending.{keeps_further}
-use Rattle.chunked_list.specs.Joined.{joined_chunks}
-use Rattle.chunked_list.proofs.JoinedLaws.{joined_more}
 use Rattle.tree_clock.specs.declared.dots.Range.{Range}
 use Rattle.mld_ops.specs.declared.tagged.Tagged.{Tagged}
 use Rattle.schedule_model.specs.Characters.{line_end}
@@ -25,16 +22,6 @@ pairs_shown old mid out head pairs m h o =
     o ∙ ap (λ w. w ++ lines) (m ∙ ap (λ w. old ++ w) h)
     ∙ append_assoc old first lines
     ∙ ap (λ w. old ++ w) (append_assoc (codes "has ") (decimal (length pairs) ++ line_end ∷ []) lines ∙ ap (λ w. codes "has " ++ w) (append_assoc (decimal (length pairs)) (line_end ∷ []) lines))
-
--- the lines of one chunk more
-pub lines_more : (old mid out : List ℕ) (chunks : List (List Tagged)) (i : ℕ) (chunk : List Tagged) → i < length chunks → chunk ≡ get_or chunks i chunk
-    → mid ≡ old ++ flat_map pair_line (joined_chunks (take i chunks)) → out ≡ mid ++ flat_map pair_line chunk
-    → out ≡ old ++ flat_map pair_line (joined_chunks (take (i + 1) chunks))
-lines_more old mid out chunks i chunk l e m o =
-    let before : List Tagged = joined_chunks (take i chunks) in
-    o ∙ ap (λ w. w ++ flat_map pair_line chunk) m
-    ∙ append_assoc old (flat_map pair_line before) (flat_map pair_line chunk)
-    ∙ ap (λ w. old ++ w) (sym (flat_map-append pair_line before chunk) ∙ ap (λ ps. flat_map pair_line ps) (sym (joined_more chunks i chunk l e)))
 
 -- a word, each range behind a space, and the end of the line, in three steps
 pub ranges_shown : (old mid out new word : List ℕ) (ranges : List Range) (i : ℕ) → length ranges ≤ i

@@ -1,6 +1,7 @@
 //! The replies of a schedule's steps, and their text.
 #![tactic(auto)]
 
+mod pieces;
 mod replies;
 
 pub use replies::{Reply, push_ready, push_reply};

@@ -45,7 +45,7 @@ returns-in-Ok-Sends g c =
           (sym (c.in-Some.ensures ∙ ap (λ (ms : List Message). numbered ms c.args.message) c.as_slice.ensures.value))
           (subst P c.in-Ok-Sends.field-0-is c.in-Ok-Sends.ensures.ok) (λ steps. h) c.in-Ok-Sends.ensures.carried)
           c.send_answers.ensures.sent;
-      faults = faults_memory g.B.Banks.meter (map banks_of_state c.args.parts.now.clones.items) (map banks_of_state c.receive_at.new.clones.items) c.send_answers.result
+      faults = faults_memory g.B.Banks.meter c.args.number (map banks_of_state c.args.parts.now.clones.items) (map banks_of_state c.receive_at.new.clones.items) c.send_answers.result
           c.in-Ok-Sends.ensures.faults c.send_answers.ensures.memory;
     }
 

@@ -37,7 +37,7 @@ returns-in-Live g c =
     } in
     record {
       ok = IfOk-weaker c.receive_live.result _ _
-          (λ answer h. WhereLive (record { local = before.local }) (record { local = after.local })
+          (λ answer h. WhereLive before.local after.local
           (memory_becomes old (set old c.from.result (states.Live after)) number (states.Live before) (states.Live after) becomes) h)
           c.receive_live.ensures.ok;
       carried = on_ok_weaker c.receive_live.result

@@ -1,13 +1,14 @@
-use Rattle.std.proofs.Common.{◌∙◌, arith, ap, sym, subst, set}
+use Rattle.std.proofs.Common.{◌∙◌, arith, ap, sym, subst, set, map}
 use Rattle.std.proofs.lemmas.Result.{on_ok_weaker, IfOk-at_ok}
 use Rattle.mld_model.specs.declared.CloneState.TheVariants as kinds
 use Rattle.clone_banks.specs.BankCalls.{create_calls}
 use Rattle.clone_core.specs.Closing.{banks_of_made}
 use Rattle.schedule_text.specs.ReadLines.{setup_of}
 use Rattle.net_world.specs.States.{Becomes}
-use Rattle.net_world.specs.WorldBanks.{BankedState, GoesOn, HasFaultsAt}
+use Rattle.net_world.specs.WorldBanks.{BankedState, banks_of_state, GoesOn}
+use Rattle.net_world.specs.OneCall.{HasFaultsAt}
 use Rattle.net_world.proofs.BankLemmas.{goes_on, meters_set, faults_set}
-use Rattle.net_world.proofs.FaultLemmas.{first_faults}
+use Rattle.net_world.proofs.FaultLemmas.{first_faults, faults_of}
 use Rattle.net_world.proofs.FoundingLemmas.{absent_there, first_founded}
 use Rattle.net_world.proofs.founding.found_first.Given as given
 use Rattle.net_world.proofs.founding.found_first.Goals as goal
@@ -30,13 +31,14 @@ pub returns-clause-meters : goal.returns-clause-meters
 returns-clause-meters g c =
     meters_set g.B.Banks.meter c.args.clones.now.items c.put_state.new.clones.items 0 (kinds.Absent c.take_blank-blank.result) c.first_of-state.result.0 (becomes g c)
     (subst (λ (b : g.row.B.Denot). GoesOn (g.B.Banks.meter c.take_blank-blank.result) (g.B.Banks.meter b)) (sym c.first_of-state.ensures.banks)
-    (goes_on create_calls _ _ _ _ c.genesis-genesis.ensures.meter))
+    (goes_on create_calls _ _ _ _ c.genesis-genesis.ensures.durable.2.metered))
 
 pub returns-clause-faults : goal.returns-clause-faults
 returns-clause-faults g c =
     let meter = g.B.Banks.meter in
     let blank = c.take_blank-blank.result in
     let state = c.first_of-state.result.0 in
-    faults_set meter c.args.clones.now.items c.put_state.new.clones.items 0 (kinds.Absent blank) state c.first_of-state.result.1 (becomes g c)
+    faults_of meter 0 (map banks_of_state c.args.clones.now.items) (map banks_of_state c.put_state.new.clones.items) c.first_of-state.result.1
+    (faults_set meter c.args.clones.now.items c.put_state.new.clones.items 0 (kinds.Absent blank) state c.first_of-state.result.1 (becomes g c)
     (subst (λ (b : g.row.B.Denot). HasFaultsAt 0 (meter blank) (meter b) c.first_of-state.result.1) (sym c.first_of-state.ensures.banks)
-    (first_faults create_calls c.genesis-genesis.result c.first_of-state.result (meter blank) (meter (banks_of_made c.genesis-genesis.result)) _ c.first_of-state.ensures c.genesis-genesis.ensures.meter))
+    (first_faults create_calls c.genesis-genesis.result c.first_of-state.result (meter blank) (meter (banks_of_made c.genesis-genesis.result)) _ c.first_of-state.ensures c.genesis-genesis.ensures.durable.2.metered)))

@@ -2,19 +2,19 @@ use Rattle.std.proofs.Common.{◌≡◌, ◌+◌, ◌∙◌, List, arith, sym, s
 use Rattle.std.proofs.lemmas.Option.{slice_get_within}
 use Rattle.std.proofs.lemmas.Result.{on_ok_weaker}
 use Rattle.mld_model.specs.declared.CloneState.TheVariants as kinds
-use Rattle.net_world.specs.Founding.{IsNewAsker, HasFaultsOfTwo, giving, taking}
+use Rattle.net_world.specs.Founding.{IsNewAsker, HasFaultsOfTwo, giving, taking, HasFaultsBy}
 use Rattle.schedule_text.specs.ReadLines.{setup_of}
 use Rattle.net_world.specs.States.{Becomes}
-use Rattle.net_world.specs.WorldBanks.{BankedState, banks_of_state, GoesOn, MetersGoOn, HasFaultsBy}
+use Rattle.net_world.specs.WorldBanks.{BankedState, banks_of_state, GoesOn, MetersGoOn}
 use Rattle.net_world.proofs.BankLemmas.{meters_set, faults_set, quiet_becomes}
-use Rattle.net_world.proofs.FaultLemmas.{meters_then, faults_then, then_faults}
+use Rattle.net_world.proofs.FaultLemmas.{meters_then, faults_of, faults_then, then_faults}
 use Rattle.net_world.proofs.FoundingLemmas.{absent_there, giver_there, first_stays, comes_back, one_more}
 use Rattle.net_world.proofs.founding.found_other.Given as given
 use Rattle.net_world.proofs.founding.found_other.Goals as goal
 
 pub take_blank-blank-requires : goal.take_blank-blank-requires
 take_blank-blank-requires g c =
-    absent_there (setup_of c.args.setup.now) c.args.number c.args.clones.now.items (omega (arith, c.requires.below, c.requires.setup.most)) c.requires.founded
+    absent_there (setup_of c.args.setup.now) c.args.number c.args.clones.now.items (omega (arith, c.requires.below, c.requires.setup.may.most)) c.requires.founded
 
 pub join_first-state-requires : goal.join_first-state-requires
 join_first-state-requires g c =
@@ -81,14 +81,16 @@ both_faults g c (giving gave quiet) =
     let new = c.put_state.new.clones.items in
     then_faults meter (map banks_of_state old) (map banks_of_state (between g c)) (map banks_of_state new) c.join_first-state.result.1 (first g c)
     (quiet_becomes meter old (between g c) c.args.number (kinds.Absent c.take_blank-blank.result) (state g c) (changes g c).0 quiet)
-    (faults_set meter (between g c) new 0 (kinds.Live joins.was) (kinds.Live joins.now) c.join_first-state.result.1 (changes g c).1 gave)
+    (faults_of meter 0 (map banks_of_state (between g c)) (map banks_of_state new) c.join_first-state.result.1
+    (faults_set meter (between g c) new 0 (kinds.Live joins.was) (kinds.Live joins.now) c.join_first-state.result.1 (changes g c).1 gave))
 both_faults g c (taking quiet took) =
     let meter = g.B.Banks.meter in
     let joins = c.join_first-state.ensures.joins in
     let old = c.args.clones.now.items in
     let new = c.put_state.new.clones.items in
     faults_then meter (map banks_of_state old) (map banks_of_state (between g c)) (map banks_of_state new) c.join_first-state.result.1 (first g c)
-    (faults_set meter old (between g c) c.args.number (kinds.Absent c.take_blank-blank.result) (state g c) c.join_first-state.result.1 (changes g c).0 took)
+    (faults_of meter c.args.number (map banks_of_state old) (map banks_of_state (between g c)) c.join_first-state.result.1
+    (faults_set meter old (between g c) c.args.number (kinds.Absent c.take_blank-blank.result) (state g c) c.join_first-state.result.1 (changes g c).0 took))
     (second g c)
     (quiet_becomes meter (between g c) new 0 (kinds.Live joins.was) (kinds.Live joins.now) (changes g c).1 quiet)
 

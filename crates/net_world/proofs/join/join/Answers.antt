@@ -16,7 +16,7 @@ returns-in-Asking g c =
       done = join_again_done g.B.Banks.log g.B.Banks.meter parts _ refl refl c.args.number c.in-Asking.asker c.ask.result c.send_question.result
           (place_read parts.clones.items c.args.number c.from.result c.index.result.now (states.Asking c.in-Asking.asker) c.from.ensures (omega (arith, c.requires.number)) c.index.ensures c.in-Asking.is)
           c.ask.ensures.asks refl c.send_question.ensures.sent;
-      faults = faults_memory g.B.Banks.meter (map banks_of_state parts.clones.items) (map banks_of_state parts.clones.items) c.send_question.result
+      faults = faults_memory g.B.Banks.meter c.args.number (map banks_of_state parts.clones.items) (map banks_of_state parts.clones.items) c.send_question.result
           (quiet_same g.B.Banks.meter (map banks_of_state parts.clones.items)) c.send_question.ensures.memory;
     }
 

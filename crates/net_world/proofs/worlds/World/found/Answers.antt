@@ -1,13 +1,16 @@
-use Rattle.std.proofs.Common.{List, ◌∙◌, ap, map, refl}
+use Rattle.std.proofs.Common.{◌∙◌, ap, map, refl, subst, List, ℕ}
 use Rattle.mld_ops.specs.Messages.{message_value}
 use Rattle.mld_ops.specs.declared.messages.Message.{Message}
+use Rattle.schedule_model.specs.Schedule.{Setup, KeepsEachOnce}
 use Rattle.schedule_text.specs.ReadLines.{setup_of}
-use Rattle.net_world.proofs.EndLemmas.{founded_on_banks, founded_standing_on}
+use Rattle.net_world.proofs.EndLemmas.{founded_from, founded_standing_on}
 use Rattle.net_world.proofs.worlds.World.found.Goals as goal
 
 pub returns-clause-founded : goal.returns-clause-founded
 returns-clause-founded g c =
-    founded_on_banks g.B.Banks.log (setup_of c.args.setup.now) _ c.in_ok-clones.ensures.ok c.in-Ok.ensures.domain (c.in-Ok.ensures.properties ∙ c.as_slice.ensures.value)
+    let setup : Setup = record { domain = c.in-Ok.named.domain; properties = c.kept_properties.result.items; count = c.args.setup.now.clones } in
+    let each = subst (λ (properties : List (List ℕ)). KeepsEachOnce properties setup.properties) (c.in-Ok.ensures.properties ∙ c.as_slice.ensures.value) c.kept_properties.ensures in
+    founded_from g.B.Banks.log (setup_of c.args.setup.now) setup _ each c.in-Ok.ensures.domain refl c.in_ok-clones.ensures.ok refl refl
     (ap (λ (l : List Message). map message_value l) c.new-2.ensures.items) refl
 
 pub returns-clause-standing : goal.returns-clause-standing

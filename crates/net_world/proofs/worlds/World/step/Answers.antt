@@ -1,7 +1,7 @@
-use Rattle.std.proofs.Common.{◌+◌, List, ap, map, subst}
+use Rattle.std.proofs.Common.{◌+◌, List, Err, ap, map, subst}
 use Rattle.std.proofs.lemmas.Result.{err_from_is_err_and}
 use Rattle.schedule_model.specs.Step.{number_of_clone}
-use Rattle.net_world.specs.WorldBanks.{BankedWorld, banks_of_state, HadNoFaults, HasFaultsOf}
+use Rattle.net_world.specs.WorldBanks.{BankedWorld, banks_of_state, HadNoFaults, HasFaultsFor}
 use Rattle.net_world.specs.WorldParts.{running_of}
 use Rattle.net_world.specs.Worlds.{Stepped}
 use Rattle.net_world.proofs.WorldLemmas.{standing_after, step_answered, step_banks, step_begun}
@@ -37,7 +37,7 @@ returns-in_err-answer g c =
       standing = tt;
       steps = tt;
       meters = used.meters;
-      faults = subst (λ (l : List g.row.B.Denot). HasFaultsOf g.B.Banks.meter l (map banks_of_state new.clones.items) c.in_err-answer.field-0.0) begun c.in_err-answer.ensures.faults;
+      faults = subst (λ (l : List g.row.B.Denot). HasFaultsFor {T = Unit {0}} (number_of_clone c.args.command.now) g.B.Banks.meter l (map banks_of_state new.clones.items) (Err c.in_err-answer.field-0.0)) begun c.in_err-answer.ensures.faults;
       others = used.others;
       out = c.in_err-answer.ensures.out;
     })
