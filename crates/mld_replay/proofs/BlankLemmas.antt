@@ -12,13 +12,14 @@ use Rattle.journal_store.specs.declared.faults.MountFault.TheVariants.{Damaged, 
 use Rattle.clone_core.specs.Opening.{TellsClone}
 use Rattle.clone_core.specs.declared.mounts.Mounted.{Mounted}
 use Rattle.clone_core.specs.declared.mounts.Mounted.TheVariants.{Live, Empty, Refused}
-use Rattle.net_world.specs.WorldBanks.{GoesOn, MetersGoOn, HadNoFault, HadNoFaults, HasFailed}
-use Rattle.mld_replay.specs.Filled.{IsFilled, IsFirstFilled, AreEmpty, AreEmptyBefore, HadFault, LogsStay, StopsLookingAt, StopsLooking}
-use Rattle.mld_replay.specs.BankFaults.{HasRunFaults}
-use Rattle.mld_io.specs.Faults.{Rose}
+use Rattle.net_world.specs.WorldBanks.{GoesOn, MetersGoOn, HadNoFault, HadNoFaults, HasFailed, HadFault}
+use Rattle.mld_replay.specs.Filled.{IsFilled, IsFirstFilled, LogsStay}
+use Rattle.mld_replay.specs.Looking.{AreEmpty, AreEmptyBefore, StopsLookingAt, StopsLooking}
+use Rattle.mld_replay.specs.BankFaults.{AreWell, HaveFailed, all_left, BringsBack}
 use Rattle.mld_replay.specs.declared.run.RunFault.{RunFault}
 use Rattle.mld_replay.specs.declared.run.RunFault.TheVariants as faults
-use Rattle.mld_replay.proofs.MeterLemmas.{meters_same, meters_then, quiet_same, quiet_then, failed_later}
+use Rattle.mld_replay.proofs.MeterLemmas.{goes_on_same, meters_same, meters_then, quiet_same, quiet_then, failed_later}
+use Rattle.net_world.proofs.FaultLemmas.{fault_later}
 
 -- ---- what a mount of banks without a byte tells
 
@@ -61,9 +62,6 @@ empty_finds_not mounted (Some log) told empty tells finds = finds_not mounted (r
 
 one_is : {B : Type 0} {one other : B} → ◌≡◌ {A = Option B} (Some one) (Some other) → one ≡ other
 one_is same = cc
-
-stays_same : (meter : Meter) → GoesOn meter meter
-stays_same meter = record { later = omega arith; unarmed = λ un. un }
 
 -- what holds of the old and the new one, and of each with itself, holds of all of them, number by number
 set_at : {B : Type 0} (P : B → B → Type 0) (list : List B) (number : ℕ) (was now : B) → slice_get list number ≡ Some was → P was now → ((one : B) → P one one)
@@ -141,7 +139,7 @@ meters_set : {B : Type 0} (meter : B → Meter) (banks : List B) (number : ℕ) 
     → MetersGoOn meter banks (slice_set banks number now)
 meters_set meter banks number was now at goes = record {
   count = set_length banks number now;
-  each = set_at (λ x y. GoesOn (meter x) (meter y)) banks number was now at goes (λ one. stays_same (meter one));
+  each = set_at (λ x y. GoesOn (meter x) (meter y)) banks number was now at goes (λ one. goes_on_same (meter one));
 }
 
 quiet_set : {B : Type 0} (meter : B → Meter) (banks : List B) (number : ℕ) (was now : B) → slice_get banks number ≡ Some was → HadNoFault (meter was) (meter now)
@@ -202,23 +200,31 @@ looked_stops log meter old middle number was now faults.NoMemory looked at stops
 looked_stops log meter old middle number was now fault looked at stops = absurd stops
 
 -- and no others had a fault
+looked_well : {B : Type 0} (log : B → Option Log) (meter : B → Meter) (old middle : List B) (number : ℕ) (was now : B) → HasLooked log meter old middle number
+    → slice_get middle number ≡ Some was → GoesOn (meter was) (meter now) → HadNoFault (meter was) (meter now) → AreWell meter old (slice_set middle number now)
+looked_well log meter old middle number was now looked at goes quiet = record {
+  meters = looked_meters log meter old middle number was now looked at goes;
+  quiet = quiet_then meter old middle (slice_set middle number now) looked.meters looked.quiet (quiet_set meter middle number was now at quiet);
+}
+
 pub looked_faults : {B : Type 0} (log : B → Option Log) (meter : B → Meter) (old middle : List B) (number : ℕ) (was now : B) (fault : RunFault) → HasLooked log meter old middle number
-    → slice_get middle number ≡ Some was → StopsLookingAt number (log was) (meter was) (meter now) fault → HasRunFaults meter old (slice_set middle number now) (Some fault)
-looked_faults log meter old middle number was now (faults.NotEmpty clone) looked at stops =
-    quiet_then meter old middle (slice_set middle number now) looked.meters looked.quiet (quiet_set meter middle number was now at stops.2)
-looked_faults log meter old middle number was now (faults.Device clone) looked at stops =
-    failed_later meter clone old middle (slice_set middle number now) looked.meters looked.quiet
-    (subst (λ (n : ℕ). HasFailed meter n middle (slice_set middle number now)) (sym stops.0) (failed_set meter middle number was now at stops.1))
-looked_faults log meter old middle number was now faults.NoMemory looked at stops =
-    quiet_then meter old middle (slice_set middle number now) looked.meters looked.quiet (quiet_set meter middle number was now at stops)
-looked_faults log meter old middle number was now fault looked at stops = absurd stops
+    → slice_get middle number ≡ Some was → GoesOn (meter was) (meter now) → StopsLookingAt number (log was) (meter was) (meter now) fault
+    → BringsBack meter old (slice_set middle number now) (Some fault)
+looked_faults log meter old middle number was now (faults.NotEmpty clone) looked at goes stops = looked_well log meter old middle number was now looked at goes stops.2
+looked_faults log meter old middle number was now (faults.Device clone) looked at goes stops = record {
+  meters = looked_meters log meter old middle number was now looked at goes;
+  failed = failed_later meter clone old middle (slice_set middle number now) (record { meters = looked.meters; quiet = looked.quiet })
+      (subst (λ (n : ℕ). HasFailed meter n middle (slice_set middle number now)) (sym stops.0) (failed_set meter middle number was now at stops.1));
+}
+looked_faults log meter old middle number was now faults.NoMemory looked at goes stops = all_left (looked_well log meter old middle number was now looked at goes stops)
+looked_faults log meter old middle number was now fault looked at goes stops = absurd stops
 
 -- a side was looked at, and then the look at the other one stopped
 pub stops_later : (number : ℕ) (log : Option Log) (first second third : Meter) (fault : RunFault) → GoesOn first second → HadNoFault first second → StopsLookingAt number log second third fault
     → StopsLookingAt number log first third fault
 stops_later number log first second third (faults.NotEmpty clone) goes quiet stops = (stops.0, stops.1, stops.2 ∙ quiet)
 stops_later number log first second third (faults.Device clone) goes quiet stops =
-    (stops.0, λ unarmed. subst (λ (n : ℕ). Rose n third.real_faults) quiet (stops.1 (goes.unarmed unarmed)))
+    (stops.0, fault_later first second third quiet stops.1)
 stops_later number log first second third faults.NoMemory goes quiet stops = stops ∙ quiet
 stops_later number log first second third fault goes quiet stops = absurd stops
 
@@ -253,7 +259,7 @@ module _ {B : Type 0} (meter : B → Meter) (done : List B) (was now : B) (rest 
   meters_swap : GoesOn (meter was) (meter now) → MetersGoOn meter (done ++ was ∷ rest) (done ++ now ∷ rest)
   meters_swap goes = record {
     count = swap_length done was now rest;
-    each = swap_at (λ x y. GoesOn (meter x) (meter y)) done was now rest goes (λ one. stays_same (meter one));
+    each = swap_at (λ x y. GoesOn (meter x) (meter y)) done was now rest goes (λ one. goes_on_same (meter one));
   }
 
   quiet_swap : HadNoFault (meter was) (meter now) → HadNoFaults meter (done ++ was ∷ rest) (done ++ now ∷ rest)
@@ -301,13 +307,14 @@ blanking_more {B = B} log meter old done rest left more was now number blanking 
 -- their device failed
 pub blanking_stops : {B : Type 0} (log : B → Option Log) (meter : B → Meter) (old done rest left back : List B) (was now : B) (number : ℕ) → IsBlanking log meter old done rest number
     → rest ≡ was ∷ left → back ≡ done ++ now ∷ left → GoesOn (meter was) (meter now) → HadFault (meter was) (meter now)
-    → MetersGoOn meter old back × HasFailed meter number old back
+    → HaveFailed meter number old back
 blanking_stops log meter old done rest left back was now number blanking is back_is goes fails =
-    rw (back_is, blanking.counted) (
-      blanking_meters log meter old done rest left was now number blanking is goes,
-      failed_later meter (length done) old (done ++ was ∷ left) (done ++ now ∷ left) (meters_before log meter old done rest left was number blanking is)
-          (quiet_before log meter old done rest left was number blanking is) (failed_swap meter done was now left fails),
-    )
+    rw (back_is, blanking.counted) (record {
+      meters = blanking_meters log meter old done rest left was now number blanking is goes;
+      failed = failed_later meter (length done) old (done ++ was ∷ left) (done ++ now ∷ left)
+          (record { meters = meters_before log meter old done rest left was number blanking is; quiet = quiet_before log meter old done rest left was number blanking is })
+          (failed_swap meter done was now left fails);
+    })
 
 -- none is left
 all_done : {B : Type 0} (P : List B → Type 0) (done rest : List B) → rest ≡ [] → P (done ++ rest) → P done

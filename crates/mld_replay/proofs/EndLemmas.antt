@@ -11,8 +11,10 @@ use Rattle.schedule_model.specs.Runs.{Stage, Running}
 use Rattle.net_world.specs.WorldBanks.{BankedWorld, StandsOnBanks, AllBanksStandFor, KeepsNoneNow}
 use Rattle.net_world.specs.declared.summaries.Summary.{Summary}
 use Rattle.mld_replay.specs.RunSummaries.{TellsOf}
-use Rattle.mld_replay.specs.Ran.{EndsBy, tells}
-use Rattle.mld_replay.specs.Stages.{StageStands, banks_of_stage, AllKeepNone, BanksKeep}
+use Rattle.mld_replay.specs.Replaying.{EndsBy}
+use Rattle.mld_replay.specs.Ran.{tells}
+use Rattle.mld_replay.specs.Stages.{StageStands, banks_of_stage}
+use Rattle.mld_replay.specs.KeptBanks.{AllKeepNone, BanksKeep}
 use Rattle.mld_replay.specs.declared.endings.End.{End}
 use Rattle.mld_replay.specs.declared.run.Ran.{Ran}
 use Rattle.mld_replay.specs.declared.run.RunFault.{RunFault}

@@ -7,7 +7,8 @@ use Rattle.mld_io.specs.declared.faults.LineFault.TheVariants as line_faults
 use Rattle.mld_io.specs.Lines.{LinesValue, NextLine, IsTooLarge, IsCutShort, HasNoEnd, line_break, ended_lines, lines_of, first_line, after_line, line_size}
 use Rattle.mld_io.proofs.LinesLaws.{first_of_lines_lem, first_line_ends, after_line_none, ended_lines-append, ended_lines_none, HasNoEnd-first_line}
 use Rattle.mld_replay.specs.TooLarge.{left_after, size_of_lines, BreaksLimits, IsTooLargeLine, line_limit, input_limit}
-use Rattle.mld_replay.specs.Ran.{TakesLine, IfSomeLine, ReadsLines}
+use Rattle.mld_replay.specs.Replaying.{TakesLine, IfSomeLine}
+use Rattle.mld_replay.specs.Ran.{ReadsLines}
 use Rattle.mld_replay.specs.UnderWay.{IsLeft, KnowsEnd}
 
 -- one more line

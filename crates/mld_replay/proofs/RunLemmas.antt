@@ -12,7 +12,8 @@ use Rattle.mld_io.specs.Disk.{Log}
 use Rattle.mld_io.specs.Lines.{lines_of, after_line, IsCutShort}
 use Rattle.mld_io.proofs.LinesLaws.{first_of_lines_lem}
 use Rattle.schedule_model.specs.Runs.{Stage, Waiting, Acts, Runs, bad_line, no_domain, IsBad, IsUnbuilt, RunsBefore, Verdict}
-use Rattle.mld_replay.specs.Ran.{Finishes, StopsAtBad, StopsAtUnbuilt, StopsAtLarge, BreaksOff, ReadsLines, WritesFront, WritesWhole, EndsSo, TakesLine, IfSomeLine, IsReadingFault, IsWritingFault, IsReplayFault, IsLineFault, IsEndFault, HasReadCause, HasWriteFaultCause, CountsReads, CountsWrites}
+use Rattle.mld_replay.specs.Ran.{Finishes, StopsAtBad, StopsAtUnbuilt, StopsAtLarge, BreaksOff, ReadsLines, WritesFront, WritesWhole, EndsSo, CountsReads, CountsWrites}
+use Rattle.mld_replay.specs.Replaying.{TakesLine, IfSomeLine, IsReadingFault, IsWritingFault, IsReplayFault, IsLineFault, IsEndFault, HasReadCause, HasWriteFaultCause}
 use Rattle.mld_replay.specs.Stages.{StageStands, IsStandingStage, ActsWell, EndsWell, steps_of}
 use Rattle.mld_replay.specs.declared.stages.Stage.{Stage as RunningStage}
 use Rattle.mld_replay.specs.declared.stages.Stage.TheVariants as stages
@@ -497,11 +498,6 @@ unbuilt_fault {U = U} stop number at fault is same = let fault_is : fault ≡ fa
     unbuilt_stop stops.Unbuilt number at same = (refl, cc)
     unbuilt_stop (stops.Device clone) number at same = absurd (cc)
     unbuilt_stop stops.NoMemory number at same = absurd (cc)
-
--- a stop that isn't want of memory gives a fault that isn't either
-pub no_memory_stop : {U : Type 0} (stop : LineStop) (number : ℕ) → Some (fault_of stop number) ≢ Some faults.NoMemory → ¬ ◌≡◌ {A = Result U LineStop} (Err stop) (Err stops.NoMemory)
-no_memory_stop stop number differs same =
-    let stop_is : stop ≡ stops.NoMemory = cc in differs (ap (λ (s : LineStop). Some (fault_of s number)) stop_is)
 
 -- what holds of a line that was there
 pub of_line : (P : List ℕ → Type 0) (taken : Option (List ℕ)) (line : List ℕ) → taken ≡ Some line → IfSomeLine P taken → P line

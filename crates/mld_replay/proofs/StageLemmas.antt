@@ -1,6 +1,6 @@
 -- What a line makes of a schedule's state, and what its end does.
-use Rattle.std.proofs.Common.{◌≡◌, ℕ, List, [], refl, sym, ap, subst, length, Option, None, Some, Vec, Global}
-use Rattle.std.specs.Prelude.{Result, Ok, Err, IfOk, OnOk, IfErr, IsErrOf}
+use Rattle.std.proofs.Common.{◌≡◌, ◌≢◌, ℕ, List, [], refl, sym, ap, subst, length, Option, None, Some, Vec, Global}
+use Rattle.std.specs.Prelude.{Result, Ok, Err, OnOk, IfErr, IsErrOf}
 use Rattle.mld_io.specs.Arm.{Meter}
 use Rattle.mld_io.specs.Disk.{Log}
 use Rattle.schedule_model.specs.declared.Command.{Command}
@@ -9,22 +9,18 @@ use Rattle.mld_model.specs.Reply.{Ready}
 use Rattle.mld_model.specs.Sound.{IsSound}
 use Rattle.mld_model.proofs.FoundedLaws.{founded_sound}
 use Rattle.schedule_model.specs.ReplyText.{reply_text}
-use Rattle.schedule_model.specs.Runs.{Stage, Waiting, SetUp, Running, founded_by, IsWorldOf, says_nothing, sets_up, commands}
+use Rattle.schedule_model.specs.Runs.{Stage, Waiting, SetUp, Running, IsWorldOf, says_nothing, sets_up, commands}
 use Rattle.schedule_text.specs.declared.setups.Setup.{Setup}
 use Rattle.schedule_text.specs.declared.setups.SetupLine.{SetupLine}
 use Rattle.schedule_text.specs.declared.setups.SetupLine.TheVariants as lines
 use Rattle.schedule_model.specs.Schedule.{Setup as ModelSetup, SpellsSetup, SpellsCommand, IsSetup}
-use Rattle.rdf_terms.specs.Order.{iri_cmp}
-use Rattle.tree_clock.specs.Lists.{IsAscending}
 use Rattle.schedule_text.specs.ReadLines.{setup_of, SetupIs, CommandIs}
-use Rattle.net_world.specs.WorldBanks.{BankedWorld, StandsOnBanks, MetersGoOn, HadNoFaults}
-use Rattle.net_world.specs.Founding.{RefusesFounding}
-use Rattle.net_world.specs.declared.faults.WorldFault.{WorldFault}
-use Rattle.net_world.specs.declared.faults.WorldFault.TheVariants as worlds
-use Rattle.mld_replay.specs.BankFaults.{HasStopFaults}
-use Rattle.mld_replay.specs.Stops.{stop_of_world}
+use Rattle.net_world.specs.Founding.{StandsFounded}
+use Rattle.net_world.specs.WorldBanks.{BankedWorld, StandsOnBanks}
+use Rattle.mld_replay.specs.BankFaults.{AreWell, all_left}
+use Rattle.mld_replay.specs.Stops.{StopsWith}
 use Rattle.mld_replay.specs.declared.stops.LineStop.TheVariants as stops
-use Rattle.mld_replay.proofs.MeterLemmas.{quiet_same, quiet_then, quiet_none, stop_later, stop_quiet}
+use Rattle.mld_replay.proofs.MeterLemmas.{well_same, well_then, stop_later}
 use Rattle.net_world.specs.Worlds.{Stepped, FollowsOnBanks}
 use Rattle.mld_replay.specs.Stages.{StageStands, IsStandingStage, ActsWell, EndsWell}
 use Rattle.mld_replay.specs.declared.stops.LineStop.{LineStop}
@@ -35,11 +31,7 @@ use Rattle.mld_replay.specs.declared.stages.Stage.TheVariants as stages
 
 -- by what a domain line spells clones may be founded
 spelled_setup : (line : List ℕ) (setup : ModelSetup) → SpellsSetup line setup → IsSetup setup
-spelled_setup line setup spelled = record {
-  named = record { name = spelled.name; ascending = subst (λ (properties : List (List ℕ)). IsAscending iri_cmp properties) (sym spelled.none) tt };
-  some = spelled.some;
-  most = spelled.most;
-}
+spelled_setup line setup spelled = record { name = spelled.name; some = spelled.some; most = spelled.most }
 
 -- it is the domain line
 pub set_up : {B : Type 0} (log : B → Option Log) (line : List ℕ) (read : SetupLine) (setup : Setup) (blanks : Vec B Global) (text : List ℕ) → read ≡ lines.Setup setup → SetupIs line None read
@@ -101,17 +93,17 @@ started log stage line command old new text spells stepped founded =
     commanded log stage line command old new text spells stepped founded.world founded.founds founded.stands.0 founded.stands.1
 
 -- so it is, whatever its step answered
-pub started_all : {B : Type 0} (log : B → Option Log) (result : Result (Vec ℕ Global) LineStop) (state : RunningStage B) (command : Command) (old new : BankedWorld B)
-    → IfOk result (λ text. Stepped log old command new [] text.items) → ((stage : Stage) → StageStands log state stage → EndsWell log stage (stages.Running old))
-    → IfOk result (λ text. (stage : Stage) (line : List ℕ) → StageStands log state stage → SpellsCommand line command → ActsWell log stage line text.items (stages.Running new))
-started_all log (Ok text) state command old new stepped founded = λ stage line stands spells. started log stage line command old new text.items spells stepped (founded stage stands)
-started_all log (Err stop) state command old new stepped founded = tt
+pub started_all : {B : Type 0} (log : B → Option Log) (result : Result (Unit {0}) LineStop) (state : RunningStage B) (command : Command) (old new : BankedWorld B) (text : List ℕ)
+    → OnOk result (Stepped log old command new [] text) → ((stage : Stage) → StageStands log state stage → EndsWell log stage (stages.Running old))
+    → OnOk result ((stage : Stage) (line : List ℕ) → StageStands log state stage → SpellsCommand line command → ActsWell log stage line text (stages.Running new))
+started_all log (Ok done) state command old new text stepped founded = λ stage line stands spells. started log stage line command old new text spells stepped (founded stage stands)
+started_all log (Err stop) state command old new text stepped founded = tt
 
-pub commanded_all : {B : Type 0} (log : B → Option Log) (result : Result (Vec ℕ Global) LineStop) (line : List ℕ) (command : Command) (old new : BankedWorld B)
-    → SpellsCommand line command → IfOk result (λ text. Stepped log old command new [] text.items)
-    → IfOk result (λ text. (model : World) → StandsOnBanks log old model → IsSound model → ActsWell log (Running model) line text.items (stages.Running new))
-commanded_all log (Ok text) line command old new spells stepped = λ model stands sound. commanded log (Running model) line command old new text.items spells stepped model refl stands sound
-commanded_all log (Err stop) line command old new spells stepped = tt
+pub commanded_all : {B : Type 0} (log : B → Option Log) (result : Result (Unit {0}) LineStop) (line : List ℕ) (command : Command) (old new : BankedWorld B) (text : List ℕ)
+    → SpellsCommand line command → OnOk result (Stepped log old command new [] text)
+    → OnOk result ((model : World) → StandsOnBanks log old model → IsSound model → ActsWell log (Running model) line text (stages.Running new))
+commanded_all log (Ok done) line command old new text spells stepped = λ model stands sound. commanded log (Running model) line command old new text spells stepped model refl stands sound
+commanded_all log (Err stop) line command old new text spells stepped = tt
 
 -- it says nothing
 pub nothing_said : {B : Type 0} (log : B → Option Log) (stage : Stage) (line : List ℕ) (read : Option Command) (running : RunningStage B) → read ≡ None → CommandIs line read
@@ -173,35 +165,36 @@ over_stage {B = B} log state banks is standing = let Q : RunningStage B → Type
 -- ---- the end of the lines
 
 -- the clones are founded there, where no command did
-pub founded_end : {B : Type 0} (log : B → Option Log) (setup : Setup) (running : BankedWorld B) → StandsOnBanks log running (founded_by (setup_of setup))
+pub founded_end : {B : Type 0} (log : B → Option Log) (setup : Setup) (running : BankedWorld B) → StandsFounded log (setup_of setup) running
     → EndsWell log (SetUp (setup_of setup)) (stages.Running running)
 founded_end log setup running stands =
-    record { world = founded_by (setup_of setup); founds = refl; stands = (stands, founded_sound setup.domain setup.props.items setup.clones) }
+    let sound : IsSound stands.world = subst (λ (world : World). IsSound world) (sym stands.founds.is) (founded_sound setup.domain stands.founds.kept setup.clones) in
+    record { world = stands.world; founds = stands.founds; stands = (stands.stands, sound) }
 
--- ---- which banks had faults, where a clone was founded before
+-- ---- what becomes of the banks, where the clones were founded before
 
-pub quiet_after : {B T : Type 0} (meter : B → Meter) (old middle new : List B) (result : Result T LineStop) → MetersGoOn meter old middle → HadNoFaults meter old middle
-    → OnOk result (HadNoFaults meter middle new) → OnOk result (HadNoFaults meter old new)
-quiet_after meter old middle new (Ok value) goes quiet after = quiet_then meter old middle new goes quiet after
-quiet_after meter old middle new (Err stop) goes quiet after = tt
+pub well_after : {B T : Type 0} (meter : B → Meter) (old middle new : List B) (result : Result T LineStop) → AreWell meter old middle → OnOk result (AreWell meter middle new)
+    → OnOk result (AreWell meter old new)
+well_after meter old middle new (Ok value) well after = well_then meter old middle new well after
+well_after meter old middle new (Err stop) well after = tt
 
-pub faults_after : {B T : Type 0} (meter : B → Meter) (old middle new : List B) (result : Result T LineStop) → MetersGoOn meter old middle → HadNoFaults meter old middle
-    → IfErr result (HasStopFaults meter middle new) → IfErr result (HasStopFaults meter old new)
-faults_after meter old middle new (Ok value) goes quiet after = tt
-faults_after meter old middle new (Err stop) goes quiet after = stop_later meter old middle new stop goes quiet after
-
--- what founding refuses, the line does
-pub founding_faults : {B : Type 0} (meter : B → Meter) (blanks back : List B) (fault : WorldFault) → RefusesFounding meter blanks fault back → HasStopFaults meter blanks back (stop_of_world fault)
-founding_faults meter blanks back worlds.NoMemory refuses = quiet_none meter blanks back refuses
-founding_faults meter blanks back (worlds.Device clone) refuses = refuses.1
+pub stops_after : {B T : Type 0} (meter : B → Meter) (old middle new : List B) (result : Result T LineStop) → AreWell meter old middle → IfErr result (StopsWith meter middle new)
+    → IfErr result (StopsWith meter old new)
+stops_after meter old middle new (Ok value) well after = tt
+stops_after meter old middle new (Err stop) well after = stop_later meter old middle new stop well after
 
 -- where no device was called
-pub quiet_kept : {B T : Type 0} (meter : B → Meter) (old new : List B) (result : Result T LineStop) → new ≡ old → OnOk result (HadNoFaults meter old new)
-quiet_kept {B = B} meter old new (Ok value) same = subst (λ (l : List B). HadNoFaults meter old l) (sym same) (quiet_same meter old)
-quiet_kept meter old new (Err stop) same = tt
 
-pub faults_kept : {B T : Type 0} (meter : B → Meter) (old new : List B) (result : Result T LineStop) → new ≡ old → ((clone : ℕ) → ¬ IsErrOf result (stops.Device clone))
-    → IfErr result (HasStopFaults meter old new)
-faults_kept meter old new (Ok value) same none = tt
-faults_kept {B = B} meter old new (Err stop) same none =
-    subst (λ (l : List B). HasStopFaults meter old l stop) (sym same) (stop_quiet meter old stop (λ clone is. none clone (ap (λ (s : LineStop). Err s) is)))
+pub well_kept : {B T : Type 0} (meter : B → Meter) (old new : List B) (result : Result T LineStop) → new ≡ old → OnOk result (AreWell meter old new)
+well_kept {B = B} meter old new (Ok value) same = subst (λ (l : List B). AreWell meter old l) (sym same) (well_same meter old)
+well_kept meter old new (Err stop) same = tt
+
+pub stops_kept : {B T : Type 0} (meter : B → Meter) (old new : List B) (result : Result T LineStop) → new ≡ old → ((clone : ℕ) → ¬ IsErrOf result (stops.Device clone))
+    → IfErr result (StopsWith meter old new)
+stops_kept meter old new (Ok value) same none = tt
+stops_kept {B = B} meter old new (Err stop) same none = subst (λ (l : List B). StopsWith meter old l stop) (sym same) (at stop (λ clone is. none clone (ap (λ (s : LineStop). Err s) is)))
+  where
+    at : (stop : LineStop) → ((clone : ℕ) → stop ≢ stops.Device clone) → StopsWith meter old old stop
+    at (stops.Device clone) differs = absurd (differs clone refl)
+    at stops.NoMemory differs = all_left (well_same meter old)
+    at stop differs = well_same meter old

@@ -11,16 +11,18 @@ use Rattle.mld_io.specs.Lines.{lines_of}
 use Rattle.mld_model.specs.World.{World}
 use Rattle.schedule_model.specs.Runs.{Stage, Running, RunsBefore, Outcome, Finished, BadLine, UnbuiltLine, Verdict}
 use Rattle.schedule_model.proofs.RunsLaws.{one_verdict}
-use Rattle.net_world.specs.WorldBanks.{MetersGoOn, HadNoFaults}
-use Rattle.mld_replay.specs.BankFaults.{HasRunFaults, BringsBack}
-use Rattle.mld_replay.specs.Filled.{IsFirstFilled, EndsBefore, AreEmpty, LogsStay, HeedsFilled, StopsLooking, StopsBlanking}
-use Rattle.mld_replay.specs.Ran.{Finishes, StopsAtBad, StopsAtUnbuilt, StopsAtLarge, BreaksOff, WritesFront, EndsSo, Agrees, EndsAs, EndsBy, IsReplayFault, LeavesAlone, AreUntouched, HasNotBegun, CountsReads, CountsWrites, tells}
-use Rattle.mld_replay.specs.Stages.{StageStands, banks_of_stage, BanksKeep}
+use Rattle.mld_replay.specs.BankFaults.{AreWell, none_left, BringsBack}
+use Rattle.mld_replay.specs.Filled.{IsFirstFilled, EndsBefore, LogsStay, HeedsFilled}
+use Rattle.mld_replay.specs.Looking.{AreEmpty, StopsLooking, StopsBlanking}
+use Rattle.mld_replay.specs.Ran.{Finishes, StopsAtBad, StopsAtUnbuilt, StopsAtLarge, BreaksOff, WritesFront, EndsSo, Agrees, EndsAs, LeavesAlone, AreUntouched, HasNotBegun, CountsReads, CountsWrites, tells}
+use Rattle.mld_replay.specs.Replaying.{EndsBy, IsReplayFault}
+use Rattle.mld_replay.specs.Stages.{StageStands, banks_of_stage}
+use Rattle.mld_replay.specs.KeptBanks.{BanksKeep}
 use Rattle.mld_replay.specs.declared.stages.Stage.{Stage as RunningStage}
 use Rattle.mld_replay.specs.declared.run.Ran.{Ran}
 use Rattle.mld_replay.specs.declared.run.RunFault.{RunFault}
 use Rattle.mld_replay.specs.declared.run.RunFault.TheVariants as faults
-use Rattle.mld_replay.proofs.MeterLemmas.{quiet_none, back_later}
+use Rattle.mld_replay.proofs.MeterLemmas.{back_later}
 use Rattle.mld_replay.proofs.RunLemmas.{front_first, front_as, front_any, whole_first}
 
 -- ---- an end of a run says the same of what is told and kept as of the state
@@ -166,15 +168,12 @@ module _ {B : Type 0} (log : B → Option Log) (fault : Option RunFault) (runnin
       (front_of_end (StageStands log running) (StageStands log running) fault bytes left before now ends)
 
   -- the meters of the banks go on
-  pub back_by : (meter : B → Meter) (banks blanks : List B) → EndsBy log fault running ran → MetersGoOn meter banks blanks → HadNoFaults meter banks blanks
-      → BringsBack meter blanks (banks_of_stage running) fault → BringsBack meter banks ran.banks.items ran.fault
-  back_by meter banks blanks (inl whole) goes quiet back =
+  pub back_by : (meter : B → Meter) (banks blanks : List B) → EndsBy log fault running ran → AreWell meter banks blanks → BringsBack meter blanks (banks_of_stage running) fault
+      → BringsBack meter banks ran.banks.items ran.fault
+  back_by meter banks blanks (inl whole) well back =
       subst (λ (f : Option RunFault). BringsBack meter banks ran.banks.items f) (sym whole.fault_is)
-      (subst (λ (l : List B). BringsBack meter banks l fault) (sym whole.banks_are) (back_later meter banks blanks (banks_of_stage running) fault goes quiet back))
-  back_by meter banks blanks (inr short) goes quiet back = record {
-    meters = λ differs. absurd (differs short.fault_is);
-    real_faults = subst (λ (f : Option RunFault). HasRunFaults meter banks ran.banks.items f) (sym short.fault_is) (quiet_none meter banks ran.banks.items short.banks_are);
-  }
+      (subst (λ (l : List B). BringsBack meter banks l fault) (sym whole.banks_are) (back_later meter banks blanks (banks_of_stage running) fault well back))
+  back_by meter banks blanks (inr short) well back = subst (λ (f : Option RunFault). BringsBack meter banks ran.banks.items f) (sym short.fault_is) (none_left short.banks_are)
 
   -- what want of memory at the end leaves open is left open
   pub said_by : (P : Option RunFault → Type 0) → EndsBy log fault running ran → P (Some faults.NoMemory) → P fault → P ran.fault
@@ -355,10 +354,15 @@ usage_heeds {B = B} log banks Untouched untouched = record {
 
 -- banks that were not made blanks
 blanking_back : {B : Type 0} (meter : B → Meter) (banks back : List B) (fault : RunFault) → StopsBlanking meter banks fault back → BringsBack meter banks back (Some fault)
-blanking_back meter banks back faults.NoMemory stops = record { meters = λ differs. absurd (differs refl); real_faults = quiet_none meter banks back stops }
-blanking_back meter banks back (faults.Device clone) stops = record { meters = λ differs. stops.0; real_faults = stops.1 }
+blanking_back meter banks back faults.NoMemory stops = none_left stops
+blanking_back meter banks back (faults.Device clone) stops = stops
 blanking_back meter banks back fault stops = absurd stops
 
-pub refused_back : {B : Type 0} (meter : B → Meter) (banks looked back : List B) (fault : RunFault) → MetersGoOn meter banks looked → HadNoFaults meter banks looked → StopsBlanking meter looked fault back
+pub refused_back : {B : Type 0} (meter : B → Meter) (banks looked back : List B) (fault : RunFault) → AreWell meter banks looked → StopsBlanking meter looked fault back
     → BringsBack meter banks back (Some fault)
-refused_back meter banks looked back fault goes quiet stops = back_later meter banks looked back (Some fault) goes quiet (blanking_back meter looked back fault stops)
+refused_back meter banks looked back fault well stops = back_later meter banks looked back (Some fault) well (blanking_back meter looked back fault stops)
+
+-- said of equal banks and an equal fault
+pub back_told : {B : Type 0} (meter : B → Meter) (old given back : List B) (fault told : Option RunFault) → told ≡ fault → back ≡ given → BringsBack meter old given fault → BringsBack meter old back told
+back_told {B = B} meter old given back fault told fault_is back_is brings =
+    subst (λ (f : Option RunFault). BringsBack meter old back f) (sym fault_is) (subst (λ (l : List B). BringsBack meter old l fault) (sym back_is) brings)

@@ -1,25 +1,28 @@
--- Which banks had real faults, by how a line or a run ended.
-use Rattle.std.specs.Prelude.{◌≢◌, List, Option, Some}
+-- What becomes of the banks, by how a run ended.
+use Rattle.std.specs.Prelude.{◌≡◌, ℕ, List, [], Option, Some}
 use Rattle.mld_io.specs.Arm.{Meter}
 use Rattle.net_world.specs.WorldBanks.{MetersGoOn, HadNoFaults, HasFailed}
-use Rattle.mld_replay.specs.declared.stops.LineStop.{LineStop}
-use Rattle.mld_replay.specs.declared.stops.LineStop.TheVariants as stops
 use Rattle.mld_replay.specs.declared.run.RunFault.{RunFault}
 use Rattle.mld_replay.specs.declared.run.RunFault.TheVariants as faults
 
--- why a line was not done: the banks of the clone that is named had a real fault, where they were not armed, and no others had one; or
--- none had any
-abbrev pub HasStopFaults : {B : Type 0} → (B → Meter) → List B → List B → LineStop → Type 0
-HasStopFaults meter old new (stops.Device clone) = HasFailed meter clone old new
-HasStopFaults meter old new stop = HadNoFaults meter old new
+-- all banks come back, in their order, each with its real faults counted, and no call of them had one
+pub record AreWell {B : Type 0} (meter : B → Meter) (old new : List B) : Type 0 where
+  pub meters : MetersGoOn meter old new
+  pub quiet : HadNoFaults meter old new
 
--- so it is of a run, by its fault; where it had none, no banks had any
-abbrev pub HasRunFaults : {B : Type 0} → (B → Meter) → List B → List B → Option RunFault → Type 0
-HasRunFaults meter old new (Some (faults.Device clone)) = HasFailed meter clone old new
-HasRunFaults meter old new fault = HadNoFaults meter old new
+-- all come back, and a call of those of this clone failed
+pub record HaveFailed {B : Type 0} (meter : B → Meter) (clone : ℕ) (old new : List B) : Type 0 where
+  pub meters : MetersGoOn meter old new
+  pub failed : HasFailed meter clone old new
 
--- what a run leaves of the meters of its banks: all of these come back unless memory ran out, each with its real faults counted; and
--- those alone had one that the run tells of
-pub record BringsBack {B : Type 0} (meter : B → Meter) (old new : List B) (fault : Option RunFault) : Type 0 where
-  pub meters : fault ≢ Some faults.NoMemory → MetersGoOn meter old new
-  pub real_faults : HasRunFaults meter old new fault
+-- none come back, or all, and no call of them had a real fault
+pub data AreLeft {B : Type 0} (meter : B → Meter) (old new : List B) : Type 0 where
+  none_left : new ≡ [] → AreLeft meter old new
+  all_left : AreWell meter old new → AreLeft meter old new
+
+-- what a run brings back, by its fault: where it names a device, a call of those banks failed; where memory ran out, none may come back;
+-- and else all do
+abbrev pub BringsBack : {B : Type 0} → (B → Meter) → List B → List B → Option RunFault → Type 0
+BringsBack meter old new (Some (faults.Device clone)) = HaveFailed meter clone old new
+BringsBack meter old new (Some faults.NoMemory) = AreLeft meter old new
+BringsBack meter old new fault = AreWell meter old new

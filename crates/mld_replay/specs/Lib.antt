@@ -1,9 +1,12 @@
 pub mod RunSummaries
 pub mod TooLarge
 pub mod Stages
+pub mod KeptBanks
 pub mod Ran
+pub mod Replaying
 pub mod UnderWay
 pub mod Stops
 pub mod FaultTexts
 pub mod Filled
+pub mod Looking
 pub mod BankFaults

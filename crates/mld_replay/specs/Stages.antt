@@ -1,12 +1,12 @@
 -- What the state of a schedule has to do with the stage of the model.
-use Rattle.std.specs.Prelude.{◌≡◌, ℕ, List, Option, length, slice_get, Some}
+use Rattle.std.specs.Prelude.{◌≡◌, ℕ, List, Option, length}
 use Rattle.mld_io.specs.Disk.{Log}
 use Rattle.mld_model.specs.World.{World, clone_count}
 use Rattle.mld_model.specs.Sound.{IsSound}
 use Rattle.schedule_model.specs.Runs.{Stage, Waiting, SetUp, Running, IsWorldOf, Acts}
 use Rattle.schedule_model.specs.Schedule.{IsSetup}
 use Rattle.schedule_text.specs.ReadLines.{setup_of}
-use Rattle.net_world.specs.WorldBanks.{StandsOnBanks, banks_of, KeepsNoneNow, AllBanksStandFor}
+use Rattle.net_world.specs.WorldBanks.{StandsOnBanks, banks_of}
 use Rattle.mld_replay.specs.declared.stages.Stage.{Stage as RunningStage}
 use Rattle.mld_replay.specs.declared.stages.Stage.TheVariants as stages
 use Rattle.mld_replay.specs.declared.stops.LineStop.{LineStop}
@@ -61,15 +61,3 @@ pub record EndsWell {B : Type 0} (log : B → Option Log) (stage : Stage) (runni
   pub world : World
   pub founds : IsWorldOf stage world
   pub stands : StageStands log running (Running world)
-
--- ---- what the banks keep of a stage
-
--- all of them keep nothing
-abbrev pub AllKeepNone : {B : Type 0} → (B → Option Log) → List B → Type 0
-AllKeepNone {B = B} log banks = (number : ℕ) (one : B) → slice_get banks number ≡ Some one → KeepsNoneNow (log one)
-
--- the banks keep what a schedule has come to: nothing before the clones are founded, and then each what its clone keeps
-abbrev pub BanksKeep : {B : Type 0} → (B → Option Log) → List B → Stage → Type 0
-BanksKeep log banks Waiting = AllKeepNone log banks
-BanksKeep log banks (SetUp setup) = AllKeepNone log banks
-BanksKeep log banks (Running world) = AllBanksStandFor log world banks

@@ -3,9 +3,10 @@ ghost use Rattle.std.specs.Prelude.{◌≡◌, ◌<◌, ◌+◌, ◌≤◌, ◌+
 ghost use Rattle.std.specs.Result.{result_err};
 ghost use Rattle.mld_io.specs.Disk.{Log, bytes_of, seen};
 ghost use Rattle.mld_model.specs.World.{clone_count};
-ghost use Rattle.net_world.specs.WorldBanks.{GoesOn, MetersGoOn, HadNoFault, HadNoFaults};
-ghost use Rattle.mld_replay.specs.BankFaults.{HasRunFaults};
-ghost use Rattle.mld_replay.specs.Filled.{IsFilled, AreEmpty, HadFault, LogsStay, StopsLookingAt, StopsLooking, StopsBlanking};
+ghost use Rattle.net_world.specs.WorldBanks.{GoesOn, MetersGoOn, HadNoFault, HadFault};
+ghost use Rattle.mld_replay.specs.BankFaults.{AreWell, BringsBack};
+ghost use Rattle.mld_replay.specs.Filled.{IsFilled, LogsStay};
+ghost use Rattle.mld_replay.specs.Looking.{AreEmpty, StopsLookingAt, StopsLooking, StopsBlanking};
 
 use crate::run::RunFault;
 use clone_core::{MldClone, Mounted};
@@ -20,7 +21,7 @@ pub fn find_filled<B: CrashBanks>(banks: &mut Vec<B>) -> Result<(), RunFault>
     requires { vec_len banks.old ≡ clone_count }
     ensures logs { LogsStay B.log banks.old.items banks.new.items }
     ensures meters { MetersGoOn B.meter banks.old.items banks.new.items }
-    ensures faults { HasRunFaults B.meter banks.old.items banks.new.items (result_err result) }
+    ensures back { BringsBack B.meter banks.old.items banks.new.items (result_err result) }
     ensures ok { OnOk result (AreEmpty B.log banks.old.items) }
     ensures err { IfErr result (StopsLooking B.log banks.old.items) }
 {
@@ -71,8 +72,7 @@ pub fn blanks_of<R: Threads, B: CrashBanks>(
     requires empty { AreEmpty B.log banks.items }
     requires count { vec_len banks ≡ clone_count }
     ensures count { IfOk result (λ blanks. length blanks.items ≡ clone_count) }
-    ensures meters { IfOk result (λ blanks. MetersGoOn B.meter banks.items blanks.items) }
-    ensures quiet { IfOk result (λ blanks. HadNoFaults B.meter banks.items blanks.items) }
+    ensures well { IfOk result (λ blanks. AreWell B.meter banks.items blanks.items) }
     ensures err { IfErr result (λ refused. StopsBlanking B.meter banks.items refused.0 refused.1.items) }
 {
     let Ok((mut blanks, back)) = room_for(alloc, banks.len()) else {

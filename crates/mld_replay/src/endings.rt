@@ -5,7 +5,8 @@ ghost use Rattle.mld_model.specs.Sound.{IsSound};
 ghost use Rattle.schedule_model.specs.Runs.{Stage as ModelStage, Running};
 ghost use Rattle.net_world.specs.WorldBanks.{StandsOnBanks, AllBanksStandFor, banks_of};
 ghost use Rattle.mld_replay.specs.RunSummaries.{TellsOf};
-ghost use Rattle.mld_replay.specs.Stages.{StageStands, banks_of_stage, AllKeepNone, BanksKeep};
+ghost use Rattle.mld_replay.specs.Stages.{StageStands, banks_of_stage};
+ghost use Rattle.mld_replay.specs.KeptBanks.{AllKeepNone, BanksKeep};
 
 use crate::stages::Stage;
 use journal_store::Blank;

@@ -5,14 +5,16 @@ ghost use Rattle.std.specs.Result.{result_err};
 ghost use Rattle.std.specs.String.{string_bytes};
 ghost use Rattle.mld_io.specs.Lines.{lines_of, HasNoEnd, IsCutShort};
 ghost use Rattle.schedule_model.specs.Runs.{Stage as ModelStage, Waiting, Outcome, Verdict, IsBad, IsUnbuilt};
-ghost use Rattle.tree_clock.specs.Limits.{tick_limit};
+ghost use Rattle.schedule_model.specs.WorldStep.{step_limit};
 ghost use Rattle.mld_replay.specs.Stops.{fault_of};
 ghost use Rattle.mld_replay.specs.TooLarge.{BreaksLimits, line_limit, input_limit};
 ghost use Rattle.mld_model.specs.World.{clone_count};
 ghost use Rattle.mld_replay.specs.BankFaults.{BringsBack};
 ghost use Rattle.mld_replay.specs.Filled.{HeedsFilled};
-ghost use Rattle.mld_replay.specs.Stages.{StageStands, IsStandingStage, steps_of, banks_of_stage, BanksKeep, ActsWell, EndsWell};
-ghost use Rattle.mld_replay.specs.Ran.{status_of, tells, IsReplay, EndsSo, EndsAs, EndsBy, Agrees, LeavesAlone, AreUntouched, CountsReads, CountsWrites, TakesLine, IfSomeLine, IsReadingFault, IsWritingFault, IsReplayFault, IsLineFault, IsEndFault, HasReadCause, HasWriteFaultCause};
+ghost use Rattle.mld_replay.specs.Stages.{StageStands, IsStandingStage, steps_of, banks_of_stage, ActsWell, EndsWell};
+ghost use Rattle.mld_replay.specs.KeptBanks.{BanksKeep};
+ghost use Rattle.mld_replay.specs.Ran.{status_of, tells, IsReplay, EndsSo, EndsAs, Agrees, LeavesAlone, AreUntouched, CountsFaults};
+ghost use Rattle.mld_replay.specs.Replaying.{EndsBy, TakesLine, IfSomeLine, IsReadingFault, IsWritingFault, IsReplayFault, IsLineFault, IsEndFault, HasReadCause, HasWriteFaultCause};
 
 use crate::blanks::{blanks_of, find_filled};
 use crate::endings::{End, end_of};
@@ -98,15 +100,14 @@ pub fn run<R: Threads, S: Source, K: Sink, B: CrashBanks>(
     // 8 tells of the first banks with a side that has bytes. Where there are such, the run ends by 8 with their number, by 6 with it or a
     // lower one, or by 1 or 5; no line is read, and the log of each bank stays.
     ensures filled { HeedsFilled B.log banks.items result.banks.items result.fault (AreUntouched source.old source.new sink.old sink.new) }
-    // Unless memory ran out all banks come back, in order. At 6 the banks of that clone had a real fault, where they were not armed;
-    // no others had one, and at any other status none that comes back had.
+    // Unless memory ran out all banks come back, in order, and at 5 all or none. At 6 a call of the banks of that clone failed: it had a
+    // real fault, where they were not armed. No others had one, and at any other status none that comes back had.
     ensures back { BringsBack B.meter banks.items result.banks.items result.fault }
     // At the other statuses nothing is told of the world.
     ensures silent { ¬ IsTrue (tells result.fault) → result.world ≡ None }
     // 2 comes just where the source's count of faults rose, and 3 where the sink's did; but where memory for the summary or the banks
     // was wanting after a failed read or write, the run ended by 5.
-    ensures read { CountsReads (S.faults source.old) (S.faults source.new) result.fault }
-    ensures write { CountsWrites (K.faults sink.old) (K.faults sink.new) result.fault }
+    ensures counts { CountsFaults result.fault (S.faults source.old) (S.faults source.new) (K.faults sink.old) (K.faults sink.new) }
     // Whatever the verdict on the lines is, the run ends so, unless it ended by 2, 3, 5, 6, 7 or 8.
     ensures exact { (bytes : List ℕ) → S.left source.old ≡ Some bytes → (outcome : Outcome) → Verdict (lines_of bytes) outcome
         → IsReplay (map (λ w. string_bytes w) words.now.items) → Agrees result.fault outcome }
@@ -207,14 +208,14 @@ fn replay<R: Threads, S: Source, K: Sink, B: CrashBanks>(
     ensures ends { (bytes : List ℕ) → S.left source.old ≡ Some bytes
         → EndsSo (StageStands B.log stage.new) (StageStands B.log stage.new) (result_err result) bytes (S.left source.new) (K.held sink.old) (K.held sink.new) }
     ensures back { BringsBack B.meter (banks_of_stage stage.old) (banks_of_stage stage.new) (result_err result) }
-    ensures read { CountsReads (S.faults source.old) (S.faults source.new) (result_err result) }
-    ensures write { CountsWrites (K.faults sink.old) (K.faults sink.new) (result_err result) }
+    ensures counts { CountsFaults (result_err result) (S.faults source.old) (S.faults source.new) (K.faults sink.old) (K.faults sink.new) }
 {
     let mut lines = Lines::new(alloc, LINE_LIMIT, INPUT_LIMIT)?;
+    let mut reply = Vec::new(alloc);
     let mut done = 0;
     while let Some(line) = next_line(&mut lines, source, done + 1)? {
         done += 1;
-        let reply = do_line(rt, alloc, stage, line.as_slice(), done)?;
+        do_line(rt, alloc, stage, line.as_slice(), done, &mut reply)?;
         write_reply(sink, reply.as_slice())?;
     }
     end_lines(rt, alloc, stage, done + 1)
@@ -263,17 +264,18 @@ fn write_reply<K: Sink>(sink: &mut K, reply: &[u8]) -> Result<(), RunFault>
     })
 }
 
-/// Does line `number`, and gives the text of its reply.
+/// Does line `number`, and makes the text of its reply in place of what `reply` had.
 fn do_line<R: Threads, B: CrashBanks>(
     rt: &R,
     alloc: Global,
     stage: &mut Stage<B>,
     line: &[u8],
     number: u64,
-) -> Result<Vec<u8>, RunFault>
-    requires few { steps_of stage.old < tick_limit }
+    reply: &mut Vec<u8>,
+) -> Result<(), RunFault>
+    requires few { steps_of stage.old < step_limit }
     requires standing { IsStandingStage B.log stage.old }
-    ensures ok { IfOk result (λ text. (model : ModelStage) → StageStands B.log stage.old model → ActsWell B.log model line.now text.items stage.new) }
+    ensures ok { OnOk result ((model : ModelStage) → StageStands B.log stage.old model → ActsWell B.log model line.now reply.new.items stage.new) }
     ensures steps { OnOk result (steps_of stage.new ≤ steps_of stage.old + 1) }
     ensures bad { (at : ℕ) → IsErrOf result (RunFault.BadLine at) → (at ≡ number) × ((model : ModelStage) → StageStands B.log stage.old model → IsBad model line.now) }
     ensures kept { (at : ℕ) → IsErrOf result (RunFault.BadLine at) → stage.new ≡ stage.old }
@@ -282,8 +284,8 @@ fn do_line<R: Threads, B: CrashBanks>(
     ensures back { BringsBack B.meter (banks_of_stage stage.old) (banks_of_stage stage.new) (result_err result) }
     ensures other { IfErr result IsLineFault }
 {
-    match act(rt, alloc, stage, line) {
-        Ok(text) => Ok(text),
+    match act(rt, alloc, stage, line, reply) {
+        Ok(()) => Ok(()),
         Err(stop) => Err(fault_of(stop, number)),
     }
 }

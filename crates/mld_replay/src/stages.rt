@@ -2,13 +2,14 @@
 ghost use Rattle.std.specs.Prelude.{◌≡◌, ◌<◌, ◌≤◌, ◌+◌, [], ℕ, List, IfOk, IfErr, OnOk, OnErr, IsErrOf};
 ghost use Rattle.mld_model.specs.World.{World as ModelWorld};
 ghost use Rattle.mld_model.specs.Sound.{IsSound};
-ghost use Rattle.net_world.specs.WorldBanks.{StandsOnBanks, banks_of, MetersGoOn, HadNoFaults};
+ghost use Rattle.net_world.specs.WorldBanks.{StandsOnBanks, banks_of};
 ghost use Rattle.schedule_model.specs.Runs.{Stage as ModelStage, Waiting, Running, IsBad, IsUnbuilt};
 ghost use Rattle.schedule_model.specs.Schedule.{SpellsCommand};
 ghost use Rattle.schedule_model.specs.Step.{HasCloneNumbers};
 ghost use Rattle.net_world.specs.Worlds.{IsStanding, Stepped};
-ghost use Rattle.tree_clock.specs.Limits.{tick_limit};
-ghost use Rattle.mld_replay.specs.BankFaults.{HasStopFaults};
+ghost use Rattle.schedule_model.specs.WorldStep.{step_limit};
+ghost use Rattle.mld_replay.specs.BankFaults.{AreWell};
+ghost use Rattle.mld_replay.specs.Stops.{StopsWith};
 ghost use Rattle.mld_replay.specs.Stages.{StageStands, IsStandingStage, IsSetUpState, IsWorldStop, steps_of, banks_of_stage, ActsWell, EndsWell};
 ghost use Rattle.mld_replay.specs.declared.stages.Stage.TheVariants as stages;
 
@@ -35,44 +36,47 @@ pub enum Stage<B: CrashBanks> {
     Over(Vec<B>),
 }
 
-/// Does a line, and gives the text of its reply. The first command founds the clones.
+/// Does a line, and makes the text of its reply in place of what `reply` had. The first command founds the clones.
 pub fn act<R: Threads, B: CrashBanks>(
     rt: &R,
     alloc: Global,
     stage: &mut Stage<B>,
     line: &[u8],
-) -> Result<Vec<u8>, LineStop>
-    requires few { steps_of stage.old < tick_limit }
+    reply: &mut Vec<u8>,
+) -> Result<(), LineStop>
+    requires few { steps_of stage.old < step_limit }
     requires standing { IsStandingStage B.log stage.old }
-    ensures ok { IfOk result (λ text. (model : ModelStage) → StageStands B.log stage.old model → ActsWell B.log model line.now text.items stage.new) }
+    ensures ok { OnOk result ((model : ModelStage) → StageStands B.log stage.old model → ActsWell B.log model line.now reply.new.items stage.new) }
     ensures steps { OnOk result (steps_of stage.new ≤ steps_of stage.old + 1) }
     ensures bad { IsErrOf result LineStop.BadLine → (model : ModelStage) → StageStands B.log stage.old model → IsBad model line.now }
     ensures kept { IsErrOf result LineStop.BadLine → stage.new ≡ stage.old }
     ensures unbuilt { IsErrOf result LineStop.Unbuilt → IsUnbuilt line.now }
     ensures kept_unbuilt { IsErrOf result LineStop.Unbuilt → stage.new ≡ stage.old }
-    ensures meters { ¬ IsErrOf result LineStop.NoMemory → MetersGoOn B.meter (banks_of_stage stage.old) (banks_of_stage stage.new) }
-    ensures quiet { OnOk result (HadNoFaults B.meter (banks_of_stage stage.old) (banks_of_stage stage.new)) }
-    ensures faults { IfErr result (HasStopFaults B.meter (banks_of_stage stage.old) (banks_of_stage stage.new)) }
+    ensures well { OnOk result (AreWell B.meter (banks_of_stage stage.old) (banks_of_stage stage.new)) }
+    ensures back { IfErr result (StopsWith B.meter (banks_of_stage stage.old) (banks_of_stage stage.new)) }
 {
+    reply.clear();
     match stage {
-        Stage::Waiting(_) => set_up(alloc, stage, line),
+        Stage::Waiting(_) => set_up(alloc, stage, line, reply),
         Stage::SetUp(setup, _) => match read_command(alloc, line, setup.domain.as_str())? {
-            None => Ok(Vec::new(alloc)),
-            Some(command) => start(rt, alloc, stage, &command),
+            None => Ok(()),
+            Some(command) => start(rt, alloc, stage, &command, reply),
         },
-        Stage::Running(world) => command(rt, alloc, world, line),
+        Stage::Running(world) => command(rt, alloc, world, line, reply),
         Stage::Over(_) => unreachable!(),
     }
 }
 
-/// Does a line while no domain line has come, and gives the text of its reply.
+/// Does a line while no domain line has come, and makes the text of its reply.
 fn set_up<B: CrashBanks>(
     alloc: Global,
     stage: &mut Stage<B>,
     line: &[u8],
-) -> Result<Vec<u8>, LineStop>
-    requires { StageStands B.log stage.old Waiting }
-    ensures ok { IfOk result (λ text. ActsWell B.log Waiting line.now text.items stage.new) }
+    reply: &mut Vec<u8>,
+) -> Result<(), LineStop>
+    requires stands { StageStands B.log stage.old Waiting }
+    requires empty { reply.old.items ≡ [] }
+    ensures ok { OnOk result (ActsWell B.log Waiting line.now reply.new.items stage.new) }
     ensures steps { OnOk result (steps_of stage.new ≡ 0) }
     ensures bad { IsErrOf result LineStop.BadLine → IsBad Waiting line.now }
     ensures unbuilt { IsErrOf result LineStop.Unbuilt → IsUnbuilt line.now }
@@ -82,13 +86,12 @@ fn set_up<B: CrashBanks>(
 {
     match read_setup(alloc, line, None)? {
         SetupLine::Setup(setup) => {
-            let mut text = Vec::new(alloc);
-            push_ready(alloc, &mut text, setup.clones)?;
+            push_ready(reply, setup.clones)?;
             let blanks = take_waiting(alloc, stage);
             *stage = Stage::SetUp(setup, blanks);
-            Ok(text)
+            Ok(())
         }
-        SetupLine::Other(_) => Ok(Vec::new(alloc)),
+        SetupLine::Other(_) => Ok(()),
     }
 }
 
@@ -103,26 +106,27 @@ fn take_waiting<B: CrashBanks>(alloc: Global, stage: &mut Stage<B>) -> Vec<Blank
     }
 }
 
-/// Founds the clones of a domain that is set up by its first command, and gives the text of the command's reply.
+/// Founds the clones of a domain that is set up by its first command, and makes the text of the command's reply.
 fn start<R: Threads, B: CrashBanks>(
     rt: &R,
     alloc: Global,
     stage: &mut Stage<B>,
     command: &Command,
-) -> Result<Vec<u8>, LineStop>
+    reply: &mut Vec<u8>,
+) -> Result<(), LineStop>
     requires standing { IsStandingStage B.log stage.old }
     requires set_up { IsSetUpState stage.old }
     requires numbers { HasCloneNumbers command.now }
-    ensures ok { IfOk result (λ text. (model : ModelStage) (line : List ℕ) → StageStands B.log stage.old model → SpellsCommand line command.now
-        → ActsWell B.log model line text.items stage.new) }
+    requires empty { reply.old.items ≡ [] }
+    ensures ok { OnOk result ((model : ModelStage) (line : List ℕ) → StageStands B.log stage.old model → SpellsCommand line command.now
+        → ActsWell B.log model line reply.new.items stage.new) }
     ensures steps { OnOk result (steps_of stage.new ≡ 1) }
-    ensures meters { ¬ IsErrOf result LineStop.NoMemory → MetersGoOn B.meter (banks_of_stage stage.old) (banks_of_stage stage.new) }
-    ensures quiet { OnOk result (HadNoFaults B.meter (banks_of_stage stage.old) (banks_of_stage stage.new)) }
-    ensures faults { IfErr result (HasStopFaults B.meter (banks_of_stage stage.old) (banks_of_stage stage.new)) }
+    ensures well { OnOk result (AreWell B.meter (banks_of_stage stage.old) (banks_of_stage stage.new)) }
+    ensures back { IfErr result (StopsWith B.meter (banks_of_stage stage.old) (banks_of_stage stage.new)) }
     ensures other { IfErr result IsWorldStop }
 {
     let mut world = found(rt, alloc, stage)?;
-    let done = step(rt, alloc, &mut world, command);
+    let done = step(rt, alloc, &mut world, command, reply);
     *stage = Stage::Running(world);
     done
 }
@@ -138,10 +142,8 @@ fn found<R: Threads, B: CrashBanks>(
     ensures ok { IfOk result (λ world. (model : ModelStage) → StageStands B.log stage.old model → EndsWell B.log model (stages.Running world)) }
     ensures standing { IfOk result (IsStanding B.log) }
     ensures steps { IfOk result (λ world. world.steps ≡ 0) }
-    ensures meters { IfOk result (λ world. MetersGoOn B.meter (banks_of_stage stage.old) (banks_of world)) }
-    ensures quiet { IfOk result (λ world. HadNoFaults B.meter (banks_of_stage stage.old) (banks_of world)) }
-    ensures left { (clone : ℕ) → IsErrOf result (LineStop.Device clone) → MetersGoOn B.meter (banks_of_stage stage.old) (banks_of_stage stage.new) }
-    ensures faults { IfErr result (HasStopFaults B.meter (banks_of_stage stage.old) (banks_of_stage stage.new)) }
+    ensures well { IfOk result (λ world. AreWell B.meter (banks_of_stage stage.old) (banks_of world)) }
+    ensures back { IfErr result (StopsWith B.meter (banks_of_stage stage.old) (banks_of_stage stage.new)) }
     ensures other { IfErr result IsWorldStop }
 {
     let (setup, blanks) = take_set_up(alloc, stage);
@@ -165,52 +167,53 @@ fn take_set_up<B: CrashBanks>(alloc: Global, stage: &mut Stage<B>) -> (Setup, Ve
     }
 }
 
-/// Does a line of a world that runs, and gives the text of its reply.
+/// Does a line of a world that runs, and makes the text of its reply.
 fn command<R: Threads, B: CrashBanks>(
     rt: &R,
     alloc: Global,
     world: &mut World<B>,
     line: &[u8],
-) -> Result<Vec<u8>, LineStop>
-    requires few { world.old.steps < tick_limit }
+    reply: &mut Vec<u8>,
+) -> Result<(), LineStop>
+    requires few { world.old.steps < step_limit }
     requires standing { IsStanding B.log world.old }
-    ensures ok { IfOk result (λ text. (model : ModelWorld) → StandsOnBanks B.log world.old model → IsSound model
-        → ActsWell B.log (Running model) line.now text.items (stages.Running world.new)) }
+    requires empty { reply.old.items ≡ [] }
+    ensures ok { OnOk result ((model : ModelWorld) → StandsOnBanks B.log world.old model → IsSound model
+        → ActsWell B.log (Running model) line.now reply.new.items (stages.Running world.new)) }
     ensures steps { OnOk result (world.new.steps ≤ world.old.steps + 1) }
     ensures bad { IsErrOf result LineStop.BadLine → (model : ModelWorld) → IsBad (Running model) line.now }
     ensures kept { IsErrOf result LineStop.BadLine → world.new ≡ world.old }
     ensures unbuilt { IsErrOf result LineStop.Unbuilt → IsUnbuilt line.now }
     ensures kept_unbuilt { IsErrOf result LineStop.Unbuilt → world.new ≡ world.old }
-    ensures meters { MetersGoOn B.meter (banks_of world.old) (banks_of world.new) }
-    ensures quiet { OnOk result (HadNoFaults B.meter (banks_of world.old) (banks_of world.new)) }
-    ensures faults { IfErr result (HasStopFaults B.meter (banks_of world.old) (banks_of world.new)) }
+    ensures well { OnOk result (AreWell B.meter (banks_of world.old) (banks_of world.new)) }
+    ensures back { IfErr result (StopsWith B.meter (banks_of world.old) (banks_of world.new)) }
 {
     match read_command(alloc, line, world.domain())? {
-        None => Ok(Vec::new(alloc)),
-        Some(command) => step(rt, alloc, world, &command),
+        None => Ok(()),
+        Some(command) => step(rt, alloc, world, &command, reply),
     }
 }
 
-/// Does a command of a world that runs, and gives the text of its reply.
+/// Does a command of a world that runs, and makes the text of its reply.
 fn step<R: Threads, B: CrashBanks>(
     rt: &R,
     alloc: Global,
     world: &mut World<B>,
     command: &Command,
-) -> Result<Vec<u8>, LineStop>
-    requires few { world.old.steps < tick_limit }
+    reply: &mut Vec<u8>,
+) -> Result<(), LineStop>
+    requires few { world.old.steps < step_limit }
     requires standing { IsStanding B.log world.old }
     requires numbers { HasCloneNumbers command.now }
-    ensures ok { IfOk result (λ text. Stepped B.log world.old command.now world.new [] text.items) }
+    requires empty { reply.old.items ≡ [] }
+    ensures ok { OnOk result (Stepped B.log world.old command.now world.new [] reply.new.items) }
     ensures steps { OnOk result (world.new.steps ≡ world.old.steps + 1) }
-    ensures meters { MetersGoOn B.meter (banks_of world.old) (banks_of world.new) }
-    ensures quiet { OnOk result (HadNoFaults B.meter (banks_of world.old) (banks_of world.new)) }
-    ensures faults { IfErr result (HasStopFaults B.meter (banks_of world.old) (banks_of world.new)) }
+    ensures well { OnOk result (AreWell B.meter (banks_of world.old) (banks_of world.new)) }
+    ensures back { IfErr result (StopsWith B.meter (banks_of world.old) (banks_of world.new)) }
     ensures other { IfErr result IsWorldStop }
 {
-    let mut text = Vec::new(alloc);
-    world.step(rt, alloc, command, &mut text)?;
-    Ok(text)
+    world.step(rt, alloc, command, reply)?;
+    Ok(())
 }
 
 /// Ends the lines: this founds the clones where no command did. Where no domain line came, the end is a bad line.
@@ -224,9 +227,8 @@ pub fn finish<R: Threads, B: CrashBanks>(
     ensures bad { IsErrOf result LineStop.BadLine → (model : ModelStage) → StageStands B.log stage.old model → model ≡ Waiting }
     ensures kept { IsErrOf result LineStop.BadLine → stage.new ≡ stage.old }
     ensures built { ¬ IsErrOf result LineStop.Unbuilt }
-    ensures meters { ¬ IsErrOf result LineStop.NoMemory → MetersGoOn B.meter (banks_of_stage stage.old) (banks_of_stage stage.new) }
-    ensures quiet { OnOk result (HadNoFaults B.meter (banks_of_stage stage.old) (banks_of_stage stage.new)) }
-    ensures faults { IfErr result (HasStopFaults B.meter (banks_of_stage stage.old) (banks_of_stage stage.new)) }
+    ensures well { OnOk result (AreWell B.meter (banks_of_stage stage.old) (banks_of_stage stage.new)) }
+    ensures back { IfErr result (StopsWith B.meter (banks_of_stage stage.old) (banks_of_stage stage.new)) }
 {
     match stage {
         Stage::Waiting(_) => Err(LineStop::BadLine),

@@ -29,12 +29,10 @@ loop-one-preserved g c = record {
   room = search (rules, arith);
 }
 
-pub returns-clause-meters : goal.returns-clause-meters
-returns-clause-meters g c =
-    blanking_all g.B.Banks.log g.B.Banks.meter c.args.banks.items c.loop-one.blanks.items c.loop-one.rest.items c.loop-one.number c.loop-one.invariant.blanking
-    (nil_from_length c.loop-one.rest.items (omega (arith, c.in_default-pop_front.ensures.cases.0)))
-
-pub returns-clause-quiet : goal.returns-clause-quiet
-returns-clause-quiet g c =
-    blanking_quiet g.B.Banks.log g.B.Banks.meter c.args.banks.items c.loop-one.blanks.items c.loop-one.rest.items c.loop-one.number c.loop-one.invariant.blanking
-    (nil_from_length c.loop-one.rest.items (omega (arith, c.in_default-pop_front.ensures.cases.0)))
+pub returns-clause-well : goal.returns-clause-well
+returns-clause-well g c =
+    let none = nil_from_length c.loop-one.rest.items (omega (arith, c.in_default-pop_front.ensures.cases.0)) in
+    record {
+      meters = blanking_all g.B.Banks.log g.B.Banks.meter c.args.banks.items c.loop-one.blanks.items c.loop-one.rest.items c.loop-one.number c.loop-one.invariant.blanking none;
+      quiet = blanking_quiet g.B.Banks.log g.B.Banks.meter c.args.banks.items c.loop-one.blanks.items c.loop-one.rest.items c.loop-one.number c.loop-one.invariant.blanking none;
+    }

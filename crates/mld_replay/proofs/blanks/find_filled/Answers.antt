@@ -26,14 +26,14 @@ returns-in_err-look_at-clause-logs g c =
     (slice_get_read c.loop-number.banks.items c.len.result c.loop-number.number c.index_mut.result.now (omega (arith, c.len.ensures)) c.loop-number-test.true c.index_mut.ensures.value)
     c.look_at.ensures.log
 
-pub returns-in_err-look_at-clause-faults : goal.returns-in_err-look_at-clause-faults
-returns-in_err-look_at-clause-faults g c =
+pub returns-in_err-look_at-clause-back : goal.returns-in_err-look_at-clause-back
+returns-in_err-look_at-clause-back g c =
     let p = err_from_is_err_and c.from_residual.result c.from_residual.ensures.1 in
     rw (p.1, p.2)
     (looked_faults g.B.Banks.log g.B.Banks.meter c.args.banks.now.items c.loop-number.banks.items c.loop-number.number c.index_mut.result.now c.look_at.new.banks c.in_err-look_at.field-0.0
     c.loop-number.invariant.looked
     (slice_get_read c.loop-number.banks.items c.len.result c.loop-number.number c.index_mut.result.now (omega (arith, c.len.ensures)) c.loop-number-test.true c.index_mut.ensures.value)
-    c.in_err-look_at.ensures.err)
+    c.look_at.ensures.meter c.in_err-look_at.ensures.err)
 
 pub returns-in_err-look_at-clause-err : goal.returns-in_err-look_at-clause-err
 returns-in_err-look_at-clause-err g c =
@@ -56,8 +56,8 @@ loop-number-preserved g c = record {
 pub returns-clause-logs : goal.returns-clause-logs
 returns-clause-logs g c = c.loop-number.invariant.looked.logs
 
-pub returns-clause-faults : goal.returns-clause-faults
-returns-clause-faults g c = c.loop-number.invariant.looked.quiet
+pub returns-clause-back : goal.returns-clause-back
+returns-clause-back g c = record { meters = c.loop-number.invariant.looked.meters; quiet = c.loop-number.invariant.looked.quiet }
 
 pub returns-clause-ok : goal.returns-clause-ok
 returns-clause-ok g c =

@@ -1,5 +1,5 @@
 use Rattle.std.proofs.Common.{◌≡◌, ◌++◌, ◌+◌, ◌≤◌, length, vec_len, vec_capacity}
-use Rattle.mld_replay.specs.Stages.{AllKeepNone}
+use Rattle.mld_replay.specs.KeptBanks.{AllKeepNone}
 use Rattle.mld_replay.proofs.endings.give_back.Given as goal
 
 abbrev pub invariant-loop-blank : goal.invariant-loop-blank

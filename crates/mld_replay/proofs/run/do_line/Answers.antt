@@ -1,6 +1,6 @@
 use Rattle.mld_replay.specs.Stages.{banks_of_stage}
 use Rattle.mld_replay.proofs.MeterLemmas.{run_of_stop}
-use Rattle.mld_replay.proofs.RunLemmas.{no_memory_stop, bad_fault, unbuilt_fault}
+use Rattle.mld_replay.proofs.RunLemmas.{bad_fault, unbuilt_fault}
 use Rattle.mld_replay.proofs.run.do_line.Goals as goal
 
 pub returns-in-Err-clause-bad : goal.returns-in-Err-clause-bad
@@ -24,10 +24,7 @@ returns-in-Err-clause-kept_unbuilt g c = λ at is.
     c.in-Err.ensures.kept_unbuilt b.0
 
 pub returns-in-Ok-clause-back : goal.returns-in-Ok-clause-back
-returns-in-Ok-clause-back g c = record { meters = λ differs. c.in-Ok.ensures.meters (λ is. absurd (cc (is))); real_faults = c.in-Ok.ensures.quiet }
+returns-in-Ok-clause-back g c = c.in-Ok.ensures.well
 
 pub returns-in-Err-clause-back : goal.returns-in-Err-clause-back
-returns-in-Err-clause-back g c = rw c.fault_of.ensures (record {
-  meters = λ differs. c.in-Err.ensures.meters (no_memory_stop c.in-Err.stop c.args.number differs);
-  real_faults = run_of_stop g.B.Banks.meter (banks_of_stage c.args.stage.now) (banks_of_stage c.act.new.stage) c.in-Err.stop c.args.number c.in-Err.ensures.faults;
-})
+returns-in-Err-clause-back g c = rw c.fault_of.ensures (run_of_stop g.B.Banks.meter (banks_of_stage c.args.stage.now) (banks_of_stage c.act.new.stage) c.in-Err.stop c.args.number c.in-Err.ensures.back)

@@ -6,14 +6,13 @@ use Rattle.mld_replay.proofs.RunLemmas.{under_way_first, under_way_more, front_f
 use Rattle.schedule_model.specs.Runs.{Stage}
 use Rattle.mld_replay.specs.Stages.{StageStands, EndsWell, banks_of_stage}
 use Rattle.mld_replay.specs.declared.run.RunFault.TheVariants as faults
-use Rattle.mld_replay.proofs.MeterLemmas.{meters_same, meters_then, quiet_same, quiet_then, back_same, back_later, back_of_good}
+use Rattle.mld_replay.proofs.MeterLemmas.{well_same, well_then, back_same, back_later, back_well}
 use Rattle.mld_replay.proofs.run.replay.Goals as goal
 
-pub loop-line-init : goal.loop-line-init
-loop-line-init g c = record {
+pub loop-reply-init : goal.loop-reply-init
+loop-reply-init g c = record {
   way = under_way_first g.B.Banks.log (g.S.Source.left c.args.source.now) (g.K.Sink.held c.args.sink.now) c.in_ok-lines.lines.taken c.args.stage.now (ap (λ l. l.taken) c.in_ok-lines.ensures) c.requires;
-  meters = meters_same g.B.Banks.meter (banks_of_stage c.args.stage.now);
-  quiet = quiet_same g.B.Banks.meter (banks_of_stage c.args.stage.now);
+  well = well_same g.B.Banks.meter (banks_of_stage c.args.stage.now);
   ends = end_first (g.S.Source.left c.args.source.now) c.in_ok-lines.lines.ended (ap (λ l. l.ended) c.in_ok-lines.ensures);
   good = ap (λ l. l.good) c.in_ok-lines.ensures;
   line = ap (λ l. l.line) c.in_ok-lines.ensures;
@@ -24,27 +23,25 @@ loop-line-init g c = record {
   writes = refl;
 }
 
-pub loop-line-preserved : goal.loop-line-preserved
-loop-line-preserved g c = record {
-  way = under_way_more g.B.Banks.log (g.S.Source.left c.args.source.now) (g.S.Source.left c.loop-line.source) (g.S.Source.left c.next_line.new.source)
-      (g.K.Sink.held c.args.sink.now) (g.K.Sink.held c.loop-line.sink) (g.K.Sink.held c.write_reply.new.sink) c.loop-line.lines.taken c.next_line.new.lines.taken c.loop-line.stage c.do_line.new.stage c.loop-line.done c.as_slice.result.now c.in_ok-reply.reply.items
-      c.loop-line.invariant.way
-      (takes_some (g.S.Source.left c.loop-line.source) (g.S.Source.left c.next_line.new.source) c.in_ok-line.field-0 c.loop-line.lines.taken c.next_line.new.lines.taken c.in-Some.line c.as_slice.result.now c.in-Some.is c.as_slice.ensures c.in_ok-line.ensures.line)
-      c.in_ok-reply.ensures.ok c.in_ok-reply.ensures.steps
+pub loop-reply-preserved : goal.loop-reply-preserved
+loop-reply-preserved g c = record {
+  way = under_way_more g.B.Banks.log (g.S.Source.left c.args.source.now) (g.S.Source.left c.loop-reply.source) (g.S.Source.left c.next_line.new.source)
+      (g.K.Sink.held c.args.sink.now) (g.K.Sink.held c.loop-reply.sink) (g.K.Sink.held c.write_reply.new.sink) c.loop-reply.lines.taken c.next_line.new.lines.taken c.loop-reply.stage c.do_line.new.stage c.loop-reply.done c.as_slice.result.now c.do_line.new.reply.items
+      c.loop-reply.invariant.way
+      (takes_some (g.S.Source.left c.loop-reply.source) (g.S.Source.left c.next_line.new.source) c.in_ok-line.field-0 c.loop-reply.lines.taken c.next_line.new.lines.taken c.in-Some.line c.as_slice.result.now c.in-Some.is c.as_slice.ensures c.in_ok-line.ensures.line)
+      c.in_ok-do_line.ensures.ok c.in_ok-do_line.ensures.steps
       (rw (sym c.as_slice-in-Some.ensures.value) c.in_ok-write_reply.ensures.ok);
-  meters = meters_then g.B.Banks.meter (banks_of_stage c.args.stage.now) (banks_of_stage c.loop-line.stage) (banks_of_stage c.do_line.new.stage) c.loop-line.invariant.meters (c.in_ok-reply.ensures.back.meters (λ same. absurd (cc (same))));
-  quiet = quiet_then g.B.Banks.meter (banks_of_stage c.args.stage.now) (banks_of_stage c.loop-line.stage) (banks_of_stage c.do_line.new.stage) c.loop-line.invariant.meters c.loop-line.invariant.quiet
-      c.in_ok-reply.ensures.back.real_faults;
-  ends = end_more (g.S.Source.left c.args.source.now) (g.S.Source.left c.loop-line.source) (g.S.Source.left c.next_line.new.source) c.loop-line.lines.taken c.next_line.new.lines.taken c.loop-line.done
-      c.loop-line.invariant.way.lines c.in-Some.line c.loop-line.lines.ended c.next_line.new.lines.ended c.loop-line.invariant.ends c.loop-line.invariant.way.left_of
-      (takes_some (g.S.Source.left c.loop-line.source) (g.S.Source.left c.next_line.new.source) c.in_ok-line.field-0 c.loop-line.lines.taken c.next_line.new.lines.taken c.in-Some.line c.in-Some.line c.in-Some.is refl c.in_ok-line.ensures.line)
+  well = well_then g.B.Banks.meter (banks_of_stage c.args.stage.now) (banks_of_stage c.loop-reply.stage) (banks_of_stage c.do_line.new.stage) c.loop-reply.invariant.well c.in_ok-do_line.ensures.back;
+  ends = end_more (g.S.Source.left c.args.source.now) (g.S.Source.left c.loop-reply.source) (g.S.Source.left c.next_line.new.source) c.loop-reply.lines.taken c.next_line.new.lines.taken c.loop-reply.done
+      c.loop-reply.invariant.way.lines c.in-Some.line c.loop-reply.lines.ended c.next_line.new.lines.ended c.loop-reply.invariant.ends c.loop-reply.invariant.way.left_of
+      (takes_some (g.S.Source.left c.loop-reply.source) (g.S.Source.left c.next_line.new.source) c.in_ok-line.field-0 c.loop-reply.lines.taken c.next_line.new.lines.taken c.in-Some.line c.in-Some.line c.in-Some.is refl c.in_ok-line.ensures.line)
       (λ bytes told. of_line _ c.in_ok-line.field-0 c.in-Some.line c.in-Some.is (c.in_ok-line.ensures.ended bytes told));
   good = c.in_ok-line.ensures.good;
-  line = c.next_line.ensures.limits.0 ∙ c.loop-line.invariant.line;
-  all = c.next_line.ensures.limits.1 ∙ c.loop-line.invariant.all;
-  few = omega (arith, c.loop-line.invariant.few, (of_line _ c.in_ok-line.field-0 c.in-Some.line c.in-Some.is c.in_ok-line.ensures.progress).0);
-  reads = read_well _ _ _ c.in_ok-line.ensures.cause ∙ c.loop-line.invariant.reads;
-  writes = wrote_well _ _ _ c.in_ok-write_reply.ensures.cause ∙ c.loop-line.invariant.writes;
+  line = c.next_line.ensures.limits.0 ∙ c.loop-reply.invariant.line;
+  all = c.next_line.ensures.limits.1 ∙ c.loop-reply.invariant.all;
+  few = omega (arith, c.loop-reply.invariant.few, (of_line _ c.in_ok-line.field-0 c.in-Some.line c.in-Some.is c.in_ok-line.ensures.progress).0);
+  reads = read_well _ _ _ c.in_ok-line.ensures.cause ∙ c.loop-reply.invariant.reads;
+  writes = wrote_well _ _ _ c.in_ok-write_reply.ensures.cause ∙ c.loop-reply.invariant.writes;
   within = omega (arith, c.next_line.ensures.limits.1, (of_line _ c.in_ok-line.field-0 c.in-Some.line c.in-Some.is c.in_ok-line.ensures.progress).1);
 }
 
@@ -60,6 +57,11 @@ returns-in_err-lines-clause-back g c =
     let p = err_from_is_err_and c.from_residual.result c.from_residual.ensures.1 in
     rw (p.1, p.2) (back_same g.B.Banks.meter (banks_of_stage c.args.stage.now) faults.NoMemory (λ clone is. absurd (cc (is))))
 
+pub returns-in_err-lines-clause-counts : goal.returns-in_err-lines-clause-counts
+returns-in_err-lines-clause-counts g c =
+    let p = err_from_is_err_and c.from_residual.result c.from_residual.ensures.1 in
+    rw (p.1, p.2) (record { read = tt; write = tt })
+
 -- ---- a line could not be read
 
 pub returns-in_err-line-clause-begun : goal.returns-in_err-line-clause-begun
@@ -71,88 +73,88 @@ pub returns-in_err-line-clause-ends : goal.returns-in_err-line-clause-ends
 returns-in_err-line-clause-ends g c = λ bytes told.
     let p = err_from_is_err_and c.from_residual-in_err-line.result c.from_residual-in_err-line.ensures.1 in
     rw (p.1, p.2)
-    (ends_reading (StageStands g.B.Banks.log c.loop-line.stage) (StageStands g.B.Banks.log c.loop-line.stage) c.in_err-line.field-0.0 bytes (g.S.Source.left c.next_line.new.source) (g.K.Sink.held c.args.sink.now) (g.K.Sink.held c.loop-line.sink)
+    (ends_reading (StageStands g.B.Banks.log c.loop-reply.stage) (StageStands g.B.Banks.log c.loop-reply.stage) c.in_err-line.field-0.0 bytes (g.S.Source.left c.next_line.new.source) (g.K.Sink.held c.args.sink.now) (g.K.Sink.held c.loop-reply.sink)
     c.in_err-line.ensures.fault
-    (λ is. breaks_off g.B.Banks.log (g.S.Source.left c.args.source.now) (g.S.Source.left c.loop-line.source) (g.S.Source.left c.next_line.new.source) (g.K.Sink.held c.args.sink.now) (g.K.Sink.held c.loop-line.sink)
-    c.loop-line.lines.taken c.loop-line.stage c.loop-line.done c.loop-line.invariant.way (c.in_err-line.ensures.broken_off (err_same _ _ is))
-    (end_cut (g.S.Source.left c.args.source.now) (g.S.Source.left c.loop-line.source) (g.S.Source.left c.next_line.new.source) c.loop-line.done c.loop-line.lines.ended c.loop-line.invariant.ends
+    (λ is. breaks_off g.B.Banks.log (g.S.Source.left c.args.source.now) (g.S.Source.left c.loop-reply.source) (g.S.Source.left c.next_line.new.source) (g.K.Sink.held c.args.sink.now) (g.K.Sink.held c.loop-reply.sink)
+    c.loop-reply.lines.taken c.loop-reply.stage c.loop-reply.done c.loop-reply.invariant.way (c.in_err-line.ensures.broken_off (err_same _ _ is))
+    (end_cut (g.S.Source.left c.args.source.now) (g.S.Source.left c.loop-reply.source) (g.S.Source.left c.next_line.new.source) c.loop-reply.done c.loop-reply.lines.ended c.loop-reply.invariant.ends
     c.in_err-line.ensures.failed (c.in_err-line.ensures.broken_off (err_same _ _ is))) bytes told)
     (λ at is.
     let b = c.in_err-line.ensures.large at (err_same _ _ is) in
-    stops_large g.B.Banks.log (g.S.Source.left c.args.source.now) (g.S.Source.left c.loop-line.source) (g.K.Sink.held c.args.sink.now) (g.K.Sink.held c.loop-line.sink)
-    c.loop-line.lines.taken c.loop-line.stage c.loop-line.done at c.loop-line.invariant.way b.0 b.1 bytes told)
-    (front_any _ bytes _ _ (front_of_way g.B.Banks.log (g.S.Source.left c.args.source.now) (g.S.Source.left c.loop-line.source) (g.K.Sink.held c.args.sink.now) (g.K.Sink.held c.loop-line.sink)
-    c.loop-line.lines.taken c.loop-line.stage c.loop-line.done c.loop-line.invariant.way bytes told)))
+    stops_large g.B.Banks.log (g.S.Source.left c.args.source.now) (g.S.Source.left c.loop-reply.source) (g.K.Sink.held c.args.sink.now) (g.K.Sink.held c.loop-reply.sink)
+    c.loop-reply.lines.taken c.loop-reply.stage c.loop-reply.done at c.loop-reply.invariant.way b.0 b.1 bytes told)
+    (front_any _ bytes _ _ (front_of_way g.B.Banks.log (g.S.Source.left c.args.source.now) (g.S.Source.left c.loop-reply.source) (g.K.Sink.held c.args.sink.now) (g.K.Sink.held c.loop-reply.sink)
+    c.loop-reply.lines.taken c.loop-reply.stage c.loop-reply.done c.loop-reply.invariant.way bytes told)))
 
 pub returns-in_err-line-clause-back : goal.returns-in_err-line-clause-back
 returns-in_err-line-clause-back g c =
     let p = err_from_is_err_and c.from_residual-in_err-line.result c.from_residual-in_err-line.ensures.1 in
     rw (p.1, p.2)
-    (back_later g.B.Banks.meter (banks_of_stage c.args.stage.now) (banks_of_stage c.loop-line.stage) (banks_of_stage c.loop-line.stage) (Some c.in_err-line.field-0.0) c.loop-line.invariant.meters c.loop-line.invariant.quiet
-    (back_same g.B.Banks.meter (banks_of_stage c.loop-line.stage) c.in_err-line.field-0.0 (not_of_reading c.in_err-line.field-0.0 c.in_err-line.ensures.fault)))
+    (back_later g.B.Banks.meter (banks_of_stage c.args.stage.now) (banks_of_stage c.loop-reply.stage) (banks_of_stage c.loop-reply.stage) (Some c.in_err-line.field-0.0) c.loop-reply.invariant.well
+    (back_same g.B.Banks.meter (banks_of_stage c.loop-reply.stage) c.in_err-line.field-0.0 (not_of_reading c.in_err-line.field-0.0 c.in_err-line.ensures.fault)))
 
-pub returns-in_err-line-clause-read : goal.returns-in_err-line-clause-read
-returns-in_err-line-clause-read g c =
-    let p = err_from_is_err_and c.from_residual-in_err-line.result c.from_residual-in_err-line.ensures.1 in
-    rw (p.1, p.2)
-    (reads_counted (g.S.Source.faults c.args.source.now) (g.S.Source.faults c.loop-line.source) (g.S.Source.faults c.next_line.new.source) c.in_err-line.field-0.0
-    c.in_err-line.ensures.cause c.loop-line.invariant.reads)
-
-pub returns-in_err-line-clause-write : goal.returns-in_err-line-clause-write
-returns-in_err-line-clause-write g c =
-    let p = err_from_is_err_and c.from_residual-in_err-line.result c.from_residual-in_err-line.ensures.1 in
-    rw (p.1, p.2)
-    (writes_same (g.K.Sink.faults c.args.sink.now) (g.K.Sink.faults c.loop-line.sink) (Some c.in_err-line.field-0.0) (reading_not_writing c.in_err-line.field-0.0 c.in_err-line.ensures.fault)
-    c.loop-line.invariant.writes)
+pub returns-in_err-line-clause-counts : goal.returns-in_err-line-clause-counts
+returns-in_err-line-clause-counts g c = record {
+  read =
+      let p = err_from_is_err_and c.from_residual-in_err-line.result c.from_residual-in_err-line.ensures.1 in
+      rw (p.1, p.2)
+      (reads_counted (g.S.Source.faults c.args.source.now) (g.S.Source.faults c.loop-reply.source) (g.S.Source.faults c.next_line.new.source) c.in_err-line.field-0.0
+      c.in_err-line.ensures.cause c.loop-reply.invariant.reads);
+  write =
+      let p = err_from_is_err_and c.from_residual-in_err-line.result c.from_residual-in_err-line.ensures.1 in
+      rw (p.1, p.2)
+      (writes_same (g.K.Sink.faults c.args.sink.now) (g.K.Sink.faults c.loop-reply.sink) (Some c.in_err-line.field-0.0) (reading_not_writing c.in_err-line.field-0.0 c.in_err-line.ensures.fault)
+      c.loop-reply.invariant.writes);
+}
 
 -- ---- a line was not done
 
-pub returns-in_err-reply-clause-begun : goal.returns-in_err-reply-clause-begun
-returns-in_err-reply-clause-begun g c =
-    let p = err_from_is_err_and c.from_residual-in_err-reply.result c.from_residual-in_err-reply.ensures.1 in
-    rw (p.1, p.2) (line_replays c.in_err-reply.field-0.0 c.in_err-reply.ensures.other)
+pub returns-in_err-do_line-clause-begun : goal.returns-in_err-do_line-clause-begun
+returns-in_err-do_line-clause-begun g c =
+    let p = err_from_is_err_and c.from_residual-in_err-do_line.result c.from_residual-in_err-do_line.ensures.1 in
+    rw (p.1, p.2) (line_replays c.in_err-do_line.field-0.0 c.in_err-do_line.ensures.other)
 
-pub returns-in_err-reply-clause-ends : goal.returns-in_err-reply-clause-ends
-returns-in_err-reply-clause-ends g c = λ bytes told.
-    let p = err_from_is_err_and c.from_residual-in_err-reply.result c.from_residual-in_err-reply.ensures.1 in
+pub returns-in_err-do_line-clause-ends : goal.returns-in_err-do_line-clause-ends
+returns-in_err-do_line-clause-ends g c = λ bytes told.
+    let p = err_from_is_err_and c.from_residual-in_err-do_line.result c.from_residual-in_err-do_line.ensures.1 in
     rw (p.1, p.2)
-    (ends_line (StageStands g.B.Banks.log c.do_line.new.stage) (StageStands g.B.Banks.log c.do_line.new.stage) c.in_err-reply.field-0.0 bytes (g.S.Source.left c.next_line.new.source) (g.K.Sink.held c.args.sink.now) (g.K.Sink.held c.loop-line.sink)
-    c.in_err-reply.ensures.other
+    (ends_line (StageStands g.B.Banks.log c.do_line.new.stage) (StageStands g.B.Banks.log c.do_line.new.stage) c.in_err-do_line.field-0.0 bytes (g.S.Source.left c.next_line.new.source) (g.K.Sink.held c.args.sink.now) (g.K.Sink.held c.loop-reply.sink)
+    c.in_err-do_line.ensures.other
     (λ at is.
-    let b = c.in_err-reply.ensures.bad at (err_same _ _ is) in
-    stops_bad_at g.B.Banks.log (g.S.Source.left c.args.source.now) (g.S.Source.left c.loop-line.source) (g.S.Source.left c.next_line.new.source)
-    (g.K.Sink.held c.args.sink.now) (g.K.Sink.held c.loop-line.sink) c.loop-line.lines.taken c.next_line.new.lines.taken c.loop-line.stage c.loop-line.done c.in_ok-line.field-0 c.in-Some.line c.as_slice.result.now at
-    c.loop-line.invariant.way c.in-Some.is c.as_slice.ensures c.in_ok-line.ensures.line b.0 b.1 c.do_line.new.stage (c.in_err-reply.ensures.kept at (err_same _ _ is)) bytes told)
+    let b = c.in_err-do_line.ensures.bad at (err_same _ _ is) in
+    stops_bad_at g.B.Banks.log (g.S.Source.left c.args.source.now) (g.S.Source.left c.loop-reply.source) (g.S.Source.left c.next_line.new.source)
+    (g.K.Sink.held c.args.sink.now) (g.K.Sink.held c.loop-reply.sink) c.loop-reply.lines.taken c.next_line.new.lines.taken c.loop-reply.stage c.loop-reply.done c.in_ok-line.field-0 c.in-Some.line c.as_slice.result.now at
+    c.loop-reply.invariant.way c.in-Some.is c.as_slice.ensures c.in_ok-line.ensures.line b.0 b.1 c.do_line.new.stage (c.in_err-do_line.ensures.kept at (err_same _ _ is)) bytes told)
     (λ at is.
-    let b = c.in_err-reply.ensures.unbuilt at (err_same _ _ is) in
-    stops_unbuilt_at g.B.Banks.log (g.S.Source.left c.args.source.now) (g.S.Source.left c.loop-line.source) (g.S.Source.left c.next_line.new.source)
-    (g.K.Sink.held c.args.sink.now) (g.K.Sink.held c.loop-line.sink) c.loop-line.lines.taken c.next_line.new.lines.taken c.loop-line.stage c.loop-line.done c.in_ok-line.field-0 c.in-Some.line c.as_slice.result.now at
-    c.loop-line.invariant.way c.in-Some.is c.as_slice.ensures c.in_ok-line.ensures.line b.0 b.1 c.do_line.new.stage (c.in_err-reply.ensures.kept_unbuilt at (err_same _ _ is)) bytes told)
-    (whole_of_way g.B.Banks.log (g.S.Source.left c.args.source.now) (g.S.Source.left c.loop-line.source) (g.K.Sink.held c.args.sink.now) (g.K.Sink.held c.loop-line.sink)
-    c.loop-line.lines.taken c.loop-line.stage c.loop-line.done c.loop-line.invariant.way bytes told)
-    (front_any _ bytes _ _ (front_of_way g.B.Banks.log (g.S.Source.left c.args.source.now) (g.S.Source.left c.loop-line.source) (g.K.Sink.held c.args.sink.now) (g.K.Sink.held c.loop-line.sink)
-    c.loop-line.lines.taken c.loop-line.stage c.loop-line.done c.loop-line.invariant.way bytes told)))
+    let b = c.in_err-do_line.ensures.unbuilt at (err_same _ _ is) in
+    stops_unbuilt_at g.B.Banks.log (g.S.Source.left c.args.source.now) (g.S.Source.left c.loop-reply.source) (g.S.Source.left c.next_line.new.source)
+    (g.K.Sink.held c.args.sink.now) (g.K.Sink.held c.loop-reply.sink) c.loop-reply.lines.taken c.next_line.new.lines.taken c.loop-reply.stage c.loop-reply.done c.in_ok-line.field-0 c.in-Some.line c.as_slice.result.now at
+    c.loop-reply.invariant.way c.in-Some.is c.as_slice.ensures c.in_ok-line.ensures.line b.0 b.1 c.do_line.new.stage (c.in_err-do_line.ensures.kept_unbuilt at (err_same _ _ is)) bytes told)
+    (whole_of_way g.B.Banks.log (g.S.Source.left c.args.source.now) (g.S.Source.left c.loop-reply.source) (g.K.Sink.held c.args.sink.now) (g.K.Sink.held c.loop-reply.sink)
+    c.loop-reply.lines.taken c.loop-reply.stage c.loop-reply.done c.loop-reply.invariant.way bytes told)
+    (front_any _ bytes _ _ (front_of_way g.B.Banks.log (g.S.Source.left c.args.source.now) (g.S.Source.left c.loop-reply.source) (g.K.Sink.held c.args.sink.now) (g.K.Sink.held c.loop-reply.sink)
+    c.loop-reply.lines.taken c.loop-reply.stage c.loop-reply.done c.loop-reply.invariant.way bytes told)))
 
-pub returns-in_err-reply-clause-back : goal.returns-in_err-reply-clause-back
-returns-in_err-reply-clause-back g c =
-    let p = err_from_is_err_and c.from_residual-in_err-reply.result c.from_residual-in_err-reply.ensures.1 in
+pub returns-in_err-do_line-clause-back : goal.returns-in_err-do_line-clause-back
+returns-in_err-do_line-clause-back g c =
+    let p = err_from_is_err_and c.from_residual-in_err-do_line.result c.from_residual-in_err-do_line.ensures.1 in
     rw (p.1, p.2)
-    (back_later g.B.Banks.meter (banks_of_stage c.args.stage.now) (banks_of_stage c.loop-line.stage) (banks_of_stage c.do_line.new.stage) (Some c.in_err-reply.field-0.0) c.loop-line.invariant.meters
-    c.loop-line.invariant.quiet c.in_err-reply.ensures.back)
+    (back_later g.B.Banks.meter (banks_of_stage c.args.stage.now) (banks_of_stage c.loop-reply.stage) (banks_of_stage c.do_line.new.stage) (Some c.in_err-do_line.field-0.0) c.loop-reply.invariant.well
+    c.in_err-do_line.ensures.back)
 
-pub returns-in_err-reply-clause-read : goal.returns-in_err-reply-clause-read
-returns-in_err-reply-clause-read g c =
-    let p = err_from_is_err_and c.from_residual-in_err-reply.result c.from_residual-in_err-reply.ensures.1 in
-    rw (p.1, p.2)
-    (reads_same (g.S.Source.faults c.args.source.now) (g.S.Source.faults c.next_line.new.source) (Some c.in_err-reply.field-0.0) (line_not_reading c.in_err-reply.field-0.0 c.in_err-reply.ensures.other)
-    (read_well _ _ _ c.in_ok-line.ensures.cause ∙ c.loop-line.invariant.reads))
-
-pub returns-in_err-reply-clause-write : goal.returns-in_err-reply-clause-write
-returns-in_err-reply-clause-write g c =
-    let p = err_from_is_err_and c.from_residual-in_err-reply.result c.from_residual-in_err-reply.ensures.1 in
-    rw (p.1, p.2)
-    (writes_same (g.K.Sink.faults c.args.sink.now) (g.K.Sink.faults c.loop-line.sink) (Some c.in_err-reply.field-0.0) (line_not_writing c.in_err-reply.field-0.0 c.in_err-reply.ensures.other)
-    c.loop-line.invariant.writes)
+pub returns-in_err-do_line-clause-counts : goal.returns-in_err-do_line-clause-counts
+returns-in_err-do_line-clause-counts g c = record {
+  read =
+      let p = err_from_is_err_and c.from_residual-in_err-do_line.result c.from_residual-in_err-do_line.ensures.1 in
+      rw (p.1, p.2)
+      (reads_same (g.S.Source.faults c.args.source.now) (g.S.Source.faults c.next_line.new.source) (Some c.in_err-do_line.field-0.0) (line_not_reading c.in_err-do_line.field-0.0 c.in_err-do_line.ensures.other)
+      (read_well _ _ _ c.in_ok-line.ensures.cause ∙ c.loop-reply.invariant.reads));
+  write =
+      let p = err_from_is_err_and c.from_residual-in_err-do_line.result c.from_residual-in_err-do_line.ensures.1 in
+      rw (p.1, p.2)
+      (writes_same (g.K.Sink.faults c.args.sink.now) (g.K.Sink.faults c.loop-reply.sink) (Some c.in_err-do_line.field-0.0) (line_not_writing c.in_err-do_line.field-0.0 c.in_err-do_line.ensures.other)
+      c.loop-reply.invariant.writes);
+}
 
 -- ---- its reply could not be written
 
@@ -167,35 +169,34 @@ returns-in_err-write_reply-clause-ends g c = λ bytes told.
     rw (p.1, p.2)
     (ends_writing (StageStands g.B.Banks.log c.do_line.new.stage) (StageStands g.B.Banks.log c.do_line.new.stage) c.in_err-write_reply.field-0.0 bytes (g.S.Source.left c.next_line.new.source) (g.K.Sink.held c.args.sink.now)
     (g.K.Sink.held c.write_reply.new.sink) c.in_err-write_reply.ensures.fault
-    (front_of_reply g.B.Banks.log (g.S.Source.left c.args.source.now) (g.S.Source.left c.loop-line.source) (g.S.Source.left c.next_line.new.source)
-    (g.K.Sink.held c.args.sink.now) (g.K.Sink.held c.loop-line.sink) (g.K.Sink.held c.write_reply.new.sink) c.loop-line.lines.taken c.next_line.new.lines.taken
-    c.loop-line.stage c.do_line.new.stage c.loop-line.done c.as_slice.result.now c.in_ok-reply.reply.items c.loop-line.invariant.way
-    (takes_some (g.S.Source.left c.loop-line.source) (g.S.Source.left c.next_line.new.source) c.in_ok-line.field-0 c.loop-line.lines.taken c.next_line.new.lines.taken c.in-Some.line c.as_slice.result.now
+    (front_of_reply g.B.Banks.log (g.S.Source.left c.args.source.now) (g.S.Source.left c.loop-reply.source) (g.S.Source.left c.next_line.new.source)
+    (g.K.Sink.held c.args.sink.now) (g.K.Sink.held c.loop-reply.sink) (g.K.Sink.held c.write_reply.new.sink) c.loop-reply.lines.taken c.next_line.new.lines.taken
+    c.loop-reply.stage c.do_line.new.stage c.loop-reply.done c.as_slice.result.now c.do_line.new.reply.items c.loop-reply.invariant.way
+    (takes_some (g.S.Source.left c.loop-reply.source) (g.S.Source.left c.next_line.new.source) c.in_ok-line.field-0 c.loop-reply.lines.taken c.next_line.new.lines.taken c.in-Some.line c.as_slice.result.now
     c.in-Some.is c.as_slice.ensures c.in_ok-line.ensures.line)
-    c.in_ok-reply.ensures.ok c.in_err-write_reply.ensures.err.0 (rw (sym c.as_slice-in-Some.ensures.value) c.in_err-write_reply.ensures.err.1) bytes told))
+    c.in_ok-do_line.ensures.ok c.in_err-write_reply.ensures.err.0 (rw (sym c.as_slice-in-Some.ensures.value) c.in_err-write_reply.ensures.err.1) bytes told))
 
 pub returns-in_err-write_reply-clause-back : goal.returns-in_err-write_reply-clause-back
 returns-in_err-write_reply-clause-back g c =
     let p = err_from_is_err_and c.from_residual-in_err-write_reply.result c.from_residual-in_err-write_reply.ensures.1 in
     rw (p.1, p.2)
-    (back_later g.B.Banks.meter (banks_of_stage c.args.stage.now) (banks_of_stage c.loop-line.stage) (banks_of_stage c.do_line.new.stage) (Some c.in_err-write_reply.field-0.0) c.loop-line.invariant.meters
-    c.loop-line.invariant.quiet
-    (back_of_good g.B.Banks.meter (banks_of_stage c.loop-line.stage) (banks_of_stage c.do_line.new.stage) c.in_err-write_reply.field-0.0
-    (not_of_writing c.in_err-write_reply.field-0.0 c.in_err-write_reply.ensures.fault) c.in_ok-reply.ensures.back))
+    (back_later g.B.Banks.meter (banks_of_stage c.args.stage.now) (banks_of_stage c.loop-reply.stage) (banks_of_stage c.do_line.new.stage) (Some c.in_err-write_reply.field-0.0) c.loop-reply.invariant.well
+    (back_well g.B.Banks.meter (banks_of_stage c.loop-reply.stage) (banks_of_stage c.do_line.new.stage) c.in_err-write_reply.field-0.0
+    (not_of_writing c.in_err-write_reply.field-0.0 c.in_err-write_reply.ensures.fault) c.in_ok-do_line.ensures.back))
 
-pub returns-in_err-write_reply-clause-read : goal.returns-in_err-write_reply-clause-read
-returns-in_err-write_reply-clause-read g c =
-    let p = err_from_is_err_and c.from_residual-in_err-write_reply.result c.from_residual-in_err-write_reply.ensures.1 in
-    rw (p.1, p.2)
-    (reads_same (g.S.Source.faults c.args.source.now) (g.S.Source.faults c.next_line.new.source) (Some c.in_err-write_reply.field-0.0)
-    (writing_not_reading c.in_err-write_reply.field-0.0 c.in_err-write_reply.ensures.fault) (read_well _ _ _ c.in_ok-line.ensures.cause ∙ c.loop-line.invariant.reads))
-
-pub returns-in_err-write_reply-clause-write : goal.returns-in_err-write_reply-clause-write
-returns-in_err-write_reply-clause-write g c =
-    let p = err_from_is_err_and c.from_residual-in_err-write_reply.result c.from_residual-in_err-write_reply.ensures.1 in
-    rw (p.1, p.2)
-    (writes_counted (g.K.Sink.faults c.args.sink.now) (g.K.Sink.faults c.loop-line.sink) (g.K.Sink.faults c.write_reply.new.sink) c.in_err-write_reply.field-0.0
-    c.in_err-write_reply.ensures.cause c.loop-line.invariant.writes)
+pub returns-in_err-write_reply-clause-counts : goal.returns-in_err-write_reply-clause-counts
+returns-in_err-write_reply-clause-counts g c = record {
+  read =
+      let p = err_from_is_err_and c.from_residual-in_err-write_reply.result c.from_residual-in_err-write_reply.ensures.1 in
+      rw (p.1, p.2)
+      (reads_same (g.S.Source.faults c.args.source.now) (g.S.Source.faults c.next_line.new.source) (Some c.in_err-write_reply.field-0.0)
+      (writing_not_reading c.in_err-write_reply.field-0.0 c.in_err-write_reply.ensures.fault) (read_well _ _ _ c.in_ok-line.ensures.cause ∙ c.loop-reply.invariant.reads));
+  write =
+      let p = err_from_is_err_and c.from_residual-in_err-write_reply.result c.from_residual-in_err-write_reply.ensures.1 in
+      rw (p.1, p.2)
+      (writes_counted (g.K.Sink.faults c.args.sink.now) (g.K.Sink.faults c.loop-reply.sink) (g.K.Sink.faults c.write_reply.new.sink) c.in_err-write_reply.field-0.0
+      c.in_err-write_reply.ensures.cause c.loop-reply.invariant.writes);
+}
 
 -- ---- there were no more lines
 
@@ -204,39 +205,39 @@ returns-clause-begun g c = end_replays c.end_lines.result c.end_lines.ensures.ot
 
 pub returns-clause-ends : goal.returns-clause-ends
 returns-clause-ends g c = λ bytes told.
-    ends_lines (StageStands g.B.Banks.log c.end_lines.new.stage) (StageStands g.B.Banks.log c.end_lines.new.stage) c.end_lines.result bytes (g.S.Source.left c.next_line.new.source) (g.K.Sink.held c.args.sink.now) (g.K.Sink.held c.loop-line.sink)
+    ends_lines (StageStands g.B.Banks.log c.end_lines.new.stage) (StageStands g.B.Banks.log c.end_lines.new.stage) c.end_lines.result bytes (g.S.Source.left c.next_line.new.source) (g.K.Sink.held c.args.sink.now) (g.K.Sink.held c.loop-reply.sink)
     c.end_lines.ensures.other
-    (on_ok c.end_lines.result (λ (ends : (stage : Stage) → StageStands g.B.Banks.log c.loop-line.stage stage → EndsWell g.B.Banks.log stage c.end_lines.new.stage).
-    finishes g.B.Banks.log (g.S.Source.left c.args.source.now) (g.S.Source.left c.loop-line.source) (g.S.Source.left c.next_line.new.source)
-    (g.K.Sink.held c.args.sink.now) (g.K.Sink.held c.loop-line.sink) c.loop-line.lines.taken c.loop-line.stage c.end_lines.new.stage c.loop-line.done
-    c.loop-line.invariant.way
-    (end_none (g.S.Source.left c.args.source.now) (g.S.Source.left c.loop-line.source) (g.S.Source.left c.next_line.new.source) c.in_ok-line.field-0 c.loop-line.lines.taken c.next_line.new.lines.taken c.loop-line.done
-    c.loop-line.lines.ended c.loop-line.invariant.ends c.in_default.is c.in_ok-line.ensures.line c.in_ok-line.ensures.at_end) ends bytes told)
+    (on_ok c.end_lines.result (λ (ends : (stage : Stage) → StageStands g.B.Banks.log c.loop-reply.stage stage → EndsWell g.B.Banks.log stage c.end_lines.new.stage).
+    finishes g.B.Banks.log (g.S.Source.left c.args.source.now) (g.S.Source.left c.loop-reply.source) (g.S.Source.left c.next_line.new.source)
+    (g.K.Sink.held c.args.sink.now) (g.K.Sink.held c.loop-reply.sink) c.loop-reply.lines.taken c.loop-reply.stage c.end_lines.new.stage c.loop-reply.done
+    c.loop-reply.invariant.way
+    (end_none (g.S.Source.left c.args.source.now) (g.S.Source.left c.loop-reply.source) (g.S.Source.left c.next_line.new.source) c.in_ok-line.field-0 c.loop-reply.lines.taken c.next_line.new.lines.taken c.loop-reply.done
+    c.loop-reply.lines.ended c.loop-reply.invariant.ends c.in_default.is c.in_ok-line.ensures.line c.in_ok-line.ensures.at_end) ends bytes told)
     c.end_lines.ensures.ok)
     (λ at is.
     let b = c.end_lines.ensures.bad at is in
-    ends_waiting_at g.B.Banks.log (g.S.Source.left c.args.source.now) (g.S.Source.left c.loop-line.source) (g.S.Source.left c.next_line.new.source)
-    (g.K.Sink.held c.args.sink.now) (g.K.Sink.held c.loop-line.sink) c.loop-line.lines.taken c.loop-line.stage c.loop-line.done at
-    c.loop-line.invariant.way
-    (end_none (g.S.Source.left c.args.source.now) (g.S.Source.left c.loop-line.source) (g.S.Source.left c.next_line.new.source) c.in_ok-line.field-0 c.loop-line.lines.taken c.next_line.new.lines.taken c.loop-line.done
-    c.loop-line.lines.ended c.loop-line.invariant.ends c.in_default.is c.in_ok-line.ensures.line c.in_ok-line.ensures.at_end)
+    ends_waiting_at g.B.Banks.log (g.S.Source.left c.args.source.now) (g.S.Source.left c.loop-reply.source) (g.S.Source.left c.next_line.new.source)
+    (g.K.Sink.held c.args.sink.now) (g.K.Sink.held c.loop-reply.sink) c.loop-reply.lines.taken c.loop-reply.stage c.loop-reply.done at
+    c.loop-reply.invariant.way
+    (end_none (g.S.Source.left c.args.source.now) (g.S.Source.left c.loop-reply.source) (g.S.Source.left c.next_line.new.source) c.in_ok-line.field-0 c.loop-reply.lines.taken c.next_line.new.lines.taken c.loop-reply.done
+    c.loop-reply.lines.ended c.loop-reply.invariant.ends c.in_default.is c.in_ok-line.ensures.line c.in_ok-line.ensures.at_end)
     b.0 b.1 c.end_lines.new.stage (c.end_lines.ensures.kept at is) bytes told)
-    (whole_of_way g.B.Banks.log (g.S.Source.left c.args.source.now) (g.S.Source.left c.loop-line.source) (g.K.Sink.held c.args.sink.now) (g.K.Sink.held c.loop-line.sink)
-    c.loop-line.lines.taken c.loop-line.stage c.loop-line.done c.loop-line.invariant.way bytes told)
-    (front_any _ bytes _ _ (front_of_way g.B.Banks.log (g.S.Source.left c.args.source.now) (g.S.Source.left c.loop-line.source) (g.K.Sink.held c.args.sink.now) (g.K.Sink.held c.loop-line.sink)
-    c.loop-line.lines.taken c.loop-line.stage c.loop-line.done c.loop-line.invariant.way bytes told))
+    (whole_of_way g.B.Banks.log (g.S.Source.left c.args.source.now) (g.S.Source.left c.loop-reply.source) (g.K.Sink.held c.args.sink.now) (g.K.Sink.held c.loop-reply.sink)
+    c.loop-reply.lines.taken c.loop-reply.stage c.loop-reply.done c.loop-reply.invariant.way bytes told)
+    (front_any _ bytes _ _ (front_of_way g.B.Banks.log (g.S.Source.left c.args.source.now) (g.S.Source.left c.loop-reply.source) (g.K.Sink.held c.args.sink.now) (g.K.Sink.held c.loop-reply.sink)
+    c.loop-reply.lines.taken c.loop-reply.stage c.loop-reply.done c.loop-reply.invariant.way bytes told))
 
 pub returns-clause-back : goal.returns-clause-back
 returns-clause-back g c =
-    back_later g.B.Banks.meter (banks_of_stage c.args.stage.now) (banks_of_stage c.loop-line.stage) (banks_of_stage c.end_lines.new.stage) (result_err c.end_lines.result) c.loop-line.invariant.meters
-    c.loop-line.invariant.quiet c.end_lines.ensures.back
+    back_later g.B.Banks.meter (banks_of_stage c.args.stage.now) (banks_of_stage c.loop-reply.stage) (banks_of_stage c.end_lines.new.stage) (result_err c.end_lines.result) c.loop-reply.invariant.well
+    c.end_lines.ensures.back
 
-pub returns-clause-read : goal.returns-clause-read
-returns-clause-read g c =
-    reads_same (g.S.Source.faults c.args.source.now) (g.S.Source.faults c.next_line.new.source) (result_err c.end_lines.result) (end_not_reading c.end_lines.result c.end_lines.ensures.other)
-    (read_well _ _ _ c.in_ok-line.ensures.cause ∙ c.loop-line.invariant.reads)
-
-pub returns-clause-write : goal.returns-clause-write
-returns-clause-write g c =
-    writes_same (g.K.Sink.faults c.args.sink.now) (g.K.Sink.faults c.loop-line.sink) (result_err c.end_lines.result) (end_not_writing c.end_lines.result c.end_lines.ensures.other)
-    c.loop-line.invariant.writes
+pub returns-clause-counts : goal.returns-clause-counts
+returns-clause-counts g c = record {
+  read =
+      reads_same (g.S.Source.faults c.args.source.now) (g.S.Source.faults c.next_line.new.source) (result_err c.end_lines.result) (end_not_reading c.end_lines.result c.end_lines.ensures.other)
+      (read_well _ _ _ c.in_ok-line.ensures.cause ∙ c.loop-reply.invariant.reads);
+  write =
+      writes_same (g.K.Sink.faults c.args.sink.now) (g.K.Sink.faults c.loop-reply.sink) (result_err c.end_lines.result) (end_not_writing c.end_lines.result c.end_lines.ensures.other)
+      c.loop-reply.invariant.writes;
+}

@@ -1,11 +1,12 @@
-use Rattle.std.proofs.Common.{◌≡◌, ◌≢◌, Some}
+use Rattle.std.proofs.Common.{◌≡◌, ◌≢◌, ap, refl, Some}
 use Rattle.std.specs.Result.{result_err}
 use Rattle.mld_replay.specs.declared.run.RunFault.TheVariants as faults
-use Rattle.mld_replay.specs.Ran.{EndsAs, AreUntouched, LeavesAlone, CountsReads, CountsWrites, Agrees}
-use Rattle.mld_replay.specs.Stages.{StageStands, BanksKeep}
-use Rattle.mld_replay.proofs.MeterLemmas.{meters_then, quiet_then, back_same}
+use Rattle.mld_replay.specs.Ran.{EndsAs, AreUntouched, LeavesAlone, CountsFaults, Agrees}
+use Rattle.mld_replay.specs.Stages.{StageStands}
+use Rattle.mld_replay.specs.KeptBanks.{BanksKeep}
+use Rattle.mld_replay.proofs.MeterLemmas.{well_then, back_same}
 use Rattle.mld_replay.proofs.BlankLemmas.{empty_still}
-use Rattle.mld_replay.proofs.SummaryLemmas.{ends_by, back_by, said_by, replay_alone, replay_not_usage, replay_not_filled, agrees_so, looking_fault, blanking_fault, bank_ends, left_alone, not_begun, bank_alone, bank_reads, bank_writes, bank_agrees, looking_heeds, empty_heeds, blanking_not_filled, usage_heeds, refused_back}
+use Rattle.mld_replay.proofs.SummaryLemmas.{ends_by, back_by, said_by, replay_alone, replay_not_usage, replay_not_filled, agrees_so, looking_fault, blanking_fault, bank_ends, left_alone, not_begun, bank_alone, bank_reads, bank_writes, bank_agrees, looking_heeds, empty_heeds, blanking_not_filled, usage_heeds, refused_back, back_told}
 use Rattle.mld_replay.proofs.run.run.Goals as goal
 
 -- ---- the words are others
@@ -19,6 +20,9 @@ returns-then-not-is_replay-clause-ends g c = λ bytes told. rw c.ended.ensures.f
 pub returns-then-not-is_replay-clause-filled : goal.returns-then-not-is_replay-clause-filled
 returns-then-not-is_replay-clause-filled g c =
     rw (c.ended.ensures.fault, c.ended.ensures.banks) (usage_heeds g.B.Banks.log c.args.banks.items _ (left_alone c.args.source.now c.args.sink.now))
+
+pub returns-then-not-is_replay-clause-counts : goal.returns-then-not-is_replay-clause-counts
+returns-then-not-is_replay-clause-counts g c = rw c.ended.ensures.fault (record { read = refl; write = refl })
 
 pub returns-then-not-is_replay-clause-back : goal.returns-then-not-is_replay-clause-back
 returns-then-not-is_replay-clause-back g c =
@@ -34,11 +38,13 @@ returns-in-Err-clause-ends g c = λ bytes told.
     bank_ends c.in-Err.fault (looking_fault g.B.Banks.log c.args.banks.items c.in-Err.fault c.in-Err.ensures.err) (EndsAs g.B.Banks.log c.ended-in-Err.result) (BanksKeep g.B.Banks.log c.ended-in-Err.result.banks.items) c.ended-in-Err.result.fault
     (g.S.Source.left c.args.source.now) (g.K.Sink.held c.args.sink.now) bytes c.ended-in-Err.ensures.fault told
 
-pub returns-in-Err-clause-read : goal.returns-in-Err-clause-read
-returns-in-Err-clause-read g c = rw c.ended-in-Err.ensures.fault (bank_reads c.in-Err.fault (looking_fault g.B.Banks.log c.args.banks.items c.in-Err.fault c.in-Err.ensures.err) (g.S.Source.faults c.args.source.now))
-
-pub returns-in-Err-clause-write : goal.returns-in-Err-clause-write
-returns-in-Err-clause-write g c = rw c.ended-in-Err.ensures.fault (bank_writes c.in-Err.fault (looking_fault g.B.Banks.log c.args.banks.items c.in-Err.fault c.in-Err.ensures.err) (g.K.Sink.faults c.args.sink.now))
+pub returns-in-Err-clause-counts : goal.returns-in-Err-clause-counts
+returns-in-Err-clause-counts g c = record {
+  read =
+      rw c.ended-in-Err.ensures.fault (bank_reads c.in-Err.fault (looking_fault g.B.Banks.log c.args.banks.items c.in-Err.fault c.in-Err.ensures.err) (g.S.Source.faults c.args.source.now));
+  write =
+      rw c.ended-in-Err.ensures.fault (bank_writes c.in-Err.fault (looking_fault g.B.Banks.log c.args.banks.items c.in-Err.fault c.in-Err.ensures.err) (g.K.Sink.faults c.args.sink.now));
+}
 
 pub returns-in-Err-clause-exact : goal.returns-in-Err-clause-exact
 returns-in-Err-clause-exact g c = λ bytes told outcome verdict words. rw c.ended-in-Err.ensures.fault (bank_agrees c.in-Err.fault (looking_fault g.B.Banks.log c.args.banks.items c.in-Err.fault c.in-Err.ensures.err) outcome)
@@ -50,7 +56,8 @@ returns-in-Err-clause-filled g c =
 
 pub returns-in-Err-clause-back : goal.returns-in-Err-clause-back
 returns-in-Err-clause-back g c =
-    rw (c.ended-in-Err.ensures.fault, c.ended-in-Err.ensures.banks) (record { meters = λ differs. c.find_filled.ensures.meters; real_faults = c.in-Err.ensures.faults })
+    back_told g.B.Banks.meter c.args.banks.items c.find_filled.new.banks.items c.ended-in-Err.result.banks.items (Some c.in-Err.fault) c.ended-in-Err.result.fault c.ended-in-Err.ensures.fault
+    (ap (λ b. b.items) c.ended-in-Err.ensures.banks) c.in-Err.ensures.back
 
 -- ---- no blanks could be made
 
@@ -66,11 +73,13 @@ returns-in-Err-blanks_of-clause-ends g c = λ bytes told.
     bank_ends c.in-Err-blanks_of.fault (blanking_fault g.B.Banks.meter c.find_filled.new.banks.items c.in-Err-blanks_of.banks.items c.in-Err-blanks_of.fault c.in-Err-blanks_of.ensures.err) (EndsAs g.B.Banks.log c.ended-in-Err-blanks_of.result) (BanksKeep g.B.Banks.log c.ended-in-Err-blanks_of.result.banks.items) c.ended-in-Err-blanks_of.result.fault
     (g.S.Source.left c.args.source.now) (g.K.Sink.held c.args.sink.now) bytes c.ended-in-Err-blanks_of.ensures.fault told
 
-pub returns-in-Err-blanks_of-clause-read : goal.returns-in-Err-blanks_of-clause-read
-returns-in-Err-blanks_of-clause-read g c = rw c.ended-in-Err-blanks_of.ensures.fault (bank_reads c.in-Err-blanks_of.fault (blanking_fault g.B.Banks.meter c.find_filled.new.banks.items c.in-Err-blanks_of.banks.items c.in-Err-blanks_of.fault c.in-Err-blanks_of.ensures.err) (g.S.Source.faults c.args.source.now))
-
-pub returns-in-Err-blanks_of-clause-write : goal.returns-in-Err-blanks_of-clause-write
-returns-in-Err-blanks_of-clause-write g c = rw c.ended-in-Err-blanks_of.ensures.fault (bank_writes c.in-Err-blanks_of.fault (blanking_fault g.B.Banks.meter c.find_filled.new.banks.items c.in-Err-blanks_of.banks.items c.in-Err-blanks_of.fault c.in-Err-blanks_of.ensures.err) (g.K.Sink.faults c.args.sink.now))
+pub returns-in-Err-blanks_of-clause-counts : goal.returns-in-Err-blanks_of-clause-counts
+returns-in-Err-blanks_of-clause-counts g c = record {
+  read =
+      rw c.ended-in-Err-blanks_of.ensures.fault (bank_reads c.in-Err-blanks_of.fault (blanking_fault g.B.Banks.meter c.find_filled.new.banks.items c.in-Err-blanks_of.banks.items c.in-Err-blanks_of.fault c.in-Err-blanks_of.ensures.err) (g.S.Source.faults c.args.source.now));
+  write =
+      rw c.ended-in-Err-blanks_of.ensures.fault (bank_writes c.in-Err-blanks_of.fault (blanking_fault g.B.Banks.meter c.find_filled.new.banks.items c.in-Err-blanks_of.banks.items c.in-Err-blanks_of.fault c.in-Err-blanks_of.ensures.err) (g.K.Sink.faults c.args.sink.now));
+}
 
 pub returns-in-Err-blanks_of-clause-exact : goal.returns-in-Err-blanks_of-clause-exact
 returns-in-Err-blanks_of-clause-exact g c = λ bytes told outcome verdict words. rw c.ended-in-Err-blanks_of.ensures.fault (bank_agrees c.in-Err-blanks_of.fault (blanking_fault g.B.Banks.meter c.find_filled.new.banks.items c.in-Err-blanks_of.banks.items c.in-Err-blanks_of.fault c.in-Err-blanks_of.ensures.err) outcome)
@@ -83,8 +92,9 @@ returns-in-Err-blanks_of-clause-filled g c =
 
 pub returns-in-Err-blanks_of-clause-back : goal.returns-in-Err-blanks_of-clause-back
 returns-in-Err-blanks_of-clause-back g c =
-    rw (c.ended-in-Err-blanks_of.ensures.fault, c.ended-in-Err-blanks_of.ensures.banks)
-    (refused_back g.B.Banks.meter c.args.banks.items c.find_filled.new.banks.items c.in-Err-blanks_of.banks.items c.in-Err-blanks_of.fault c.find_filled.ensures.meters c.in_default.ensures.faults
+    back_told g.B.Banks.meter c.args.banks.items c.in-Err-blanks_of.banks.items c.ended-in-Err-blanks_of.result.banks.items (Some c.in-Err-blanks_of.fault) c.ended-in-Err-blanks_of.result.fault
+    c.ended-in-Err-blanks_of.ensures.fault (ap (λ b. b.items) c.ended-in-Err-blanks_of.ensures.banks)
+    (refused_back g.B.Banks.meter c.args.banks.items c.find_filled.new.banks.items c.in-Err-blanks_of.banks.items c.in-Err-blanks_of.fault c.in_default.ensures.back
     c.in-Err-blanks_of.ensures.err)
 
 -- ---- the replay
@@ -108,19 +118,14 @@ returns-in-Ok-clause-filled g c =
 pub returns-in-Ok-clause-back : goal.returns-in-Ok-clause-back
 returns-in-Ok-clause-back g c =
     back_by g.B.Banks.log c.err-fault.result c.replay.new.stage c.ended_with.result g.B.Banks.meter c.args.banks.items c.in-Ok.blanks.items c.ended_with.ensures.ends
-    (meters_then g.B.Banks.meter c.args.banks.items c.find_filled.new.banks.items c.in-Ok.blanks.items c.find_filled.ensures.meters c.in-Ok.ensures.meters)
-    (quiet_then g.B.Banks.meter c.args.banks.items c.find_filled.new.banks.items c.in-Ok.blanks.items c.find_filled.ensures.meters c.in_default.ensures.faults c.in-Ok.ensures.quiet)
+    (well_then g.B.Banks.meter c.args.banks.items c.find_filled.new.banks.items c.in-Ok.blanks.items c.in_default.ensures.back c.in-Ok.ensures.well)
     (rw c.err-fault.ensures.value c.replay.ensures.back)
 
-pub returns-in-Ok-clause-read : goal.returns-in-Ok-clause-read
-returns-in-Ok-clause-read g c =
-    said_by g.B.Banks.log c.err-fault.result c.replay.new.stage c.ended_with.result (λ f. CountsReads (g.S.Source.faults c.args.source.now) (g.S.Source.faults c.replay.new.source) f) c.ended_with.ensures.ends tt
-    (rw c.err-fault.ensures.value c.replay.ensures.read)
-
-pub returns-in-Ok-clause-write : goal.returns-in-Ok-clause-write
-returns-in-Ok-clause-write g c =
-    said_by g.B.Banks.log c.err-fault.result c.replay.new.stage c.ended_with.result (λ f. CountsWrites (g.K.Sink.faults c.args.sink.now) (g.K.Sink.faults c.replay.new.sink) f) c.ended_with.ensures.ends tt
-    (rw c.err-fault.ensures.value c.replay.ensures.write)
+pub returns-in-Ok-clause-counts : goal.returns-in-Ok-clause-counts
+returns-in-Ok-clause-counts g c =
+    said_by g.B.Banks.log c.err-fault.result c.replay.new.stage c.ended_with.result
+    (λ f. CountsFaults f (g.S.Source.faults c.args.source.now) (g.S.Source.faults c.replay.new.source) (g.K.Sink.faults c.args.sink.now) (g.K.Sink.faults c.replay.new.sink)) c.ended_with.ensures.ends
+    (record { read = tt; write = tt }) (rw c.err-fault.ensures.value c.replay.ensures.counts)
 
 pub returns-in-Ok-clause-exact : goal.returns-in-Ok-clause-exact
 returns-in-Ok-clause-exact g c = λ bytes told outcome verdict words.

@@ -1,7 +1,10 @@
 use Rattle.std.proofs.Common.{ap, sym, subst}
-use Rattle.net_world.specs.WorldBanks.{HadNoFaults, banks_of}
+use Rattle.net_world.specs.WorldBanks.{banks_of}
+use Rattle.mld_replay.specs.BankFaults.{AreWell}
+use Rattle.mld_replay.specs.Stops.{StopsWith, stop_of_world}
 use Rattle.mld_replay.specs.Stages.{EndsWell, banks_of_stage}
 use Rattle.mld_replay.specs.declared.stages.Stage.TheVariants as stages
+use Rattle.mld_replay.proofs.MeterLemmas.{founding_stops}
 use Rattle.mld_replay.proofs.StageLemmas.{set_up_stage, founded_end}
 use Rattle.mld_replay.proofs.stages.found.Goals as goal
 
@@ -10,6 +13,11 @@ returns-in-Ok-clause-ok g c =
     set_up_stage g.B.Banks.log (λ stage. EndsWell g.B.Banks.log stage (stages.Running c.in-Ok.world)) c.args.stage.now c.take_set_up-setup.result.0 c.take_set_up-setup.result.1 c.take_set_up-setup.ensures
     (λ may. founded_end g.B.Banks.log c.take_set_up-setup.result.0 c.in-Ok.world c.in-Ok.ensures.founded)
 
-pub returns-in-Ok-clause-quiet : goal.returns-in-Ok-clause-quiet
-returns-in-Ok-clause-quiet g c =
-    subst (λ blanks. HadNoFaults g.B.Banks.meter blanks (banks_of c.in-Ok.world)) (sym (ap banks_of_stage c.take_set_up-setup.ensures)) c.in-Ok.ensures.quiet
+pub returns-in-Ok-clause-well : goal.returns-in-Ok-clause-well
+returns-in-Ok-clause-well g c =
+    subst (λ blanks. AreWell g.B.Banks.meter blanks (banks_of c.in-Ok.world)) (sym (ap banks_of_stage c.take_set_up-setup.ensures)) (record { meters = c.in-Ok.ensures.meters; quiet = c.in-Ok.ensures.quiet })
+
+pub returns-clause-back : goal.returns-clause-back
+returns-clause-back g c =
+    rw c.from.ensures (subst (λ blanks. StopsWith g.B.Banks.meter blanks c.in-Err.banks.items (stop_of_world c.in-Err.fault)) (sym (ap banks_of_stage c.take_set_up-setup.ensures))
+    (founding_stops g.B.Banks.meter c.take_set_up-setup.result.1.items c.in-Err.banks.items c.in-Err.fault c.in-Err.ensures.err))
