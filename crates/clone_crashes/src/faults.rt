@@ -1,0 +1,32 @@
+//! Why a step isn't done.
+use std::alloc::{AllocError, AllocFailed};
+use thiserror::Error;
+
+/// Why a step isn't done.
+#[derive(Clone, Copy, Debug, PartialEq, Eq, Error)]
+pub enum Fault {
+    /// The device failed.
+    #[error("the device failed")]
+    Device,
+    /// There is no such step, or it was refused for another reason.
+    #[error("no such step, or a refusal")]
+    Amiss,
+    /// Memory ran out.
+    #[error("out of memory")]
+    NoMemory,
+}
+
+/// What a step gives, or why it isn't done.
+pub type Tried<T> = Result<T, Fault>;
+
+impl From<AllocError> for Fault {
+    fn from(_fault: AllocError) -> Fault {
+        Fault::NoMemory
+    }
+}
+
+impl<T: Drop> From<AllocFailed<T>> for Fault {
+    fn from(_fault: AllocFailed<T>) -> Fault {
+        Fault::NoMemory
+    }
+}

@@ -1,0 +1,97 @@
+//! The messages that clones are handed. Ranges are of the path `1`, and each tick inserts a triple of its own.
+ghost use Rattle.std.specs.Prelude.{IfOk};
+ghost use Rattle.mld_ops.specs.Messages.{message_value, snapshot_value, IsGoodMessage, IsGoodSnapshot};
+
+use crate::faults::{Fault, Tried};
+use mld_ops::{Entry, Give, Message, Snapshot, Tagged};
+use rdf_terms::{Triple, read_triple};
+use std::alloc::{AllocError, Global};
+use tree_clock::{Clock, Dot, Path, Range};
+use uuid::Uuid;
+
+/// The id of who asks for a leaf.
+pub fn second() -> Uuid {
+    Uuid::from_u128(2)
+}
+
+/// The path `1`.
+fn right() -> Path {
+    Path::root().child(true)
+}
+
+/// The triple of a name.
+pub fn triple_of(alloc: Global, name: &str) -> Tried<Triple> {
+    let text = format!(in alloc; "<http://d/{name}> <http://d/p> <http://d/o> .")?;
+    match read_triple(alloc, text.as_str()) {
+        Ok(triple) => Ok(triple),
+        Err(_fault) => Err(Fault::Amiss),
+    }
+}
+
+/// The clock of so many ticks of a path.
+fn clock_of(alloc: Global, path: Path, tick: u32) -> Result<Clock, AllocError> {
+    let mut clock = Clock::empty(alloc);
+    clock.reserve(&path)?;
+    clock.raise(&Dot { path, tick });
+    Ok(clock)
+}
+
+/// The triples that these ticks insert.
+fn inserts_of(alloc: Global, first: u32, last: u32) -> Tried<Vec<(Triple, u32)>> {
+    let mut inserts = Vec::new(alloc);
+    for tick in first..=last {
+        let name = format!(in alloc; "{tick}")?;
+        inserts.push((triple_of(alloc, name.as_str())?, tick))?;
+    }
+    Ok(inserts)
+}
+
+/// The range of these ticks.
+pub fn range(alloc: Global, first: u32, last: u32) -> Tried<Box<Message>>
+    ensures { IfOk result (λ message. IsGoodMessage (message_value message.value)) }
+{
+    let path = right();
+    let range = Range { path, first, last };
+    let time = clock_of(alloc, path, last)?;
+    let inserts = inserts_of(alloc, first, last)?;
+    match Entry::new(range, time, Vec::new(alloc), inserts) {
+        Some(entry) => Ok(Box::new(alloc, Message::Range(entry))?),
+        None => Err(Fault::Amiss),
+    }
+}
+
+/// What one has who knows so many ticks of a path, of which the triple of the last is left.
+fn snapshot_of(alloc: Global, path: Path, tick: u32) -> Tried<Snapshot>
+    ensures { IfOk result (λ snapshot. IsGoodSnapshot (snapshot_value snapshot)) }
+{
+    let dot = Dot { path, tick };
+    let name = format!(in alloc; "{tick}")?;
+    let triple = triple_of(alloc, name.as_str())?;
+    let clock = clock_of(alloc, path, tick)?;
+    if !clock.covers(&dot) {
+        return Err(Fault::Amiss);
+    }
+    let mut tagged = Vec::new(alloc);
+    tagged.push(Tagged { triple, dot })?;
+    Ok(Snapshot { clock, tagged })
+}
+
+/// The snapshot of one who knows so many ticks, of which the triple of the last is left.
+pub fn snapshot(alloc: Global, tick: u32) -> Tried<Box<Message>>
+    ensures { IfOk result (λ message. IsGoodMessage (message_value message.value)) }
+{
+    let snapshot = snapshot_of(alloc, right(), tick)?;
+    Ok(Box::new(alloc, Message::Snapshot(snapshot))?)
+}
+
+/// The leaf `1`, given to who asks by one who knows so many ticks of the path `0`, of which the triple of the last is left.
+pub fn leaf(alloc: Global, tick: u32) -> Tried<Box<Message>>
+    ensures { IfOk result (λ message. IsGoodMessage (message_value message.value)) }
+{
+    let give = Give {
+        id: second(),
+        path: right(),
+        snapshot: snapshot_of(alloc, Path::root().child(false), tick)?,
+    };
+    Ok(Box::new(alloc, Message::JoinGive(give))?)
+}
