@@ -13,7 +13,7 @@ use Rattle.schedule_model.specs.Runs.{Stage, Waiting, SetUp, Running, IsWorldOf,
 use Rattle.schedule_text.specs.declared.setups.Setup.{Setup}
 use Rattle.schedule_text.specs.declared.setups.SetupLine.{SetupLine}
 use Rattle.schedule_text.specs.declared.setups.SetupLine.TheVariants as lines
-use Rattle.schedule_model.specs.Schedule.{Setup as ModelSetup, SpellsSetup, SpellsCommand, IsSetup}
+use Rattle.schedule_model.specs.Schedule.{Setup as ModelSetup, SpellsSetup, SpellsAnywhere, IsSetup}
 use Rattle.schedule_text.specs.ReadLines.{setup_of, SetupIs, CommandIs}
 use Rattle.net_world.specs.Founding.{StandsFounded}
 use Rattle.net_world.specs.WorldBanks.{BankedWorld, StandsOnBanks}
@@ -62,7 +62,7 @@ waiting_count {B = B} log state blanks is stands = let P : RunningStage B → Ty
 
 -- it is a command
 pub commanded : {B : Type 0} (log : B → Option Log) (stage : Stage) (line : List ℕ) (command : Command) (old new : BankedWorld B) (text : List ℕ)
-    → SpellsCommand line command → Stepped log old command new [] text
+    → SpellsAnywhere line command → Stepped log old command new [] text
     → (model : World) → IsWorldOf stage model → StandsOnBanks log old model → IsSound model → ActsWell log stage line text (stages.Running new)
 commanded log stage line command old new text spells stepped model founds stands sound =
     let follows : FollowsOnBanks log model command stepped.reply new = stepped.follows model stands sound in
@@ -83,33 +83,33 @@ commanded log stage line command old new text spells stepped model founds stands
     }
 
 -- a line that was read as a command spells it
-pub spells_read : (line : List ℕ) (read : Option Command) (command : Command) → read ≡ Some command → CommandIs line read → SpellsCommand line command
-spells_read line read command is reads = let P : Option Command → Type 0 = λ c. CommandIs line c in subst P is reads
+pub spells_read : (domain line : List ℕ) (read : Option Command) (command : Command) → read ≡ Some command → CommandIs domain line read → SpellsAnywhere line command
+spells_read domain line read command is reads = let P : Option Command → Type 0 = λ c. CommandIs domain line c in subst P is reads
 
 -- it is a command, and the clones were just founded
 pub started : {B : Type 0} (log : B → Option Log) (stage : Stage) (line : List ℕ) (command : Command) (old new : BankedWorld B) (text : List ℕ)
-    → SpellsCommand line command → Stepped log old command new [] text → EndsWell log stage (stages.Running old) → ActsWell log stage line text (stages.Running new)
+    → SpellsAnywhere line command → Stepped log old command new [] text → EndsWell log stage (stages.Running old) → ActsWell log stage line text (stages.Running new)
 started log stage line command old new text spells stepped founded =
     commanded log stage line command old new text spells stepped founded.world founded.founds founded.stands.0 founded.stands.1
 
 -- so it is, whatever its step answered
 pub started_all : {B : Type 0} (log : B → Option Log) (result : Result (Unit {0}) LineStop) (state : RunningStage B) (command : Command) (old new : BankedWorld B) (text : List ℕ)
     → OnOk result (Stepped log old command new [] text) → ((stage : Stage) → StageStands log state stage → EndsWell log stage (stages.Running old))
-    → OnOk result ((stage : Stage) (line : List ℕ) → StageStands log state stage → SpellsCommand line command → ActsWell log stage line text (stages.Running new))
+    → OnOk result ((stage : Stage) (line : List ℕ) → StageStands log state stage → SpellsAnywhere line command → ActsWell log stage line text (stages.Running new))
 started_all log (Ok done) state command old new text stepped founded = λ stage line stands spells. started log stage line command old new text spells stepped (founded stage stands)
 started_all log (Err stop) state command old new text stepped founded = tt
 
 pub commanded_all : {B : Type 0} (log : B → Option Log) (result : Result (Unit {0}) LineStop) (line : List ℕ) (command : Command) (old new : BankedWorld B) (text : List ℕ)
-    → SpellsCommand line command → OnOk result (Stepped log old command new [] text)
+    → SpellsAnywhere line command → OnOk result (Stepped log old command new [] text)
     → OnOk result ((model : World) → StandsOnBanks log old model → IsSound model → ActsWell log (Running model) line text (stages.Running new))
 commanded_all log (Ok done) line command old new text spells stepped = λ model stands sound. commanded log (Running model) line command old new text spells stepped model refl stands sound
 commanded_all log (Err stop) line command old new text spells stepped = tt
 
 -- it says nothing
-pub nothing_said : {B : Type 0} (log : B → Option Log) (stage : Stage) (line : List ℕ) (read : Option Command) (running : RunningStage B) → read ≡ None → CommandIs line read
+pub nothing_said : {B : Type 0} (log : B → Option Log) (stage : Stage) (domain line : List ℕ) (read : Option Command) (running : RunningStage B) → read ≡ None → CommandIs domain line read
     → StageStands log running stage → ActsWell log stage line [] running
-nothing_said log stage line read running is reads stands =
-    let P : Option Command → Type 0 = λ c. CommandIs line c in
+nothing_said log stage domain line read running is reads stands =
+    let P : Option Command → Type 0 = λ c. CommandIs domain line c in
     record { next = stage; acts = says_nothing (subst P is reads) refl refl; stands = stands }
 
 -- ---- the stage that a state stands for

@@ -4,7 +4,7 @@ ghost use Rattle.mld_model.specs.World.{World as ModelWorld};
 ghost use Rattle.mld_model.specs.Sound.{IsSound};
 ghost use Rattle.net_world.specs.WorldBanks.{StandsOnBanks, banks_of};
 ghost use Rattle.schedule_model.specs.Runs.{Stage as ModelStage, Waiting, Running, IsBad, IsUnbuilt};
-ghost use Rattle.schedule_model.specs.Schedule.{SpellsCommand};
+ghost use Rattle.schedule_model.specs.Schedule.{SpellsAnywhere};
 ghost use Rattle.schedule_model.specs.Step.{HasCloneNumbers};
 ghost use Rattle.net_world.specs.Worlds.{IsStanding, Stepped};
 ghost use Rattle.schedule_model.specs.WorldStep.{step_limit};
@@ -118,7 +118,7 @@ fn start<R: Threads, B: CrashBanks>(
     requires set_up { IsSetUpState stage.old }
     requires numbers { HasCloneNumbers command.now }
     requires empty { reply.old.items ≡ [] }
-    ensures ok { OnOk result ((model : ModelStage) (line : List ℕ) → StageStands B.log stage.old model → SpellsCommand line command.now
+    ensures ok { OnOk result ((model : ModelStage) (line : List ℕ) → StageStands B.log stage.old model → SpellsAnywhere line command.now
         → ActsWell B.log model line reply.new.items stage.new) }
     ensures steps { OnOk result (steps_of stage.new ≡ 1) }
     ensures well { OnOk result (AreWell B.meter (banks_of_stage stage.old) (banks_of_stage stage.new)) }

@@ -45,7 +45,7 @@ world_once (Running now) world other p q = p ∙ sym q
 commands_once : (stage : Stage) (line text other : List ℕ) (next after : Stage)
     → Commands stage line text next → Commands stage line other after → (text ≡ other) × (next ≡ after)
 commands_once stage line text other next after p q =
-    let command = one_command line p.command q.command p.spells q.spells in
+    let command = one_command p.world.domain line p.command q.command p.spells q.spells in
     let world = world_once stage p.world q.world p.founds q.founds in
     let same = one_step q.world q.command p.reply q.reply p.after q.after
     (subst₂ (λ (world : World) (command : Command). Step world command p.reply p.after) world command p.steps) q.steps in
@@ -55,11 +55,11 @@ commands_once stage line text other next after p q =
 pub one_act : OneAct
 one_act stage line text other next after (says_nothing h none is) (says_nothing k too was) = (none ∙ sym too, is ∙ sym was)
 one_act stage line text other next after (says_nothing h none is) (sets_up q) = absurd ((one_kind line).nothing_setup h q.setup q.spells)
-one_act stage line text other next after (says_nothing h none is) (commands q) = absurd ((one_kind line).nothing_command h q.command q.spells)
+one_act stage line text other next after (says_nothing h none is) (commands q) = absurd ((one_kind line).nothing_command h q.world.domain q.command q.spells)
 one_act stage line text other next after (sets_up p) (says_nothing k too was) = absurd ((one_kind line).nothing_setup k p.setup p.spells)
 one_act stage line text other next after (sets_up p) (sets_up q) = sets_up_once line text other next after p q
 one_act stage line text other next after (sets_up p) (commands q) = absurd q.founds
-one_act stage line text other next after (commands p) (says_nothing k too was) = absurd ((one_kind line).nothing_command k p.command p.spells)
+one_act stage line text other next after (commands p) (says_nothing k too was) = absurd ((one_kind line).nothing_command k p.world.domain p.command p.spells)
 one_act stage line text other next after (commands p) (sets_up q) = absurd p.founds
 one_act stage line text other next after (commands p) (commands q) = commands_once stage line text other next after p q
 
@@ -77,7 +77,7 @@ acts_bad (Running world) line text next (commands p) bad = bad.2 p.command p.spe
 acts_unbuilt : (stage : Stage) (line text : List ℕ) (next : Stage) → Acts stage line text next → ¬ IsUnbuilt line
 acts_unbuilt stage line text next (says_nothing h none is) word = (one_kind line).nothing_unbuilt h word
 acts_unbuilt stage line text next (sets_up p) word = (one_kind line).unbuilt_setup word p.setup p.spells
-acts_unbuilt stage line text next (commands p) word = (one_kind line).unbuilt_command word p.command p.spells
+acts_unbuilt stage line text next (commands p) word = (one_kind line).unbuilt_command word p.world.domain p.command p.spells
 
 -- what is outside the grammar isn't among the lines that will be built
 bad_unbuilt : (stage : Stage) (line : List ℕ) → IsBad stage line → ¬ IsUnbuilt line

@@ -11,7 +11,7 @@ use Rattle.schedule_model.specs.Characters.{space, hash_mark}
 use Rattle.mld_model.specs.World.{clone_count}
 use Rattle.schedule_model.specs.declared.Command.{Command}
 use Rattle.schedule_model.specs.declared.Command.TheVariants.{Add, Remove, Deliver, Show, Compare, Join, Ask, Compact, Truncate, Stop, Open}
-use Rattle.schedule_model.specs.Schedule.{IsNothing, empty, comment, is_unbuilt, Setup, SpellsSetup, SpellsCommand}
+use Rattle.schedule_model.specs.Schedule.{IsNothing, empty, comment, is_unbuilt, Setup, SpellsSetup, SpellsAnywhere}
 use Rattle.schedule_model.proofs.LackingLaws.{Lacks, Lacks-from_test, one_split, apart, no_space}
 use Rattle.rdf_terms.proofs.Complete.{one_spelled}
 use Rattle.schedule_model.specs.Step.{HasCloneNumbers}
@@ -46,7 +46,7 @@ begins (Open number) = 111
 begins (Compare number other) = 99
 
 -- a command begins with that byte
-command_begins : (line : List ℕ) (command : Command) → SpellsCommand line command → (rest : List ℕ) × (line ≡ begins command ∷ rest)
+command_begins : (line : List ℕ) (command : Command) → SpellsAnywhere line command → (rest : List ℕ) × (line ≡ begins command ∷ rest)
 unfolding begins
 command_begins line (Add number triple) h = (_, h.1)
 command_begins line (Remove number triple) h = (_, h.1)
@@ -82,7 +82,7 @@ small : {number : ℕ} → number < clone_count → number < 2 ^ 64
 small h = omega arith
 
 -- the numbers of clones in a command that a line spells are those of clones that there are
-pub spells_numbers : (line : List ℕ) (command : Command) → SpellsCommand line command → HasCloneNumbers command
+pub spells_numbers : (line : List ℕ) (command : Command) → SpellsAnywhere line command → HasCloneNumbers command
 spells_numbers line (Add number triple) h = h.2
 spells_numbers line (Remove number triple) h = h.2
 spells_numbers line (Deliver message number) h = h.2
@@ -122,7 +122,7 @@ unfolding is_unbuilt
 unbuilt_setup line setup u h = false≢true (subst (λ (l : List ℕ). is_unbuilt l ≡ true) h.whole u)
 
 -- nor a command
-unbuilt_command : (line : List ℕ) (command : Command) → IsTrue (is_unbuilt line) → ¬ SpellsCommand line command
+unbuilt_command : (line : List ℕ) (command : Command) → IsTrue (is_unbuilt line) → ¬ SpellsAnywhere line command
 unfolding is_unbuilt
 unbuilt_command line (Add number triple) u h = false≢true (subst (λ (l : List ℕ). is_unbuilt l ≡ true) h.1 u)
 unbuilt_command line (Remove number triple) u h = false≢true (subst (λ (l : List ℕ). is_unbuilt l ≡ true) h.1 u)
@@ -139,7 +139,7 @@ unbuilt_command line (Compare number other) u h = false≢true (subst (λ (l : L
 -- ---- domain lines and commands
 
 -- no domain line is a command
-setup_command : (line : List ℕ) (setup : Setup) (command : Command) → SpellsSetup line setup → ¬ SpellsCommand line command
+setup_command : (line : List ℕ) (setup : Setup) (command : Command) → SpellsSetup line setup → ¬ SpellsAnywhere line command
 setup_command line setup (Add number triple) p q = apart p.whole q.1 refl
 setup_command line setup (Remove number triple) p q = apart p.whole q.1 refl
 setup_command line setup (Deliver message number) p q = apart (ap (drop 1) p.whole) (ap (drop 1) q.0) refl
@@ -157,10 +157,10 @@ pub one_kind : OneKind
 one_kind line = record {
   nothing_unbuilt = unbuilt_nothing line;
   nothing_setup = λ h setup spells. nothing_apart h spells.whole refl;
-  nothing_command = λ h command spells. let first = command_begins line command spells in nothing_apart h first.1 (begins_apart command);
+  nothing_command = λ h domain command spells. let first = command_begins line command spells in nothing_apart h first.1 (begins_apart command);
   unbuilt_setup = λ u setup. unbuilt_setup line setup u;
-  unbuilt_command = λ u command. unbuilt_command line command u;
-  setup_command = λ setup spells command. setup_command line setup command spells;
+  unbuilt_command = λ u domain command. unbuilt_command line command u;
+  setup_command = λ setup spells domain command. setup_command line setup command spells;
 }
 
 -- no name of a domain has a space
@@ -180,42 +180,42 @@ one_setup line setup other p q =
 -- a line spells one command
 pub one_command : OneCommand
 unfolding begins
-one_command line (Add number triple) (Add other second) p q =
+one_command domain line (Add number triple) (Add other second) p q =
     let parts = one_number number other p.0 q.0 (small p.2) (small q.2) (ap (drop 4) (sym p.1 ∙ q.1)) in
     let same = one_spelled q.0 triple second (subst (λ (text : List ℕ). SpellsTriple text triple) parts.1 p.4) q.4 in
     cc (parts.0, same)
-one_command line (Remove number triple) (Remove other second) p q =
+one_command domain line (Remove number triple) (Remove other second) p q =
     let parts = one_number number other p.0 q.0 (small p.2) (small q.2) (ap (drop 7) (sym p.1 ∙ q.1)) in
     let same = one_spelled q.0 triple second (subst (λ (text : List ℕ). SpellsTriple text triple) parts.1 p.4) q.4 in
     cc (parts.0, same)
-one_command line (Deliver message number) (Deliver other second) p q =
+one_command domain line (Deliver message number) (Deliver other second) p q =
     let parts = one_number message other (decimal number) (decimal second) p.1 q.1 (ap (drop 8) (sym p.0 ∙ q.0)) in
     let same = decimal_injective number second (small p.2) (small q.2) parts.1 in
     cc (parts.0, same)
-one_command line (Show number) (Show other) p q =
+one_command domain line (Show number) (Show other) p q =
     ap Show (decimal_injective number other (small p.1) (small q.1) (ap (drop 5) (sym p.0 ∙ q.0)))
-one_command line (Join number) (Join other) p q =
+one_command domain line (Join number) (Join other) p q =
     ap Join (decimal_injective number other (small p.1) (small q.1) (ap (drop 5) (sym p.0 ∙ q.0)))
-one_command line (Ask number) (Ask other) p q =
+one_command domain line (Ask number) (Ask other) p q =
     ap Ask (decimal_injective number other (small p.1) (small q.1) (ap (drop 4) (sym p.0 ∙ q.0)))
-one_command line (Compact number) (Compact other) p q =
+one_command domain line (Compact number) (Compact other) p q =
     ap Compact (decimal_injective number other (small p.1) (small q.1) (ap (drop 8) (sym p.0 ∙ q.0)))
-one_command line (Truncate number keep) (Truncate other second) p q =
+one_command domain line (Truncate number keep) (Truncate other second) p q =
     let parts = one_number number other (decimal keep) (decimal second) (small p.1) (small q.1) (ap (drop 9) (sym p.0 ∙ q.0)) in
     let same = decimal_injective keep second p.2 q.2 parts.1 in
     cc (parts.0, same)
-one_command line (Add number triple) (Ask other) p q = absurd (apart (ap (drop 1) p.1) (ap (drop 1) q.0) refl)
-one_command line (Ask number) (Add other triple) p q = absurd (apart (ap (drop 1) p.0) (ap (drop 1) q.1) refl)
-one_command line (Compare number with) (Compact other) p q = absurd (apart (ap (drop 5) p.0) (ap (drop 5) q.0) refl)
-one_command line (Compact number) (Compare other second) p q = absurd (apart (ap (drop 5) p.0) (ap (drop 5) q.0) refl)
-one_command line (Stop number) (Stop other) p q =
+one_command domain line (Add number triple) (Ask other) p q = absurd (apart (ap (drop 1) p.1) (ap (drop 1) q.0) refl)
+one_command domain line (Ask number) (Add other triple) p q = absurd (apart (ap (drop 1) p.0) (ap (drop 1) q.1) refl)
+one_command domain line (Compare number with) (Compact other) p q = absurd (apart (ap (drop 5) p.0) (ap (drop 5) q.0) refl)
+one_command domain line (Compact number) (Compare other second) p q = absurd (apart (ap (drop 5) p.0) (ap (drop 5) q.0) refl)
+one_command domain line (Stop number) (Stop other) p q =
     ap Stop (decimal_injective number other (small p.1) (small q.1) (ap (drop 5) (sym p.0 ∙ q.0)))
-one_command line (Open number) (Open other) p q =
+one_command domain line (Open number) (Open other) p q =
     ap Open (decimal_injective number other (small p.1) (small q.1) (ap (drop 5) (sym p.0 ∙ q.0)))
-one_command line (Show number) (Stop other) p q = absurd (apart (ap (drop 1) p.0) (ap (drop 1) q.0) refl)
-one_command line (Stop number) (Show other) p q = absurd (apart (ap (drop 1) p.0) (ap (drop 1) q.0) refl)
-one_command line (Compare number with) (Compare other second) p q =
+one_command domain line (Show number) (Stop other) p q = absurd (apart (ap (drop 1) p.0) (ap (drop 1) q.0) refl)
+one_command domain line (Stop number) (Show other) p q = absurd (apart (ap (drop 1) p.0) (ap (drop 1) q.0) refl)
+one_command domain line (Compare number with) (Compare other second) p q =
     let parts = one_number number other (decimal with) (decimal second) (small p.1) (small q.1) (ap (drop 8) (sym p.0 ∙ q.0)) in
     let same = decimal_injective with second (small p.2) (small q.2) parts.1 in
     cc (parts.0, same)
-one_command line command other p q = absurd (apart (command_begins line command p).1 (command_begins line other q).1 refl)
+one_command domain line command other p q = absurd (apart (command_begins line command p).1 (command_begins line other q).1 refl)

@@ -58,7 +58,7 @@ pub record IsAnswered (lines : List (List ℕ)) (number : ℕ) (dot : Dot) (worl
   -- it spells a command at the clone
   pub command : Command
   pub at : number ≡ number_of_clone command
-  pub spells : SpellsCommand line command
+  pub spells : SpellsCommand before.domain line command
   -- whose step has this answer
   pub message : ℕ
   pub after : World

@@ -24,10 +24,10 @@ use Rattle.schedule_model.specs.Runs.{Stage, Waiting, IsWorldOf, Acts, Runs, IsB
 pub record IsOfOneKind (line : List ℕ) : Type 0 where
   pub nothing_unbuilt : IsNothing line → ¬ IsTrue (is_unbuilt line)
   pub nothing_setup : IsNothing line → (setup : Setup) → ¬ SpellsSetup line setup
-  pub nothing_command : IsNothing line → (command : Command) → ¬ SpellsCommand line command
+  pub nothing_command : IsNothing line → (domain : List ℕ) (command : Command) → ¬ SpellsCommand domain line command
   pub unbuilt_setup : IsTrue (is_unbuilt line) → (setup : Setup) → ¬ SpellsSetup line setup
-  pub unbuilt_command : IsTrue (is_unbuilt line) → (command : Command) → ¬ SpellsCommand line command
-  pub setup_command : (setup : Setup) → SpellsSetup line setup → (command : Command) → ¬ SpellsCommand line command
+  pub unbuilt_command : IsTrue (is_unbuilt line) → (domain : List ℕ) (command : Command) → ¬ SpellsCommand domain line command
+  pub setup_command : (setup : Setup) → SpellsSetup line setup → (domain : List ℕ) (command : Command) → ¬ SpellsCommand domain line command
 
 -- each line is of at most one kind
 abbrev pub OneKind : Type 0
@@ -39,7 +39,7 @@ OneSetup = (line : List ℕ) (setup other : Setup) → SpellsSetup line setup �
 
 -- a line spells one command
 abbrev pub OneCommand : Type 0
-OneCommand = (line : List ℕ) (command other : Command) → SpellsCommand line command → SpellsCommand line other → command ≡ other
+OneCommand = (domain line : List ℕ) (command other : Command) → SpellsCommand domain line command → SpellsCommand domain line other → command ≡ other
 
 -- a step of a world by a command has one reply, and leads to one world
 abbrev pub OneStep : Type 0

@@ -42,7 +42,7 @@ pub record Commands (stage : Stage) (line text : List ℕ) (next : Stage) : Type
   pub command : Command
   pub reply : Reply
   pub after : World
-  pub spells : SpellsCommand line command
+  pub spells : SpellsCommand world.domain line command
   pub steps : Step world command reply after
   pub replies : text ≡ reply_text reply
   pub changes : next ≡ Running after
@@ -66,8 +66,8 @@ IsUnbuilt line = IsTrue (is_unbuilt line)
 -- the line spells none of what may come at this stage: a domain line while a schedule waits, and then a command
 abbrev pub SpellsNone : Stage → List ℕ → Type 0
 SpellsNone Waiting line = (setup : Setup) → ¬ SpellsSetup line setup
-SpellsNone (SetUp setup) line = (command : Command) → ¬ SpellsCommand line command
-SpellsNone (Running world) line = (command : Command) → ¬ SpellsCommand line command
+SpellsNone (SetUp setup) line = (command : Command) → ¬ SpellsCommand setup.domain line command
+SpellsNone (Running world) line = (command : Command) → ¬ SpellsCommand world.domain line command
 
 -- the line is outside the grammar at this stage, and isn't one that will be built
 abbrev pub IsBad : Stage → List ℕ → Type 0

@@ -61,23 +61,27 @@ pub record SpellsSetup (line : List ℕ) (setup : Setup) : Type 0 where
 abbrev pub IsCloneNumber : ℕ → Type 0
 IsCloneNumber number = number < clone_count
 
--- the line spells the command; a triple is the rest of its line
-abbrev pub SpellsCommand : List ℕ → Command → Type 0
-SpellsCommand line (Add number triple) =
+-- the line spells the command, whatever the domain is; a triple is the rest of its line
+abbrev pub SpellsAnywhere : List ℕ → Command → Type 0
+SpellsAnywhere line (Add number triple) =
     (text : List ℕ) × (line ≡ codes "add " ++ (decimal number ++ space ∷ text)) × IsCloneNumber number
     × IsUtf8 text × SpellsTriple text triple × IsTripleWithin triple
-SpellsCommand line (Remove number triple) =
+SpellsAnywhere line (Remove number triple) =
     (text : List ℕ) × (line ≡ codes "remove " ++ (decimal number ++ space ∷ text)) × IsCloneNumber number
     × IsUtf8 text × SpellsTriple text triple × IsTripleWithin triple
-SpellsCommand line (Deliver message number) =
+SpellsAnywhere line (Deliver message number) =
     (line ≡ codes "deliver " ++ (decimal message ++ space ∷ decimal number)) × (message < 2 ^ 64) × IsCloneNumber number
-SpellsCommand line (Show number) = (line ≡ codes "show " ++ decimal number) × IsCloneNumber number
-SpellsCommand line (Join number) = (line ≡ codes "join " ++ decimal number) × IsCloneNumber number
-SpellsCommand line (Ask number) = (line ≡ codes "ask " ++ decimal number) × IsCloneNumber number
-SpellsCommand line (Compact number) = (line ≡ codes "compact " ++ decimal number) × IsCloneNumber number
-SpellsCommand line (Truncate number keep) =
+SpellsAnywhere line (Show number) = (line ≡ codes "show " ++ decimal number) × IsCloneNumber number
+SpellsAnywhere line (Join number) = (line ≡ codes "join " ++ decimal number) × IsCloneNumber number
+SpellsAnywhere line (Ask number) = (line ≡ codes "ask " ++ decimal number) × IsCloneNumber number
+SpellsAnywhere line (Compact number) = (line ≡ codes "compact " ++ decimal number) × IsCloneNumber number
+SpellsAnywhere line (Truncate number keep) =
     (line ≡ codes "truncate " ++ (decimal number ++ space ∷ decimal keep)) × IsCloneNumber number × (keep < 2 ^ 64)
-SpellsCommand line (Stop number) = (line ≡ codes "stop " ++ decimal number) × IsCloneNumber number
-SpellsCommand line (Open number) = (line ≡ codes "open " ++ decimal number) × IsCloneNumber number
-SpellsCommand line (Compare number other) =
+SpellsAnywhere line (Stop number) = (line ≡ codes "stop " ++ decimal number) × IsCloneNumber number
+SpellsAnywhere line (Open number) = (line ≡ codes "open " ++ decimal number) × IsCloneNumber number
+SpellsAnywhere line (Compare number other) =
     (line ≡ codes "compare " ++ (decimal number ++ space ∷ decimal other)) × IsCloneNumber number × IsCloneNumber other
+
+-- the line spells the command in the domain of this name; each command is spelled alike in all domains
+abbrev pub SpellsCommand : List ℕ → List ℕ → Command → Type 0
+SpellsCommand domain line command = SpellsAnywhere line command

@@ -14,7 +14,7 @@ use Rattle.mld_model.specs.World.{clone_count}
 use Rattle.schedule_model.specs.declared.Command.{Command}
 use Rattle.schedule_model.specs.declared.Command.TheVariants.{Add, Remove, Deliver, Show, Compare, Join, Ask, Compact, Truncate, Stop, Open}
 use Rattle.schedule_model.proofs.LackingLaws.{Lacks, apart}
-use Rattle.schedule_model.specs.Schedule.{SpellsCommand}
+use Rattle.schedule_model.specs.Schedule.{SpellsAnywhere}
 use Rattle.schedule_text.specs.ReadLines.{IsTripleText, IsCloneAndTriple, IsAddRest, IsRemoveRest, IsDeliverRest, IsShowRest, IsCompareRest, IsJoinRest, IsAskRest, IsCompactRest, IsTruncateRest, IsStopRest, IsOpenRest}
 use Rattle.schedule_text.proofs.LinesText.{has_space}
 use Rattle.schedule_text.proofs.LinesNumbers.{small, number_first}
@@ -34,11 +34,11 @@ pub found_behind : (P Q : Command → Type 0) (found : Option Command) → ((com
 found_behind P Q None same h = λ command q. h command ((same command).1 q)
 found_behind P Q (Some command) same h = (same command).0 h
 
-add_there : (line rest : List ℕ) → line ≡ codes "add " ++ rest → (command : Command) → IsAddRest rest command → SpellsCommand line command
+add_there : (line rest : List ℕ) → line ≡ codes "add " ++ rest → (command : Command) → IsAddRest rest command → SpellsAnywhere line command
 add_there line rest e command h =
-    subst (λ (k : Command). SpellsCommand line k) (sym h.2) (h.3.text, e ∙ ap (λ (r : List ℕ). codes "add " ++ r) h.3.whole, h.3.clone, h.3.spelled.bytes, h.3.spelled.spelled, h.3.spelled.within)
+    subst (λ (k : Command). SpellsAnywhere line k) (sym h.2) (h.3.text, e ∙ ap (λ (r : List ℕ). codes "add " ++ r) h.3.whole, h.3.clone, h.3.spelled.bytes, h.3.spelled.spelled, h.3.spelled.within)
 
-add_back : (line rest : List ℕ) → line ≡ codes "add " ++ rest → (command : Command) → SpellsCommand line command → IsAddRest rest command
+add_back : (line rest : List ℕ) → line ≡ codes "add " ++ rest → (command : Command) → SpellsAnywhere line command → IsAddRest rest command
 add_back line rest e (Add number triple) h =
     (number, triple, refl, record { text = h.0; whole = ap (drop 4) (sym e ∙ h.1); clone = h.2; spelled = record { bytes = h.3; spelled = h.4; within = h.5 } })
 add_back line rest e (Remove number triple) h = absurd (apart e h.1 refl)
@@ -52,14 +52,14 @@ add_back line rest e (Truncate number keep) h = absurd (apart e h.0 refl)
 add_back line rest e (Stop number) h = absurd (apart e h.0 refl)
 add_back line rest e (Open number) h = absurd (apart e h.0 refl)
 
-pub add_behind : (line rest : List ℕ) → line ≡ codes "add " ++ rest → (command : Command) → IsAddRest rest command ↔ SpellsCommand line command
+pub add_behind : (line rest : List ℕ) → line ≡ codes "add " ++ rest → (command : Command) → IsAddRest rest command ↔ SpellsAnywhere line command
 add_behind line rest e command = (add_there line rest e command, add_back line rest e command)
 
-remove_there : (line rest : List ℕ) → line ≡ codes "remove " ++ rest → (command : Command) → IsRemoveRest rest command → SpellsCommand line command
+remove_there : (line rest : List ℕ) → line ≡ codes "remove " ++ rest → (command : Command) → IsRemoveRest rest command → SpellsAnywhere line command
 remove_there line rest e command h =
-    subst (λ (k : Command). SpellsCommand line k) (sym h.2) (h.3.text, e ∙ ap (λ (r : List ℕ). codes "remove " ++ r) h.3.whole, h.3.clone, h.3.spelled.bytes, h.3.spelled.spelled, h.3.spelled.within)
+    subst (λ (k : Command). SpellsAnywhere line k) (sym h.2) (h.3.text, e ∙ ap (λ (r : List ℕ). codes "remove " ++ r) h.3.whole, h.3.clone, h.3.spelled.bytes, h.3.spelled.spelled, h.3.spelled.within)
 
-remove_back : (line rest : List ℕ) → line ≡ codes "remove " ++ rest → (command : Command) → SpellsCommand line command → IsRemoveRest rest command
+remove_back : (line rest : List ℕ) → line ≡ codes "remove " ++ rest → (command : Command) → SpellsAnywhere line command → IsRemoveRest rest command
 remove_back line rest e (Add number triple) h = absurd (apart e h.1 refl)
 remove_back line rest e (Remove number triple) h =
     (number, triple, refl, record { text = h.0; whole = ap (drop 7) (sym e ∙ h.1); clone = h.2; spelled = record { bytes = h.3; spelled = h.4; within = h.5 } })
@@ -73,14 +73,14 @@ remove_back line rest e (Truncate number keep) h = absurd (apart e h.0 refl)
 remove_back line rest e (Stop number) h = absurd (apart e h.0 refl)
 remove_back line rest e (Open number) h = absurd (apart e h.0 refl)
 
-pub remove_behind : (line rest : List ℕ) → line ≡ codes "remove " ++ rest → (command : Command) → IsRemoveRest rest command ↔ SpellsCommand line command
+pub remove_behind : (line rest : List ℕ) → line ≡ codes "remove " ++ rest → (command : Command) → IsRemoveRest rest command ↔ SpellsAnywhere line command
 remove_behind line rest e command = (remove_there line rest e command, remove_back line rest e command)
 
-deliver_there : (line rest : List ℕ) → line ≡ codes "deliver " ++ rest → (command : Command) → IsDeliverRest rest command → SpellsCommand line command
+deliver_there : (line rest : List ℕ) → line ≡ codes "deliver " ++ rest → (command : Command) → IsDeliverRest rest command → SpellsAnywhere line command
 deliver_there line rest e command h =
-    subst (λ (k : Command). SpellsCommand line k) (sym h.2) (e ∙ ap (λ (r : List ℕ). codes "deliver " ++ r) h.3, h.4, h.5)
+    subst (λ (k : Command). SpellsAnywhere line k) (sym h.2) (e ∙ ap (λ (r : List ℕ). codes "deliver " ++ r) h.3, h.4, h.5)
 
-deliver_back : (line rest : List ℕ) → line ≡ codes "deliver " ++ rest → (command : Command) → SpellsCommand line command → IsDeliverRest rest command
+deliver_back : (line rest : List ℕ) → line ≡ codes "deliver " ++ rest → (command : Command) → SpellsAnywhere line command → IsDeliverRest rest command
 deliver_back line rest e (Add number triple) h = absurd (apart e h.1 refl)
 deliver_back line rest e (Remove number triple) h = absurd (apart e h.1 refl)
 deliver_back line rest e (Deliver message number) h = (message, number, refl, ap (drop 8) (sym e ∙ h.0), h.1, h.2)
@@ -93,14 +93,14 @@ deliver_back line rest e (Truncate number keep) h = absurd (apart e h.0 refl)
 deliver_back line rest e (Stop number) h = absurd (apart e h.0 refl)
 deliver_back line rest e (Open number) h = absurd (apart e h.0 refl)
 
-pub deliver_behind : (line rest : List ℕ) → line ≡ codes "deliver " ++ rest → (command : Command) → IsDeliverRest rest command ↔ SpellsCommand line command
+pub deliver_behind : (line rest : List ℕ) → line ≡ codes "deliver " ++ rest → (command : Command) → IsDeliverRest rest command ↔ SpellsAnywhere line command
 deliver_behind line rest e command = (deliver_there line rest e command, deliver_back line rest e command)
 
-show_there : (line rest : List ℕ) → line ≡ codes "show " ++ rest → (command : Command) → IsShowRest rest command → SpellsCommand line command
+show_there : (line rest : List ℕ) → line ≡ codes "show " ++ rest → (command : Command) → IsShowRest rest command → SpellsAnywhere line command
 show_there line rest e command h =
-    subst (λ (k : Command). SpellsCommand line k) (sym h.1) (e ∙ ap (λ (r : List ℕ). codes "show " ++ r) h.2, h.3)
+    subst (λ (k : Command). SpellsAnywhere line k) (sym h.1) (e ∙ ap (λ (r : List ℕ). codes "show " ++ r) h.2, h.3)
 
-show_back : (line rest : List ℕ) → line ≡ codes "show " ++ rest → (command : Command) → SpellsCommand line command → IsShowRest rest command
+show_back : (line rest : List ℕ) → line ≡ codes "show " ++ rest → (command : Command) → SpellsAnywhere line command → IsShowRest rest command
 show_back line rest e (Add number triple) h = absurd (apart e h.1 refl)
 show_back line rest e (Remove number triple) h = absurd (apart e h.1 refl)
 show_back line rest e (Deliver message number) h = absurd (apart e h.0 refl)
@@ -113,14 +113,14 @@ show_back line rest e (Truncate number keep) h = absurd (apart e h.0 refl)
 show_back line rest e (Stop number) h = absurd (apart (ap (drop 1) e) (ap (drop 1) h.0) refl)
 show_back line rest e (Open number) h = absurd (apart e h.0 refl)
 
-pub show_behind : (line rest : List ℕ) → line ≡ codes "show " ++ rest → (command : Command) → IsShowRest rest command ↔ SpellsCommand line command
+pub show_behind : (line rest : List ℕ) → line ≡ codes "show " ++ rest → (command : Command) → IsShowRest rest command ↔ SpellsAnywhere line command
 show_behind line rest e command = (show_there line rest e command, show_back line rest e command)
 
-compare_there : (line rest : List ℕ) → line ≡ codes "compare " ++ rest → (command : Command) → IsCompareRest rest command → SpellsCommand line command
+compare_there : (line rest : List ℕ) → line ≡ codes "compare " ++ rest → (command : Command) → IsCompareRest rest command → SpellsAnywhere line command
 compare_there line rest e command h =
-    subst (λ (k : Command). SpellsCommand line k) (sym h.2) (e ∙ ap (λ (r : List ℕ). codes "compare " ++ r) h.3, h.4, h.5)
+    subst (λ (k : Command). SpellsAnywhere line k) (sym h.2) (e ∙ ap (λ (r : List ℕ). codes "compare " ++ r) h.3, h.4, h.5)
 
-compare_back : (line rest : List ℕ) → line ≡ codes "compare " ++ rest → (command : Command) → SpellsCommand line command → IsCompareRest rest command
+compare_back : (line rest : List ℕ) → line ≡ codes "compare " ++ rest → (command : Command) → SpellsAnywhere line command → IsCompareRest rest command
 compare_back line rest e (Add number triple) h = absurd (apart e h.1 refl)
 compare_back line rest e (Remove number triple) h = absurd (apart e h.1 refl)
 compare_back line rest e (Deliver message number) h = absurd (apart e h.0 refl)
@@ -133,14 +133,14 @@ compare_back line rest e (Truncate number keep) h = absurd (apart e h.0 refl)
 compare_back line rest e (Stop number) h = absurd (apart e h.0 refl)
 compare_back line rest e (Open number) h = absurd (apart e h.0 refl)
 
-pub compare_behind : (line rest : List ℕ) → line ≡ codes "compare " ++ rest → (command : Command) → IsCompareRest rest command ↔ SpellsCommand line command
+pub compare_behind : (line rest : List ℕ) → line ≡ codes "compare " ++ rest → (command : Command) → IsCompareRest rest command ↔ SpellsAnywhere line command
 compare_behind line rest e command = (compare_there line rest e command, compare_back line rest e command)
 
-join_there : (line rest : List ℕ) → line ≡ codes "join " ++ rest → (command : Command) → IsJoinRest rest command → SpellsCommand line command
+join_there : (line rest : List ℕ) → line ≡ codes "join " ++ rest → (command : Command) → IsJoinRest rest command → SpellsAnywhere line command
 join_there line rest e command h =
-    subst (λ (k : Command). SpellsCommand line k) (sym h.1) (e ∙ ap (λ (r : List ℕ). codes "join " ++ r) h.2, h.3)
+    subst (λ (k : Command). SpellsAnywhere line k) (sym h.1) (e ∙ ap (λ (r : List ℕ). codes "join " ++ r) h.2, h.3)
 
-join_back : (line rest : List ℕ) → line ≡ codes "join " ++ rest → (command : Command) → SpellsCommand line command → IsJoinRest rest command
+join_back : (line rest : List ℕ) → line ≡ codes "join " ++ rest → (command : Command) → SpellsAnywhere line command → IsJoinRest rest command
 join_back line rest e (Add number triple) h = absurd (apart e h.1 refl)
 join_back line rest e (Remove number triple) h = absurd (apart e h.1 refl)
 join_back line rest e (Deliver message number) h = absurd (apart e h.0 refl)
@@ -153,14 +153,14 @@ join_back line rest e (Truncate number keep) h = absurd (apart e h.0 refl)
 join_back line rest e (Stop number) h = absurd (apart e h.0 refl)
 join_back line rest e (Open number) h = absurd (apart e h.0 refl)
 
-pub join_behind : (line rest : List ℕ) → line ≡ codes "join " ++ rest → (command : Command) → IsJoinRest rest command ↔ SpellsCommand line command
+pub join_behind : (line rest : List ℕ) → line ≡ codes "join " ++ rest → (command : Command) → IsJoinRest rest command ↔ SpellsAnywhere line command
 join_behind line rest e command = (join_there line rest e command, join_back line rest e command)
 
-ask_there : (line rest : List ℕ) → line ≡ codes "ask " ++ rest → (command : Command) → IsAskRest rest command → SpellsCommand line command
+ask_there : (line rest : List ℕ) → line ≡ codes "ask " ++ rest → (command : Command) → IsAskRest rest command → SpellsAnywhere line command
 ask_there line rest e command h =
-    subst (λ (k : Command). SpellsCommand line k) (sym h.1) (e ∙ ap (λ (r : List ℕ). codes "ask " ++ r) h.2, h.3)
+    subst (λ (k : Command). SpellsAnywhere line k) (sym h.1) (e ∙ ap (λ (r : List ℕ). codes "ask " ++ r) h.2, h.3)
 
-ask_back : (line rest : List ℕ) → line ≡ codes "ask " ++ rest → (command : Command) → SpellsCommand line command → IsAskRest rest command
+ask_back : (line rest : List ℕ) → line ≡ codes "ask " ++ rest → (command : Command) → SpellsAnywhere line command → IsAskRest rest command
 ask_back line rest e (Add number triple) h = absurd (apart (ap (drop 1) e) (ap (drop 1) h.1) refl)
 ask_back line rest e (Remove number triple) h = absurd (apart e h.1 refl)
 ask_back line rest e (Deliver message number) h = absurd (apart e h.0 refl)
@@ -173,14 +173,14 @@ ask_back line rest e (Truncate number keep) h = absurd (apart e h.0 refl)
 ask_back line rest e (Stop number) h = absurd (apart e h.0 refl)
 ask_back line rest e (Open number) h = absurd (apart e h.0 refl)
 
-pub ask_behind : (line rest : List ℕ) → line ≡ codes "ask " ++ rest → (command : Command) → IsAskRest rest command ↔ SpellsCommand line command
+pub ask_behind : (line rest : List ℕ) → line ≡ codes "ask " ++ rest → (command : Command) → IsAskRest rest command ↔ SpellsAnywhere line command
 ask_behind line rest e command = (ask_there line rest e command, ask_back line rest e command)
 
-compact_there : (line rest : List ℕ) → line ≡ codes "compact " ++ rest → (command : Command) → IsCompactRest rest command → SpellsCommand line command
+compact_there : (line rest : List ℕ) → line ≡ codes "compact " ++ rest → (command : Command) → IsCompactRest rest command → SpellsAnywhere line command
 compact_there line rest e command h =
-    subst (λ (k : Command). SpellsCommand line k) (sym h.1) (e ∙ ap (λ (r : List ℕ). codes "compact " ++ r) h.2, h.3)
+    subst (λ (k : Command). SpellsAnywhere line k) (sym h.1) (e ∙ ap (λ (r : List ℕ). codes "compact " ++ r) h.2, h.3)
 
-compact_back : (line rest : List ℕ) → line ≡ codes "compact " ++ rest → (command : Command) → SpellsCommand line command → IsCompactRest rest command
+compact_back : (line rest : List ℕ) → line ≡ codes "compact " ++ rest → (command : Command) → SpellsAnywhere line command → IsCompactRest rest command
 compact_back line rest e (Add number triple) h = absurd (apart e h.1 refl)
 compact_back line rest e (Remove number triple) h = absurd (apart e h.1 refl)
 compact_back line rest e (Deliver message number) h = absurd (apart e h.0 refl)
@@ -193,14 +193,14 @@ compact_back line rest e (Truncate number keep) h = absurd (apart e h.0 refl)
 compact_back line rest e (Stop number) h = absurd (apart e h.0 refl)
 compact_back line rest e (Open number) h = absurd (apart e h.0 refl)
 
-pub compact_behind : (line rest : List ℕ) → line ≡ codes "compact " ++ rest → (command : Command) → IsCompactRest rest command ↔ SpellsCommand line command
+pub compact_behind : (line rest : List ℕ) → line ≡ codes "compact " ++ rest → (command : Command) → IsCompactRest rest command ↔ SpellsAnywhere line command
 compact_behind line rest e command = (compact_there line rest e command, compact_back line rest e command)
 
-truncate_there : (line rest : List ℕ) → line ≡ codes "truncate " ++ rest → (command : Command) → IsTruncateRest rest command → SpellsCommand line command
+truncate_there : (line rest : List ℕ) → line ≡ codes "truncate " ++ rest → (command : Command) → IsTruncateRest rest command → SpellsAnywhere line command
 truncate_there line rest e command h =
-    subst (λ (k : Command). SpellsCommand line k) (sym h.2) (e ∙ ap (λ (r : List ℕ). codes "truncate " ++ r) h.3, h.4, h.5)
+    subst (λ (k : Command). SpellsAnywhere line k) (sym h.2) (e ∙ ap (λ (r : List ℕ). codes "truncate " ++ r) h.3, h.4, h.5)
 
-truncate_back : (line rest : List ℕ) → line ≡ codes "truncate " ++ rest → (command : Command) → SpellsCommand line command → IsTruncateRest rest command
+truncate_back : (line rest : List ℕ) → line ≡ codes "truncate " ++ rest → (command : Command) → SpellsAnywhere line command → IsTruncateRest rest command
 truncate_back line rest e (Add number triple) h = absurd (apart e h.1 refl)
 truncate_back line rest e (Remove number triple) h = absurd (apart e h.1 refl)
 truncate_back line rest e (Deliver message number) h = absurd (apart e h.0 refl)
@@ -213,14 +213,14 @@ truncate_back line rest e (Truncate number keep) h = (number, keep, refl, ap (dr
 truncate_back line rest e (Stop number) h = absurd (apart e h.0 refl)
 truncate_back line rest e (Open number) h = absurd (apart e h.0 refl)
 
-pub truncate_behind : (line rest : List ℕ) → line ≡ codes "truncate " ++ rest → (command : Command) → IsTruncateRest rest command ↔ SpellsCommand line command
+pub truncate_behind : (line rest : List ℕ) → line ≡ codes "truncate " ++ rest → (command : Command) → IsTruncateRest rest command ↔ SpellsAnywhere line command
 truncate_behind line rest e command = (truncate_there line rest e command, truncate_back line rest e command)
 
-stop_there : (line rest : List ℕ) → line ≡ codes "stop " ++ rest → (command : Command) → IsStopRest rest command → SpellsCommand line command
+stop_there : (line rest : List ℕ) → line ≡ codes "stop " ++ rest → (command : Command) → IsStopRest rest command → SpellsAnywhere line command
 stop_there line rest e command h =
-    subst (λ (k : Command). SpellsCommand line k) (sym h.1) (e ∙ ap (λ (r : List ℕ). codes "stop " ++ r) h.2, h.3)
+    subst (λ (k : Command). SpellsAnywhere line k) (sym h.1) (e ∙ ap (λ (r : List ℕ). codes "stop " ++ r) h.2, h.3)
 
-stop_back : (line rest : List ℕ) → line ≡ codes "stop " ++ rest → (command : Command) → SpellsCommand line command → IsStopRest rest command
+stop_back : (line rest : List ℕ) → line ≡ codes "stop " ++ rest → (command : Command) → SpellsAnywhere line command → IsStopRest rest command
 stop_back line rest e (Add number triple) h = absurd (apart e h.1 refl)
 stop_back line rest e (Remove number triple) h = absurd (apart e h.1 refl)
 stop_back line rest e (Deliver message number) h = absurd (apart e h.0 refl)
@@ -233,14 +233,14 @@ stop_back line rest e (Truncate number keep) h = absurd (apart e h.0 refl)
 stop_back line rest e (Stop number) h = (number, refl, ap (drop 5) (sym e ∙ h.0), h.1)
 stop_back line rest e (Open number) h = absurd (apart e h.0 refl)
 
-pub stop_behind : (line rest : List ℕ) → line ≡ codes "stop " ++ rest → (command : Command) → IsStopRest rest command ↔ SpellsCommand line command
+pub stop_behind : (line rest : List ℕ) → line ≡ codes "stop " ++ rest → (command : Command) → IsStopRest rest command ↔ SpellsAnywhere line command
 stop_behind line rest e command = (stop_there line rest e command, stop_back line rest e command)
 
-open_there : (line rest : List ℕ) → line ≡ codes "open " ++ rest → (command : Command) → IsOpenRest rest command → SpellsCommand line command
+open_there : (line rest : List ℕ) → line ≡ codes "open " ++ rest → (command : Command) → IsOpenRest rest command → SpellsAnywhere line command
 open_there line rest e command h =
-    subst (λ (k : Command). SpellsCommand line k) (sym h.1) (e ∙ ap (λ (r : List ℕ). codes "open " ++ r) h.2, h.3)
+    subst (λ (k : Command). SpellsAnywhere line k) (sym h.1) (e ∙ ap (λ (r : List ℕ). codes "open " ++ r) h.2, h.3)
 
-open_back : (line rest : List ℕ) → line ≡ codes "open " ++ rest → (command : Command) → SpellsCommand line command → IsOpenRest rest command
+open_back : (line rest : List ℕ) → line ≡ codes "open " ++ rest → (command : Command) → SpellsAnywhere line command → IsOpenRest rest command
 open_back line rest e (Add number triple) h = absurd (apart e h.1 refl)
 open_back line rest e (Remove number triple) h = absurd (apart e h.1 refl)
 open_back line rest e (Deliver message number) h = absurd (apart e h.0 refl)
@@ -253,7 +253,7 @@ open_back line rest e (Truncate number keep) h = absurd (apart e h.0 refl)
 open_back line rest e (Stop number) h = absurd (apart e h.0 refl)
 open_back line rest e (Open number) h = (number, refl, ap (drop 5) (sym e ∙ h.0), h.1)
 
-pub open_behind : (line rest : List ℕ) → line ≡ codes "open " ++ rest → (command : Command) → IsOpenRest rest command ↔ SpellsCommand line command
+pub open_behind : (line rest : List ℕ) → line ≡ codes "open " ++ rest → (command : Command) → IsOpenRest rest command ↔ SpellsAnywhere line command
 open_behind line rest e command = (open_there line rest e command, open_back line rest e command)
 
 -- ---- the parts of a command

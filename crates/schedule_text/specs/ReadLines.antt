@@ -36,14 +36,14 @@ abbrev pub IsUnbuiltSetup : List ℕ → Option Setup → Type 0
 IsUnbuiltSetup line None = IsUnbuilt line
 IsUnbuiltSetup line (Some setup) = ⊥
 
--- a line that was read behind the domain line: it says nothing, or it is a command
-abbrev pub CommandIs : List ℕ → Option Command → Type 0
-CommandIs line None = IsNothing line
-CommandIs line (Some command) = SpellsCommand line command
+-- a line that was read behind the domain line of this domain: it says nothing, or it is a command
+abbrev pub CommandIs : List ℕ → List ℕ → Option Command → Type 0
+CommandIs domain line None = IsNothing line
+CommandIs domain line (Some command) = SpellsCommand domain line command
 
 -- it is outside the grammar, and isn't one that will be built
-abbrev pub IsBadCommand : List ℕ → Type 0
-IsBadCommand line = ¬ IsNothing line × ¬ IsTrue (is_unbuilt line) × ((command : Command) → ¬ SpellsCommand line command)
+abbrev pub IsBadCommand : List ℕ → List ℕ → Type 0
+IsBadCommand domain line = ¬ IsNothing line × ¬ IsTrue (is_unbuilt line) × ((command : Command) → ¬ SpellsCommand domain line command)
 
 -- the text of a triple within the limits
 pub record IsTripleText (text : List ℕ) (triple : Triple) : Type 0 where

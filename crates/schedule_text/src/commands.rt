@@ -2,7 +2,7 @@
 ghost use Rattle.std.specs.Prelude.{ℕ, IsTrue, IfOk, IsErrOf, MatchOption};
 ghost use Rattle.iri_rules.specs.Domain.{is_domain};
 ghost use Rattle.rdf_terms.specs.declared.terms.Triple.{Triple};
-ghost use Rattle.schedule_model.specs.Schedule.{is_unbuilt, SpellsCommand};
+ghost use Rattle.schedule_model.specs.Schedule.{is_unbuilt, SpellsAnywhere};
 ghost use Rattle.schedule_model.specs.declared.Command.{Command};
 ghost use Rattle.schedule_text.specs.ReadLines.{CommandIs, IsBadCommand, IsTripleText, IsCloneAndTriple, IsAddRest, IsRemoveRest, IsDeliverRest, IsShowRest, IsCompareRest, IsJoinRest, IsAskRest, IsCompactRest, IsTruncateRest, IsStopRest, IsOpenRest};
 
@@ -20,8 +20,8 @@ pub fn read_command(
     _domain: &str,
 ) -> Result<Option<Command>, LineRefusal>
     requires { IsTrue (is_domain _domain.now) }
-    ensures ok { IfOk result (CommandIs line.now) }
-    ensures bad { IsErrOf result LineRefusal.BadLine → IsBadCommand line.now }
+    ensures ok { IfOk result (CommandIs _domain.now line.now) }
+    ensures bad { IsErrOf result LineRefusal.BadLine → IsBadCommand _domain.now line.now }
     ensures unbuilt { IsErrOf result LineRefusal.Unbuilt → IsTrue (is_unbuilt line.now) }
 {
     if is_nothing(line) {
@@ -38,7 +38,7 @@ pub fn read_command(
 
 /// The command of a line, where the line spells one.
 fn command_of(alloc: Global, line: &[u8]) -> Result<Option<Command>, AllocError>
-    ensures { IfOk result (λ found. MatchOption found ((command : Command) → ¬ SpellsCommand line.now command) (λ command. SpellsCommand line.now command)) }
+    ensures { IfOk result (λ found. MatchOption found ((command : Command) → ¬ SpellsAnywhere line.now command) (λ command. SpellsAnywhere line.now command)) }
 {
     if let Some(rest) = behind(line, b"add ") {
         return read_add(alloc, rest);

@@ -7,7 +7,7 @@ use Rattle.mld_replay.proofs.stages.act.Goals as goal
 
 pub returns-in-None-clause-ok : goal.returns-in-None-clause-ok
 returns-in-None-clause-ok g c = λ model stands.
-    rw c.clear.ensures.items (nothing_said g.B.Banks.log model c.args.line.now c.in_ok-read_command-in-SetUp.field-0 (stages.SetUp c.in-SetUp.setup c.in-SetUp.field-1) c.in-None.is
+    rw c.clear.ensures.items (nothing_said g.B.Banks.log model c.as_str.result.now c.args.line.now c.in_ok-read_command-in-SetUp.field-0 (stages.SetUp c.in-SetUp.setup c.in-SetUp.field-1) c.in-None.is
     c.in_ok-read_command-in-SetUp.ensures.ok (subst (λ state. StageStands g.B.Banks.log state model) c.in-SetUp.is stands))
 
 pub returns-in-Running-clause-bad : goal.returns-in-Running-clause-bad
