@@ -9,7 +9,7 @@ use Rattle.mld_ops.specs.Messages.{IsGoodSnapshot}
 use Rattle.journal_sides.specs.Heads.{HeadValue}
 use Rattle.mld_model.specs.Local.{IsLocal, IsNamed, LeadsTo}
 use Rattle.suset.specs.SnapshotJoin.{CoversAll}
-use Rattle.clone_core.specs.Beginning.{found_clone}
+use Rattle.clone_core.specs.FoundClone.{found_clone}
 use Rattle.clone_plans.specs.declared.replays.Replayed.{Replayed}
 
 none_held : 0 ≤ held_limit

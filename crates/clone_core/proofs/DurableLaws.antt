@@ -23,7 +23,7 @@ use Rattle.journal_sides.specs.Heads.{HeadValue}
 use Rattle.clone_banks.proofs.MeterLaws.{Metered-none}
 use Rattle.clone_banks.proofs.RefusedLaws.{none_some, ok_err}
 use Rattle.clone_core.specs.Banked.{BankedClone, kept_as}
-use Rattle.clone_core.specs.Closing.{update_stop, receive_stop}
+use Rattle.clone_core.specs.CloneClosing.{update_stop, receive_stop}
 use Rattle.causal_buffer.specs.declared.faults.HeldFault.{HeldFault}
 use Rattle.causal_buffer.specs.declared.faults.HeldFault.TheVariants as held
 use Rattle.mld_ops.specs.declared.messages.Message.TheVariants as message
@@ -31,8 +31,8 @@ use Rattle.clone_core.specs.declared.answers.Got.{Got}
 use Rattle.clone_core.specs.CloneFaults.{fault_of_held, update_fault_of, receive_fault_of, receive_fault_of_swap, keep_fault_of}
 use Rattle.mld_ops.specs.Effects.{EffectValue}
 use Rattle.clone_plans.specs.Making.{IsEntryOf}
-use Rattle.clone_core.specs.Durable.{Changes, Creates, RefusedSteps, AppendsOwn, UpdateSteps, WouldReceive}
-use Rattle.clone_core.specs.Parts.{MakesDone, MakeSteps}
+use Rattle.clone_core.specs.DurableCalls.{Changes, Creates, RefusedSteps, AppendsOwn, UpdateSteps, WouldReceive}
+use Rattle.clone_core.specs.CallParts.{MakesDone, MakeSteps}
 use Rattle.clone_core.specs.declared.answers.Done.{Done}
 use Rattle.clone_core.specs.declared.answers.Done.TheVariants as done
 use Rattle.clone_core.specs.declared.faults.KeepFault.TheVariants as keep

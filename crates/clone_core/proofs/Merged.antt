@@ -15,7 +15,7 @@ use Rattle.clone_plans.proofs.ReadyLaws.{leads_ready}
 use Rattle.journal_sides.specs.Heads.{HeadValue}
 use Rattle.clone_banks.specs.KeptSteps.{Swapped, appends}
 use Rattle.clone_core.specs.Banked.{head_over}
-use Rattle.clone_core.specs.Durable.{merging_steps}
+use Rattle.clone_core.specs.DurableCalls.{merged_steps}
 use Rattle.clone_core.specs.CloneFaults.{receive_fault_of_swap}
 use Rattle.clone_core.specs.declared.faults.ReceiveFault.TheVariants as fault
 use Rattle.clone_core.proofs.DurableLaws.{err_same}
@@ -62,7 +62,7 @@ module _ (old : LocalClone) (snapshot : SnapshotValue) (merge : Merge) (of : IsM
   -- the step that the clone would make, by a swap and an append for each entry
   pub merged_step : ¬ KnowsSnapshot old snapshot → (head : HeadValue) → head ≡ head_over old merge.base.ticks merge.base_pairs.items
       → (entries : List EntryValue) → entries ≡ merge.after.entries.items
-      → (new : LocalClone) × (ranges : List Range) × LocallyMerges old snapshot new ranges × (Swapped head [] ∷ appends entries ≡ merging_steps new)
+      → (new : LocalClone) × (ranges : List Range) × LocallyMerges old snapshot new ranges × (Swapped head [] ∷ appends entries ≡ merged_steps new)
   merged_step lacks head head_is entries are = (
     merged_clone (left_of merge.after.left old.held) refl,
     merge.after.ranges,

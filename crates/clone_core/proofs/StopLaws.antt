@@ -11,8 +11,8 @@ use Rattle.journal_store.specs.declared.faults.Why.TheVariants as why
 use Rattle.mld_model.specs.Local.{LocalClone}
 use Rattle.clone_core.specs.Banked.{BankedClone}
 use Rattle.clone_core.specs.CloneFaults.{update_fault_of, receive_fault_of, receive_fault_of_swap, keep_fault_of}
-use Rattle.clone_core.specs.Closing.{Shuts, LeavesClone, update_stop, receive_stop}
-use Rattle.clone_core.specs.Parts.{StopsClone, StopsMerge, StopsKeep}
+use Rattle.clone_core.specs.CloneClosing.{Shuts, LeavesClone, update_stop, receive_stop}
+use Rattle.clone_core.specs.CallParts.{StopsClone, StopsMerge, StopsKeep}
 use Rattle.clone_banks.proofs.RefusedLaws.{none_some}
 
 -- a clone on its journal

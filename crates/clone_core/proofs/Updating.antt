@@ -10,7 +10,7 @@ use Rattle.mld_model.specs.Local.{LocalClone, LocallyMakes, next_dot}
 use Rattle.clone_plans.specs.Making.{IsEntryOf}
 use Rattle.clone_plans.proofs.MakingLaws.{effect_cut}
 use Rattle.clone_core.specs.CloneCalls.{LocallyUpdates}
-use Rattle.clone_core.specs.Parts.{MakesEntry, MakesDone}
+use Rattle.clone_core.specs.CallParts.{MakesEntry, MakesDone}
 use Rattle.clone_core.specs.declared.answers.Done.{Done}
 use Rattle.clone_core.specs.declared.answers.Done.TheVariants as done
 

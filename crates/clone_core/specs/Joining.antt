@@ -12,7 +12,7 @@ use Rattle.journal_store.specs.declared.faults.MakeFault.TheVariants as make
 use Rattle.mld_model.specs.Local.{LocalClone, LocalAsker, LocallyForks, joined_clone}
 use Rattle.clone_banks.specs.BankCalls.{create_calls}
 use Rattle.clone_core.specs.Banked.{BankedAsker}
-use Rattle.clone_core.specs.Closing.{GivesBack}
+use Rattle.clone_core.specs.CloneClosing.{GivesBanksBack}
 use Rattle.clone_core.specs.declared.askers.Adopted.{Adopted}
 use Rattle.clone_core.specs.declared.askers.Adopted.TheVariants as adopted
 use Rattle.clone_core.specs.declared.answers.Got.{Got}
@@ -98,4 +98,4 @@ AdoptsWhole (adopted.Refused fault banks) = ⊥
 abbrev pub GivesBackAdopted : {B : Type 0} → (B → Option Log) → (B → Meter) → B → Adopted B → Type 0
 GivesBackAdopted log meter old (adopted.Joined new) = Unit {0}
 GivesBackAdopted log meter old (adopted.Ignored same) = Unit {0}
-GivesBackAdopted log meter old (adopted.Refused fault banks) = GivesBack log meter old (fault, banks)
+GivesBackAdopted log meter old (adopted.Refused fault banks) = GivesBanksBack log meter old (fault, banks)

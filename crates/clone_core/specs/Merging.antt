@@ -4,7 +4,7 @@ use Rattle.tree_clock.specs.Clock.{ticks_of}
 use Rattle.mld_ops.specs.Messages.{SnapshotValue}
 use Rattle.mld_model.specs.Local.{LocalClone, LocallyMerges, IsForeignSnapshot, KnowsSnapshot}
 use Rattle.clone_core.specs.Banked.{BankedClone}
-use Rattle.clone_core.specs.Closing.{StaysOpen, IsSwappedOpen}
+use Rattle.clone_core.specs.CloneClosing.{StaysOpen, IsSwappedOpen}
 use Rattle.clone_core.specs.Due.{IsDueSnapshot}
 use Rattle.clone_core.specs.declared.answers.Got.{Got}
 use Rattle.clone_core.specs.declared.answers.Got.TheVariants as got

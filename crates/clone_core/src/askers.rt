@@ -62,7 +62,7 @@ impl<B: Banks> Asker<B> {
     ghost use Rattle.mld_ops.specs.declared.messages.Give.{Give};
     ghost use Rattle.mld_model.specs.Local.{joined_clone};
     ghost use Rattle.clone_core.specs.Banked.{head_of};
-    ghost use Rattle.clone_core.specs.Durable.{Creates};
+    ghost use Rattle.clone_core.specs.DurableCalls.{Creates};
     ghost use Rattle.clone_core.specs.Joining.{IsGiveFor, GivesNone, LocallyAdopts, TakesGive, banks_of_adopted, adopting_calls, FailsToAdopt, AdoptsWhole, GivesBackAdopted};
 
     /// One who asks, who keeps these properties in order. It calls no device and takes no memory.

@@ -59,9 +59,9 @@ impl<B: Banks> MldClone<B> {
     ghost use Rattle.journal_store.specs.declared.faults.Why.{Why};
     ghost use Rattle.clone_banks.specs.KeptSteps.{KeptStep};
     ghost use Rattle.clone_core.specs.Banked.{IsOnBanks, KeepsClone, head_of};
-    ghost use Rattle.clone_core.specs.Beginning.{begun_clone, found_clone};
-    ghost use Rattle.clone_core.specs.Closing.{StaysOpen, LeavesClone, update_stop, receive_stop, banks_of_made, FailsToFound, GivesBack};
-    ghost use Rattle.clone_core.specs.Durable.{Changes, Creates, UpdateSteps, MessageSteps};
+    ghost use Rattle.clone_core.specs.FoundClone.{begun_clone, found_clone};
+    ghost use Rattle.clone_core.specs.CloneClosing.{StaysOpen, LeavesClone, update_stop, receive_stop, banks_of_made, FailsToFound, GivesBanksBack};
+    ghost use Rattle.clone_core.specs.DurableCalls.{Changes, Creates, UpdateSteps, MessageSteps};
     ghost use Rattle.clone_core.specs.Due.{IsDueUpdate, IsDueEntry, IsDueAsk, IsDueMessage, IsSwapDue, IsMessageSpent};
     ghost use Rattle.clone_core.specs.Joining.{LocallyGives, AreGood, AnswersGood, RefusesAsk};
     ghost use Rattle.iri_rules.specs.Domain.{is_domain};
@@ -72,7 +72,7 @@ impl<B: Banks> MldClone<B> {
     ghost use Rattle.mld_ops.specs.Properties.{AreKept};
     ghost use Rattle.clone_core.specs.CloneCalls.{LocallyUpdates, DeletesOwn, LocallyReceives, ReceivesEntry, RefusesEntry, ReceivesAsk, Refuses, covering_reply, HasRange, LacksRange};
     ghost use Rattle.clone_plans.specs.Making.{IsNextEntry};
-    ghost use Rattle.clone_core.specs.Parts.{StopsClone, StopsOpen, MakeSteps, MakesDone, IsFullAt, BeginsJournal};
+    ghost use Rattle.clone_core.specs.CallParts.{StopsClone, StopsOpen, MakeSteps, MakesDone, IsFullAt, BeginsJournal};
     ghost use Rattle.clone_core.specs.Merging.{StaysOpenBy};
     ghost use Rattle.mld_model.specs.Comparing.{ClocksCompare};
     ghost use Rattle.mld_model.specs.Local.{IsLocal, IsNamed, blank_clone, joined_clone, snapshot_of, next_dot, LocallyMakes, LocallyAccepts, LocallyHolds, IsForeign};
@@ -102,7 +102,7 @@ impl<B: Banks> MldClone<B> {
         ensures generation { IfOk result (λ clone. clone.generation ≡ 1) }
         ensures durable { (kept : List (List ℕ)) × AreKept properties.items kept
             × Creates B.log B.meter (head_of (blank_clone id domain kept [])) blank (banks_of_made result) (IsOk result) (FailsToFound result) }
-        ensures err { IfErr result (GivesBack B.log B.meter blank) }
+        ensures err { IfErr result (GivesBanksBack B.log B.meter blank) }
     {
         let head = Head {
             id,

@@ -17,11 +17,11 @@ impl<B: Banks> MldClone<B> {
     ghost use Rattle.clone_core.specs.Banked.{head_over};
     ghost use Rattle.op_fusion.specs.Compacting.{HasNeighbours};
     ghost use Rattle.mld_model.specs.Local.{LocallyCompacts};
-    ghost use Rattle.clone_core.specs.Closing.{LeavesClone, IsSwappedOpen, keep_stop};
-    ghost use Rattle.clone_core.specs.Durable.{Changes, KeepSteps};
+    ghost use Rattle.clone_core.specs.CloneClosing.{LeavesClone, IsSwappedOpen, keep_stop};
+    ghost use Rattle.clone_core.specs.DurableCalls.{Changes, KeepSteps};
     ghost use Rattle.clone_core.specs.Due.{IsSpent};
     ghost use Rattle.clone_core.specs.Keeping.{KeepsCompacted, StaysUnclosed};
-    ghost use Rattle.clone_core.specs.Parts.{StopsKeep};
+    ghost use Rattle.clone_core.specs.CallParts.{StopsKeep};
 
     /// Compacts the journal: the entries of each run of neighbouring ranges are fused into one, and what the banks keep is swapped for
     /// that, by one swap. Where no two neighbours stand side by side, nothing changes and no device is called. Gives the number of

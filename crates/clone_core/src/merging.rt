@@ -14,11 +14,11 @@ impl<B: Banks> MldClone<B> {
     ghost use Rattle.mld_ops.specs.Messages.{snapshot_value, IsGoodSnapshot};
     ghost use Rattle.mld_ops.specs.declared.messages.Message.TheVariants as kinds;
     ghost use Rattle.mld_model.specs.Local.{IsForeignSnapshot};
-    ghost use Rattle.clone_core.specs.Durable.{Changes, MessageSteps};
+    ghost use Rattle.clone_core.specs.DurableCalls.{Changes, MessageSteps};
     ghost use Rattle.clone_core.specs.Due.{IsDueSnapshot, IsSpent};
     ghost use Rattle.clone_core.specs.Joining.{AnswersGood};
     ghost use Rattle.clone_core.specs.Merging.{ReceivesSnapshot, RefusesSnapshot, StaysOpenBy};
-    ghost use Rattle.clone_core.specs.Parts.{StopsOpen, StopsMerge};
+    ghost use Rattle.clone_core.specs.CallParts.{StopsOpen, StopsMerge};
 
     /// Merges a snapshot that has dots which the clone lacks.
     pub(crate) fn receive_snapshot(

@@ -11,11 +11,11 @@ impl<B: Banks> MldClone<B> {
     ghost use Rattle.clone_banks.specs.KeptSteps.{KeptStep};
     ghost use Rattle.journal_store.specs.declared.faults.Why.{Why};
     ghost use Rattle.mld_model.specs.Local.{LocallyTruncates};
-    ghost use Rattle.clone_core.specs.Closing.{LeavesClone, IsSwappedOpen, keep_stop};
-    ghost use Rattle.clone_core.specs.Durable.{Changes, KeepSteps};
+    ghost use Rattle.clone_core.specs.CloneClosing.{LeavesClone, IsSwappedOpen, keep_stop};
+    ghost use Rattle.clone_core.specs.DurableCalls.{Changes, KeepSteps};
     ghost use Rattle.clone_core.specs.Due.{IsSpent};
     ghost use Rattle.clone_core.specs.Keeping.{KeepsTruncated, StaysUnclosed};
-    ghost use Rattle.clone_core.specs.Parts.{StopsKeep};
+    ghost use Rattle.clone_core.specs.CallParts.{StopsKeep};
 
     /// Truncates the journal: its last `keep` entries stay, or all where it has fewer, and the clone's base is what the others led to. What
     /// the banks keep is swapped for that, by one swap. Where the journal has no more entries than that, nothing changes and no device is

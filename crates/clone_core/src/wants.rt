@@ -10,11 +10,11 @@ use tree_clock::Clock;
 
 impl<B: Banks> MldClone<B> {
     ghost use Rattle.std.specs.Prelude.{◌≡◌, [], None, IfOk, IfErr, IsOk, OnOk, IsErrOf};
-    ghost use Rattle.clone_core.specs.Durable.{Changes};
+    ghost use Rattle.clone_core.specs.DurableCalls.{Changes};
     ghost use Rattle.mld_ops.specs.Messages.{CarriesWant, IsGoodMessage, message_value};
-    ghost use Rattle.clone_core.specs.Closing.{StaysOpen};
+    ghost use Rattle.clone_core.specs.CloneClosing.{StaysOpen};
     ghost use Rattle.clone_core.specs.Joining.{AnswersGood};
-    ghost use Rattle.clone_core.specs.Parts.{StopsOpen};
+    ghost use Rattle.clone_core.specs.CallParts.{StopsOpen};
     ghost use Rattle.clone_core.specs.Wants.{AnswersWant, RefusesWant, SendsWhole};
 
     /// A question for what the clone lacks: it tells the dots that the clone knows.

@@ -3,7 +3,7 @@ use Rattle.std.specs.Prelude.{◌≡◌, ℕ, ◌+◌, List}
 use Rattle.tree_clock.specs.declared.dots.Dot.{Dot}
 use Rattle.tree_clock.specs.Clock.{ticks_of, RaisesTo}
 use Rattle.mld_ops.specs.Effect.{range_of}
-use Rattle.mld_ops.specs.Effects.{EffectValue, MayMake, entry_of}
+use Rattle.mld_ops.specs.Effects.{EffectValue, MayMake, effect_entry}
 use Rattle.mld_ops.specs.Entry.{EntryValue}
 
 -- the entry is of the next dot of the clock at the path, behind all dots of the clock
@@ -16,4 +16,4 @@ pub record IsNextEntry (ticks : List (List ℕ × ℕ)) (dot : Dot) (entry : Ent
 pub record IsEntryOf (ticks : List (List ℕ × ℕ)) (dot : Dot) (effect : EffectValue) (entry : EntryValue) : Type 0 where
   pub may : MayMake ticks dot effect
   pub time : RaisesTo ticks entry.time dot
-  pub carries : entry ≡ entry_of dot entry.time effect
+  pub carries : entry ≡ effect_entry dot entry.time effect

@@ -6,7 +6,7 @@ use Rattle.std.proofs.lemmas.List.{drop_at, length-take-le, take-append-drop, ta
 use Rattle.std.proofs.lemmas.Bool.{cases_lt}
 use Rattle.mld_io.specs.Disk.{written}
 use Rattle.disk_model.specs.declared.unsynced.Unsynced.{Unsynced}
-use Rattle.disk_model.specs.Covered.{Covers, before, lost_by, torn_by, first_size, AreChained}
+use Rattle.disk_model.specs.Covered.{CoversBytes, before, lost_by, torn_by, first_size, AreChained}
 use Rattle.disk_model.specs.SideSteps.{torn_piece}
 use Rattle.disk_model.specs.Pieces.{length-torn_piece}
 use Rattle.disk_model.proofs.Copies.{written_before, written_front}
@@ -42,7 +42,7 @@ covered_back at piece old within =
     ]
 
 -- so does a write that is taken back
-pub taken_back : (write : Unsynced) (at : ℕ) (piece old : List ℕ) → Covers at piece old write → at ≤ length old → before write (written at piece old) ≡ old
+pub taken_back : (write : Unsynced) (at : ℕ) (piece old : List ℕ) → CoversBytes at piece old write → at ≤ length old → before write (written at piece old) ≡ old
 taken_back write at piece old covers within =
     ap (λ (k : ℕ). take k (written write.at write.covered (written at piece old))) covers.size_is
     ∙ ap (λ (k : ℕ). take (length old) (written k write.covered (written at piece old))) covers.at_is
@@ -68,12 +68,12 @@ torn_newest [] write bytes = refl
 torn_newest (other ∷ writes) write bytes = torn_newest writes write (written other.at (torn_piece other.piece) bytes)
 
 -- what is lost with one write more is what was lost before it
-pub lost_more : (writes : List Unsynced) (write : Unsynced) (at : ℕ) (piece old : List ℕ) → Covers at piece old write → at ≤ length old
+pub lost_more : (writes : List Unsynced) (write : Unsynced) (at : ℕ) (piece old : List ℕ) → CoversBytes at piece old write → at ≤ length old
     → lost_by (writes ++ write ∷ []) (written at piece old) ≡ lost_by writes old
 lost_more writes write at piece old covers within = lost_newest writes write (written at piece old) ∙ ap (lost_by writes) (taken_back write at piece old covers within)
 
 -- what is torn with one write more
-pub torn_more : (writes : List Unsynced) (write : Unsynced) (at : ℕ) (piece old : List ℕ) → Covers at piece old write → at ≤ length old
+pub torn_more : (writes : List Unsynced) (write : Unsynced) (at : ℕ) (piece old : List ℕ) → CoversBytes at piece old write → at ≤ length old
     → torn_by (writes ++ write ∷ []) (lost_by (writes ++ write ∷ []) (written at piece old)) ≡ written at (torn_piece piece) (torn_by writes (lost_by writes old))
 torn_more writes write at piece old covers within =
     ap (torn_by (writes ++ write ∷ [])) (lost_more writes write at piece old covers within) ∙ torn_newest writes write (lost_by writes old)
@@ -124,7 +124,7 @@ torn_again write writes size bytes chained within =
     ∙ written_front write.at write.size (torn_piece write.piece) bytes (omega (arith, chained.0)) (omega (arith, chained.1, grows)))
 
 -- what a write covers lies within the side
-pub covers_fits : (write : Unsynced) (at : ℕ) (piece old : List ℕ) → Covers at piece old write → at ≤ length old → write.at + length write.covered ≤ write.size
+pub covers_fits : (write : Unsynced) (at : ℕ) (piece old : List ℕ) → CoversBytes at piece old write → at ≤ length old → write.at + length write.covered ≤ write.size
 covers_fits write at piece old covers within =
     let stop = min (length old) (at + length piece) in
     let long : length (take (stop - at) (drop at old)) ≡ stop - at = length-take-le (stop - at) (drop at old) (omega (arith, length-drop at old)) in

@@ -10,7 +10,7 @@ use Rattle.mld_io.specs.declared.faults.IoFault.TheVariants as io
 use Rattle.mld_io.specs.Arm.{Caught}
 use Rattle.disk_model.specs.CountedCalls.{arm_of}
 use Rattle.mld_io.specs.Disk.{Log, Syncs, Revives, bytes_of, seen, IsSettled}
-use Rattle.disk_model.specs.Steps as step
+use Rattle.disk_model.specs.DeviceSteps as step
 use Rattle.disk_model.specs.BankSteps.{BanksValue, WriteMoves, SyncMoves, memory_log, read_of}
 use Rattle.disk_model.specs.SideSteps.{left_by, unsynced, AreInOrder, log_of}
 use Rattle.disk_model.proofs.SideStepLaws.{seen_of_steps, may_leave_of_steps, settled_of_steps, settled_of_both}

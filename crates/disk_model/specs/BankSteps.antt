@@ -5,9 +5,9 @@ use Rattle.mld_io.specs.declared.banks.Leave.TheVariants.{Keep}
 use Rattle.mld_io.specs.declared.faults.IoFault.{IoFault}
 use Rattle.mld_io.specs.declared.faults.IoFault.TheVariants as io
 use Rattle.mld_io.specs.Disk.{Log, Sides, bytes_of}
-use Rattle.disk_model.specs.Steps as step
+use Rattle.disk_model.specs.DeviceSteps as step
 use Rattle.disk_model.specs.declared.calls.Arming.TheVariants as arming
-use Rattle.disk_model.specs.CountedCalls.{CallsValue, IsRefusedNext, IsSpent, RefusesCall, CatchesCall, counted_call, lowered_call}
+use Rattle.disk_model.specs.CountedCalls.{CallsValue, IsRefusedNext, IsArmSpent, RefusesCall, CatchesCall, counted_call, lowered_call}
 use Rattle.disk_model.specs.SideSteps.{left_by, log_of}
 use Rattle.disk_model.specs.Store.{StoreValue, with_step, synced}
 
@@ -49,7 +49,7 @@ pub record WasRead (old now : BanksValue) : Type 0 where
 -- a call did what makes this of the store, and lowered the arm
 pub record WasDone (store : StoreValue) (old now : BanksValue) : Type 0 where
   pub allowed : ¬ IsRefusedNext old.calls
-  pub not_caught : ¬ IsSpent old.calls.arming
+  pub not_caught : ¬ IsArmSpent old.calls.arming
   pub calls_are : now.calls ≡ lowered_call old.calls
   pub store_is : now.store ≡ store
 

@@ -66,10 +66,10 @@ BeginsCall old (Err io.Failed) now = RefusesCall old now
 BeginsCall old (Err io.NoMemory) now = ⊥
 
 -- no call that writes or syncs is done any more: the next one is caught
-abbrev pub IsSpent : Arming → Type 0
-IsSpent arming.Unarmed = ⊥
-IsSpent (arming.Armed calls leave) = calls ≡ 0
-IsSpent (arming.Caught leave) = ⊥
+abbrev pub IsArmSpent : Arming → Type 0
+IsArmSpent arming.Unarmed = ⊥
+IsArmSpent (arming.Armed calls leave) = calls ≡ 0
+IsArmSpent (arming.Caught leave) = ⊥
 
 -- the arm after one call that writes or syncs
 abbrev pub lowered : Arming → Arming
@@ -87,13 +87,13 @@ caught_call calls = record calls { next = counted calls.next; faults = counted c
 
 -- the next call was caught, and counted as a fault
 pub record CatchesCall (old now : CallsValue) : Type 0 where
-  pub spent : IsSpent old.arming
+  pub spent : IsArmSpent old.arming
   pub now_is : now ≡ caught_call old
   pub later : old.faults ≤ now.faults
 
 -- a call that wrote or is to sync was ended, or caught
 abbrev pub Ends : CallsValue → Result ⊤ IoFault → CallsValue → Type 0
-Ends old (Ok done) now = (¬ IsSpent old.arming) × (now ≡ lowered_call old)
+Ends old (Ok done) now = (¬ IsArmSpent old.arming) × (now ≡ lowered_call old)
 Ends old (Err io.Failed) now = CatchesCall old now
 Ends old (Err io.NoMemory) now = ⊥
 

@@ -6,7 +6,7 @@ use Rattle.disk_model.specs.SideSteps.{torn_piece}
 use Rattle.disk_model.specs.declared.unsynced.Unsynced.{Unsynced}
 
 -- this write puts a piece over these bytes
-pub record Covers (at : ℕ) (piece bytes : List ℕ) (write : Unsynced) : Type 0 where
+pub record CoversBytes (at : ℕ) (piece bytes : List ℕ) (write : Unsynced) : Type 0 where
   pub at_is : write.at ≡ at
   pub piece_is : write.piece ≡ piece
   pub covered_is : write.covered ≡ take (min (length bytes) (at + length piece) - at) (drop at bytes)

@@ -1,12 +1,12 @@
 pub mod CountedCalls
 pub mod BankSteps
 pub mod Covered
-pub mod Marks
+pub mod StepMarks
 pub mod Pieces
 pub mod SideBytes
 pub mod Sides
 pub mod SideSteps
-pub mod Steps
-pub mod StepsInside
+pub mod DeviceSteps
+pub mod TraceInside
 pub mod Store
 pub mod StoreInside

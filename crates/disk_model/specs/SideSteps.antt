@@ -6,8 +6,8 @@ use Rattle.mld_io.specs.declared.banks.Leave.{Leave}
 use Rattle.mld_io.specs.declared.banks.Leave.TheVariants.{Lose, Keep, Torn}
 use Rattle.mld_io.specs.Disk.{Sides, Call, Log, bytes_of, with_bytes, written}
 use Rattle.mld_io.specs.Disk.Call.{Wrote, Synced, Cut}
-use Rattle.disk_model.specs.Steps.{Step}
-use Rattle.disk_model.specs.Steps as step
+use Rattle.disk_model.specs.DeviceSteps.{DeviceStep}
+use Rattle.disk_model.specs.DeviceSteps as step
 
 -- a piece of which the second half is torn: half of its bytes, rounded down, and then the byte 255
 abbrev pub torn_piece : List ℕ → List ℕ
@@ -20,7 +20,7 @@ write_left Keep at piece bytes = written at piece bytes
 write_left Torn at piece bytes = written at (torn_piece piece) bytes
 
 -- What a crash leaves after these steps, the newest first. With Keep it leaves what reads give.
-abbrev pub left_by : Leave → Sides → List Step → Sides
+abbrev pub left_by : Leave → Sides → List DeviceStep → Sides
 left_by leave first [] = first
 left_by leave first (step.Wrote side at piece ∷ steps) = with_bytes side (write_left leave at piece (bytes_of side (left_by leave first steps))) (left_by leave first steps)
 left_by leave first (step.Synced side ∷ steps) = with_bytes side (bytes_of side (left_by Keep first steps)) (left_by leave first steps)
@@ -34,29 +34,29 @@ same_side B A = false
 same_side B B = true
 
 -- whether there was a write on a side since it was last synced
-abbrev pub unsynced : Side → List Step → Bool
+abbrev pub unsynced : Side → List DeviceStep → Bool
 unsynced side [] = false
 unsynced side (step.Wrote on at piece ∷ steps) = same_side on side || unsynced side steps
 unsynced side (step.Synced on ∷ steps) = not (same_side on side) && unsynced side steps
 unsynced side (step.Cut how ∷ steps) = false
 
 -- each write began within its side
-abbrev pub AreInOrder : Sides → List Step → Type 0
+abbrev pub AreInOrder : Sides → List DeviceStep → Type 0
 AreInOrder first [] = ⊤
 AreInOrder first (step.Wrote side at piece ∷ steps) = (at ≤ length (bytes_of side (left_by Keep first steps))) × AreInOrder first steps
 AreInOrder first (step.Synced side ∷ steps) = AreInOrder first steps
 AreInOrder first (step.Cut how ∷ steps) = AreInOrder first steps
 
 -- the calls that these steps are
-abbrev pub calls_of : Sides → List Step → List Call
-calls_of first [] = []
-calls_of first (step.Wrote side at piece ∷ steps) = Wrote side at piece ∷ calls_of first steps
-calls_of first (step.Synced side ∷ steps) = Synced side ∷ calls_of first steps
-calls_of first (step.Cut how ∷ steps) = Cut (left_by how first steps) ∷ calls_of first steps
+abbrev pub calls_of_steps : Sides → List DeviceStep → List Call
+calls_of_steps first [] = []
+calls_of_steps first (step.Wrote side at piece ∷ steps) = Wrote side at piece ∷ calls_of_steps first steps
+calls_of_steps first (step.Synced side ∷ steps) = Synced side ∷ calls_of_steps first steps
+calls_of_steps first (step.Cut how ∷ steps) = Cut (left_by how first steps) ∷ calls_of_steps first steps
 
 -- the log that these steps make
-abbrev pub log_of : Sides → List Step → Log
-log_of first steps = record { first = first; calls = calls_of first steps }
+abbrev pub log_of : Sides → List DeviceStep → Log
+log_of first steps = record { first = first; calls = calls_of_steps first steps }
 
 -- how many steps the syncs of both sides and a revival may add, by which sides have writes that aren't synced
 abbrev pub room_for : Bool → Bool → ℕ

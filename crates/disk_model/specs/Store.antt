@@ -4,17 +4,17 @@ use Rattle.mld_io.specs.declared.banks.Side.{Side}
 use Rattle.mld_io.specs.declared.banks.Side.TheVariants.{A, B}
 use Rattle.mld_io.specs.declared.banks.Leave.{Leave}
 use Rattle.mld_io.specs.Disk.{Sides}
-use Rattle.disk_model.specs.Steps.{Step}
-use Rattle.disk_model.specs.Steps as step
+use Rattle.disk_model.specs.DeviceSteps.{DeviceStep}
+use Rattle.disk_model.specs.DeviceSteps as step
 use Rattle.disk_model.specs.SideSteps.{unsynced}
 
 -- the sides at first, and the steps since, the newest first
 pub record StoreValue : Type 0 where
   pub first : Sides
-  pub steps : List Step
+  pub steps : List DeviceStep
 
 -- with one step more
-abbrev pub with_step : Step → StoreValue → StoreValue
+abbrev pub with_step : DeviceStep → StoreValue → StoreValue
 with_step next store = record store { steps = next ∷ store.steps }
 
 -- after a sync of a side, which adds a step only where it was unsynced

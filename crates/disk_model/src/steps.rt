@@ -1,6 +1,6 @@
 //! What a bank in memory remembers of its calls.
 ghost use Rattle.std.specs.Prelude.{◌≡◌, ◌+◌, ◌≤◌, [], ◌∷◌, length, OnOk};
-ghost use Rattle.disk_model.specs.Steps.{StepsValue, Wrote, Synced, Cut};
+ghost use Rattle.disk_model.specs.DeviceSteps.{TraceValue, Wrote, Synced, Cut};
 
 use crate::bytes::{grow, put};
 use mld_io::{Leave, Side};
@@ -25,32 +25,32 @@ pub enum Mark {
 /// The steps of a bank, the newest last. The pieces of all writes stand behind each other in the
 /// first `used` bytes of `pieces`.
 #[derive(Debug, Drop)]
-pub struct Steps {
+pub struct Trace {
     marks: Vec<Mark>,
     pieces: Vec<u8>,
     used: usize,
 }
 
-impl Model for Steps {
+impl Model for Trace {
     ghost use Rattle.std.specs.Prelude.{◌-◌, reverse, vec_capacity, vec_len};
-    ghost use Rattle.disk_model.specs.Steps.{StepsValue};
-    ghost use Rattle.disk_model.specs.Marks.{steps_of};
+    ghost use Rattle.disk_model.specs.DeviceSteps.{TraceValue};
+    ghost use Rattle.disk_model.specs.StepMarks.{steps_of_marks};
 
-    ghost Value = { StepsValue };
+    ghost Value = { TraceValue };
 
-    ghost use Rattle.disk_model.specs.StepsInside.{IsStepsInside};
+    ghost use Rattle.disk_model.specs.TraceInside.{IsTraceInside};
 
-    ghost view = { λ s. record { steps = reverse (steps_of s.marks.items s.pieces.items); room = vec_capacity s.marks - vec_len s.marks; spare = vec_len s.pieces - s.used } };
+    ghost view = { λ s. record { steps = reverse (steps_of_marks s.marks.items s.pieces.items); room = vec_capacity s.marks - vec_len s.marks; spare = vec_len s.pieces - s.used } };
 
-    ghost invariant = { IsStepsInside };
+    ghost invariant = { IsTraceInside };
 }
 
-impl Steps {
+impl Trace {
     /// No step yet, which takes no memory.
-    pub fn new(alloc: Global) -> Steps
+    pub fn new(alloc: Global) -> Trace
         ensures { result.steps ≡ [] }
     {
-        Steps {
+        Trace {
             marks: Vec::new(alloc),
             pieces: Vec::new(alloc),
             used: 0,

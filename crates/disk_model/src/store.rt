@@ -2,11 +2,11 @@
 ghost use Rattle.std.specs.Prelude.{◌≡◌, ℕ, ◌+◌, ◌^◌, ◌<◌, ◌≤◌, [], ◌∷◌, true, false, cond, ◌||◌, length, IfOk, OnOk, OnErr};
 ghost use Rattle.mld_io.specs.Disk.{bytes_of};
 ghost use Rattle.disk_model.specs.SideSteps.{left_by, AreInOrder};
-ghost use Rattle.disk_model.specs.Steps.{Wrote};
+ghost use Rattle.disk_model.specs.DeviceSteps.{Wrote};
 ghost use Rattle.disk_model.specs.Store.{StoreValue, with_step, synced, cut};
 
 use crate::sides::{BothSides, SideBytes};
-use crate::steps::Steps;
+use crate::steps::Trace;
 use mld_io::{Leave, Piece, Side};
 use std::alloc::{AllocError, Global};
 use std::marker::Model;
@@ -17,7 +17,7 @@ pub struct Store {
     first_a: Piece,
     first_b: Piece,
     sides: BothSides,
-    steps: Steps,
+    steps: Trace,
 }
 
 impl Model for Store {
@@ -41,7 +41,7 @@ impl Store {
             first_a: Piece::from_vec(Vec::new(alloc)),
             first_b: Piece::from_vec(Vec::new(alloc)),
             sides: BothSides::new(SideBytes::blank(alloc), SideBytes::blank(alloc)),
-            steps: Steps::new(alloc),
+            steps: Trace::new(alloc),
         }
     }
 
@@ -56,7 +56,7 @@ impl Store {
                 SideBytes::with_bytes(alloc, a)?,
                 SideBytes::with_bytes(alloc, b)?,
             ),
-            steps: Steps::new(alloc),
+            steps: Trace::new(alloc),
         })
     }
 

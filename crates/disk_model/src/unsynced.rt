@@ -2,7 +2,7 @@
 ghost use Rattle.std.specs.Prelude.{◌≡◌, ◌+◌, ◌^◌, ◌<◌, ◌≤◌, length, take, vec_len, IfOk};
 ghost use Rattle.mld_io.specs.Disk.{written};
 ghost use Rattle.disk_model.specs.SideSteps.{torn_piece};
-ghost use Rattle.disk_model.specs.Covered.{AreChained, Covers, first_size, lost_by, torn_by};
+ghost use Rattle.disk_model.specs.Covered.{AreChained, CoversBytes, first_size, lost_by, torn_by};
 
 use crate::bytes::put;
 use mld_io::Piece;
@@ -30,7 +30,7 @@ pub fn covering(
 ) -> Result<Unsynced, AllocError>
     requires within { at ≤ length bytes.now }
     requires small { at + length piece.now < 2 ^ 64 }
-    ensures { IfOk result (λ write. Covers at piece.now bytes.now write) }
+    ensures { IfOk result (λ write. CoversBytes at piece.now bytes.now write) }
 {
     let end = bytes.len().min(at + piece.len());
     Ok(Unsynced {

@@ -26,7 +26,7 @@ use Rattle.mld_model.specs.declared.CloneState.TheVariants as states
 use Rattle.mld_model.specs.Clone.{Clone, Absent, Asking, Down, Live, Stored, known_of, with_range, merged_with, truncated_to, IsKnown, IsReady}
 use Rattle.mld_model.specs.CloneStep.{changes_nothing, makes_operation, IsNextTick, after_operation, holds_already, holds_too_many, holds_from_now, knows_already, accepts, holds_back, after_asking, after_fork, left_half, asked_itself, is_too_deep, forks, joined_with, becomes_live, lacks_nothing, sends_ranges, sends_snapshot, knows_all, merges, LiveTakes, Takes, Joins, Reopens}
 use Rattle.mld_model.specs.Local.{LocalAsker, LocalClone, stored_of, next_dot, LocallyMakes, LocallyAccepts, MustBeHeld, LocallyHolds, IsFullFor, IsForeign, IsForeignSnapshot, LocallyForks, LocallyCompacts, LocallyTruncates, KnowsSnapshot, LocallyMerges, snapshot_of, LocallyAnswersWant, LocallyAnswersBehind, joined_clone}
-use Rattle.mld_model.specs.LocalStep.{Task, Update, Take, Join, Ask, Compact, Truncate, Stop, Open, LocalState, GivesNoLeaf, LocallyOpens, updates_nothing, updates, knows_entry, accepts_entry, holds_entry, is_full, knows_snapshot, merges_snapshot, sends_nothing, sends_entries, sends_all, asks_itself, is_deep, forks_leaf, needs_no_leaf, adopts_leaf, passes_over, asks_for_leaf, asks_for_rest, compacts_journal, truncates_journal, stops, opens, Does, StandsAt, IsSentAs, IsTaskIn, StepStands, LocalStepsAreTheModels, NoneIsForeign}
+use Rattle.mld_model.specs.LocalStep.{Task, Update, Take, Join, Ask, Compact, Truncate, Stop, Open, LocalState, GivesNoLeaf, LocallyOpens, updates_nothing, updates, knows_entry, accepts_entry, holds_entry, is_full, knows_snapshot, merges_snapshot, sends_nothing, sends_entries, sends_all, asks_itself, is_deep, forks_leaf, needs_no_leaf, adopts_leaf, passes_over, asks_for_leaf, asks_for_rest, compacts_journal, truncates_journal, stops, opens, DoesTask, StandsAt, IsSentAs, IsTaskIn, StepStands, LocalStepsAreTheModels, NoneIsForeign}
 use Rattle.mld_model.specs.Reply.{Reply, Did, NoOperation, Took, Merged, Held, HeldFull, AlreadyKnown, Sent, Answer, NothingToSend, Kept, Joined, Deep, Ignored, Stopped, Opened}
 use Rattle.mld_model.specs.Sound.{Keeps, IsDoneRange, IsSoundClone, IsSound}
 use Rattle.mld_model.specs.StandsFor.{kept_by, LiveAt, AskingAt, DownAt, IsCloneOf, EntryStandsFor, StoredStandsFor, LocalStandsFor, SnapshotStandsFor, MessageStandsFor}
@@ -59,7 +59,7 @@ module _ (world : World) (number : ℕ) (sound : IsSound world) where
   -- ---- what a step leaves
 
   -- nothing changes
-  stays : (state : LocalState) → StandsAt world number state → (job : Task Message) (reply : Reply) → Does world number job reply world
+  stays : (state : LocalState) → StandsAt world number state → (job : Task Message) (reply : Reply) → DoesTask world number job reply world
       → StepStands world number job reply [] state
   stays state at job reply does = record {
     next = world;
@@ -79,7 +79,7 @@ module _ (world : World) (number : ℕ) (sound : IsSound world) where
 
   -- the clone is live as another, and nothing else changes
   turns : (new : LocalClone) (stored : Stored) (held : List Range) (job : Task Message) (reply : Reply) → number < length world.clones
-      → Does world number job reply (with_clone world number (Live stored held)) → IsSound (with_clone world number (Live stored held))
+      → DoesTask world number job reply (with_clone world number (Live stored held)) → IsSound (with_clone world number (Live stored held))
       → IsCloneOf world number new → LocalStandsFor world.history new stored held → StepStands world number job reply [] (states.Live new)
   turns new stored held job reply inside does sound_then of now = record {
     next = with_clone world number (Live stored held);
@@ -92,7 +92,7 @@ module _ (world : World) (number : ℕ) (sound : IsSound world) where
 
   -- a live clone sends messages, and nothing else changes
   says : (running : LocalClone) → LiveAt world number running → (job : Task Message) (reply : Reply) (sent : List MessageValue) (others : List Message)
-      → Does world number job reply (record world { messages = world.messages ++ others }) → IsSound (record world { messages = world.messages ++ others })
+      → DoesTask world number job reply (record world { messages = world.messages ++ others }) → IsSound (record world { messages = world.messages ++ others })
       → AllZip (MessageStandsFor world.history) sent others → StepStands world number job reply sent (states.Live running)
   says running at job reply sent others does sound_then told = record {
     next = record world { messages = world.messages ++ others };

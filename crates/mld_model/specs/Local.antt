@@ -12,7 +12,7 @@ use Rattle.mld_ops.specs.declared.tagged.Tagged.{Tagged}
 use Rattle.mld_ops.specs.Tagged.{tagged_cmp}
 use Rattle.mld_ops.specs.Entry.{EntryValue}
 use Rattle.mld_ops.specs.Messages.{SnapshotValue, GiveValue}
-use Rattle.mld_ops.specs.Effects.{EffectValue, IsInOrder, IsAfterEffect, entry_of}
+use Rattle.mld_ops.specs.Effects.{EffectValue, IsInOrder, IsAfterEffect, effect_entry}
 use Rattle.mld_ops.specs.History.{dot_at}
 use Rattle.mld_ops.specs.Picking.{HasNone, DropsThose, TakesFirst}
 use Rattle.mld_ops.specs.Ready.{last_dot, IsKnownEntry, IsReadyEntry}
@@ -118,7 +118,7 @@ pub record LocallyMakes (old : LocalClone) (effect : EffectValue) (new : LocalCl
   pub ascending : IsAscending tagged_cmp new.pairs
   pub pairs : IsAfterEffect effect (next_dot old) old.pairs new.pairs
   pub time : RaisesTo old.ticks entry.time (next_dot old)
-  pub carries : entry ≡ entry_of (next_dot old) entry.time effect
+  pub carries : entry ≡ effect_entry (next_dot old) entry.time effect
 
 -- of the entries held back, in order of arrival, those that are known are dropped, then the first ready one is taken, and so on
 -- until none is ready: the entries taken, the clock then, and what is still held back

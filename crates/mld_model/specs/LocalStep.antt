@@ -104,15 +104,15 @@ pub data LocalStep (count : ℕ) : LocalState → Task MessageValue → Reply �
   opens : (down new : LocalClone) → LocallyOpens down new → LocalStep count (states.Down down) Open Opened [] (states.Live new)
 
 -- the clone of the number does what it is told, in the model: its reply, and the world after it
-abbrev pub Does : World → ℕ → Task Message → Reply → World → Type 0
-Does world number (Update effect) reply next = IfLive world (clone_at world number) reply next (λ stored held. Updates world number stored held effect reply next)
-Does world number (Take message) reply next = Takes world number message (clone_at world number) reply next
-Does world number Join reply next = Joins world number (clone_at world number) reply next
-Does world number Ask reply next = Wants world (clone_at world number) reply next
-Does world number Compact reply next = Compacts world number (clone_at world number) reply next
-Does world number (Truncate keep) reply next = Truncates world number keep (clone_at world number) reply next
-Does world number Stop reply next = Stops world number (clone_at world number) reply next
-Does world number Open reply next = Reopens world number (clone_at world number) reply next
+abbrev pub DoesTask : World → ℕ → Task Message → Reply → World → Type 0
+DoesTask world number (Update effect) reply next = IfLive world (clone_at world number) reply next (λ stored held. Updates world number stored held effect reply next)
+DoesTask world number (Take message) reply next = Takes world number message (clone_at world number) reply next
+DoesTask world number Join reply next = Joins world number (clone_at world number) reply next
+DoesTask world number Ask reply next = Wants world (clone_at world number) reply next
+DoesTask world number Compact reply next = Compacts world number (clone_at world number) reply next
+DoesTask world number (Truncate keep) reply next = Truncates world number keep (clone_at world number) reply next
+DoesTask world number Stop reply next = Stops world number (clone_at world number) reply next
+DoesTask world number Open reply next = Reopens world number (clone_at world number) reply next
 
 -- a clone alone stands for the clone of the number, in the same state
 abbrev pub StandsAt : World → ℕ → LocalState → Type 0
@@ -148,7 +148,7 @@ pub record TellsAs (world next : World) (sent : List MessageValue) : Type 0 wher
 -- the clone there, and these messages for those that were sent
 pub record StepStands (world : World) (number : ℕ) (task : Task Message) (reply : Reply) (sent : List MessageValue) (state : LocalState) : Type 0 where
   pub next : World
-  pub does : Does world number task reply next
+  pub does : DoesTask world number task reply next
   pub sound : IsSound next
   pub stands : StandsAt next number state
   pub tells : TellsAs world next sent

@@ -17,7 +17,7 @@ use Rattle.tree_clock.proofs.ClockLaws.{Covers-raised}
 use Rattle.mld_ops.specs.declared.tagged.Tagged.{Tagged}
 use Rattle.mld_ops.specs.Tagged.{tagged_cmp, insert_cmp}
 use Rattle.mld_ops.specs.Effect.{range_of, IsEffect}
-use Rattle.mld_ops.specs.Effects.{EffectValue, IsEffectOf, IsInOrder, MayMake, inserting, deleting, entry_of, operation_of}
+use Rattle.mld_ops.specs.Effects.{EffectValue, IsEffectOf, IsInOrder, MayMake, inserting, deleting, effect_entry, operation_of}
 use Rattle.mld_ops.specs.EffectEquality.{same_pair, same_effect}
 use Rattle.mld_ops.specs.Entry.{IsEntry}
 use Rattle.mld_ops.proofs.AscendingLaws.{same_ascending}
@@ -101,7 +101,7 @@ all_from_members P (pair ∷ pairs) h = (h pair (inl refl), all_from_members P p
 
 -- it is an entry
 pub effect_is_entry : (ticks time : List (List ℕ × ℕ)) (dot : Dot) (effect : EffectValue) → MayMake ticks dot effect → RaisesTo ticks time dot → IsClock time
-    → IsEntry (entry_of dot time effect)
+    → IsEntry (effect_entry dot time effect)
 effect_is_entry ticks time dot effect may raised clock = record {
   first = omega (arith, may.next);
   last = omega arith;
@@ -121,7 +121,7 @@ effect_is_entry ticks time dot effect may raised clock = record {
 
 -- it carries the operation made by the effect
 pub effect_carried : (dot : Dot) (causes : List Range) (time : List (List ℕ × ℕ)) (effect : EffectValue)
-    → ((other : Dot) → Covers time other ↔ (Knows causes other ⊎ (other ≡ dot))) → IsEffect (operation_of dot causes effect) (entry_of dot time effect)
+    → ((other : Dot) → Covers time other ↔ (Knows causes other ⊎ (other ≡ dot))) → IsEffect (operation_of dot causes effect) (effect_entry dot time effect)
 effect_carried dot causes time effect known = record {
   deletes = λ pair. (λ h. h, λ h. h);
   inserts = λ triple tick. has_ticks dot.tick effect.inserts triple tick;

@@ -74,8 +74,8 @@ IsAfterEffect effect dot before after =
     PairsAfter before effect.deletes (λ pair. (pair.dot ≡ dot) × Has effect.inserts pair.triple) after
 
 -- the entry of the effect at a dot, with what is known then
-abbrev pub entry_of : Dot → List (List ℕ × ℕ) → EffectValue → EntryValue
-entry_of dot time effect = record {
+abbrev pub effect_entry : Dot → List (List ℕ × ℕ) → EffectValue → EntryValue
+effect_entry dot time effect = record {
   range = range_of dot;
   time = time;
   deletes = effect.deletes;

@@ -2,7 +2,7 @@
 //! laws.
 ghost use Rattle.std.specs.Prelude.{◌≡◌, ℕ, ◌≤◌, ◌↔◌, ◌++◌, ◌∷◌, ◌⊎◌, [], List};
 ghost use Rattle.mld_ops.specs.Effect.{IsAfter, IsEffect, range_of};
-ghost use Rattle.mld_ops.specs.Effects.{EffectValue, IsEffectOf, IsInOrder, MayMake, inserting, deleting, entry_of, operation_of};
+ghost use Rattle.mld_ops.specs.Effects.{EffectValue, IsEffectOf, IsInOrder, MayMake, inserting, deleting, effect_entry, operation_of};
 ghost use Rattle.mld_ops.specs.Entry.{EntryValue, IsEntry};
 ghost use Rattle.mld_ops.specs.History.{Operation as OperationValue, IsClosed, IsLawful};
 ghost use Rattle.mld_ops.specs.Meaning.{IsMeaning, IsPresent};
@@ -61,10 +61,10 @@ pub fn made_by_effect()
     ensures insertion { (triple : Triple) → IsInOrder (inserting triple) }
     ensures deletion { (pairs : List Tagged) → IsAscending tagged_cmp pairs → IsInOrder (deleting pairs) }
     ensures entry { (ticks time : List (List ℕ × ℕ)) (dot : Dot) (effect : EffectValue)
-        → MayMake ticks dot effect → RaisesTo ticks time dot → IsClock time → IsEntry (entry_of dot time effect) }
+        → MayMake ticks dot effect → RaisesTo ticks time dot → IsClock time → IsEntry (effect_entry dot time effect) }
     ensures carried { (dot : Dot) (causes : List Range) (time : List (List ℕ × ℕ)) (effect : EffectValue)
         → ((other : Dot) → Covers time other ↔ (Knows causes other ⊎ (other ≡ dot)))
-        → IsEffect (operation_of dot causes effect) (entry_of dot time effect) }
+        → IsEffect (operation_of dot causes effect) (effect_entry dot time effect) }
 {}
 
 /// What the list of the present triples is: it has those that have a pair, it ascends where the pairs do, and no other list

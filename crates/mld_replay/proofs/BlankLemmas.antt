@@ -12,7 +12,7 @@ use Rattle.journal_store.specs.declared.faults.MountFault.TheVariants.{Damaged, 
 use Rattle.clone_core.specs.Opening.{TellsClone}
 use Rattle.clone_core.specs.declared.mounts.Mounted.{Mounted}
 use Rattle.clone_core.specs.declared.mounts.Mounted.TheVariants.{Live, Empty, Refused}
-use Rattle.net_world.specs.WorldBanks.{GoesOn, MetersGoOn, HadNoFault, HadNoFaults, HasFailed, HadFault}
+use Rattle.net_world.specs.WorldBanks.{MeterGoesOn, MetersGoOn, HadNoFault, HadNoFaults, HasFailed, HadFault}
 use Rattle.mld_replay.specs.Filled.{IsFilled, IsFirstFilled, LogsStay}
 use Rattle.mld_replay.specs.Looking.{AreEmpty, AreEmptyBefore, StopsLookingAt, StopsLooking}
 use Rattle.mld_replay.specs.BankFaults.{AreWell, HaveFailed, all_left, BringsBack}
@@ -135,11 +135,11 @@ looked_first log meter banks = record {
 }
 
 -- those of the number were looked at too
-meters_set : {B : Type 0} (meter : B → Meter) (banks : List B) (number : ℕ) (was now : B) → slice_get banks number ≡ Some was → GoesOn (meter was) (meter now)
+meters_set : {B : Type 0} (meter : B → Meter) (banks : List B) (number : ℕ) (was now : B) → slice_get banks number ≡ Some was → MeterGoesOn (meter was) (meter now)
     → MetersGoOn meter banks (slice_set banks number now)
 meters_set meter banks number was now at goes = record {
   count = set_length banks number now;
-  each = set_at (λ x y. GoesOn (meter x) (meter y)) banks number was now at goes (λ one. goes_on_same (meter one));
+  each = set_at (λ x y. MeterGoesOn (meter x) (meter y)) banks number was now at goes (λ one. goes_on_same (meter one));
 }
 
 quiet_set : {B : Type 0} (meter : B → Meter) (banks : List B) (number : ℕ) (was now : B) → slice_get banks number ≡ Some was → HadNoFault (meter was) (meter now)
@@ -158,7 +158,7 @@ failed_set {B = B} meter banks number was now at fails = record {
 }
 
 pub looked_meters : {B : Type 0} (log : B → Option Log) (meter : B → Meter) (old middle : List B) (number : ℕ) (was now : B) → HasLooked log meter old middle number
-    → slice_get middle number ≡ Some was → GoesOn (meter was) (meter now) → MetersGoOn meter old (slice_set middle number now)
+    → slice_get middle number ≡ Some was → MeterGoesOn (meter was) (meter now) → MetersGoOn meter old (slice_set middle number now)
 looked_meters log meter old middle number was now looked at goes = meters_then meter old middle (slice_set middle number now) looked.meters (meters_set meter middle number was now at goes)
 
 pub looked_logs : {B : Type 0} (log : B → Option Log) (meter : B → Meter) (old middle : List B) (number : ℕ) (was now : B) → HasLooked log meter old middle number
@@ -168,7 +168,7 @@ looked_logs log meter old middle number was now looked at same place first last 
     set_at (λ x y. log y ≡ log x) middle number was now at same (λ one. refl) place there.0 last there.1 last_at ∙ looked.logs place first there.0 first_at there.1
 
 pub looked_more : {B : Type 0} (log : B → Option Log) (meter : B → Meter) (old middle : List B) (number : ℕ) (was now : B) → HasLooked log meter old middle number
-    → slice_get middle number ≡ Some was → log now ≡ log was → GoesOn (meter was) (meter now) → HadNoFault (meter was) (meter now) → ¬ IsFilled (log was)
+    → slice_get middle number ≡ Some was → log now ≡ log was → MeterGoesOn (meter was) (meter now) → HadNoFault (meter was) (meter now) → ¬ IsFilled (log was)
     → HasLooked log meter old (slice_set middle number now) (number + 1)
 looked_more {B = B} log meter old middle number was now looked at same goes quiet none = record {
   meters = looked_meters log meter old middle number was now looked at goes;
@@ -201,14 +201,14 @@ looked_stops log meter old middle number was now fault looked at stops = absurd 
 
 -- and no others had a fault
 looked_well : {B : Type 0} (log : B → Option Log) (meter : B → Meter) (old middle : List B) (number : ℕ) (was now : B) → HasLooked log meter old middle number
-    → slice_get middle number ≡ Some was → GoesOn (meter was) (meter now) → HadNoFault (meter was) (meter now) → AreWell meter old (slice_set middle number now)
+    → slice_get middle number ≡ Some was → MeterGoesOn (meter was) (meter now) → HadNoFault (meter was) (meter now) → AreWell meter old (slice_set middle number now)
 looked_well log meter old middle number was now looked at goes quiet = record {
   meters = looked_meters log meter old middle number was now looked at goes;
   quiet = quiet_then meter old middle (slice_set middle number now) looked.meters looked.quiet (quiet_set meter middle number was now at quiet);
 }
 
 pub looked_faults : {B : Type 0} (log : B → Option Log) (meter : B → Meter) (old middle : List B) (number : ℕ) (was now : B) (fault : RunFault) → HasLooked log meter old middle number
-    → slice_get middle number ≡ Some was → GoesOn (meter was) (meter now) → StopsLookingAt number (log was) (meter was) (meter now) fault
+    → slice_get middle number ≡ Some was → MeterGoesOn (meter was) (meter now) → StopsLookingAt number (log was) (meter was) (meter now) fault
     → BringsBack meter old (slice_set middle number now) (Some fault)
 looked_faults log meter old middle number was now (faults.NotEmpty clone) looked at goes stops = looked_well log meter old middle number was now looked at goes stops.2
 looked_faults log meter old middle number was now (faults.Device clone) looked at goes stops = record {
@@ -220,7 +220,7 @@ looked_faults log meter old middle number was now faults.NoMemory looked at goes
 looked_faults log meter old middle number was now fault looked at goes stops = absurd stops
 
 -- a side was looked at, and then the look at the other one stopped
-pub stops_later : (number : ℕ) (log : Option Log) (first second third : Meter) (fault : RunFault) → GoesOn first second → HadNoFault first second → StopsLookingAt number log second third fault
+pub stops_later : (number : ℕ) (log : Option Log) (first second third : Meter) (fault : RunFault) → MeterGoesOn first second → HadNoFault first second → StopsLookingAt number log second third fault
     → StopsLookingAt number log first third fault
 stops_later number log first second third (faults.NotEmpty clone) goes quiet stops = (stops.0, stops.1, stops.2 ∙ quiet)
 stops_later number log first second third (faults.Device clone) goes quiet stops =
@@ -256,10 +256,10 @@ pub blanking_next : {B : Type 0} (log : B → Option Log) (meter : B → Meter) 
 blanking_next {B = B} log meter old done rest left one number blanking is = subst (λ (l : List B). AreEmpty log l) is blanking.empty zero one refl
 
 module _ {B : Type 0} (meter : B → Meter) (done : List B) (was now : B) (rest : List B) where
-  meters_swap : GoesOn (meter was) (meter now) → MetersGoOn meter (done ++ was ∷ rest) (done ++ now ∷ rest)
+  meters_swap : MeterGoesOn (meter was) (meter now) → MetersGoOn meter (done ++ was ∷ rest) (done ++ now ∷ rest)
   meters_swap goes = record {
     count = swap_length done was now rest;
-    each = swap_at (λ x y. GoesOn (meter x) (meter y)) done was now rest goes (λ one. goes_on_same (meter one));
+    each = swap_at (λ x y. MeterGoesOn (meter x) (meter y)) done was now rest goes (λ one. goes_on_same (meter one));
   }
 
   quiet_swap : HadNoFault (meter was) (meter now) → HadNoFaults meter (done ++ was ∷ rest) (done ++ now ∷ rest)
@@ -285,13 +285,13 @@ quiet_before : {B : Type 0} (log : B → Option Log) (meter : B → Meter) (old 
 quiet_before {B = B} log meter old done rest left was number blanking is = subst (λ (l : List B). HadNoFaults meter old (done ++ l)) is blanking.quiet
 
 blanking_meters : {B : Type 0} (log : B → Option Log) (meter : B → Meter) (old done rest left : List B) (was now : B) (number : ℕ) → IsBlanking log meter old done rest number
-    → rest ≡ was ∷ left → GoesOn (meter was) (meter now) → MetersGoOn meter old (done ++ now ∷ left)
+    → rest ≡ was ∷ left → MeterGoesOn (meter was) (meter now) → MetersGoOn meter old (done ++ now ∷ left)
 blanking_meters log meter old done rest left was now number blanking is goes =
     meters_then meter old (done ++ was ∷ left) (done ++ now ∷ left) (meters_before log meter old done rest left was number blanking is) (meters_swap meter done was now left goes)
 
 -- they are made a blank
 pub blanking_more : {B : Type 0} (log : B → Option Log) (meter : B → Meter) (old done rest left more : List B) (was now : B) (number : ℕ) → IsBlanking log meter old done rest number
-    → rest ≡ was ∷ left → more ≡ done ++ now ∷ [] → GoesOn (meter was) (meter now) → HadNoFault (meter was) (meter now) → IsBlanking log meter old more left (number + 1)
+    → rest ≡ was ∷ left → more ≡ done ++ now ∷ [] → MeterGoesOn (meter was) (meter now) → HadNoFault (meter was) (meter now) → IsBlanking log meter old more left (number + 1)
 blanking_more {B = B} log meter old done rest left more was now number blanking is more_is goes quiet = rw more_is (record {
   meters = rw (append_assoc done (now ∷ []) left) (blanking_meters log meter old done rest left was now number blanking is goes);
   quiet = rw (append_assoc done (now ∷ []) left)
@@ -306,7 +306,7 @@ blanking_more {B = B} log meter old done rest left more was now number blanking 
 
 -- their device failed
 pub blanking_stops : {B : Type 0} (log : B → Option Log) (meter : B → Meter) (old done rest left back : List B) (was now : B) (number : ℕ) → IsBlanking log meter old done rest number
-    → rest ≡ was ∷ left → back ≡ done ++ now ∷ left → GoesOn (meter was) (meter now) → HadFault (meter was) (meter now)
+    → rest ≡ was ∷ left → back ≡ done ++ now ∷ left → MeterGoesOn (meter was) (meter now) → HadFault (meter was) (meter now)
     → HaveFailed meter number old back
 blanking_stops log meter old done rest left back was now number blanking is back_is goes fails =
     rw (back_is, blanking.counted) (record {

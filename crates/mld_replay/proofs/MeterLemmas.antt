@@ -3,7 +3,7 @@ use Rattle.std.proofs.Common.{◌≡◌, ◌≢◌, ℕ, List, [], refl, sym, �
 use Rattle.std.specs.Prelude.{slice_get}
 use Rattle.std.proofs.lemmas.Option.{slice_get_within, slice_get-get_or}
 use Rattle.mld_io.specs.Arm.{Meter}
-use Rattle.net_world.specs.WorldBanks.{GoesOn, MetersGoOn, HadNoFaults, HasFailed, HasFaultsFor, RefusesFounding}
+use Rattle.net_world.specs.WorldBanks.{MeterGoesOn, MetersGoOn, HadNoFaults, HasFailed, HasFaultsFor, RefusesFounding}
 use Rattle.net_world.specs.declared.faults.WorldFault.{WorldFault}
 use Rattle.net_world.specs.declared.faults.WorldFault.TheVariants as worlds
 use Rattle.net_world.proofs.FaultLemmas.{goes_then, fault_later}
@@ -19,7 +19,7 @@ use Rattle.mld_replay.specs.declared.run.RunFault.TheVariants as faults
 some_is : {B : Type 0} {one other : B} → ◌≡◌ {A = Option B} (Some one) (Some other) → one ≡ other
 some_is same = cc
 
-pub goes_on_same : (meter : Meter) → GoesOn meter meter
+pub goes_on_same : (meter : Meter) → MeterGoesOn meter meter
 goes_on_same meter = record { later = omega arith; unarmed = λ is. is; caught = λ is. is }
 
 -- nothing was called
@@ -28,7 +28,7 @@ meters_same {B = B} meter banks = record {
   count = refl;
   each = λ number was now was_at now_at.
       let same : was ≡ now = some_is (sym was_at ∙ now_at) in
-      subst (λ (one : B). GoesOn (meter was) (meter one)) same (goes_on_same (meter was));
+      subst (λ (one : B). MeterGoesOn (meter was) (meter one)) same (goes_on_same (meter was));
 }
 
 -- what was there at a number before is there later

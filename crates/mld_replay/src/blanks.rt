@@ -3,7 +3,7 @@ ghost use Rattle.std.specs.Prelude.{◌≡◌, ◌<◌, ◌+◌, ◌≤◌, ◌+
 ghost use Rattle.std.specs.Result.{result_err};
 ghost use Rattle.mld_io.specs.Disk.{Log, bytes_of, seen};
 ghost use Rattle.mld_model.specs.World.{clone_count};
-ghost use Rattle.net_world.specs.WorldBanks.{GoesOn, MetersGoOn, HadNoFault, HadFault};
+ghost use Rattle.net_world.specs.WorldBanks.{MeterGoesOn, MetersGoOn, HadNoFault, HadFault};
 ghost use Rattle.mld_replay.specs.BankFaults.{AreWell, BringsBack};
 ghost use Rattle.mld_replay.specs.Filled.{IsFilled, LogsStay};
 ghost use Rattle.mld_replay.specs.Looking.{AreEmpty, StopsLookingAt, StopsLooking, StopsBlanking};
@@ -37,7 +37,7 @@ pub fn find_filled<B: CrashBanks>(banks: &mut Vec<B>) -> Result<(), RunFault>
 fn look_at<B: CrashBanks>(banks: &mut B, number: u8) -> Result<(), RunFault>
     ensures log { B.log banks.new ≡ B.log banks.old }
     ensures empty { OnOk result (¬ IsFilled (B.log banks.old)) }
-    ensures meter { GoesOn (B.meter banks.old) (B.meter banks.new) }
+    ensures meter { MeterGoesOn (B.meter banks.old) (B.meter banks.new) }
     ensures quiet { OnOk result (HadNoFault (B.meter banks.old) (B.meter banks.new)) }
     ensures err { IfErr result (StopsLookingAt number (B.log banks.old) (B.meter banks.old) (B.meter banks.new)) }
 {
@@ -51,7 +51,7 @@ fn look_at<B: CrashBanks>(banks: &mut B, number: u8) -> Result<(), RunFault>
 fn has_bytes<B: CrashBanks>(banks: &mut B, side: Side, number: u8) -> Result<bool, RunFault>
     ensures log { B.log banks.new ≡ B.log banks.old }
     ensures bytes { (l : Log) → B.log banks.old ≡ Some l → IfOk result (λ has. IsTrue has ↔ (0 < length (bytes_of side (seen l)))) }
-    ensures meter { GoesOn (B.meter banks.old) (B.meter banks.new) }
+    ensures meter { MeterGoesOn (B.meter banks.old) (B.meter banks.new) }
     ensures quiet { OnOk result (HadNoFault (B.meter banks.old) (B.meter banks.new)) }
     ensures err { IfErr result (StopsLookingAt number (B.log banks.old) (B.meter banks.old) (B.meter banks.new)) }
 {
@@ -102,9 +102,9 @@ fn blank_of<R: Threads, B: CrashBanks>(
     banks: B,
 ) -> Result<Blank<B>, Option<B>>
     requires { ¬ IsFilled (B.log banks) }
-    ensures ok { IfOk result (λ blank. GoesOn (B.meter banks) (B.meter blank)) }
+    ensures ok { IfOk result (λ blank. MeterGoesOn (B.meter banks) (B.meter blank)) }
     ensures quiet { IfOk result (λ blank. HadNoFault (B.meter banks) (B.meter blank)) }
-    ensures later { IfErr result (λ refused. IfSome refused (λ back. GoesOn (B.meter banks) (B.meter back))) }
+    ensures later { IfErr result (λ refused. IfSome refused (λ back. MeterGoesOn (B.meter banks) (B.meter back))) }
     ensures failed { IfErr result (λ refused. IfSome refused (λ back. HadFault (B.meter banks) (B.meter back))) }
 {
     match MldClone::mount(rt, alloc, banks) {

@@ -19,7 +19,7 @@ use Rattle.mld_model.specs.Sound.{Keeps, IsSound}
 use Rattle.mld_model.specs.StandsFor.{StoredStandsFor, CloneStandsFor}
 use Rattle.mld_model.specs.World.{World, Message, clone_at, message_at}
 use Rattle.clone_core.specs.Banked.{BankedClone}
-use Rattle.clone_core.specs.Closing.{StaysOpen}
+use Rattle.clone_core.specs.CloneClosing.{StaysOpen}
 use Rattle.schedule_model.specs.declared.Command.{Command}
 use Rattle.schedule_model.specs.declared.Command.TheVariants.{Add, Remove, Deliver, Show, Compare, Join, Ask, Compact, Truncate, Stop, Open}
 use Rattle.schedule_model.specs.Step.{Step, number_of_clone}
@@ -28,7 +28,7 @@ use Rattle.schedule_model.proofs.ChangesLaws.{step_keeps_domain, step_keeps_othe
 use Rattle.net_world.specs.declared.faults.WorldFault.{WorldFault}
 use Rattle.net_world.specs.declared.faults.WorldFault.TheVariants as faults
 use Rattle.net_world.specs.States.{HasState, Becomes}
-use Rattle.net_world.specs.WorldBanks.{BankedState, BankedWorld, in_memory, banks_of_state, memory_of, KeepsNoneNow, KeepsStored, BanksStandFor, IsReached, IsDownOn, IsOpenAt, IsBacked, StandsOnBanks, GoesOn, MetersGoOn, HadNoFault, HadNoFaults, HadFault, HasFailed, HasFaultsFor}
+use Rattle.net_world.specs.WorldBanks.{BankedState, BankedWorld, in_memory, banks_of_state, memory_of, KeepsNoneNow, KeepsStored, BanksStandFor, IsReached, IsDownOn, IsOpenAt, IsBacked, StandsOnBanks, MeterGoesOn, MetersGoOn, HadNoFault, HadNoFaults, HadFault, HasFailed, HasFaultsFor}
 use Rattle.net_world.specs.OneCall.{FailsAt, HasFaultsAt, UsesBanksOf, StaysOpenNext, IsNextGeneration, is_first, is_next, IsOpenNext, IsCarried, IsCarriedAt}
 use Rattle.net_world.specs.WorldFaults.{fault_of_made}
 use Rattle.net_world.specs.Worlds.{Moves, MovesOnBanks}
@@ -53,11 +53,11 @@ module _ {B : Type 0} where
 -- ---- meters
 
 -- banks that were not used
-pub goes_on_same : (meter : Meter) → GoesOn meter meter
+pub goes_on_same : (meter : Meter) → MeterGoesOn meter meter
 goes_on_same meter = record { later = omega arith; unarmed = λ is. is; caught = λ is. is }
 
 -- banks that were used
-pub goes_on : (calls : ℕ) (before now : Meter) (Done Failed : Type 0) → Metered calls before now Done Failed → GoesOn before now
+pub goes_on : (calls : ℕ) (before now : Meter) (Done Failed : Type 0) → Metered calls before now Done Failed → MeterGoesOn before now
 goes_on calls before now Done Failed metered = record {
   later = metered.real_later;
   unarmed = λ is. subst (λ (a : Arm). LowersAtMost calls a now.arm) is metered.lowered;
@@ -82,17 +82,17 @@ faults_made number calls before now Done make.NoMemory metered = quiet_metered c
 
 module _ {B : Type 0} (meter : B → Meter) where
   -- banks of which those of one clone were used
-  banks_set : (old : List B) (number : ℕ) (was now : B) → slice_get old number ≡ Some was → GoesOn (meter was) (meter now) → MetersGoOn meter old (set old number now)
+  banks_set : (old : List B) (number : ℕ) (was now : B) → slice_get old number ≡ Some was → MeterGoesOn (meter was) (meter now) → MetersGoOn meter old (set old number now)
   banks_set old number was now at on = record {
     count = length-set old number now;
     each = λ other before after had has. elim (cases_eq other number) [
       | inl same ↦
           let first : was ≡ before = cc (at, subst (λ (k : ℕ). slice_get old k ≡ Some before) same had) in
           let second : now ≡ after = here_at old number now after (subst (λ (k : ℕ). slice_get (set old number now) k ≡ Some after) same has) in
-          subst (λ (b : B). GoesOn (meter b) (meter after)) first (subst (λ (b : B). GoesOn (meter was) (meter b)) second on)
+          subst (λ (b : B). MeterGoesOn (meter b) (meter after)) first (subst (λ (b : B). MeterGoesOn (meter was) (meter b)) second on)
       | inr differs ↦
           let kept : before ≡ after = cc (had, other_at old number other now after differs has) in
-          subst (λ (b : B). GoesOn (meter before) (meter b)) kept (goes_on_same (meter before))
+          subst (λ (b : B). MeterGoesOn (meter before) (meter b)) kept (goes_on_same (meter before))
     ];
   }
 
@@ -108,12 +108,12 @@ module _ {B : Type 0} (meter : B → Meter) where
   pub meters_same : (clones : List (BankedState B)) → MetersGoOn meter (map banks_of_state clones) (map banks_of_state clones)
   meters_same clones = record {
     count = refl;
-    each = λ other before after had has. subst (λ (b : B). GoesOn (meter before) (meter b)) (cc (had, has)) (goes_on_same (meter before));
+    each = λ other before after had has. subst (λ (b : B). MeterGoesOn (meter before) (meter b)) (cc (had, has)) (goes_on_same (meter before));
   }
 
   -- clones of which one changed
   pub meters_set : (old new : List (BankedState B)) (number : ℕ) (before after : BankedState B) → Becomes old new number before after
-      → GoesOn (meter (banks_of_state before)) (meter (banks_of_state after)) → MetersGoOn meter (map banks_of_state old) (map banks_of_state new)
+      → MeterGoesOn (meter (banks_of_state before)) (meter (banks_of_state after)) → MetersGoOn meter (map banks_of_state old) (map banks_of_state new)
   meters_set old new number before after becomes on =
       subst (λ (l : List B). MetersGoOn meter (map banks_of_state old) l) (sym (banks_become old new number after becomes.now))
       (banks_set (map banks_of_state old) number (banks_of_state before) (banks_of_state after) (banks_at old number before becomes.was) on)
@@ -123,7 +123,7 @@ module _ {B : Type 0} (meter : B → Meter) where
   uses_same clones number = record { meters = meters_same clones; others = λ other differs. refl }
 
   pub uses_set : (old new : List (BankedState B)) (number : ℕ) (before after : BankedState B) → Becomes old new number before after
-      → GoesOn (meter (banks_of_state before)) (meter (banks_of_state after)) → UsesBanksOf meter number (map banks_of_state old) (map banks_of_state new)
+      → MeterGoesOn (meter (banks_of_state before)) (meter (banks_of_state after)) → UsesBanksOf meter number (map banks_of_state old) (map banks_of_state new)
   uses_set old new number before after becomes on = record {
     meters = meters_set old new number before after becomes on;
     others = λ other differs.

@@ -21,7 +21,7 @@ use Rattle.schedule_model.specs.declared.Command.TheVariants.{Add, Remove}
 use Rattle.schedule_model.specs.WorldStep.{IsMissingReply}
 use Rattle.schedule_model.proofs.WorldLaws.{stepped_sending, add_follows, add_missing, remove_follows, remove_nothing, remove_missing}
 use Rattle.clone_core.specs.Banked.{BankedClone}
-use Rattle.clone_core.specs.Closing.{StaysOpen}
+use Rattle.clone_core.specs.CloneClosing.{StaysOpen}
 use Rattle.net_world.specs.declared.faults.WorldFault.{WorldFault}
 use Rattle.net_world.specs.declared.parts.Parts.{Parts}
 use Rattle.schedule_replies.specs.declared.replies.Reply.{Reply as CodeReply}

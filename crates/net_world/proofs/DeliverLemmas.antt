@@ -41,7 +41,7 @@ use Rattle.mld_model.specs.World.{numbered}
 use Rattle.net_world.specs.WorldParts.{running_of, HasStepLeft, Does}
 use Rattle.schedule_replies.specs.Replies.{reply_value, numbers_between}
 use Rattle.net_world.specs.States.{HasState, Becomes, reply_of_state}
-use Rattle.net_world.specs.WorldBanks.{BankedState, in_memory, banks_of_state, memory_of, GoesOn}
+use Rattle.net_world.specs.WorldBanks.{BankedState, in_memory, banks_of_state, memory_of, MeterGoesOn}
 use Rattle.net_world.specs.OneCall.{HasFaultsAt, is_first, IsCarried, IsCarriedAt}
 use Rattle.net_world.specs.Worlds.{Moves}
 use Rattle.net_world.proofs.Places.{set_again}
@@ -388,9 +388,9 @@ module _ {B : Type 0} (meter : B → Meter) (old new : List (BankedState B)) (nu
 
   -- its meter
   pub asking_on : (what : Adopted B) (told : BankedState B × Result Received WorldFault) → IsToldOf number what told
-      → Metered (adopting_calls what) (meter asking.banks) (meter (banks_of_adopted what)) (AdoptsWhole what) (FailsToAdopt what) → GoesOn (meter asking.banks) (meter (banks_of_state told.0))
+      → Metered (adopting_calls what) (meter asking.banks) (meter (banks_of_adopted what)) (AdoptsWhole what) (FailsToAdopt what) → MeterGoesOn (meter asking.banks) (meter (banks_of_state told.0))
   asking_on what told is metered =
-      subst (λ (b : B). GoesOn (meter asking.banks) (meter b)) (sym (adopted_banks what told is))
+      subst (λ (b : B). MeterGoesOn (meter asking.banks) (meter b)) (sym (adopted_banks what told is))
       (goes_on (adopting_calls what) (meter asking.banks) (meter (banks_of_adopted what)) (AdoptsWhole what) (FailsToAdopt what) metered)
 
   -- what its meter counted

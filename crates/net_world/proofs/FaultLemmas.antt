@@ -7,10 +7,10 @@ use Rattle.mld_io.specs.Faults.{Rose}
 use Rattle.journal_store.specs.declared.faults.MakeFault.{MakeFault}
 use Rattle.mld_model.specs.declared.CloneState.TheVariants as states
 use Rattle.clone_core.specs.Banked.{BankedClone}
-use Rattle.clone_core.specs.Closing.{FailsToFound}
+use Rattle.clone_core.specs.CloneClosing.{FailsToFound}
 use Rattle.net_world.specs.declared.faults.WorldFault.{WorldFault}
 use Rattle.net_world.specs.declared.faults.WorldFault.TheVariants as faults
-use Rattle.net_world.specs.WorldBanks.{BankedState, banks_of_state, GoesOn, MetersGoOn, HadNoFault, HadNoFaults, HadFault, HasFailed, HasFaultsFor}
+use Rattle.net_world.specs.WorldBanks.{BankedState, banks_of_state, MeterGoesOn, MetersGoOn, HadNoFault, HadNoFaults, HadFault, HasFailed, HasFaultsFor}
 use Rattle.net_world.specs.Founding.{HasFaultsOf, HasFaultsBy, IsMadeFirst}
 use Rattle.net_world.specs.OneCall.{FailsAt, HasFaultsAt}
 use Rattle.net_world.specs.WorldFaults.{fault_of_made}
@@ -29,7 +29,7 @@ first_faults {B = B} {U = U} calls made told before now Done first metered = by 
     by (Ok value) ok err = quiet_metered calls before now Done ⊥ (of_made (Ok ok.0) ok.1) (λ fails. fails)
     by (Err fault) ok err = subst (FailsAt 0 before now) (sym err.2) (faults_made 0 calls before now Done err.0.0 (of_made (Err err.0) err.1))
 
-pub goes_then : (before mid now : Meter) → GoesOn before mid → GoesOn mid now → GoesOn before now
+pub goes_then : (before mid now : Meter) → MeterGoesOn before mid → MeterGoesOn mid now → MeterGoesOn before now
 goes_then before mid now first second = record { later = omega (arith, first.later, second.later); unarmed = λ is. second.unarmed (first.unarmed is); caught = λ is. second.caught (first.caught is) }
 
 -- a call that failed later, and none before
@@ -40,7 +40,7 @@ fault_later before mid now quiet fault = elim fault [
 ]
 
 -- and one that failed, and none after it
-fault_kept : (before mid now : Meter) → GoesOn mid now → HadNoFault mid now → HadFault before mid → HadFault before now
+fault_kept : (before mid now : Meter) → MeterGoesOn mid now → HadNoFault mid now → HadFault before mid → HadFault before now
 fault_kept before mid now goes quiet fault = elim fault [
   | inl caught ↦ inl (goes.caught caught)
   | inr rose ↦ inr (subst (λ (count : ℕ). Rose before.real_faults count) (sym quiet) rose)

@@ -24,7 +24,7 @@ use Rattle.net_world.specs.Asking.{AsksFirst, SendsQuestion}
 use Rattle.net_world.specs.Founding.{IsNewAsker}
 use Rattle.schedule_replies.specs.Replies.{reply_value}
 use Rattle.net_world.specs.States.{HasState, reply_of_state}
-use Rattle.net_world.specs.WorldBanks.{BankedState, in_memory, banks_of_state, memory_of, GoesOn, HadNoFault, HasFaultsFor}
+use Rattle.net_world.specs.WorldBanks.{BankedState, in_memory, banks_of_state, memory_of, MeterGoesOn, HadNoFault, HasFaultsFor}
 use Rattle.net_world.specs.WorldParts.{running_of, KeepsDomain, Does}
 use Rattle.net_world.specs.Worlds.{Moves}
 use Rattle.net_world.proofs.BankLemmas.{memory_at, memory_becomes, goes_on_same, memory_at_one, faults_set}
@@ -92,7 +92,7 @@ module _ {B : Type 0} (log : B → Option Log) (meter : B → Meter) (old new : 
   pub join_first_keeps : (question : Message) → AsksFirst old.domain old.properties.items number old.clones.items new.clones.items question → KeepsDomain meter number old new
   join_first_keeps question asks =
       keeps_set log meter old new domain properties number (states.Absent asks.blank) (states.Asking asks.asking) asks.becomes
-      (subst (λ (b : B). GoesOn (meter asks.blank) (meter b)) (sym asks.banks) (goes_on_same (meter asks.blank)))
+      (subst (λ (b : B). MeterGoesOn (meter asks.blank) (meter b)) (sym asks.banks) (goes_on_same (meter asks.blank)))
 
   -- a clone that has a leaf answered by its state
   pub join_settled_done : (state : BankedState B) (reply : CodeReply) → reply_value reply ≡ reply_of_state (in_memory state) → HasState old.clones.items number state

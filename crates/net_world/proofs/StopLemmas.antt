@@ -41,7 +41,7 @@ use Rattle.net_world.specs.OpeningBanks.{IsWholeAt, IsUndamaged, IsOpenedAs, Ope
 use Rattle.schedule_replies.specs.Replies.{reply_value}
 use Rattle.net_world.specs.States.{HasState, Becomes, reply_of_state}
 use Rattle.net_world.specs.StoppedClones.{StopsOnBanks}
-use Rattle.net_world.specs.WorldBanks.{BankedState, in_memory, banks_of_state, memory_of, stored_in, KeepsNoneNow, KeepsStored, IsReached, IsDownOn, IsOpenAt, IsBacked, StandsOnBanks, GoesOn, HadNoFaults}
+use Rattle.net_world.specs.WorldBanks.{BankedState, in_memory, banks_of_state, memory_of, stored_in, KeepsNoneNow, KeepsStored, IsReached, IsDownOn, IsOpenAt, IsBacked, StandsOnBanks, MeterGoesOn, HadNoFaults}
 use Rattle.net_world.specs.OneCall.{HasFaultsAt}
 use Rattle.net_world.specs.WorldParts.{running_of, HasStepLeft, KeepsDomain, Does}
 use Rattle.net_world.proofs.BankLemmas.{memory_at, memory_becomes, goes_on, goes_on_same, quiet_metered, quiet_becomes}
@@ -296,9 +296,9 @@ module _ {B : Type 0} (log : B → Option Log) (meter : B → Meter) (domain : L
 
   -- its meter
   pub opened_on : (what : Mounted B) (told : BankedState B × Result CodeReply WorldFault) → IsOpenedAs domain properties number what told
-      → Metered mount_calls (meter banks) (meter (banks_of_mounted what)) (SyncsBoth what) (FailsToOpen what) → GoesOn (meter banks) (meter (banks_of_state told.0))
+      → Metered mount_calls (meter banks) (meter (banks_of_mounted what)) (SyncsBoth what) (FailsToOpen what) → MeterGoesOn (meter banks) (meter (banks_of_state told.0))
   opened_on what told is metered =
-      subst (λ (b : B). GoesOn (meter banks) (meter b)) (sym (opened_banks what told is))
+      subst (λ (b : B). MeterGoesOn (meter banks) (meter b)) (sym (opened_banks what told is))
       (goes_on mount_calls (meter banks) (meter (banks_of_mounted what)) (SyncsBoth what) (FailsToOpen what) metered)
 
   -- what its meter counted

@@ -23,7 +23,7 @@ use Rattle.net_world.specs.Commands.{Answered}
 use Rattle.net_world.specs.WorldParts.{running_of, HasStepLeft, KeepsDomain, Does}
 use Rattle.schedule_replies.specs.Replies.{reply_value}
 use Rattle.net_world.specs.States.{HasState, Becomes, reply_of_state}
-use Rattle.net_world.specs.WorldBanks.{BankedState, BankedWorld, in_memory, banks_of_state, memory_of, banks_of, IsOpenAt, IsBacked, StandsOnBanks, GoesOn}
+use Rattle.net_world.specs.WorldBanks.{BankedState, BankedWorld, in_memory, banks_of_state, memory_of, banks_of, IsOpenAt, IsBacked, StandsOnBanks, MeterGoesOn}
 use Rattle.net_world.specs.OneCall.{UsesBanksOf, IsCarriedAt}
 use Rattle.net_world.specs.Worlds.{IsStanding, Moves, FollowsOnBanks, Stepped}
 use Rattle.net_world.proofs.BankLemmas.{memory_at, uses_same, uses_set, StaysShut, moves_at, moves_still, moves_carried}
@@ -155,7 +155,7 @@ module _ {B : Type 0} (log : B → Option Log) (meter : B → Meter) (old new : 
 
   -- where one clone is in another state, or was used
   pub keeps_set : (number : ℕ) (before after : BankedState B) → Becomes old.clones.items new.clones.items number before after
-      → GoesOn (meter (banks_of_state before)) (meter (banks_of_state after)) → KeepsDomain meter number old new
+      → MeterGoesOn (meter (banks_of_state before)) (meter (banks_of_state after)) → KeepsDomain meter number old new
   keeps_set number before after becomes on = keeps_banks number (uses_set meter old.clones.items new.clones.items number before after becomes on)
 
   -- where no clone is

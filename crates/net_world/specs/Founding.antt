@@ -16,14 +16,14 @@ use Rattle.mld_model.specs.StandsFor.{id_of, founded_local}
 use Rattle.mld_model.specs.World.{World, clone_count}
 use Rattle.mld_model.specs.declared.CloneState.TheVariants as states
 use Rattle.clone_core.specs.Banked.{BankedAsker, BankedClone}
-use Rattle.clone_core.specs.Closing.{banks_of_made, StaysOpen}
+use Rattle.clone_core.specs.CloneClosing.{banks_of_made, StaysOpen}
 use Rattle.schedule_model.specs.Schedule.{Setup, IsSetup}
 use Rattle.schedule_model.specs.Runs.{IsFoundedBy}
 use Rattle.tree_clock.specs.Lists.{Has, IsAscending}
 use Rattle.net_world.specs.declared.faults.WorldFault.{WorldFault}
 use Rattle.net_world.specs.declared.faults.WorldFault.TheVariants as faults
 use Rattle.net_world.specs.States.{HasState, Becomes}
-use Rattle.net_world.specs.WorldBanks.{BankedState, BankedWorld, StandsOnBanks, in_memory, banks_of_state, GoesOn, HadNoFault, HadNoFaults, HasFailed}
+use Rattle.net_world.specs.WorldBanks.{BankedState, BankedWorld, StandsOnBanks, in_memory, banks_of_state, MeterGoesOn, HadNoFault, HadNoFaults, HasFailed}
 use Rattle.net_world.specs.OneCall.{HasFaultsAt}
 use Rattle.net_world.specs.WorldFaults.{fault_of_made}
 
@@ -129,8 +129,8 @@ pub data HasFaultsOfTwo {U : Type 0} (number : ℕ) (giver giver_now taker taker
 
 -- what became of one who asked the first clone, and of that clone: the leaf was given and taken, or the banks of one of them failed
 pub record JoinsBy {B U : Type 0} (meter : B → Meter) (number : ℕ) (asking : BankedAsker B) (was now : BankedClone B) (told : BankedState B × Result U WorldFault) : Type 0 where
-  pub giver : GoesOn (meter was.banks) (meter now.banks)
-  pub taker : GoesOn (meter asking.banks) (meter (banks_of_state told.0))
+  pub giver : MeterGoesOn (meter was.banks) (meter now.banks)
+  pub taker : MeterGoesOn (meter asking.banks) (meter (banks_of_state told.0))
   pub ok : OnOk told.1 (TakesHalf asking.asker was now told.0)
   pub faults : HasFaultsOfTwo number (meter was.banks) (meter now.banks) (meter asking.banks) (meter (banks_of_state told.0)) told.1
 

@@ -119,7 +119,7 @@ pub record StandsOnBanks {B : Type 0} (log : B → Option Log) (running : Banked
 -- ---- faults of banks
 
 -- the meter of banks that were used: no real fault is forgotten, no call arms them, and an arm that caught a call still does
-pub record GoesOn (before now : Meter) : Type 0 where
+pub record MeterGoesOn (before now : Meter) : Type 0 where
   pub later : before.real_faults ≤ now.real_faults
   pub unarmed : before.arm ≡ Unarmed → now.arm ≡ Unarmed
   pub caught : before.arm ≡ Caught → now.arm ≡ Caught
@@ -127,7 +127,7 @@ pub record GoesOn (before now : Meter) : Type 0 where
 -- so it is of each of these banks, by number
 pub record MetersGoOn {B : Type 0} (meter : B → Meter) (old new : List B) : Type 0 where
   pub count : length new ≡ length old
-  pub each : (number : ℕ) (was now : B) → slice_get old number ≡ Some was → slice_get new number ≡ Some now → GoesOn (meter was) (meter now)
+  pub each : (number : ℕ) (was now : B) → slice_get old number ≡ Some was → slice_get new number ≡ Some now → MeterGoesOn (meter was) (meter now)
 
 -- no real fault was counted
 abbrev pub HadNoFault : Meter → Meter → Type 0

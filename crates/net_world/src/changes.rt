@@ -4,10 +4,10 @@ ghost use Rattle.tree_clock.specs.Limits.{tick_limit};
 ghost use Rattle.tree_clock.specs.Clock.{ticks_of};
 ghost use Rattle.mld_ops.specs.Messages.{message_value};
 ghost use Rattle.schedule_model.specs.declared.Command.TheVariants as commands;
-ghost use Rattle.clone_core.specs.Closing.{StaysOpen};
+ghost use Rattle.clone_core.specs.CloneClosing.{StaysOpen};
 ghost use Rattle.net_world.specs.Changes.{IsSetting, SetsAs, SendsEntry};
 ghost use Rattle.net_world.specs.WorldParts.{HasStepLeft, KeepsDomain, HasFaultsOfParts, Does};
-ghost use Rattle.net_world.specs.WorldBanks.{GoesOn};
+ghost use Rattle.net_world.specs.WorldBanks.{MeterGoesOn};
 ghost use Rattle.net_world.specs.OneCall.{HasFaultsAt};
 
 use crate::faults::WorldFault;
@@ -72,7 +72,7 @@ fn set<B: CrashBanks>(
     requires opened { clone.old.closed ≡ None }
     requires ticks { ticks_of clone.old.local.ticks clone.old.local.path < tick_limit }
     ensures opened { OnOk result (StaysOpen clone.old clone.new) }
-    ensures meter { GoesOn (B.meter clone.old.banks) (B.meter clone.new.banks) }
+    ensures meter { MeterGoesOn (B.meter clone.old.banks) (B.meter clone.new.banks) }
     ensures faults { HasFaultsAt number (B.meter clone.old.banks) (B.meter clone.new.banks) result }
     ensures done { IfOk result (SetsAs clone.old.local (map message_value messages.old.items) triple.now present clone.new.local (map message_value messages.new.items)) }
 {

@@ -7,7 +7,7 @@ ghost use Rattle.clone_core.specs.Banked.{BankedAsker};
 ghost use Rattle.mld_model.specs.LocalStep.{IsForeignTo};
 ghost use Rattle.net_world.specs.Delivering.{IsFitFor, ReceivesAt, ReceivesLive, IsToldOf, SendsAnswers};
 ghost use Rattle.net_world.specs.States.{HasState};
-ghost use Rattle.net_world.specs.WorldBanks.{in_memory, banks_of_state, GoesOn, HasFaultsFor};
+ghost use Rattle.net_world.specs.WorldBanks.{in_memory, banks_of_state, MeterGoesOn, HasFaultsFor};
 ghost use Rattle.net_world.specs.OneCall.{UsesBanksOf, HasFaultsAt, StaysOpenNext, IsCarriedAt};
 ghost use Rattle.mld_model.specs.World.{numbered};
 ghost use Rattle.net_world.specs.declared.faults.WorldFault.TheVariants.{NoMemory};
@@ -101,7 +101,7 @@ fn receive_live<R: Threads, B: CrashBanks>(
     requires good { IsGoodMessage (message_value message.now) }
     ensures ok { IfOk result (ReceivesLive clone.old.local message.now clone.new.local) }
     ensures opened { OnOk result (StaysOpenNext clone.old clone.new) }
-    ensures meter { GoesOn (B.meter clone.old.banks) (B.meter clone.new.banks) }
+    ensures meter { MeterGoesOn (B.meter clone.old.banks) (B.meter clone.new.banks) }
     ensures faults { HasFaultsAt number (B.meter clone.old.banks) (B.meter clone.new.banks) result }
 {
     match clone.receive(rt, alloc, message) {

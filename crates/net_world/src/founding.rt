@@ -3,10 +3,10 @@ ghost use Rattle.std.specs.Prelude.{◌≡◌, ◌+◌, ◌<◌, ◌≤◌, [], 
 ghost use Rattle.mld_ops.specs.Messages.{GiveValue};
 ghost use Rattle.mld_model.specs.World.{clone_count};
 ghost use Rattle.mld_model.specs.declared.CloneState.TheVariants as kinds;
-ghost use Rattle.clone_core.specs.Closing.{StaysOpen};
+ghost use Rattle.clone_core.specs.CloneClosing.{StaysOpen};
 ghost use Rattle.clone_core.specs.Joining.{LocallyGives, AreGood};
 ghost use Rattle.net_world.specs.Founding.{IsKeptSetup, GivesLeaf, AreFounded, AreFoundedTo, IsAbsentAt, IsMadeFirst, MayGive, LivesAtLeaf, JoinsBy, HasGiver, JoinsFirst, HasFaultsBy};
-ghost use Rattle.net_world.specs.WorldBanks.{BankedState, banks_of_state, GoesOn, MetersGoOn, HadNoFaults, RefusesFounding};
+ghost use Rattle.net_world.specs.WorldBanks.{BankedState, banks_of_state, MeterGoesOn, MetersGoOn, HadNoFaults, RefusesFounding};
 ghost use Rattle.schedule_text.specs.ReadLines.{setup_of};
 ghost use Rattle.net_world.specs.States.{HasState};
 ghost use Rattle.net_world.specs.OneCall.{HasFaultsAt};
@@ -205,7 +205,7 @@ fn given_leaf<R: Threads, B: CrashBanks>(
     ensures gives { IfOk result (λ messages. LocallyGives first.old.local asker.now.asker.id messages first.new.local) }
     ensures good { IfOk result (λ messages. AreGood messages) }
     ensures opened { OnOk result (StaysOpen first.old first.new) }
-    ensures meter { GoesOn (B.meter first.old.banks) (B.meter first.new.banks) }
+    ensures meter { MeterGoesOn (B.meter first.old.banks) (B.meter first.new.banks) }
     ensures faults { HasFaultsAt 0 (B.meter first.old.banks) (B.meter first.new.banks) result }
 {
     match first.receive(rt, alloc, &asker.ask()) {
@@ -231,7 +231,7 @@ fn taken_leaf<R: Threads, B: CrashBanks>(
 ) -> (RunningClone<B>, Result<(), WorldFault>)
     requires { (leaf : GiveValue) × GivesLeaf answer.now asker.asker leaf }
     ensures taken { OnOk result.1 ((leaf : GiveValue) → GivesLeaf answer.now asker.asker leaf → LivesAtLeaf asker.asker leaf result.0) }
-    ensures meter { GoesOn (B.meter asker.banks) (B.meter (banks_of_state result.0)) }
+    ensures meter { MeterGoesOn (B.meter asker.banks) (B.meter (banks_of_state result.0)) }
     ensures faults { HasFaultsAt number (B.meter asker.banks) (B.meter (banks_of_state result.0)) result.1 }
 {
     match asker.receive(rt, alloc, &answer.as_slice()[0]) {

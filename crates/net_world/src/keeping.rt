@@ -3,7 +3,7 @@ ghost use Rattle.std.specs.Prelude.{◌≡◌, ◌≢◌, ◌<◌, ◌^◌, ◌-
 ghost use Rattle.mld_io.specs.Arm.{Metered};
 ghost use Rattle.journal_store.specs.declared.faults.Why.{Why};
 ghost use Rattle.net_world.specs.KeptJournals.{keeping_command, KeepsBy, KeepsAs};
-ghost use Rattle.net_world.specs.WorldBanks.{GoesOn};
+ghost use Rattle.net_world.specs.WorldBanks.{MeterGoesOn};
 ghost use Rattle.net_world.specs.OneCall.{HasFaultsAt};
 ghost use Rattle.net_world.specs.WorldParts.{HasStepLeft, KeepsDomain, HasFaultsOfParts, Does};
 
@@ -54,7 +54,7 @@ fn keep_live<B: CrashBanks>(
     requires opened { clone.old.closed ≡ None }
     requires left { clone.old.generation ≢ 2 ^ 64 - 1 }
     ensures opened { OnOk result (clone.new.closed ≡ None) }
-    ensures meter { GoesOn (B.meter clone.old.banks) (B.meter clone.new.banks) }
+    ensures meter { MeterGoesOn (B.meter clone.old.banks) (B.meter clone.new.banks) }
     ensures faults { HasFaultsAt number (B.meter clone.old.banks) (B.meter clone.new.banks) result }
     ensures done { IfOk result (KeepsAs keeping clone.old clone.new) }
 {

@@ -2,10 +2,10 @@ use Rattle.std.proofs.Common.{◌∙◌, arith, ap, sym, subst, set, map}
 use Rattle.std.proofs.lemmas.Result.{on_ok_weaker, IfOk-at_ok}
 use Rattle.mld_model.specs.declared.CloneState.TheVariants as kinds
 use Rattle.clone_banks.specs.BankCalls.{create_calls}
-use Rattle.clone_core.specs.Closing.{banks_of_made}
+use Rattle.clone_core.specs.CloneClosing.{banks_of_made}
 use Rattle.schedule_text.specs.ReadLines.{setup_of}
 use Rattle.net_world.specs.States.{Becomes}
-use Rattle.net_world.specs.WorldBanks.{BankedState, banks_of_state, GoesOn}
+use Rattle.net_world.specs.WorldBanks.{BankedState, banks_of_state, MeterGoesOn}
 use Rattle.net_world.specs.OneCall.{HasFaultsAt}
 use Rattle.net_world.proofs.BankLemmas.{goes_on, meters_set, faults_set}
 use Rattle.net_world.proofs.FaultLemmas.{first_faults, faults_of}
@@ -30,7 +30,7 @@ module _ (g : given.Over) (c : goal.After-put_state g) where
 pub returns-clause-meters : goal.returns-clause-meters
 returns-clause-meters g c =
     meters_set g.B.Banks.meter c.args.clones.now.items c.put_state.new.clones.items 0 (kinds.Absent c.take_blank-blank.result) c.first_of-state.result.0 (becomes g c)
-    (subst (λ (b : g.row.B.Denot). GoesOn (g.B.Banks.meter c.take_blank-blank.result) (g.B.Banks.meter b)) (sym c.first_of-state.ensures.banks)
+    (subst (λ (b : g.row.B.Denot). MeterGoesOn (g.B.Banks.meter c.take_blank-blank.result) (g.B.Banks.meter b)) (sym c.first_of-state.ensures.banks)
     (goes_on create_calls _ _ _ _ c.genesis-genesis.ensures.durable.2.metered))
 
 pub returns-clause-faults : goal.returns-clause-faults

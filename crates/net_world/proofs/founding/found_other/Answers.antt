@@ -5,7 +5,7 @@ use Rattle.mld_model.specs.declared.CloneState.TheVariants as kinds
 use Rattle.net_world.specs.Founding.{IsNewAsker, HasFaultsOfTwo, giving, taking, HasFaultsBy}
 use Rattle.schedule_text.specs.ReadLines.{setup_of}
 use Rattle.net_world.specs.States.{Becomes}
-use Rattle.net_world.specs.WorldBanks.{BankedState, banks_of_state, GoesOn, MetersGoOn}
+use Rattle.net_world.specs.WorldBanks.{BankedState, banks_of_state, MeterGoesOn, MetersGoOn}
 use Rattle.net_world.proofs.BankLemmas.{meters_set, faults_set, quiet_becomes}
 use Rattle.net_world.proofs.FaultLemmas.{meters_then, faults_of, faults_then, then_faults}
 use Rattle.net_world.proofs.FoundingLemmas.{absent_there, giver_there, first_stays, comes_back, one_more}
@@ -41,8 +41,8 @@ module _ (g : given.Over) (c : goal.After-put_state g) where
       (kinds.Absent c.take_blank-blank.result) state (kinds.Live c.join_first-state.ensures.joins.was) (kinds.Live c.join_first-state.ensures.joins.now)
       c.requires.some c.take_blank-blank.ensures.was counted c.take_blank-blank.ensures.back c.join_first-state.ensures.joins.becomes c.put_state.ensures
 
-  taker : GoesOn (g.B.Banks.meter c.take_blank-blank.result) (g.B.Banks.meter (banks_of_state state))
-  taker = subst (λ (b : g.row.B.Denot). GoesOn (g.B.Banks.meter b) (g.B.Banks.meter (banks_of_state state))) c.new_asker-asker.ensures.banks c.join_first-state.ensures.joins.joins.taker
+  taker : MeterGoesOn (g.B.Banks.meter c.take_blank-blank.result) (g.B.Banks.meter (banks_of_state state))
+  taker = subst (λ (b : g.row.B.Denot). MeterGoesOn (g.B.Banks.meter b) (g.B.Banks.meter (banks_of_state state))) c.new_asker-asker.ensures.banks c.join_first-state.ensures.joins.joins.taker
 
   first : MetersGoOn g.B.Banks.meter (map banks_of_state c.args.clones.now.items) (map banks_of_state between)
   first = meters_set g.B.Banks.meter c.args.clones.now.items between c.args.number (kinds.Absent c.take_blank-blank.result) state changes.0 taker

@@ -6,7 +6,7 @@ use Rattle.mld_ops.specs.Messages.{SnapshotValue, IsGoodSnapshot, give_value}
 use Rattle.mld_model.specs.Local.{joined_clone}
 use Rattle.clone_banks.specs.BankCalls.{create_calls}
 use Rattle.clone_core.specs.Banked.{head_of}
-use Rattle.clone_core.specs.Durable.{Creates}
+use Rattle.clone_core.specs.DurableCalls.{Creates}
 use Rattle.clone_core.proofs.DurableLaws.{creates_as, creates_none}
 use Rattle.journal_store.specs.declared.faults.MakeFault.TheVariants as MakeFault
 use Rattle.clone_core.proofs.askers.Asker.adopt.Goals as goal

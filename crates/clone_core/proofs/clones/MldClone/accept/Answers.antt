@@ -13,7 +13,7 @@ use Rattle.clone_banks.specs.BankCalls.{append_calls}
 use Rattle.clone_banks.specs.KeptSteps.{appends}
 use Rattle.clone_core.specs.Banked.{BankedClone}
 use Rattle.clone_core.specs.CloneFaults.{receive_fault_of}
-use Rattle.clone_core.specs.Durable.{WouldReceive}
+use Rattle.clone_core.specs.DurableCalls.{WouldReceive}
 use Rattle.clone_core.specs.View.{local_of}
 use Rattle.clone_core.specs.declared.answers.Got.{Got}
 use Rattle.clone_core.specs.declared.answers.Got.TheVariants as got

@@ -10,7 +10,7 @@ use Rattle.journal_store.specs.declared.faults.Why.TheVariants as why
 use Rattle.clone_banks.specs.KeptSteps.{Forked}
 use Rattle.clone_core.specs.Banked.{BankedClone}
 use Rattle.clone_core.specs.CloneFaults.{receive_fault_of}
-use Rattle.clone_core.specs.Durable.{WouldReceive}
+use Rattle.clone_core.specs.DurableCalls.{WouldReceive}
 use Rattle.clone_core.specs.Joining.{LocallyGives}
 use Rattle.clone_core.specs.View.{local_of}
 use Rattle.clone_core.specs.declared.answers.Got.{Got}

@@ -2,7 +2,7 @@ use Rattle.std.proofs.Common.{subst}
 use Rattle.std.proofs.lemmas.Result.{err_from_is_err_and}
 use Rattle.mld_model.specs.Local.{LocallyHolds}
 use Rattle.clone_core.specs.Banked.{BankedClone}
-use Rattle.clone_core.specs.Parts.{IsFullAt}
+use Rattle.clone_core.specs.CallParts.{IsFullAt}
 use Rattle.clone_core.specs.View.{local_of}
 use Rattle.clone_core.proofs.Taking.{full_at, holds_as}
 use Rattle.clone_core.proofs.clones.MldClone.hold.Goals as goal

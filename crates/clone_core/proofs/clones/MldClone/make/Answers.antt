@@ -13,7 +13,7 @@ use Rattle.clone_banks.specs.KeptSteps.{KeptStep, Appended}
 use Rattle.clone_core.specs.Banked.{BankedClone}
 use Rattle.clone_core.specs.CloneFaults.{update_fault_of}
 use Rattle.clone_plans.specs.Making.{IsNextEntry}
-use Rattle.clone_core.specs.Parts.{MakesDone}
+use Rattle.clone_core.specs.CallParts.{MakesDone}
 use Rattle.clone_core.specs.View.{local_of}
 use Rattle.clone_core.specs.declared.answers.Done.{Done}
 use Rattle.clone_core.specs.declared.answers.Done.TheVariants as done

@@ -6,9 +6,9 @@ use Rattle.mld_model.specs.Local.{next_dot}
 use Rattle.clone_plans.specs.Making.{IsEntryOf, IsNextEntry}
 use Rattle.clone_plans.proofs.MakingLaws.{next_entry}
 use Rattle.clone_core.specs.CloneCalls.{LocallyUpdates}
-use Rattle.clone_core.specs.Closing.{update_stop}
+use Rattle.clone_core.specs.CloneClosing.{update_stop}
 use Rattle.clone_core.specs.Due.{IsDueUpdate}
-use Rattle.clone_core.specs.Parts.{MakesDone, StopsClone}
+use Rattle.clone_core.specs.CallParts.{MakesDone, StopsClone}
 use Rattle.clone_core.proofs.DurableLaws.{changes_none, makes_update}
 use Rattle.clone_core.proofs.StopLaws.{stops_due}
 use Rattle.clone_core.proofs.Updating.{updates_as}

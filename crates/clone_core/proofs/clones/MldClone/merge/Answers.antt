@@ -17,8 +17,8 @@ use Rattle.clone_banks.specs.KeptSteps.{Swapped, appends}
 use Rattle.clone_banks.proofs.Appended.{appends_calls}
 use Rattle.clone_core.specs.Banked.{BankedClone, head_over}
 use Rattle.clone_core.specs.CloneFaults.{receive_fault_of_swap}
-use Rattle.clone_core.specs.Closing.{receive_stop}
-use Rattle.clone_core.specs.Durable.{WouldReceive}
+use Rattle.clone_core.specs.CloneClosing.{receive_stop}
+use Rattle.clone_core.specs.DurableCalls.{WouldReceive}
 use Rattle.clone_core.specs.View.{local_of}
 use Rattle.clone_core.specs.declared.answers.Got.{Got}
 use Rattle.clone_core.specs.declared.answers.Got.TheVariants as got

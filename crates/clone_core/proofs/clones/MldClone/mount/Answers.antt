@@ -5,7 +5,7 @@ use Rattle.journal_sides.specs.Heads.{head_value}
 use Rattle.journal_sides.specs.Pairs.{Keeps, read_banks}
 use Rattle.mld_io.specs.Disk.{seen}
 use Rattle.clone_core.specs.Banked.{BankedClone}
-use Rattle.clone_core.specs.Beginning.{found_clone}
+use Rattle.clone_core.specs.FoundClone.{found_clone}
 use Rattle.clone_core.specs.Opening.{IsFoundAs}
 use Rattle.clone_core.proofs.Begun.{found_local}
 use Rattle.clone_core.proofs.Mounting.{found_kept, mounted_on_banks}

@@ -11,8 +11,8 @@ use Rattle.clone_plans.specs.Replays.{AreReadyEntries}
 use Rattle.clone_banks.specs.BankCalls.{swap_calls}
 use Rattle.clone_banks.specs.KeptSteps.{KeptStep, Swapped}
 use Rattle.clone_core.specs.CloneFaults.{keep_fault_of}
-use Rattle.clone_core.specs.Closing.{keep_stop}
-use Rattle.clone_core.specs.Durable.{SwapsTo}
+use Rattle.clone_core.specs.CloneClosing.{keep_stop}
+use Rattle.clone_core.specs.DurableCalls.{SwapsTo}
 use Rattle.clone_core.specs.View.{local_of}
 use Rattle.clone_core.specs.declared.faults.KeepFault.{KeepFault}
 use Rattle.clone_core.specs.declared.faults.KeepFault.TheVariants as keep

@@ -4,7 +4,7 @@ use Rattle.std.proofs.lemmas.List.{length-take-le}
 use Rattle.mld_io.specs.Disk.{written}
 use Rattle.mld_io.specs.declared.banks.Leave.TheVariants.{Lose, Keep, Torn}
 use Rattle.disk_model.specs.declared.unsynced.Unsynced.{Unsynced}
-use Rattle.disk_model.specs.Covered.{Covers, AreChained, lost_by, torn_by}
+use Rattle.disk_model.specs.Covered.{CoversBytes, AreChained, lost_by, torn_by}
 use Rattle.disk_model.specs.Sides.{SideValue}
 use Rattle.disk_model.specs.SideSteps.{torn_piece}
 use Rattle.disk_model.proofs.Copies.{grown_length, grown_written}
@@ -21,7 +21,7 @@ invariant_of-self-2 c =
     let write = c.in_ok-write.write in
     let long : length old ≡ s.size = length-take-le s.size s.seen.items (omega (arith, i.in_seen)) in
     let at_in : at ≤ length old = omega (arith, c.requires, ap (λ (v : SideValue). length v.seen) c.self.view_is) in
-    let covers : Covers at piece old write = subst (λ (l : List ℕ). Covers at piece (take s.size l) write) c.deref.ensures.value c.in_ok-write.ensures in
+    let covers : CoversBytes at piece old write = subst (λ (l : List ℕ). CoversBytes at piece (take s.size l) write) c.deref.ensures.value c.in_ok-write.ensures in
     let writes_are : c.push_reserved.new.self.items ≡ s.writes.items ++ write ∷ [] = c.push_reserved.ensures.items ∙ ap (λ (ws : List Unsynced). ws ++ write ∷ []) c.in_ok-reserve.ensures.items in
     let size_is : max s.size (write.at + length write.piece) ≡ c.max-self-inside.result = omega (arith, covers.at_is, ap length covers.piece_is) in
     let chained = chained_more s.writes.items write s.size i.chained (covers.size_is ∙ long) (covers_fits write at piece old covers at_in) in
@@ -42,7 +42,7 @@ returns-clause-ok c =
     let more = writes ++ write ∷ [] in
     let long : length old ≡ s.size = length-take-le s.size s.seen.items (omega (arith, i.in_seen)) in
     let at_in : at ≤ length old = omega (arith, c.requires, ap (λ (v : SideValue). length v.seen) c.self.view_is) in
-    let covers : Covers at piece old write = subst (λ (l : List ℕ). Covers at piece (take s.size l) write) c.deref.ensures.value c.in_ok-write.ensures in
+    let covers : CoversBytes at piece old write = subst (λ (l : List ℕ). CoversBytes at piece (take s.size l) write) c.deref.ensures.value c.in_ok-write.ensures in
     let writes_are : c.push_reserved.new.self.items ≡ more = c.push_reserved.ensures.items ∙ ap (λ (ws : List Unsynced). ws ++ write ∷ []) c.in_ok-reserve.ensures.items in
     let size : c.max-self-inside.result ≡ max s.size (at + length piece) = omega arith in
     let now_is : take c.max-self-inside.result c.put.new.bytes.items ≡ written at piece old =

@@ -2,11 +2,11 @@
 use Rattle.std.proofs.Common.{◌≡◌, List, ◌+◌, ◌∷◌, reverse, refl, ap, ◌∙◌, arith}
 use Rattle.disk_model.specs.declared.steps.Mark.{Mark}
 use Rattle.disk_model.specs.declared.steps.Mark.TheVariants as mark
-use Rattle.disk_model.specs.Marks.{steps_of, pieces_size}
-use Rattle.disk_model.specs.Steps as step
-use Rattle.disk_model.specs.Steps.{StepsValue}
+use Rattle.disk_model.specs.StepMarks.{steps_of_marks, pieces_size}
+use Rattle.disk_model.specs.DeviceSteps as step
+use Rattle.disk_model.specs.DeviceSteps.{TraceValue}
 use Rattle.disk_model.proofs.MarkLaws.{newest_more, size_more}
-use Rattle.disk_model.proofs.steps.Steps.synced.Goals as goal
+use Rattle.disk_model.proofs.steps.Trace.synced.Goals as goal
 
 pub invariant_of-self : goal.invariant_of-self
 invariant_of-self c =
@@ -19,6 +19,6 @@ pub returns-clause-steps : goal.returns-clause-steps
 returns-clause-steps c =
     let s = c.self.inside in
     let i = c.self.invariant in
-    ap (λ (ms : List Mark). reverse (steps_of ms s.pieces.items)) c.push_reserved.ensures.items
+    ap (λ (ms : List Mark). reverse (steps_of_marks ms s.pieces.items)) c.push_reserved.ensures.items
     ∙ newest_more s.marks.items (mark.Synced c.args.side) (step.Synced c.args.side) s.used s.pieces.items i.used_is (omega (arith, i.in_pieces)) (λ more. refl)
-    ∙ ap (λ (v : StepsValue). step.Synced c.args.side ∷ v.steps) c.self.view_is
+    ∙ ap (λ (v : TraceValue). step.Synced c.args.side ∷ v.steps) c.self.view_is

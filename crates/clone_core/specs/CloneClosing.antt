@@ -71,8 +71,8 @@ banks_of_made (Ok clone) = clone.banks
 banks_of_made (Err refused) = refused.1
 
 -- what a refusal gives back for want of memory is as it was, or the device was called
-abbrev pub GivesBack : {B : Type 0} → (B → Option Log) → (B → Meter) → B → MakeFault × B → Type 0
-GivesBack log meter old refused = refused.0 ≡ make.NoMemory → (refused.1 ≡ old) ⊎ WasCalled log meter old refused.1
+abbrev pub GivesBanksBack : {B : Type 0} → (B → Option Log) → (B → Meter) → B → MakeFault × B → Type 0
+GivesBanksBack log meter old refused = refused.0 ≡ make.NoMemory → (refused.1 ≡ old) ⊎ WasCalled log meter old refused.1
 
 -- the device failed, so no clone was made
 abbrev pub FailsToFound : {B : Type 0} → Result (BankedClone B) (MakeFault × B) → Type 0

@@ -11,8 +11,8 @@ use Rattle.causal_buffer.specs.declared.faults.HeldFault.TheVariants as held
 use Rattle.mld_model.specs.Local.{LocalClone, IsSameClone, IsFullFor, next_dot}
 use Rattle.clone_core.specs.Banked.{BankedClone}
 use Rattle.clone_banks.specs.KeptSteps.{KeptStep, Appended}
-use Rattle.clone_core.specs.Closing.{LeavesClone, update_stop, receive_stop, keep_stop}
-use Rattle.clone_core.specs.Durable.{RefusedSteps}
+use Rattle.clone_core.specs.CloneClosing.{LeavesClone, update_stop, receive_stop, keep_stop}
+use Rattle.clone_core.specs.DurableCalls.{RefusedSteps}
 use Rattle.clone_core.specs.declared.answers.Done.{Done}
 use Rattle.clone_core.specs.declared.answers.Done.TheVariants as done
 use Rattle.clone_core.specs.declared.faults.KeepFault.{KeepFault}

@@ -19,7 +19,7 @@ use Rattle.mld_model.specs.Local.{LocalClone, LocallyAccepts, LocallyMerges, nex
 use Rattle.clone_plans.specs.Making.{IsEntryOf}
 use Rattle.clone_banks.specs.KeptSteps.{KeptStep, Created, Appended, Forked, Swapped, appends, calls_of_all, LeavesSome}
 use Rattle.clone_core.specs.Banked.{BankedClone, head_of, kept_as}
-use Rattle.clone_core.specs.Closing.{update_stop, receive_stop, keep_stop}
+use Rattle.clone_core.specs.CloneClosing.{update_stop, receive_stop, keep_stop}
 use Rattle.clone_core.specs.declared.answers.Done.{Done}
 use Rattle.clone_core.specs.declared.answers.Done.TheVariants as done
 use Rattle.clone_core.specs.declared.answers.Got.{Got}
@@ -67,14 +67,14 @@ abbrev pub AppendsTaken : LocalClone → LocalClone → List KeptStep → Type 0
 AppendsTaken old new steps = (taken : List EntryValue) × (new.entries ≡ old.entries ++ taken) × (steps ≡ appends taken)
 
 -- a swap for an empty journal over the new base, and an append for each entry that is released
-abbrev pub merging_steps : LocalClone → List KeptStep
-merging_steps new = Swapped (head_of new) [] ∷ appends new.entries
+abbrev pub merged_steps : LocalClone → List KeptStep
+merged_steps new = Swapped (head_of new) [] ∷ appends new.entries
 
 -- what was received: entries were taken, a leaf was forked, a snapshot was merged, or the banks weren't called
 abbrev pub ReceivedSteps : Message → Got → LocalClone → LocalClone → List KeptStep → Type 0
 ReceivedSteps (message.Range entry) (got.Took ranges) old new steps = AppendsTaken old new steps
 ReceivedSteps (message.JoinAsk id) (got.Answer messages) old new steps = steps ≡ Forked ∷ []
-ReceivedSteps (message.Snapshot snapshot) (got.Merged ranges) old new steps = steps ≡ merging_steps new
+ReceivedSteps (message.Snapshot snapshot) (got.Merged ranges) old new steps = steps ≡ merged_steps new
 ReceivedSteps sent answer old new steps = steps ≡ []
 
 -- what the clone would do to receive the message
@@ -82,7 +82,7 @@ abbrev pub WouldReceive : LocalClone → Message → List KeptStep → Type 0
 WouldReceive old (message.Range entry) steps = (new : LocalClone) × (ranges : List Range) × LocallyAccepts old entry new ranges × AppendsTaken old new steps
 WouldReceive old (message.JoinAsk id) steps = steps ≡ Forked ∷ []
 WouldReceive old (message.Snapshot snapshot) steps =
-    (new : LocalClone) × (ranges : List Range) × LocallyMerges old (snapshot_value snapshot) new ranges × (steps ≡ merging_steps new)
+    (new : LocalClone) × (ranges : List Range) × LocallyMerges old (snapshot_value snapshot) new ranges × (steps ≡ merged_steps new)
 WouldReceive old (message.Want clock) steps = ⊥
 WouldReceive old (message.JoinGive give) steps = ⊥
 
