@@ -14,6 +14,9 @@ use std::marker::Model;
 /// The byte that ends a line.
 const LF: u8 = b'\n';
 
+/// The room that a line has from the start, where its limit allows it: most lines fit it.
+const LINE_ROOM: usize = 128;
+
 /// A reader of lines, under a limit in bytes of each line and one of the whole input.
 #[derive(Debug, Drop)]
 pub struct Lines {
@@ -121,7 +124,7 @@ fn take_line<S: Source>(
     ensures cause { HasLineCause (S.faults source.old) (S.faults source.new) result }
 {
     let room = all - *taken;
-    let mut bytes = Vec::new(alloc);
+    let mut bytes = Vec::with_capacity(alloc, line.min(LINE_ROOM))?;
     let mut size = 0u64;
     while let Some(byte) = take_byte(source)? {
         if size == room {

@@ -12,7 +12,7 @@ at_option bytes o o' left e took = subst (λ (x : Option ℕ). TakesByte bytes (
 pub returns-in_err-byte-clause-line : goal.returns-in_err-byte-clause-line
 returns-in_err-byte-clause-line g c = λ bytes e.
     let s = c.loop-bytes.invariant.left bytes e in
-    let p = err_from_is_err_and c.from_residual.result c.from_residual.ensures.1 in
+    let p = err_from_is_err_and c.from_residual-in_err-byte.result c.from_residual-in_err-byte.ensures.1 in
     rw (p.1, p.2) (IsCutShort-from_part bytes c.loop-bytes.bytes.items s.rest _ s.no_end s.front_of (c.in_err-byte.ensures.byte s.rest s.left_is))
 
 pub returns-then-size-room-clause-line : goal.returns-then-size-room-clause-line
