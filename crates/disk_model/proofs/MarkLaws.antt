@@ -18,6 +18,11 @@ steps_front (mark.Wrote side at size ∷ marks) bytes more within =
     let rest : steps_of_marks marks (drop size (bytes ++ more)) ≡ steps_of_marks marks (drop size bytes) =
     ap (steps_of_marks marks) (drop-append-le size bytes more (omega (arith, within))) ∙ steps_front marks (drop size bytes) more (omega (arith, within, length-drop size bytes)) in
     ap (λ (l : List ℕ). step.Wrote side at l ∷ steps_of_marks marks (drop size (bytes ++ more))) front ∙ ap (λ (l : List DeviceStep). step.Wrote side at (take size bytes) ∷ l) rest
+steps_front (mark.WroteThrough side at size ∷ marks) bytes more within =
+    let front : take size (bytes ++ more) ≡ take size bytes = take-append-le size bytes more (omega (arith, within)) in
+    let rest : steps_of_marks marks (drop size (bytes ++ more)) ≡ steps_of_marks marks (drop size bytes) =
+    ap (steps_of_marks marks) (drop-append-le size bytes more (omega (arith, within))) ∙ steps_front marks (drop size bytes) more (omega (arith, within, length-drop size bytes)) in
+    ap (λ (l : List ℕ). step.Wrote side at l ∷ step.Synced side ∷ steps_of_marks marks (drop size (bytes ++ more))) front ∙ ap (λ (l : List DeviceStep). step.Wrote side at (take size bytes) ∷ step.Synced side ∷ l) rest
 steps_front (mark.Synced side ∷ marks) bytes more within = ap (λ (l : List DeviceStep). step.Synced side ∷ l) (steps_front marks bytes more within)
 steps_front (mark.Cut leave ∷ marks) bytes more within = ap (λ (l : List DeviceStep). step.Cut leave ∷ l) (steps_front marks bytes more within)
 
@@ -30,6 +35,11 @@ steps_more (mark.Wrote side at size ∷ marks) next bytes more size_is =
     let rest : steps_of_marks (marks ++ next ∷ []) (drop size (bytes ++ more)) ≡ steps_of_marks marks (drop size bytes) ++ steps_of_marks (next ∷ []) more =
     ap (steps_of_marks (marks ++ next ∷ [])) (drop-append-le size bytes more (omega (arith, size_is))) ∙ steps_more marks next (drop size bytes) more (omega (arith, size_is, length-drop size bytes)) in
     ap (λ (l : List ℕ). step.Wrote side at l ∷ steps_of_marks (marks ++ next ∷ []) (drop size (bytes ++ more))) front ∙ ap (λ (l : List DeviceStep). step.Wrote side at (take size bytes) ∷ l) rest
+steps_more (mark.WroteThrough side at size ∷ marks) next bytes more size_is =
+    let front : take size (bytes ++ more) ≡ take size bytes = take-append-le size bytes more (omega (arith, size_is)) in
+    let rest : steps_of_marks (marks ++ next ∷ []) (drop size (bytes ++ more)) ≡ steps_of_marks marks (drop size bytes) ++ steps_of_marks (next ∷ []) more =
+    ap (steps_of_marks (marks ++ next ∷ [])) (drop-append-le size bytes more (omega (arith, size_is))) ∙ steps_more marks next (drop size bytes) more (omega (arith, size_is, length-drop size bytes)) in
+    ap (λ (l : List ℕ). step.Wrote side at l ∷ step.Synced side ∷ steps_of_marks (marks ++ next ∷ []) (drop size (bytes ++ more))) front ∙ ap (λ (l : List DeviceStep). step.Wrote side at (take size bytes) ∷ step.Synced side ∷ l) rest
 steps_more (mark.Synced side ∷ marks) next bytes more size_is = ap (λ (l : List DeviceStep). step.Synced side ∷ l) (steps_more marks next bytes more size_is)
 steps_more (mark.Cut leave ∷ marks) next bytes more size_is = ap (λ (l : List DeviceStep). step.Cut leave ∷ l) (steps_more marks next bytes more size_is)
 
@@ -37,8 +47,27 @@ steps_more (mark.Cut leave ∷ marks) next bytes more size_is = ap (λ (l : List
 pub size_more : (marks : List Mark) (next : Mark) → pieces_size (marks ++ next ∷ []) ≡ pieces_size marks + pieces_size (next ∷ [])
 size_more [] next = omega arith
 size_more (mark.Wrote side at size ∷ marks) next = omega (arith, size_more marks next)
+size_more (mark.WroteThrough side at size ∷ marks) next = omega (arith, size_more marks next)
 size_more (mark.Synced side ∷ marks) next = size_more marks next
 size_more (mark.Cut leave ∷ marks) next = size_more marks next
+
+-- marks, and then a sync
+pub steps_synced : (marks : List Mark) (side : Side) (bytes : List ℕ) → steps_of_marks (marks ++ mark.Synced side ∷ []) bytes ≡ steps_of_marks marks bytes ++ step.Synced side ∷ []
+steps_synced [] side bytes = refl
+steps_synced (mark.Wrote on at size ∷ marks) side bytes = ap (λ (l : List DeviceStep). step.Wrote on at (take size bytes) ∷ l) (steps_synced marks side (drop size bytes))
+steps_synced (mark.WroteThrough on at size ∷ marks) side bytes = ap (λ (l : List DeviceStep). step.Wrote on at (take size bytes) ∷ step.Synced on ∷ l) (steps_synced marks side (drop size bytes))
+steps_synced (mark.Synced on ∷ marks) side bytes = ap (λ (l : List DeviceStep). step.Synced on ∷ l) (steps_synced marks side bytes)
+steps_synced (mark.Cut leave ∷ marks) side bytes = ap (λ (l : List DeviceStep). step.Cut leave ∷ l) (steps_synced marks side bytes)
+
+-- marks, of which the last stands for a sync more
+pub steps_through : (marks : List Mark) (last both : Mark) (side : Side) (bytes : List ℕ)
+    → ((more : List ℕ) → steps_of_marks (both ∷ []) more ≡ steps_of_marks (last ∷ []) more ++ step.Synced side ∷ [])
+    → steps_of_marks (marks ++ both ∷ []) bytes ≡ steps_of_marks (marks ++ last ∷ []) bytes ++ step.Synced side ∷ []
+steps_through [] last both side bytes is = is bytes
+steps_through (mark.Wrote on at size ∷ marks) last both side bytes is = ap (λ (l : List DeviceStep). step.Wrote on at (take size bytes) ∷ l) (steps_through marks last both side (drop size bytes) is)
+steps_through (mark.WroteThrough on at size ∷ marks) last both side bytes is = ap (λ (l : List DeviceStep). step.Wrote on at (take size bytes) ∷ step.Synced on ∷ l) (steps_through marks last both side (drop size bytes) is)
+steps_through (mark.Synced on ∷ marks) last both side bytes is = ap (λ (l : List DeviceStep). step.Synced on ∷ l) (steps_through marks last both side bytes is)
+steps_through (mark.Cut leave ∷ marks) last both side bytes is = ap (λ (l : List DeviceStep). step.Cut leave ∷ l) (steps_through marks last both side bytes is)
 
 -- the front that is used is as long as the pieces
 used_front : (used : ℕ) (bytes : List ℕ) → used ≤ length bytes → length (take used bytes) ≡ used

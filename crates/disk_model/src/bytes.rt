@@ -5,13 +5,15 @@ ghost use Rattle.disk_model.specs.Sides.{ExtendsTo};
 
 use std::alloc::AllocError;
 
-/// Makes the list at least this long, and leaves what it has.
-pub fn grow(bytes: &mut Vec<u8>, size: usize) -> Result<(), AllocError>
+/// Makes the list at least this long, and leaves what it has. What comes behind it is the piece,
+/// which is to be put there in most cases.
+pub fn grow(bytes: &mut Vec<u8>, size: usize, piece: &[u8]) -> Result<(), AllocError>
+    requires { size ≤ vec_len bytes.old + length piece.now }
     ensures grows { ExtendsTo bytes.old.items bytes.new.items }
     ensures ok { OnOk result (size ≤ vec_len bytes.new) }
 {
     if bytes.len() < size {
-        bytes.resize(size, 0)?;
+        bytes.extend_from_slice(piece)?;
     }
     Ok(())
 }

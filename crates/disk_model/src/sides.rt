@@ -89,7 +89,7 @@ impl SideBytes {
         };
         let write = covering(self.alloc, &self.seen[..self.size], at, piece)?;
         self.writes.reserve(1)?;
-        grow(&mut self.seen, end)?;
+        grow(&mut self.seen, end, piece)?;
         put(&mut self.seen, at, piece);
         self.size = self.size.max(end);
         self.writes.push_reserved(write);

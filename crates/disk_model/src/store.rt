@@ -75,7 +75,7 @@ impl Store {
         ensures err { OnErr result (self.new ≡ self.old) }
         ensures small { OnOk result (at + length piece.now < 2 ^ 64) }
     {
-        self.steps.make_room(piece.len())?;
+        self.steps.make_room(piece)?;
         self.sides.write(side, at, piece)?;
         self.steps.wrote(side, at as u64, piece);
         Ok(())
