@@ -163,6 +163,15 @@ plans_left pairs old now held copy left e r = subst (λ (h : List EntryValue). P
 
 -- ---- the whole plan
 
+-- the cut of an entry stands behind nothing that was dropped or added
+pub cuts_behind_nothing : (entry : EntryValue) (known : ℕ) (pairs drops adds : List Tagged) → AreCuts entry known pairs drops adds → AreCutsBehind entry known pairs [] [] drops adds
+cuts_behind_nothing entry known pairs drops adds cuts = record {
+  drops_ascend = cuts.drops_ascend;
+  dropped = λ pair. (λ h. inr ((cuts.dropped pair).0 h), λ h. elim h [ inl none ↦ absurd none | inr d ↦ (cuts.dropped pair).1 d ]);
+  adds_ascend = cuts.adds_ascend;
+  added = λ pair. (λ h. inr ((cuts.added pair).0 h), λ h. elim h [ inl kept ↦ absurd kept.0 | inr came ↦ (cuts.added pair).1 came ]);
+}
+
 -- a change of nothing leaves ascending pairs as they are
 applies_none : (pairs new : List Tagged) → IsAscending tagged_cmp pairs → Applies [] [] pairs new → new ≡ pairs
 applies_none pairs new a h = same_ascending tagged_cmp tagged_total tagged_exact new pairs h.ascending a

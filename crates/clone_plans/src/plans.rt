@@ -1,12 +1,13 @@
 //! The plan of an update and of a delivery: the cut of the pairs, which entries are taken, and all room.
-ghost use Rattle.std.specs.Prelude.{◌≡◌, ◌+◌, ◌<◌, ◌≤◌, IfOk, OnOk, vec_len, vec_capacity};
+ghost use Rattle.std.specs.Prelude.{◌≡◌, ◌+◌, ◌<◌, ◌≤◌, List, IfOk, OnOk, vec_len, vec_capacity};
 ghost use Rattle.clone_plans.specs.Plans.{left_of, IsPlanOf, TakesNothing, PlansEntry, PlansReleases};
 ghost use Rattle.graph_index.specs.Graphs.{Fits};
-ghost use Rattle.mld_ops.specs.Entry.{IsEntry};
-ghost use Rattle.mld_ops.specs.Ready.{IsReadyEntry};
+ghost use Rattle.mld_ops.specs.Entry.{EntryValue, IsEntry};
+ghost use Rattle.mld_ops.specs.Picking.{HasNone};
+ghost use Rattle.mld_ops.specs.Ready.{IsKnownEntry, IsReadyEntry, last_dot};
 ghost use Rattle.mld_ops.specs.Tagged.{tagged_cmp};
 ghost use Rattle.op_fusion.specs.Cutting.{AreCuts, AreCutsBehind};
-ghost use Rattle.tree_clock.specs.Clock.{HasRoom, IsClock, ticks_of};
+ghost use Rattle.tree_clock.specs.Clock.{HasRoom, IsClock, RaisesTo, ticks_of};
 ghost use Rattle.tree_clock.specs.Lists.{IsAscending};
 
 use causal_buffer::Held;
@@ -84,12 +85,89 @@ pub fn prepare_plan(
     ensures entries_room { IfOk result (λ plan. vec_len entries.new + vec_len plan.entries ≤ vec_capacity entries.new) }
     ensures pairs_room { IfOk result (λ plan. Fits plan.cut pairs.new) }
 {
+    let plan = plan_of(alloc, clock, held, pairs, entry)?;
+    entries.reserve(plan.entries.len())?;
+    pairs.prepare(alloc, &plan.cut)?;
+    Ok(plan)
+}
+
+// The plan of an entry that is ready and of those held back that it releases.
+fn plan_of(
+    alloc: Global,
+    clock: &Clock,
+    held: &Held,
+    pairs: &Graph,
+    entry: &Entry,
+) -> Result<Plan, AllocError>
+    requires pairs { IsAscending tagged_cmp pairs.now.pairs }
+    requires ready { IsReadyEntry clock.now.ticks entry.now }
+    ensures { IfOk result (IsPlanOf clock.now.ticks pairs.now.pairs held.now entry.now) }
+{
+    let after = clock_after(alloc, clock, entry)?;
+    if held.is_settled(&after) {
+        return plan_alone(alloc, clock, after, pairs, entry);
+    }
+    plan_released(alloc, clock, held, pairs, entry)
+}
+
+// The clock of one who has taken an entry.
+fn clock_after(alloc: Global, clock: &Clock, entry: &Entry) -> Result<Clock, AllocError>
+    ensures { IfOk result (λ after. RaisesTo clock.now.ticks after.ticks (last_dot entry.now.range)) }
+{
+    let range = entry.range();
+    let mut after = clock.copy_in(alloc)?;
+    after.reserve(&range.path)?;
+    after.raise(&Dot {
+        path: range.path,
+        tick: range.last,
+    });
+    Ok(after)
+}
+
+// The plan of an entry that is ready, by the clock behind it, where it releases none of those held back.
+fn plan_alone(
+    alloc: Global,
+    clock: &Clock,
+    after: Clock,
+    pairs: &Graph,
+    entry: &Entry,
+) -> Result<Plan, AllocError>
+    requires pairs { IsAscending tagged_cmp pairs.now.pairs }
+    requires ready { IsReadyEntry clock.now.ticks entry.now }
+    requires raised { RaisesTo clock.now.ticks after.ticks (last_dot entry.now.range) }
+    ensures { IfOk result (λ plan. (held : List EntryValue) → HasNone (IsKnownEntry after.ticks) held
+        → HasNone (IsReadyEntry after.ticks) held → IsPlanOf clock.now.ticks pairs.now.pairs held entry.now plan) }
+{
+    let cut = cut(alloc, entry, clock, pairs)?;
+    let mut ranges = Ranges::new(alloc);
+    ranges.push(entry.range())?;
+    let mut entries = Vec::with_capacity(alloc, 1)?;
+    entries.push_reserved(entry.copy_in(alloc)?);
+    Ok(Plan {
+        clock: after,
+        left: None,
+        entries,
+        cut,
+        ranges,
+    })
+}
+
+// The plan of an entry that is ready and of those held back, one after another, that its clock releases.
+fn plan_released(
+    alloc: Global,
+    clock: &Clock,
+    held: &Held,
+    pairs: &Graph,
+    entry: &Entry,
+) -> Result<Plan, AllocError>
+    requires pairs { IsAscending tagged_cmp pairs.now.pairs }
+    requires ready { IsReadyEntry clock.now.ticks entry.now }
+    ensures { IfOk result (IsPlanOf clock.now.ticks pairs.now.pairs held.now entry.now) }
+{
     let mut plan = begin(alloc, clock)?;
     take(alloc, &mut plan, pairs, entry.copy_in(alloc)?)?;
     let left = release_held(alloc, &mut plan, pairs, held)?;
     let cut = cut_of(alloc, &plan.drops, &plan.adds)?;
-    entries.reserve(plan.entries.len())?;
-    pairs.prepare(alloc, &cut)?;
     Ok(Plan {
         clock: plan.clock,
         left,
