@@ -1,12 +1,10 @@
 -- The first pair of an ascending list that isn't before a triple.
-use Rattle.std.proofs.Common.{◌≡◌, ◌∙◌, List, [], ◌∷◌, Bool, true, false, Option, None, Some, IsTrue, ◌↔◌, ◌⊎◌, refl, sym, subst, ap, inl, inr}
+use Rattle.std.proofs.Common.{◌≡◌, ◌∙◌, List, [], ◌∷◌, Bool, true, false, not, ◌&&◌, Option, None, Some, IsTrue, ◌↔◌, refl, sym, subst, ap, inl, inr}
 use Rattle.std.proofs.lemmas.Bool.{true≢false, false≢true}
 use Rattle.std.proofs.lemmas.Cmp.{tied_itself}
 use Rattle.std.proofs.lemmas.List.Elements.{filter_agree}
 use Rattle.std.specs.List.{filter}
-use Rattle.std.specs.Ordering.{is_lt, is_le, is_eq, eq_by_cmp, ordering_then}
-use Rattle.std.specs.declared.cmp.Ordering.{Ordering}
-use Rattle.std.specs.declared.cmp.Ordering.TheVariants.{Less, Equal, Greater}
+use Rattle.std.specs.Ordering.{is_lt, is_le, is_eq, eq_by_cmp}
 use Rattle.rdf_terms.specs.declared.terms.Triple.{Triple}
 use Rattle.rdf_terms.specs.Order.{triple_cmp}
 use Rattle.rdf_terms.specs.OrderLaws.{triple_total, triple_exact}
@@ -17,34 +15,32 @@ use Rattle.mld_ops.specs.Tagged.{tagged_cmp}
 use Rattle.mld_ops.proofs.AscendingLaws.{below_member}
 use Rattle.chunked_list.specs.Parted.{IsParted, IsFirstOf, is_between}
 use Rattle.graph_index.specs.Matching.{is_of, HasTriple}
-use Rattle.graph_index.proofs.Keys.{parted_before, parted_up_to, equal_between}
+use Rattle.graph_index.specs.Fronts.{front_cmp}
+use Rattle.graph_index.proofs.Fronting.{is_before_front, is_up_to_front, before_front, up_to_front, then_cases, tied}
+use Rattle.graph_index.proofs.Keys.{equal_between}
+
+-- where all parts are given, they are a triple
+front_triple : (triple t : Triple) → front_cmp triple.s (Some triple.p) (Some triple.o) t ≡ triple_cmp t triple
+unfolding triple_cmp
+front_triple triple t = refl
 
 -- whether a pair is before the pairs with the triple
 abbrev pub is_before : Triple → Tagged → Bool
-is_before triple pair = is_lt (triple_cmp pair.triple triple)
+is_before triple = is_before_front triple.s (Some triple.p) (Some triple.o)
 
-lower : (o : Ordering) → is_lt o ≡ true → o ≡ Less
-lower Less h = refl
-lower Equal h = absurd (false≢true h)
-lower Greater h = absurd (false≢true h)
-
-then_cases : (o q : Ordering) → ordering_then o q ≡ Less → (o ≡ Less) ⊎ (o ≡ Equal)
-then_cases Less q h = inl refl
-then_cases Equal q h = inr refl
-then_cases Greater q h = cc
-
-not_itself : (triple : Triple) → is_lt (triple_cmp triple triple) ≡ true → ⊥
-not_itself triple h = false≢true (sym (ap is_lt (tied_itself triple_total triple)) ∙ h)
+not_itself : (triple : Triple) → is_lt (front_cmp triple.s (Some triple.p) (Some triple.o) triple) ≡ true → ⊥
+not_itself triple h = false≢true (sym (ap is_lt (front_triple triple triple ∙ tied_itself triple_total triple)) ∙ h)
 
 -- the pairs with the triple stand together
 pub before_triple : (triple : Triple) (xs : List Tagged) → IsAscending tagged_cmp xs → IsParted (is_before triple) xs
-before_triple = parted_before tagged_cmp triple_cmp triple_total (λ pair. pair.triple) (λ x y. then_cases (triple_cmp x.triple y.triple) (dot_cmp x.dot y.dot))
+before_triple triple = before_front triple.s (Some triple.p) (Some triple.o)
 
-pub up_to_triple : (triple : Triple) (xs : List Tagged) → IsAscending tagged_cmp xs → IsParted (λ pair. is_le (triple_cmp pair.triple triple)) xs
-up_to_triple = parted_up_to tagged_cmp triple_cmp triple_total (λ pair. pair.triple) (λ x y. then_cases (triple_cmp x.triple y.triple) (dot_cmp x.dot y.dot))
+pub up_to_triple : (triple : Triple) (xs : List Tagged) → IsAscending tagged_cmp xs → IsParted (is_up_to_front triple.s (Some triple.p) (Some triple.o)) xs
+up_to_triple triple = up_to_front triple.s (Some triple.p) (Some triple.o)
 
-pub with_triple_between : (triple : Triple) (xs : List Tagged) → filter (is_between (is_before triple) (λ pair. is_le (triple_cmp pair.triple triple))) xs ≡ filter (is_of triple) xs
-with_triple_between triple = filter_agree (is_between (is_before triple) (λ pair. is_le (triple_cmp pair.triple triple))) (is_of triple) (λ x. equal_between triple_cmp triple_total x.triple triple)
+pub with_triple_between : (triple : Triple) (xs : List Tagged) → filter (is_between (is_before triple) (is_up_to_front triple.s (Some triple.p) (Some triple.o))) xs ≡ filter (is_of triple) xs
+with_triple_between triple = filter_agree (is_between (is_before triple) (is_up_to_front triple.s (Some triple.p) (Some triple.o))) (is_of triple)
+    (λ x. ap (λ w. not (is_lt w) && is_le w) (front_triple triple x.triple) ∙ equal_between triple_cmp triple_total x.triple triple)
 
 -- the first one that isn't before the triple has it, where some pair does
 pub first_has : (triple : Triple) (xs : List Tagged) (first : Option Tagged) → IsAscending tagged_cmp xs → IsFirstOf (is_before triple) xs first
@@ -60,7 +56,7 @@ first_has triple (x ∷ xs) first a (inr f) h = (
   elim h.1 [
     | inl e ↦ ap (λ (w : Tagged). w.triple) e
     | inr k ↦ elim (then_cases (triple_cmp x.triple triple) (dot_cmp x.dot h.0) (below_member tagged_cmp x xs (record { triple = triple; dot = h.0 }) a.0 k)) [
-      | inl e ↦ absurd (true≢false (sym (ap is_lt e) ∙ f.0))
+      | inl e ↦ absurd (true≢false (sym (ap is_lt (front_triple triple x.triple ∙ e)) ∙ f.0))
       | inr e ↦ triple_exact x.triple triple e
     ]
   ],
@@ -77,11 +73,6 @@ first_is_member triple (x ∷ xs) pair (inr f) = inl (some_same f.1)
 
 pub has_from_first : (triple : Triple) (xs : List Tagged) (pair : Tagged) → IsFirstOf (is_before triple) xs (Some pair) → pair.triple ≡ triple → HasTriple xs triple
 has_from_first triple xs pair f e = (pair.dot, subst (λ (t : Triple). Has xs (record { triple = t; dot = pair.dot })) e (first_is_member triple xs pair f))
-
-tied : (o : Ordering) → is_eq o ≡ true → o ≡ Equal
-tied Less h = absurd (false≢true h)
-tied Equal h = refl
-tied Greater h = absurd (false≢true h)
 
 pub first_some : (triple : Triple) (xs ys : List Tagged) (pair : Tagged) (b : Bool) → xs ≡ ys → IsAscending tagged_cmp xs → IsFirstOf (is_before triple) xs (Some pair)
     → b ≡ eq_by_cmp triple_cmp pair.triple triple → IsTrue b ↔ HasTriple ys triple

@@ -1,5 +1,6 @@
 pub mod Changing
 pub mod Finding
+pub mod Fronting
 pub mod Keys
 pub mod Ranging
 pub mod Scanning

@@ -1,4 +1,5 @@
 pub mod DotOrder
+pub mod Fronts
 pub mod Graphs
 pub mod Indexing
 pub mod Matching

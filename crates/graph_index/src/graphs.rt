@@ -12,9 +12,10 @@ ghost use Rattle.tree_clock.specs.Lists.{IsAscending};
 use crate::changes::apply_to;
 use crate::copies::{copy_chunks, copy_found, dots_found, lend_chunks};
 use crate::dot_index::{DotIndex, get_ready, no_index};
-use crate::matching::{BeforeTriple, Matching, UpToTriple};
+use crate::fronts::{BeforeFront, UpToFront};
 use crate::pair_order::PairOrder;
 use crate::ranges::of_range_in;
+use crate::scans::matching_in;
 use crate::steps::Steps;
 use chunked_list::Chunked;
 use mld_ops::{Cut, Tagged, Tags};
@@ -104,7 +105,8 @@ impl Graph {
         apply_to(&mut self.pairs, &mut self.index, cut);
     }
 
-    /// The pairs whose triple has the given parts, each once, in whatever order.
+    /// The pairs whose triple has the given parts, each once, in whatever order. Where a subject is given, it looks at no others but
+    /// those with the parts that are given from the front, and those that a search by halves meets.
     pub fn scan<L: Ledger>(
         &self,
         alloc: Global,
@@ -116,14 +118,15 @@ impl Graph {
         ensures { IfOk result (λ found. FindsEach (matches (option_copied s.entry) (option_copied p.entry) (option_copied o.entry))
             self.now.pairs (map (λ x. x.now) found.items)) }
     {
-        self.pairs.filtered(alloc, &Matching { s, p, o })
+        matching_in(alloc, &self.pairs, s, p, o)
     }
 
     /// Whether some pair has the triple. It takes no memory.
     pub fn has_triple(&self, triple: &Triple) -> bool
         ensures { IsTrue result ↔ HasTriple self.now.pairs triple.now }
     {
-        match self.pairs.first_from(&BeforeTriple { triple }) {
+        let (s, p, o) = (&triple.s, Some(&triple.p), Some(&triple.o));
+        match self.pairs.first_from(&BeforeFront { s, p, o }) {
             Some(pair) => pair.triple == *triple,
             None => false,
         }
@@ -149,8 +152,9 @@ impl Graph {
     fn with_triple(&self, alloc: Global, triple: &Triple) -> Result<Vec<&Tagged>, AllocError>
         ensures { IfOk result (λ found. map (λ x. x.now) found.items ≡ filter (is_of triple.now) self.now.pairs) }
     {
+        let (s, p, o) = (&triple.s, Some(&triple.p), Some(&triple.o));
         self.pairs
-            .between(alloc, &BeforeTriple { triple }, &UpToTriple { triple })
+            .between(alloc, &BeforeFront { s, p, o }, &UpToFront { s, p, o })
     }
 }
 

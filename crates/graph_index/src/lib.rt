@@ -5,11 +5,13 @@ mod by_dot;
 mod changes;
 mod copies;
 mod dot_index;
+mod fronts;
 mod graphs;
 mod matching;
 mod pair_order;
 mod pair_sets;
 mod ranges;
+mod scans;
 mod steps;
 
 pub use graphs::Graph;

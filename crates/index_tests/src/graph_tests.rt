@@ -111,34 +111,101 @@ fn scanned_in<L: Ledger>(
     alloc: Global,
     graph: &Graph,
     s: Option<&Iri>,
+    p: Option<&Iri>,
     o: Option<&Term>,
     blank: Blank,
-) -> usize
+) -> u32
     requires name { blank.name ≡ L.name }
     requires parts { blank.parts ≡ L.parts }
     requires some { 0 < L.parts }
 {
     let mut steps = Steps::<L>::new(blank);
     steps.tick();
-    match graph.scan(alloc, s, None, o, &mut steps) {
-        Ok(found) => found.len(),
+    match graph.scan(alloc, s, p, o, &mut steps) {
+        Ok(found) => sum_of_ticks(&found),
         Err(_) => 0,
     }
 }
 
-// How many pairs match.
-fn scanned(alloc: Global, graph: &Graph, s: Option<&Iri>, o: Option<&Term>) -> usize {
-    scanned_in::<Brand>(alloc, graph, s, o, Blank::new(1))
+fn sum_of_ticks(found: &[&Tagged]) -> u32 {
+    let mut sum = 0_u32;
+    for pair in found {
+        sum = sum.wrapping_add(pair.dot.tick);
+    }
+    sum
 }
 
-// Whether there are three pairs of the subject, two of the object, and one of both.
-fn is_scanned(alloc: Global, graph: &Graph) -> Result<bool, Fail> {
-    let triple = read_triple(alloc, XB)?;
-    Ok(
-        scanned(alloc, graph, Some(&triple.s), None) == 3
-            && scanned(alloc, graph, None, Some(&triple.o)) == 2
-            && scanned(alloc, graph, Some(&triple.s), Some(&triple.o)) == 1,
-    )
+// The ticks of the pairs that match, summed up.
+fn scanned(
+    alloc: Global,
+    graph: &Graph,
+    s: Option<&Iri>,
+    p: Option<&Iri>,
+    o: Option<&Term>,
+) -> u32 {
+    scanned_in::<Brand>(alloc, graph, s, p, o, Blank::new(1))
+}
+
+// A line, which of its parts are given, and the sum of the ticks of the pairs that have them.
+type Scan = (&'static str, bool, bool, bool, u32);
+
+// A part, where it is given.
+fn part<T>(given: bool, part: &T) -> Option<&T> {
+    if given { Some(part) } else { None }
+}
+
+// Whether a scan finds pairs with that sum.
+fn is_scanned(alloc: Global, graph: &Graph, case: Scan) -> Result<bool, Fail> {
+    let triple = read_triple(alloc, case.0)?;
+    let s = part(case.1, &triple.s);
+    let p = part(case.2, &triple.p);
+    let o = part(case.3, &triple.o);
+    Ok(scanned(alloc, graph, s, p, o) == case.4)
+}
+
+// Eight pairs, each with a tick of its own power of two, so that a sum tells which they are. Subjects ascend by their texts with the
+// closing mark: `urn:w`, `urn:x#`, `urn:x`, `urn:xa`, `urn:y`.
+fn to_scan(alloc: Global) -> Result<Graph, Fail> {
+    let list = pairs(
+        alloc,
+        &[
+            ("<urn:w> <urn:p> <urn:a> .", 1),
+            (XA, 2),
+            (XA, 4),
+            (XB, 8),
+            ("<urn:x> <urn:q> <urn:a> .", 16),
+            ("<urn:x#> <urn:p> <urn:a> .", 32),
+            ("<urn:xa> <urn:p> <urn:a> .", 64),
+            (YA, 128),
+        ],
+    )?;
+    Ok(Graph::from_list(alloc, list)?)
+}
+
+const SCANS: &[Scan] = &[
+    (XA, true, false, false, 30),
+    (XA, true, true, false, 14),
+    (XA, true, true, true, 6),
+    (XA, true, false, true, 22),
+    (XA, false, true, false, 239),
+    (XA, false, true, true, 231),
+    (XA, false, false, true, 247),
+    (XA, false, false, false, 255),
+    ("<urn:w> <urn:p> <urn:a> .", true, false, false, 1),
+    (YA, true, true, false, 128),
+    ("<urn:x#> <urn:q> <urn:a> .", true, true, false, 0),
+    ("<urn:v> <urn:p> <urn:a> .", true, false, true, 0),
+    ("<urn:z> <urn:p> <urn:a> .", true, false, false, 0),
+];
+
+#[test]
+fn a_scan_finds_what_has_the_given_parts(rt: HostRuntime) -> Result<(), Fail> {
+    let alloc = rt.alloc();
+    let graph = Box::new(alloc, to_scan(alloc)?)?;
+    for case in SCANS {
+        assert!(rt; is_scanned(alloc, &graph, *case)?);
+    }
+    Ok(())
 }
 
 #[test]
@@ -151,7 +218,9 @@ fn a_cut_drops_before_it_adds(rt: HostRuntime) -> Result<(), Fail> {
     assert!(rt; has_of_range(alloc, &*graph, &[5, 3, 4])?);
     assert!(rt; has(alloc, &graph, (XA, 1))? == (false, true));
     assert!(rt; has(alloc, &graph, (YB, 4))? == (true, true));
-    assert!(rt; has_tags(alloc, &graph)? && is_scanned(alloc, &graph)?);
+    assert!(rt;
+        has_tags(alloc, &graph)? && is_scanned(alloc, &graph, (XB, true, false, false, 14))?
+    );
     Ok(())
 }
 

@@ -10,7 +10,7 @@ pub returns : goal.returns
 returns g c =
     let test = matches (option_copied c.args.s) (option_copied c.args.p) (option_copied c.args.o) in
     let pairs = c.self.inside.pairs.elements in
-    ok_weaker c.filtered.result
+    ok_weaker c.matching_in.result
     (λ found e. subst (λ (zs : List Tagged). FindsEach test zs (map (λ x. x.now) found.items)) (ap (λ w. w.pairs) c.self.view_is)
     (finds_each test pairs (map (λ x. x.now) found.items) c.self.invariant.ascending e))
-    c.filtered.ensures
+    c.matching_in.ensures
