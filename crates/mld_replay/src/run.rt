@@ -22,11 +22,11 @@ use crate::limits::{INPUT_LIMIT, LINE_LIMIT};
 use crate::stages::{Stage, act, finish};
 use crate::stops::LineStop;
 use mld_io::{Banks, CrashBanks, LineFault, Lines, Piece, Sink, Source, WriteFault, write_all};
-use net_world::Summary;
 use std::alloc::{AllocError, Global};
 use std::fmt;
 use std::thread::Threads;
 use thiserror::Error;
+use world_summaries::Summary;
 
 /// Why a run ended before its input did.
 #[derive(Clone, Copy, Debug, PartialEq, Eq, Error)]

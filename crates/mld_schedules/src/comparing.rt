@@ -3,7 +3,7 @@ ghost use Rattle.std.specs.Prelude.{◌≡◌};
 
 use crate::transcripts::{End, Wanted};
 use mld_replay::run::RunFault;
-use net_world::{CloneSummary, State, Summary};
+use world_summaries::{CloneSummary, State, Summary};
 
 /// A line of the text that isn't as wanted.
 #[derive(Clone, Copy)]

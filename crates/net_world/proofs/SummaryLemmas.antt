@@ -2,18 +2,12 @@
 use Rattle.std.proofs.Common.{◌≡◌, ◌<◌, ◌+◌, ℕ, List, [], ◌∷◌, ◌++◌, sym, ◌∙◌, ap, subst, length, map, get_or, take}
 use Rattle.std.proofs.lemmas.List.{map-append, take_more}
 use Rattle.mld_model.specs.StandsFor.{RunningClone}
-use Rattle.net_world.specs.declared.summaries.CloneSummary.{CloneSummary}
+use Rattle.world_summaries.specs.declared.summaries.CloneSummary.{CloneSummary}
 use Rattle.net_world.specs.WorldBanks.{BankedState, in_memory}
-use Rattle.net_world.specs.WorldSummary.{Summarizes, SummarizesAll}
+use Rattle.world_summaries.specs.WorldSummary.{Summarizes, SummarizesAll}
+use Rattle.world_summaries.proofs.SummaryLemmas.{summarizes_one}
 
 -- one more clone is told of
-summarizes_one : (clones : List RunningClone) (summaries : List CloneSummary) (clone : RunningClone) (summary : CloneSummary)
-    → SummarizesAll clones summaries → Summarizes clone summary → SummarizesAll (clones ++ clone ∷ []) (summaries ++ summary ∷ [])
-summarizes_one [] [] clone summary all one = (one, tt)
-summarizes_one [] (first ∷ summaries) clone summary all one = absurd all
-summarizes_one (first ∷ clones) [] clone summary all one = absurd all
-summarizes_one (first ∷ clones) (told ∷ summaries) clone summary all one = (all.0, summarizes_one clones summaries clone summary all.1 one)
-
 pub summarizes_more : {B : Type 0} (clones : List (BankedState B)) (i : ℕ) (summaries more : List CloneSummary) (clone : BankedState B) (summary : CloneSummary)
     → i < length clones → clone ≡ get_or clones i clone → SummarizesAll (map in_memory (take i clones)) summaries → Summarizes (in_memory clone) summary → more ≡ summaries ++ summary ∷ []
     → SummarizesAll (map in_memory (take (i + 1) clones)) more

@@ -6,8 +6,6 @@ pub mod Changes
 pub mod Delivering
 pub mod Asking
 pub mod Commands
-pub mod WorldSummary
-pub mod SummaryLaws
 pub mod WorldBanks
 pub mod OneCall
 pub mod WorldFaults

@@ -20,5 +20,4 @@ mod worlds;
 
 pub use faults::WorldFault;
 pub use schedule_model::Command;
-pub use summaries::{CloneSummary, State, Summary};
 pub use worlds::World;

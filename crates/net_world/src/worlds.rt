@@ -6,7 +6,7 @@ use crate::founding::found_clones;
 use crate::parts::Parts;
 use crate::states::copy_named;
 use crate::stopping::stop_all;
-use crate::summaries::{Summary, summarize};
+use crate::summaries::summarize;
 use journal_store::Blank;
 use mld_io::{Banks, CrashBanks};
 use mld_model::CloneState;
@@ -16,6 +16,7 @@ use schedule_text::Setup;
 use std::alloc::{AllocError, Global};
 use std::marker::Model;
 use std::thread::Threads;
+use world_summaries::Summary;
 
 /// A world that runs, each clone on banks of its own.
 #[derive(Drop)]
@@ -49,7 +50,7 @@ impl<B: CrashBanks> World<B> {
     ghost use Rattle.schedule_text.specs.ReadLines.{setup_of};
     ghost use Rattle.net_world.specs.Founding.{StandsFounded};
     ghost use Rattle.net_world.specs.Worlds.{IsStanding, Stepped};
-    ghost use Rattle.net_world.specs.WorldSummary.{Tells};
+    ghost use Rattle.world_summaries.specs.WorldSummary.{Tells};
 
     /// The founded world: the clones from 0 on are live, each with a leaf of its own, and the others are absent. Each has banks of its
     /// own, of which there are as many as clones; the banks of the live ones keep them from then on.

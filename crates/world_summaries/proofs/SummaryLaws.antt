@@ -10,10 +10,10 @@ use Rattle.mld_model.specs.declared.CloneState.TheVariants as states
 use Rattle.mld_model.specs.Clone.{Clone, Absent, Asking, Empty, Down, Live, known_of}
 use Rattle.mld_model.specs.World.{World}
 use Rattle.mld_model.specs.StandsFor.{RunningClone, RunningWorld, LocalStandsFor, CloneStandsFor}
-use Rattle.schedule_model.proofs.WorldLaws.{same_ranges}
-use Rattle.net_world.specs.declared.summaries.CloneSummary.{CloneSummary}
-use Rattle.net_world.specs.declared.summaries.Summary.{Summary}
-use Rattle.net_world.specs.WorldSummary.{TellsOfClone, TellsOfClones, Summarizes, SummarizesAll, Tells}
+use Rattle.mld_model.proofs.CompactedStands.{same_ranges}
+use Rattle.world_summaries.specs.declared.summaries.CloneSummary.{CloneSummary}
+use Rattle.world_summaries.specs.declared.summaries.Summary.{Summary}
+use Rattle.world_summaries.specs.WorldSummary.{TellsOfClone, TellsOfClones, Summarizes, SummarizesAll, Tells}
 
 -- what is told of a clone that runs is told of the clone that it stands for
 clone_told : (world : World) (number : ℕ) (running : RunningClone) (clone : Clone) (summary : CloneSummary)

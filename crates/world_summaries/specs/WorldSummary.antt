@@ -12,10 +12,10 @@ use Rattle.mld_model.specs.World.{World}
 use Rattle.mld_model.specs.Sound.{IsSound}
 use Rattle.mld_model.specs.StandsFor.{RunningClone, RunningWorld, StandsFor}
 use Rattle.mld_model.specs.declared.CloneState.TheVariants as running
-use Rattle.net_world.specs.declared.summaries.Summary.{Summary}
-use Rattle.net_world.specs.declared.summaries.State.{State}
-use Rattle.net_world.specs.declared.summaries.State.TheVariants as states
-use Rattle.net_world.specs.declared.summaries.CloneSummary.{CloneSummary}
+use Rattle.world_summaries.specs.declared.summaries.Summary.{Summary}
+use Rattle.world_summaries.specs.declared.summaries.State.{State}
+use Rattle.world_summaries.specs.declared.summaries.State.TheVariants as states
+use Rattle.world_summaries.specs.declared.summaries.CloneSummary.{CloneSummary}
 
 -- nothing but its state is told of a clone that isn't live
 pub record IsBlank (summary : CloneSummary) (state : State) : Type 0 where
