@@ -27,16 +27,16 @@ use Rattle.schedule_model.specs.Step.{Step, number_of_clone}
 use Rattle.schedule_model.proofs.StepSoundLaws.{lists_same, weighs_same}
 
 -- a history after a step: it is the same, or an operation has joined it that may come next
-data Grows (history after : List Operation) : Type 0 where
+pub data Grows (history after : List Operation) : Type 0 where
   stays : after ≡ history → Grows history after
   grows_by : (operation : Operation) → IsNext history operation → after ≡ operation ∷ history → Grows history after
 
 -- what a step at the clone of the number changes
-record Changes (world next : World) (number : ℕ) : Type 0 where
-  domain : next.domain ≡ world.domain
-  properties : next.properties ≡ world.properties
-  others : (other : ℕ) → other ≢ number → clone_at next other ≡ clone_at world other
-  grows : IsSound world → Grows world.history next.history
+pub record Changes (world next : World) (number : ℕ) : Type 0 where
+  pub domain : next.domain ≡ world.domain
+  pub properties : next.properties ≡ world.properties
+  pub others : (other : ℕ) → other ≢ number → clone_at next other ≡ clone_at world other
+  pub grows : IsSound world → Grows world.history next.history
 
 -- the clone of the number makes a step from the world to the next one
 module _ (world next : World) (number : ℕ) where
@@ -199,7 +199,7 @@ module _ (world next : World) (number : ℕ) where
       (λ stored down told same. clone_changes (Live stored []) world.messages same)
 
 -- each step
-step_changes : (world : World) (command : Command) (reply : Reply) (next : World) → Step world command reply next → Changes world next (number_of_clone command)
+pub step_changes : (world : World) (command : Command) (reply : Reply) (next : World) → Step world command reply next → Changes world next (number_of_clone command)
 unfolding Step
 step_changes world (Add number triple) reply next p = updates_by_change world next number (AddsTriple triple) (adds_present triple) (clone_at world number) reply refl p
 step_changes world (Remove number triple) reply next p = updates_by_change world next number (DeletesAll triple) (removes_present triple) (clone_at world number) reply refl p

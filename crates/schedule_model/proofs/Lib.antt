@@ -2,6 +2,7 @@ pub mod LackingLaws
 pub mod WorldLaws
 pub mod JoinLaws
 pub mod ChangesLaws
+pub mod FollowsLaws
 pub mod StopLaws
 pub mod AskLaws
 pub mod SnapshotLaws

@@ -7,16 +7,16 @@ use Rattle.mld_model.specs.Clone.{Clone, Absent, Asking, Empty, Down, Live, Stor
 use Rattle.mld_model.specs.World.{World, clone_at, with_clone}
 use Rattle.mld_model.specs.CloneStep.{Reopens}
 use Rattle.mld_model.specs.Reply.{Reply, IsAsking, Stopped, Opened}
-use Rattle.mld_model.specs.Sound.{Keeps, IsSound}
-use Rattle.mld_model.specs.Local.{LocalAsker, LocalClone, stored_of, IsLocal}
+use Rattle.mld_model.specs.Sound.{IsSound}
+use Rattle.mld_model.specs.Local.{LocalAsker, LocalClone, IsSameClone, stored_of, IsLocal}
+use Rattle.mld_model.specs.LocalStep.{Stop as StopClone, Open as OpenClone, stops, opens}
 use Rattle.mld_model.specs.StandsFor.{RunningClone, RunningWorld, IsCloneOf, IsAskerOf, StoredStandsFor, CloneStandsFor, StandsFor}
-use Rattle.mld_model.proofs.StateLaws.{live_does}
-use Rattle.mld_model.proofs.LocalLaws.{kept_by}
-use Rattle.mld_model.proofs.StandsForLaws.{LiveAt, live_at}
-use Rattle.mld_model.proofs.StoredLaws.{opened_stands, stopped_sound, opened_sound, opened_empty_sound}
+use Rattle.mld_model.proofs.StandsForLaws.{live_at}
+use Rattle.mld_model.proofs.StoredLaws.{opened_empty_sound}
 use Rattle.schedule_model.specs.Step.{Step}
 use Rattle.schedule_model.specs.WorldStep.{stepped, stepped_into, Follows, IsMissingReply, IsStandingReply}
 use Rattle.schedule_model.proofs.WorldLaws.{missing_replies, staying_follows, into_stands}
+use Rattle.schedule_model.proofs.FollowsLaws.{turning}
 pub use Rattle.schedule_model.proofs.ChangesLaws.{step_keeps_domain, step_keeps_others, kept_still_stands}
 
 -- where the running clone isn't down, the model's is in the same state, and answers by it
@@ -51,15 +51,8 @@ module _ (running : RunningWorld) (world : World) (stands : StandsFor running wo
       → slice_get running.clones number ≡ Some (states.Live live) → Follows world (Stop number) Stopped (stepped_into running number (states.Down tt))
   unfolding Step
   stop_live number live is =
-      let at : LiveAt world number live = live_at running world stands number live is in
-      let stored : Stored = kept_by live at.base at.journal in
-      let next : World = with_clone world number (Down stored) in
-      record {
-        next = next;
-        steps = live_does world (clone_at world number) Stopped next _ stored at.held at.live (refl, refl {a = next});
-        sound = stopped_sound world number sound stored at.held at.live;
-        stands = into_stands running world stands sound number (states.Down tt) (Down stored) tt;
-      }
+      turning running world stands sound (Stop number) (states.Live live) (states.Down live) StopClone StopClone Stopped (live_at running world stands number live is) refl (λ next does. does)
+      (stops live)
 
   -- a clone that isn't live stops nothing
   pub stop_missing : (number : ℕ) (state : RunningClone) (reply : Reply)
@@ -87,15 +80,10 @@ module _ (running : RunningWorld) (world : World) (stands : StandsFor running wo
   unfolding Step
   open_stored number device stored local is kept of whole none has =
       let down : clone_at world number ≡ Down stored = down_from world number device (clone_at world number) stored (stands.clones number (states.Down device) is) kept in
-      let keeps : Keeps (clone_at world number) stored = subst (λ (c : Clone). Keeps c stored) (sym down) refl in
-      let next : World = with_clone world number (Live stored []) in
-      record {
-        next = next;
-        steps = subst (λ (c : Clone). Reopens world number c Opened next) (sym down) (refl, refl);
-        sound = opened_sound world number sound stored down;
-        stands = into_stands running world stands sound number (states.Live local) (Live stored [])
-            (of, opened_stands world number local stored sound keeps whole none has);
-      }
+      let same : IsSameClone local local = record { id = refl; domain = refl; properties = refl; path = refl; base = refl; base_pairs = refl } in
+      turning running world stands sound (Open number) (states.Down local) (states.Live local) OpenClone OpenClone Opened
+      (record { stored = stored; down = down; is = of; stands = has }) refl (λ next does. does)
+      (opens local local (record { same = same; entries = refl; held = none; local = whole }))
 
   -- one that keeps nothing asks from then on
   pub open_empty : (number : ℕ) (device : Unit {0}) (asker : LocalAsker)

@@ -15,36 +15,31 @@ use Rattle.tree_clock.specs.Clock.{ticks_of}
 use Rattle.mld_ops.specs.declared.tagged.Tagged.{Tagged}
 use Rattle.mld_ops.specs.Messages.{MessageValue, CarriesEntry}
 use Rattle.mld_ops.specs.Entry.{EntryValue}
-use Rattle.mld_ops.specs.History.{Operation, IsDone, IsInserted, IsNext, dot_at}
-use Rattle.mld_ops.specs.Effects.{EffectValue, inserting, deleting, ArePairsOf}
-use Rattle.mld_ops.specs.Effect.{range_of}
-use Rattle.std.specs.List.{AllZip}
-use Rattle.mld_ops.proofs.PickingLaws.{pairs_more}
+use Rattle.mld_ops.specs.History.{Operation, IsDone, dot_at}
+use Rattle.mld_ops.specs.Effects.{inserting, deleting, ArePairsOf}
 use Rattle.mld_ops.specs.Ready.{IsKnownEntry}
 use Rattle.schedule_model.specs.declared.Command.{Command}
 use Rattle.schedule_model.specs.declared.Command.TheVariants.{Add, Remove, Deliver, Show, Compare}
 use Rattle.mld_model.specs.declared.CloneState.TheVariants as states
-use Rattle.mld_model.specs.Clone.{Clone, Absent, Asking, Empty, Down, Live, Stored, known_of, with_range, IsReady, AreKnownTo}
+use Rattle.mld_model.specs.Clone.{Clone, Absent, Asking, Empty, Down, Live, Stored, known_of, AreKnownTo}
 use Rattle.mld_ops.specs.Held.{held_limit}
-use Rattle.mld_model.specs.World.{World, Message, RangeOf, message_at, clone_at, with_clone, founded, founded_clone, clone_count}
+use Rattle.mld_model.specs.World.{World, Message, message_at, clone_at, with_clone, founded, founded_clone, clone_count}
 use Rattle.schedule_model.specs.Step.{Step}
-use Rattle.mld_model.specs.CloneStep.{Answers, IfLive, changes_nothing, makes_operation, IsNextTick, Makes, after_operation, holds_already, holds_too_many, holds_from_now, TakesRange, knows_already, accepts, holds_back, Takes, Compares}
+use Rattle.mld_model.specs.CloneStep.{Answers, IfLive, changes_nothing, Takes, Compares}
 use Rattle.mld_model.proofs.StateLaws.{live_does}
 use Rattle.mld_model.specs.Reply.{Reply, Did, NoOperation, Took, Held, HeldFull, AlreadyKnown, Shows, NoMessage}
-use Rattle.mld_model.specs.Sound.{IsDoneRange, IsSoundClone, IsSound}
+use Rattle.mld_model.specs.Sound.{IsSound}
 use Rattle.mld_model.specs.Local.{LocalClone, next_dot, LocallyMakes, LocallyAccepts, MustBeHeld, IsFullFor, IsForeign}
 use Rattle.mld_ops.specs.Held.{ranges_of}
-use Rattle.mld_model.specs.StandsFor.{RunningClone, RunningWorld, EntryStandsFor, LocalStandsFor, IsCloneOf, CloneStandsFor, MessageStandsFor, StandsFor, founded_local, founded_running}
-use Rattle.mld_model.proofs.JournalLaws.{journal_done}
-use Rattle.mld_model.proofs.SoundLaws.{made_is_next, made_sound, taken_sound, holding_sound, live_sound}
-use Rattle.mld_model.proofs.LocalLaws.{kept_by, next_tick_of, made_by, maker_stands, made_entry, known_alike}
-use Rattle.mld_model.proofs.AnswersStand.{must_be_held, held_alike}
-pub use Rattle.mld_model.proofs.CompactedStands.{same_ranges}
-use Rattle.mld_model.proofs.LocalSteps.{entry_not_foreign}
-use Rattle.mld_model.proofs.ReleasedLaws.{StandsDone, stand_done, Released, accepted_ready, accepted_releases, accepted_told, accepted_stands}
-use Rattle.mld_model.proofs.PairsLaws.{PairAt, pair_at, no_pair_at, pairs_count}
-use Rattle.mld_model.proofs.StandsForLaws.{LiveAt, live_at, clone_stands_as, still_clone_of, clones_stand_set, clones_still_stand, messages_still_stand}
+use Rattle.mld_model.specs.StandsFor.{RunningClone, RunningWorld, LocalStandsFor, CloneStandsFor, MessageStandsFor, StandsFor, founded_local, founded_running}
+use Rattle.mld_model.proofs.SoundLaws.{live_sound}
+use Rattle.mld_model.proofs.LocalLaws.{kept_by}
+use Rattle.mld_model.proofs.LocalSteps.{none_foreign}
+use Rattle.mld_model.proofs.PairsLaws.{no_pair_at}
+use Rattle.mld_model.proofs.StandsForLaws.{LiveAt, live_at, clone_stands_as, clones_stand_set}
 use Rattle.schedule_model.specs.WorldStep.{Follows, IsMissingReply, IsAwayReply}
+use Rattle.mld_model.specs.LocalStep.{Update, updates, knows_entry, accepts_entry, holds_entry, is_full}
+use Rattle.schedule_model.proofs.FollowsLaws.{SentAs, sent_as, local_follows, taking_stays, taking_turns}
 use Rattle.mld_model.specs.Comparing.{IsAmongDots}
 use Rattle.mld_model.proofs.ComparingLaws.{compares_alike}
 pub use Rattle.schedule_model.specs.WorldStep.{stepped, stepped_with, stepped_into, stepped_sending, sent_message, LocallyCompares}
@@ -108,33 +103,6 @@ missing_replies world number state clone reply does is stands = absurd stands
 some_inserts : {triple : Triple} → triple ∷ [] ≢ []
 some_inserts same = cc
 
--- what making an operation gives
-pub record MakesSoundly (world : World) (number : ℕ) (live : LocalClone) (effect : EffectValue) (reply : Reply) (running : RunningWorld) : Type 0 where
-  pub at : LiveAt world number live
-  pub next : World
-  pub makes : Makes world number (kept_by live at.base at.journal) at.held effect reply next
-  pub sound : IsSound next
-  pub stands : StandsFor running next
-
--- the model's message of a number, and what stands for it
-pub record SentAs (world : World) (message : MessageValue) (number : ℕ) : Type 0 where
-  pub other : Message
-  pub at : message_at world number ≡ Some other
-  pub stands : Has world.messages other
-  pub relates : MessageStandsFor world.history message other
-
--- the range of an entry that was sent
-pub record SentRange (world : World) (entry : EntryValue) (number : ℕ) : Type 0 where
-  pub range : Range
-  pub at : message_at world number ≡ Some (RangeOf range)
-  pub stands : Has world.messages (RangeOf range)
-  pub entry_stands : EntryStandsFor world.history entry range
-
-range_from : (world : World) (entry : EntryValue) (number : ℕ) (other : Message) → message_at world number ≡ Some other → Has world.messages other
-    → MessageStandsFor world.history (CarriesEntry entry) other → SentRange world entry number
-range_from world entry number (RangeOf range) at stands relates = record { range = range; at = at; stands = stands; entry_stands = relates }
-range_from world entry number other at stands relates = absurd relates
-
 -- a running world that stands for a world
 module _ (running : RunningWorld) (world : World) (stands : StandsFor running world) where
   -- nothing but the count of steps changes
@@ -153,19 +121,6 @@ module _ (running : RunningWorld) (world : World) (stands : StandsFor running wo
   no_message zero is = refl
   no_message (suc before) is = no_pair_at (MessageStandsFor world.history) running.messages world.messages stands.messages before is
 
-  -- what was sent by a number stands for the model's message of that number
-  pub sent_as : (number : ℕ) (message : MessageValue) → sent_message running number ≡ Some message → SentAs world message number
-  sent_as zero message is = cc
-  sent_as (suc before) message is =
-      let p : PairAt (MessageStandsFor world.history) message world.messages before = pair_at (MessageStandsFor world.history) running.messages world.messages stands.messages before message is in
-      record { other = p.other; at = p.at; stands = p.stands; relates = p.relates }
-
-  -- an entry was sent as a range
-  pub sent_range : (number : ℕ) (entry : EntryValue) → sent_message running number ≡ Some (CarriesEntry entry) → SentRange world entry number
-  sent_range number entry is =
-      let s : SentAs world (CarriesEntry entry) number = sent_as number (CarriesEntry entry) is in
-      range_from world entry number s.other s.at s.stands s.relates
-
 -- what a clone does with a message follows the model where the model's clone may do so
 pub taking_follows : (next : RunningWorld) (world after : World) (message number : ℕ) (what : Message) (clone : Clone) (reply : Reply)
     → message_at world message ≡ Some what → clone_at world number ≡ clone → Takes world number what clone reply after → IsSound after → StandsFor next after
@@ -176,6 +131,11 @@ taking_follows next world after message number what clone reply sent is takes so
     let Q : Clone → Type 0 = λ c. Takes world number what c reply after in
     record { next = after; steps = subst P (sym sent) (subst Q (sym is) takes); sound = sound; stands = stands }
 
+-- what a clone does that is live is what only a live clone does
+live_did : (world : World) (clone : Clone) (reply : Reply) (next : World) (does : Stored → List Range → Type 0)
+    (stored : Stored) (held : List Range) → clone ≡ Live stored held → IfLive world clone reply next does → does stored held
+live_did world clone reply next does stored held is p = subst (λ (c : Clone). IfLive world c reply next does) is p
+
 -- a clone that is absent or down takes no message
 takes_away : (world : World) (number : ℕ) (what : Message) (state : RunningClone) (clone : Clone) (reply : Reply) → IsAwayReply state reply
     → CloneStandsFor world number state clone → Takes world number what clone reply world
@@ -185,14 +145,6 @@ takes_away world number what (states.Down device) (Down stored) reply away stand
 takes_away world number what (states.Asking asker) clone reply away stands = absurd away
 takes_away world number what (states.Live live) clone reply away stands = absurd away
 takes_away world number what state clone reply away stands = absurd stands
-
--- how a live clone's answer to an entry follows the model
-answer_follows : (running next : RunningWorld) (world after : World) (message number : ℕ) (entry : EntryValue) (live : LocalClone) (reply : Reply)
-    → (s : SentRange world entry message) → (at : LiveAt world number live)
-    → TakesRange world number (kept_by live at.base at.journal) at.held s.range reply after → IsSound after → StandsFor next after
-    → Follows world (Deliver message number) reply next
-answer_follows running next world after message number entry live reply s at receives sound stands =
-    taking_follows next world after message number (RangeOf s.range) (Live (kept_by live at.base at.journal) at.held) reply s.at at.live receives sound stands
 
 within_alike : (history : List Operation) (live other : LocalClone) (stored kept : Stored) (held back : List Range) → LocalStandsFor history live stored held
     → LocalStandsFor history other kept back → IsAmongDots live.ticks other.ticks ↔ AreKnownTo (known_of stored) (known_of kept)
@@ -223,52 +175,6 @@ module _ (running : RunningWorld) (world : World) (stands : StandsFor running wo
     | inr none ↦ omega arith
   ]
 
-  -- a live clone that makes an operation does so in the model, and the running world stands for what that makes
-  pub makes_soundly : (number : ℕ) (live : LocalClone)
-      → slice_get running.clones number ≡ Some (states.Live live) → (effect : EffectValue) (new : LocalClone) (entry : EntryValue)
-      → ((pair : Tagged) → Has effect.deletes pair → Has live.pairs pair) → LocallyMakes live effect new entry
-      → MakesSoundly world number live effect (Did (next_dot live) (length running.messages + 1)) (stepped_sending running number new entry)
-  makes_soundly number live is effect new entry present makes =
-      let at : LiveAt world number live = live_at running world stands number live is in
-      let stored : Stored = kept_by live at.base at.journal in
-      let whole : IsSoundClone world.history stored = live_sound world number stored at.held sound at.live in
-      let tick : IsNextTick (known_of stored) live.path (next_dot live).tick = next_tick_of live (known_of stored) at.stands.known in
-      let covered : (pair : Tagged) → Has effect.deletes pair → Knows (known_of stored) pair.dot = λ pair h. (at.stands.pairs.sound pair (present pair h)).covered in
-      let inserted : (pair : Tagged) → Has effect.deletes pair → IsInserted world.history pair = λ pair h. (at.stands.pairs.sound pair (present pair h)).inserted in
-      let operation : Operation = made_by live at.base at.journal effect in
-      let is_next : IsNext world.history operation = made_is_next world.history stored (next_dot live).tick effect.deletes effect.inserts whole tick covered inserted in
-      let next : World = after_operation world number stored at.held operation in
-      record {
-        at = at;
-        next = next;
-        makes = record {
-          tick = (next_dot live).tick;
-          is_next = tick;
-          replies = ap (λ n. Did (next_dot live) (n + 1)) (pairs_count (MessageStandsFor world.history) running.messages world.messages stands.messages);
-          changes = refl;
-        };
-        sound = made_sound world number stored at.held sound at.live (next_dot live).tick effect.deletes effect.inserts tick covered inserted;
-        stands = record {
-          domain = stands.domain;
-          properties = stands.properties;
-          count = length-set running.clones number (states.Live new) ∙ stands.count;
-          clones = clones_stand_set next running.clones world.clones number (states.Live new) (Live (with_range stored (range_of (next_dot live))) at.held)
-              (stands.count ∙ sym sound.count)
-              (clones_still_stand running world next operation stands sound is_next refl refl refl) (
-                still_clone_of world next number live new makes.same refl refl at.is,
-                maker_stands world.history live at.base at.journal at.held effect new entry at.stands makes sound.lawful whole.closed is_next
-                    (journal_done world.history at.base at.journal whole.journal) (sound.held number stored at.held at.live),
-              );
-          messages = pairs_more (MessageStandsFor (operation ∷ world.history)) running.messages world.messages (CarriesEntry entry) (RangeOf (range_of (next_dot live)))
-              (messages_still_stand world.history operation running.messages world.messages stands.messages sound.messages is_next)
-              (made_entry world.history live at.base at.journal at.held effect new entry at.stands makes sound.lawful whole.closed is_next);
-          ticks = λ other h. elim h [
-            | inl same ↦ let P : Operation → Type 0 = λ o. o.dot.tick ≤ running.steps + 1 in subst P same (next_tick_within number live at)
-            | inr old ↦ omega (arith, stands.ticks other old)
-          ];
-        };
-      }
-
   -- ---- add
 
   -- a live clone adds a triple
@@ -277,16 +183,13 @@ module _ (running : RunningWorld) (world : World) (stands : StandsFor running wo
       → Follows world (Add number triple) (Did (next_dot live) (length running.messages + 1)) (stepped_sending running number new entry)
   unfolding Step
   add_follows number triple live is new entry makes =
-      let made : MakesSoundly world number live (inserting triple) (Did (next_dot live) (length running.messages + 1)) (stepped_sending running number new entry)
-      = makes_soundly number live is (inserting triple) new entry (λ pair h. absurd h) makes in
-      record {
-        next = made.next;
-        steps = live_does world (clone_at world number) (Did (next_dot live) (length running.messages + 1)) made.next _
-            (kept_by live made.at.base made.at.journal) made.at.held made.at.live
-            (live.pairs, inserting triple, made.at.stands.pairs, refl {a = inserting triple}, makes_operation (λ none. some_inserts none.inserts) made.makes);
-        sound = made.sound;
-        stands = made.stands;
-      }
+      let at : LiveAt world number live = live_at running world stands number live is in
+      let reply : Reply = Did (next_dot live) (length running.messages + 1) in
+      local_follows running world stands sound (Add number triple) (states.Live live) (states.Live new) (Update (inserting triple)) (Update (inserting triple)) reply (CarriesEntry entry ∷ [])
+      (set running.clones number (states.Live new)) (running.messages ++ CarriesEntry entry ∷ []) at refl
+      (λ next does. live_does world (clone_at world number) reply next _ (kept_by live at.base at.journal) at.held at.live
+      (live.pairs, inserting triple, at.stands.pairs, refl {a = inserting triple}, live_did world (clone_at world number) reply next _ (kept_by live at.base at.journal) at.held at.live does))
+      (updates live (inserting triple) new entry (λ none. some_inserts none.inserts) (λ pair h. absurd h) makes) refl refl
 
   -- a clone that isn't live adds nothing
   pub add_missing : (number : ℕ) (triple : Triple) (state : RunningClone) (reply : Reply)
@@ -305,16 +208,13 @@ module _ (running : RunningWorld) (world : World) (stands : StandsFor running wo
       → Follows world (Remove number triple) (Did (next_dot live) (length running.messages + 1)) (stepped_sending running number new entry)
   unfolding Step
   remove_follows number triple live is deletes new entry are some makes =
+      let at : LiveAt world number live = live_at running world stands number live is in
       let reply : Reply = Did (next_dot live) (length running.messages + 1) in
-      let made : MakesSoundly world number live (deleting deletes) reply (stepped_sending running number new entry)
-      = makes_soundly number live is (deleting deletes) new entry (λ pair h. ((are.members pair).0 h).0) makes in
-      record {
-        next = made.next;
-        steps = live_does world (clone_at world number) reply made.next _ (kept_by live made.at.base made.at.journal) made.at.held made.at.live
-            (live.pairs, deleting deletes, made.at.stands.pairs, record { found = deletes; are = are; is = refl {a = deleting deletes} }, makes_operation (λ none. some none.deletes) made.makes);
-        sound = made.sound;
-        stands = made.stands;
-      }
+      local_follows running world stands sound (Remove number triple) (states.Live live) (states.Live new) (Update (deleting deletes)) (Update (deleting deletes)) reply (CarriesEntry entry ∷ [])
+      (set running.clones number (states.Live new)) (running.messages ++ CarriesEntry entry ∷ []) at refl
+      (λ next does. live_does world (clone_at world number) reply next _ (kept_by live at.base at.journal) at.held at.live
+      (live.pairs, deleting deletes, at.stands.pairs, record { found = deletes; are = are; is = refl {a = deleting deletes} }, live_did world (clone_at world number) reply next _ (kept_by live at.base at.journal) at.held at.live does))
+      (updates live (deleting deletes) new entry (λ none. some none.deletes) (λ pair h. ((are.members pair).0 h).0) makes) refl refl
 
   -- a live clone that has none removes nothing
   pub remove_nothing : (number : ℕ) (triple : Triple) (live : LocalClone)
@@ -368,11 +268,8 @@ module _ (running : RunningWorld) (world : World) (stands : StandsFor running wo
       → sent_message running message ≡ Some (CarriesEntry entry) → slice_get running.clones number ≡ Some (states.Live live) → IsKnownEntry live.ticks entry
       → Follows world (Deliver message number) AlreadyKnown (stepped running)
   deliver_known message number entry live sent is known =
-      let s : SentRange world entry message = sent_range running world stands message entry sent in
-      let at : LiveAt world number live = live_at running world stands number live is in
-      answer_follows running (stepped running) world world message number entry live AlreadyKnown s at
-      (knows_already ((known_alike world.history live.ticks (known_of (kept_by live at.base at.journal)) at.stands.known s.range entry s.entry_stands).0 known) (refl, refl))
-      sound (stepped_stands running world stands)
+      taking_stays running world stands sound message number (CarriesEntry entry) (states.Live live) AlreadyKnown sent is (live_at running world stands number live is)
+      (knows_entry live entry known)
 
   -- a running world where one clone is in another state, and nothing else has changed
   pub into_stands : (number : ℕ) (state : RunningClone) (clone : Clone) → CloneStandsFor world number state clone
@@ -386,75 +283,29 @@ module _ (running : RunningWorld) (world : World) (stands : StandsFor running wo
     ticks = λ operation h. omega (arith, stands.ticks operation h);
   }
 
-  -- a running world where one clone is live as another, and nothing else has changed
-  pub changed_stands : (number : ℕ) (new : LocalClone) (stored : Stored) (held : List Range)
-      → IsCloneOf world number new → LocalStandsFor world.history new stored held
-      → StandsFor (stepped_with running number new) (with_clone world number (Live stored held))
-  changed_stands number new stored held of now = into_stands number (states.Live new) (Live stored held) (of, now)
-
   -- a message comes to a clone that is ready for it
   pub deliver_taken : (message number : ℕ) (entry : EntryValue) (live new : LocalClone) (ranges : List Range)
       → sent_message running message ≡ Some (CarriesEntry entry) → slice_get running.clones number ≡ Some (states.Live live) → LocallyAccepts live entry new ranges
       → Follows world (Deliver message number) (Took ranges) (stepped_with running number new)
   deliver_taken message number entry live new ranges sent is locally =
-      let s : SentRange world entry message = sent_range running world stands message entry sent in
-      let at : LiveAt world number live = live_at running world stands number live is in
-      let stored : Stored = kept_by live at.base at.journal in
-      let whole : IsSoundClone world.history stored = live_sound world number stored at.held sound at.live in
-      let both : StandsDone world.history entry s.range =
-      record { stands = s.entry_stands; done = sound.messages (RangeOf s.range) s.stands } in
-      let ready : IsReady world.history (known_of stored) s.range = accepted_ready world.history live new stored at.held s.range entry ranges at.stands both locally in
-      let all : AllZip (StandsDone world.history) live.held at.held =
-      stand_done world.history live.held at.held at.stands.held (sound.held number stored at.held at.live) in
-      let released : Released world.history (with_range stored s.range) at.held locally.taken new.held new.ticks new.pairs =
-      accepted_releases world.history live new stored at.held s.range entry ranges at.stands both locally all sound.lawful whole in
-      let after : Stored = record { path = live.path; base = at.base; journal = (at.journal ++ s.range ∷ []) ++ released.ranges } in
-      let next : World = with_clone world number (Live after released.rest) in
-      answer_follows running (stepped_with running number new) world next message number entry live (Took ranges) s at
-      (accepts (record {
-        ready = ready;
-        taken = released.ranges;
-        after = after;
-        left = released.rest;
-        releases = released.releases;
-        replies = ap Took (accepted_told world.history live new stored at.held s.range entry ranges at.stands both locally released);
-        changes = refl {a = next};
-      }))
-      (taken_sound world number stored at.held sound at.live s.range released.ranges after released.rest both.done ready released.releases)
-      (changed_stands number new after released.rest
-      (still_clone_of world world number live new locally.same refl refl at.is)
-      (accepted_stands world.history live new stored at.held s.range entry ranges at.stands both locally released))
+      taking_turns running world stands sound message number (CarriesEntry entry) (states.Live live) (states.Live new) (Took ranges) sent (live_at running world stands number live is)
+      (accepts_entry live entry new ranges locally)
 
   -- a message comes to a clone that holds one of its range already
   pub deliver_held_already : (message number : ℕ) (entry : EntryValue) (live : LocalClone)
       → sent_message running message ≡ Some (CarriesEntry entry) → slice_get running.clones number ≡ Some (states.Live live) → MustBeHeld live entry → Has (ranges_of live.held) entry.range
       → Follows world (Deliver message number) Held (stepped running)
   deliver_held_already message number entry live sent is must has =
-      let s : SentRange world entry message = sent_range running world stands message entry sent in
-      let at : LiveAt world number live = live_at running world stands number live is in
-      let positive : 1 ≤ s.range.first = (sound.messages (RangeOf s.range) s.stands).positive in
-      answer_follows running (stepped running) world world message number entry live Held s at
-      (holds_back
-      (must_be_held world live (kept_by live at.base at.journal) at.held s.range entry at.stands s.entry_stands positive must)
-      (holds_already ((held_alike world.history live.held at.held entry s.range at.stands.held s.entry_stands.same).0 has) (refl, refl)))
-      sound (stepped_stands running world stands)
+      taking_stays running world stands sound message number (CarriesEntry entry) (states.Live live) Held sent is (live_at running world stands number live is)
+      (holds_entry live entry live must (inl (has, refl)))
 
   -- a message comes to a clone that holds too many others back
   pub deliver_full : (message number : ℕ) (entry : EntryValue) (live : LocalClone)
       → sent_message running message ≡ Some (CarriesEntry entry) → slice_get running.clones number ≡ Some (states.Live live) → MustBeHeld live entry → IsFullFor live entry
       → Follows world (Deliver message number) HeldFull (stepped running)
   deliver_full message number entry live sent is must full =
-      let s : SentRange world entry message = sent_range running world stands message entry sent in
-      let at : LiveAt world number live = live_at running world stands number live is in
-      let positive : 1 ≤ s.range.first = (sound.messages (RangeOf s.range) s.stands).positive in
-      answer_follows running (stepped running) world world message number entry live HeldFull s at
-      (holds_back
-      (must_be_held world live (kept_by live at.base at.journal) at.held s.range entry at.stands s.entry_stands positive must)
-      (holds_too_many
-      (λ h. full.lacks ((held_alike world.history live.held at.held entry s.range at.stands.held s.entry_stands.same).1 h))
-      (omega (arith, full.full, pairs_count (EntryStandsFor world.history) live.held at.held at.stands.held))
-      (refl, refl)))
-      sound (stepped_stands running world stands)
+      taking_stays running world stands sound message number (CarriesEntry entry) (states.Live live) HeldFull sent is (live_at running world stands number live is)
+      (is_full live entry must full)
 
   -- a message comes to a clone that holds it back from now on
   pub deliver_held : (message number : ℕ) (entry : EntryValue) (live new : LocalClone)
@@ -462,37 +313,15 @@ module _ (running : RunningWorld) (world : World) (stands : StandsFor running wo
       → ¬ Has (ranges_of live.held) entry.range → length live.held < held_limit → new ≡ record live { held = live.held ++ entry ∷ [] }
       → Follows world (Deliver message number) Held (stepped_with running number new)
   deliver_held message number entry live new sent is must lacks few same =
-      let s : SentRange world entry message = sent_range running world stands message entry sent in
-      let at : LiveAt world number live = live_at running world stands number live is in
-      let stored : Stored = kept_by live at.base at.journal in
-      let done : IsDoneRange world.history s.range = sound.messages (RangeOf s.range) s.stands in
-      let held : List Range = at.held ++ s.range ∷ [] in
-      let holds : LocalClone = record live { held = live.held ++ entry ∷ [] } in
-      let of : IsCloneOf world number holds = record { id = at.is.id; domain = at.is.domain; properties = at.is.properties } in
-      let now : LocalStandsFor world.history holds stored held = record {
-        kept = record { path = refl; base = at.stands.kept.base; base_pairs = at.stands.kept.base_pairs; entries = at.stands.kept.entries };
-        held = pairs_more (EntryStandsFor world.history) live.held at.held entry s.range at.stands.held s.entry_stands;
-        known = at.stands.known;
-        pairs = at.stands.pairs;
-      } in
-      answer_follows running (stepped_with running number new) world (with_clone world number (Live stored held)) message number entry live Held s at
-      (holds_back
-      (must_be_held world live stored at.held s.range entry at.stands s.entry_stands done.positive must)
-      (holds_from_now
-      (λ h. lacks ((held_alike world.history live.held at.held entry s.range at.stands.held s.entry_stands.same).1 h))
-      (omega (arith, few, pairs_count (EntryStandsFor world.history) live.held at.held at.stands.held))
-      refl refl))
-      (holding_sound world number stored at.held sound at.live s.range done)
-      (changed_stands number new stored held
-      (subst (λ (c : LocalClone). IsCloneOf world number c) (sym same) of)
-      (subst (λ (c : LocalClone). LocalStandsFor world.history c stored held) (sym same) now))
+      taking_turns running world stands sound message number (CarriesEntry entry) (states.Live live) (states.Live new) Held sent (live_at running world stands number live is)
+      (holds_entry live entry new must (inr (lacks, few, same)))
 
   -- an entry that was sent is none of a clone's own path beyond what the clone knows
   pub never_foreign : (message number : ℕ) (entry : EntryValue) (live : LocalClone)
       → sent_message running message ≡ Some (CarriesEntry entry) → slice_get running.clones number ≡ Some (states.Live live) → ¬ IsForeign live entry
   never_foreign message number entry live sent is =
-      let s : SentRange world entry message = sent_range running world stands message entry sent in
-      entry_not_foreign world number live entry s.range sound (live_at running world stands number live is) s.stands s.entry_stands
+      let s : SentAs world (CarriesEntry entry) message = sent_as running world stands message (CarriesEntry entry) sent in
+      none_foreign world number live (CarriesEntry entry) s.other sound (live_at running world stands number live is) (record { sent = s.stands; stands = s.relates })
 
   -- ---- show
 
