@@ -132,5 +132,6 @@ module _ {B : Type 0} (log : B → Option Log) (was now : JournalValue B) (old :
   pub unswapped_on_banks : (meter : B → Meter) (swaps : Bool) (told : SwapFault) → LeavesSwap log meter swaps was now told → OnJournal log now old
   unswapped_on_banks meter swaps (swap.Closed reason) h = same_on_banks h.1
   unswapped_on_banks meter swaps swap.GenerationsSpent h = same_on_banks h
-  unswapped_on_banks meter swaps swap.Device h = refused_on_banks meter swaps why.Device h
-  unswapped_on_banks meter swaps swap.NoMemory h = refused_on_banks meter swaps why.NoMemory h
+  unswapped_on_banks meter swaps swap.Device h = shut_on_banks why.Device h.closes.now
+  unswapped_on_banks meter swaps swap.NoMemory (inl same) = same_on_banks same
+  unswapped_on_banks meter swaps swap.NoMemory (inr h) = shut_on_banks why.NoMemory h.closes.now

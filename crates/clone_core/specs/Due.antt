@@ -29,11 +29,16 @@ pub record IsDueSnapshot (clone : LocalClone) (snapshot : SnapshotValue) : Type 
   pub own : ¬ IsForeignSnapshot clone snapshot
   pub lacks : ¬ KnowsSnapshot clone snapshot
 
--- so it is for a message
-abbrev pub IsDueMessage : LocalClone → Message → Type 0
-IsDueMessage clone (message.Range entry) = IsDueEntry clone entry
-IsDueMessage clone (message.JoinAsk id) = IsDueAsk clone id
-IsDueMessage clone (message.Snapshot snapshot) = IsDueSnapshot clone (snapshot_value snapshot)
+-- a clone has a swap to do (`Due`), and a generation left for it
+pub record IsDueSwap {B : Type 0} (Due : Type 0) (clone : BankedClone B) : Type 0 where
+  pub due : Due
+  pub left : clone.generation ≢ 2 ^ 64 - 1
+
+-- so it is for a message; a snapshot is merged by a swap
+abbrev pub IsDueMessage : {B : Type 0} → BankedClone B → Message → Type 0
+IsDueMessage clone (message.Range entry) = IsDueEntry clone.local entry
+IsDueMessage clone (message.JoinAsk id) = IsDueAsk clone.local id
+IsDueMessage clone (message.Snapshot snapshot) = IsDueSwap (IsDueSnapshot clone.local (snapshot_value snapshot)) clone
 IsDueMessage clone (message.Want clock) = ⊥
 IsDueMessage clone (message.JoinGive give) = ⊥
 

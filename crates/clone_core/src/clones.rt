@@ -417,7 +417,7 @@ impl<B: Banks> MldClone<B> {
         ensures err { IfErr result (Refuses self.old.local message.now) }
         ensures spent { IsErrOf result ReceiveFault.GenerationsSpent ↔ (IsMessageSpent self.old message.now × ¬ IsErrOf result ReceiveFault.NoMemory) }
         ensures left { IfErr result (λ fault.
-            LeavesClone B.log B.meter (IsDueMessage self.old.local message.now) (IsSwapDue message.now) self.old self.new (receive_stop fault)) }
+            LeavesClone B.log B.meter (IsDueMessage self.old message.now) (IsSwapDue message.now) self.old self.new (receive_stop fault)) }
         ensures durable { (steps : List KeptStep) × MessageSteps self.old.local message.now self.new.local result steps
             × Changes B.log B.meter steps self.old self.new.banks (IsOk result) (IsErrOf result ReceiveFault.Device) }
     {

@@ -19,7 +19,7 @@ impl<B: Banks> MldClone<B> {
     ghost use Rattle.mld_model.specs.Local.{LocallyCompacts};
     ghost use Rattle.clone_core.specs.CloneClosing.{LeavesClone, IsSwappedOpen, keep_stop};
     ghost use Rattle.clone_core.specs.DurableCalls.{Changes, KeepSteps};
-    ghost use Rattle.clone_core.specs.Due.{IsSpent};
+    ghost use Rattle.clone_core.specs.Due.{IsDueSwap, IsSpent};
     ghost use Rattle.clone_core.specs.Keeping.{KeepsCompacted, StaysUnclosed};
     ghost use Rattle.clone_core.specs.CallParts.{StopsKeep};
 
@@ -39,7 +39,7 @@ impl<B: Banks> MldClone<B> {
         ensures spent { IsErrOf result KeepFault.GenerationsSpent
             ↔ (IsSpent (HasNeighbours self.old.local.entries) self.old × ¬ IsErrOf result KeepFault.NoMemory) }
         ensures left { IfErr result (λ fault.
-            LeavesClone B.log B.meter (HasNeighbours self.old.local.entries) ⊥ self.old self.new (keep_stop fault)) }
+            LeavesClone B.log B.meter (IsDueSwap (HasNeighbours self.old.local.entries) self.old) ⊥ self.old self.new (keep_stop fault)) }
         ensures durable { (steps : List KeptStep) × KeepSteps (HasNeighbours self.old.local.entries) (LocallyCompacts self.old.local) self.new.local result steps
             × Changes B.log B.meter steps self.old self.new.banks (IsOk result) (IsErrOf result KeepFault.Device) }
     {
@@ -60,7 +60,7 @@ impl<B: Banks> MldClone<B> {
         ensures ok { OnOk result (LocallyCompacts self.old.local self.new.local) }
         ensures opened { OnOk result (IsSwappedOpen self.old self.new) }
         ensures spent { IsErrOf result KeepFault.GenerationsSpent ↔ ((self.old.generation ≡ 2 ^ 64 - 1) × ¬ IsErrOf result KeepFault.NoMemory) }
-        ensures left { IfErr result (StopsKeep B.log B.meter (HasNeighbours self.old.local.entries) self.old self.new) }
+        ensures left { IfErr result (StopsKeep B.log B.meter (IsDueSwap (HasNeighbours self.old.local.entries) self.old) self.old self.new) }
         ensures durable { (steps : List KeptStep) × KeepSteps (HasNeighbours self.old.local.entries) (LocallyCompacts self.old.local) self.new.local result steps
             × Changes B.log B.meter steps self.old self.new.banks (IsOk result) (IsErrOf result KeepFault.Device) }
     {

@@ -15,7 +15,7 @@ impl<B: Banks> MldClone<B> {
     ghost use Rattle.mld_ops.specs.declared.messages.Message.TheVariants as kinds;
     ghost use Rattle.mld_model.specs.Local.{IsForeignSnapshot};
     ghost use Rattle.clone_core.specs.DurableCalls.{Changes, MessageSteps};
-    ghost use Rattle.clone_core.specs.Due.{IsDueSnapshot, IsSpent};
+    ghost use Rattle.clone_core.specs.Due.{IsDueSnapshot, IsDueSwap, IsSpent};
     ghost use Rattle.clone_core.specs.Joining.{AnswersGood};
     ghost use Rattle.clone_core.specs.Merging.{ReceivesSnapshot, RefusesSnapshot, StaysOpenBy};
     ghost use Rattle.clone_core.specs.CallParts.{StopsOpen, StopsMerge};
@@ -35,7 +35,8 @@ impl<B: Banks> MldClone<B> {
         ensures err { IfErr result (RefusesSnapshot self.old.local (snapshot_value snapshot.now)) }
         ensures spent { IsErrOf result ReceiveFault.GenerationsSpent
             ↔ (IsSpent (IsDueSnapshot self.old.local (snapshot_value snapshot.now)) self.old × ¬ IsErrOf result ReceiveFault.NoMemory) }
-        ensures left { IfErr result (StopsOpen B.log B.meter (IsDueSnapshot self.old.local (snapshot_value snapshot.now)) (Unit {0}) self.old self.new) }
+        ensures left { IfErr result (StopsOpen B.log B.meter (IsDueSwap (IsDueSnapshot self.old.local (snapshot_value snapshot.now)) self.old)
+            (Unit {0}) self.old self.new) }
         ensures durable { (steps : List KeptStep) × MessageSteps self.old.local (kinds.Snapshot snapshot.now) self.new.local result steps
             × Changes B.log B.meter steps self.old self.new.banks (IsOk result) (IsErrOf result ReceiveFault.Device) }
     {
@@ -61,7 +62,8 @@ impl<B: Banks> MldClone<B> {
         ensures good { IfOk result AnswersGood }
         ensures opened { IfOk result (StaysOpenBy self.old self.new) }
         ensures spent { IsErrOf result ReceiveFault.GenerationsSpent ↔ ((self.old.generation ≡ 2 ^ 64 - 1) × ¬ IsErrOf result ReceiveFault.NoMemory) }
-        ensures left { IfErr result (StopsMerge B.log B.meter (IsDueSnapshot self.old.local (snapshot_value snapshot.now)) self.old self.new) }
+        ensures left { IfErr result (StopsMerge B.log B.meter (IsDueSwap (IsDueSnapshot self.old.local (snapshot_value snapshot.now)) self.old)
+            self.old self.new) }
         ensures durable { (steps : List KeptStep) × MessageSteps self.old.local (kinds.Snapshot snapshot.now) self.new.local result steps
             × Changes B.log B.meter steps self.old self.new.banks (IsOk result) (IsErrOf result ReceiveFault.Device) }
     {

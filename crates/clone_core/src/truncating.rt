@@ -13,7 +13,7 @@ impl<B: Banks> MldClone<B> {
     ghost use Rattle.mld_model.specs.Local.{LocallyTruncates};
     ghost use Rattle.clone_core.specs.CloneClosing.{LeavesClone, IsSwappedOpen, keep_stop};
     ghost use Rattle.clone_core.specs.DurableCalls.{Changes, KeepSteps};
-    ghost use Rattle.clone_core.specs.Due.{IsSpent};
+    ghost use Rattle.clone_core.specs.Due.{IsDueSwap, IsSpent};
     ghost use Rattle.clone_core.specs.Keeping.{KeepsTruncated, StaysUnclosed};
     ghost use Rattle.clone_core.specs.CallParts.{StopsKeep};
 
@@ -33,7 +33,7 @@ impl<B: Banks> MldClone<B> {
         ensures spent { IsErrOf result KeepFault.GenerationsSpent
             ↔ (IsSpent (keep < length self.old.local.entries) self.old × ¬ IsErrOf result KeepFault.NoMemory) }
         ensures left { IfErr result (λ fault.
-            LeavesClone B.log B.meter (keep < length self.old.local.entries) ⊥ self.old self.new (keep_stop fault)) }
+            LeavesClone B.log B.meter (IsDueSwap (keep < length self.old.local.entries) self.old) ⊥ self.old self.new (keep_stop fault)) }
         ensures durable { (steps : List KeptStep) × KeepSteps (keep < length self.old.local.entries) (LocallyTruncates self.old.local keep) self.new.local result steps
             × Changes B.log B.meter steps self.old self.new.banks (IsOk result) (IsErrOf result KeepFault.Device) }
     {
@@ -55,7 +55,7 @@ impl<B: Banks> MldClone<B> {
         ensures ok { OnOk result (LocallyTruncates self.old.local keep self.new.local) }
         ensures opened { OnOk result (IsSwappedOpen self.old self.new) }
         ensures spent { IsErrOf result KeepFault.GenerationsSpent ↔ ((self.old.generation ≡ 2 ^ 64 - 1) × ¬ IsErrOf result KeepFault.NoMemory) }
-        ensures left { IfErr result (StopsKeep B.log B.meter (keep < length self.old.local.entries) self.old self.new) }
+        ensures left { IfErr result (StopsKeep B.log B.meter (IsDueSwap (keep < length self.old.local.entries) self.old) self.old self.new) }
         ensures durable { (steps : List KeptStep) × KeepSteps (keep < length self.old.local.entries) (LocallyTruncates self.old.local keep) self.new.local result steps
             × Changes B.log B.meter steps self.old self.new.banks (IsOk result) (IsErrOf result KeepFault.Device) }
     {

@@ -1,5 +1,5 @@
 -- What a call leaves of a journal: it goes on, or it was refused, and when a refusal closes it.
-use Rattle.std.specs.Prelude.{◌≡◌, ◌⊎◌, ◌+◌, ◌<◌, List, ◌∷◌, Bool, true, false, Option, Some, None}
+use Rattle.std.specs.Prelude.{◌≡◌, ◌≢◌, ◌⊎◌, ◌+◌, ◌-◌, ◌^◌, ◌<◌, List, ◌∷◌, Bool, true, false, Option, Some, None}
 use Rattle.mld_io.specs.Arm.{Arm, Unarmed, Armed, Caught, Meter}
 use Rattle.mld_io.specs.Disk.{Call, Log, grown_by, other_side}
 use Rattle.mld_io.specs.declared.banks.Side.TheVariants.{A}
@@ -108,12 +108,18 @@ LeavesAppend log meter old new (append.Closed reason) = (old.closed ≡ Some rea
 LeavesAppend log meter old new append.Device = LeavesRefused log meter false old new why.Device
 LeavesAppend log meter old new append.NoMemory = LeavesRefused log meter false old new why.NoMemory
 
--- what a refused swap leaves, and whether the call appends behind it; a journal that was closed, or has no generation left, is as it was
+-- a swap called the device, for which a generation was left, and the journal is closed for this reason
+pub record ClosesSwap {B : Type 0} (log : B → Option Log) (meter : B → Meter) (swaps : Bool) (reason : Why) (old new : JournalValue B) : Type 0 where
+  pub left : old.generation ≢ 2 ^ 64 - 1
+  pub closes : ClosesFor log meter swaps reason old new
+
+-- what a refused swap leaves, and whether the call appends behind it; a journal that was closed, or has no generation left, is as it was;
+-- the device closes the journal, and memory leaves it as it was or closes it
 abbrev pub LeavesSwap : {B : Type 0} → (B → Option Log) → (B → Meter) → Bool → JournalValue B → JournalValue B → SwapFault → Type 0
 LeavesSwap log meter swaps old new (swap.Closed reason) = (old.closed ≡ Some reason) × (new ≡ old)
 LeavesSwap log meter swaps old new swap.GenerationsSpent = new ≡ old
-LeavesSwap log meter swaps old new swap.Device = LeavesRefused log meter swaps old new why.Device
-LeavesSwap log meter swaps old new swap.NoMemory = LeavesRefused log meter swaps old new why.NoMemory
+LeavesSwap log meter swaps old new swap.Device = ClosesSwap log meter swaps why.Device old new
+LeavesSwap log meter swaps old new swap.NoMemory = (new ≡ old) ⊎ ClosesSwap log meter swaps why.NoMemory old new
 
 -- what is left of banks that kept nothing where no journal was made on them; want of memory leaves them as they were where no call of the
 -- device was done

@@ -10,7 +10,7 @@ use Rattle.journal_store.proofs.ClosingLaws.{called_then, told_then}
 use Rattle.clone_banks.specs.KeptSteps.{Swapped, LeavesSome, appends}
 use Rattle.clone_banks.proofs.Appended.{kept_now, keeps_later}
 use Rattle.clone_banks.proofs.StepLaws.{some_one, some_more, some_then}
-use Rattle.clone_banks.proofs.SwapLaws.{refused_behind}
+use Rattle.clone_banks.proofs.SwapLaws.{had_left, refused_behind}
 use Rattle.clone_banks.proofs.swapping.swap_and_append.Goals as goal
 
 pub returns-in_err-swap-clause-moments : goal.returns-in_err-swap-clause-moments
@@ -48,6 +48,7 @@ returns-in_err-append_short-clause-err g c =
     let swap = c.in_ok-swap.ensures.ok in
     rw (p.1, p.2)
     (refused_behind g.B.Banks.log g.B.Banks.meter c.args.journal.now c.append_short.new.journal reason
+    (had_left c.args.journal.now tt c.in_ok-swap.ensures.spent c.requires.keeps.opened)
     (c.in_err-append_short.ensures.err c.args.journal.now true (record {
       was = c.requires.keeps.opened;
       turned = inr (swap.side, swap.generation);
