@@ -1,7 +1,7 @@
 -- Laws that thread a meter through calls, one after another.
 use Rattle.std.specs.Prelude.{◌≡◌, ◌⊎◌, ℕ, ◌+◌, ◌-◌, ◌≤◌}
 use Rattle.std.proofs.Common.{refl, ◌∙◌, arith, ap, subst}
-use Rattle.mld_io.specs.Faults.{Rose}
+use Rattle.mld_io.specs.Faults.{counted}
 use Rattle.mld_io.specs.Arm.{Arm, Unarmed, Armed, Caught, Meter, LowersAtMost, LowersBy, Metered}
 
 -- calls that were done, and then more of which some may not have been
@@ -56,8 +56,8 @@ Metered-then m n before mid now first is_done second =
             faults_are = more.faults_are ∙ all.faults_are;
             real_faults_are = more.real_faults_are ∙ all.real_faults_are;
           };
-      failed = λ f. subst (λ (k : ℕ). Rose k now.faults) all.faults_are (second.failed f);
-      cause = λ f. subst (λ (k : ℕ). (now.arm ≡ Caught) ⊎ Rose k now.real_faults) all.real_faults_are (second.cause f);
+      failed = λ f. second.failed f ∙ ap counted all.faults_are;
+      cause = λ f. subst (λ (k : ℕ). (now.arm ≡ Caught) ⊎ (now.real_faults ≡ counted k)) all.real_faults_are (second.cause f);
       quiet = λ none. let q = second.quiet none in (q.0 ∙ all.faults_are, q.1 ∙ all.real_faults_are);
       caught = λ e. second.caught e ∙ all.real_faults_are;
     }

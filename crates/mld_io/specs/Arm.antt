@@ -1,7 +1,7 @@
 -- The counts of faults of a device, and how it is armed to crash.
 use Rattle.std.specs.Prelude.{◌≡◌, ◌⊎◌, ℕ, ◌+◌, ◌-◌, ◌<◌, ◌≤◌}
 use Rattle.mld_io.specs.declared.banks.Leave.{Leave}
-use Rattle.mld_io.specs.Faults.{Rose}
+use Rattle.mld_io.specs.Faults.{counted}
 
 -- how a device is armed; a device that can't be made to crash is never armed
 pub data Arm : Type 0 where
@@ -47,9 +47,10 @@ pub record Metered (calls : ℕ) (before now : Meter) (Done Failed : Type 0) : T
   pub real_later : before.real_faults ≤ now.real_faults
   pub lowered : LowersAtMost calls before.arm now.arm
   pub done : Done → AllDone calls before now
-  -- a failure is counted, and its cause is the arm or a fault of the device's own
-  pub failed : Failed → Rose before.faults now.faults
-  pub cause : Failed → (now.arm ≡ Caught) ⊎ Rose before.real_faults now.real_faults
+  -- a failure is counted once, so none of these calls was made behind one that failed too; its cause is the arm or one fault of the
+  -- device's own
+  pub failed : Failed → now.faults ≡ counted before.faults
+  pub cause : Failed → (now.arm ≡ Caught) ⊎ (now.real_faults ≡ counted before.real_faults)
   -- where none is told, none was counted
   pub quiet : ¬ Failed → (now.faults ≡ before.faults) × (now.real_faults ≡ before.real_faults)
   -- a caught call, and each one behind it, isn't a fault of the device's own

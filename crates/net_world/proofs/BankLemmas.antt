@@ -6,7 +6,6 @@ use Rattle.std.proofs.lemmas.List.{map-set, length-set}
 use Rattle.std.proofs.lemmas.Option.{slice_get-map}
 use Rattle.mld_io.specs.Arm.{Arm, Meter, Metered, LowersAtMost}
 use Rattle.mld_io.specs.Disk.{Log}
-use Rattle.mld_io.specs.Faults.{Rose}
 use Rattle.journal_store.specs.declared.faults.MakeFault.{MakeFault}
 use Rattle.journal_store.specs.declared.faults.MakeFault.TheVariants as make
 use Rattle.mld_model.specs.declared.CloneState.TheVariants as states

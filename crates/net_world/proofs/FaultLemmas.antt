@@ -3,7 +3,7 @@ use Rattle.std.proofs.Common.{◌≡◌, ◌∙◌, ℕ, Result, Ok, Err, OnOk, 
 use Rattle.std.specs.Prelude.{slice_get}
 use Rattle.std.proofs.lemmas.Option.{slice_get_cases, slice_get_within}
 use Rattle.mld_io.specs.Arm.{Meter, Metered}
-use Rattle.mld_io.specs.Faults.{Rose}
+use Rattle.mld_io.specs.Faults.{counted}
 use Rattle.journal_store.specs.declared.faults.MakeFault.{MakeFault}
 use Rattle.mld_model.specs.declared.CloneState.TheVariants as states
 use Rattle.clone_core.specs.Banked.{BankedClone}
@@ -36,14 +36,14 @@ goes_then before mid now first second = record { later = omega (arith, first.lat
 pub fault_later : (before mid now : Meter) → HadNoFault before mid → HadFault mid now → HadFault before now
 fault_later before mid now quiet fault = elim fault [
   | inl caught ↦ inl caught
-  | inr rose ↦ inr (subst (λ (count : ℕ). Rose count now.real_faults) quiet rose)
+  | inr rose ↦ inr (rose ∙ ap counted quiet)
 ]
 
 -- and one that failed, and none after it
 fault_kept : (before mid now : Meter) → MeterGoesOn mid now → HadNoFault mid now → HadFault before mid → HadFault before now
 fault_kept before mid now goes quiet fault = elim fault [
   | inl caught ↦ inl (goes.caught caught)
-  | inr rose ↦ inr (subst (λ (count : ℕ). Rose before.real_faults count) (sym quiet) rose)
+  | inr rose ↦ inr (quiet ∙ rose)
 ]
 
 module _ {B : Type 0} (meter : B → Meter) where

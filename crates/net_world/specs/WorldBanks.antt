@@ -2,7 +2,7 @@
 use Rattle.std.specs.Prelude.{◌≡◌, ◌≢◌, ◌+◌, ◌≤◌, ◌⊎◌, ℕ, List, [], Option, Some, None, MatchOption, Result, Ok, Err, map, length, slice_get}
 use Rattle.mld_io.specs.Arm.{Meter, Unarmed, Caught}
 use Rattle.mld_io.specs.Disk.{Log}
-use Rattle.mld_io.specs.Faults.{Rose}
+use Rattle.mld_io.specs.Faults.{counted}
 use Rattle.journal_sides.specs.Pairs.{Kept}
 use Rattle.journal_store.specs.Standing.{KeepsJust, KeepsNothing}
 use Rattle.mld_ops.specs.Messages.{MessageValue}
@@ -137,9 +137,9 @@ HadNoFault before now = now.real_faults ≡ before.real_faults
 abbrev pub HadNoFaults : {B : Type 0} → (B → Meter) → List B → List B → Type 0
 HadNoFaults {B = B} meter old new = (number : ℕ) (was now : B) → slice_get old number ≡ Some was → slice_get new number ≡ Some now → HadNoFault (meter was) (meter now)
 
--- a call failed: a real fault was counted, or the arm catches it; what isn't armed catches none
+-- a call failed: one real fault was counted, or the arm catches it; what isn't armed catches none
 abbrev pub HadFault : Meter → Meter → Type 0
-HadFault before now = (now.arm ≡ Caught) ⊎ Rose before.real_faults now.real_faults
+HadFault before now = (now.arm ≡ Caught) ⊎ (now.real_faults ≡ counted before.real_faults)
 
 -- a call of the banks of this number failed, which there are, and no others had a real fault
 pub record HasFailed {B : Type 0} (meter : B → Meter) (number : ℕ) (old new : List B) : Type 0 where
