@@ -73,6 +73,13 @@ impl Graph {
         copy_chunks(alloc, self.pairs.chunks())
     }
 
+    /// Every graph's pairs ascend. It does nothing.
+    pub fn ascends(&self)
+        ensures { IsAscending tagged_cmp self.now.pairs }
+    {
+        let _count = self.pairs.len();
+    }
+
     /// Its pairs, ascending, where they stand.
     pub fn in_order(&self, alloc: Global) -> Result<Vec<&Tagged>, AllocError>
         ensures { IfOk result (λ list. map (λ x. x.now) list.items ≡ self.now.pairs) }
