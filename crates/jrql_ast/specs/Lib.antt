@@ -1,1 +1,4 @@
 pub mod InForm
+pub mod Solutions
+pub mod FilterMeaning
+pub mod QueryAnswers

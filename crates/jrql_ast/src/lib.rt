@@ -2,6 +2,8 @@
 #![tactic(auto)]
 
 mod answers;
+mod copies;
+mod laws;
 mod limits;
 mod patterns;
 mod plans;
@@ -9,6 +11,8 @@ mod queries;
 mod sequences;
 
 pub use answers::{Answer, Described, Row};
+pub use copies::CopyIn;
+pub use laws::{one_answer, patterns_in_any_order};
 pub use limits::VARIABLE_LIMIT;
 pub use patterns::{Compare, Filter, Group, PatternTriple, Slot};
 pub use plans::UpdatePlan;

@@ -72,7 +72,7 @@ pub struct Filter {
 
 /// A group of patterns. Its solutions are those of all its patterns together with one of its branches that pass all its filters;
 /// where there is no branch, those of its patterns alone.
-#[derive(Debug, Drop)]
+#[derive(Debug, PartialEq, Eq, Drop)]
 pub struct Group {
     /// The names of the named variables, by number, each with its question mark.
     pub names: Sequence<Text>,

@@ -4,7 +4,7 @@ use crate::patterns::{Group, PatternTriple};
 use crate::sequences::Sequence;
 
 /// What is deleted and inserted for each solution of a group.
-#[derive(Debug, Drop)]
+#[derive(Debug, PartialEq, Eq, Drop)]
 pub struct UpdatePlan {
     /// Which solutions there are.
     pub group: Group,

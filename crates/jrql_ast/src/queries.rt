@@ -14,7 +14,7 @@ pub enum Target {
 }
 
 /// Rows of the values of variables.
-#[derive(Debug, Drop)]
+#[derive(Debug, PartialEq, Eq, Drop)]
 pub struct Select {
     /// The numbers of the variables, in the order of the columns.
     pub vars: Sequence<u16>,
@@ -27,7 +27,7 @@ pub struct Select {
 }
 
 /// What is asked of the solutions.
-#[derive(Debug, Drop)]
+#[derive(Debug, PartialEq, Eq, Drop)]
 pub enum What {
     /// Rows.
     Select(Select),
@@ -36,7 +36,7 @@ pub enum What {
 }
 
 /// A query.
-#[derive(Debug, Drop)]
+#[derive(Debug, PartialEq, Eq, Drop)]
 pub struct Query {
     /// Which solutions there are.
     pub group: Group,

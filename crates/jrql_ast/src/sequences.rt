@@ -65,6 +65,24 @@ impl<T> Sequence<T> {
     }
 }
 
+impl<T: PartialEq> PartialEq for Sequence<T> {
+    ghost use Rattle.std.specs.Cmp.Lexicographic.{pointwise, lists_per};
+
+    ghost eq = { pointwise T.eq };
+
+    ghost laws = { lists_per T.laws };
+
+    fn eq(&self, other: &Sequence<T>) -> bool {
+        self.as_slice() == other.as_slice()
+    }
+}
+
+impl<T: Eq> Eq for Sequence<T> {
+    ghost use Rattle.std.specs.Cmp.Lexicographic.{lists_equiv};
+
+    ghost laws = { lists_equiv T.Eq.laws };
+}
+
 impl<T: Drop> Sequence<T> {
     /// Adds an item at the end. Where memory is wanting, the list is unchanged, and the item is let go.
     pub fn push(&mut self, item: T) -> Result<(), AllocError>
