@@ -14,7 +14,7 @@ use Rattle.jsonld_context.specs.ShortForms.{rest_behind, if_passes, term_for, pl
 use Rattle.jsonld_context.specs.Context.{ContextValue, IsContext, find_term, prefix_iri, prefix_of}
 use Rattle.jsonld_context.specs.Expanding.{expand_key, expand_id, key_without_term, key_meant, id_meant, absolute_or_fault, key_iri, id_iri}
 use Rattle.jsonld_context.specs.Prefixes.{prefix_at, expanded}
-use Rattle.jsonld_context.specs.Texts.{has_colon, before_colon, behind_colon, is_term_name, is_plain, plain_end}
+use Rattle.jsonld_texts.specs.TextForms.{has_colon, before_colon, behind_colon, is_term_name, is_plain, plain_end}
 use Rattle.jsonld_context.specs.declared.definitions.Definition.{Definition}
 use Rattle.jsonld_context.specs.declared.faults.JsonFault.{JsonFault}
 use Rattle.jsonld_context.specs.declared.faults.JsonFault.TheVariants as faults

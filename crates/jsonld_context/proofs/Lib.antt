@@ -1,4 +1,3 @@
-pub mod Colons
 pub mod Fronts
 pub mod FirstFaults
 pub mod Domains
@@ -10,3 +9,8 @@ pub mod TextLaws
 pub mod GivenBack
 pub mod Halves
 pub mod PlainEnds
+pub mod LeastTexts
+pub mod Labels
+pub mod CompactFronts
+pub mod Delimiters
+pub mod SameContexts

@@ -16,7 +16,7 @@ use Rattle.iri_rules.specs.Resolution.{is_empty, directory, merged, transformed,
 use Rattle.rdf_terms.specs.Literal.{is_same}
 use Rattle.jsonld_context.proofs.TextLaws.{itself}
 use Rattle.jsonld_context.specs.ShortForms.{if_passes, plain_id}
-use Rattle.jsonld_context.specs.Texts.{is_plain_letter, is_plain, plain_end}
+use Rattle.jsonld_texts.specs.TextForms.{is_plain_letter, is_plain, plain_end}
 
 -- ---- plain ends
 

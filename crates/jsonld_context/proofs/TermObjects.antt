@@ -13,14 +13,14 @@ module _ (vocabulary : List ℕ) (all : Members) (term : List ℕ) (parts : Memb
   kind = string_at (codes "@type") parts
 
   iri_at : (found : Option (List ℕ)) → ((text : List ℕ) → found ≡ Some text → fault_of_id all term text ≡ None)
-      → fault_without_id vocabulary term found ≡ fault_of_object_iri vocabulary all term found
+      → fault_without_id (Some vocabulary) term found ≡ fault_of_object_iri vocabulary all term found
   iri_at None good = refl
   iri_at (Some text) good = sym (good text refl)
 
   -- the fault of the whole object is that of its IRI
-  pub object_fault : option_or (first_fault (fault_of_part all term) parts) (fault_without_id vocabulary term id) ≡ fault_of_object_iri vocabulary all term id
+  pub object_fault : option_or (first_fault (fault_of_part all term) parts) (fault_without_id (Some vocabulary) term id) ≡ fault_of_object_iri vocabulary all term id
   object_fault =
-      ap (λ o. option_or o (fault_without_id vocabulary term id)) none
+      ap (λ o. option_or o (fault_without_id (Some vocabulary) term id)) none
       ∙ iri_at id (λ text got. none_at_string (fault_of_part all term) parts (codes "@id") text none got)
 
   type_at : (found : Option (List ℕ)) → ((text : List ℕ) → found ≡ Some text → fault_of_type all term text ≡ None)

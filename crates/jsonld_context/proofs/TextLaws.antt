@@ -14,7 +14,7 @@ use Rattle.iri_rules.specs.Resolution.{is_empty}
 use Rattle.rdf_terms.specs.Literal.{is_same}
 use Rattle.std.specs.List.{list_any}
 use Rattle.jsonld_context.specs.ShortForms.{rest_behind}
-use Rattle.jsonld_context.specs.Texts.{has_colon, before_colon, behind_colon, begins_as_keyword, is_variable, is_term_name, is_plain_letter, is_plain}
+use Rattle.jsonld_texts.specs.TextForms.{has_colon, before_colon, behind_colon, begins_as_keyword, is_variable, is_term_name, is_plain_letter, is_plain}
 
 -- two texts that are the same are equal
 pub same : (text other : List ℕ) → is_same text other ≡ true → text ≡ other

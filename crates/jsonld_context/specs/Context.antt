@@ -7,7 +7,7 @@ use Rattle.std.specs.Option.{option_and_then}
 use Rattle.std.specs.Ordering.{nat_cmp}
 use Rattle.iri_rules.specs.Iri.{is_absolute}
 use Rattle.rdf_terms.specs.Literal.{is_same}
-use Rattle.jsonld_context.specs.Texts.{is_term_name}
+use Rattle.jsonld_texts.specs.TextForms.{is_term_name}
 use Rattle.jsonld_context.specs.declared.definitions.Definition.{Definition}
 use Rattle.jsonld_context.specs.declared.definitions.TermType.{TermType}
 

@@ -1,5 +1,6 @@
 -- What a JSON value says as a context, or its first fault (JSON-LD 1.1 sections 4.1, 4.2.3 and 9.15;
--- JSON-LD 1.1 API sections 4.1, Context Processing, and 4.2, Create Term Definition). Members are read in the byte order of their keys.
+-- JSON-LD 1.1 API sections 4.1, Context Processing, and 4.2, Create Term Definition). `@context` is read first, then the other members in
+-- the byte order of their keys.
 use Rattle.std.specs.Prelude.{ℕ, List, [], ◌∷◌, ◌++◌, Bool, false, ◌&&◌, ◌||◌, not, Option, Some, None, Result, Ok, Err, codes, if◌then◌else◌}
 use Rattle.std.specs.Option.{option_map, option_map_or, option_and_then, option_or, is_some, unwrap_or}
 use Rattle.iri_rules.specs.Iri.{is_absolute}
@@ -8,7 +9,7 @@ use Rattle.serde_json.specs.Data.{Data, string, object, Members, no_members, mem
 use Rattle.serde_json.specs.Find.{as_str, get_member}
 use Rattle.jsonld_context.specs.Context.{ContextValue}
 use Rattle.jsonld_context.specs.Prefixes.{prefix_at, expanded}
-use Rattle.jsonld_context.specs.Texts.{has_colon, ends_in_delimiter, is_term_name}
+use Rattle.jsonld_texts.specs.TextForms.{has_colon, ends_in_delimiter, is_term_name}
 use Rattle.jsonld_context.specs.declared.definitions.Definition.{Definition}
 use Rattle.jsonld_context.specs.declared.definitions.TermType.{TermType}
 use Rattle.jsonld_context.specs.declared.definitions.TermType.TheVariants as types
@@ -132,23 +133,40 @@ fault_of_part all term key (string text) =
     else (if is_type_key key then fault_of_type all term text else Some (faults.BadContext term))
 fault_of_part all term key other = Some (faults.BadContext term)
 
--- where a term's object has no `@id`, its IRI is that of the vocabulary and the term, which is found behind all its parts
-abbrev pub fault_without_id : List ℕ → List ℕ → Option (List ℕ) → Option JsonFault
-fault_without_id vocabulary term None = fault_of_iri term (vocabulary ++ term)
-fault_without_id vocabulary term (Some id) = None
+-- where a term's object has no `@id`, its IRI is that of the vocabulary and the term, which is found behind all its parts;
+-- with no vocabulary it has none, and no fault by it
+abbrev pub fault_without_id : Option (List ℕ) → List ℕ → Option (List ℕ) → Option JsonFault
+fault_without_id None term id = None
+fault_without_id (Some vocabulary) term None = fault_of_iri term (vocabulary ++ term)
+fault_without_id (Some vocabulary) term (Some id) = None
 
 -- the value of a term is a string or an object
-abbrev pub fault_of_value : List ℕ → Members → List ℕ → Data → Option JsonFault
+abbrev pub fault_of_value : Option (List ℕ) → Members → List ℕ → Data → Option JsonFault
 fault_of_value vocabulary all term (string text) = fault_of_string all term text
 fault_of_value vocabulary all term (object parts) =
     option_or (first_fault (fault_of_part all term) parts) (fault_without_id vocabulary term (string_at (codes "@id") parts))
 fault_of_value vocabulary all term other = Some (faults.BadContext term)
 
 -- a member of a context is `@base`, `@vocab` or a term
-abbrev pub fault_of_member : List ℕ → Members → List ℕ → Data → Option JsonFault
+abbrev pub fault_of_member : Option (List ℕ) → Members → List ℕ → Data → Option JsonFault
 fault_of_member vocabulary all key value =
     if is_base_key key || is_vocabulary_key key then fault_of_keyword key value
     else (if is_term_name key then fault_of_value vocabulary all key value else Some (faults.BadContext key))
+
+-- what a `@vocab` gives, where there is one: the default where there is none, and nothing where it is no string
+abbrev pub vocabulary_given : List ℕ → Option Data → Option (List ℕ)
+vocabulary_given domain None = Some (domain_vocabulary domain)
+vocabulary_given domain (Some value) = as_str value
+
+-- the vocabulary by which terms have IRIs
+abbrev pub known_vocabulary : List ℕ → Members → Option (List ℕ)
+known_vocabulary domain all = vocabulary_given domain (get_member (codes "@vocab") all)
+
+-- the first fault: `@context`, which no context has, is read before all others
+abbrev pub fault_of_members : List ℕ → Members → Option JsonFault
+fault_of_members domain all =
+    if is_some (get_member (codes "@context") all) then Some (faults.BadContext (codes "@context"))
+    else first_fault (fault_of_member (known_vocabulary domain all) all) all
 
 -- ---- the context
 
@@ -176,8 +194,7 @@ unless_fault (Some fault) value = Err fault
 
 -- a context is an object; a string would name one that stands elsewhere
 unfoldable pub read_context : List ℕ → Data → Result ContextValue JsonFault
-read_context domain (object all) =
-    unless_fault (first_fault (fault_of_member (vocabulary_of domain all) all) all) (context_of domain all)
+read_context domain (object all) = unless_fault (fault_of_members domain all) (context_of domain all)
 read_context domain (string text) = Err faults.Remote
 read_context domain other = Err (faults.BadContext [])
 

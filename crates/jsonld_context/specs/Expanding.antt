@@ -5,7 +5,7 @@ use Rattle.iri_rules.specs.Iri.{is_absolute}
 use Rattle.iri_rules.specs.Resolution.{resolved}
 use Rattle.jsonld_context.specs.Context.{ContextValue, find_term, prefix_of}
 use Rattle.jsonld_context.specs.Prefixes.{expanded}
-use Rattle.jsonld_context.specs.Texts.{has_colon}
+use Rattle.jsonld_texts.specs.TextForms.{has_colon}
 use Rattle.jsonld_context.specs.declared.definitions.Definition.{Definition}
 use Rattle.jsonld_context.specs.declared.faults.JsonFault.{JsonFault}
 use Rattle.jsonld_context.specs.declared.faults.JsonFault.TheVariants as faults

@@ -4,4 +4,6 @@ pub mod Context
 pub mod ContextReading
 pub mod Expanding
 pub mod ShortForms
+pub mod ContextEquality
+pub mod FormsFound
 pub mod Telling

@@ -3,7 +3,7 @@
 use Rattle.std.specs.Prelude.{ℕ, List, ◌++◌, ◌&&◌, not, Option, None, if◌then◌else◌}
 use Rattle.std.specs.Option.{option_map_or}
 use Rattle.iri_rules.specs.References.{begins_authority}
-use Rattle.jsonld_context.specs.Texts.{has_colon, before_colon, behind_colon}
+use Rattle.jsonld_texts.specs.TextForms.{has_colon, before_colon, behind_colon}
 
 -- the IRI of the prefix that stands before a text's first `:`, where the text is a compact IRI; prefixes are looked up by name
 abbrev pub prefix_at : (List ℕ → Option (List ℕ)) → List ℕ → Option (List ℕ)

@@ -8,7 +8,7 @@ use Rattle.iri_rules.specs.References.{begins_authority}
 use Rattle.iri_rules.specs.Resolution.{is_empty, resolved}
 use Rattle.rdf_terms.specs.Literal.{is_same}
 use Rattle.jsonld_context.specs.Context.{ContextValue, find_term, prefix_iri}
-use Rattle.jsonld_context.specs.Texts.{is_plain, plain_end}
+use Rattle.jsonld_texts.specs.TextForms.{is_plain, plain_end}
 use Rattle.jsonld_context.specs.declared.definitions.Definition.{Definition}
 
 -- what stands in a text behind a front

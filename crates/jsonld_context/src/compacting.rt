@@ -1,29 +1,25 @@
 //! The shortest forms of IRIs as keys and as ids (JSON-LD 1.1 API, section 6.2).
-ghost use Rattle.std.specs.Prelude.{◌≡◌, true, false, drop, length, nat_eq, IsTrue, IfOk, MatchOption};
+ghost use Rattle.std.specs.Prelude.{◌≡◌, ◌+◌, ◌<◌, true, false, List, take, drop, length, nat_eq, IsTrue, IfOk, MatchOption};
+ghost use Rattle.std.specs.BTreeMap.{get_by_text};
 ghost use Rattle.std.specs.List.{starts_with};
-ghost use Rattle.std.specs.Option.{option_copied, option_map, option_and_then, unwrap_or};
+ghost use Rattle.std.specs.Option.{option_copied, option_map, unwrap_or};
 ghost use Rattle.std.specs.String.{string_bytes};
 ghost use Rattle.iri_rules.specs.Iri.{is_absolute};
 ghost use Rattle.iri_rules.specs.Resolution.{resolved};
 ghost use Rattle.rdf_terms.specs.Literal.{is_same};
-ghost use Rattle.jsonld_context.specs.ShortForms.{term_for, plain_key, plain_id, is_rest, if_passes, rest_behind, compact_by, lesser, least_with, least_compact, key_form, id_form};
-ghost use Rattle.jsonld_context.specs.Context.{AscendByName, prefix_iri};
+ghost use Rattle.jsonld_context.specs.ShortForms.{plain_key, plain_id, rest_behind, lesser, least_with, key_form, id_form};
+ghost use Rattle.jsonld_context.specs.FormsFound.{AreFormsOf, compact_behind, least_behind};
+ghost use Rattle.jsonld_context.specs.Context.{AscendByName};
+ghost use Rattle.jsonld_texts.specs.TextForms.{ends_in_delimiter};
+ghost use Rattle.jsonld_context.specs.declared.definitions.Definition.{Definition};
 
+use crate::by_iri::{FormsByIri, TextsByIri};
 use crate::definitions::Definition;
 use crate::expanding::find_term;
-use crate::texts::{begins_authority, is_plain, plain_end};
+use crate::prefixes::joined;
 use iri_rules::{IriFault, Text, resolve};
+use jsonld_texts::{begins_authority, is_delimiter, is_plain, plain_end};
 use std::alloc::{AllocError, Global};
-
-/// The least term without a type whose IRI it is.
-fn term_for<'a>(terms: &'a [Definition], iri: &str) -> Option<&'a Text>
-    ensures { option_copied result ≡ term_for terms.now iri.now }
-{
-    let term = terms
-        .iter()
-        .find(|term| term.coercion.is_none() && term.iri.as_str() == iri)?;
-    Some(&term.name)
-}
 
 /// The plain text behind the vocabulary, which is no term.
 fn plain_key<'a>(vocabulary: &str, terms: &[Definition], iri: &'a str) -> Option<&'a str>
@@ -85,34 +81,39 @@ fn rest_behind<'a>(front: &str, text: &'a str) -> Option<&'a str>
     }
 }
 
-/// What stands behind a prefix in a compact IRI.
-fn rest_of<'a>(term: &Definition, iri: &'a str) -> Option<&'a str>
-    ensures { option_copied result ≡ option_and_then (λ front. option_and_then (if_passes is_rest) (rest_behind front iri.now)) (prefix_iri term.now) }
+/// What stands before and behind a place of an IRI, where the front ends as the IRI of a prefix does.
+fn cut_behind(iri: &str, place: usize) -> Option<(&str, &str)>
+    requires { place < length iri.now }
+    ensures { MatchOption result (ends_in_delimiter (take (place + 1) iri.now) ≡ false)
+        (λ parts. (ends_in_delimiter (take (place + 1) iri.now) ≡ true) × (parts.0.now ≡ take (place + 1) iri.now) × (parts.1.now ≡ drop (place + 1) iri.now)) }
 {
-    if !term.is_prefix {
-        return None;
-    }
-    let Some(rest) = rest_behind(term.iri.as_str(), iri) else {
-        return None;
-    };
-    if rest.is_empty() || begins_authority(rest) {
-        None
+    if is_delimiter(iri.as_bytes()[place]) {
+        Some((&iri[..place + 1], &iri[place + 1..]))
     } else {
-        Some(rest)
+        None
     }
 }
 
-/// The compact IRI with a term as its prefix, where there is one.
-fn compact_by(alloc: Global, term: &Definition, iri: &str) -> Result<Option<String>, AllocError>
-    ensures { IfOk result (λ text. option_map string_bytes text ≡ compact_by iri.now term.now) }
+/// The compact IRI with the prefix whose IRI ends at a place of an IRI, where there is one.
+fn compact_behind(
+    alloc: Global,
+    prefixes: &TextsByIri,
+    iri: &str,
+    place: usize,
+) -> Result<Option<String>, AllocError>
+    requires { place < length iri.now }
+    ensures { IfOk result (λ text. option_map string_bytes text ≡ compact_behind (get_by_text prefixes.now) iri.now (place + 1)) }
 {
-    let Some(rest) = rest_of(term, iri) else {
+    let Some((front, rest)) = cut_behind(iri, place) else {
         return Ok(None);
     };
-    let mut text = String::from_str(alloc, term.name.as_str())?;
-    text.push(':')?;
-    text.push_str(rest)?;
-    Ok(Some(text))
+    if rest.is_empty() || begins_authority(rest) {
+        return Ok(None);
+    }
+    match prefixes.get(front) {
+        Some(label) => Ok(Some(joined(alloc, label.as_str(), rest)?)),
+        None => Ok(None),
+    }
 }
 
 /// The lesser of two texts.
@@ -137,27 +138,27 @@ fn least_with(least: Option<String>, text: Option<String>) -> Option<String>
     }
 }
 
-/// The least compact IRI.
+/// The least compact IRI: each place at which the IRI of a prefix may end is tried.
 fn least_compact(
     alloc: Global,
-    terms: &[Definition],
+    prefixes: &TextsByIri,
     iri: &str,
 ) -> Result<Option<String>, AllocError>
-    ensures { IfOk result (λ text. option_map string_bytes text ≡ least_compact terms.now iri.now) }
+    ensures { IfOk result (λ text. option_map string_bytes text ≡ least_behind (get_by_text prefixes.now) iri.now (length iri.now)) }
 {
     let mut least = None;
-    for term in terms {
-        let text = compact_by(alloc, term, iri)?;
+    for place in 0..iri.len() {
+        let text = compact_behind(alloc, prefixes, iri, place)?;
         least = least_with(least, text);
     }
     Ok(least)
 }
 
 /// The least compact IRI, or else the IRI.
-fn compact_or_whole(alloc: Global, terms: &[Definition], iri: &str) -> Result<Text, AllocError>
-    ensures { IfOk result (λ text. text ≡ unwrap_or (least_compact terms.now iri.now) iri.now) }
+fn compact_or_whole(alloc: Global, prefixes: &TextsByIri, iri: &str) -> Result<Text, AllocError>
+    ensures { IfOk result (λ text. text ≡ unwrap_or (least_behind (get_by_text prefixes.now) iri.now (length iri.now)) iri.now) }
 {
-    match least_compact(alloc, terms, iri)? {
+    match least_compact(alloc, prefixes, iri)? {
         Some(text) => Text::from_string(text),
         None => Text::new(alloc, iri),
     }
@@ -169,18 +170,20 @@ pub(crate) fn compact_key(
     alloc: Global,
     vocabulary: &str,
     terms: &[Definition],
+    forms: &FormsByIri,
     iri: &str,
 ) -> Result<Text, AllocError>
-    requires { AscendByName terms.now }
+    requires ascending { AscendByName terms.now }
+    requires forms { AreFormsOf terms.now forms.now }
     ensures { IfOk result (λ text. text ≡ key_form vocabulary.now terms.now iri.now) }
 {
-    if let Some(name) = term_for(terms, iri) {
+    if let Some(name) = forms.terms.get(iri) {
         return name.share();
     }
     if let Some(text) = plain_key(vocabulary, terms, iri) {
         return Text::new(alloc, text);
     }
-    compact_or_whole(alloc, terms, iri)
+    compact_or_whole(alloc, &forms.prefixes, iri)
 }
 
 /// The id of an IRI.
@@ -188,15 +191,15 @@ pub(crate) fn compact_key(
 pub(crate) fn compact_id(
     alloc: Global,
     base: &str,
-    terms: &[Definition],
+    forms: &FormsByIri,
     iri: &str,
 ) -> Result<Text, AllocError>
     requires base { IsTrue (is_absolute base.now) }
     requires iri { IsTrue (is_absolute iri.now) }
-    ensures { IfOk result (λ text. text ≡ id_form base.now terms.now iri.now) }
+    ensures { (terms : List Definition) → AreFormsOf terms forms.now → IfOk result (λ text. text ≡ id_form base.now terms iri.now) }
 {
     match plain_id(alloc, base, iri)? {
         Some(text) => Text::new(alloc, text),
-        None => compact_or_whole(alloc, terms, iri),
+        None => compact_or_whole(alloc, &forms.prefixes, iri),
     }
 }

@@ -1,18 +1,20 @@
 //! Contexts.
-ghost use Rattle.std.specs.Prelude.{◌≡◌, Ok, IsTrue, IfOk, IfErr};
-ghost use Rattle.std.specs.Option.{option_copied};
+ghost use Rattle.std.specs.Prelude.{◌≡◌, Ok, Some, false, codes, IsTrue, IfOk, IfErr};
+ghost use Rattle.std.specs.Option.{option_copied, is_some};
 ghost use Rattle.iri_rules.specs.Domain.{is_domain};
 ghost use Rattle.iri_rules.specs.Iri.{is_absolute};
 ghost use Rattle.serde_json.specs.Data.{object};
+ghost use Rattle.serde_json.specs.Find.{get_member};
 ghost use Rattle.serde_json.specs.View.{view, members_view};
 ghost use Rattle.jsonld_context.specs.ShortForms.{compact_key, compact_id};
 ghost use Rattle.jsonld_context.specs.Context.{ContextValue, IsContext, type_of};
 ghost use Rattle.jsonld_context.specs.Expanding.{expand_key, expand_id};
-ghost use Rattle.jsonld_context.specs.ContextReading.{domain_context, read_context};
+ghost use Rattle.jsonld_context.specs.ContextReading.{domain_context, known_vocabulary, read_context};
 ghost use Rattle.jsonld_context.specs.Telling.{IsToldBy};
 ghost use Rattle.jsonld_context.specs.declared.faults.JsonFault.TheVariants as faults;
 
-use crate::definitions::{Definition, TermType};
+use crate::by_iri::{FormsByIri, forms_of};
+use crate::definitions::{Definition, TermType, share_all};
 use crate::faults::JsonFault;
 use crate::{compacting, expanding, reading};
 use iri_rules::Text;
@@ -27,16 +29,37 @@ pub struct Context {
     base: Text,
     vocabulary: Text,
     terms: Vec<Definition>,
+    forms: FormsByIri,
 }
 
 impl Model for Context {
-    ghost use Rattle.jsonld_context.specs.Context.{ContextValue, IsContext};
+    ghost use Rattle.jsonld_context.specs.Context.{ContextValue};
+    ghost use Rattle.jsonld_context.specs.FormsFound.{IsContextWith};
 
     ghost Value = { ContextValue };
 
     ghost view = { λ c. record { base = c.base; vocabulary = c.vocabulary; terms = c.terms.items } };
 
-    ghost invariant = { λ c. IsContext (record { base = c.base; vocabulary = c.vocabulary; terms = c.terms.items }) };
+    ghost invariant = { λ c. IsContextWith (record { base = c.base; vocabulary = c.vocabulary; terms = c.terms.items }) c.forms };
+}
+
+impl PartialEq for Context {
+    ghost use Rattle.std.specs.Cmp.{partial_equiv_from_equiv};
+    ghost use Rattle.jsonld_context.specs.ContextEquality.{same_context, same_context_equiv};
+
+    ghost eq = { same_context };
+
+    ghost laws = { partial_equiv_from_equiv same_context_equiv };
+
+    fn eq(&self, other: &Context) -> bool {
+        self.base == other.base && self.vocabulary == other.vocabulary && self.terms == other.terms
+    }
+}
+
+impl Eq for Context {
+    ghost use Rattle.jsonld_context.specs.ContextEquality.{same_context_equiv};
+
+    ghost laws = { same_context_equiv };
 }
 
 impl Context {
@@ -48,10 +71,13 @@ impl Context {
     {
         let base = reading::domain_base(alloc, domain)?;
         let vocabulary = reading::domain_vocabulary(alloc, domain)?;
+        let terms = Vec::new(alloc);
+        let forms = forms_of(alloc, &terms)?;
         Ok(Context {
             base,
             vocabulary,
-            terms: Vec::new(alloc),
+            terms,
+            forms,
         })
     }
 
@@ -85,13 +111,52 @@ impl Context {
         ensures ok { IfOk result (λ context. read_context domain.now (object (members_view all.now.entries)) ≡ Ok context) }
         ensures err { IfErr result (IsToldBy (read_context domain.now (object (members_view all.now.entries)))) }
     {
+        if reading::has_context(all) {
+            return Err(reading::bad_context(alloc, "@context"));
+        }
+        match reading::vocabulary_of(alloc, all, domain)? {
+            Some(vocabulary) => Context::over_vocabulary(alloc, all, domain, vocabulary),
+            None => Err(reading::fault_without_vocabulary(alloc, all)),
+        }
+    }
+
+    /// The same, where the vocabulary is known and there is no `@context`.
+    fn over_vocabulary(
+        alloc: Global,
+        all: &Map<String, Value>,
+        domain: &str,
+        vocabulary: Text,
+    ) -> Result<Context, JsonFault>
+        requires domain { IsTrue (is_domain domain.now) }
+        requires context { is_some (get_member (codes "@context") (members_view all.now.entries)) ≡ false }
+        requires vocabulary { known_vocabulary domain.now (members_view all.now.entries) ≡ Some vocabulary }
+        ensures ok { IfOk result (λ context. read_context domain.now (object (members_view all.now.entries)) ≡ Ok context) }
+        ensures err { IfErr result (IsToldBy (read_context domain.now (object (members_view all.now.entries)))) }
+    {
         let base = reading::base_of(alloc, all, domain)?;
-        let vocabulary = reading::vocabulary_of(alloc, all, domain)?;
         let terms = reading::read_terms(alloc, vocabulary.as_str(), all)?;
+        let forms = forms_of(alloc, &terms)?;
         Ok(Context {
             base,
             vocabulary,
             terms,
+            forms,
+        })
+    }
+
+    /// A copy of the context, which shares its texts.
+    pub fn share(&self, alloc: Global) -> Result<Context, AllocError>
+        ensures { IfOk result (λ copy. copy ≡ self.now) }
+    {
+        let base = self.base.share()?;
+        let vocabulary = self.vocabulary.share()?;
+        let terms = share_all(alloc, &self.terms)?;
+        let forms = forms_of(alloc, &terms)?;
+        Ok(Context {
+            base,
+            vocabulary,
+            terms,
+            forms,
         })
     }
 
@@ -136,13 +201,19 @@ impl Context {
     pub fn compact_key_text(&self, alloc: Global, iri: &str) -> Result<Text, AllocError>
         ensures { IfOk result (λ text. text ≡ compact_key self.now iri.now) }
     {
-        compacting::compact_key(alloc, self.vocabulary.as_str(), &self.terms, iri)
+        compacting::compact_key(
+            alloc,
+            self.vocabulary.as_str(),
+            &self.terms,
+            &self.forms,
+            iri,
+        )
     }
 
     /// The id of an IRI.
     pub fn compact_id(&self, alloc: Global, iri: &Iri) -> Result<Text, AllocError>
         ensures { IfOk result (λ text. text ≡ compact_id self.now iri.now) }
     {
-        compacting::compact_id(alloc, self.base.as_str(), &self.terms, iri.as_str())
+        compacting::compact_id(alloc, self.base.as_str(), &self.forms, iri.as_str())
     }
 }

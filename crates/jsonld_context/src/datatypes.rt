@@ -1,6 +1,7 @@
 //! Datatypes of a context's terms.
 
 use rdf_terms::Iri;
+use std::alloc::AllocError;
 use std::marker::Model;
 
 /// The datatype of the values of a term. It isn't rdf:langString, which is the datatype of literals with a language tag (RDF 1.1
@@ -22,7 +23,7 @@ impl Model for Datatype {
 }
 
 impl Datatype {
-    ghost use Rattle.std.specs.Prelude.{◌≡◌, IsTrue, not};
+    ghost use Rattle.std.specs.Prelude.{◌≡◌, IfOk, IsTrue, not};
     ghost use Rattle.rdf_terms.specs.Literal.{is_same, rdf_lang_string};
 
     /// The datatype of an IRI that is known not to be rdf:langString.
@@ -31,6 +32,15 @@ impl Datatype {
         ensures { result ≡ iri }
     {
         Datatype { iri }
+    }
+
+    /// A copy of the datatype, which shares its text.
+    pub fn share(&self) -> Result<Datatype, AllocError>
+        ensures { IfOk result (λ copy. copy ≡ self.now) }
+    {
+        Ok(Datatype {
+            iri: self.iri.share()?,
+        })
     }
 
     /// Its IRI. It takes no memory.

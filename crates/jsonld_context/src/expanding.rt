@@ -13,8 +13,8 @@ ghost use Rattle.jsonld_context.specs.declared.faults.JsonFault.TheVariants as f
 use crate::definitions::{Definition, TermType};
 use crate::faults::JsonFault;
 use crate::prefixes::{cut_prefix, joined};
-use crate::texts::has_colon;
 use iri_rules::{IriFault, Text, resolve};
+use jsonld_texts::has_colon;
 use rdf_terms::{Iri, TermFault};
 use std::alloc::{AllocError, Global};
 use std::cmp::Ordering;

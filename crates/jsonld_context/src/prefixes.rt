@@ -3,9 +3,9 @@ ghost use Rattle.std.specs.Prelude.{◌≡◌, ◌++◌, ◌&&◌, not, true, fa
 ghost use Rattle.std.specs.Option.{option_copied, option_map_or};
 ghost use Rattle.std.specs.String.{string_bytes};
 ghost use Rattle.iri_rules.specs.References.{begins_authority};
-ghost use Rattle.jsonld_context.specs.Texts.{has_colon, before_colon, behind_colon};
+ghost use Rattle.jsonld_texts.specs.TextForms.{has_colon, before_colon, behind_colon};
 
-use crate::texts::{begins_authority, cut_colon};
+use jsonld_texts::{begins_authority, cut_colon};
 use std::alloc::{AllocError, Global};
 
 /// The parts of a text that may be a compact IRI: what stands before its first colon, and what behind it.

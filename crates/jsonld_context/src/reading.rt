@@ -3,18 +3,19 @@ ghost use Rattle.std.specs.Prelude.{◌≡◌, ◌++◌, ◌∷◌, ◌||◌, []
 ghost use Rattle.std.specs.Cmp.Lexicographic.{slice_cmp};
 ghost use Rattle.std.specs.List.{AllByRecursion};
 ghost use Rattle.std.specs.List.Sorted.{IsStrictlySortedBy};
-ghost use Rattle.std.specs.Option.{option_copied, option_map, unwrap_or};
+ghost use Rattle.std.specs.Option.{option_copied, option_map, is_some, unwrap_or};
 ghost use Rattle.std.specs.Ordering.{nat_cmp};
 ghost use Rattle.std.specs.String.{string_bytes};
 ghost use Rattle.iri_rules.specs.Domain.{is_domain};
 ghost use Rattle.iri_rules.specs.Iri.{is_absolute};
 ghost use Rattle.rdf_terms.specs.Literal.{is_same, rdf_lang_string};
 ghost use Rattle.serde_json.specs.Data.{object, string};
-ghost use Rattle.serde_json.specs.Find.{get_member};
+ghost use Rattle.serde_json.specs.Find.{as_str, get_member};
 ghost use Rattle.serde_json.specs.View.{view, members_view};
 ghost use Rattle.jsonld_context.specs.Prefixes.{prefix_at};
-ghost use Rattle.jsonld_context.specs.Texts.{behind_colon, is_term_name};
-ghost use Rattle.jsonld_context.specs.ContextReading.{is_base_key, is_vocabulary_key, is_id_key, is_type_key, domain_base, domain_vocabulary, string_at, is_prefix_string, prefix_string, prefix_among, meant, object_iri, type_meant, definition, definitions, fault_of_object_iri, fault_of_object_type, first_fault, fault_of_iri, fault_of_keyword, is_extended_prefix, fault_of_string, fault_of_id, fault_of_type, fault_of_part, fault_of_value, fault_of_member, vocabulary_of};
+ghost use Rattle.jsonld_texts.specs.TextForms.{behind_colon, is_term_name};
+ghost use Rattle.jsonld_context.specs.ContextReading.{is_base_key, is_vocabulary_key, is_id_key, is_type_key, domain_base, domain_vocabulary, string_at, is_prefix_string, prefix_among, meant, object_iri, type_meant, definition, definitions, fault_of_object_iri, fault_of_object_type, first_fault, fault_of_iri, fault_of_keyword, is_extended_prefix, fault_of_string, fault_of_id, fault_of_type, fault_of_part, fault_of_value, fault_of_member, known_vocabulary};
+ghost use Rattle.jsonld_context.specs.FormsFound.{IsDelimited};
 ghost use Rattle.jsonld_context.specs.Telling.{IsFaultOf, IsReadAs};
 ghost use Rattle.jsonld_context.specs.declared.faults.JsonFault.TheVariants as faults;
 
@@ -22,8 +23,8 @@ use crate::datatypes::Datatype;
 use crate::definitions::{Definition, TermType};
 use crate::faults::JsonFault;
 use crate::prefixes::{cut_prefix, joined};
-use crate::texts::{ends_in_delimiter, has_colon, is_term_name};
 use iri_rules::{Text, is_absolute};
+use jsonld_texts::{ends_in_delimiter, has_colon, is_term_name};
 use rdf_terms::{Iri, TermFault};
 use serde_json::{Map, Value};
 use std::alloc::{AllocError, Global};
@@ -102,15 +103,29 @@ pub(crate) fn base_of(alloc: Global, all: &Members, domain: &str) -> Result<Text
     }
 }
 
-/// The vocabulary of a context with these members.
-pub(crate) fn vocabulary_of(alloc: Global, all: &Members, domain: &str) -> Result<Text, AllocError>
+/// The vocabulary of a context with these members, where it is known: a `@vocab` that is no string gives none.
+pub(crate) fn vocabulary_of(
+    alloc: Global,
+    all: &Members,
+    domain: &str,
+) -> Result<Option<Text>, AllocError>
     requires { IsTrue (is_domain domain.now) }
-    ensures { IfOk result (λ vocabulary. vocabulary ≡ vocabulary_of domain.now (members_view all.now.entries)) }
+    ensures { IfOk result (λ vocabulary. vocabulary ≡ known_vocabulary domain.now (members_view all.now.entries)) }
 {
-    match string_at(all, "@vocab") {
-        Some(text) => Text::new(alloc, text),
-        None => domain_vocabulary(alloc, domain),
+    let Some(value) = member_at(all, "@vocab") else {
+        return Ok(Some(domain_vocabulary(alloc, domain)?));
+    };
+    match value.as_str() {
+        Some(text) => Ok(Some(Text::new(alloc, text)?)),
+        None => Ok(None),
     }
+}
+
+/// Whether a context has a `@context` of its own, which none may have.
+pub(crate) fn has_context(all: &Members) -> bool
+    ensures { result ≡ is_some (get_member (codes "@context") (members_view all.now.entries)) }
+{
+    member_at(all, "@context").is_some()
 }
 
 /// A text between two others.
@@ -154,13 +169,7 @@ fn prefix_among<'a>(all: &'a Members, name: &str) -> Option<&'a str>
     if !is_term_name(name) {
         return None;
     }
-    prefix_string(string_at(all, name)?)
-}
-
-/// The IRI of a string that makes its term a prefix.
-fn prefix_string(text: &str) -> Option<&str>
-    ensures { option_copied result ≡ prefix_string text.now }
-{
+    let text = string_at(all, name)?;
     if is_prefix_string(text) {
         Some(text)
     } else {
@@ -352,7 +361,7 @@ fn read_object(
     term: &str,
     parts: &Members,
 ) -> Result<Definition, JsonFault>
-    ensures { IsReadAs (fault_of_value vocabulary.now (members_view all.now.entries) term.now (object (members_view parts.now.entries)))
+    ensures { IsReadAs (fault_of_value (Some vocabulary.now) (members_view all.now.entries) term.now (object (members_view parts.now.entries)))
         (definition vocabulary.now (members_view all.now.entries) term.now (object (members_view parts.now.entries))) result }
 {
     check_parts(alloc, all, term, parts)?;
@@ -396,7 +405,7 @@ fn read_term(
     value: &Value,
 ) -> Result<Definition, JsonFault>
     requires { (is_base_key key.now || is_vocabulary_key key.now) ≡ false }
-    ensures { IsReadAs (fault_of_member vocabulary.now (members_view all.now.entries) key.now (view value.now))
+    ensures { IsReadAs (fault_of_member (Some vocabulary.now) (members_view all.now.entries) key.now (view value.now))
         (definition vocabulary.now (members_view all.now.entries) key.now (view value.now)) result }
 {
     if !is_term_name(key) {
@@ -406,6 +415,47 @@ fn read_term(
         Value::String(text) => read_simple(alloc, all, key, text.as_str()),
         Value::Object(parts) => read_object(alloc, vocabulary, all, key, parts),
         _ => Err(bad_context(alloc, key)),
+    }
+}
+
+/// Looks at a member of a context whose vocabulary isn't known.
+fn check_member(alloc: Global, all: &Members, key: &str, value: &Value) -> Result<(), JsonFault>
+    ensures { IsReadAs (fault_of_member None (members_view all.now.entries) key.now (view value.now)) tt result }
+{
+    if is_keyword(key) {
+        return check_keyword(alloc, key, value);
+    }
+    if !is_term_name(key) {
+        return Err(bad_context(alloc, key));
+    }
+    match value {
+        Value::String(text) => {
+            let _iri = read_string(alloc, all, key, text.as_str())?;
+            Ok(())
+        }
+        Value::Object(parts) => check_parts(alloc, all, key, parts),
+        _ => Err(bad_context(alloc, key)),
+    }
+}
+
+/// Looks at the members of a context whose vocabulary isn't known, in the order of their keys.
+fn check_members(alloc: Global, all: &Members) -> Result<(), JsonFault>
+    ensures { IsReadAs (first_fault (fault_of_member None (members_view all.now.entries)) (members_view all.now.entries)) tt result }
+{
+    for (key, value) in all.iter() {
+        check_member(alloc, all, key.as_str(), value)?;
+    }
+    Ok(())
+}
+
+/// The first fault of members whose `@vocab` is no string.
+pub(crate) fn fault_without_vocabulary(alloc: Global, all: &Members) -> JsonFault
+    requires { option_map as_str (get_member (codes "@vocab") (members_view all.now.entries)) ≡ Some None }
+    ensures { IsFaultOf (first_fault (fault_of_member None (members_view all.now.entries)) (members_view all.now.entries)) result }
+{
+    match check_members(alloc, all) {
+        Ok(()) => unreachable!(),
+        Err(fault) => fault,
     }
 }
 
@@ -423,10 +473,11 @@ pub(crate) fn read_terms(
     vocabulary: &str,
     all: &Members,
 ) -> Result<Vec<Definition>, JsonFault>
-    ensures ok { IfOk result (λ terms. (first_fault (fault_of_member vocabulary.now (members_view all.now.entries)) (members_view all.now.entries) ≡ None)
+    ensures ok { IfOk result (λ terms. (first_fault (fault_of_member (Some vocabulary.now) (members_view all.now.entries)) (members_view all.now.entries) ≡ None)
         × (terms.items ≡ definitions vocabulary.now (members_view all.now.entries) (members_view all.now.entries))) }
-    ensures err { IfErr result (IsFaultOf (first_fault (fault_of_member vocabulary.now (members_view all.now.entries)) (members_view all.now.entries))) }
+    ensures err { IfErr result (IsFaultOf (first_fault (fault_of_member (Some vocabulary.now) (members_view all.now.entries)) (members_view all.now.entries))) }
     ensures names { IfOk result (λ terms. AllByRecursion (λ term. IsTrue (is_term_name term.name)) terms.items) }
+    ensures delimited { IfOk result (λ terms. AllByRecursion IsDelimited terms.items) }
     ensures ascending { IfOk result (λ terms. IsStrictlySortedBy (slice_cmp nat_cmp) (map (λ term. term.name) terms.items)) }
 {
     let mut terms = Vec::new(alloc);

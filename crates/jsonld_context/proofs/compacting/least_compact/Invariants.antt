@@ -1,7 +1,8 @@
-use Rattle.std.proofs.Common.{◌≡◌, string_bytes, take}
+use Rattle.std.proofs.Common.{◌≡◌, string_bytes}
+use Rattle.std.specs.BTreeMap.{get_by_text}
 use Rattle.std.specs.Option.{option_map}
-use Rattle.jsonld_context.specs.ShortForms.{least_compact}
+use Rattle.jsonld_context.specs.FormsFound.{least_behind}
 use Rattle.jsonld_context.proofs.compacting.least_compact.Given as goal
 
-abbrev pub invariant-loop-term : goal.invariant-loop-term
-invariant-loop-term l = option_map string_bytes l.least ≡ least_compact (take l.term-index l.terms) l.iri
+abbrev pub invariant-loop-place : goal.invariant-loop-place
+invariant-loop-place l = option_map string_bytes l.least ≡ least_behind (get_by_text l.prefixes) l.iri l.place

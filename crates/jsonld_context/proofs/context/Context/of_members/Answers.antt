@@ -1,23 +1,17 @@
-use Rattle.std.proofs.lemmas.Result.{err_from_is_err_and}
+use Rattle.std.proofs.Common.{◌∙◌, sym}
 use Rattle.serde_json.specs.View.{members_view}
-use Rattle.jsonld_context.proofs.Contexts.{context_read, fault_read, is_context}
+use Rattle.jsonld_context.proofs.Contexts.{no_string, own_context, unknown_read}
 use Rattle.jsonld_context.proofs.context.Context.of_members.Goals as goal
 
-pub invariant_of-result : goal.invariant_of-result
-invariant_of-result c =
-    is_context c.args.domain.now (members_view c.args.all.now.entries) c.in_ok-base.base c.in_ok-vocabulary.vocabulary c.as_str.result.now
-    c.in_ok-base.ensures c.in_ok-vocabulary.ensures c.as_str.ensures
-    c.requires c.in_ok-terms.terms.items c.in_ok-terms.ensures.ok.0 c.in_ok-terms.ensures.names c.in_ok-terms.ensures.ascending
+pub returns-then-has_context-clause-err : goal.returns-then-has_context-clause-err
+returns-then-has_context-clause-err c =
+    own_context c.args.domain.now (members_view c.args.all.now.entries) c.bad_context.result (sym c.has_context.ensures ∙ c.if-has_context.true) c.bad_context.ensures
 
-pub returns-in_err-terms-clause-err : goal.returns-in_err-terms-clause-err
-returns-in_err-terms-clause-err c =
-    let p = err_from_is_err_and c.from_residual-in_err-terms.result c.from_residual-in_err-terms.ensures.1 in
-    rw (p.1, p.2)
-    (fault_read c.args.domain.now (members_view c.args.all.now.entries) c.in_ok-base.base c.in_ok-vocabulary.vocabulary c.as_str.result.now
-    c.in_ok-base.ensures c.in_ok-vocabulary.ensures c.as_str.ensures c.in_err-terms.field-0.0 c.in_err-terms.ensures.err)
+pub returns-in-None-clause-err : goal.returns-in-None-clause-err
+returns-in-None-clause-err c =
+    unknown_read c.args.domain.now (members_view c.args.all.now.entries) c.fault_without_vocabulary.result (sym c.has_context.ensures ∙ c.if-has_context.false)
+    (sym c.in_ok-vocabulary.ensures ∙ c.in-None.is) c.fault_without_vocabulary.ensures
 
-pub returns-clause-ok : goal.returns-clause-ok
-returns-clause-ok c =
-    context_read c.args.domain.now (members_view c.args.all.now.entries) c.in_ok-base.base c.in_ok-vocabulary.vocabulary c.as_str.result.now
-    c.in_ok-base.ensures c.in_ok-vocabulary.ensures c.as_str.ensures
-    c.in_ok-terms.terms.items c.in_ok-terms.ensures.ok
+pub fault_without_vocabulary-requires : goal.fault_without_vocabulary-requires
+fault_without_vocabulary-requires c =
+    no_string c.args.domain.now (members_view c.args.all.now.entries) (sym c.in_ok-vocabulary.ensures ∙ c.in-None.is)

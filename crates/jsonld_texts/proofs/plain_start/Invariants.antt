@@ -1,8 +1,8 @@
 use Rattle.std.proofs.Common.{◌≡◌, ◌+◌, ◌-◌, ◌≤◌, length, take}
 use Rattle.std.specs.List.{suffix_len}
 use Rattle.std.specs.Str.{IsCharBoundary}
-use Rattle.jsonld_context.specs.Texts.{is_plain_letter}
-use Rattle.jsonld_context.proofs.texts.plain_start.Given as goal
+use Rattle.jsonld_texts.specs.TextForms.{is_plain_letter}
+use Rattle.jsonld_texts.proofs.plain_start.Given as goal
 
 abbrev pub invariant-loop-start : goal.invariant-loop-start
 invariant-loop-start l = record {

@@ -2,7 +2,7 @@
 use Rattle.std.proofs.Common.{◌≡◌, ℕ, suc, ◌+◌, ◌<◌, List, [], ◌∷◌, length, Bool, true, false, not, cond, ◌||◌, Option, Some, None, Bor, MatchOption, refl, arith}
 use Rattle.std.specs.List.{before_first, after_first, position_or_len}
 use Rattle.iri_rules.specs.References.{is_colon}
-use Rattle.jsonld_context.specs.Texts.{has_colon, before_colon, behind_colon}
+use Rattle.jsonld_texts.specs.TextForms.{has_colon, before_colon, behind_colon}
 
 none_at : (bytes : List ℕ) (colon : Bool) → (position_or_len is_colon bytes ≡ length bytes → has_colon bytes ≡ false)
     → cond (not colon) (1 + position_or_len is_colon bytes) 0 ≡ suc (length bytes) → (colon || has_colon bytes) ≡ false

@@ -1,28 +1,23 @@
-//! Tests of texts. None takes memory.
+//! Tests of texts in JSON-LD: terms, variables, plain texts, and what may end the IRI of a prefix. None takes memory.
+#![tactic(auto)]
+
 ghost use Rattle.std.specs.Prelude.{◌≡◌, ◌-◌, true, false, length, MatchOption};
-ghost use Rattle.std.specs.List.{list_all, list_any, suffix_len};
+ghost use Rattle.std.specs.List.{list_all, suffix_len};
 ghost use Rattle.std.specs.Str.{IsCharBoundary};
-ghost use Rattle.iri_rules.specs.References.{begins_authority, is_slash};
-ghost use Rattle.jsonld_context.specs.Texts.{has_colon, before_colon, behind_colon, is_delimiter, ends_in_delimiter, begins_as_keyword, is_name_byte, is_name, is_variable, is_term_name, is_plain_letter, is_plain, plain_end};
+ghost use Rattle.iri_rules.specs.References.{begins_authority};
+ghost use Rattle.jsonld_texts.specs.TextForms.{has_colon, before_colon, behind_colon, is_delimiter, ends_in_delimiter, begins_as_keyword, is_name_byte, is_name, is_variable, is_term_name, is_plain_letter, is_plain, plain_end};
 
 use iri_rules::characters::{is_digit, is_letter};
 
 /// Whether a text has a colon.
-pub(crate) fn has_colon(text: &str) -> bool
+pub fn has_colon(text: &str) -> bool
     ensures { result ≡ has_colon text.now }
 {
     text.as_bytes().contains(&b':')
 }
 
-/// Whether a text has a slash.
-fn has_slash(text: &str) -> bool
-    ensures { result ≡ list_any is_slash text.now }
-{
-    text.as_bytes().contains(&b'/')
-}
-
 /// What stands before the first colon, and what behind it.
-pub(crate) fn cut_colon(text: &str) -> Option<(&str, &str)>
+pub fn cut_colon(text: &str) -> Option<(&str, &str)>
     ensures { MatchOption result (has_colon text.now ≡ false)
         (λ parts. (has_colon text.now ≡ true) × (parts.0.now ≡ before_colon text.now) × (parts.1.now ≡ behind_colon text.now)) }
 {
@@ -30,21 +25,21 @@ pub(crate) fn cut_colon(text: &str) -> Option<(&str, &str)>
 }
 
 /// Whether a text begins with two slashes.
-pub(crate) fn begins_authority(text: &str) -> bool
+pub fn begins_authority(text: &str) -> bool
     ensures { result ≡ begins_authority text.now }
 {
     text.starts_with("//")
 }
 
 /// Whether this is one of the delimiters with which the IRI of a prefix ends (RFC 3986, section 2.2).
-fn is_delimiter(byte: u8) -> bool
+pub fn is_delimiter(byte: u8) -> bool
     ensures { result ≡ is_delimiter byte }
 {
     matches!(byte, b':' | b'/' | b'?' | b'#' | b'[' | b']' | b'@')
 }
 
 /// Whether a text ends with such a delimiter.
-pub(crate) fn ends_in_delimiter(text: &str) -> bool
+pub fn ends_in_delimiter(text: &str) -> bool
     ensures { result ≡ ends_in_delimiter text.now }
 {
     match text.as_bytes().last() {
@@ -98,13 +93,13 @@ pub fn is_variable(text: &str) -> bool
 }
 
 /// Whether a context may define a text.
-#[tactic(auto, unfolding(crate::specs::Texts::is_term_name))]
-pub(crate) fn is_term_name(text: &str) -> bool
+#[tactic(auto, unfolding(crate::specs::TextForms::is_term_name))]
+pub fn is_term_name(text: &str) -> bool
     ensures { result ≡ is_term_name text.now }
 {
     !text.is_empty()
         && !has_colon(text)
-        && !has_slash(text)
+        && !text.as_bytes().contains(&b'/')
         && !begins_as_keyword(text)
         && !is_variable(text)
 }
@@ -124,7 +119,7 @@ fn are_plain_bytes(bytes: &[u8]) -> bool
 }
 
 /// Whether a text is plain: one or more letters, digits, `_` and `-`.
-pub(crate) fn is_plain(text: &str) -> bool
+pub fn is_plain(text: &str) -> bool
     ensures { result ≡ is_plain text.now }
 {
     !text.is_empty() && are_plain_bytes(text.as_bytes())
@@ -144,7 +139,7 @@ fn plain_start(text: &str) -> usize
 }
 
 /// The longest end of a text that is made of plain bytes.
-pub(crate) fn plain_end(text: &str) -> &str
+pub fn plain_end(text: &str) -> &str
     ensures { result.now ≡ plain_end text.now }
 {
     &text[plain_start(text)..]
