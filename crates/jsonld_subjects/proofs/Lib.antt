@@ -8,3 +8,6 @@ pub mod Runs
 pub mod Putting
 pub mod MemberLaws
 pub mod TypeProperty
+pub mod KeptNames
+pub mod OneObject
+pub mod AloneIsValue

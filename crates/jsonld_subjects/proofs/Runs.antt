@@ -20,7 +20,8 @@ use Rattle.serde_json.specs.Data.{Data, null, boolean, number, string, array, ob
 use Rattle.jsonld_context.specs.Context.{ContextValue}
 use Rattle.jsonld_context.proofs.TextLaws.{itself, less_differ}
 use Rattle.jsonld_context.specs.Texts.{is_variable}
-use Rattle.jsonld_values.specs.Literals.{xsd_boolean, xsd_integer}
+use Rattle.jsonld_values.specs.Literals.{xsd_boolean}
+use Rattle.jrql_ast.specs.FilterMeaning.{xsd_integer}
 use Rattle.jsonld_values.specs.TermWriting.{plain_number, literal_data, term_data}
 use Rattle.jsonld_subjects.specs.KeyRuns.{BeginsRun, data_of_keyed, data_of_run}
 use Rattle.jsonld_subjects.specs.SubjectWriting.{KeyedTerm, keyed_cmp, data_under, with_value, with_keyed, members_of_keyed}

@@ -15,7 +15,8 @@ use Rattle.jsonld_context.specs.Context.{ContextValue, IsContext}
 use Rattle.jsonld_context.specs.ShortForms.{compact_key, compact_id}
 use Rattle.jsonld_context.specs.Texts.{is_variable}
 use Rattle.jsonld_context.proofs.TextLaws.{same}
-use Rattle.jsonld_values.specs.Literals.{xsd_boolean, xsd_integer, xsd_double, literal_slot, number_of_text, made_of}
+use Rattle.jsonld_values.specs.Literals.{xsd_boolean, xsd_double, literal_slot, number_of_text, made_of}
+use Rattle.jrql_ast.specs.FilterMeaning.{xsd_integer}
 use Rattle.jsonld_values.specs.TermWriting.{plain_number, one_member, two_members, typed_data, string_data, boolean_data, integer_data, literal_data, term_data}
 use Rattle.jsonld_values.specs.ValueObjects.{value_object}
 use Rattle.jsonld_subjects.specs.GivingBack.{IsLiteralGivenBack, IsTermGivenBack}

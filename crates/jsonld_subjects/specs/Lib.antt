@@ -3,3 +3,5 @@ pub mod SubjectWriting
 pub mod GivingBack
 pub mod KeyRuns
 pub mod MemberReading
+pub mod ObjectReading
+pub mod NamesKept

@@ -28,9 +28,13 @@ key_of context property (terms.Literal literal) = compact_key context property
 abbrev pub keyed_of : ContextValue → Triple → KeyedTerm
 keyed_of context triple = record { key = key_of context triple.p triple.o; term = triple.o }
 
--- values come in the order of their keys, and under one key in the order of terms
+-- the order of the values under one key
+abbrev pub within_key_cmp : Term → Term → Ordering
+within_key_cmp = term_cmp
+
+-- values come in the order of their keys, and under one key in their own
 abbrev pub keyed_cmp : KeyedTerm → KeyedTerm → Ordering
-keyed_cmp keyed other = ordering_then (slice_cmp nat_cmp keyed.key other.key) (term_cmp keyed.term other.term)
+keyed_cmp keyed other = ordering_then (slice_cmp nat_cmp keyed.key other.key) (within_key_cmp keyed.term other.term)
 
 -- a term under a key: under `@type` an IRI is the bare key for it
 abbrev pub data_under : ContextValue → List ℕ → Term → Data

@@ -7,13 +7,18 @@ mod ids;
 mod keyed_terms;
 mod laws;
 mod members;
+mod objects;
 mod open_subjects;
 mod places;
 mod plain_values;
 mod reading;
 mod writing;
 
-pub use laws::reading_gives_back;
+pub use jsonld_values::{Names, write_term};
+pub use laws::{
+    object_is_a_value, one_object_says_a_subject, reading_gives_back, reading_keeps_to_names,
+};
+pub use objects::{ObjectRead, read_object, stands_alone};
 pub use places::Place;
 pub use reading::read_subjects;
 pub use writing::write_subject;

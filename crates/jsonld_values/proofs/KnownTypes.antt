@@ -2,7 +2,8 @@
 use Rattle.std.proofs.Common.{◌≡◌, false, IsTrue, refl}
 use Rattle.iri_rules.specs.Iri.{is_iri, is_absolute}
 use Rattle.rdf_terms.specs.Literal.{xsd_string, rdf_lang_string, is_same}
-use Rattle.jsonld_values.specs.Literals.{IsDatatype, xsd_boolean, xsd_integer, xsd_double}
+use Rattle.jsonld_values.specs.Literals.{IsDatatype, xsd_boolean, xsd_double}
+use Rattle.jrql_ast.specs.FilterMeaning.{xsd_integer}
 
 pub string_datatype : IsDatatype xsd_string
 unfolding xsd_string rdf_lang_string is_iri

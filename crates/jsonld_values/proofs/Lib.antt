@@ -4,3 +4,6 @@ pub mod KnownTypes
 pub mod Naming
 pub mod ShortTexts
 pub mod ValueParts
+pub mod NumberingLaws
+pub mod Meeting
+pub mod Mapped

@@ -3,7 +3,7 @@ use Rattle.std.proofs.Common.{◌≡◌, ◌≢◌, ℕ, zero, suc, ◌+◌, ◌
 use Rattle.std.specs.declared.alloc.Global.{Global}
 use Rattle.std.specs.List.{list_any, position_or_len, position}
 use Rattle.std.proofs.lemmas.Grind.{common_steps}
-use Rattle.std.proofs.lemmas.List.{map-append}
+use Rattle.std.proofs.lemmas.List.{length-append, map-append}
 use Rattle.std.proofs.lemmas.List.Quantifiers.{all_pairs_push}
 use Rattle.std.proofs.lemmas.Slice.Eq.{bytes_eq-Decides}
 use Rattle.indexmap.specs.IndexSet.{insert_key}
@@ -41,6 +41,7 @@ pub kept_named : (names : NamesValue) (name : List ℕ) → IsNames names → is
 kept_named names name kept new room =
     record {
       differ = all_pairs_push (λ name other. name ≢ other) names.named name kept.differ (other_at name names.named new);
+      known = length-append names.since (true ∷ []) ∙ ap (λ n. n + 1) kept.known ∙ sym (length-append names.named (name ∷ []));
       limit = grind (arith, common_steps);
     }
 
@@ -48,7 +49,7 @@ short_at : (b : Bool) (place size : ℕ) → place ≤ size → cond b (1 + plac
 short_at true place size h = omega arith
 short_at false place size h = omega arith
 
-short_place : {X : Type 0} (test : X → Bool) (names : List X) → position_or_len test names ≤ length names
+pub short_place : {X : Type 0} (test : X → Bool) (names : List X) → position_or_len test names ≤ length names
 short_place test [] = omega arith
 short_place test (name ∷ names) = short_at (not (test name)) (position_or_len test names) (length names) (short_place test names)
 

@@ -2,3 +2,4 @@ pub mod VariableNames
 pub mod Literals
 pub mod ValueObjects
 pub mod TermWriting
+pub mod Numbering

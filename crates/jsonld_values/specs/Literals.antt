@@ -4,6 +4,7 @@ use Rattle.std.specs.Prelude.{ℕ, List, Bool, true, false, not, nat_le, length,
 use Rattle.std.specs.Fmt.{signed_decimal}
 use Rattle.jrql_ast.specs.declared.patterns.Slot.{Slot}
 use Rattle.jrql_ast.specs.declared.patterns.Slot.TheVariants as slots
+use Rattle.jrql_ast.specs.FilterMeaning.{xsd_integer}
 use Rattle.iri_rules.specs.Iri.{is_absolute}
 use Rattle.rdf_terms.specs.Literal.{LiteralValue, Typed, xsd_string, rdf_lang_string, is_same, lexical_limit}
 use Rattle.rdf_terms.specs.declared.terms.Term.TheVariants as terms
@@ -15,12 +16,9 @@ use Rattle.jsonld_context.specs.declared.definitions.TermType.TheVariants as typ
 use Rattle.jsonld_context.specs.declared.faults.JsonFault.{JsonFault}
 use Rattle.jsonld_context.specs.declared.faults.JsonFault.TheVariants as faults
 
--- XML Schema Part 2: the types of booleans, of whole numbers and of floating point numbers
+-- XML Schema Part 2: the types of booleans and of floating point numbers
 unfoldable pub xsd_boolean : List ℕ
 xsd_boolean = codes "http://www.w3.org/2001/XMLSchema#boolean"
-
-unfoldable pub xsd_integer : List ℕ
-xsd_integer = codes "http://www.w3.org/2001/XMLSchema#integer"
 
 unfoldable pub xsd_double : List ℕ
 xsd_double = codes "http://www.w3.org/2001/XMLSchema#double"

@@ -8,7 +8,8 @@ use Rattle.serde_json.specs.Data.{Data, boolean, number, string, object, Num, un
 use Rattle.jsonld_context.specs.Context.{ContextValue}
 use Rattle.jsonld_context.specs.ShortForms.{compact_key, compact_id}
 use Rattle.jsonld_context.specs.Texts.{is_variable}
-use Rattle.jsonld_values.specs.Literals.{xsd_boolean, xsd_integer}
+use Rattle.jsonld_values.specs.Literals.{xsd_boolean}
+use Rattle.jrql_ast.specs.FilterMeaning.{xsd_integer}
 
 -- the number that digits spell; what is no digit counts as one all the same
 abbrev pub digits_from : ℕ → List ℕ → ℕ

@@ -14,7 +14,8 @@ use Rattle.jsonld_context.specs.Expanding.{key_meant, expand_key}
 use Rattle.jsonld_context.specs.Texts.{is_variable}
 use Rattle.jsonld_context.specs.declared.faults.JsonFault.{JsonFault}
 use Rattle.jsonld_context.specs.declared.faults.JsonFault.TheVariants as faults
-use Rattle.jsonld_values.specs.Literals.{xsd_boolean, xsd_integer, xsd_double, literal_slot, boolean_text, whole_text}
+use Rattle.jsonld_values.specs.Literals.{xsd_boolean, xsd_double, literal_slot, boolean_text, whole_text}
+use Rattle.jrql_ast.specs.FilterMeaning.{xsd_integer}
 
 -- `@value`, `@language` and `@context` (JSON-LD 1.1 section 9.15, Keywords)
 abbrev pub is_value_key : List ℕ → Bool

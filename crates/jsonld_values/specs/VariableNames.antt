@@ -1,6 +1,6 @@
 -- The variables that a text has met, and its subjects without an id (SPARQL 1.1 sections 4.1.3, Query Variables, and 4.1.4, Blank
 -- Nodes; SPARQL 1.1 Update section 3.1.3, where blank nodes of an insert are made anew).
-use Rattle.std.specs.Prelude.{◌≢◌, ℕ, ◌+◌, ◌≤◌, Bool, List, [], ◌∷◌, ◌++◌, nat_lt, length, Result, Ok, Err, codes, if◌then◌else◌}
+use Rattle.std.specs.Prelude.{◌≡◌, ◌≢◌, ℕ, ◌+◌, ◌≤◌, Bool, List, [], ◌∷◌, ◌++◌, false, true, nat_lt, length, replicate, slice_index_or, slice_set, Result, Ok, Err, codes, if◌then◌else◌}
 use Rattle.std.specs.List.{AllPairs, list_any, position_or_len}
 use Rattle.jrql_ast.specs.InForm.{variable_limit}
 use Rattle.jrql_ast.specs.declared.patterns.Slot.{Slot}
@@ -9,15 +9,17 @@ use Rattle.jsonld_context.specs.declared.faults.JsonFault.{JsonFault}
 use Rattle.jsonld_context.specs.declared.faults.JsonFault.TheVariants as faults
 use Rattle.rdf_terms.specs.Literal.{is_same}
 
--- the named variables in the order in which they were met, how many hidden ones were, and how many fresh subjects
+-- the named variables in the order in which they were met, how many hidden ones were, and how many fresh subjects; and which of the
+-- named ones were met since a mark
 pub record NamesValue : Type 0 where
   pub named : List (List ℕ)
   pub hidden : ℕ
   pub fresh : ℕ
+  pub since : List Bool
 
 -- nothing was met
 abbrev pub no_names : NamesValue
-no_names = record { named = []; hidden = 0; fresh = 0 }
+no_names = record { named = []; hidden = 0; fresh = 0; since = [] }
 
 -- how many variables were met
 abbrev pub variables_met : NamesValue → ℕ
@@ -32,12 +34,16 @@ name_number names name = position_or_len (is_same name) names.named
 
 -- names with one more variable
 abbrev pub named_too : NamesValue → List ℕ → NamesValue
-named_too names name = record names { named = names.named ++ name ∷ [] }
+named_too names name = record names { named = names.named ++ name ∷ []; since = names.since ++ true ∷ [] }
+
+-- names of which a variable is met again
+abbrev pub met_again : NamesValue → ℕ → NamesValue
+met_again names number = record names { since = slice_set names.since number true }
 
 -- a variable is met: the first time it is put behind the others, where the limit allows one more
 abbrev pub meet_variable : NamesValue → List ℕ → Result (NamesValue × Slot) JsonFault
 meet_variable names name =
-    if is_named names name then Ok (names, slots.Var (name_number names name))
+    if is_named names name then Ok (met_again names (name_number names name), slots.Var (name_number names name))
     else (if nat_lt (variables_met names) variable_limit then Ok (named_too names name, slots.Var (name_number names name))
     else Err (faults.BadQuery name))
 
@@ -53,7 +59,16 @@ meet_hidden names =
 abbrev pub meet_fresh : NamesValue → NamesValue × Slot
 meet_fresh names = (record names { fresh = names.fresh + 1 }, slots.Fresh names.fresh)
 
--- what is kept of names: variables differ, and are within the limit
+-- a mark is set: no variable was met since
+abbrev pub marked : NamesValue → NamesValue
+marked names = record names { since = replicate (length names.named) false }
+
+-- whether the variable of a number was met since the mark
+abbrev pub was_met : NamesValue → ℕ → Bool
+was_met names number = slice_index_or names.since number false
+
+-- what is kept of names: variables differ, and are within the limit, and of each it is known whether it was met since the mark
 pub record IsNames (names : NamesValue) : Type 0 where
   pub differ : AllPairs (λ name other. name ≢ other) names.named
+  pub known : length names.since ≡ length names.named
   pub limit : variables_met names ≤ variable_limit

@@ -3,7 +3,8 @@ ghost use Rattle.std.specs.Prelude.{◌≡◌, ◌≤◌, length, not, IsTrue, I
 ghost use Rattle.std.specs.Option.{option_copied};
 ghost use Rattle.iri_rules.specs.Iri.{is_absolute};
 ghost use Rattle.rdf_terms.specs.Literal.{Typed, is_same, rdf_lang_string, xsd_string, lexical_limit};
-ghost use Rattle.jsonld_values.specs.Literals.{IsDatatype, datatype_under, xsd_boolean, xsd_integer, xsd_double};
+ghost use Rattle.jsonld_values.specs.Literals.{IsDatatype, datatype_under, xsd_boolean, xsd_double};
+ghost use Rattle.jrql_ast.specs.FilterMeaning.{xsd_integer};
 
 use jsonld_context::TermType;
 use rdf_terms::{Iri, Literal, TermFault};
@@ -43,7 +44,7 @@ pub(crate) fn boolean_type() -> &'static str
 }
 
 /// The text of xsd:integer.
-#[tactic(auto, unfolding(crate::specs::Literals::xsd_integer))]
+#[tactic(auto, unfolding(jrql_ast::specs::FilterMeaning::xsd_integer))]
 pub(crate) fn integer_type() -> &'static str
     ensures text { result.now ≡ xsd_integer }
     ensures datatype { IsDatatype result.now }

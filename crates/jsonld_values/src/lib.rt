@@ -3,15 +3,19 @@
 
 mod datatypes;
 mod faults;
+mod laws;
 mod literals;
 mod names;
+mod numbering;
 mod plain_numbers;
 mod value_objects;
 mod writing;
 
 pub use datatypes::known_iri;
 pub use faults::{bad_subject, unsupported};
+pub use laws::{growing_keeps, meeting_grows, numbering_gives_form};
 pub use literals::{boolean_object, number_object, string_object};
 pub use names::Names;
+pub use numbering::{number_filter, number_slot, number_triples};
 pub use value_objects::{has_member, value_object};
 pub use writing::write_term;

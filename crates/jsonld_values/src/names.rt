@@ -6,10 +6,11 @@ ghost use Rattle.std.specs.String.{string_bytes};
 ghost use Rattle.rdf_terms.specs.Literal.{is_same};
 ghost use Rattle.jsonld_context.specs.Telling.{IsToldBy};
 ghost use Rattle.jsonld_context.specs.declared.faults.JsonFault.TheVariants as faults;
-ghost use Rattle.jsonld_values.specs.VariableNames.{no_names, meet_variable, meet_hidden, meet_fresh};
+ghost use Rattle.jsonld_values.specs.VariableNames.{no_names, meet_variable, meet_hidden, meet_fresh, marked, was_met};
 
 use crate::faults::bad_query;
 use indexmap::IndexSet;
+use iri_rules::Text;
 use jrql_ast::{Slot, VARIABLE_LIMIT};
 use jsonld_context::JsonFault;
 use std::alloc::{AllocError, Global};
@@ -36,12 +37,24 @@ fn put(alloc: Global, named: &mut IndexSet<String>, name: &str) -> Result<(), Al
     Ok(())
 }
 
+/// The texts of names, in their order.
+fn texts_of(alloc: Global, named: &IndexSet<String>) -> Result<Vec<Text>, AllocError>
+    ensures { IfOk result (λ texts. texts.items ≡ map string_bytes named.now.keys) }
+{
+    let mut texts = Vec::with_capacity(alloc, named.len())?;
+    for name in named.iter() {
+        texts.push(Text::new(alloc, name.as_str())?)?;
+    }
+    Ok(texts)
+}
+
 /// The variables that a text has met, numbered in the order in which they came, and how many subjects without an id it has.
 #[derive(Debug, Drop)]
 pub struct Names {
     named: IndexSet<String>,
     hidden: u16,
     fresh: u32,
+    since: Vec<bool>,
 }
 
 impl Model for Names {
@@ -51,9 +64,9 @@ impl Model for Names {
 
     ghost Value = { NamesValue };
 
-    ghost view = { λ n. record { named = map string_bytes n.named.keys; hidden = n.hidden; fresh = n.fresh } };
+    ghost view = { λ n. record { named = map string_bytes n.named.keys; hidden = n.hidden; fresh = n.fresh; since = n.since.items } };
 
-    ghost invariant = { λ n. IsNames (record { named = map string_bytes n.named.keys; hidden = n.hidden; fresh = n.fresh }) };
+    ghost invariant = { λ n. IsNames (record { named = map string_bytes n.named.keys; hidden = n.hidden; fresh = n.fresh; since = n.since.items }) };
 }
 
 impl Names {
@@ -65,6 +78,7 @@ impl Names {
             named: IndexSet::new(alloc),
             hidden: 0,
             fresh: 0,
+            since: Vec::new(alloc),
         }
     }
 
@@ -73,6 +87,13 @@ impl Names {
         ensures { result ≡ self.now.fresh }
     {
         self.fresh
+    }
+
+    /// How many named variables were met. It takes no memory.
+    pub fn named(&self) -> u16
+        ensures { result ≡ length self.now.named }
+    {
+        self.named.len() as u16
     }
 
     /// How many hidden variables were met. It takes no memory.
@@ -92,19 +113,46 @@ impl Names {
         }
     }
 
+    /// The names of the named variables, by number, each with its question mark.
+    pub fn texts(&self, alloc: Global) -> Result<Vec<Text>, AllocError>
+        ensures { IfOk result (λ texts. texts.items ≡ self.now.named) }
+    {
+        texts_of(alloc, &self.named)
+    }
+
+    /// Sets a mark: no variable was met since. It takes no memory.
+    pub fn mark(&mut self)
+        ensures { self.new ≡ marked self.old }
+    {
+        self.since.fill(false);
+    }
+
+    /// Whether the named variable of a number was met since the last mark, or the beginning. It takes no memory.
+    pub fn was_met(&self, number: usize) -> bool
+        ensures { result ≡ was_met self.now number }
+    {
+        match self.since.get(number) {
+            Some(met) => *met,
+            None => false,
+        }
+    }
+
     /// Meets a variable by its name with the question mark. `BadQuery` says that it is one too many, and carries its name.
     pub fn meet_variable(&mut self, alloc: Global, name: &str) -> Result<Slot, JsonFault>
         ensures ok { IfOk result (λ slot. meet_variable self.old name.now ≡ Ok (self.new, slot)) }
         ensures err { IfErr result (IsToldBy (meet_variable self.old name.now)) }
     {
         if let Some(place) = place_of(&self.named, name) {
+            self.since[place] = true;
             return Ok(Slot::Var(place as u16));
         }
         let number = self.named.len();
         if number + usize::from(self.hidden) >= VARIABLE_LIMIT {
             return Err(bad_query(alloc, name));
         }
+        self.since.reserve(1)?;
         put(alloc, &mut self.named, name)?;
+        self.since.push_reserved(true);
         Ok(Slot::Var(number as u16))
     }
 
@@ -132,5 +180,16 @@ impl Names {
         };
         self.fresh = next;
         Ok(Slot::Fresh(number))
+    }
+}
+
+impl Names {
+    ghost use Rattle.jsonld_values.specs.VariableNames.{IsNames};
+
+    /// What names keep. It takes no memory and does nothing.
+    pub fn kept(&self)
+        ensures { IsNames self.now }
+    {
+        let _hidden = self.hidden;
     }
 }

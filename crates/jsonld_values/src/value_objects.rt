@@ -9,7 +9,8 @@ ghost use Rattle.jsonld_context.specs.ContextReading.{first_fault};
 ghost use Rattle.jsonld_context.specs.Expanding.{key_meant, expand_key};
 ghost use Rattle.jsonld_context.specs.Telling.{IsToldBy, IsReadAs};
 ghost use Rattle.jsonld_context.specs.declared.faults.JsonFault.TheVariants as faults;
-ghost use Rattle.jsonld_values.specs.Literals.{IsDatatype, xsd_integer, xsd_double};
+ghost use Rattle.jsonld_values.specs.Literals.{IsDatatype, xsd_double};
+ghost use Rattle.jrql_ast.specs.FilterMeaning.{xsd_integer};
 ghost use Rattle.jsonld_values.specs.ValueObjects.{has_member, is_language_key, is_value_key, datatype_said, fault_of_language, fault_of_datatype, fault_of_typing, fault_of_length, fault_of_boolean, fault_of_written, fault_of_value_part, fault_of_value_object, literal_beside, literal_said, literal_meant, value_object};
 
 use crate::datatypes::{
