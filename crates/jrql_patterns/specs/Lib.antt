@@ -1,0 +1,6 @@
+pub mod OpenGroups
+pub mod FilterReading
+pub mod WhereReading
+pub mod GroupsKept
+pub mod QueryReading
+pub mod Marking
