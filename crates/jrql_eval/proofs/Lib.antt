@@ -1,0 +1,11 @@
+pub mod AddedRows
+pub mod AnswerLaws
+pub mod BranchLaws
+pub mod ColumnLaws
+pub mod DescribeLaws
+pub mod Integers
+pub mod PlanSteps
+pub mod Planned
+pub mod Scanned
+pub mod SearchSteps
+pub mod TripleScans

@@ -1,0 +1,164 @@
+-- What is found by going over the triples that a pattern may be.
+use Rattle.std.proofs.Common.{◌≡◌, ◌∙◌, ℕ, zero, suc, ◌+◌, ◌<◌, length, get_or, drop, Bor, arith, List, [], ◌∷◌, ◌++◌, Bool, true, ◌&&◌, cond, Option, None, Some, map, filter, filter_map, flat_map, refl, sym, ap, subst, inl, inr, true≢false, append-nil}
+use Rattle.std.specs.List.{cons_option}
+use Rattle.std.specs.Cmp.{IsTotalOrder}
+use Rattle.std.specs.declared.cmp.Ordering.{Ordering}
+use Rattle.std.specs.declared.cmp.Ordering.TheVariants.{Less}
+use Rattle.std.proofs.lemmas.Bool.{cases_Bool}
+use Rattle.std.proofs.lemmas.Slice.Eq.{bytes_eq-Decides}
+use Rattle.rdf_terms.specs.declared.terms.Term.{Term}
+use Rattle.rdf_terms.specs.declared.terms.Term.TheVariants as terms
+use Rattle.rdf_terms.specs.declared.terms.Triple.{Triple}
+use Rattle.rdf_terms.specs.Order.{triple_cmp}
+use Rattle.rdf_terms.specs.OrderLaws.{triple_total}
+use Rattle.tree_clock.specs.Lists.{Has, IsAscending}
+use Rattle.mld_ops.proofs.AscendingLaws.{below_member, not_below_itself}
+use Rattle.graph_index.specs.Matching.{has_iri, is_term}
+use Rattle.jrql_ast.specs.declared.patterns.PatternTriple.{PatternTriple}
+use Rattle.jrql_ast.specs.FilterMeaning.{side_value}
+use Rattle.jrql_ast.specs.Solutions.{is_same_term, agree, matches_from}
+use Rattle.jrql_eval.specs.Evaluating.{has_parts, iri_known, instance_of, triple_at, iri_of_term}
+use Rattle.jrql_ast.proofs.BoundSlots.{same_refl, none_some, some_is, agree_if_bound, agree_before_s, agree_before_p, agree_before_o}
+
+-- an option of which no value comes
+pub none_unless : {X : Type 0} (o : Option X) → ((x : X) → o ≡ Some x → ⊥) → o ≡ None
+none_unless None h = refl
+none_unless (Some x) h = absurd (h x refl)
+
+module _ {X Y : Type 0} (h : X → Option Y) where
+  pub nothing_found : (xs : List X) → ((x : X) → Has xs x → h x ≡ None) → filter_map h xs ≡ []
+  nothing_found [] none = refl
+  nothing_found (x ∷ xs) none = ap (λ o. cons_option o (filter_map h xs)) (none x (inl refl)) ∙ nothing_found xs (λ y g. none y (inr g))
+
+  -- those that fail a test that all pass of which something comes may be left out
+  pub found_filtered : (test : X → Bool) → ((x : X) (y : Y) → h x ≡ Some y → test x ≡ true) → (xs : List X) → filter_map h (filter test xs) ≡ filter_map h xs
+  found_filtered test passes [] = refl
+  found_filtered test passes (x ∷ xs) = elim (cases_Bool (test x)) [
+    | inl passed ↦ ap (λ b. filter_map h (cond b (x ∷ filter test xs) (filter test xs))) passed ∙ ap (cons_option (h x)) (found_filtered test passes xs)
+    | inr failed ↦ ap (λ b. filter_map h (cond b (x ∷ filter test xs) (filter test xs))) failed ∙ found_filtered test passes xs
+        ∙ sym (ap (λ o. cons_option o (filter_map h xs)) (none_unless (h x) (λ y e. true≢false (sym (passes x y e) ∙ failed))))
+  ]
+
+  -- one alone of which something comes
+  pub one_found : (R : X → X → Ordering) → IsTotalOrder R → (t : X) (y : Y) → h t ≡ Some y → ((x : X) → ((x ≡ t) → ⊥) → h x ≡ None)
+      → (xs : List X) → IsAscending R xs → Has xs t → filter_map h xs ≡ y ∷ []
+  one_found R total t y here others [] a g = absurd g
+  one_found R total t y here others (x ∷ xs) a (inl e) =
+      ap (λ o. cons_option o (filter_map h xs)) (ap h e ∙ here)
+      ∙ ap (λ l. y ∷ l) (nothing_found xs (λ z g. others z (λ same. not_below_itself R total z (subst (λ w. R w z ≡ Less) (e ∙ sym same) (below_member R x xs z a.0 g)))))
+  one_found R total t y here others (x ∷ xs) a (inr g) =
+      ap (λ o. cons_option o (filter_map h xs)) (others x (λ same. not_below_itself R total t (subst (λ w. R w t ≡ Less) same (below_member R x xs t a.0 g))))
+      ∙ one_found R total t y here others xs a.1 g
+
+-- an IRI that a term is
+iri_is : (a b : List ℕ) → terms.Iri a ≡ terms.Iri b → a ≡ b
+iri_is a b e = ap iri_in e
+  where
+    iri_in : Term → List ℕ
+    iri_in (terms.Iri iri) = iri
+    iri_in (terms.Literal literal) = a
+
+-- what is known of a pattern's places
+module _ (pattern : PatternTriple) (row : List (Option Term)) where
+  has_known_iri : (known : Option Term) (given : Option (List ℕ)) (iri : List ℕ) → iri_known known ≡ Some given → ((x : Term) → known ≡ Some x → x ≡ terms.Iri iri) → has_iri given iri ≡ true
+  has_known_iri None given iri e h = subst (λ g. has_iri g iri ≡ true) (some_is None given e) refl
+  has_known_iri (Some (terms.Iri own)) given iri e h =
+      subst (λ g. has_iri g iri ≡ true) (some_is (Some own) given e) ((bytes_eq-Decides own iri).1 (iri_is own iri (h (terms.Iri own) refl)))
+  has_known_iri (Some (terms.Literal literal)) given iri e h = none_some e
+
+  has_known_term : (known : Option Term) (term : Term) → ((x : Term) → known ≡ Some x → x ≡ term) → is_term known term ≡ true
+  has_known_term None term h = refl
+  has_known_term (Some x) term h = subst (λ t. is_same_term x t ≡ true) (h x refl) (same_refl x)
+
+  -- a triple that agrees has the parts that are known
+  pub has_parts_known : (s p : Option (List ℕ)) → iri_known (side_value pattern.s row) ≡ Some s → iri_known (side_value pattern.p row) ≡ Some p
+      → (triple : Triple) (next : List (Option Term)) → agree pattern triple row ≡ Some next → has_parts s p (side_value pattern.o row) triple ≡ true
+  has_parts_known s p es ep triple next h =
+      all_three _ _ _ (has_known_iri (side_value pattern.s row) s triple.s es (agree_before_s pattern triple row next h))
+      (has_known_iri (side_value pattern.p row) p triple.p ep (agree_before_p pattern triple row next h))
+      (has_known_term (side_value pattern.o row) triple.o (agree_before_o pattern triple row next h))
+    where
+      all_three : (a b c : Bool) → a ≡ true → b ≡ true → c ≡ true → (a && (b && c)) ≡ true
+      all_three a b c e f g = rw (e, f, g) refl
+
+  -- and where a literal would be a subject or a predicate, none does
+  literal_no_iri : (known : Option Term) (iri : List ℕ) → iri_known known ≡ None → ((x : Term) → known ≡ Some x → x ≡ terms.Iri iri) → ⊥
+  literal_no_iri None iri e h = none_some (sym e)
+  literal_no_iri (Some (terms.Iri own)) iri e h = none_some (sym e)
+  literal_no_iri (Some (terms.Literal literal)) iri e h = let g : terms.Literal literal ≡ terms.Iri iri = h (terms.Literal literal) refl in cc
+
+  pub no_subject : iri_known (side_value pattern.s row) ≡ None → (triple : Triple) → agree pattern triple row ≡ None
+  no_subject e triple = none_unless _ (λ next h. literal_no_iri (side_value pattern.s row) triple.s e (agree_before_s pattern triple row next h))
+
+  pub no_predicate : iri_known (side_value pattern.p row) ≡ None → (triple : Triple) → agree pattern triple row ≡ None
+  no_predicate e triple = none_unless _ (λ next h. literal_no_iri (side_value pattern.p row) triple.p e (agree_before_p pattern triple row next h))
+
+  found_at : (s p o : Term) → side_value pattern.s row ≡ Some s → side_value pattern.p row ≡ Some p → side_value pattern.o row ≡ Some o
+      → (triple : Triple) → triple_at (iri_of_term (Some s)) (iri_of_term (Some p)) (Some o) ≡ Some triple → agree pattern triple row ≡ Some row
+  found_at (terms.Iri s) (terms.Iri p) o es ep eo triple e =
+      let t = some_is (record { s = s; p = p; o = o }) triple e in
+      subst (λ (u : Triple). agree pattern u row ≡ Some row) t
+      (agree_if_bound pattern (terms.Iri s) (terms.Iri p) o (record { s = s; p = p; o = o }) row es ep eo
+      ∙ rw (same_refl (terms.Iri s), same_refl (terms.Iri p), same_refl o) refl)
+  found_at (terms.Iri s) (terms.Literal l) o es ep eo triple e = none_some e
+  found_at (terms.Literal l) p o es ep eo triple e = none_some e
+
+  -- no other triple agrees
+  no_other : (s p o : Term) → side_value pattern.s row ≡ Some s → side_value pattern.p row ≡ Some p → side_value pattern.o row ≡ Some o
+      → (triple : Triple) (next : List (Option Term)) → agree pattern triple row ≡ Some next → triple_at (iri_of_term (Some s)) (iri_of_term (Some p)) (Some o) ≡ Some triple
+  no_other s p o es ep eo triple next h =
+      let a = agree_before_s pattern triple row next h s es in
+      let b = agree_before_p pattern triple row next h p ep in
+      let c = agree_before_o pattern triple row next h o eo in
+      λ i. triple_at (iri_of_term (Some (a i))) (iri_of_term (Some (b i))) (Some (c i))
+
+-- a pattern whose places are terms, in a graph
+module _ (graph : List Triple) (ascending : IsAscending triple_cmp graph) (pattern : PatternTriple) (row : List (Option Term))
+    (s p o : Term) (es : side_value pattern.s row ≡ Some s) (ep : side_value pattern.p row ≡ Some p) (eo : side_value pattern.o row ≡ Some o) where
+  instance_at : instance_of pattern row ≡ triple_at (iri_of_term (Some s)) (iri_of_term (Some p)) (Some o)
+  instance_at = λ i. triple_at (iri_of_term (es i)) (iri_of_term (ep i)) (eo i)
+
+  pub there : (triple : Triple) → instance_of pattern row ≡ Some triple → Has graph triple → filter_map (λ t. agree pattern t row) graph ≡ row ∷ []
+  there triple e h =
+      let e' = sym instance_at ∙ e in
+      one_found (λ t. agree pattern t row) triple_cmp triple_total triple row (found_at pattern row s p o es ep eo triple e')
+      (λ other apart. none_unless _ (λ next g. apart (some_is other triple (sym (no_other pattern row s p o es ep eo other next g) ∙ e'))))
+      graph ascending h
+
+  pub absent : (triple : Triple) → instance_of pattern row ≡ Some triple → (Has graph triple → ⊥) → filter_map (λ t. agree pattern t row) graph ≡ []
+  absent triple e h =
+      let e' = sym instance_at ∙ e in
+      nothing_found (λ t. agree pattern t row) graph
+      (λ other g. none_unless _ (λ next k. h (subst (Has graph) (some_is other triple (sym (no_other pattern row s p o es ep eo other next k) ∙ e')) g)))
+
+  pub no_triple : instance_of pattern row ≡ None → filter_map (λ t. agree pattern t row) graph ≡ []
+  no_triple e =
+      nothing_found (λ t. agree pattern t row) graph
+      (λ other g. none_unless _ (λ next k. none_some (sym e ∙ instance_at ∙ no_other pattern row s p o es ep eo other next k)))
+
+-- what matches a pattern that is a triple of the graph without changing the row, and others
+pub matches_kept : (graph : List Triple) (pattern : PatternTriple) (patterns : List PatternTriple) (row : List (Option Term))
+    → filter_map (λ t. agree pattern t row) graph ≡ row ∷ [] → matches_from graph (pattern ∷ patterns) row ≡ matches_from graph patterns row
+matches_kept graph pattern patterns row e = ap (flat_map (matches_from graph patterns)) e ∙ append-nil (matches_from graph patterns row)
+
+pub matches_lost : (graph : List Triple) (pattern : PatternTriple) (patterns : List PatternTriple) (row : List (Option Term))
+    → filter_map (λ t. agree pattern t row) graph ≡ [] → matches_from graph (pattern ∷ patterns) row ≡ []
+matches_lost graph pattern patterns row e = ap (flat_map (matches_from graph patterns)) e
+
+-- patterns one after another
+pub one_checked : (graph : List Triple) (patterns : List (Bor PatternTriple)) (i : ℕ) (pattern : Bor PatternTriple) (rest : List PatternTriple) (row : List (Option Term))
+    → i < length patterns → pattern ≡ get_or patterns i pattern → filter_map (λ t. agree pattern.now t row) graph ≡ row ∷ []
+    → matches_from graph (map (λ x. x.now) (drop i patterns) ++ rest) row ≡ matches_from graph (map (λ x. x.now) (drop (i + 1) patterns) ++ rest) row
+one_checked graph [] i pattern rest row l is e = absurd (omega (arith, l))
+one_checked graph (first ∷ patterns) zero pattern rest row l is e =
+    matches_kept graph first.now (map (λ x. x.now) patterns ++ rest) row (subst (λ (p : Bor PatternTriple). filter_map (λ t. agree p.now t row) graph ≡ row ∷ []) is e)
+one_checked graph (first ∷ patterns) (suc i) pattern rest row l is e =
+    let n : suc i + 1 ≡ suc (i + 1) = omega arith in rw n (one_checked graph patterns i pattern rest row (omega (arith, l)) is e)
+
+pub one_lost : (graph : List Triple) (patterns : List (Bor PatternTriple)) (i : ℕ) (pattern : Bor PatternTriple) (rest : List PatternTriple) (row : List (Option Term))
+    → i < length patterns → pattern ≡ get_or patterns i pattern → filter_map (λ t. agree pattern.now t row) graph ≡ []
+    → matches_from graph (map (λ x. x.now) (drop i patterns) ++ rest) row ≡ []
+one_lost graph [] i pattern rest row l is e = absurd (omega (arith, l))
+one_lost graph (first ∷ patterns) zero pattern rest row l is e =
+    matches_lost graph first.now (map (λ x. x.now) patterns ++ rest) row (subst (λ (p : Bor PatternTriple). filter_map (λ t. agree p.now t row) graph ≡ []) is e)
+one_lost graph (first ∷ patterns) (suc i) pattern rest row l is e = one_lost graph patterns i pattern rest row (omega (arith, l)) is e

@@ -1,0 +1,123 @@
+-- The triples of the pairs that match, put in order, are those of the present triples that match.
+use Rattle.std.proofs.Common.{◌≡◌, ◌∙◌, ℕ, zero, suc, ◌+◌, ◌↔◌, List, [], ◌∷◌, Bool, true, false, cond, Option, None, Some, if◌then◌else◌, true≢false, get_or, map, filter, filter_map, IsTrue, refl, sym, ap, subst, inl, inr, arith}
+use Rattle.std.specs.Cmp.{IsTotalOrder}
+use Rattle.std.specs.List.{dedup, dedup_from}
+use Rattle.std.specs.List.Sorted.{IsPermutation, IsSorted, IsSortedBy}
+use Rattle.std.specs.Ordering.{is_lt, eq_by_cmp}
+use Rattle.std.specs.declared.cmp.Ordering.{Ordering}
+use Rattle.std.proofs.lemmas.List.Sorted.{IsPermutation-map}
+use Rattle.std.proofs.lemmas.Map.Lookups.{CmpEqualImpliesEq}
+use Rattle.rdf_terms.specs.declared.terms.Term.{Term}
+use Rattle.rdf_terms.specs.declared.terms.Triple.{Triple}
+use Rattle.rdf_terms.specs.Order.{triple_cmp}
+use Rattle.rdf_terms.specs.OrderLaws.{triple_total, triple_exact}
+use Rattle.tree_clock.specs.Lists.{Has, IsAscending}
+use Rattle.mld_ops.specs.declared.tagged.Tagged.{Tagged}
+use Rattle.mld_ops.specs.InOrder.{IsPutInOrder}
+use Rattle.mld_ops.specs.Present.{present}
+use Rattle.mld_ops.specs.Tagged.{tagged_cmp}
+use Rattle.mld_ops.proofs.AscendingLaws.{has_filter, ascending_filter, same_ascending}
+use Rattle.mld_ops.proofs.Keeping.{sorted_in_order}
+use Rattle.mld_ops.proofs.PresentLaws.{has_present, present_ascends}
+use Rattle.graph_index.specs.Matching.{FindsEach, HasTriple, matches}
+use Rattle.jrql_ast.specs.declared.patterns.PatternTriple.{PatternTriple}
+use Rattle.jrql_ast.specs.Solutions.{agree}
+use Rattle.jrql_eval.specs.Evaluating.{IsBoundIn, has_parts, instance_of}
+use Rattle.jrql_eval.proofs.Scanned.{there, absent, no_triple}
+
+-- the members of a list of images
+pub has_image : {X Y : Type 0} (f : X → Y) (xs : List X) (x : X) → Has xs x → Has (map f xs) (f x)
+has_image f [] x h = absurd h
+has_image f (y ∷ xs) x (inl e) = inl (ap f e)
+has_image f (y ∷ xs) x (inr h) = inr (has_image f xs x h)
+
+pub image_has : {X Y : Type 0} (f : X → Y) (xs : List X) (y : Y) → Has (map f xs) y → (x : X) × Has xs x × (f x ≡ y)
+image_has f [] y h = absurd h
+image_has f (x ∷ xs) y (inl e) = (x, inl refl, e)
+image_has f (x ∷ xs) y (inr h) = let i = image_has f xs y h in (i.0, inr i.1, i.2)
+
+-- a list that is sorted by a part of each element, and then has each part once
+module _ {X Y : Type 0} (f : X → Y) (order : Y → Y → Ordering) where
+  rest_sorted : (x : X) (xs : List X) → IsSortedBy (λ a b. is_lt (order (f a) (f b))) (x ∷ xs) → IsSortedBy (λ a b. is_lt (order (f a) (f b))) xs
+  rest_sorted x xs h k d l g =
+      let e : suc k + 1 ≡ suc (k + 1) = omega arith in
+      subst (λ n. is_lt (order (f (get_or (x ∷ xs) n d)) (f (get_or xs k d))) ≡ false) e (h (suc k) d (omega arith) (omega (arith, g)))
+
+  pub view_sorted : (xs : List X) → IsSortedBy (λ a b. is_lt (order (f a) (f b))) xs → IsSorted order (map f xs)
+  view_sorted [] h k d l g = absurd (omega (arith, g))
+  view_sorted (x ∷ []) h k d l g = absurd (omega (arith, g))
+  view_sorted (x ∷ y ∷ xs) h zero d l g = h zero x (omega arith) (omega arith)
+  view_sorted (x ∷ y ∷ xs) h (suc k) d l g =
+      let e : suc k + 1 ≡ suc (k + 1) = omega arith in
+      rw e (view_sorted (y ∷ xs) (rest_sorted x (y ∷ xs) h) k d (omega arith) (omega (arith, g)))
+
+  view_from : (same : Y → Y → Bool) (k : X) (xs : List X) → map f (dedup_from (λ a b. same (f a) (f b)) k xs) ≡ dedup_from same (f k) (map f xs)
+  view_from same k [] = refl
+  view_from same k (x ∷ xs) = by (same (f x) (f k)) (view_from same k xs) (view_from same x xs)
+    where
+      by : (b : Bool) → map f (dedup_from (λ a b. same (f a) (f b)) k xs) ≡ dedup_from same (f k) (map f xs)
+          → map f (dedup_from (λ a b. same (f a) (f b)) x xs) ≡ dedup_from same (f x) (map f xs)
+          → map f (cond b (dedup_from (λ a b. same (f a) (f b)) k xs) (k ∷ dedup_from (λ a b. same (f a) (f b)) x xs))
+          ≡ cond b (dedup_from same (f k) (map f xs)) (f k ∷ dedup_from same (f x) (map f xs))
+      by true kept other = kept
+      by false kept other = ap (λ l. f k ∷ l) other
+
+  pub view_dedup : (same : Y → Y → Bool) (xs : List X) → map f (dedup (λ a b. same (f a) (f b)) xs) ≡ dedup same (map f xs)
+  view_dedup same [] = refl
+  view_dedup same (x ∷ xs) = view_from same x xs
+
+  -- so its parts are put in order
+  pub view_in_order : IsTotalOrder order → CmpEqualImpliesEq order → (given sorted kept : List X) → IsPermutation given sorted
+      → IsSortedBy (λ a b. is_lt (order (f a) (f b))) sorted → kept ≡ dedup (λ a b. eq_by_cmp order (f a) (f b)) sorted → IsPutInOrder order (map f given) (map f kept)
+  view_in_order total exact given sorted kept moved up once =
+      sorted_in_order order total exact (map f given) (map f sorted) (map f kept) (IsPermutation-map f given sorted moved) (view_sorted sorted up)
+      (ap (map f) once ∙ view_dedup (eq_by_cmp order) sorted)
+
+-- the triples of the pairs that match, in order, are the present ones that match
+module _ (pairs found : List Tagged) (s p : Option (List ℕ)) (o : Option Term) (ascending : IsAscending tagged_cmp pairs) (each : FindsEach (matches s p o) pairs found) where
+  of_found : (triple : Triple) → Has (map (λ (pair : Tagged). pair.triple) found) triple → Has (filter (has_parts s p o) (present pairs)) triple
+  of_found triple h =
+      let i = image_has (λ (pair : Tagged). pair.triple) found triple h in
+      let m = (each.members i.0).0 i.1 in
+      (has_filter (has_parts s p o) (present pairs) triple).1 (
+        (has_present pairs triple).1 (record { pair = i.0; stands = m.0; is = i.2 }),
+        subst (λ (t : Triple). has_parts s p o t ≡ true) i.2 m.1,
+      )
+
+  is_found : (triple : Triple) → Has (filter (has_parts s p o) (present pairs)) triple → Has (map (λ (pair : Tagged). pair.triple) found) triple
+  is_found triple h =
+      let f = (has_filter (has_parts s p o) (present pairs) triple).0 h in
+      let q = (has_present pairs triple).0 f.0 in
+      subst (Has (map (λ (pair : Tagged). pair.triple) found)) q.is
+      (has_image (λ (pair : Tagged). pair.triple) found q.pair
+      ((each.members q.pair).1 (q.stands, subst (λ (t : Triple). has_parts s p o t ≡ true) (sym q.is) f.1)))
+
+  pub scanned_is : (kept : List Triple) → IsPutInOrder triple_cmp (map (λ (pair : Tagged). pair.triple) found) kept → kept ≡ filter (has_parts s p o) (present pairs)
+  scanned_is kept put =
+      same_ascending triple_cmp triple_total triple_exact kept (filter (has_parts s p o) (present pairs)) put.ascending
+      (ascending_filter triple_cmp (has_parts s p o) (present pairs) (present_ascends pairs ascending))
+      (λ triple h. of_found triple ((put.members triple).0 h))
+      (λ triple h. (put.members triple).1 (is_found triple h))
+
+-- a triple that some pair has is present
+pub present_from_pair : (pairs : List Tagged) (triple : Triple) → HasTriple pairs triple → Has (present pairs) triple
+present_from_pair pairs triple h = (has_present pairs triple).1 (record { pair = record { triple = triple; dot = h.0 }; stands = h.1; is = refl })
+
+pub pair_from_present : (pairs : List Tagged) (triple : Triple) → Has (present pairs) triple → HasTriple pairs triple
+pair_from_present pairs triple h =
+    let q = (has_present pairs triple).0 h in
+    (q.pair.dot, subst (λ (t : Triple). Has pairs (record { triple = t; dot = q.pair.dot })) q.is q.stands)
+
+-- the pattern is a triple of the graph where the triple that it is has a pair
+pub checked_by : (pairs : List Tagged) (pattern : PatternTriple) (row : List (Option Term)) (b : Bool) (triple : Triple) → IsAscending tagged_cmp pairs → IsBoundIn row pattern
+    → instance_of pattern row ≡ Some triple → (IsTrue b ↔ HasTriple pairs triple)
+    → filter_map (λ t. agree pattern t row) (present pairs) ≡ (if b then row ∷ [] else [])
+checked_by pairs pattern row true triple a k e h =
+    there (present pairs) (present_ascends pairs a) pattern row k.s k.p k.o k.subject k.predicate k.object triple e (present_from_pair pairs triple (h.0 refl))
+checked_by pairs pattern row false triple a k e h =
+    absent (present pairs) (present_ascends pairs a) pattern row k.s k.p k.o k.subject k.predicate k.object triple e
+    (λ g. true≢false (sym (h.1 (pair_from_present pairs triple g))))
+
+pub unchecked : (pairs : List Tagged) (pattern : PatternTriple) (row : List (Option Term)) → IsAscending tagged_cmp pairs → IsBoundIn row pattern
+    → instance_of pattern row ≡ None → filter_map (λ t. agree pattern t row) (present pairs) ≡ []
+unchecked pairs pattern row a k e = no_triple (present pairs) (present_ascends pairs a) pattern row k.s k.p k.o k.subject k.predicate k.object e

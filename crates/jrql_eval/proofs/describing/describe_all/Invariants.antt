@@ -1,0 +1,7 @@
+use Rattle.std.proofs.Common.{◌≡◌, map, take, flat_map}
+use Rattle.mld_ops.specs.Present.{present}
+use Rattle.jrql_eval.specs.Asked.{described_where}
+use Rattle.jrql_eval.proofs.describing.describe_all.Given as goal
+
+abbrev pub invariant-loop-iri : goal.invariant-loop-iri
+invariant-loop-iri l = l.subjects.items ≡ flat_map (described_where (present l.graph.pairs)) (map (λ x. x.now) (take l.iri-index l.iris))

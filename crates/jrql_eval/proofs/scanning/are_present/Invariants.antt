@@ -1,0 +1,11 @@
+use Rattle.std.proofs.Common.{◌≡◌, ◌++◌, List, map, drop}
+use Rattle.mld_ops.specs.Present.{present}
+use Rattle.jrql_ast.specs.declared.patterns.PatternTriple.{PatternTriple}
+use Rattle.jrql_ast.specs.Solutions.{matches_from}
+use Rattle.jrql_eval.proofs.scanning.are_present.Given as goal
+
+-- what is behind has the matches of all
+abbrev pub invariant-loop-pattern : goal.invariant-loop-pattern
+invariant-loop-pattern l =
+    (rest : List PatternTriple) → matches_from (present l.graph.pairs) (map (λ x. x.now) l.patterns ++ rest) l.row
+    ≡ matches_from (present l.graph.pairs) (map (λ x. x.now) (drop l.pattern-index l.patterns) ++ rest) l.row

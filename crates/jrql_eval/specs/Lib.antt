@@ -1,0 +1,5 @@
+pub mod AddedRows
+pub mod Asked
+pub mod ColumnOrder
+pub mod Evaluating
+pub mod Planning

@@ -1,0 +1,157 @@
+//! Describes.
+ghost use Rattle.std.specs.Prelude.{◌≡◌, ◌<◌, ◌≤◌, ◌++◌, length, map, IfOk, OnOk, IsErrOf};
+ghost use Rattle.std.specs.List.{flat_map};
+ghost use Rattle.std.specs.Option.{option_copied, option_to_list};
+ghost use Rattle.mld_ops.specs.InOrder.{IsPutInOrder};
+ghost use Rattle.mld_ops.specs.Present.{present};
+ghost use Rattle.rdf_terms.specs.Order.{iri_cmp};
+ghost use Rattle.jrql_ast.specs.InForm.{IsQueryInForm};
+ghost use Rattle.jrql_ast.specs.QueryAnswers.{IsAnswer, found, solution_limit};
+ghost use Rattle.jrql_eval.specs.Asked.{AsksSubjects, IsDescribedBy, all_targeted, bound_iris, described_by, described_where};
+
+use crate::faults::EvalFault;
+use crate::rows::value_at;
+use crate::scanning::{iri_of, triples_with};
+use crate::solving::find_rows;
+use graph_index::Graph;
+use jrql_ast::{Answer, Described, Query, Row, Sequence, Target, What};
+use rdf_terms::{Iri, Triple, cmp_iris};
+use std::alloc::{AllocError, Global};
+
+// Adds an IRI, where there is one.
+fn add_iri<'a>(iris: &mut Vec<&'a Iri>, iri: Option<&'a Iri>) -> Result<(), AllocError>
+    ensures { OnOk result (map (λ x. x.now) iris.new.items
+        ≡ map (λ x. x.now) iris.old.items ++ option_to_list (option_copied iri.entry)) }
+{
+    if let Some(iri) = iri {
+        iris.push(iri)?;
+    }
+    Ok(())
+}
+
+// Adds the IRIs that rows have for a variable.
+fn add_bound<'a>(
+    iris: &mut Vec<&'a Iri>,
+    variable: usize,
+    rows: &'a [Row],
+) -> Result<(), AllocError>
+    ensures { OnOk result (map (λ x. x.now) iris.new.items ≡ map (λ x. x.now) iris.old.items ++ bound_iris variable rows.now) }
+{
+    for row in rows {
+        add_iri(iris, iri_of(value_at(variable, row.as_slice())))?;
+    }
+    Ok(())
+}
+
+// The IRIs that targets name or have in rows.
+fn targeted<'a>(
+    alloc: Global,
+    targets: &'a [Target],
+    rows: &'a [Row],
+) -> Result<Vec<&'a Iri>, AllocError>
+    ensures { IfOk result (λ iris. map (λ x. x.now) iris.items ≡ all_targeted rows.now targets.now) }
+{
+    let mut iris = Vec::new(alloc);
+    for target in targets {
+        match target {
+            Target::Iri(iri) => iris.push(iri)?,
+            Target::Var(variable) => add_bound(&mut iris, *variable as usize, rows)?,
+        }
+    }
+    Ok(iris)
+}
+
+// Puts IRIs in order, each once.
+fn put_iris(iris: &mut Vec<&Iri>)
+    ensures { IsPutInOrder iri_cmp (map (λ x. x.now) iris.old.items) (map (λ x. x.now) iris.new.items) }
+{
+    iris.sort_unstable_by(|iri, other| cmp_iris(*iri, *other));
+    iris.dedup_by(|iri, other| cmp_iris(*iri, *other).is_eq());
+}
+
+// Copies of triples.
+fn copy_triples(alloc: Global, triples: &[&Triple]) -> Result<Vec<Triple>, AllocError>
+    ensures { IfOk result (λ copies. copies.items ≡ map (λ x. x.now) triples.now) }
+{
+    let mut copies = Vec::new(alloc);
+    for triple in triples {
+        copies.push(triple.share()?)?;
+    }
+    Ok(copies)
+}
+
+// Adds an IRI with these triples, where there are any.
+fn add_subject(
+    alloc: Global,
+    iri: &Iri,
+    triples: &[&Triple],
+    subjects: &mut Vec<Described>,
+) -> Result<(), AllocError>
+    ensures { OnOk result (subjects.new.items ≡ subjects.old.items ++ described_by iri.now (map (λ x. x.now) triples.now)) }
+{
+    if triples.is_empty() {
+        return Ok(());
+    }
+    let id = iri.share()?;
+    let triples = Sequence::from_vec(copy_triples(alloc, triples)?);
+    subjects.push(Described { id, triples })?;
+    Ok(())
+}
+
+// Adds an IRI with its triples, where it is the subject of one.
+fn add_described(
+    alloc: Global,
+    graph: &Graph,
+    iri: &Iri,
+    subjects: &mut Vec<Described>,
+) -> Result<(), AllocError>
+    ensures { OnOk result (subjects.new.items ≡ subjects.old.items ++ described_where (present graph.now.pairs) iri.now) }
+{
+    let triples = triples_with(alloc, graph, Some(iri), None, None)?;
+    add_subject(alloc, iri, &triples, subjects)
+}
+
+// The IRIs that are subjects, each with its triples.
+fn describe_all(alloc: Global, graph: &Graph, iris: &[&Iri]) -> Result<Vec<Described>, AllocError>
+    ensures { IfOk result (λ subjects. subjects.items
+        ≡ flat_map (described_where (present graph.now.pairs)) (map (λ x. x.now) iris.now)) }
+{
+    let mut subjects = Vec::new(alloc);
+    for iri in iris {
+        add_described(alloc, graph, iri, &mut subjects)?;
+    }
+    Ok(subjects)
+}
+
+// The subjects that targets name or have in rows, each with its triples.
+fn describe_targets(
+    alloc: Global,
+    graph: &Graph,
+    targets: &[Target],
+    rows: &[Row],
+) -> Result<Vec<Described>, AllocError>
+    ensures { IfOk result (λ subjects. IsDescribedBy (present graph.now.pairs) rows.now targets.now subjects.items) }
+{
+    let mut iris = targeted(alloc, targets, rows)?;
+    put_iris(&mut iris);
+    graph.ascends();
+    describe_all(alloc, graph, &iris)
+}
+
+/// The answer to a describe: the IRIs that it names, or has in a solution of its group for a variable that it names, and that are the
+/// subject of a triple, ascending, each once with its triples (SPARQL 1.1 Query Language, section 16.4). It is refused with `TooMany`
+/// where the group has more than 1,048,576 solutions.
+pub fn describe(alloc: Global, graph: &Graph, query: &Query) -> Result<Answer, EvalFault>
+    requires form { IsQueryInForm query.now }
+    requires kind { AsksSubjects query.now.what }
+    ensures answer { IfOk result (IsAnswer (present graph.now.pairs) query.now) }
+    ensures few { IfOk result (λ answer. length (found (present graph.now.pairs) query.now.group) ≤ solution_limit) }
+    ensures too_many { IsErrOf result EvalFault.TooMany → solution_limit < length (found (present graph.now.pairs) query.now.group) }
+{
+    let What::Describe(targets) = &query.what else {
+        unreachable!()
+    };
+    let rows = find_rows(alloc, graph, &query.group)?;
+    let subjects = describe_targets(alloc, graph, targets.as_slice(), &rows)?;
+    Ok(Answer::Subjects(Sequence::from_vec(subjects)))
+}
