@@ -1,0 +1,3 @@
+pub mod WholeValues
+pub mod AnswerTexts
+pub mod OneText
