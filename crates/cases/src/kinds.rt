@@ -3,8 +3,8 @@
 use crate::held::Held;
 use crate::lines::Line;
 use crate::{
-    comparisons, contexts, expanding, forms, orders, parts, references, shorts, subjects, tags,
-    triples, types, written,
+    comparisons, contexts, expanding, forms, objects, orders, parts, queries, references, shorts,
+    subjects, tags, triples, types, written,
 };
 use std::alloc::{AllocError, Global};
 
@@ -33,8 +33,13 @@ pub fn given_by(
         "first" => parts::first_given_by(alloc, held, input),
         "then" => parts::then_given_by(alloc, held, input),
         "names" => parts::names_given_by(alloc, held, input),
+        "mark" => parts::mark_given_by(alloc, held, input),
+        "since" => parts::since_given_by(alloc, held, input),
+        "numbered" => subjects::numbered_given_by(alloc, held, input),
+        "object" => objects::given_by(alloc, held, input),
         "written" => written::written_given_by(alloc, held, input),
         "again" => written::again_given_by(alloc, held, input),
+        "query" => queries::given_by(alloc, input),
         _ => Ok(None),
     }
 }

@@ -1,4 +1,5 @@
 //! Triples with variables as lines: IRIs, literals, variables and subjects without an id.
+use iri_rules::Text;
 use jrql_ast::{PatternTriple, Slot, VARIABLE_LIMIT};
 use jsonld_values::Names;
 use rdf_terms::{Literal, Term};
@@ -13,6 +14,8 @@ const XSD_STRING: &str = "http://www.w3.org/2001/XMLSchema#string";
 pub enum Variables<'a> {
     /// Each by its name; one that has none by its number among those that have none.
     Named(&'a Names),
+    /// Each by its name, the one of its number among these; one that has none by its number behind them.
+    OfGroup(&'a [Text]),
     /// Each by its number.
     Numbered,
 }
@@ -47,7 +50,11 @@ fn line_of(
 }
 
 /// Puts what stands in a place at the end of a line.
-fn put_slot(line: &mut String, slot: &Slot, variables: &Variables<'_>) -> Result<(), AllocError> {
+pub fn put_slot(
+    line: &mut String,
+    slot: &Slot,
+    variables: &Variables<'_>,
+) -> Result<(), AllocError> {
     match slot {
         Slot::Term(Term::Iri(iri)) => put_iri(line, iri.as_str()),
         Slot::Term(Term::Literal(literal)) => put_literal(line, literal),
@@ -91,6 +98,7 @@ fn put_variable(
 ) -> Result<(), AllocError> {
     match variables {
         Variables::Named(names) => put_named(line, number, names),
+        Variables::OfGroup(names) => put_of_group(line, number, names),
         Variables::Numbered => write!(line, "?{number}"),
     }
 }
@@ -103,6 +111,17 @@ fn put_named(line: &mut String, number: usize, names: &Names) -> Result<(), Allo
             Ok(())
         }
         None => put_nameless(line, number.saturating_sub(VARIABLE_LIMIT) as u64),
+    }
+}
+
+/// Puts the name of a variable of a group, or its number behind those that have names.
+fn put_of_group(line: &mut String, number: usize, names: &[Text]) -> Result<(), AllocError> {
+    match names.get(number) {
+        Some(name) => {
+            line.push_str(name.as_str())?;
+            Ok(())
+        }
+        None => put_nameless(line, number.saturating_sub(names.len()) as u64),
     }
 }
 

@@ -1,5 +1,6 @@
 //! `pattern JSON` and `insert JSON`: the triples of the subjects that a JSON text says there, each with a dot behind it, in the order of
-//! their bytes; `nothing` where there are none, or a fault. With `count` before them, the number of triples alone.
+//! their bytes; `nothing` where there are none, or a fault. With `count` before them, the number of triples alone; with `numbered`, the
+//! triples with their variables numbered, the hidden ones behind the named ones.
 use crate::faults::fault_text;
 use crate::held::Held;
 use crate::lines::cut_word;
@@ -7,7 +8,7 @@ use crate::slots::{Variables, lines_of};
 use jrql_ast::PatternTriple;
 use jsonld_context::JsonFault;
 use jsonld_subjects::{Place, read_subjects};
-use jsonld_values::Names;
+use jsonld_values::{Names, number_triples};
 use serde_json::Value;
 use std::alloc::{AllocError, Global};
 
@@ -15,7 +16,7 @@ use std::alloc::{AllocError, Global};
 pub type Outcome = Result<Vec<PatternTriple>, JsonFault>;
 
 /// Where a word says that subjects stand.
-fn place_of(word: &str) -> Option<Place> {
+pub fn place_of(word: &str) -> Option<Place> {
     match word {
         "pattern" => Some(Place::Pattern),
         "insert" => Some(Place::Insert),
@@ -49,6 +50,23 @@ pub fn count_given_by(
         Some(outcome) => Ok(Some(counted(alloc, &outcome)?)),
         None => Ok(None),
     }
+}
+
+/// What a `numbered` line gives: the triples with each variable by its number once the text was read whole.
+pub fn numbered_given_by(
+    alloc: Global,
+    held: &Held,
+    input: &str,
+) -> Result<Option<String>, AllocError> {
+    let (word, json) = cut_word(input);
+    let mut names = Names::empty(alloc);
+    let Some(mut outcome) = read(alloc, held, word, json, &mut names) else {
+        return Ok(None);
+    };
+    if let Ok(triples) = &mut outcome {
+        number_triples(triples.as_mut_slice(), names.named());
+    }
+    Ok(Some(told(alloc, &outcome, &Variables::Numbered)?))
 }
 
 /// What a text says there, beside the names that were met before; `None` where no context is held, or the line can't be read.
@@ -88,7 +106,7 @@ fn counted(alloc: Global, outcome: &Outcome) -> Result<String, AllocError> {
 }
 
 /// The triples as a text.
-fn triples_text(
+pub fn triples_text(
     alloc: Global,
     triples: &[PatternTriple],
     variables: &Variables<'_>,
