@@ -24,6 +24,10 @@ pub data Reply : Type 0 where
   AlreadyKnown : Reply
   -- these are the pairs of the clone
   Shows : List Tagged → Reply
+  -- this is the answer to a query, as a line of JSON without its LF
+  Tells : List ℕ → Reply
+  -- the query has more solutions than it may have
+  TooMany : Reply
   -- how the dots of two clones compare
   Same : Reply
   Less : Reply

@@ -13,7 +13,7 @@ use Rattle.mld_ops.specs.History.{Operation, dot_at}
 use Rattle.mld_ops.specs.Meaning.{IsMeaning}
 use Rattle.mld_ops.specs.Effect.{range_of}
 use Rattle.mld_ops.proofs.OperationLaws.{range_of_has}
-use Rattle.schedule_model.specs.declared.Command.TheVariants.{Add, Remove, Deliver, Show, Compare, Join, Ask, Compact, Truncate, Stop, Open}
+use Rattle.schedule_model.specs.declared.Command.TheVariants.{Add, Remove, Deliver, Show, Query, Compare, Join, Ask, Compact, Truncate, Stop, Open}
 use Rattle.mld_ops.specs.Effects.{EffectValue, DeletesAll, operation_of}
 use Rattle.mld_model.specs.Clone.{Clone, Absent, Asking, Down, Live, Stored, kept_of, known_of, with_range, merged_with, truncated_to}
 use Rattle.mld_model.specs.World.{World, Message, RangeOf, Want, SnapshotOf, JoinAsk, JoinGive, message_at, clone_at, with_clone}
@@ -28,7 +28,9 @@ use Rattle.mld_model.proofs.StoredLaws.{kept_then}
 use Rattle.mld_model.proofs.CompactedJournals.{known_compacted}
 use Rattle.mld_model.proofs.ReleaseLaws.{releases_known}
 use Rattle.mld_model.proofs.KnownLaws.{known_with-old, known_with-new}
-use Rattle.schedule_model.proofs.StepSoundLaws.{lists_same, weighs_same}
+use Rattle.schedule_model.proofs.StepSoundLaws.{lists_same, queries_same, weighs_same}
+use Rattle.jrql_patterns.specs.declared.queries.ReadQuery.{ReadQuery}
+use Rattle.schedule_model.specs.Querying.{Queries}
 use Rattle.schedule_model.specs.Answers.{Remembers, RemembersUpdate}
 use Rattle.schedule_model.specs.Laws.{AddRemembers, RemoveRemembers, DidRemembers, StepRemembers, AnswersSurvive}
 
@@ -175,6 +177,11 @@ module _ (world next : World) (dot : Dot) (message : ℕ) where
   lists_tell_none clone =
       if_live ⊥ world clone (Did dot message) next _ (λ answer state. state_tells_none answer state) (λ stored held live p. cc (p.2.0))
 
+  -- a `query`
+  queries_tell_none : (read : ReadQuery) (clone : Clone) → ¬ Queries world read clone (Did dot message) next
+  queries_tell_none read clone =
+      if_live ⊥ world clone (Did dot message) next _ (λ answer state. state_tells_none answer state) (λ stored held live p. p.2)
+
   -- a `join`
   joins_tell_none : (number : ℕ) (clone : Clone) → ¬ Joins world number clone (Did dot message) next
   joins_tell_none number clone =
@@ -238,6 +245,7 @@ did_remembers world (Remove number triple) dot message next p =
     record { operation = made.0; is = ap (λ (o : Operation). o.dot) made.1.is; made = made.2; remembers = made.3 }
 did_remembers world (Deliver sent number) dot message next p = absurd (delivers_tell_none world next dot message number (message_at world sent) p)
 did_remembers world (Show number) dot message next p = absurd (lists_tell_none world next dot message (clone_at world number) p)
+did_remembers world (Query number read) dot message next p = absurd (queries_tell_none world next dot message read (clone_at world number) p)
 did_remembers world (Join number) dot message next p = absurd (joins_tell_none world next dot message number (clone_at world number) p)
 did_remembers world (Ask number) dot message next p = absurd (wants_tell_none world next dot message (clone_at world number) p)
 did_remembers world (Compact number) dot message next p = absurd (compacts_tell_none world next dot message number (clone_at world number) p)
@@ -472,6 +480,8 @@ step_remembers world number operation (Deliver message taker) reply next remembe
     delivers_keep world next number operation remembers taker (message_at world message) reply p
 step_remembers world number operation (Show shower) reply next remembers p =
     same_remembers world next number operation remembers (lists_same world (clone_at world shower) reply next p)
+step_remembers world number operation (Query answerer read) reply next remembers p =
+    same_remembers world next number operation remembers (queries_same world read (clone_at world answerer) reply next p)
 step_remembers world number operation (Join asker) reply next remembers p =
     joins_keep world next number operation remembers asker (clone_at world asker) reply refl p
 step_remembers world number operation (Ask asker) reply next remembers p =

@@ -10,7 +10,7 @@ use Rattle.mld_ops.specs.declared.tagged.Tagged.{Tagged}
 use Rattle.mld_ops.specs.History.{Operation, IsInserted, IsNext, dot_at}
 use Rattle.mld_ops.specs.Meaning.{IsMeaning}
 use Rattle.schedule_model.specs.declared.Command.{Command}
-use Rattle.schedule_model.specs.declared.Command.TheVariants.{Add, Remove, Deliver, Show, Compare, Join, Ask, Compact, Truncate, Stop, Open}
+use Rattle.schedule_model.specs.declared.Command.TheVariants.{Add, Remove, Deliver, Show, Query, Compare, Join, Ask, Compact, Truncate, Stop, Open}
 use Rattle.mld_ops.specs.Effects.{EffectValue, DeletesAll, operation_of}
 use Rattle.mld_model.specs.Clone.{Clone, Absent, Asking, Down, Live, Stored, known_of, truncated_to}
 use Rattle.mld_model.specs.World.{World, Message, RangeOf, Want, SnapshotOf, JoinAsk, JoinGive, message_at, clone_at, with_clone}
@@ -24,7 +24,7 @@ use Rattle.mld_model.proofs.StateLaws.{by_state, if_live, if_opens}
 use Rattle.mld_model.proofs.SoundLaws.{made_is_next, live_sound}
 use Rattle.mld_model.proofs.StoredLaws.{stored_still_stands}
 use Rattle.schedule_model.specs.Step.{Step, number_of_clone}
-use Rattle.schedule_model.proofs.StepSoundLaws.{lists_same, weighs_same}
+use Rattle.schedule_model.proofs.StepSoundLaws.{lists_same, queries_same, weighs_same}
 
 -- a history after a step: it is the same, or an operation has joined it that may come next
 pub data Grows (history after : List Operation) : Type 0 where
@@ -205,6 +205,7 @@ step_changes world (Add number triple) reply next p = updates_by_change world ne
 step_changes world (Remove number triple) reply next p = updates_by_change world next number (DeletesAll triple) (removes_present triple) (clone_at world number) reply refl p
 step_changes world (Deliver message number) reply next p = delivers_change world next number (message_at world message) reply p
 step_changes world (Show number) reply next p = same_changes world next number (lists_same world (clone_at world number) reply next p)
+step_changes world (Query number read) reply next p = same_changes world next number (queries_same world read (clone_at world number) reply next p)
 step_changes world (Join number) reply next p = joins_change world next number (clone_at world number) reply p
 step_changes world (Ask number) reply next p = wants_change world next number (clone_at world number) reply p
 step_changes world (Compact number) reply next p = compacts_change world next number (clone_at world number) reply p

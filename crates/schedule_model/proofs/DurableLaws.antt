@@ -7,7 +7,7 @@ use Rattle.tree_clock.specs.declared.dots.Range.{Range}
 use Rattle.mld_ops.specs.declared.tagged.Tagged.{Tagged}
 use Rattle.mld_ops.specs.History.{Operation, dot_at}
 use Rattle.schedule_model.specs.declared.Command.{Command}
-use Rattle.schedule_model.specs.declared.Command.TheVariants.{Add, Remove, Deliver, Show, Compare, Join, Ask, Compact, Truncate, Stop, Open}
+use Rattle.schedule_model.specs.declared.Command.TheVariants.{Add, Remove, Deliver, Show, Query, Compare, Join, Ask, Compact, Truncate, Stop, Open}
 use Rattle.mld_ops.specs.Effects.{EffectValue, DeletesAll, operation_of}
 use Rattle.mld_model.specs.Clone.{Clone, Absent, Asking, Empty, Down, Live, Stored, known_of, with_range, merged_with, truncated_to, Releases, kept_of}
 use Rattle.mld_model.specs.World.{World, Message, RangeOf, Want, SnapshotOf, JoinAsk, JoinGive, message_at, clone_count, clone_at, with_clone}
@@ -16,7 +16,7 @@ use Rattle.mld_model.specs.CloneStep.{Answers, Makes, Updates, changes_nothing, 
 use Rattle.mld_model.proofs.StateLaws.{by_state, IsState, is_absent, is_asking, is_down, if_live, if_opens}
 use Rattle.op_fusion.specs.Compacting.{AreCompacted}
 use Rattle.mld_model.proofs.CompactedJournals.{compacted_shrinks}
-use Rattle.schedule_model.proofs.StepSoundLaws.{lists_same, weighs_same}
+use Rattle.schedule_model.proofs.StepSoundLaws.{lists_same, queries_same, weighs_same}
 use Rattle.mld_model.specs.Durable.{DurableStep, AppendsMade, AppendsTaken, Swaps, kept_after, history_after}
 use Rattle.schedule_model.specs.Step.{Step, number_of_clone}
 use Rattle.schedule_model.specs.DurableSteps.{SwapsDurably, keeps_the_same, swaps_it, MakesDurably, taking_steps, giving_steps, joining_steps, merging_steps, message_steps, DurableSteps, LeadsDurably, DurableStepsLead, OneDurableList}
@@ -414,6 +414,8 @@ durable_steps_lead world (Deliver message number) reply next small count p =
     leads_durably world (Deliver message number) reply next given.0 given.1 given.2
 durable_steps_lead world (Show number) reply next small count p =
     leads_durably world (Show number) reply next [] refl (same_leads world next number (lists_same world (clone_at world number) reply next p))
+durable_steps_lead world (Query number read) reply next small count p =
+    leads_durably world (Query number read) reply next [] refl (same_leads world next number (queries_same world read (clone_at world number) reply next p))
 durable_steps_lead world (Join number) reply next small count p =
     leads_durably world (Join number) reply next [] refl (joins_lead world next number (clone_at world number) reply (place_of world number small count) refl p)
 durable_steps_lead world (Ask number) reply next small count p =
@@ -464,6 +466,7 @@ one_durable_list world (Add number triple) reply next steps other p q = makes_on
 one_durable_list world (Remove number triple) reply next steps other p q = makes_once world reply next steps other p q
 one_durable_list world (Deliver message number) reply next steps other p q = delivers_once (clone_at world number) (message_at world message) reply steps other p q
 one_durable_list world (Show number) reply next steps other p q = p ∙ sym q
+one_durable_list world (Query number read) reply next steps other p q = p ∙ sym q
 one_durable_list world (Join number) reply next steps other p q = p ∙ sym q
 one_durable_list world (Ask number) reply next steps other p q = p ∙ sym q
 one_durable_list world (Compact number) reply next steps other p q = swaps_once world next number steps other p q

@@ -7,6 +7,7 @@ pub mod StopLaws
 pub mod AskLaws
 pub mod SnapshotLaws
 pub mod ScheduleLaws
+mod QueryLaws
 pub mod StepLaws
 pub mod RunsLaws
 pub mod StepSoundLaws

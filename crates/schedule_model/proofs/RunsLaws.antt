@@ -8,7 +8,7 @@ use Rattle.mld_model.specs.World.{World, founded}
 use Rattle.mld_model.specs.Reply.{Ready}
 use Rattle.schedule_model.specs.ReplyText.{reply_text}
 use Rattle.schedule_model.specs.Step.{Step}
-use Rattle.schedule_model.specs.Schedule.{Setup}
+use Rattle.schedule_model.specs.Schedule.{Setup, SpellsCommand}
 use Rattle.schedule_model.specs.Runs.{Stage, Waiting, SetUp, Running, IsFoundedBy, IsWorldOf, SetsUp, Commands, Acts, says_nothing, sets_up, commands, Runs, IsUnbuilt, IsBad, IsFirst, IsBadRest, bad_line, no_domain, Outcome, Finished, BadLine, UnbuiltLine, Verdict}
 use Rattle.schedule_model.specs.Laws.{OneAct, OneOutcome, OneRun, OneVerdict}
 use Rattle.schedule_model.proofs.ScheduleLaws.{one_kind, one_setup, one_command}
@@ -45,8 +45,9 @@ world_once (Running now) world other p q = p ∙ sym q
 commands_once : (stage : Stage) (line text other : List ℕ) (next after : Stage)
     → Commands stage line text next → Commands stage line other after → (text ≡ other) × (next ≡ after)
 commands_once stage line text other next after p q =
-    let command = one_command p.world.domain line p.command q.command p.spells q.spells in
     let world = world_once stage p.world q.world p.founds q.founds in
+    let spells = subst (λ (world : World). SpellsCommand world.domain line p.command) world p.spells in
+    let command = one_command q.world.domain line p.command q.command spells q.spells in
     let same = one_step q.world q.command p.reply q.reply p.after q.after
     (subst₂ (λ (world : World) (command : Command). Step world command p.reply p.after) world command p.steps) q.steps in
     (p.replies ∙ ap reply_text same.0 ∙ sym q.replies, p.changes ∙ ap Running same.1 ∙ sym q.changes)
@@ -70,8 +71,10 @@ acts_bad : (stage : Stage) (line text : List ℕ) (next : Stage) → Acts stage 
 acts_bad stage line text next (says_nothing h none is) bad = bad.0 h
 acts_bad stage line text next (sets_up p) bad = bad.2 p.setup p.spells
 acts_bad Waiting line text next (commands p) bad = absurd p.founds
-acts_bad (SetUp setup) line text next (commands p) bad = bad.2 p.command p.spells
-acts_bad (Running world) line text next (commands p) bad = bad.2 p.command p.spells
+acts_bad (SetUp setup) line text next (commands p) bad =
+    bad.2 p.command (subst (λ (world : World). SpellsCommand world.domain line p.command) p.founds.is p.spells)
+acts_bad (Running world) line text next (commands p) bad =
+    bad.2 p.command (subst (λ (world : World). SpellsCommand world.domain line p.command) p.founds p.spells)
 
 -- what acts is built
 acts_unbuilt : (stage : Stage) (line text : List ℕ) (next : Stage) → Acts stage line text next → ¬ IsUnbuilt line

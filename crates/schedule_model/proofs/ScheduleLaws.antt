@@ -1,5 +1,5 @@
 -- Each line of a schedule is of one kind, and is read in one way.
-use Rattle.std.specs.Prelude.{◌≡◌, ℕ, ◌^◌, ◌<◌, List, [], ◌∷◌, ◌++◌, ◌⊎◌, false, true, ◌&&◌, IsTrue, codes, nat_eq, nat_le, length}
+use Rattle.std.specs.Prelude.{◌≡◌, ℕ, ◌^◌, ◌<◌, List, [], ◌∷◌, ◌++◌, ◌⊎◌, false, true, ◌&&◌, IsTrue, Result, Ok, codes, nat_eq, nat_le, length}
 use Rattle.std.specs.List.{list_all}
 use Rattle.std.specs.Fmt.{decimal}
 use Rattle.std.proofs.Common.{refl, sym, ◌∙◌, subst, ap, arith, inl, inr, drop, one-add}
@@ -7,11 +7,14 @@ use Rattle.std.proofs.lemmas.Bool.{false≢true, and_parts}
 use Rattle.std.proofs.lemmas.Fmt.{decimal_injective}
 use Rattle.iri_rules.specs.Domain.{is_domain, is_domain_byte, domain_limit}
 use Rattle.rdf_terms.specs.Grammar.{SpellsTriple}
+use Rattle.jsonld_context.specs.declared.faults.JsonFault.{JsonFault}
+use Rattle.jrql_patterns.specs.QueryReading.{query_read}
+use Rattle.jrql_patterns.specs.declared.queries.ReadQuery.{ReadQuery}
 use Rattle.schedule_model.specs.Characters.{space, hash_mark}
 use Rattle.mld_model.specs.World.{clone_count}
 use Rattle.schedule_model.specs.declared.Command.{Command}
-use Rattle.schedule_model.specs.declared.Command.TheVariants.{Add, Remove, Deliver, Show, Compare, Join, Ask, Compact, Truncate, Stop, Open}
-use Rattle.schedule_model.specs.Schedule.{IsNothing, empty, comment, is_unbuilt, Setup, SpellsSetup, SpellsAnywhere}
+use Rattle.schedule_model.specs.declared.Command.TheVariants.{Add, Remove, Deliver, Show, Query, Compare, Join, Ask, Compact, Truncate, Stop, Open}
+use Rattle.schedule_model.specs.Schedule.{IsNothing, empty, comment, is_unbuilt, Setup, SpellsSetup, SpellsCommand}
 use Rattle.schedule_model.proofs.LackingLaws.{Lacks, Lacks-from_test, one_split, apart, no_space}
 use Rattle.rdf_terms.proofs.Complete.{one_spelled}
 use Rattle.schedule_model.specs.Step.{HasCloneNumbers}
@@ -31,12 +34,13 @@ nothing_apart h e other = elim (nothing_begins h) [
   | inr some ↦ apart some.1 e other
 ]
 
--- the first byte of a command: `a`, `r`, `d`, `s`, `j`, `o`, `c` or `t`
+-- the first byte of a command: `a`, `r`, `d`, `s`, `q`, `j`, `o`, `c` or `t`
 begins : Command → ℕ
 begins (Add number triple) = 97
 begins (Remove number triple) = 114
 begins (Deliver message number) = 100
 begins (Show number) = 115
+begins (Query number read) = 113
 begins (Join number) = 106
 begins (Ask number) = 97
 begins (Compact number) = 99
@@ -46,19 +50,20 @@ begins (Open number) = 111
 begins (Compare number other) = 99
 
 -- a command begins with that byte
-command_begins : (line : List ℕ) (command : Command) → SpellsAnywhere line command → (rest : List ℕ) × (line ≡ begins command ∷ rest)
+command_begins : (domain line : List ℕ) (command : Command) → SpellsCommand domain line command → (rest : List ℕ) × (line ≡ begins command ∷ rest)
 unfolding begins
-command_begins line (Add number triple) h = (_, h.1)
-command_begins line (Remove number triple) h = (_, h.1)
-command_begins line (Deliver message number) h = (_, h.0)
-command_begins line (Show number) h = (_, h.0)
-command_begins line (Join number) h = (_, h.0)
-command_begins line (Ask number) h = (_, h.0)
-command_begins line (Compact number) h = (_, h.0)
-command_begins line (Truncate number keep) h = (_, h.0)
-command_begins line (Stop number) h = (_, h.0)
-command_begins line (Open number) h = (_, h.0)
-command_begins line (Compare number other) h = (_, h.0)
+command_begins domain line (Add number triple) h = (_, h.1)
+command_begins domain line (Remove number triple) h = (_, h.1)
+command_begins domain line (Deliver message number) h = (_, h.0)
+command_begins domain line (Show number) h = (_, h.0)
+command_begins domain line (Query number read) h = (_, h.1)
+command_begins domain line (Join number) h = (_, h.0)
+command_begins domain line (Ask number) h = (_, h.0)
+command_begins domain line (Compact number) h = (_, h.0)
+command_begins domain line (Truncate number keep) h = (_, h.0)
+command_begins domain line (Stop number) h = (_, h.0)
+command_begins domain line (Open number) h = (_, h.0)
+command_begins domain line (Compare number other) h = (_, h.0)
 
 -- no command begins with `#`
 begins_apart : (command : Command) → nat_eq hash_mark (begins command) ≡ false
@@ -67,6 +72,7 @@ begins_apart (Add number triple) = refl
 begins_apart (Remove number triple) = refl
 begins_apart (Deliver message number) = refl
 begins_apart (Show number) = refl
+begins_apart (Query number read) = refl
 begins_apart (Join number) = refl
 begins_apart (Ask number) = refl
 begins_apart (Compact number) = refl
@@ -82,18 +88,19 @@ small : {number : ℕ} → number < clone_count → number < 2 ^ 64
 small h = omega arith
 
 -- the numbers of clones in a command that a line spells are those of clones that there are
-pub spells_numbers : (line : List ℕ) (command : Command) → SpellsAnywhere line command → HasCloneNumbers command
-spells_numbers line (Add number triple) h = h.2
-spells_numbers line (Remove number triple) h = h.2
-spells_numbers line (Deliver message number) h = h.2
-spells_numbers line (Show number) h = h.1
-spells_numbers line (Join number) h = h.1
-spells_numbers line (Ask number) h = h.1
-spells_numbers line (Compact number) h = h.1
-spells_numbers line (Truncate number keep) h = h.1
-spells_numbers line (Stop number) h = h.1
-spells_numbers line (Open number) h = h.1
-spells_numbers line (Compare number other) h = (h.1, h.2)
+pub spells_numbers : (domain line : List ℕ) (command : Command) → SpellsCommand domain line command → HasCloneNumbers command
+spells_numbers domain line (Add number triple) h = h.2
+spells_numbers domain line (Remove number triple) h = h.2
+spells_numbers domain line (Deliver message number) h = h.2
+spells_numbers domain line (Show number) h = h.1
+spells_numbers domain line (Query number read) h = h.2
+spells_numbers domain line (Join number) h = h.1
+spells_numbers domain line (Ask number) h = h.1
+spells_numbers domain line (Compact number) h = h.1
+spells_numbers domain line (Truncate number keep) h = h.1
+spells_numbers domain line (Stop number) h = h.1
+spells_numbers domain line (Open number) h = h.1
+spells_numbers domain line (Compare number other) h = (h.1, h.2)
 
 -- a number and what stands behind the space after it
 one_number : (m n : ℕ) (x y : List ℕ) → m < 2 ^ 64 → n < 2 ^ 64 → decimal m ++ space ∷ x ≡ decimal n ++ space ∷ y → (m ≡ n) × (x ≡ y)
@@ -122,45 +129,47 @@ unfolding is_unbuilt
 unbuilt_setup line setup u h = false≢true (subst (λ (l : List ℕ). is_unbuilt l ≡ true) h.whole u)
 
 -- nor a command
-unbuilt_command : (line : List ℕ) (command : Command) → IsTrue (is_unbuilt line) → ¬ SpellsAnywhere line command
+unbuilt_command : (domain line : List ℕ) (command : Command) → IsTrue (is_unbuilt line) → ¬ SpellsCommand domain line command
 unfolding is_unbuilt
-unbuilt_command line (Add number triple) u h = false≢true (subst (λ (l : List ℕ). is_unbuilt l ≡ true) h.1 u)
-unbuilt_command line (Remove number triple) u h = false≢true (subst (λ (l : List ℕ). is_unbuilt l ≡ true) h.1 u)
-unbuilt_command line (Deliver message number) u h = false≢true (subst (λ (l : List ℕ). is_unbuilt l ≡ true) h.0 u)
-unbuilt_command line (Show number) u h = false≢true (subst (λ (l : List ℕ). is_unbuilt l ≡ true) h.0 u)
-unbuilt_command line (Join number) u h = false≢true (subst (λ (l : List ℕ). is_unbuilt l ≡ true) h.0 u)
-unbuilt_command line (Ask number) u h = false≢true (subst (λ (l : List ℕ). is_unbuilt l ≡ true) h.0 u)
-unbuilt_command line (Compact number) u h = false≢true (subst (λ (l : List ℕ). is_unbuilt l ≡ true) h.0 u)
-unbuilt_command line (Truncate number keep) u h = false≢true (subst (λ (l : List ℕ). is_unbuilt l ≡ true) h.0 u)
-unbuilt_command line (Stop number) u h = false≢true (subst (λ (l : List ℕ). is_unbuilt l ≡ true) h.0 u)
-unbuilt_command line (Open number) u h = false≢true (subst (λ (l : List ℕ). is_unbuilt l ≡ true) h.0 u)
-unbuilt_command line (Compare number other) u h = false≢true (subst (λ (l : List ℕ). is_unbuilt l ≡ true) h.0 u)
+unbuilt_command domain line (Add number triple) u h = false≢true (subst (λ (l : List ℕ). is_unbuilt l ≡ true) h.1 u)
+unbuilt_command domain line (Remove number triple) u h = false≢true (subst (λ (l : List ℕ). is_unbuilt l ≡ true) h.1 u)
+unbuilt_command domain line (Deliver message number) u h = false≢true (subst (λ (l : List ℕ). is_unbuilt l ≡ true) h.0 u)
+unbuilt_command domain line (Show number) u h = false≢true (subst (λ (l : List ℕ). is_unbuilt l ≡ true) h.0 u)
+unbuilt_command domain line (Query number read) u h = false≢true (subst (λ (l : List ℕ). is_unbuilt l ≡ true) h.1 u)
+unbuilt_command domain line (Join number) u h = false≢true (subst (λ (l : List ℕ). is_unbuilt l ≡ true) h.0 u)
+unbuilt_command domain line (Ask number) u h = false≢true (subst (λ (l : List ℕ). is_unbuilt l ≡ true) h.0 u)
+unbuilt_command domain line (Compact number) u h = false≢true (subst (λ (l : List ℕ). is_unbuilt l ≡ true) h.0 u)
+unbuilt_command domain line (Truncate number keep) u h = false≢true (subst (λ (l : List ℕ). is_unbuilt l ≡ true) h.0 u)
+unbuilt_command domain line (Stop number) u h = false≢true (subst (λ (l : List ℕ). is_unbuilt l ≡ true) h.0 u)
+unbuilt_command domain line (Open number) u h = false≢true (subst (λ (l : List ℕ). is_unbuilt l ≡ true) h.0 u)
+unbuilt_command domain line (Compare number other) u h = false≢true (subst (λ (l : List ℕ). is_unbuilt l ≡ true) h.0 u)
 
 -- ---- domain lines and commands
 
 -- no domain line is a command
-setup_command : (line : List ℕ) (setup : Setup) (command : Command) → SpellsSetup line setup → ¬ SpellsAnywhere line command
-setup_command line setup (Add number triple) p q = apart p.whole q.1 refl
-setup_command line setup (Remove number triple) p q = apart p.whole q.1 refl
-setup_command line setup (Deliver message number) p q = apart (ap (drop 1) p.whole) (ap (drop 1) q.0) refl
-setup_command line setup (Show number) p q = apart p.whole q.0 refl
-setup_command line setup (Join number) p q = apart p.whole q.0 refl
-setup_command line setup (Ask number) p q = apart p.whole q.0 refl
-setup_command line setup (Compact number) p q = apart p.whole q.0 refl
-setup_command line setup (Truncate number keep) p q = apart p.whole q.0 refl
-setup_command line setup (Stop number) p q = apart p.whole q.0 refl
-setup_command line setup (Open number) p q = apart p.whole q.0 refl
-setup_command line setup (Compare number other) p q = apart p.whole q.0 refl
+setup_command : (domain line : List ℕ) (setup : Setup) (command : Command) → SpellsSetup line setup → ¬ SpellsCommand domain line command
+setup_command domain line setup (Add number triple) p q = apart p.whole q.1 refl
+setup_command domain line setup (Remove number triple) p q = apart p.whole q.1 refl
+setup_command domain line setup (Deliver message number) p q = apart (ap (drop 1) p.whole) (ap (drop 1) q.0) refl
+setup_command domain line setup (Show number) p q = apart p.whole q.0 refl
+setup_command domain line setup (Query number read) p q = apart p.whole q.1 refl
+setup_command domain line setup (Join number) p q = apart p.whole q.0 refl
+setup_command domain line setup (Ask number) p q = apart p.whole q.0 refl
+setup_command domain line setup (Compact number) p q = apart p.whole q.0 refl
+setup_command domain line setup (Truncate number keep) p q = apart p.whole q.0 refl
+setup_command domain line setup (Stop number) p q = apart p.whole q.0 refl
+setup_command domain line setup (Open number) p q = apart p.whole q.0 refl
+setup_command domain line setup (Compare number other) p q = apart p.whole q.0 refl
 
 -- each line is of at most one kind
 pub one_kind : OneKind
 one_kind line = record {
   nothing_unbuilt = unbuilt_nothing line;
   nothing_setup = λ h setup spells. nothing_apart h spells.whole refl;
-  nothing_command = λ h domain command spells. let first = command_begins line command spells in nothing_apart h first.1 (begins_apart command);
+  nothing_command = λ h domain command spells. let first = command_begins domain line command spells in nothing_apart h first.1 (begins_apart command);
   unbuilt_setup = λ u setup. unbuilt_setup line setup u;
-  unbuilt_command = λ u domain command. unbuilt_command line command u;
-  setup_command = λ setup spells domain command. setup_command line setup command spells;
+  unbuilt_command = λ u domain command. unbuilt_command domain line command u;
+  setup_command = λ setup spells domain command. setup_command domain line setup command spells;
 }
 
 -- no name of a domain has a space
@@ -176,6 +185,10 @@ one_setup line setup other p q =
     let counts = decimal_injective setup.count other.count (omega (arith, p.most)) (omega (arith, q.most)) (ap (drop 7) parts.1) in
     let none : setup.properties ≡ other.properties = p.none ∙ sym q.none in
     λ i. record { domain = parts.0 i; properties = none i; count = counts i }
+
+-- a reading gives one query
+one_read : (read other : ReadQuery) → ◌≡◌ {A = Result ReadQuery JsonFault} (Ok read) (Ok other) → read ≡ other
+one_read read other same = cc
 
 -- a line spells one command
 pub one_command : OneCommand
@@ -194,6 +207,10 @@ one_command domain line (Deliver message number) (Deliver other second) p q =
     cc (parts.0, same)
 one_command domain line (Show number) (Show other) p q =
     ap Show (decimal_injective number other (small p.1) (small q.1) (ap (drop 5) (sym p.0 ∙ q.0)))
+one_command domain line (Query number read) (Query other second) p q =
+    let parts = one_number number other p.0 q.0 (small p.2) (small q.2) (ap (drop 6) (sym p.1 ∙ q.1)) in
+    let same : read ≡ second = one_read read second (sym p.3 ∙ ap (query_read domain) parts.1 ∙ q.3) in
+    cc (parts.0, same)
 one_command domain line (Join number) (Join other) p q =
     ap Join (decimal_injective number other (small p.1) (small q.1) (ap (drop 5) (sym p.0 ∙ q.0)))
 one_command domain line (Ask number) (Ask other) p q =
@@ -218,4 +235,4 @@ one_command domain line (Compare number with) (Compare other second) p q =
     let parts = one_number number other (decimal with) (decimal second) (small p.1) (small q.1) (ap (drop 8) (sym p.0 ∙ q.0)) in
     let same = decimal_injective with second (small p.2) (small q.2) parts.1 in
     cc (parts.0, same)
-one_command domain line command other p q = absurd (apart (command_begins line command p).1 (command_begins line other q).1 refl)
+one_command domain line command other p q = absurd (apart (command_begins domain line command p).1 (command_begins domain line other q).1 refl)

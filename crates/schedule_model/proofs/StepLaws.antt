@@ -7,17 +7,18 @@ use Rattle.tree_clock.specs.declared.dots.Range.{Range}
 use Rattle.mld_ops.specs.declared.tagged.Tagged.{Tagged}
 use Rattle.mld_ops.specs.History.{dot_at}
 use Rattle.mld_ops.proofs.MeaningLaws.{one_meaning}
-use Rattle.schedule_model.specs.declared.Command.TheVariants.{Add, Remove, Deliver, Show, Compare, Join, Ask, Compact, Truncate, Stop, Open}
+use Rattle.schedule_model.specs.declared.Command.TheVariants.{Add, Remove, Deliver, Show, Query, Compare, Join, Ask, Compact, Truncate, Stop, Open}
 use Rattle.mld_ops.proofs.PickingLaws.{drops_one}
 use Rattle.mld_ops.specs.Effects.{EffectValue, DeletesAll, operation_of}
 use Rattle.mld_model.specs.Clone.{Clone, Live, Stored, known_of, with_range, merged_with, IsKnown, AreKnownTo}
 use Rattle.mld_model.specs.World.{World, Message, RangeOf, Want, SnapshotOf, JoinAsk, JoinGive, message_at, clone_at, with_clone}
 use Rattle.mld_model.specs.Reply.{Reply, Did, Took, Merged, Shows, Answer, Kept, NoMessage}
 use Rattle.mld_model.proofs.ComparingLaws.{compares_once}
-use Rattle.mld_model.specs.CloneStep.{Answers, IsNextTick, after_operation, Makes, Updates, changes_nothing, makes_operation, UpdatesBy, AddsTriple, Accepts, HoldsBack, holds_already, holds_too_many, holds_from_now, TakesRange, knows_already, accepts, holds_back, Joins, TakesAsk, asked_itself, is_too_deep, forks, TakesLeaf, becomes_live, leaves_it, AskerTakes, LiveTakes, Takes, Stops, Lists, Compares, ComparesWith, Weighs, TakesWant, lacks_nothing, sends_ranges, sends_snapshot, Merges, TakesSnapshot, knows_all, merges, Wants, Compacts, Truncates}
+use Rattle.mld_model.specs.CloneStep.{Answers, IsNextTick, after_operation, Makes, Updates, changes_nothing, makes_operation, UpdatesBy, AddsTriple, Accepts, HoldsBack, holds_already, holds_too_many, holds_from_now, TakesRange, knows_already, accepts, holds_back, Joins, TakesAsk, asked_itself, is_too_deep, forks, TakesLeaf, becomes_live, leaves_it, AskerTakes, LiveTakes, Takes, Stops, Lists, ComparesWith, Weighs, TakesWant, lacks_nothing, sends_ranges, sends_snapshot, Merges, TakesSnapshot, knows_all, merges, Wants, Compacts, Truncates}
 use Rattle.mld_model.proofs.UpdateLaws.{HasOneEffect, adds_one, removes_one}
 use Rattle.mld_model.proofs.StateLaws.{by_one_state, AreSame, answers_once, once_if_live, opens_once}
 use Rattle.schedule_model.specs.Step.{Step}
+use Rattle.schedule_model.proofs.QueryLaws.{queries_once}
 use Rattle.mld_model.proofs.ReleaseLaws.{releases_once}
 use Rattle.mld_model.proofs.CompactedJournals.{compacted_once}
 use Rattle.schedule_model.specs.Laws.{OneStep}
@@ -241,6 +242,7 @@ one_step world (Remove number triple) reply other next after p q =
     updates_by_once world number reply other next after (DeletesAll triple) (removes_one triple) (clone_at world number) p q
 one_step world (Deliver message number) reply other next after p q = delivers_once world number reply other next after (message_at world message) p q
 one_step world (Show number) reply other next after p q = lists_once world (clone_at world number) reply other next after p q
+one_step world (Query number read) reply other next after p q = queries_once world read (clone_at world number) reply other next after p q
 one_step world (Join number) reply other next after p q = joins_once world number reply other next after (clone_at world number) p q
 one_step world (Ask number) reply other next after p q = asks_once world number reply other next after (clone_at world number) p q
 one_step world (Compact number) reply other next after p q = compacts_once world number reply other next after (clone_at world number) p q

@@ -6,13 +6,15 @@ use Rattle.tree_clock.specs.Lists.{Has}
 use Rattle.mld_ops.specs.declared.tagged.Tagged.{Tagged}
 use Rattle.mld_ops.specs.Meaning.{IsMeaning}
 use Rattle.mld_ops.proofs.MeaningLaws.{one_meaning, same_known}
-use Rattle.schedule_model.specs.declared.Command.TheVariants.{Add, Remove, Deliver, Show, Compare, Join, Ask, Compact, Truncate, Stop, Open}
+use Rattle.schedule_model.specs.declared.Command.TheVariants.{Add, Remove, Deliver, Show, Query, Compare, Join, Ask, Compact, Truncate, Stop, Open}
 use Rattle.mld_ops.specs.Effects.{EffectValue, DeletesAll}
 use Rattle.mld_model.specs.Clone.{Clone, Absent, Asking, Live, Stored, known_of, IsKnown}
 use Rattle.mld_model.specs.World.{World, Message, RangeOf, Want, SnapshotOf, JoinAsk, JoinGive, message_at, clone_count, clone_at}
 use Rattle.mld_model.specs.Reply.{Reply, NoMessage}
 use Rattle.mld_model.specs.CloneStep.{Answers, Updates, changes_nothing, makes_operation, UpdatesBy, AddsTriple, holds_already, holds_too_many, holds_from_now, TakesRange, knows_already, accepts, holds_back, Asks, Joins, TakesAsk, asked_itself, is_too_deep, forks, TakesLeaf, becomes_live, leaves_it, AskerTakes, LiveTakes, Takes, Stops, Reopens, Lists, ComparesWith, Weighs, TakesWant, lacks_nothing, sends_ranges, sends_snapshot, TakesSnapshot, knows_all, merges, Wants, Compacts, Truncates}
 use Rattle.mld_model.proofs.StateLaws.{by_state, if_live, if_opens}
+use Rattle.jrql_patterns.specs.declared.queries.ReadQuery.{ReadQuery}
+use Rattle.schedule_model.specs.Querying.{Queries}
 use Rattle.schedule_model.specs.Step.{Step}
 use Rattle.schedule_model.specs.Runs.{Stage, Waiting, SetUp, Running, IsWorldOf, Commands, Acts, says_nothing, sets_up, commands, Runs}
 use Rattle.mld_model.specs.Sound.{Keeps, IsSound}
@@ -176,6 +178,10 @@ module _ (world next : World) (reply : Reply) (sound : IsSound world) where
 pub lists_same : (world : World) (clone : Clone) (reply : Reply) (next : World) → Lists world clone reply next → next ≡ world
 lists_same world clone reply next = if_live (next ≡ world) world clone reply next _ (λ answer state p. p.1) (λ stored held live p. p.2.1)
 
+-- and so does a `query`
+pub queries_same : (world : World) (read : ReadQuery) (clone : Clone) (reply : Reply) (next : World) → Queries world read clone reply next → next ≡ world
+queries_same world read clone reply next = if_live (next ≡ world) world clone reply next _ (λ answer state p. p.1) (λ stored held live p. p.3)
+
 -- and so does a `compare` at a live clone
 compares_same : (world : World) (stored : Stored) (clone : Clone) (reply : Reply) (next : World) → ComparesWith world stored clone reply next → next ≡ world
 compares_same world stored clone reply next = if_live (next ≡ world) world clone reply next _ (λ answer state p. p.1) (λ other held live p. p.1)
@@ -194,6 +200,7 @@ step_sound world (Remove number triple) reply next small sound p =
     updates_by_sound world next reply sound number (DeletesAll triple) (removes_present triple) (clone_at world number) refl p
 step_sound world (Deliver message number) reply next small sound p = delivers_sound world next reply sound number (message_at world message) (place_of_message world message) p
 step_sound world (Show number) reply next small sound p = same_sound world next sound (lists_same world (clone_at world number) reply next p)
+step_sound world (Query number read) reply next small sound p = same_sound world next sound (queries_same world read (clone_at world number) reply next p)
 step_sound world (Join number) reply next small sound p = joins_sound world next reply sound number (clone_at world number) small refl p
 step_sound world (Ask number) reply next small sound p = wants_sound world next reply sound number (clone_at world number) refl p
 step_sound world (Compact number) reply next small sound p = compacts_sound world next reply sound number (clone_at world number) refl p
@@ -221,7 +228,7 @@ world_sound (Running now) world sound is = subst IsSound (sym is) sound
 commands_sound : (stage : Stage) (line text : List ℕ) (next : Stage) → IsSoundStage stage → Commands stage line text next → IsSoundStage next
 commands_sound stage line text next sound p =
     subst IsSoundStage (sym p.changes)
-    (step_sound p.world p.command p.reply p.after (spells_numbers line p.command p.spells) (world_sound stage p.world sound p.founds) p.steps)
+    (step_sound p.world p.command p.reply p.after (spells_numbers p.world.domain line p.command p.spells) (world_sound stage p.world sound p.founds) p.steps)
 
 -- and so does each line
 acts_sound : (stage : Stage) (line text : List ℕ) (next : Stage) → IsSoundStage stage → Acts stage line text next → IsSoundStage next

@@ -19,11 +19,14 @@ use Rattle.mld_ops.specs.History.{Operation, IsDone, dot_at}
 use Rattle.mld_ops.specs.Effects.{inserting, deleting, ArePairsOf}
 use Rattle.mld_ops.specs.Ready.{IsKnownEntry}
 use Rattle.schedule_model.specs.declared.Command.{Command}
-use Rattle.schedule_model.specs.declared.Command.TheVariants.{Add, Remove, Deliver, Show, Compare}
+use Rattle.schedule_model.specs.declared.Command.TheVariants.{Add, Remove, Deliver, Show, Query, Compare}
 use Rattle.mld_model.specs.declared.CloneState.TheVariants as states
 use Rattle.mld_model.specs.Clone.{Clone, Absent, Asking, Empty, Down, Live, Stored, known_of, AreKnownTo}
 use Rattle.mld_ops.specs.Held.{held_limit}
 use Rattle.mld_model.specs.World.{World, Message, message_at, clone_at, with_clone, founded, founded_clone, clone_count}
+use Rattle.mld_ops.specs.Present.{present}
+use Rattle.jrql_patterns.specs.declared.queries.ReadQuery.{ReadQuery}
+use Rattle.schedule_model.specs.Querying.{AnswersQuery}
 use Rattle.schedule_model.specs.Step.{Step}
 use Rattle.mld_model.specs.CloneStep.{Answers, IfLive, changes_nothing, Takes, Compares}
 use Rattle.mld_model.proofs.StateLaws.{live_does}
@@ -341,6 +344,27 @@ module _ (running : RunningWorld) (world : World) (stands : StandsFor running wo
   unfolding Step
   show_missing number state reply is missing =
       staying_follows (Show number) reply
+      (missing_replies world number state (clone_at world number) reply _ missing (stands.clones number state is))
+
+  -- ---- query
+
+  -- a live clone answers a query over the triples that are present
+  pub query_follows : (number : ℕ) (read : ReadQuery) (live : LocalClone) (reply : Reply)
+      → slice_get running.clones number ≡ Some (states.Live live) → AnswersQuery (present live.pairs) read reply
+      → Follows world (Query number read) reply (stepped running)
+  unfolding Step
+  query_follows number read live reply is answers =
+      let at : LiveAt world number live = live_at running world stands number live is in
+      staying_follows (Query number read) reply
+      (live_does world (clone_at world number) reply world _ (kept_by live at.base at.journal) at.held at.live
+      (live.pairs, at.stands.pairs, answers, refl))
+
+  -- a clone that isn't live answers none
+  pub query_missing : (number : ℕ) (read : ReadQuery) (state : RunningClone) (reply : Reply)
+      → slice_get running.clones number ≡ Some state → IsMissingReply state reply → Follows world (Query number read) reply (stepped running)
+  unfolding Step
+  query_missing number read state reply is missing =
+      staying_follows (Query number read) reply
       (missing_replies world number state (clone_at world number) reply _ missing (stands.clones number state is))
 
   -- ---- compare

@@ -3,7 +3,7 @@ use Rattle.std.specs.Prelude.{◌≡◌, ◌≢◌, ℕ, List, [], ◌∷◌, ma
 use Rattle.tree_clock.specs.declared.dots.Range.{Range}
 use Rattle.mld_ops.specs.History.{Operation}
 use Rattle.schedule_model.specs.declared.Command.{Command}
-use Rattle.schedule_model.specs.declared.Command.TheVariants.{Add, Remove, Deliver, Show, Compare, Join, Ask, Compact, Truncate, Stop, Open}
+use Rattle.schedule_model.specs.declared.Command.TheVariants.{Add, Remove, Deliver, Show, Query, Compare, Join, Ask, Compact, Truncate, Stop, Open}
 use Rattle.mld_model.specs.Clone.{Clone, Live, Stored, kept_of, merged_with}
 use Rattle.mld_model.specs.CloneStep.{joined_with}
 use Rattle.mld_model.specs.World.{World, Message, RangeOf, Want, SnapshotOf, JoinAsk, JoinGive, message_at, clone_at, clone_count}
@@ -63,6 +63,7 @@ DurableSteps world (Remove number triple) reply next steps = MakesDurably world 
 DurableSteps world (Deliver message number) reply next steps =
     MatchOption (message_at world message) (steps ≡ []) (λ sent. steps ≡ message_steps (clone_at world number) sent reply)
 DurableSteps world (Show number) reply next steps = steps ≡ []
+DurableSteps world (Query number read) reply next steps = steps ≡ []
 DurableSteps world (Join number) reply next steps = steps ≡ []
 DurableSteps world (Ask number) reply next steps = steps ≡ []
 DurableSteps world (Compact number) reply next steps = SwapsDurably world next number steps

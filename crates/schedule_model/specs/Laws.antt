@@ -17,7 +17,7 @@ use Rattle.schedule_model.specs.Step.{HasCloneNumbers, number_of_clone, Step}
 use Rattle.mld_model.specs.Sound.{IsSound}
 use Rattle.schedule_model.specs.Schedule.{IsNothing, is_unbuilt, Setup, SpellsSetup, SpellsCommand}
 use Rattle.schedule_model.specs.Answers.{Remembers, RemembersUpdate, Survives}
-use Rattle.schedule_model.specs.Promises.{AnswersHold, LeavesDiffer, KeepsPromises}
+use Rattle.schedule_model.specs.Promises.{ClonesAnswerAlike, AnswersHold, LeavesDiffer, KeepsPromises}
 use Rattle.schedule_model.specs.Runs.{Stage, Waiting, IsWorldOf, Acts, Runs, IsBad, IsUnbuilt, Outcome, Verdict}
 
 -- a line is at most one of these: it says nothing, it isn't built yet, it is a domain line, it is a command
@@ -86,6 +86,10 @@ RunsAreSound = (lines : List (List ℕ)) (text : List ℕ) (stage : Stage) (worl
 abbrev pub SamePairs : Type 0
 SamePairs = (history : List Operation) (known other : List Range) (pairs others : List Tagged)
     → AreKnownTo known other → AreKnownTo other known → IsMeaning history known pairs → IsMeaning history other others → pairs ≡ others
+
+-- clones of a world that know the same dots answer each query alike
+abbrev pub SameAnswers : Type 0
+SameAnswers = (world : World) → ClonesAnswerAlike world
 
 -- the dot that an `add` tells of is that of an operation that its clone made to insert the triple alone; the step put it at the head of
 -- the history, and its clone remembers it

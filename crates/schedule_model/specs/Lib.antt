@@ -1,5 +1,6 @@
 pub mod Characters
 pub mod ReplyText
+pub mod Querying
 pub mod Step
 pub mod DurableSteps
 pub mod Schedule

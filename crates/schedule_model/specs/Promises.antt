@@ -4,8 +4,12 @@ use Rattle.tree_clock.specs.declared.dots.Dot.{Dot}
 use Rattle.tree_clock.specs.declared.dots.Range.{Range}
 use Rattle.mld_ops.specs.declared.tagged.Tagged.{Tagged}
 use Rattle.mld_ops.specs.Meaning.{IsMeaning}
+use Rattle.jrql_patterns.specs.declared.queries.ReadQuery.{ReadQuery}
+use Rattle.schedule_model.specs.declared.Command.TheVariants.{Query}
 use Rattle.schedule_model.specs.Answers.{IsAnswered, Survives}
+use Rattle.schedule_model.specs.Step.{Step}
 use Rattle.mld_model.specs.Clone.{Stored, Live, AreKnownTo, known_of}
+use Rattle.mld_model.specs.Reply.{Reply}
 use Rattle.mld_model.specs.Sound.{Keeps, IsSound}
 use Rattle.mld_model.specs.World.{World, clone_at}
 
@@ -14,6 +18,13 @@ abbrev pub ClonesAgree : World → Type 0
 ClonesAgree world = (number other : ℕ) (stored kept : Stored) (held waiting : List Range) → clone_at world number ≡ Live stored held → clone_at world other ≡ Live kept waiting
     → AreKnownTo (known_of stored) (known_of kept) → AreKnownTo (known_of kept) (known_of stored)
     → (pairs others : List Tagged) → IsMeaning world.history (known_of stored) pairs → IsMeaning world.history (known_of kept) others → pairs ≡ others
+
+-- clones that know the same dots answer each query alike
+abbrev pub ClonesAnswerAlike : World → Type 0
+ClonesAnswerAlike world = (number other : ℕ) (stored kept : Stored) (held waiting : List Range) → clone_at world number ≡ Live stored held → clone_at world other ≡ Live kept waiting
+    → AreKnownTo (known_of stored) (known_of kept) → AreKnownTo (known_of kept) (known_of stored)
+    → (read : ReadQuery) (reply second : Reply) (next after : World)
+    → Step world (Query number read) reply next → Step world (Query other read) second after → reply ≡ second
 
 -- the operation of each of the lines that was answered with a dot, on the way to this world, stands unchanged, and its clone
 -- knows it
@@ -24,9 +35,10 @@ AnswersHold lines world = (number : ℕ) (dot : Dot) (answered : IsAnswered line
 abbrev pub LeavesDiffer : World → Type 0
 LeavesDiffer world = (number other : ℕ) (stored kept : Stored) → number ≢ other → Keeps (clone_at world number) stored → Keeps (clone_at world other) kept → stored.path ≢ kept.path
 
--- the world that the lines lead to is sound, its clones agree, what was answered holds, and each leaf has one clone
+-- the world that the lines lead to is sound, its clones agree and answer alike, what was answered holds, and each leaf has one clone
 pub record KeepsPromises (lines : List (List ℕ)) (world : World) : Type 0 where
   pub sound : IsSound world
   pub agree : ClonesAgree world
+  pub alike : ClonesAnswerAlike world
   pub answers : AnswersHold lines world
   pub leaves : LeavesDiffer world

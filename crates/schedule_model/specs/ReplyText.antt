@@ -7,7 +7,7 @@ use Rattle.tree_clock.specs.declared.dots.Range.{Range}
 use Rattle.tree_clock.specs.Path.{path_text}
 use Rattle.tree_clock.specs.Dot.{dot_text, range_text}
 use Rattle.mld_ops.specs.declared.tagged.Tagged.{Tagged}
-use Rattle.mld_model.specs.Reply.{Reply, Ready, Did, NoOperation, Took, Merged, Held, HeldFull, AlreadyKnown, Shows, Same, Less, More, Apart, Sent, Answer, NothingToSend, Kept, Joined, Deep, NoMessage, Ignored, IsAbsent, IsAsking, IsDown, IsLive, Stopped, Opened}
+use Rattle.mld_model.specs.Reply.{Reply, Ready, Did, NoOperation, Took, Merged, Held, HeldFull, AlreadyKnown, Shows, Tells, TooMany, Same, Less, More, Apart, Sent, Answer, NothingToSend, Kept, Joined, Deep, NoMessage, Ignored, IsAbsent, IsAsking, IsDown, IsLive, Stopped, Opened}
 use Rattle.schedule_model.specs.Characters.{space, line_end}
 
 -- the line of a pair
@@ -33,6 +33,8 @@ reply_text Held = codes "held\n"
 reply_text HeldFull = codes "held full\n"
 reply_text AlreadyKnown = codes "known\n"
 reply_text (Shows pairs) = codes "has " ++ (decimal (length pairs) ++ line_end ∷ flat_map pair_line pairs)
+reply_text (Tells text) = text ++ line_end ∷ []
+reply_text TooMany = codes "too many\n"
 reply_text Same = codes "same\n"
 reply_text Less = codes "less\n"
 reply_text More = codes "more\n"

@@ -1,16 +1,18 @@
 -- The grammar of a schedule's lines, as bytes without their LF.
-use Rattle.std.specs.Prelude.{◌≡◌, ℕ, ◌^◌, ◌<◌, ◌≤◌, List, [], ◌∷◌, ◌++◌, Bool, not, ◌==◌, nat_eq, IsTrue, codes, take_while}
+use Rattle.std.specs.Prelude.{◌≡◌, ℕ, ◌^◌, ◌<◌, ◌≤◌, List, [], ◌∷◌, ◌++◌, Bool, not, ◌==◌, nat_eq, IsTrue, codes, take_while, Ok}
 use Rattle.std.specs.Cmp.Lexicographic.{pointwise}
 use Rattle.std.specs.List.{list_any}
 use Rattle.std.specs.Str.{IsUtf8}
 use Rattle.std.specs.Fmt.{decimal}
 use Rattle.iri_rules.specs.Domain.{is_domain}
 use Rattle.rdf_terms.specs.Grammar.{SpellsTriple, IsTripleWithin}
+use Rattle.jrql_patterns.specs.QueryReading.{query_read}
+use Rattle.jrql_patterns.specs.declared.queries.ReadQuery.{ReadQuery}
 use Rattle.schedule_model.specs.Characters.{space, hash_mark}
 use Rattle.mld_ops.specs.Properties.{AreKept}
 use Rattle.mld_model.specs.World.{clone_count}
 use Rattle.schedule_model.specs.declared.Command.{Command}
-use Rattle.schedule_model.specs.declared.Command.TheVariants.{Add, Remove, Deliver, Show, Compare, Join, Ask, Compact, Truncate, Stop, Open}
+use Rattle.schedule_model.specs.declared.Command.TheVariants.{Add, Remove, Deliver, Show, Query, Compare, Join, Ask, Compact, Truncate, Stop, Open}
 
 -- an empty line, or a comment: `#` first, and UTF-8 throughout
 pub data IsNothing : List ℕ → Type 0 where
@@ -27,7 +29,7 @@ is_word = pointwise nat_eq
 
 -- the first words of lines that aren't built yet
 abbrev pub unbuilt_words : List (List ℕ)
-unbuilt_words = codes "query" ∷ codes "update" ∷ codes "single" ∷ codes "crash" ∷ []
+unbuilt_words = codes "update" ∷ codes "single" ∷ codes "crash" ∷ []
 
 -- a line that isn't built yet, whatever its rest is: one of those words first
 unfoldable pub is_unbuilt : List ℕ → Bool
@@ -61,7 +63,7 @@ pub record SpellsSetup (line : List ℕ) (setup : Setup) : Type 0 where
 abbrev pub IsCloneNumber : ℕ → Type 0
 IsCloneNumber number = number < clone_count
 
--- the line spells the command, whatever the domain is; a triple is the rest of its line
+-- the line spells the command, whatever the domain is; a triple is the rest of its line. No query is spelled so
 abbrev pub SpellsAnywhere : List ℕ → Command → Type 0
 SpellsAnywhere line (Add number triple) =
     (text : List ℕ) × (line ≡ codes "add " ++ (decimal number ++ space ∷ text)) × IsCloneNumber number
@@ -72,6 +74,7 @@ SpellsAnywhere line (Remove number triple) =
 SpellsAnywhere line (Deliver message number) =
     (line ≡ codes "deliver " ++ (decimal message ++ space ∷ decimal number)) × (message < 2 ^ 64) × IsCloneNumber number
 SpellsAnywhere line (Show number) = (line ≡ codes "show " ++ decimal number) × IsCloneNumber number
+SpellsAnywhere line (Query number read) = ⊥
 SpellsAnywhere line (Join number) = (line ≡ codes "join " ++ decimal number) × IsCloneNumber number
 SpellsAnywhere line (Ask number) = (line ≡ codes "ask " ++ decimal number) × IsCloneNumber number
 SpellsAnywhere line (Compact number) = (line ≡ codes "compact " ++ decimal number) × IsCloneNumber number
@@ -82,6 +85,12 @@ SpellsAnywhere line (Open number) = (line ≡ codes "open " ++ decimal number) �
 SpellsAnywhere line (Compare number other) =
     (line ≡ codes "compare " ++ (decimal number ++ space ∷ decimal other)) × IsCloneNumber number × IsCloneNumber other
 
--- the line spells the command in the domain of this name; each command is spelled alike in all domains
+-- the rest of the line is a JSON text that says the query in this domain, without a fault
+abbrev pub SpellsQuery : List ℕ → List ℕ → ℕ → ReadQuery → Type 0
+SpellsQuery domain line number read =
+    (text : List ℕ) × (line ≡ codes "query " ++ (decimal number ++ space ∷ text)) × IsCloneNumber number × (query_read domain text ≡ Ok read)
+
+-- the line spells the command in the domain of this name; any command but a query is spelled alike in all domains
 abbrev pub SpellsCommand : List ℕ → List ℕ → Command → Type 0
+SpellsCommand domain line (Query number read) = SpellsQuery domain line number read
 SpellsCommand domain line command = SpellsAnywhere line command

@@ -7,6 +7,7 @@ mod soundness;
 mod verdicts;
 
 pub use durable::durable_steps_lead;
+use jrql_patterns::ReadQuery;
 use rdf_terms::Triple;
 pub use soundness::{answers_survive, promises_kept, sound_worlds};
 pub use verdicts::{one_reading, one_step, one_verdict};
@@ -22,6 +23,8 @@ pub enum Command {
     Deliver(u64, u8),
     /// `show C`: the pairs of clone C.
     Show(u8),
+    /// `query C JSON`: the answer of clone C to the query.
+    Query(u8, ReadQuery),
     /// `compare C C`: the dots that two clones know, side by side.
     Compare(u8, u8),
     /// `join C`: clone C asks for a leaf.

@@ -1,14 +1,16 @@
 //! Every world that a schedule reaches is sound, and keeps what its clones answered. The functions have no code, and their
 //! contracts are the laws of such worlds.
-ghost use Rattle.schedule_model.specs.Laws.{FoundedIsSound, StepIsSound, RunsAreSound, SamePairs, OneLeaf, AddRemembers, RemoveRemembers, DidRemembers, StepRemembers, AnswersSurvive, RunsKeepPromises};
+ghost use Rattle.schedule_model.specs.Laws.{FoundedIsSound, StepIsSound, RunsAreSound, SamePairs, SameAnswers, OneLeaf, AddRemembers, RemoveRemembers, DidRemembers, StepRemembers, AnswersSurvive, RunsKeepPromises};
 
 /// The founded world is sound, a step of a sound world by a command whose clones there are leads to a sound world, and so
-/// each world that a schedule reaches is sound. Clones that know the same dots have the same pairs. No two clones of a sound world hold one leaf.
+/// each world that a schedule reaches is sound. Clones that know the same dots have the same pairs, and answer each query alike. No two
+/// clones of a sound world hold one leaf.
 pub fn sound_worlds()
     ensures founded { FoundedIsSound }
     ensures step { StepIsSound }
     ensures runs { RunsAreSound }
     ensures same_pairs { SamePairs }
+    ensures same_answers { SameAnswers }
     ensures one_leaf { OneLeaf }
 {}
 
@@ -29,7 +31,8 @@ pub fn answers_survive()
     ensures answered { AnswersSurvive }
 {}
 
-/// What is promised of the world that a schedule reaches: it is sound; its clones that know the same dots have the same pairs;
+/// What is promised of the world that a schedule reaches: it is sound; its clones that know the same dots have the same pairs, and
+/// answer each query alike;
 /// the operation of each of its lines that was answered with a dot stands unchanged, and its clone knows it; no two clones
 /// hold one leaf.
 pub fn promises_kept()
