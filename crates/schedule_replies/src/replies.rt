@@ -40,6 +40,10 @@ pub enum Reply<'a> {
     Known,
     /// `has K`, then a line of dot and triple for each pair: these are the pairs of the clone.
     Shows(&'a Graph),
+    /// A line of JSON: this is the answer to a query, without its LF.
+    Tells(Vec<u8>),
+    /// `too many`: the query has more solutions than it may have.
+    TooMany,
     /// `same`: two clones know the same dots.
     Same,
     /// `less`: the first clone's dots are a proper part of the second's.
@@ -119,6 +123,8 @@ fn push_text(out: &mut Vec<u8>, reply: &Reply<'_>) -> Result<(), AllocError>
         Reply::HeldFull => out.extend_from_slice(b"held full\n"),
         Reply::Known => out.extend_from_slice(b"known\n"),
         Reply::Shows(pairs) => push_pairs(out, pairs),
+        Reply::Tells(text) => push_line(out, text.as_slice()),
+        Reply::TooMany => out.extend_from_slice(b"too many\n"),
         Reply::Same => out.extend_from_slice(b"same\n"),
         Reply::Less => out.extend_from_slice(b"less\n"),
         Reply::More => out.extend_from_slice(b"more\n"),
@@ -205,6 +211,16 @@ fn push_lines(out: &mut Vec<u8>, pairs: &[&Tagged]) -> Result<(), AllocError>
     for pair in pairs {
         push_pair(out, pair)?;
     }
+    Ok(())
+}
+
+/// The line of a text.
+fn push_line(out: &mut Vec<u8>, text: &[u8]) -> Result<(), AllocError>
+    ensures ok { OnOk result (out.new.items ≡ out.old.items ++ (text.now ++ line_end ∷ [])) }
+    ensures err { OnErr result (KeepsStart out.old.items out.new.items) }
+{
+    out.extend_from_slice(text)?;
+    out.push(b'\n')?;
     Ok(())
 }
 

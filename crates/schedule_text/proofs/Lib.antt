@@ -2,3 +2,4 @@ pub mod LinesText
 pub mod LinesNumbers
 pub mod LinesSetups
 pub mod LinesCommands
+mod LinesQueries

@@ -12,7 +12,7 @@ use Rattle.rdf_terms.specs.declared.faults.TripleFault.TheVariants.{NotTriple, T
 use Rattle.schedule_model.specs.Characters.{space}
 use Rattle.mld_model.specs.World.{clone_count}
 use Rattle.schedule_model.specs.declared.Command.{Command}
-use Rattle.schedule_model.specs.declared.Command.TheVariants.{Add, Remove, Deliver, Show, Compare, Join, Ask, Compact, Truncate, Stop, Open}
+use Rattle.schedule_model.specs.declared.Command.TheVariants.{Add, Remove, Deliver, Show, Query, Compare, Join, Ask, Compact, Truncate, Stop, Open}
 use Rattle.schedule_model.proofs.LackingLaws.{Lacks, apart}
 use Rattle.schedule_model.specs.Schedule.{SpellsAnywhere}
 use Rattle.schedule_text.specs.ReadLines.{IsTripleText, IsCloneAndTriple, IsAddRest, IsRemoveRest, IsDeliverRest, IsShowRest, IsCompareRest, IsJoinRest, IsAskRest, IsCompactRest, IsTruncateRest, IsStopRest, IsOpenRest}
@@ -44,6 +44,7 @@ add_back line rest e (Add number triple) h =
 add_back line rest e (Remove number triple) h = absurd (apart e h.1 refl)
 add_back line rest e (Deliver message number) h = absurd (apart e h.0 refl)
 add_back line rest e (Show number) h = absurd (apart e h.0 refl)
+add_back line rest e (Query number read) h = absurd h
 add_back line rest e (Compare number other) h = absurd (apart e h.0 refl)
 add_back line rest e (Join number) h = absurd (apart e h.0 refl)
 add_back line rest e (Ask number) h = absurd (apart (ap (drop 1) e) (ap (drop 1) h.0) refl)
@@ -65,6 +66,7 @@ remove_back line rest e (Remove number triple) h =
     (number, triple, refl, record { text = h.0; whole = ap (drop 7) (sym e ∙ h.1); clone = h.2; spelled = record { bytes = h.3; spelled = h.4; within = h.5 } })
 remove_back line rest e (Deliver message number) h = absurd (apart e h.0 refl)
 remove_back line rest e (Show number) h = absurd (apart e h.0 refl)
+remove_back line rest e (Query number read) h = absurd h
 remove_back line rest e (Compare number other) h = absurd (apart e h.0 refl)
 remove_back line rest e (Join number) h = absurd (apart e h.0 refl)
 remove_back line rest e (Ask number) h = absurd (apart e h.0 refl)
@@ -85,6 +87,7 @@ deliver_back line rest e (Add number triple) h = absurd (apart e h.1 refl)
 deliver_back line rest e (Remove number triple) h = absurd (apart e h.1 refl)
 deliver_back line rest e (Deliver message number) h = (message, number, refl, ap (drop 8) (sym e ∙ h.0), h.1, h.2)
 deliver_back line rest e (Show number) h = absurd (apart e h.0 refl)
+deliver_back line rest e (Query number read) h = absurd h
 deliver_back line rest e (Compare number other) h = absurd (apart e h.0 refl)
 deliver_back line rest e (Join number) h = absurd (apart e h.0 refl)
 deliver_back line rest e (Ask number) h = absurd (apart e h.0 refl)
@@ -105,6 +108,7 @@ show_back line rest e (Add number triple) h = absurd (apart e h.1 refl)
 show_back line rest e (Remove number triple) h = absurd (apart e h.1 refl)
 show_back line rest e (Deliver message number) h = absurd (apart e h.0 refl)
 show_back line rest e (Show number) h = (number, refl, ap (drop 5) (sym e ∙ h.0), h.1)
+show_back line rest e (Query number read) h = absurd h
 show_back line rest e (Compare number other) h = absurd (apart e h.0 refl)
 show_back line rest e (Join number) h = absurd (apart e h.0 refl)
 show_back line rest e (Ask number) h = absurd (apart e h.0 refl)
@@ -125,6 +129,7 @@ compare_back line rest e (Add number triple) h = absurd (apart e h.1 refl)
 compare_back line rest e (Remove number triple) h = absurd (apart e h.1 refl)
 compare_back line rest e (Deliver message number) h = absurd (apart e h.0 refl)
 compare_back line rest e (Show number) h = absurd (apart e h.0 refl)
+compare_back line rest e (Query number read) h = absurd h
 compare_back line rest e (Compare number other) h = (number, other, refl, ap (drop 8) (sym e ∙ h.0), h.1, h.2)
 compare_back line rest e (Join number) h = absurd (apart e h.0 refl)
 compare_back line rest e (Ask number) h = absurd (apart e h.0 refl)
@@ -145,6 +150,7 @@ join_back line rest e (Add number triple) h = absurd (apart e h.1 refl)
 join_back line rest e (Remove number triple) h = absurd (apart e h.1 refl)
 join_back line rest e (Deliver message number) h = absurd (apart e h.0 refl)
 join_back line rest e (Show number) h = absurd (apart e h.0 refl)
+join_back line rest e (Query number read) h = absurd h
 join_back line rest e (Compare number other) h = absurd (apart e h.0 refl)
 join_back line rest e (Join number) h = (number, refl, ap (drop 5) (sym e ∙ h.0), h.1)
 join_back line rest e (Ask number) h = absurd (apart e h.0 refl)
@@ -165,6 +171,7 @@ ask_back line rest e (Add number triple) h = absurd (apart (ap (drop 1) e) (ap (
 ask_back line rest e (Remove number triple) h = absurd (apart e h.1 refl)
 ask_back line rest e (Deliver message number) h = absurd (apart e h.0 refl)
 ask_back line rest e (Show number) h = absurd (apart e h.0 refl)
+ask_back line rest e (Query number read) h = absurd h
 ask_back line rest e (Compare number other) h = absurd (apart e h.0 refl)
 ask_back line rest e (Join number) h = absurd (apart e h.0 refl)
 ask_back line rest e (Ask number) h = (number, refl, ap (drop 4) (sym e ∙ h.0), h.1)
@@ -185,6 +192,7 @@ compact_back line rest e (Add number triple) h = absurd (apart e h.1 refl)
 compact_back line rest e (Remove number triple) h = absurd (apart e h.1 refl)
 compact_back line rest e (Deliver message number) h = absurd (apart e h.0 refl)
 compact_back line rest e (Show number) h = absurd (apart e h.0 refl)
+compact_back line rest e (Query number read) h = absurd h
 compact_back line rest e (Compare number other) h = absurd (apart (ap (drop 5) e) (ap (drop 5) h.0) refl)
 compact_back line rest e (Join number) h = absurd (apart e h.0 refl)
 compact_back line rest e (Ask number) h = absurd (apart e h.0 refl)
@@ -205,6 +213,7 @@ truncate_back line rest e (Add number triple) h = absurd (apart e h.1 refl)
 truncate_back line rest e (Remove number triple) h = absurd (apart e h.1 refl)
 truncate_back line rest e (Deliver message number) h = absurd (apart e h.0 refl)
 truncate_back line rest e (Show number) h = absurd (apart e h.0 refl)
+truncate_back line rest e (Query number read) h = absurd h
 truncate_back line rest e (Compare number other) h = absurd (apart e h.0 refl)
 truncate_back line rest e (Join number) h = absurd (apart e h.0 refl)
 truncate_back line rest e (Ask number) h = absurd (apart e h.0 refl)
@@ -225,6 +234,7 @@ stop_back line rest e (Add number triple) h = absurd (apart e h.1 refl)
 stop_back line rest e (Remove number triple) h = absurd (apart e h.1 refl)
 stop_back line rest e (Deliver message number) h = absurd (apart e h.0 refl)
 stop_back line rest e (Show number) h = absurd (apart (ap (drop 1) e) (ap (drop 1) h.0) refl)
+stop_back line rest e (Query number read) h = absurd h
 stop_back line rest e (Compare number other) h = absurd (apart e h.0 refl)
 stop_back line rest e (Join number) h = absurd (apart e h.0 refl)
 stop_back line rest e (Ask number) h = absurd (apart e h.0 refl)
@@ -245,6 +255,7 @@ open_back line rest e (Add number triple) h = absurd (apart e h.1 refl)
 open_back line rest e (Remove number triple) h = absurd (apart e h.1 refl)
 open_back line rest e (Deliver message number) h = absurd (apart e h.0 refl)
 open_back line rest e (Show number) h = absurd (apart e h.0 refl)
+open_back line rest e (Query number read) h = absurd h
 open_back line rest e (Compare number other) h = absurd (apart e h.0 refl)
 open_back line rest e (Join number) h = absurd (apart e h.0 refl)
 open_back line rest e (Ask number) h = absurd (apart e h.0 refl)

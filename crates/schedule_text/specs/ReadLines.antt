@@ -1,14 +1,17 @@
 -- What a line of a schedule was read as.
-use Rattle.std.specs.Prelude.{◌≡◌, ℕ, ◌<◌, ◌^◌, List, ◌∷◌, ◌++◌, IsTrue, Option, None, Some}
+use Rattle.std.specs.Prelude.{◌≡◌, ℕ, ◌<◌, ◌^◌, List, ◌∷◌, ◌++◌, IsTrue, Option, None, Some, Ok}
 use Rattle.std.specs.Str.{IsUtf8}
 use Rattle.std.specs.Fmt.{decimal}
 use Rattle.rdf_terms.specs.declared.terms.Triple.{Triple}
 use Rattle.rdf_terms.specs.Grammar.{SpellsTriple, IsTripleWithin}
+use Rattle.jrql_patterns.specs.QueryReading.{query_read}
+use Rattle.jrql_patterns.specs.declared.queries.ReadQuery.{ReadQuery}
 use Rattle.schedule_model.specs.Characters.{space}
-use Rattle.schedule_model.specs.declared.Command.TheVariants.{Add, Remove, Deliver, Show, Compare, Join, Ask, Compact, Truncate, Stop, Open}
+use Rattle.schedule_model.specs.declared.Command.TheVariants.{Add, Remove, Deliver, Show, Query, Compare, Join, Ask, Compact, Truncate, Stop, Open}
 use Rattle.schedule_model.specs.declared.Command.{Command}
 use Rattle.schedule_model.specs.Schedule.{Setup as ModelSetup, IsNothing, is_unbuilt, SpellsSetup, SpellsCommand, IsCloneNumber}
 use Rattle.schedule_model.specs.Runs.{IsBad, IsUnbuilt, Waiting}
+use Rattle.schedule_model.specs.Step.{HasQueryInForm}
 use Rattle.schedule_text.specs.declared.setups.Setup.{Setup}
 use Rattle.schedule_text.specs.declared.setups.SetupLine.{SetupLine}
 use Rattle.schedule_text.specs.declared.setups.SetupLine.TheVariants as lines
@@ -51,6 +54,15 @@ pub record IsTripleText (text : List ℕ) (triple : Triple) : Type 0 where
   pub spelled : SpellsTriple text triple
   pub within : IsTripleWithin triple
 
+-- what was read of a line has its query in form, where it is one
+abbrev pub IsFoundInForm : Option Command → Type 0
+IsFoundInForm None = Unit {0}
+IsFoundInForm (Some command) = HasQueryInForm command
+
+-- the JSON text says the query in the domain of this name
+abbrev pub IsQueryText : List ℕ → List ℕ → ReadQuery → Type 0
+IsQueryText domain text read = query_read domain text ≡ Ok read
+
 -- what follows the first word of a command and its space
 
 -- a clone's number, a space, and the text of a triple
@@ -72,6 +84,17 @@ IsDeliverRest rest command = (message : ℕ) × (number : ℕ) × (command ≡ D
 
 abbrev pub IsShowRest : List ℕ → Command → Type 0
 IsShowRest rest command = (number : ℕ) × (command ≡ Show number) × (rest ≡ decimal number) × IsCloneNumber number
+
+-- a clone's number, a space, and the text of a query
+pub record IsCloneAndQuery (domain rest : List ℕ) (number : ℕ) (read : ReadQuery) : Type 0 where
+  pub text : List ℕ
+  pub whole : rest ≡ decimal number ++ space ∷ text
+  pub clone : IsCloneNumber number
+  pub said : IsQueryText domain text read
+
+-- the rest of a `query` line
+abbrev pub IsQueryRest : List ℕ → List ℕ → Command → Type 0
+IsQueryRest domain rest command = (number : ℕ) × (read : ReadQuery) × (command ≡ Query number read) × IsCloneAndQuery domain rest number read
 
 abbrev pub IsCompareRest : List ℕ → Command → Type 0
 IsCompareRest rest command = (number : ℕ) × (other : ℕ) × (command ≡ Compare number other) × (rest ≡ decimal number ++ space ∷ decimal other)

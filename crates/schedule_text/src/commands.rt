@@ -2,11 +2,12 @@
 ghost use Rattle.std.specs.Prelude.{ℕ, IsTrue, IfOk, IsErrOf, MatchOption};
 ghost use Rattle.iri_rules.specs.Domain.{is_domain};
 ghost use Rattle.rdf_terms.specs.declared.terms.Triple.{Triple};
-ghost use Rattle.schedule_model.specs.Schedule.{is_unbuilt, SpellsAnywhere};
+ghost use Rattle.schedule_model.specs.Schedule.{is_unbuilt, SpellsAnywhere, SpellsCommand};
 ghost use Rattle.schedule_model.specs.declared.Command.{Command};
-ghost use Rattle.schedule_text.specs.ReadLines.{CommandIs, IsBadCommand, IsTripleText, IsCloneAndTriple, IsAddRest, IsRemoveRest, IsDeliverRest, IsShowRest, IsCompareRest, IsJoinRest, IsAskRest, IsCompactRest, IsTruncateRest, IsStopRest, IsOpenRest};
+ghost use Rattle.schedule_text.specs.ReadLines.{CommandIs, IsBadCommand, IsTripleText, IsCloneAndTriple, IsAddRest, IsRemoveRest, IsDeliverRest, IsShowRest, IsCompareRest, IsJoinRest, IsAskRest, IsCompactRest, IsTruncateRest, IsStopRest, IsOpenRest, IsFoundInForm};
 
 use crate::numbers::{read_clone, read_number};
+use crate::queries::read_query_command;
 use crate::refusals::LineRefusal;
 use crate::words::{behind, is_nothing, is_unbuilt, split_at_space};
 use rdf_terms::{Triple, TripleFault, read_triple};
@@ -17,12 +18,13 @@ use std::alloc::{AllocError, Global};
 pub fn read_command(
     alloc: Global,
     line: &[u8],
-    _domain: &str,
+    domain: &str,
 ) -> Result<Option<Command>, LineRefusal>
-    requires { IsTrue (is_domain _domain.now) }
-    ensures ok { IfOk result (CommandIs _domain.now line.now) }
-    ensures bad { IsErrOf result LineRefusal.BadLine → IsBadCommand _domain.now line.now }
+    requires { IsTrue (is_domain domain.now) }
+    ensures ok { IfOk result (CommandIs domain.now line.now) }
+    ensures bad { IsErrOf result LineRefusal.BadLine → IsBadCommand domain.now line.now }
     ensures unbuilt { IsErrOf result LineRefusal.Unbuilt → IsTrue (is_unbuilt line.now) }
+    ensures in_form { IfOk result IsFoundInForm }
 {
     if is_nothing(line) {
         return Ok(None);
@@ -30,13 +32,25 @@ pub fn read_command(
     if is_unbuilt(line) {
         return Err(LineRefusal::Unbuilt);
     }
-    match command_of(alloc, line)? {
+    match command_in(alloc, line, domain)? {
         Some(command) => Ok(Some(command)),
         None => Err(LineRefusal::BadLine),
     }
 }
 
-/// The command of a line, where the line spells one.
+/// The command of a line, where the line spells one in the domain of this name.
+fn command_in(alloc: Global, line: &[u8], domain: &str) -> Result<Option<Command>, AllocError>
+    requires { IsTrue (is_domain domain.now) }
+    ensures found { IfOk result (λ found. MatchOption found ((command : Command) → ¬ SpellsCommand domain.now line.now command) (λ command. SpellsCommand domain.now line.now command)) }
+    ensures in_form { IfOk result IsFoundInForm }
+{
+    if let Some(rest) = behind(line, b"query ") {
+        return read_query_command(alloc, rest, domain);
+    }
+    command_of(alloc, line)
+}
+
+/// The command of a line that isn't a query, where the line spells one.
 fn command_of(alloc: Global, line: &[u8]) -> Result<Option<Command>, AllocError>
     ensures { IfOk result (λ found. MatchOption found ((command : Command) → ¬ SpellsAnywhere line.now command) (λ command. SpellsAnywhere line.now command)) }
 {

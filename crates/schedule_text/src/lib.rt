@@ -3,6 +3,7 @@
 
 mod commands;
 mod numbers;
+mod queries;
 mod refusals;
 mod setups;
 mod words;

@@ -76,6 +76,14 @@ pub returns-in-Opened-clause-ok : goal.returns-in-Opened-clause-ok
 unfolding reply_text
 returns-in-Opened-clause-ok c = word_pushed c.extend_from_slice-in-Opened.result c.args.out.now.items _ _ _ c.extend_from_slice-in-Opened.ensures.items (sym (ap (λ w. reply_text (reply_value w)) c.in-Opened.is))
 
+pub returns-in-TooMany-clause-ok : goal.returns-in-TooMany-clause-ok
+unfolding reply_text
+returns-in-TooMany-clause-ok c = word_pushed c.extend_from_slice-in-TooMany.result c.args.out.now.items _ _ _ c.extend_from_slice-in-TooMany.ensures.items (sym (ap (λ w. reply_text (reply_value w)) c.in-TooMany.is))
+
+pub returns-in-Tells-clause-ok : goal.returns-in-Tells-clause-ok
+unfolding reply_text
+returns-in-Tells-clause-ok c = search rules
+
 pub returns-in-Took-clause-ok : goal.returns-in-Took-clause-ok
 unfolding reply_text
 returns-in-Took-clause-ok c = search rules
