@@ -13,3 +13,4 @@ pub mod Swapping
 pub mod Cutting
 pub mod Answering
 pub mod Merged
+mod AnswerKinds

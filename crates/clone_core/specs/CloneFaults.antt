@@ -9,6 +9,10 @@ use Rattle.clone_core.specs.declared.faults.KeepFault.{KeepFault}
 use Rattle.clone_core.specs.declared.faults.KeepFault.TheVariants as keep
 use Rattle.clone_core.specs.declared.faults.ReceiveFault.{ReceiveFault}
 use Rattle.clone_core.specs.declared.faults.ReceiveFault.TheVariants as fault
+use Rattle.jrql_eval.specs.declared.faults.EvalFault.{EvalFault}
+use Rattle.jrql_eval.specs.declared.faults.EvalFault.TheVariants as eval
+use Rattle.clone_core.specs.declared.queries.QueryFault.{QueryFault}
+use Rattle.clone_core.specs.declared.queries.QueryFault.TheVariants as query
 use Rattle.clone_core.specs.declared.faults.UpdateFault.{UpdateFault}
 use Rattle.clone_core.specs.declared.faults.UpdateFault.TheVariants as update
 
@@ -40,3 +44,8 @@ keep_fault_of (swap.Closed reason) = keep.Closed reason
 keep_fault_of swap.GenerationsSpent = keep.GenerationsSpent
 keep_fault_of swap.Device = keep.Device
 keep_fault_of swap.NoMemory = keep.NoMemory
+
+-- why a query isn't answered whose solutions aren't given
+abbrev pub query_fault_of : EvalFault → QueryFault
+query_fault_of eval.TooMany = query.TooMany
+query_fault_of eval.NoMemory = query.NoMemory

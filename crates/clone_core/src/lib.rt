@@ -8,6 +8,7 @@ mod compacting;
 mod faults;
 mod merging;
 mod mounts;
+mod queries;
 mod truncating;
 mod wants;
 
@@ -16,3 +17,4 @@ pub use askers::{Adopted, Asker};
 pub use clones::MldClone;
 pub use faults::{KeepFault, ReceiveFault, UpdateFault};
 pub use mounts::Mounted;
+pub use queries::QueryFault;
