@@ -1,5 +1,5 @@
 -- What a line makes of a schedule's state, and what its end does.
-use Rattle.std.proofs.Common.{◌≡◌, ◌≢◌, ℕ, List, [], refl, sym, ap, subst, length, Option, None, Some, Vec, Global}
+use Rattle.std.proofs.Common.{◌≡◌, ◌≢◌, ℕ, List, [], refl, sym, ◌∙◌, ap, subst, length, Option, None, Some, Vec, Global}
 use Rattle.std.specs.Prelude.{Result, Ok, Err, OnOk, IfErr, IsErrOf}
 use Rattle.mld_io.specs.Arm.{Meter}
 use Rattle.mld_io.specs.Disk.{Log}
@@ -9,12 +9,12 @@ use Rattle.mld_model.specs.Reply.{Ready}
 use Rattle.mld_model.specs.Sound.{IsSound}
 use Rattle.mld_model.proofs.FoundedLaws.{founded_sound}
 use Rattle.schedule_model.specs.ReplyText.{reply_text}
-use Rattle.schedule_model.specs.Runs.{Stage, Waiting, SetUp, Running, IsWorldOf, says_nothing, sets_up, commands}
+use Rattle.schedule_model.specs.Runs.{Stage, Waiting, SetUp, Running, IsWorldOf, IsBad, says_nothing, sets_up, commands}
 use Rattle.schedule_text.specs.declared.setups.Setup.{Setup}
 use Rattle.schedule_text.specs.declared.setups.SetupLine.{SetupLine}
 use Rattle.schedule_text.specs.declared.setups.SetupLine.TheVariants as lines
-use Rattle.schedule_model.specs.Schedule.{Setup as ModelSetup, SpellsSetup, SpellsAnywhere, IsSetup}
-use Rattle.schedule_text.specs.ReadLines.{setup_of, SetupIs, CommandIs}
+use Rattle.schedule_model.specs.Schedule.{Setup as ModelSetup, SpellsSetup, SpellsCommand, IsSetup}
+use Rattle.schedule_text.specs.ReadLines.{setup_of, SetupIs, CommandIs, IsBadCommand}
 use Rattle.net_world.specs.Founding.{StandsFounded}
 use Rattle.net_world.specs.WorldBanks.{BankedWorld, StandsOnBanks}
 use Rattle.mld_replay.specs.BankFaults.{AreWell, all_left}
@@ -22,7 +22,7 @@ use Rattle.mld_replay.specs.Stops.{StopsWith}
 use Rattle.mld_replay.specs.declared.stops.LineStop.TheVariants as stops
 use Rattle.mld_replay.proofs.MeterLemmas.{well_same, well_then, stop_later}
 use Rattle.net_world.specs.Worlds.{Stepped, FollowsOnBanks}
-use Rattle.mld_replay.specs.Stages.{StageStands, IsStandingStage, ActsWell, EndsWell}
+use Rattle.mld_replay.specs.Stages.{StageStands, SpellsAt, IsStandingStage, ActsWell, EndsWell}
 use Rattle.mld_replay.specs.declared.stops.LineStop.{LineStop}
 use Rattle.mld_replay.specs.declared.stages.Stage.{Stage as RunningStage}
 use Rattle.mld_replay.specs.declared.stages.Stage.TheVariants as stages
@@ -62,9 +62,9 @@ waiting_count {B = B} log state blanks is stands = let P : RunningStage B → Ty
 
 -- it is a command
 pub commanded : {B : Type 0} (log : B → Option Log) (stage : Stage) (line : List ℕ) (command : Command) (old new : BankedWorld B) (text : List ℕ)
-    → SpellsAnywhere line command → Stepped log old command new [] text
-    → (model : World) → IsWorldOf stage model → StandsOnBanks log old model → IsSound model → ActsWell log stage line text (stages.Running new)
-commanded log stage line command old new text spells stepped model founds stands sound =
+    → Stepped log old command new [] text
+    → (model : World) → SpellsCommand model.domain line command → IsWorldOf stage model → StandsOnBanks log old model → IsSound model → ActsWell log stage line text (stages.Running new)
+commanded log stage line command old new text stepped model spells founds stands sound =
     let follows : FollowsOnBanks log model command stepped.reply new = stepped.follows model stands sound in
     record {
       next = Running follows.next;
@@ -83,27 +83,45 @@ commanded log stage line command old new text spells stepped model founds stands
     }
 
 -- a line that was read as a command spells it
-pub spells_read : (domain line : List ℕ) (read : Option Command) (command : Command) → read ≡ Some command → CommandIs domain line read → SpellsAnywhere line command
+pub spells_read : (domain line : List ℕ) (read : Option Command) (command : Command) → read ≡ Some command → CommandIs domain line read → SpellsCommand domain line command
 spells_read domain line read command is reads = let P : Option Command → Type 0 = λ c. CommandIs domain line c in subst P is reads
+
+-- what is spelled at a stage is spelled in the world that its clones are founded in
+spells_founded : (stage : Stage) (model : World) (line : List ℕ) (command : Command) → IsWorldOf stage model → SpellsAt stage line command → SpellsCommand model.domain line command
+spells_founded Waiting model line command founds spells = absurd spells
+spells_founded (SetUp setup) model line command founds spells = subst (λ (world : World). SpellsCommand world.domain line command) (sym founds.is) spells
+spells_founded (Running now) model line command founds spells = subst (λ (world : World). SpellsCommand world.domain line command) (sym founds) spells
 
 -- it is a command, and the clones were just founded
 pub started : {B : Type 0} (log : B → Option Log) (stage : Stage) (line : List ℕ) (command : Command) (old new : BankedWorld B) (text : List ℕ)
-    → SpellsAnywhere line command → Stepped log old command new [] text → EndsWell log stage (stages.Running old) → ActsWell log stage line text (stages.Running new)
+    → SpellsAt stage line command → Stepped log old command new [] text → EndsWell log stage (stages.Running old) → ActsWell log stage line text (stages.Running new)
 started log stage line command old new text spells stepped founded =
-    commanded log stage line command old new text spells stepped founded.world founded.founds founded.stands.0 founded.stands.1
+    commanded log stage line command old new text stepped founded.world (spells_founded stage founded.world line command founded.founds spells)
+    founded.founds founded.stands.0 founded.stands.1
 
 -- so it is, whatever its step answered
 pub started_all : {B : Type 0} (log : B → Option Log) (result : Result (Unit {0}) LineStop) (state : RunningStage B) (command : Command) (old new : BankedWorld B) (text : List ℕ)
     → OnOk result (Stepped log old command new [] text) → ((stage : Stage) → StageStands log state stage → EndsWell log stage (stages.Running old))
-    → OnOk result ((stage : Stage) (line : List ℕ) → StageStands log state stage → SpellsAnywhere line command → ActsWell log stage line text (stages.Running new))
+    → OnOk result ((stage : Stage) (line : List ℕ) → StageStands log state stage → SpellsAt stage line command → ActsWell log stage line text (stages.Running new))
 started_all log (Ok done) state command old new text stepped founded = λ stage line stands spells. started log stage line command old new text spells stepped (founded stage stands)
 started_all log (Err stop) state command old new text stepped founded = tt
 
-pub commanded_all : {B : Type 0} (log : B → Option Log) (result : Result (Unit {0}) LineStop) (line : List ℕ) (command : Command) (old new : BankedWorld B) (text : List ℕ)
-    → SpellsAnywhere line command → OnOk result (Stepped log old command new [] text)
+pub commanded_all : {B : Type 0} (log : B → Option Log) (result : Result (Unit {0}) LineStop) (domain line : List ℕ) (command : Command) (old new : BankedWorld B) (text : List ℕ)
+    → domain ≡ old.domain → SpellsCommand domain line command → OnOk result (Stepped log old command new [] text)
     → OnOk result ((model : World) → StandsOnBanks log old model → IsSound model → ActsWell log (Running model) line text (stages.Running new))
-commanded_all log (Ok done) line command old new text spells stepped = λ model stands sound. commanded log (Running model) line command old new text spells stepped model refl stands sound
-commanded_all log (Err stop) line command old new text spells stepped = tt
+commanded_all log (Ok done) domain line command old new text same spells stepped = λ model stands sound.
+    commanded log (Running model) line command old new text stepped model (subst (λ (d : List ℕ). SpellsCommand d line command) (same ∙ stands.memory.domain) spells) refl stands sound
+commanded_all log (Err stop) domain line command old new text same spells stepped = tt
+
+-- a line that is bad in its domain is bad at the stage
+pub bad_running : {B : Type 0} (log : B → Option Log) (running : BankedWorld B) (domain line : List ℕ) → domain ≡ running.domain → IsBadCommand domain line
+    → (model : World) → StandsOnBanks log running model → IsBad (Running model) line
+bad_running log running domain line same bad model stands =
+    (bad.0, bad.1, λ command spells. bad.2 command (subst (λ (d : List ℕ). SpellsCommand d line command) (sym (same ∙ stands.memory.domain)) spells))
+
+pub bad_set_up : (setup : Setup) (domain line : List ℕ) → domain ≡ setup.domain → IsBadCommand domain line → IsBad (SetUp (setup_of setup)) line
+bad_set_up setup domain line same bad =
+    (bad.0, bad.1, λ command spells. bad.2 command (subst (λ (d : List ℕ). SpellsCommand d line command) (sym same) spells))
 
 -- it says nothing
 pub nothing_said : {B : Type 0} (log : B → Option Log) (stage : Stage) (domain line : List ℕ) (read : Option Command) (running : RunningStage B) → read ≡ None → CommandIs domain line read
@@ -123,6 +141,21 @@ set_up_stage {B = B} log P state setup blanks is h stage stands = let Q : Runnin
     at Waiting stands = absurd stands
     at (SetUp model) stands = subst (λ s. P (SetUp s)) stands.0 (h (subst (λ s. IsSetup s) (sym stands.0) stands.1))
     at (Running world) stands = absurd stands
+
+-- what is spelled in the domain that is set up is spelled at that stage
+spells_set_up : {B : Type 0} (log : B → Option Log) (state : RunningStage B) (setup : Setup) (blanks : Vec B Global) (domain line : List ℕ) (command : Command) → state ≡ stages.SetUp setup blanks
+    → domain ≡ setup.domain → SpellsCommand domain line command → (stage : Stage) → StageStands log state stage → SpellsAt stage line command
+spells_set_up log state setup blanks domain line command is same spells =
+    set_up_stage log (λ stage. SpellsAt stage line command) state setup blanks is (λ may. subst (λ (d : List ℕ). SpellsCommand d line command) same spells)
+
+-- so the first command was done, if its step was
+pub started_here : {B : Type 0} (log : B → Option Log) (result : Result (Unit {0}) LineStop) (state : RunningStage B) (setup : Setup) (blanks : Vec B Global) (domain line : List ℕ) (read : Option Command)
+    (command : Command) (new : RunningStage B) (text : List ℕ) → state ≡ stages.SetUp setup blanks → domain ≡ setup.domain → read ≡ Some command → CommandIs domain line read
+    → OnOk result ((stage : Stage) (line : List ℕ) → StageStands log (stages.SetUp setup blanks) stage → SpellsAt stage line command → ActsWell log stage line text new)
+    → OnOk result ((stage : Stage) → StageStands log state stage → ActsWell log stage line text new)
+started_here {B = B} log (Ok done) state setup blanks domain line read command new text is same reads said does = λ stage stands.
+    does stage line (subst (λ (s : RunningStage B). StageStands log s stage) is stands) (spells_set_up log state setup blanks domain line command is same (spells_read domain line read command reads said) stage stands)
+started_here log (Err stop) state setup blanks domain line read command new text is same reads said does = tt
 
 -- what is set up may be founded, on as many banks as clones
 pub standing_setup : {B : Type 0} (log : B → Option Log) (state : RunningStage B) (setup : Setup) (blanks : Vec B Global) → state ≡ stages.SetUp setup blanks → IsStandingStage log state

@@ -3,8 +3,9 @@ use Rattle.std.specs.Prelude.{◌≡◌, ℕ, List, Option, length}
 use Rattle.mld_io.specs.Disk.{Log}
 use Rattle.mld_model.specs.World.{World, clone_count}
 use Rattle.mld_model.specs.Sound.{IsSound}
+use Rattle.schedule_model.specs.declared.Command.{Command}
 use Rattle.schedule_model.specs.Runs.{Stage, Waiting, SetUp, Running, IsWorldOf, Acts}
-use Rattle.schedule_model.specs.Schedule.{IsSetup}
+use Rattle.schedule_model.specs.Schedule.{IsSetup, SpellsCommand}
 use Rattle.schedule_text.specs.ReadLines.{setup_of}
 use Rattle.net_world.specs.WorldBanks.{StandsOnBanks, banks_of}
 use Rattle.mld_replay.specs.declared.stages.Stage.{Stage as RunningStage}
@@ -19,6 +20,12 @@ StageStands log (stages.Waiting blanks) Waiting = length blanks.items ≡ clone_
 StageStands log (stages.SetUp setup blanks) (SetUp model) = (setup_of setup ≡ model) × IsSetup model × (length blanks.items ≡ clone_count)
 StageStands log (stages.Running running) (Running world) = StandsOnBanks log running world × IsSound world
 StageStands log running stage = ⊥
+
+-- the line spells the command in the domain of a stage
+abbrev pub SpellsAt : Stage → List ℕ → Command → Type 0
+SpellsAt Waiting line command = ⊥
+SpellsAt (SetUp setup) line command = SpellsCommand setup.domain line command
+SpellsAt (Running world) line command = SpellsCommand world.domain line command
 
 -- the steps made so far
 abbrev pub steps_of : {B : Type 0} → RunningStage B → ℕ

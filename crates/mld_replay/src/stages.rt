@@ -4,13 +4,12 @@ ghost use Rattle.mld_model.specs.World.{World as ModelWorld};
 ghost use Rattle.mld_model.specs.Sound.{IsSound};
 ghost use Rattle.net_world.specs.WorldBanks.{StandsOnBanks, banks_of};
 ghost use Rattle.schedule_model.specs.Runs.{Stage as ModelStage, Waiting, Running, IsBad, IsUnbuilt};
-ghost use Rattle.schedule_model.specs.Schedule.{SpellsAnywhere};
-ghost use Rattle.schedule_model.specs.Step.{HasCloneNumbers};
+ghost use Rattle.schedule_model.specs.Step.{HasCloneNumbers, HasQueryInForm};
 ghost use Rattle.net_world.specs.Worlds.{IsStanding, Stepped};
 ghost use Rattle.schedule_model.specs.WorldStep.{step_limit};
 ghost use Rattle.mld_replay.specs.BankFaults.{AreWell};
 ghost use Rattle.mld_replay.specs.Stops.{StopsWith};
-ghost use Rattle.mld_replay.specs.Stages.{StageStands, IsStandingStage, IsSetUpState, IsWorldStop, steps_of, banks_of_stage, ActsWell, EndsWell};
+ghost use Rattle.mld_replay.specs.Stages.{StageStands, SpellsAt, IsStandingStage, IsSetUpState, IsWorldStop, steps_of, banks_of_stage, ActsWell, EndsWell};
 ghost use Rattle.mld_replay.specs.declared.stages.Stage.TheVariants as stages;
 
 use crate::stops::LineStop;
@@ -117,8 +116,9 @@ fn start<R: Threads, B: CrashBanks>(
     requires standing { IsStandingStage B.log stage.old }
     requires set_up { IsSetUpState stage.old }
     requires numbers { HasCloneNumbers command.now }
+    requires form { HasQueryInForm command.now }
     requires empty { reply.old.items ≡ [] }
-    ensures ok { OnOk result ((model : ModelStage) (line : List ℕ) → StageStands B.log stage.old model → SpellsAnywhere line command.now
+    ensures ok { OnOk result ((model : ModelStage) (line : List ℕ) → StageStands B.log stage.old model → SpellsAt model line command.now
         → ActsWell B.log model line reply.new.items stage.new) }
     ensures steps { OnOk result (steps_of stage.new ≡ 1) }
     ensures well { OnOk result (AreWell B.meter (banks_of_stage stage.old) (banks_of_stage stage.new)) }
@@ -181,7 +181,7 @@ fn command<R: Threads, B: CrashBanks>(
     ensures ok { OnOk result ((model : ModelWorld) → StandsOnBanks B.log world.old model → IsSound model
         → ActsWell B.log (Running model) line.now reply.new.items (stages.Running world.new)) }
     ensures steps { OnOk result (world.new.steps ≤ world.old.steps + 1) }
-    ensures bad { IsErrOf result LineStop.BadLine → (model : ModelWorld) → IsBad (Running model) line.now }
+    ensures bad { IsErrOf result LineStop.BadLine → (model : ModelWorld) → StandsOnBanks B.log world.old model → IsBad (Running model) line.now }
     ensures kept { IsErrOf result LineStop.BadLine → world.new ≡ world.old }
     ensures unbuilt { IsErrOf result LineStop.Unbuilt → IsUnbuilt line.now }
     ensures kept_unbuilt { IsErrOf result LineStop.Unbuilt → world.new ≡ world.old }
@@ -205,6 +205,7 @@ fn step<R: Threads, B: CrashBanks>(
     requires few { world.old.steps < step_limit }
     requires standing { IsStanding B.log world.old }
     requires numbers { HasCloneNumbers command.now }
+    requires form { HasQueryInForm command.now }
     requires empty { reply.old.items ≡ [] }
     ensures ok { OnOk result (Stepped B.log world.old command.now world.new [] reply.new.items) }
     ensures steps { OnOk result (world.new.steps ≡ world.old.steps + 1) }

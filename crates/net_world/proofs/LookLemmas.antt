@@ -1,5 +1,5 @@
--- What `show` and `compare` do is the model's step.
-use Rattle.std.proofs.Common.{◌≡◌, ℕ, List, Option, Bor, refl, sym, map}
+-- What `show`, `query` and `compare` do is the model's step.
+use Rattle.std.proofs.Common.{◌≡◌, ℕ, List, Option, Bor, Result, Ok, Err, IfOk, refl, sym, map}
 use Rattle.graph_index.specs.Graphs.{GraphValue}
 use Rattle.mld_io.specs.Arm.{Meter}
 use Rattle.mld_io.specs.Disk.{Log}
@@ -8,10 +8,14 @@ use Rattle.mld_model.specs.declared.CloneState.TheVariants as states
 use Rattle.mld_model.specs.Reply.{Reply, Shows}
 use Rattle.mld_model.specs.Local.{LocalClone}
 use Rattle.mld_model.specs.StandsFor.{RunningWorld}
+use Rattle.mld_ops.specs.Present.{present}
+use Rattle.jrql_patterns.specs.declared.queries.ReadQuery.{ReadQuery}
+use Rattle.schedule_model.specs.Querying.{AnswersQuery}
 use Rattle.schedule_model.specs.declared.Command.{Command}
-use Rattle.schedule_model.specs.declared.Command.TheVariants.{Show, Compare}
-use Rattle.schedule_model.proofs.WorldLaws.{LocallyCompares, stepped, show_follows, show_missing, compare_follows, compare_missing_first, compare_missing_second}
+use Rattle.schedule_model.specs.declared.Command.TheVariants.{Show, Query, Compare}
+use Rattle.schedule_model.proofs.WorldLaws.{LocallyCompares, stepped, show_follows, show_missing, query_follows, query_missing, compare_follows, compare_missing_first, compare_missing_second}
 use Rattle.clone_core.specs.Banked.{BankedClone}
+use Rattle.net_world.specs.declared.faults.WorldFault.{WorldFault}
 use Rattle.net_world.specs.declared.parts.Parts.{Parts}
 use Rattle.schedule_replies.specs.declared.replies.Reply.{Reply as CodeReply}
 use Rattle.schedule_replies.specs.declared.replies.Reply.TheVariants as replies
@@ -31,6 +35,15 @@ shown running number live pairs at are =
 
 pub not_shown : (running : RunningWorld) (number : ℕ) (reply : Reply) → IsMissingAt running.clones number reply → Moves running (Show number) reply (stepped running)
 not_shown running number reply missing world stands sound = show_missing running world stands sound number missing.state reply missing.at missing.is
+
+-- a live clone answers a query
+answers_so : (running : RunningWorld) (number : ℕ) (read : ReadQuery) (live : LocalClone) (reply : Reply) → HasState running.clones number (states.Live live)
+    → AnswersQuery (present live.pairs) read reply → Moves running (Query number read) reply (stepped running)
+answers_so running number read live reply at answers world stands sound = query_follows running world stands sound number read live reply at answers
+
+not_answered : (running : RunningWorld) (number : ℕ) (read : ReadQuery) (reply : Reply) → IsMissingAt running.clones number reply
+    → Moves running (Query number read) reply (stepped running)
+not_answered running number read reply missing world stands sound = query_missing running world stands sound number read missing.state reply missing.at missing.is
 
 pub weighed : (running : RunningWorld) (number second : ℕ) (live other : LocalClone) (reply : Reply) → HasState running.clones number (states.Live live) → HasState running.clones second (states.Live other)
     → LocallyCompares live other reply → Moves running (Compare number second) reply (stepped running)
@@ -59,6 +72,18 @@ module _ {B : Type 0} (log : B → Option Log) (meter : B → Meter) (parts : Pa
 
   pub show_missing_done : (number : ℕ) (reply : CodeReply) → IsMissingAt (map in_memory parts.clones.items) number (reply_value reply) → Does log parts (Show number) parts reply
   show_missing_done number reply missing = looks (Show number) reply tt (λ steps. not_shown (memory_of (running_of parts steps)) number (reply_value reply) missing)
+
+  pub query_done : (number : ℕ) (read : ReadQuery) (live : BankedClone B) (r : Result CodeReply WorldFault) → HasState parts.clones.items number (states.Live live)
+      → IfOk r (λ reply. AnswersQuery (present live.local.pairs) read (reply_value reply)) → IfOk r (Does log parts (Query number read) parts)
+  query_done number read live (Err fault) at answers = tt
+  query_done number read live (Ok reply) at answers =
+      looks (Query number read) reply tt
+      (λ steps. answers_so (memory_of (running_of parts steps)) number read live.local (reply_value reply) (memory_at parts.clones.items number (states.Live live) at) answers)
+
+  pub query_missing_done : (number : ℕ) (read : ReadQuery) (reply : CodeReply) → IsMissingAt (map in_memory parts.clones.items) number (reply_value reply)
+      → Does log parts (Query number read) parts reply
+  query_missing_done number read reply missing =
+      looks (Query number read) reply tt (λ steps. not_answered (memory_of (running_of parts steps)) number read (reply_value reply) missing)
 
   pub compare_done : (number second : ℕ) (live other : BankedClone B) (reply : CodeReply) → HasState parts.clones.items number (states.Live live) → HasState parts.clones.items second (states.Live other)
       → LocallyCompares live.local other.local (reply_value reply) → Does log parts (Compare number second) parts reply

@@ -2,7 +2,7 @@
 ghost use Rattle.std.specs.Prelude.{◌≡◌, vec_len, IfErr, OnOk, OnErr};
 ghost use Rattle.mld_model.specs.Local.{IsNamed};
 ghost use Rattle.mld_model.specs.World.{clone_count};
-ghost use Rattle.schedule_model.specs.Step.{HasCloneNumbers, number_of_clone};
+ghost use Rattle.schedule_model.specs.Step.{HasCloneNumbers, HasQueryInForm, number_of_clone};
 ghost use Rattle.net_world.specs.Commands.{Answered, TellsReply, FailsToTell};
 ghost use Rattle.net_world.specs.WorldParts.{HasStepLeft, KeepsDomain, HasFaultsOfParts};
 
@@ -15,6 +15,7 @@ use crate::join::join;
 use crate::keeping::{Keeping, keep};
 use crate::opening::open;
 use crate::parts::Parts;
+use crate::query::query;
 use crate::show::show;
 use crate::stopping::stop;
 use mld_io::{Banks, CrashBanks};
@@ -35,6 +36,7 @@ pub fn answer<R: Threads, B: CrashBanks>(
     requires count { vec_len parts.old.clones ≡ clone_count }
     requires named { IsNamed parts.old.domain parts.old.properties.items }
     requires numbers { HasCloneNumbers command.now }
+    requires form { HasQueryInForm command.now }
     ensures keeps { KeepsDomain B.meter (number_of_clone command.now) parts.old parts.new }
     ensures done { OnOk result (Answered B.log parts.old command.now parts.new out.old.items out.new.items) }
     ensures faults { HasFaultsOfParts B.meter (number_of_clone command.now) parts.old parts.new result }
@@ -56,6 +58,7 @@ pub fn answer<R: Threads, B: CrashBanks>(
         Command::Stop(number) => tell(out, Ok(stop(parts, *number))),
         Command::Open(number) => tell(out, open(rt, alloc, parts, *number)),
         Command::Show(number) => tell(out, Ok(show(parts, *number))),
+        Command::Query(number, read) => tell(out, query(alloc, parts, *number, read)),
         Command::Compare(number, other) => tell(out, Ok(compare(parts, *number, *other))),
     }
 }

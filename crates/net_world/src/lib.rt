@@ -12,6 +12,7 @@ mod join;
 mod keeping;
 mod opening;
 mod parts;
+mod query;
 mod show;
 mod states;
 mod stopping;

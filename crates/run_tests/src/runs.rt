@@ -71,9 +71,9 @@ fn a_line_that_is_no_command_ends_the_run(rt: HostRuntime) -> Result<(), Fail> {
             true,
         ),
         (b"", 4, bad(1), b"", false),
-        (b"query\n", 20, unbuilt(1), b"", false),
+        (b"single\n", 20, unbuilt(1), b"", false),
         (
-            b"domain d clones 1\nshow 0\nquery 0\n",
+            b"domain d clones 1\nshow 0\ncrash 0\n",
             20,
             unbuilt(3),
             b"ready 1\nhas 0\n",

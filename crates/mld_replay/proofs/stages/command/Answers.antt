@@ -9,5 +9,5 @@ returns-in-None-clause-ok g c = λ model stands sound.
 
 pub returns-in-Some-clause-ok : goal.returns-in-Some-clause-ok
 returns-in-Some-clause-ok g c =
-    commanded_all g.B.Banks.log c.step.result c.args.line.now c.in-Some.command c.args.world.now c.step.new.world c.step.new.reply.items
-    (spells_read c.domain.result.now c.args.line.now c.in_ok-read_command.field-0 c.in-Some.command c.in-Some.is c.in_ok-read_command.ensures.ok) c.step.ensures.ok
+    commanded_all g.B.Banks.log c.step.result c.domain.result.now c.args.line.now c.in-Some.command c.args.world.now c.step.new.world c.step.new.reply.items
+    c.domain.ensures.text (spells_read c.domain.result.now c.args.line.now c.in_ok-read_command.field-0 c.in-Some.command c.in-Some.is c.in_ok-read_command.ensures.ok) c.step.ensures.ok
