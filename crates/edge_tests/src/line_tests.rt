@@ -102,6 +102,52 @@ fn readers_of_std_are_sources(rt: HostRuntime) -> Result<(), Fail> {
     Ok(())
 }
 
+/// A reader that gives three bytes by its first and its third read, fails at its second one, and
+/// then is at its end.
+#[derive(Debug, Drop)]
+struct Pieces {
+    reads: usize,
+}
+
+impl Read for Pieces {
+    fn read(&mut self, out: &mut [u8]) -> io::Result<usize> {
+        let read = self.reads;
+        self.reads = read.saturating_add(1);
+        let piece = match read {
+            0 => b"a\nb",
+            1 => return Err(io::Error::from(io::ErrorKind::Other)),
+            2 => b"cd\n",
+            _ => return Ok(0),
+        };
+        if out.len() < 3 {
+            return Ok(0);
+        }
+        out[..3].copy_from_slice(piece);
+        Ok(3)
+    }
+}
+
+/// Whether one read gives these bytes, or fails.
+fn gives<S: Source>(source: &mut S, wanted: Option<&[u8]>) -> bool {
+    let mut out = [0u8; 9];
+    match source.read(&mut out) {
+        Ok(count) => wanted == Some(&out[..count]),
+        Err(_) => wanted.is_none(),
+    }
+}
+
+#[test]
+fn what_was_read_ahead_is_given_before_a_reader_is_read_again(rt: HostRuntime) -> Result<(), Fail> {
+    let mut lines = Box::new(rt.alloc(), Lines::new(rt.alloc(), 10, 10)?)?;
+    let mut source = StdSource::new(Pieces { reads: 0 });
+    assert!(rt; is_next(&mut lines, &mut source, Some(b"a")));
+    let wanted: [Option<&[u8]>; 4] = [Some(b"b"), None, Some(b"cd\n"), Some(b"")];
+    for piece in wanted {
+        assert!(rt; gives(&mut source, piece));
+    }
+    Ok(())
+}
+
 /// A sink that takes at most two bytes of a piece.
 #[derive(Debug, Drop)]
 struct Short {

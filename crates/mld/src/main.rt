@@ -7,7 +7,7 @@ use mld_model::CLONE_COUNT;
 use mld_replay::run::{Ran, RunFault, ended, run};
 use std::alloc::{Alloc, Global};
 use std::env::{self, Env};
-use std::io::{self, BufReader, ErrorKind, Input, Print};
+use std::io::{self, ErrorKind, Input, Print};
 use std::mem;
 use std::process::ExitCode;
 use std::thread::Threads;
@@ -35,7 +35,7 @@ fn run_on_standard<R: Alloc<A = Global> + Env + Input + Print + Threads>(
     for word in env::args(rt)?.skip(1) {
         words.push(word)?;
     }
-    let mut source = StdSource::new(BufReader::new(rt.alloc(), rt.reader())?);
+    let mut source = StdSource::new(rt.reader());
     let mut sink = StdSink::new(io::writer(rt));
     let banks = blank_banks(rt.alloc(), usize::from(CLONE_COUNT))?;
     Ok(run(rt, rt.alloc(), &words, &mut source, &mut sink, banks))

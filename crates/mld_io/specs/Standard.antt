@@ -1,5 +1,6 @@
 -- What the adapters over std's readers and writers tell.
 use Rattle.std.specs.Prelude.{◌≡◌, ℕ, zero, suc, List, Option, Result, Ok, Err}
+use Rattle.std.specs.Io.KnownBytes.{prepend_known}
 use Rattle.mld_io.specs.declared.faults.Failed.{Failed}
 use Rattle.mld_io.specs.declared.faults.IoFault.{IoFault}
 use Rattle.mld_io.specs.declared.faults.IoFault.TheVariants as io
@@ -7,9 +8,17 @@ use Rattle.mld_io.specs.Faults.{counted}
 use Rattle.mld_io.specs.declared.standard.StdSource.{StdSource}
 use Rattle.mld_io.specs.declared.standard.StdSink.{StdSink}
 
--- the bytes that the reader has left, where it tells them
+-- the reader of a source
+abbrev pub source_reader : {R : Type 0} → StdSource R → R
+source_reader s = s.reader
+
+-- the bytes that were read and not yet given
+abbrev pub bytes_ahead : {R : Type 0} → StdSource R → List ℕ
+bytes_ahead s = s.ahead
+
+-- those bytes, and then all that the reader has left, where it tells that
 abbrev pub reader_left : {R : Type 0} → (R → Option (List ℕ)) → StdSource R → Option (List ℕ)
-reader_left remaining s = remaining s.reader
+reader_left remaining s = prepend_known (bytes_ahead s) (remaining (source_reader s))
 
 -- how many reads failed
 abbrev pub reader_faults : {R : Type 0} → StdSource R → ℕ

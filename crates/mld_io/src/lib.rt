@@ -7,6 +7,7 @@ mod faults;
 mod line_reader;
 mod memory;
 mod pieces;
+mod read_ahead;
 mod sinks;
 mod sources;
 mod standard;

@@ -74,7 +74,7 @@ impl Source for MemorySource {
 }
 
 /// Copies as many bytes as there are and have room, and answers how many.
-fn copy_front(from: &[u8], to: &mut [u8]) -> usize
+pub fn copy_front(from: &[u8], to: &mut [u8]) -> usize
     ensures count { result ≡ min (length to.old) (length from.now) }
     ensures copied { to.new ≡ take result from.now ++ drop result to.old }
 {

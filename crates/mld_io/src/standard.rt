@@ -1,28 +1,37 @@
 //! Sources and sinks over the readers and writers of std.
-ghost use Rattle.std.specs.Prelude.{◌≡◌};
+ghost use Rattle.std.specs.Prelude.{◌≡◌, ◌≢◌, []};
+ghost use Rattle.std.specs.Io.{ReadsAtMost};
+ghost use Rattle.std.specs.Io.KnownBytes.{ReadConsumes};
 ghost use Rattle.mld_io.specs.Faults.{HasCause, HasSinkCause};
-ghost use Rattle.mld_io.specs.Standard.{reader_left, reader_faults, writer_held, writer_faults, TellsRead, TellsWrite};
+ghost use Rattle.mld_io.specs.Standard.{source_reader, bytes_ahead, reader_left, reader_faults, writer_held, writer_faults, TellsRead, TellsWrite};
 
 use crate::faults::{Failed, IoFault};
+use crate::read_ahead::ReadAhead;
 use crate::sinks::Sink;
 use crate::sources::Source;
 use std::io;
 use std::io::{Read, Write};
 
-/// The source over a reader, which should be buffered. It tells the bytes that the reader tells.
+/// The source over a reader, which need not be buffered: the source reads ahead as many bytes as
+/// the reader gives at once. It tells the bytes that the reader tells.
 #[derive(Debug, Drop)]
 pub struct StdSource<R> {
     reader: R,
+    ahead: ReadAhead,
     faults: u64,
 }
 
 impl<R: Read + Drop> StdSource<R> {
-    /// The source over this reader, with no fault so far.
+    /// The source over this reader, with nothing read and no fault so far.
     pub fn new(reader: R) -> StdSource<R>
         ensures left { reader_left R.remaining result ≡ R.remaining reader }
         ensures faults { reader_faults result ≡ 0 }
     {
-        StdSource { reader, faults: 0 }
+        StdSource {
+            reader,
+            ahead: ReadAhead::new(),
+            faults: 0,
+        }
     }
 }
 
@@ -31,15 +40,24 @@ impl<R: Read + Drop> Source for StdSource<R> {
 
     ghost faults = { reader_faults };
 
-    fn read(&mut self, out: &mut [u8]) -> Result<usize, Failed> {
-        let answer = self.reader.read(out);
-        tell_read(answer, &mut self.faults)
+    /// Gives bytes that were read ahead, and reads only where there are none.
+    #[inline(always)]
+    fn read(&mut self, out: &mut [u8]) -> Result<usize, Failed>
+        ensures bound { ReadsAtMost result out.new }
+        ensures bytes { ReadConsumes (reader_left R.remaining self.old) (reader_left R.remaining self.new) result out.new }
+        ensures cause { HasCause (reader_faults self.old) (reader_faults self.new) result }
+        ensures frugal { bytes_ahead self.old ≢ [] → source_reader self.new ≡ source_reader self.old }
+    {
+        if self.ahead.is_empty() {
+            self.ahead.fill(&mut self.reader, &mut self.faults)?;
+        }
+        Ok(self.ahead.give(out))
     }
 }
 
 /// Tells a read of std: the count that it answered, where 0 is the end, or its failure, which is
 /// counted.
-fn tell_read(answer: io::Result<usize>, faults: &mut u64) -> Result<usize, Failed>
+pub fn tell_read(answer: io::Result<usize>, faults: &mut u64) -> Result<usize, Failed>
     ensures told { TellsRead answer faults.old result faults.new }
     ensures cause { HasCause faults.old faults.new result }
 {
