@@ -2,6 +2,7 @@ pub mod JoinedLaws
 pub mod Parting
 pub mod Placing
 pub mod Storing
+pub mod Loads
 pub mod Halving
 pub mod Hinting
 pub mod Sharing

@@ -40,6 +40,11 @@ pub all_front : {X : Type 0} (chunks : List (List X)) (c at : ℕ) → c < lengt
 all_front chunks c at l m n =
     whole chunks c at l ∙ ap (λ zs. front_of chunks c at ++ zs) (at_end chunks c at l m n) ∙ append-nil (front_of chunks c at)
 
+-- an element that is put behind all others
+pub put_at_end : {X : Type 0} (chunks : List (List X)) (c at : ℕ) (x : X) → c < length chunks → length chunks ≤ c + 1 → length (chunk_at chunks c) ≤ at
+    → joined_chunks chunks ++ x ∷ [] ≡ front_of chunks c at ++ x ∷ back_of chunks c at
+put_at_end chunks c at x l m n = ap (λ zs. zs ++ x ∷ []) (all_front chunks c at l m n) ∙ ap (λ zs. front_of chunks c at ++ x ∷ zs) (sym (at_end chunks c at l m n))
+
 -- without a chunk, and in front of the first one, there is nothing
 pub none_front : {X : Type 0} (chunks : List (List X)) → length chunks ≡ 0 → (c at : ℕ) → joined_chunks chunks ≡ front_of chunks c at
 none_front [] e zero zero = refl

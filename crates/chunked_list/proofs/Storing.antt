@@ -1,10 +1,10 @@
 -- What edits of chunks do to the list and to its room.
-use Rattle.std.proofs.Common.{◌≡◌, ℕ, ◌+◌, ◌-◌, ◌*◌, ◌<◌, ◌≤◌, List, [], ◌∷◌, ◌++◌, length, get_or, set, take, drop, suc, zero, refl, sym, subst, ap, ◌∙◌, arith, append_assoc}
+use Rattle.std.proofs.Common.{◌≡◌, ℕ, ◌+◌, ◌-◌, ◌*◌, ◌<◌, ◌≤◌, List, [], ◌∷◌, ◌++◌, length, get_or, set, take, drop, suc, zero, refl, sym, ap, ◌∙◌, arith, append_assoc}
 use Rattle.std.proofs.lemmas.List.{length-append, length-take, length-drop, take-append-drop}
 use Rattle.std.specs.List.{remove, insert}
 use Rattle.chunked_list.specs.ChunkLimits.{chunk_limit, half_limit}
 use Rattle.chunked_list.specs.Joined.{joined_chunks, chunk_at, front_of, back_of}
-use Rattle.chunked_list.specs.Room.{excess_of, load_of, room_of}
+use Rattle.chunked_list.specs.Room.{excess_of}
 use Rattle.chunked_list.specs.Stores.{IsSized, AreSized}
 use Rattle.chunked_list.proofs.Parting.{sized_at}
 
@@ -35,10 +35,6 @@ pub sized_set : {X : Type 0} (chunks : List (List X)) (c : ℕ) (v : List X) →
 sized_set [] c v a s = tt
 sized_set (x ∷ xs) zero v a s = (s, a.1)
 sized_set (x ∷ xs) (suc c) v a s = (a.0, sized_set xs c v a.1 s)
-
-pub load_is : {X : Type 0} (chunks : List (List X)) → 0 < length chunks → load_of chunks ≡ excess_of chunks
-load_is [] l = absurd (omega (arith, l))
-load_is (x ∷ xs) l = refl
 
 pub excess_at : {X : Type 0} (chunks : List (List X)) (c : ℕ) → c < length chunks → length (chunk_at chunks c) - half_limit ≤ excess_of chunks
 excess_at [] c l = absurd (omega (arith, l))
@@ -232,24 +228,3 @@ take_sized chunks items c at l m e a o =
     let n = length_take (chunk_at chunks c) at m in
     let s = sized_at chunks c l a in
     rw e (sized_set chunks c (remove (chunk_at chunks c) at) a (omega (arith, n, o), omega (arith, n, s.1)))
-
--- how the room changes
-pub room_within : {X : Type 0} (s : ℕ) (old new : List (List X)) → 0 < length old → 0 < length new → excess_of new ≤ excess_of old + 1
-    → room_of s (load_of old) ≤ room_of s (load_of new) + 1
-room_within s old new l m h = rw (load_is old l, load_is new m) (omega (arith, h))
-
-pub room_less : {X : Type 0} (s : ℕ) (old new : List (List X)) → 0 < length old → 0 < length new → excess_of new ≤ excess_of old
-    → room_of s (load_of old) ≤ room_of s (load_of new)
-room_less s old new l m h = rw (load_is old l, load_is new m) (omega (arith, h))
-
-pub room_split : {X : Type 0} (s t : ℕ) (old new : List (List X)) → 0 < length old → 0 < length new → s ≡ t + 1 → excess_of new + (half_limit - 1) ≡ excess_of old
-    → room_of s (load_of old) ≤ room_of t (load_of new) + 1
-room_split s t old new l m p q = rw (load_is old l, load_is new m) (omega (arith, p, q))
-
--- where a chunk can be split, there is one to spare
-pub no_split : {X : Type 0} (chunks : List (List X)) (c s : ℕ) → c < length chunks → length (chunk_at chunks c) + 1 ≡ chunk_limit → s ≡ 0 → 0 < room_of s (load_of chunks) → ⊥
-no_split chunks c s l f z r =
-    let e = excess_at chunks c l in
-    let k = load_is chunks (omega (arith, l)) in
-    let q : 0 < room_of 0 (excess_of chunks) = subst (λ n. 0 < room_of 0 n) k (subst (λ n. 0 < room_of n (load_of chunks)) z r) in
-    omega (arith, e, f, q)

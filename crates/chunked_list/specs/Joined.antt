@@ -1,5 +1,5 @@
 -- A list in chunks, and a place in it.
-use Rattle.std.specs.Prelude.{ℕ, ◌+◌, List, [], ◌∷◌, ◌++◌, Bool, true, take, drop}
+use Rattle.std.specs.Prelude.{◌≡◌, ℕ, ◌+◌, List, [], ◌∷◌, ◌++◌, Bool, true, take, drop}
 use Rattle.std.specs.List.{slice_index_or}
 
 -- the elements of all chunks, in order
@@ -18,6 +18,18 @@ front_of chunks chunk at = joined_chunks (take chunk chunks) ++ take at (chunk_a
 -- the elements behind a place
 abbrev pub back_of : {X : Type 0} → List (List X) → ℕ → ℕ → List X
 back_of chunks chunk at = drop at (chunk_at chunks chunk) ++ joined_chunks (drop (chunk + 1) chunks)
+
+-- the elements, with one more at a place
+abbrev pub with_element : {X : Type 0} → List (List X) → ℕ → ℕ → X → List X
+with_element chunks chunk at x = front_of chunks chunk at ++ x ∷ back_of chunks chunk at
+
+-- and without the one behind the place
+abbrev pub without_element : {X : Type 0} → List (List X) → ℕ → ℕ → List X
+without_element chunks chunk at = front_of chunks chunk at ++ drop 1 (back_of chunks chunk at)
+
+-- that one is the given element
+abbrev pub IsRightBehind : {X : Type 0} → List (List X) → ℕ → ℕ → X → Type 0
+IsRightBehind chunks chunk at x = back_of chunks chunk at ≡ x ∷ drop 1 (back_of chunks chunk at)
 
 -- whether the first element passes, or there is none
 abbrev pub first_passes : {X : Type 0} → (X → Bool) → List X → Bool

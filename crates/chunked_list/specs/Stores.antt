@@ -1,5 +1,5 @@
 -- What the parts of a list in chunks keep.
-use Rattle.std.specs.Prelude.{◌≡◌, ℕ, ◌+◌, ◌<◌, ◌≤◌, List, [], length, min, vec_len, vec_capacity}
+use Rattle.std.specs.Prelude.{◌≡◌, ℕ, ◌+◌, ◌<◌, ◌≤◌, List, [], length, vec_len, vec_capacity}
 use Rattle.std.specs.List.{AllByRecursion}
 use Rattle.chunked_list.specs.declared.stores.Store.{Store}
 use Rattle.chunked_list.specs.Hinted.{IsHinted, top_key}
@@ -21,7 +21,7 @@ pub record IsStore {X : Type 0} (key : X → List ℕ) (store : Store X) : Type 
   pub excess : store.excess ≡ excess_of store.chunks.items
   pub count : store.count ≡ length (joined_chunks store.chunks.items)
   pub chunk_room : vec_len store.chunks + vec_len store.spare ≤ vec_capacity store.chunks
-  pub spare_room : min 1 (vec_len store.chunks) + vec_len store.spare ≤ vec_capacity store.spare
+  pub spare_room : vec_len store.chunks + vec_len store.spare ≤ vec_capacity store.spare
   pub tops : IsHinted (top_key key) store.chunks.items store.tops
   pub tops_room : vec_len store.chunks + vec_len store.spare ≤ vec_capacity store.tops.numbers
   pub few : vec_len store.chunks + vec_len store.spare ≤ chunks_limit

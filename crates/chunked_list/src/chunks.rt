@@ -1,5 +1,5 @@
 //! Chunks of a list.
-ghost use Rattle.std.specs.Prelude.{◌≡◌, ◌<◌, ◌≤◌, ◌+◌, [], List, length, take, drop, IfOk, IsTrue, ◌↔◌, vec_len, vec_capacity, true, false};
+ghost use Rattle.std.specs.Prelude.{◌≡◌, ◌<◌, ◌≤◌, ◌+◌, [], List, length, take, drop, IfOk, vec_len, vec_capacity, true, false};
 ghost use Rattle.std.specs.List.{insert, remove, slice_index_or};
 ghost use Rattle.std.specs.List.Sorted.{IsPartitionedBy, IsPartitionPoint};
 ghost use Rattle.chunked_list.specs.ChunkLimits.{chunk_limit, half_limit};
@@ -50,13 +50,6 @@ impl<T: Keyed + Drop> Chunk<T> {
         ensures limit { length self.now ≤ chunk_limit }
     {
         self.elements.len()
-    }
-
-    /// Whether there is no element.
-    pub fn is_empty(&self) -> bool
-        ensures { IsTrue result ↔ (self.now ≡ []) }
-    {
-        self.elements.is_empty()
     }
 
     /// The elements, in order.

@@ -24,10 +24,9 @@ pub struct Chunked<T: Keyed> {
 
 impl<T: Keyed> Model for Chunked<T> {
     ghost use Rattle.chunked_list.specs.Room.{ChunkedValue};
+    ghost use Rattle.chunked_list.specs.Stores.{IsStore, elements_in, room_in};
 
     ghost Value = { ChunkedValue T };
-
-    ghost use Rattle.chunked_list.specs.Stores.{IsStore, elements_in, room_in};
 
     ghost view = { λ list. record { elements = elements_in list.store; room = room_in list.store } };
 
@@ -58,13 +57,6 @@ impl<T: Keyed + Drop> Chunked<T> {
         ensures { result ≡ length self.now.elements }
     {
         self.store.count
-    }
-
-    /// Whether there is no element.
-    pub fn is_empty(&self) -> bool
-        ensures { IsTrue result ↔ (self.now.elements ≡ []) }
-    {
-        self.store.count == 0
     }
 
     /// The chunks, in order.

@@ -1,13 +1,16 @@
 //! Places in a list of chunks.
-ghost use Rattle.std.specs.Prelude.{◌≡◌, ◌<◌, ◌≤◌, ◌+◌, true, [], length, max, IfSome, IfNone};
+ghost use Rattle.std.specs.Prelude.{◌≡◌, ◌<◌, ◌≤◌, ◌+◌, true, [], length, max, IfSome, IfNone, IsTrue};
+ghost use Rattle.chunked_list.specs.ChunkLimits.{half_limit};
 ghost use Rattle.chunked_list.specs.Joined.{joined_chunks, chunk_at, front_of, back_of};
 ghost use Rattle.chunked_list.specs.Parted.{IsParted, Divides, IsElement};
+ghost use Rattle.chunked_list.specs.Room.{last_half};
 ghost use Rattle.chunked_list.specs.Stores.{AreSized, IsStore, elements_in};
 ghost use Rattle.tree_clock.specs.Lists.{Has};
 
 use crate::bounds::{Bound, Keyed};
 use crate::chunks::Chunk;
 use crate::hints::count_hinted;
+use crate::limits::HALF;
 use crate::stores::Store;
 use crate::tops::Begun;
 
@@ -66,6 +69,27 @@ pub(crate) fn next_of<T: Keyed + Drop>(chunks: &[Chunk<T>], place: Place) -> Opt
         return Some(Place { chunk: next, at: 0 });
     }
     None
+}
+
+/// Whether a place is behind all elements.
+pub(crate) fn is_end<T: Keyed + Drop>(chunks: &[Chunk<T>], place: Place) -> bool
+    requires { place.chunk < length chunks.now }
+    ensures last { IsTrue result → length chunks.now ≤ place.chunk + 1 }
+    ensures at { IsTrue result → length (chunk_at chunks.now place.chunk) ≤ place.at }
+{
+    place.chunk + 1 == chunks.len() && place.at == chunks[place.chunk].len()
+}
+
+/// How many elements the last chunk has, up to a half; a half where there is no chunk.
+pub(crate) fn count_half<T: Keyed + Drop>(chunks: &[Chunk<T>]) -> usize
+    ensures value { result ≡ last_half half_limit chunks.now }
+    ensures limit { result ≤ half_limit }
+{
+    if chunks.is_empty() {
+        return HALF;
+    }
+    let last = chunks.len() - 1;
+    chunks[last].len().min(HALF)
 }
 
 /// The place behind all elements.

@@ -1,8 +1,8 @@
 //! The parts of a list in chunks.
 ghost use Rattle.std.specs.Prelude.{◌≡◌, ◌<◌, ◌≤◌, ◌+◌, ◌-◌, ◌++◌, ◌∷◌, [], length, drop, reverse, max, vec_len, IfOk, OnOk};
-ghost use Rattle.chunked_list.specs.Joined.{chunk_at, front_of, back_of};
+ghost use Rattle.chunked_list.specs.Joined.{chunk_at, with_element, without_element, IsRightBehind};
 ghost use Rattle.chunked_list.specs.ChunkLimits.{chunk_limit, half_limit, chunks_limit};
-ghost use Rattle.chunked_list.specs.Room.{load_of, room_of};
+ghost use Rattle.chunked_list.specs.Room.{last_half, load_of, room_of};
 ghost use Rattle.chunked_list.specs.Parted.{IsElement};
 ghost use Rattle.chunked_list.specs.Stores.{IsStore, elements_in, room_in};
 
@@ -11,7 +11,7 @@ use crate::chunks::Chunk;
 use crate::edits::{insert_at, remove_at, split_at};
 use crate::hints::{Hints, put_hint};
 use crate::limits::{CHUNK_LIMIT, CHUNKS_LIMIT, HALF};
-use crate::places::{Place, end_of};
+use crate::places::{Place, count_half, end_of, is_end};
 use std::alloc::{AllocError, Global};
 
 /// The parts of a list in chunks. No chunk is empty or full.
@@ -36,32 +36,34 @@ pub(crate) fn put<T: Keyed + Drop>(store: &mut Store<T>, place: Place, element: 
     requires chunk { place.chunk < max 1 (length store.old.chunks.items) }
     requires at { place.at ≤ length (chunk_at store.old.chunks.items place.chunk) }
     ensures is { IsStore T.key store.new }
-    ensures elements { elements_in store.new ≡ front_of store.old.chunks.items place.chunk place.at
-        ++ element ∷ back_of store.old.chunks.items place.chunk place.at }
+    ensures elements { elements_in store.new ≡ with_element store.old.chunks.items place.chunk place.at element }
     ensures room { room_in store.old ≤ room_in store.new + 1 }
 {
     if store.chunks.is_empty() {
-        return put_first(store, element);
+        return put_behind(store, element);
     }
     if store.chunks[place.chunk].len() + 1 < CHUNK_LIMIT {
         return put_within(store, place, element);
     }
+    if is_end(&store.chunks, place) {
+        return put_behind(store, element);
+    }
     put_and_split(store, place, element);
 }
 
-// Puts an element into an empty list.
-fn put_first<T: Keyed + Drop>(store: &mut Store<T>, element: T)
+// Puts an element behind all others, into a chunk of its own.
+fn put_behind<T: Keyed + Drop>(store: &mut Store<T>, element: T)
     requires is { IsStore T.key store.old }
     requires room { 0 < room_in store.old }
-    requires empty { store.old.chunks.items ≡ [] }
+    requires full { last_half half_limit store.old.chunks.items ≡ half_limit }
     ensures is { IsStore T.key store.new }
-    ensures elements { elements_in store.new ≡ element ∷ [] }
+    ensures elements { elements_in store.new ≡ elements_in store.old ++ element ∷ [] }
     ensures room { room_in store.old ≤ room_in store.new + 1 }
 {
     if let Some(spare) = store.spare.pop() {
         let mut chunk = spare;
         chunk.insert(0, element);
-        put_hint(&mut store.tops, &store.chunks, 0, &chunk);
+        put_hint(&mut store.tops, &store.chunks, store.chunks.len(), &chunk);
         store.chunks.push_reserved(chunk);
         store.count += 1;
     }
@@ -74,8 +76,7 @@ fn put_within<T: Keyed + Drop>(store: &mut Store<T>, place: Place, element: T)
     requires at { place.at ≤ length (chunk_at store.old.chunks.items place.chunk) }
     requires space { length (chunk_at store.old.chunks.items place.chunk) + 1 < chunk_limit }
     ensures is { IsStore T.key store.new }
-    ensures elements { elements_in store.new ≡ front_of store.old.chunks.items place.chunk place.at
-        ++ element ∷ back_of store.old.chunks.items place.chunk place.at }
+    ensures elements { elements_in store.new ≡ with_element store.old.chunks.items place.chunk place.at element }
     ensures room { room_in store.old ≤ room_in store.new + 1 }
 {
     let before = store.chunks[place.chunk].len();
@@ -99,8 +100,7 @@ fn put_and_split<T: Keyed + Drop>(store: &mut Store<T>, place: Place, element: T
     requires at { place.at ≤ length (chunk_at store.old.chunks.items place.chunk) }
     requires full { length (chunk_at store.old.chunks.items place.chunk) + 1 ≡ chunk_limit }
     ensures is { IsStore T.key store.new }
-    ensures elements { elements_in store.new ≡ front_of store.old.chunks.items place.chunk place.at
-        ++ element ∷ back_of store.old.chunks.items place.chunk place.at }
+    ensures elements { elements_in store.new ≡ with_element store.old.chunks.items place.chunk place.at element }
     ensures room { room_in store.old ≤ room_in store.new + 1 }
 {
     if let Some(spare) = store.spare.pop() {
@@ -116,10 +116,8 @@ pub(crate) fn take_out<T: Keyed + Drop>(store: &mut Store<T>, place: Place) -> T
     requires is { IsStore T.key store.old }
     requires element { IsElement store.old.chunks.items place.chunk place.at }
     ensures is { IsStore T.key store.new }
-    ensures element { back_of store.old.chunks.items place.chunk place.at
-        ≡ result ∷ drop 1 (back_of store.old.chunks.items place.chunk place.at) }
-    ensures elements { elements_in store.new ≡ front_of store.old.chunks.items place.chunk place.at
-        ++ drop 1 (back_of store.old.chunks.items place.chunk place.at) }
+    ensures element { IsRightBehind store.old.chunks.items place.chunk place.at result }
+    ensures elements { elements_in store.new ≡ without_element store.old.chunks.items place.chunk place.at }
     ensures room { room_in store.old ≤ room_in store.new }
 {
     if store.chunks[place.chunk].len() == 1 {
@@ -128,23 +126,21 @@ pub(crate) fn take_out<T: Keyed + Drop>(store: &mut Store<T>, place: Place) -> T
     take_within(store, place)
 }
 
-// Takes the only element of a chunk out, and the chunk with it; that of an empty list is kept to spare.
+// Takes the only element of a chunk out, and the chunk with it; where that is the last one, it is kept to spare.
 fn take_only<T: Keyed + Drop>(store: &mut Store<T>, place: Place) -> T
     requires is { IsStore T.key store.old }
     requires element { IsElement store.old.chunks.items place.chunk place.at }
     requires only { length (chunk_at store.old.chunks.items place.chunk) ≡ 1 }
     ensures is { IsStore T.key store.new }
-    ensures element { back_of store.old.chunks.items place.chunk place.at
-        ≡ result ∷ drop 1 (back_of store.old.chunks.items place.chunk place.at) }
-    ensures elements { elements_in store.new ≡ front_of store.old.chunks.items place.chunk place.at
-        ++ drop 1 (back_of store.old.chunks.items place.chunk place.at) }
+    ensures element { IsRightBehind store.old.chunks.items place.chunk place.at result }
+    ensures elements { elements_in store.new ≡ without_element store.old.chunks.items place.chunk place.at }
     ensures room { room_in store.old ≤ room_in store.new }
 {
     let _ = store.tops.numbers.remove(place.chunk);
     let mut chunk = store.chunks.remove(place.chunk);
     let element = chunk.remove(place.at);
     store.count -= 1;
-    if store.chunks.is_empty() {
+    if place.chunk == store.chunks.len() {
         store.spare.push_reserved(chunk);
     }
     element
@@ -156,10 +152,8 @@ fn take_within<T: Keyed + Drop>(store: &mut Store<T>, place: Place) -> T
     requires element { IsElement store.old.chunks.items place.chunk place.at }
     requires others { 1 < length (chunk_at store.old.chunks.items place.chunk) }
     ensures is { IsStore T.key store.new }
-    ensures element { back_of store.old.chunks.items place.chunk place.at
-        ≡ result ∷ drop 1 (back_of store.old.chunks.items place.chunk place.at) }
-    ensures elements { elements_in store.new ≡ front_of store.old.chunks.items place.chunk place.at
-        ++ drop 1 (back_of store.old.chunks.items place.chunk place.at) }
+    ensures element { IsRightBehind store.old.chunks.items place.chunk place.at result }
+    ensures elements { elements_in store.new ≡ without_element store.old.chunks.items place.chunk place.at }
     ensures room { room_in store.old ≤ room_in store.new }
 {
     let before = store.chunks[place.chunk].len();
@@ -197,10 +191,7 @@ fn wanted_for<T: Keyed + Drop>(store: &Store<T>, more: usize) -> usize
     requires few { more ≤ chunks_limit }
     ensures { more ≤ room_of result (load_of store.now.chunks.items) }
 {
-    if store.chunks.is_empty() {
-        return more.min((HALF + more) / HALF);
-    }
-    more.min((store.excess + more) / HALF)
+    more.min((store.excess + count_half(&store.chunks) + more) / HALF)
 }
 
 // Makes as many chunks to spare, where there are fewer.
@@ -218,7 +209,7 @@ fn fill_spare<T: Keyed + Drop>(
 {
     store.chunks.reserve(wanted)?;
     store.tops.numbers.reserve(wanted)?;
-    store.spare.reserve(wanted + 1)?;
+    store.spare.reserve(store.chunks.len() + wanted)?;
     while store.spare.len() < wanted {
         let chunk = Chunk::new(alloc)?;
         store.spare.push_reserved(chunk);

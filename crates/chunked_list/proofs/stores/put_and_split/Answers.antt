@@ -1,6 +1,8 @@
-use Rattle.std.proofs.Common.{◌<◌, arith, length}
+use Rattle.std.proofs.Common.{arith}
+use Rattle.chunked_list.specs.Room.{load_of}
 use Rattle.chunked_list.proofs.Splitting.{split_count, split_excess, split_sized, split_joined, spare_left}
-use Rattle.chunked_list.proofs.Storing.{count_bound, excess_at, room_split, no_split}
+use Rattle.chunked_list.proofs.Loads.{split_load, room_taken, no_split}
+use Rattle.chunked_list.proofs.Storing.{count_bound, excess_at}
 use Rattle.chunked_list.proofs.stores.put_and_split.Goals as goal
 
 pub overflow_add-store : goal.overflow_add-store
@@ -36,11 +38,8 @@ returns-in-Some-clause-elements g c =
 
 pub returns-in-Some-clause-room : goal.returns-in-Some-clause-room
 returns-in-Some-clause-room g c =
-    let x = excess_at c.args.store.now.chunks.items c.args.place.chunk c.requires.chunk in
-    let h = split_excess c.args.store.now.chunks.items c.insert_at.new.chunks.items c.split_at.new.chunks.items c.args.place.chunk c.args.place.at c.args.element c.requires.chunk c.requires.full c.insert_at.ensures.items c.split_at.ensures.items in
-    let p : 0 < length c.args.store.now.chunks.items = omega (arith, c.requires.chunk) in
-    let q : 0 < length c.split_at.new.chunks.items = omega (arith, c.insert_at.ensures.len, c.split_at.ensures.len) in
-    room_split _ _ c.args.store.now.chunks.items c.split_at.new.chunks.items p q (omega (arith, c.in-Some.ensures.cases)) h
+    let h = split_load c.args.store.now.chunks.items c.insert_at.new.chunks.items c.split_at.new.chunks.items c.args.place.chunk c.args.place.at c.args.element c.requires.chunk c.requires.full c.insert_at.ensures.items c.split_at.ensures.items in
+    room_taken _ _ (load_of c.args.store.now.chunks.items) (load_of c.split_at.new.chunks.items) (omega (arith, c.in-Some.ensures.cases)) h
 
 pub returns-in_default-clause-elements : goal.returns-in_default-clause-elements
-returns-in_default-clause-elements g c = absurd (no_split c.args.store.now.chunks.items c.args.place.chunk _ c.requires.chunk c.requires.full c.in_default.ensures.cases.0 c.requires.room)
+returns-in_default-clause-elements g c = absurd (no_split c.args.store.now.chunks.items c.args.place.chunk _ c.requires.is.sized c.requires.chunk c.requires.full c.in_default.ensures.cases.0 c.requires.room)

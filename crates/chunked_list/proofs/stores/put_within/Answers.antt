@@ -1,7 +1,9 @@
-use Rattle.std.proofs.Common.{◌∙◌, ◌<◌, ap, arith, [], length}
+use Rattle.std.proofs.Common.{◌∙◌, ap, arith, [], length}
 use Rattle.std.proofs.lemmas.List.{get_or_default}
 use Rattle.chunked_list.specs.Joined.{joined_chunks}
-use Rattle.chunked_list.proofs.Storing.{count_bound, excess_bound, excess_at, put_sized, put_excess, put_count, joined_put, room_within}
+use Rattle.chunked_list.specs.Room.{load_of}
+use Rattle.chunked_list.proofs.Storing.{count_bound, excess_bound, excess_at, put_sized, put_excess, put_count, joined_put}
+use Rattle.chunked_list.proofs.Loads.{put_load, room_within}
 use Rattle.chunked_list.proofs.stores.put_within.Goals as goal
 
 pub overflow_add-store : goal.overflow_add-store
@@ -43,7 +45,5 @@ returns-clause-elements g c =
 
 pub returns-clause-room : goal.returns-clause-room
 returns-clause-room g c =
-    let h = put_excess c.args.store.now.chunks.items c.insert_at.new.chunks.items c.args.place.chunk c.args.place.at c.args.element c.requires.chunk c.insert_at.ensures.items in
-    let p : 0 < length c.args.store.now.chunks.items = omega (arith, c.requires.chunk) in
-    let q : 0 < length c.insert_at.new.chunks.items = omega (arith, c.insert_at.ensures.len, c.requires.chunk) in
-    room_within _ c.args.store.now.chunks.items c.insert_at.new.chunks.items p q (omega (arith, h))
+    room_within _ (load_of c.args.store.now.chunks.items) (load_of c.insert_at.new.chunks.items)
+    (put_load c.args.store.now.chunks.items c.insert_at.new.chunks.items c.args.place.chunk c.args.place.at c.args.element c.requires.chunk c.insert_at.ensures.items)

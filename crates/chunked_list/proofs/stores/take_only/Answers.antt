@@ -1,14 +1,55 @@
-use Rattle.std.proofs.Common.{◌∙◌, ◌<◌, sym, ap, subst, arith, length, rules}
+use Rattle.std.proofs.Common.{◌≡◌, ◌∙◌, ◌<◌, ◌≤◌, ◌+◌, sym, ap, subst, arith, [], length}
+use Rattle.std.proofs.lemmas.List.{get_or_default, nil_from_length}
 use Rattle.chunked_list.specs.Joined.{joined_chunks}
 use Rattle.chunked_list.specs.Hinted.{top_key}
 use Rattle.chunked_list.specs.Stores.{AreSized}
-use Rattle.chunked_list.specs.Room.{excess_of}
-use Rattle.chunked_list.proofs.Storing.{joined_only, count_remove, excess_remove, sized_remove, room_less}
+use Rattle.chunked_list.specs.Room.{excess_of, load_of}
+use Rattle.chunked_list.proofs.Loads.{gone_load, last_load, room_given, room_less}
+use Rattle.chunked_list.proofs.Splitting.{spare_more}
+use Rattle.chunked_list.proofs.Storing.{joined_only, count_remove, excess_remove, length_take, sized_remove}
 use Rattle.chunked_list.proofs.Sharing.{taken_hinted}
 use Rattle.chunked_list.proofs.stores.take_only.Goals as goal
 
-pub returns-else-is_empty-clause-is : goal.returns-else-is_empty-clause-is
-returns-else-is_empty-clause-is g c =
+pub returns-then-place-len-clause-is : goal.returns-then-place-len-clause-is
+returns-then-place-len-clause-is g c =
+    let i = c.remove-chunk.ensures.items in
+    let l = c.requires.element.chunk_is in
+    let h = excess_remove c.args.store.now.chunks.items c.args.place.chunk l in
+    let k = count_remove c.args.store.now.chunks.items c.args.place.chunk l in
+    let e = ap excess_of i in
+    let n = ap (λ zs. length (joined_chunks zs)) i in
+    let v = c.remove-chunk.ensures.value ∙ get_or_default c.args.store.now.chunks.items c.args.place.chunk c.remove-chunk.result [] l in
+    let lv = ap length v in
+    let lr = ap length c.remove-element.ensures.rest in
+    let t = length_take c.remove-chunk.result c.args.place.at (omega (arith, lv, c.requires.element.at_is)) in
+    let nil : c.remove-element.new.self ≡ [] = nil_from_length c.remove-element.new.self (omega (arith, lv, lr, t, c.requires.only)) in
+    record {
+      sized = subst AreSized (sym i) (sized_remove c.args.store.now.chunks.items c.args.place.chunk c.requires.is.sized);
+      spare = spare_more c.args.store.now.spare.items c.push_reserved.new.self.items c.remove-element.new.self c.push_reserved.ensures.items nil c.requires.is.spare;
+      excess = omega (arith, h, e, c.requires.only, c.requires.is.excess);
+      count = omega (arith, k, n, c.requires.only, c.requires.is.count);
+      chunk_room = omega (arith, c.remove-chunk.ensures.len, c.remove-chunk.ensures.capacity, c.push_reserved.ensures.len, c.requires.is.chunk_room);
+      spare_room = omega (arith, c.remove-chunk.ensures.len, c.push_reserved.ensures.len, c.push_reserved.ensures.capacity, c.requires.is.spare_room);
+      tops = taken_hinted (top_key g.T.Keyed.key) c.args.store.now.tops.mark c.args.place.chunk c.args.store.now.chunks.items c.remove-chunk.new.self.items c.args.store.now.tops.numbers.items c.remove.new.self.items
+          c.requires.is.tops i c.remove.ensures.items;
+      tops_room = omega (arith, c.remove-chunk.ensures.len, c.remove.ensures.capacity, c.push_reserved.ensures.len, c.requires.is.tops_room);
+      few = omega (arith, c.remove-chunk.ensures.len, c.push_reserved.ensures.len, c.requires.is.few);
+    }
+
+pub returns-then-place-len-clause-elements : goal.returns-then-place-len-clause-elements
+returns-then-place-len-clause-elements g c =
+    ap joined_chunks c.remove-chunk.ensures.items
+    ∙ joined_only c.args.store.now.chunks.items c.args.place.chunk c.args.place.at c.requires.element.at_is c.requires.only
+
+pub returns-then-place-len-clause-room : goal.returns-then-place-len-clause-room
+returns-then-place-len-clause-room g c =
+    let old = c.args.store.now.chunks.items in
+    let m : length old ≤ c.args.place.chunk + 1 = omega (arith, c.if-place-len.true, c.len.ensures, c.remove-chunk.ensures.len) in
+    room_given _ _ (load_of old) (load_of c.remove-chunk.new.self.items) (omega (arith, c.push_reserved.ensures.len))
+    (last_load old c.remove-chunk.new.self.items c.args.place.chunk c.requires.element.chunk_is m c.remove-chunk.ensures.items)
+
+pub returns-else-place-len-clause-is : goal.returns-else-place-len-clause-is
+returns-else-place-len-clause-is g c =
     let i = c.remove-chunk.ensures.items in
     let l = c.requires.element.chunk_is in
     let h = excess_remove c.args.store.now.chunks.items c.args.place.chunk l in
@@ -28,15 +69,13 @@ returns-else-is_empty-clause-is g c =
       few = omega (arith, c.remove-chunk.ensures.len, c.requires.is.few);
     }
 
-pub returns-else-is_empty-clause-elements : goal.returns-else-is_empty-clause-elements
-returns-else-is_empty-clause-elements g c =
+pub returns-else-place-len-clause-elements : goal.returns-else-place-len-clause-elements
+returns-else-place-len-clause-elements g c =
     ap joined_chunks c.remove-chunk.ensures.items
     ∙ joined_only c.args.store.now.chunks.items c.args.place.chunk c.args.place.at c.requires.element.at_is c.requires.only
 
-pub returns-else-is_empty-clause-room : goal.returns-else-is_empty-clause-room
-returns-else-is_empty-clause-room g c =
-    let h = excess_remove c.args.store.now.chunks.items c.args.place.chunk c.requires.element.chunk_is in
-    let e = ap excess_of c.remove-chunk.ensures.items in
-    let p : 0 < length c.args.store.now.chunks.items = omega (arith, c.requires.element.chunk_is) in
-    let q : 0 < length c.remove-chunk.new.self.items = search rules in
-    room_less _ c.args.store.now.chunks.items c.remove-chunk.new.self.items p q (omega (arith, h, e, c.requires.only))
+pub returns-else-place-len-clause-room : goal.returns-else-place-len-clause-room
+returns-else-place-len-clause-room g c =
+    let old = c.args.store.now.chunks.items in
+    let m : c.args.place.chunk + 1 < length old = omega (arith, c.if-place-len.false, c.len.ensures, c.remove-chunk.ensures.len, c.requires.element.chunk_is) in
+    room_less _ (load_of old) (load_of c.remove-chunk.new.self.items) (gone_load old c.remove-chunk.new.self.items c.args.place.chunk m c.remove-chunk.ensures.items)

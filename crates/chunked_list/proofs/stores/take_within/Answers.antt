@@ -1,7 +1,9 @@
-use Rattle.std.proofs.Common.{◌∙◌, ◌<◌, ap, arith, [], length}
+use Rattle.std.proofs.Common.{◌∙◌, ap, arith, [], length}
 use Rattle.std.proofs.lemmas.List.{get_or_default}
 use Rattle.chunked_list.specs.Joined.{joined_chunks}
-use Rattle.chunked_list.proofs.Storing.{count_at, excess_at, take_sized, take_excess, take_count, joined_take, back_first, room_less}
+use Rattle.chunked_list.specs.Room.{load_of}
+use Rattle.chunked_list.proofs.Storing.{count_at, excess_at, take_sized, take_excess, take_count, joined_take, back_first}
+use Rattle.chunked_list.proofs.Loads.{take_load, room_less}
 use Rattle.chunked_list.proofs.stores.take_within.Goals as goal
 
 pub overflow_sub-store : goal.overflow_sub-store
@@ -42,10 +44,8 @@ returns-clause-elements g c =
 
 pub returns-clause-room : goal.returns-clause-room
 returns-clause-room g c =
-    let h = take_excess c.args.store.now.chunks.items c.remove_at-element.new.chunks.items c.args.place.chunk c.args.place.at c.requires.element.chunk_is c.requires.element.at_is c.remove_at-element.ensures.items in
-    let p : 0 < length c.args.store.now.chunks.items = omega (arith, c.requires.element.chunk_is) in
-    let q : 0 < length c.remove_at-element.new.chunks.items = omega (arith, c.remove_at-element.ensures.len, c.requires.element.chunk_is) in
-    room_less _ c.args.store.now.chunks.items c.remove_at-element.new.chunks.items p q (omega (arith, h))
+    room_less _ (load_of c.args.store.now.chunks.items) (load_of c.remove_at-element.new.chunks.items)
+    (take_load c.args.store.now.chunks.items c.remove_at-element.new.chunks.items c.args.place.chunk c.args.place.at c.requires.element.chunk_is c.requires.element.at_is c.remove_at-element.ensures.items)
 
 pub returns-clause-element : goal.returns-clause-element
 returns-clause-element g c =
