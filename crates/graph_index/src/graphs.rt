@@ -73,13 +73,6 @@ impl Graph {
         copy_chunks(alloc, self.pairs.chunks())
     }
 
-    /// Every graph's pairs ascend. It does nothing.
-    pub fn ascends(&self)
-        ensures { IsAscending tagged_cmp self.now.pairs }
-    {
-        let _count = self.pairs.len();
-    }
-
     /// Its pairs, ascending, where they stand.
     pub fn in_order(&self, alloc: Global) -> Result<Vec<&Tagged>, AllocError>
         ensures { IfOk result (λ list. map (λ x. x.now) list.items ≡ self.now.pairs) }
@@ -122,15 +115,17 @@ impl Graph {
         o: Option<&Term>,
         _steps: &mut Steps<L>,
     ) -> Result<Vec<&Tagged>, AllocError>
-        ensures { IfOk result (λ found. FindsEach (matches (option_copied s.entry) (option_copied p.entry) (option_copied o.entry))
-            self.now.pairs (map (λ x. x.now) found.items)) }
+        ensures found { IfOk result (λ found. FindsEach (matches (option_copied s.entry) (option_copied p.entry)
+            (option_copied o.entry)) self.now.pairs (map (λ x. x.now) found.items)) }
+        ensures ascending { IsAscending tagged_cmp self.now.pairs }
     {
         matching_in(alloc, &self.pairs, s, p, o)
     }
 
     /// Whether some pair has the triple. It takes no memory.
     pub fn has_triple(&self, triple: &Triple) -> bool
-        ensures { IsTrue result ↔ HasTriple self.now.pairs triple.now }
+        ensures found { IsTrue result ↔ HasTriple self.now.pairs triple.now }
+        ensures ascending { IsAscending tagged_cmp self.now.pairs }
     {
         let (s, p, o) = (&triple.s, Some(&triple.p), Some(&triple.o));
         match self.pairs.first_from(&BeforeFront { s, p, o }) {

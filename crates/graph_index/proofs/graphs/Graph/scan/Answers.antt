@@ -6,8 +6,8 @@ use Rattle.graph_index.proofs.Ranging.{ok_weaker}
 use Rattle.graph_index.proofs.Scanning.{finds_each}
 use Rattle.graph_index.proofs.graphs.Graph.scan.Goals as goal
 
-pub returns : goal.returns
-returns g c =
+pub returns-clause-found : goal.returns-clause-found
+returns-clause-found g c =
     let test = matches (option_copied c.args.s) (option_copied c.args.p) (option_copied c.args.o) in
     let pairs = c.self.inside.pairs.elements in
     ok_weaker c.matching_in.result
