@@ -64,7 +64,7 @@ behind_dot s p o byte h = rw h refl
 -- ---- terms
 
 -- behind `<` an IRI is read up to its end
-iri_read : (slot : Slot) (text iri rest : List ℕ) → SpellsIri text iri → step (Before slot) 60 ≡ Some (Within slot SchemeStart Between [])
+pub iri_read : (slot : Slot) (text iri rest : List ℕ) → SpellsIri text iri → step (Before slot) 60 ≡ Some (Within slot SchemeStart Between [])
     → run (text ++ rest) (Before slot) ≡ run_from (closed slot iri) rest
 iri_read slot text iri rest h opens =
     let pieces = h.pieces.pieces in
@@ -203,7 +203,7 @@ spelled_read text t h =
     ∙ end_read t.s t.p t.o l.after_object l.after_dot object_blanks dot_blanks
 
 -- one verdict tells one triple
-spelled_inj : {t u : Triple} → Spelled t ≡ Spelled u → t ≡ u
+pub spelled_inj : {t u : Triple} → Spelled t ≡ Spelled u → t ≡ u
 spelled_inj h = cc
 
 -- one text spells one triple

@@ -10,6 +10,7 @@ pub mod FoundPieces
 pub mod FoundTags
 pub mod Sound
 pub mod Complete
+pub mod IriAlone
 pub mod Progress
 pub mod Opening
 pub mod LiteralParts

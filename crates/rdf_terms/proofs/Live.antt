@@ -9,7 +9,7 @@ use Rattle.rdf_terms.specs.declared.terms.Term.{Term}
 use Rattle.rdf_terms.specs.declared.terms.Term.TheVariants as terms
 use Rattle.rdf_terms.specs.declared.terms.Triple.{Triple}
 use Rattle.rdf_terms.specs.Literal.{Typed, rdf_lang_string, is_same}
-use Rattle.rdf_terms.specs.TripleReading.{State, Before, Within, Quoted, Hat, Tag, Closed, Ended, Slot, Subject, Predicate, Object, LexicalForm, Datatype, Part, Between, Behind, Digits, Spelled, may_begin, closed, step, run, verdict}
+use Rattle.rdf_terms.specs.TripleReading.{State, Before, Within, Quoted, Hat, Tag, Closed, Ended, Single, Slot, Alone, Subject, Predicate, Object, LexicalForm, Datatype, Part, Between, Behind, Digits, Spelled, thrice, may_begin, closed, step, run, verdict}
 use Rattle.rdf_terms.proofs.Steps.{run_step}
 use Rattle.rdf_terms.proofs.Opening.{IsOpen, IsOpenPart, IsOpenSlot}
 use Rattle.rdf_terms.proofs.Progress.{NextDigit, LastDigit, next_digit, last_digit, short_begins}
@@ -25,6 +25,10 @@ live_by state next byte e l = (byte ∷ l.0, l.1, run_step state next byte l.0 e
 live_ended : (s p : List ℕ) (o : Term) → IsLive (Ended s p o)
 unfolding run verdict
 live_ended s p o = ([], record { s = s; p = p; o = o }, refl)
+
+live_single : (iri : List ℕ) → IsLive (Single iri)
+unfolding run verdict
+live_single iri = ([], thrice iri, refl)
 
 live_closed : (s p : List ℕ) (o : Term) → IsLive (Closed s p o)
 unfolding step
@@ -90,6 +94,9 @@ live_between slot c Lexical value = elim (c value) [ inl k ↦ close_lexical slo
 
 -- ---- slot by slot, the last first
 
+alone_live : AreLive Alone
+alone_live = live_between Alone (λ value. inl (Single value, refl, live_single value))
+
 object_live : (s p : List ℕ) → AreLive (Object s p)
 object_live s p = live_between (Object s p) (λ value. inl (Closed s p (terms.Iri value), refl, live_closed s p (terms.Iri value)))
 
@@ -142,6 +149,7 @@ live_hat s p lexical = live_by (Hat s p lexical) (Before (Datatype s p lexical))
 
 live_before : (slot : Slot) → IsOpenSlot slot → IsLive (Before slot)
 unfolding step
+live_before Alone h = live_by (Before Alone) (Within Alone SchemeStart Between []) 60 refl (alone_live SchemeStart [])
 live_before Subject h = live_by (Before Subject) (Within Subject SchemeStart Between []) 60 refl (subject_live SchemeStart [])
 live_before (Predicate s) h = before_predicate s
 live_before (Object s p) h = before_object s p
@@ -149,6 +157,7 @@ live_before (LexicalForm s p) h = absurd h
 live_before (Datatype s p lexical) h = before_datatype s p lexical
 
 each_live : (slot : Slot) → AreLive slot
+each_live Alone = alone_live
 each_live Subject = subject_live
 each_live (Predicate s) = predicate_live s
 each_live (Object s p) = object_live s p
@@ -196,3 +205,4 @@ live (Hat s p lexical) h = live_hat s p lexical
 live (Tag s p lexical dashed full tag) h = live_tag s p lexical dashed full tag
 live (Closed s p o) h = live_closed s p o
 live (Ended s p o) h = live_ended s p o
+live (Single iri) h = live_single iri

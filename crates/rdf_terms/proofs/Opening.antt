@@ -12,7 +12,7 @@ use Rattle.rdf_terms.specs.declared.terms.Term.TheVariants as terms
 use Rattle.rdf_terms.specs.Escapes.{is_hexadecimal, is_escape_letter, letter_value}
 use Rattle.rdf_terms.specs.Grammar.{is_blank}
 use Rattle.rdf_terms.specs.Literal.{Typed, Tagged, xsd_string, rdf_lang_string, is_same}
-use Rattle.rdf_terms.specs.TripleReading.{State, Before, Within, Quoted, Hat, Tag, Closed, Ended, Slot, Subject, Predicate, Object, LexicalForm, Datatype, Part, Between, Behind, Digits, spot_behind, after_plain, closes, may_begin, closed, within, with_digit, with_letter, step_within, step_before, step_closed, step_tag, step}
+use Rattle.rdf_terms.specs.TripleReading.{State, Before, Within, Quoted, Hat, Tag, Closed, Ended, Single, Slot, Alone, Subject, Predicate, Object, LexicalForm, Datatype, Part, Between, Behind, Digits, spot_behind, after_plain, closes, may_begin, closed, within, with_digit, with_letter, step_within, step_before, step_closed, step_tag, step}
 use Rattle.rdf_terms.proofs.Progress.{short_begins, long_begins}
 
 -- ---- the states that are reached
@@ -26,6 +26,7 @@ IsOpenPart spot (Digits (suc digits) code) = may_begin spot (suc digits) code �
 
 -- a term of this kind is looked for
 abbrev pub IsOpenSlot : Slot → Type 0
+IsOpenSlot Alone = Unit {0}
 IsOpenSlot Subject = Unit {0}
 IsOpenSlot (Predicate s) = Unit {0}
 IsOpenSlot (Object s p) = Unit {0}
@@ -41,6 +42,7 @@ IsOpen (Hat s p lexical) = Unit {0}
 IsOpen (Tag s p lexical dashed full tag) = Unit {0}
 IsOpen (Closed s p o) = Unit {0}
 IsOpen (Ended s p o) = Unit {0}
+IsOpen (Single iri) = Unit {0}
 
 -- ---- a byte more keeps what was read open
 
@@ -55,6 +57,7 @@ either true x y h g = h
 either false x y h g = g
 
 open_closed : (slot : Slot) (value : List ℕ) → IsOpenIf (closed slot value)
+open_closed Alone value = tt
 open_closed Subject value = tt
 open_closed (Predicate s) value = tt
 open_closed (Object s p) value = tt
@@ -96,6 +99,7 @@ open_mark : (slot : Slot) (byte : ℕ) → IsOpenIf (cond (eqb byte 60) (Some (W
 open_mark slot byte = either (eqb byte 60) (Some (Within slot SchemeStart Between [])) None tt tt
 
 open_before : (slot : Slot) (byte : ℕ) → IsOpenIf (step_before slot byte)
+open_before Alone byte = open_mark Alone byte
 open_before Subject byte = either (is_blank byte) (Some (Before Subject)) _ tt (open_mark Subject byte)
 open_before (Predicate s) byte = either (is_blank byte) (Some (Before (Predicate s))) _ tt (open_mark (Predicate s) byte)
 open_before (Object s p) byte =
@@ -139,6 +143,7 @@ open_if (Hat s p lexical) byte = either (eqb byte 94) (Some (Before (Datatype s 
 open_if (Tag s p lexical dashed full tag) byte = open_tag s p lexical dashed full tag byte
 open_if (Closed s p o) byte = open_behind s p o byte
 open_if (Ended s p o) byte = either (is_blank byte) (Some (Ended s p o)) None tt tt
+open_if (Single iri) byte = tt
 
 -- a state that a byte leads to is open
 pub open_step : (state next : State) (byte : ℕ) → step state byte ≡ Some next → IsOpen next

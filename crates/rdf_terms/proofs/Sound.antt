@@ -20,16 +20,16 @@ use Rattle.rdf_terms.proofs.FoundTags.{tag_found}
 -- ---- terms
 
 -- the text spells an IRI, and from behind it the triple is read
-record ReadsIri (slot : Slot) (text : List ℕ) (t : Triple) : Type 0 where
-  iri : List ℕ
-  written : List ℕ
-  rest : List ℕ
-  spelled : SpellsIri written iri
-  whole : text ≡ written ++ rest
-  goes : run_from (closed slot iri) rest ≡ Spelled t
+pub record ReadsIri (slot : Slot) (text : List ℕ) (t : Triple) : Type 0 where
+  pub iri : List ℕ
+  pub written : List ℕ
+  pub rest : List ℕ
+  pub spelled : SpellsIri written iri
+  pub whole : text ≡ written ++ rest
+  pub goes : run_from (closed slot iri) rest ≡ Spelled t
 
 -- behind `<` an IRI is read
-iri_found : (slot : Slot) (text : List ℕ) (t : Triple) → run text (Within slot SchemeStart Between []) ≡ Spelled t → ReadsIri slot (60 ∷ text) t
+pub iri_found : (slot : Slot) (text : List ℕ) (t : Triple) → run text (Within slot SchemeStart Between []) ≡ Spelled t → ReadsIri slot (60 ∷ text) t
 iri_found slot text t h =
     let r : ReadsPieces slot _ SchemeStart [] text t = pieces_found slot SchemeStart text t h in
     let body = flat_map piece_text r.pieces in

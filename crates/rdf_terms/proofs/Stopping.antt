@@ -3,7 +3,7 @@ use Rattle.std.proofs.Common.{◌≡◌, ℕ, suc, ◌+◌, ◌-◌, ◌<◌, �
 use Rattle.std.proofs.Math.Seq.{take-append_seam, take-append-add}
 use Rattle.rdf_terms.specs.Building.{IsNoTriple}
 use Rattle.rdf_terms.specs.Places.{IsPlace, BeginsTriple}
-use Rattle.rdf_terms.specs.TripleReading.{State, Before, Within, Quoted, Hat, Tag, Closed, Ended, Subject, Spelled, Stopped, step, run, verdict}
+use Rattle.rdf_terms.specs.TripleReading.{State, Before, Within, Quoted, Hat, Tag, Closed, Ended, Single, Subject, Spelled, Stopped, step, run, verdict}
 use Rattle.rdf_terms.proofs.Steps.{run_step, run_stop}
 use Rattle.rdf_terms.proofs.Opening.{IsOpen, open_step}
 use Rattle.rdf_terms.proofs.Live.{live}
@@ -36,6 +36,7 @@ ends_stopped (Hat s p lexical) left h = cc
 ends_stopped (Tag s p lexical dashed full tag) left h = cc
 ends_stopped (Closed s p o) left h = cc
 ends_stopped (Ended s p o) left h = absurd (cc)
+ends_stopped (Single iri) left h = absurd (cc)
 
 stops_at_end : (state : State) (left : ℕ) → IsOpen state → run [] state ≡ Stopped left → StopsBy [] state left
 unfolding run

@@ -45,7 +45,8 @@ test_from_IsWithin t h =
     and_from (leb (length t.s) iri_limit && leb (length t.p) iri_limit) (is_term_within t.o)
     (and_from (leb (length t.s) iri_limit) (leb (length t.p) iri_limit) (le-leb (length t.s) iri_limit h.subject) (le-leb (length t.p) iri_limit h.predicate)) (within_term t.o h.object)
 
-absolute : (iri : List ℕ) → length iri ≤ iri_limit → IsTrue (is_iri iri) → IsTrue (is_absolute iri)
+-- an IRI within the limit
+pub absolute : (iri : List ℕ) → length iri ≤ iri_limit → IsTrue (is_iri iri) → IsTrue (is_absolute iri)
 absolute iri h g = and_from (leb (length iri) iri_limit) (is_iri iri) (le-leb (length iri) iri_limit h) g
 
 object_is_sound : (w : List ℕ) (o : Term) → SpellsObject w o → IsTermWithin o → IsSoundTerm o

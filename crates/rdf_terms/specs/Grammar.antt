@@ -27,6 +27,11 @@ pub record SpellsIri (text iri : List ℕ) : Type 0 where
   pub absolute : IsTrue (is_iri iri)
   pub whole : text ≡ less ∷ (body ++ greater ∷ [])
 
+-- the text spells the IRI, which isn't too long
+pub record IsIriText (text iri : List ℕ) : Type 0 where
+  pub spelled : SpellsIri text iri
+  pub within : length iri ≤ iri_limit
+
 -- the text spells the lexical form in its quotes
 pub record SpellsLexical (text lexical : List ℕ) : Type 0 where
   pub body : List ℕ

@@ -1,4 +1,5 @@
--- How a triple's text is read, byte by byte: what was read so far, what a byte makes of it, and where reading ends.
+-- How a triple's text, or that of an IRI alone, is read, byte by byte: what was read so far, what a byte makes of it, and where reading
+-- ends.
 use Rattle.std.specs.Prelude.{ℕ, zero, suc, ◌+◌, ◌-◌, ◌*◌, ◌^◌, ◌≡◌, ◌≤◌, List, [], ◌∷◌, ◌++◌, Bool, true, false, ◌&&◌, ◌||◌, ◌==◌, nat_lt, Option, Some, None, if◌then◌else◌, length, drop, encode_utf8}
 use Rattle.std.specs.Char.{digit_value}
 use Rattle.std.specs.Str.{str_to_ascii_lowercase}
@@ -50,8 +51,9 @@ may_hold Lexical low high = scalar low
 abbrev pub may_begin : Spot → ℕ → ℕ → Bool
 may_begin spot digits code = may_hold spot (code * 16 ^ digits) (code * 16 ^ digits + (16 ^ digits - 1))
 
--- which part of a triple a term is
+-- which part of a triple a term is, or that it is an IRI alone
 pub data Slot : Type 0 where
+  Alone : Slot
   Subject : Slot
   Predicate : List ℕ → Slot
   Object : List ℕ → List ℕ → Slot
@@ -82,9 +84,12 @@ pub data State : Type 0 where
   Closed : List ℕ → List ℕ → Term → State
   -- behind the dot
   Ended : List ℕ → List ℕ → Term → State
+  -- behind an IRI alone, where nothing may stand
+  Single : List ℕ → State
 
 -- behind the mark that closes a term of this value
 abbrev pub closed : Slot → List ℕ → Option State
+closed Alone value = Some (Single value)
 closed Subject value = Some (Before (Predicate value))
 closed (Predicate s) value = Some (Before (Object s value))
 closed (Object s p) value = Some (Closed s p (terms.Iri value))
@@ -126,6 +131,7 @@ step_within slot spot (Digits (suc digits) code) value byte =
 -- a byte more before a term
 abbrev pub step_before : Slot → ℕ → Option State
 step_before (LexicalForm s p) byte = None
+step_before Alone byte = if byte == less then Some (Within Alone SchemeStart Between []) else None
 step_before (Datatype s p lexical) byte = if byte == less then Some (Within (Datatype s p lexical) SchemeStart Between []) else None
 step_before (Object s p) byte =
     if is_blank byte then Some (Before (Object s p))
@@ -159,6 +165,7 @@ step (Hat s p lexical) byte = if byte == hat then Some (Before (Datatype s p lex
 step (Tag s p lexical dashed full tag) byte = step_tag s p lexical dashed full tag byte
 step (Closed s p o) byte = step_closed s p o byte
 step (Ended s p o) byte = if is_blank byte then Some (Ended s p o) else None
+step (Single iri) byte = None
 
 -- ---- whole texts
 
@@ -167,9 +174,14 @@ pub data ReadingEnd : Type 0 where
   Spelled : Triple → ReadingEnd
   Stopped : ℕ → ReadingEnd
 
+-- an IRI alone, told as the triple that has it thrice
+abbrev pub thrice : List ℕ → Triple
+thrice iri = record { s = iri; p = iri; o = terms.Iri iri }
+
 -- what was read, where the text ends
 unfoldable pub verdict : State → ReadingEnd
 verdict (Ended s p o) = Spelled (record { s = s; p = p; o = o })
+verdict (Single iri) = Spelled (thrice iri)
 verdict other = Stopped 0
 
 -- what the rest of a text makes of a state that a byte gave, if it gave one

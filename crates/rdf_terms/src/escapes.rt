@@ -30,9 +30,7 @@ fn letter_value(letter: u8) -> Option<char>
         b'n' => Some('\n'),
         b'r' => Some('\r'),
         b'f' => Some('\u{C}'),
-        b'"' => Some('"'),
-        b'\'' => Some('\''),
-        b'\\' => Some('\\'),
+        b'"' | b'\'' | b'\\' => Some(char::from(letter)),
         _ => None,
     }
 }

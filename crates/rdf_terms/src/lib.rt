@@ -19,5 +19,5 @@ pub use laws::{one_place, one_triple, written_again};
 pub use limits::LEXICAL_LIMIT;
 pub use order::{cmp_iris, cmp_terms, cmp_triples, order_is_total};
 pub use terms::{Iri, Literal, Term, Triple};
-pub use triples::read_triple;
+pub use triples::{read_iri, read_triple};
 pub use write::write_triple;

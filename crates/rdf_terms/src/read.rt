@@ -77,7 +77,7 @@ fn pass_mark(text: &str, at: usize, mark: u8) -> Result<usize, TripleFault>
 }
 
 /// Reads an IRI in its angle brackets.
-fn read_iri(alloc: Global, text: &str, at: usize) -> Result<(Text, usize), TripleFault>
+pub fn read_iri(alloc: Global, text: &str, at: usize) -> Result<(Text, usize), TripleFault>
     requires { at ≤ length text.now }
     ensures { MatchResult result
         (λ read. IsIri text.now at read.0 read.1)

@@ -1,5 +1,5 @@
 //! IRIs, literals, terms and triples (RDF 1.1 Concepts, section 3).
-ghost use Rattle.std.specs.Prelude.{◌≡◌};
+ghost use Rattle.std.specs.Prelude.{◌≡◌, IfOk};
 ghost use Rattle.rdf_terms.specs.Literal.{is_same, rdf_lang_string, xsd_string};
 
 use crate::faults::TermFault;
@@ -107,8 +107,6 @@ pub(crate) enum Kind {
 }
 
 impl Kind {
-    ghost use Rattle.std.specs.Prelude.{◌≡◌, IfOk};
-
     /// A copy of the datatype or the tag, which shares its text.
     fn share(&self) -> Result<Kind, AllocError>
         ensures { IfOk result (λ copy. copy ≡ self.now) }
@@ -284,8 +282,6 @@ pub enum Term {
 }
 
 impl Term {
-    ghost use Rattle.std.specs.Prelude.{◌≡◌, IfOk};
-
     /// A copy of the term, which shares its texts.
     pub fn share(&self) -> Result<Term, AllocError>
         ensures { IfOk result (λ copy. copy ≡ self.now) }
@@ -309,8 +305,6 @@ pub struct Triple {
 }
 
 impl Triple {
-    ghost use Rattle.std.specs.Prelude.{◌≡◌, IfOk};
-
     /// A copy of the triple, which shares its texts.
     pub fn share(&self) -> Result<Triple, AllocError>
         ensures { IfOk result (λ copy. copy ≡ self.now) }

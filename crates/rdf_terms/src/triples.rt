@@ -1,17 +1,17 @@
-//! Triples of the parts that were read.
-ghost use Rattle.std.specs.Prelude.{◌≡◌, ℕ, List, IsTrue, IfOk, IfErr};
+//! Triples of the parts that were read, and IRIs alone.
+ghost use Rattle.std.specs.Prelude.{◌≡◌, ℕ, List, IsTrue, IfOk, IfErr, MatchOption};
 ghost use Rattle.rdf_terms.specs.declared.terms.Triple.{Triple};
 ghost use Rattle.rdf_terms.specs.Building.{is_term_within, is_within, IsSoundTerm, IsSoundTriple, RefusesTriple};
-ghost use Rattle.rdf_terms.specs.Grammar.{SpellsTriple, IsTripleWithin};
+ghost use Rattle.rdf_terms.specs.Grammar.{IsIriText, SpellsTriple, IsTripleWithin};
 ghost use Rattle.rdf_terms.specs.Spelling.{triple_text};
 ghost use Rattle.rdf_terms.specs.Parts.{object_value, triple_value};
 
 use crate::faults::TripleFault;
 use crate::limits::LEXICAL_LIMIT;
-use crate::read::{ObjectParts, TripleParts, read_parts};
+use crate::read::{self, ObjectParts, TripleParts, read_parts};
 use crate::terms::{Iri, Literal, Term, Triple};
 use iri_rules::IRI_LIMIT;
-use std::alloc::Global;
+use std::alloc::{AllocError, Global};
 
 /// Whether no IRI of an object and no lexical form is too long.
 fn is_object_within(object: &ObjectParts) -> bool
@@ -77,4 +77,20 @@ pub fn read_triple(alloc: Global, text: &str) -> Result<Triple, TripleFault>
         return Err(TripleFault::TooLong);
     }
     Ok(build_triple(parts))
+}
+
+/// Reads the text of an IRI alone, of the form `<http://d/a>`, with escapes and with nothing around its angle brackets
+/// (N-Triples 1.1, the rule `IRIREF`): `None` where the text spells no absolute IRI of at most 2,048 bytes.
+pub fn read_iri(alloc: Global, text: &str) -> Result<Option<Iri>, AllocError>
+    ensures { IfOk result (λ found. MatchOption found ((iri : List ℕ) → ¬ IsIriText text.now iri) (IsIriText text.now)) }
+{
+    match read::read_iri(alloc, text, 0) {
+        Ok((iri, next)) if next == text.len() && iri.len() <= IRI_LIMIT => {
+            Ok(Some(Iri::from_absolute(iri)))
+        }
+        Ok(_) => Ok(None),
+        Err(TripleFault::NotTriple { .. }) => Ok(None),
+        Err(TripleFault::TooLong) => unreachable!(),
+        Err(TripleFault::NoMemory) => Err(AllocError),
+    }
 }

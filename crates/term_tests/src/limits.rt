@@ -1,7 +1,7 @@
 //! How long texts may be, by numbers of their own.
 use crate::refusals::{iri_refusal, tagged_refusal, typed_refusal};
 use iri_rules::{IriFault, is_absolute, is_domain, is_iri, resolve};
-use rdf_terms::{TermFault, TripleFault, read_triple};
+use rdf_terms::{TermFault, TripleFault, read_iri, read_triple};
 use std::alloc::Global;
 use std::test::Fail;
 
@@ -67,5 +67,31 @@ fn iris_and_lexical_forms_are_limited(rt: HostRuntime) -> Result<(), Fail> {
     assert!(rt; typed_refusal(alloc, more, "a:t") == Some(TermFault::TooLong));
     assert!(rt; tagged_refusal(alloc, more, "en") == Some(TermFault::TooLong));
     assert!(rt; triple_refusal(alloc, more) == Some(TripleFault::TooLong));
+    Ok(())
+}
+
+/// How many bytes the IRI has that a text spells, with angle brackets around it, if it spells one.
+fn read_length(alloc: Global, text: &str) -> Option<usize> {
+    let Ok(text) = format!(in alloc; "<{text}>") else {
+        return None;
+    };
+    match read_iri(alloc, text.as_str()) {
+        Ok(Some(iri)) => Some(iri.as_str().len()),
+        _ => None,
+    }
+}
+
+#[test]
+fn iris_alone_are_limited(rt: HostRuntime) -> Result<(), Fail> {
+    let alloc = rt.alloc();
+    let plain = "a:".repeat(alloc, 1_025)?;
+    assert!(rt; read_length(alloc, front(plain.as_str(), 2_048)) == Some(2_048));
+    assert!(rt; read_length(alloc, front(plain.as_str(), 2_049)).is_none());
+    // Each escape takes six bytes of the text, and gives one of the IRI.
+    let escapes = "\\u0061".repeat(alloc, 2_047)?;
+    let most = format!(in alloc; "a:{}", front(escapes.as_str(), 12_276))?;
+    assert!(rt; read_length(alloc, most.as_str()) == Some(2_048));
+    let more = format!(in alloc; "a:{escapes}")?;
+    assert!(rt; read_length(alloc, more.as_str()).is_none());
     Ok(())
 }
