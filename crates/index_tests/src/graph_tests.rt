@@ -39,7 +39,7 @@ fn fill(alloc: Global, list: &mut Vec<Tagged>, rows: &[(&str, u32)]) -> Result<(
     Ok(())
 }
 
-fn pairs(alloc: Global, rows: &[(&str, u32)]) -> Result<Vec<Tagged>, Fail>
+pub(crate) fn pairs(alloc: Global, rows: &[(&str, u32)]) -> Result<Vec<Tagged>, Fail>
     ensures { IfOk result (λ list. IsAscending tagged_cmp list.items) }
 {
     let mut list = Vec::new(alloc);

@@ -63,14 +63,20 @@ fn is_made(alloc: Global, end: u32, chunks: usize, first: u32) -> Result<bool, A
 
 #[test]
 fn lists_of_vectors_about_the_limit(rt: HostRuntime) -> Result<(), Fail> {
-    for (end, chunks, first) in [(1, 1, 0), (63, 1, 0), (64, 2, 32), (65, 2, 32)] {
+    for (end, chunks, first) in [
+        (1, 1, 0),
+        (63, 1, 0),
+        (64, 2, 63),
+        (126, 2, 63),
+        (127, 3, 126),
+    ] {
         assert!(rt; is_made(rt.alloc(), end, chunks, first)?);
     }
     assert!(rt; made(rt.alloc(), 0)?.chunks().is_empty());
     Ok(())
 }
 
-// A chunk of 63 numbers splits by an insert at its first place, and one by an insert at its last.
+// A chunk of 63 numbers splits by an insert at its first place; an insert behind all of them gets a chunk of its own.
 fn splits(alloc: Global, list: &mut Chunked<Number>) -> bool
     requires { IsAscending nat_cmp list.old.elements }
     ensures { IsAscending nat_cmp list.new.elements }
@@ -82,8 +88,20 @@ fn splits(alloc: Global, list: &mut Chunked<Number>) -> bool
         && fill(alloc, list, 64, 95)
         && has_chunk(list, 2, 1, 32, 95)
         && fill(alloc, list, 95, 96)
-        && has_chunk(list, 3, 1, 32, 64)
-        && has_chunk(list, 3, 2, 64, 96)
+        && has_chunk(list, 3, 1, 32, 95)
+        && has_chunk(list, 3, 2, 95, 96)
+}
+
+// The last chunk goes with its only number; the one before it, which is full then, splits by an insert that isn't at its end.
+fn splits_the_last(alloc: Global, list: &mut Chunked<Number>) -> bool
+    requires { IsAscending nat_cmp list.old.elements }
+    ensures { IsAscending nat_cmp list.new.elements }
+{
+    cut_out(list, 95, 96);
+    let gone = has_chunk(list, 2, 1, 32, 95);
+    cut_out(list, 50, 51);
+    let split = fill(alloc, list, 95, 96) && list.chunks().len() == 2 && fill(alloc, list, 50, 51);
+    gone && split && has_chunk(list, 3, 1, 32, 64) && has_chunk(list, 3, 2, 64, 96)
 }
 
 // A chunk loses its last number, which comes back to its end; and the chunk behind it goes with all of its numbers.
@@ -113,10 +131,11 @@ fn is_found(alloc: Global, list: &Chunked<Number>) -> Result<bool, AllocError>
 fn chunks_split_and_go_at_their_borders(rt: HostRuntime) -> Result<(), Fail> {
     let alloc = rt.alloc();
     let mut list = Box::new(alloc, Chunked::new(alloc))?;
-    assert!(rt; list.is_empty() && splits(alloc, &mut list) && list.len() == 96);
+    assert!(rt; list.len() == 0 && splits(alloc, &mut list) && list.len() == 96);
+    assert!(rt; splits_the_last(alloc, &mut list) && list.len() == 96);
     assert!(rt; loses_a_chunk(alloc, &mut list) && is_found(alloc, &list)?);
     assert!(rt; list.filtered(alloc, &Under { number: 66 })?.len() == 34);
     cut_out(&mut list, 0, 96);
-    assert!(rt; list.is_empty() && list.chunks().is_empty());
+    assert!(rt; list.len() == 0 && list.chunks().is_empty());
     Ok(())
 }

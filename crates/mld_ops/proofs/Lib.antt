@@ -4,6 +4,7 @@ pub mod PickingLaws
 pub mod OperationLaws
 pub mod NetLaws
 pub mod EffectLaws
+pub mod BreachLaws
 pub mod PresentLaws
 pub mod MeaningLaws
 pub mod AscendingLaws

@@ -7,6 +7,7 @@ pub mod Net
 pub mod Deleted
 pub mod Effect
 pub mod Effects
+pub mod Breaches
 pub mod EffectEquality
 pub mod Picking
 pub mod Ready

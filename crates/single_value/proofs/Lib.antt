@@ -1,0 +1,4 @@
+pub mod Among
+pub mod Neighbours
+pub mod Standing
+pub mod Breaching

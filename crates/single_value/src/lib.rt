@@ -1,0 +1,7 @@
+//! Single-valued properties: which subject an update would give a second value.
+#![tactic(auto)]
+
+mod breaches;
+mod values;
+
+pub use breaches::breaks;
