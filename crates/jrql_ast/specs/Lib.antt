@@ -1,4 +1,5 @@
 pub mod InForm
 pub mod Solutions
+pub mod Templates
 pub mod FilterMeaning
 pub mod QueryAnswers

@@ -1,0 +1,2 @@
+pub mod FreshIris
+pub mod MadeLaws
