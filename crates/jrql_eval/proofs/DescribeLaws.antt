@@ -193,10 +193,19 @@ targeted_is rows iri (target ∷ targets) h = elim (has_append (targeted_by rows
   | inr later ↦ or_right (targets_iri rows iri target) _ (targeted_is rows iri targets later)
 ]
 
--- so the IRIs that have triples are the subjects that are targeted
-pub described_are : (graph : List Triple) (rows : List (List (Option Term))) (targets : List Target) (iris : List (List ℕ)) → IsAscending triple_cmp graph
-    → IsPutInOrder iri_cmp (all_targeted rows targets) iris → IsDescribedBy graph rows targets (flat_map (described_where graph) iris)
-described_are graph rows targets iris a put =
+no_member : {X : Type 0} (xs : List X) → ((x : X) → Has xs x → ⊥) → xs ≡ []
+no_member [] h = refl
+no_member (x ∷ xs) h = absurd (h x (inl refl))
+
+-- so the IRIs that have triples are the subjects that are targeted; where none is, the graph need not ascend
+pub described_are : (graph : List Triple) (rows : List (List (Option Term))) (targets : List Target) (iris : List (List ℕ))
+    → (0 < length iris → IsAscending triple_cmp graph) → IsPutInOrder iri_cmp (all_targeted rows targets) iris → IsDescribedBy graph rows targets (flat_map (described_where graph) iris)
+described_are graph rows targets [] some put =
+    sym (ap (map (described graph)) (no_member (filter (λ iri. list_any (targets_iri rows iri) targets) (subjects_of graph))
+    (λ iri h. (put.members iri).1 (targeted_from rows iri targets ((has_filter (λ iri. list_any (targets_iri rows iri) targets) (subjects_of graph) iri).0 h).1))))
+described_are graph rows targets (first ∷ others) some put =
+    let iris = first ∷ others in
+    let a = some (omega arith) in
     described_all graph iris
     ∙ ap (map (described graph)) (same_ascending iri_cmp iri_total iri_exact
     (filter (λ iri. is_there (about graph iri)) iris) (filter (λ iri. list_any (targets_iri rows iri) targets) (subjects_of graph))

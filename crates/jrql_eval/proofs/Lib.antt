@@ -3,6 +3,7 @@ pub mod AnswerLaws
 pub mod BranchLaws
 pub mod ColumnLaws
 pub mod DescribeLaws
+pub mod EffectsByPlan
 pub mod Integers
 pub mod PlanSteps
 pub mod Planned

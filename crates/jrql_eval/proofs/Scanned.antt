@@ -113,13 +113,13 @@ module _ (pattern : PatternTriple) (row : List (Option Term)) where
       λ i. triple_at (iri_of_term (Some (a i))) (iri_of_term (Some (b i))) (Some (c i))
 
 -- a pattern whose places are terms, in a graph
-module _ (graph : List Triple) (ascending : IsAscending triple_cmp graph) (pattern : PatternTriple) (row : List (Option Term))
+module _ (graph : List Triple) (pattern : PatternTriple) (row : List (Option Term))
     (s p o : Term) (es : side_value pattern.s row ≡ Some s) (ep : side_value pattern.p row ≡ Some p) (eo : side_value pattern.o row ≡ Some o) where
   instance_at : instance_of pattern row ≡ triple_at (iri_of_term (Some s)) (iri_of_term (Some p)) (Some o)
   instance_at = λ i. triple_at (iri_of_term (es i)) (iri_of_term (ep i)) (eo i)
 
-  pub there : (triple : Triple) → instance_of pattern row ≡ Some triple → Has graph triple → filter_map (λ t. agree pattern t row) graph ≡ row ∷ []
-  there triple e h =
+  pub there : (triple : Triple) → IsAscending triple_cmp graph → instance_of pattern row ≡ Some triple → Has graph triple → filter_map (λ t. agree pattern t row) graph ≡ row ∷ []
+  there triple ascending e h =
       let e' = sym instance_at ∙ e in
       one_found (λ t. agree pattern t row) triple_cmp triple_total triple row (found_at pattern row s p o es ep eo triple e')
       (λ other apart. none_unless _ (λ next g. apart (some_is other triple (sym (no_other pattern row s p o es ep eo other next g) ∙ e'))))

@@ -113,11 +113,11 @@ pub checked_by : (pairs : List Tagged) (pattern : PatternTriple) (row : List (Op
     → instance_of pattern row ≡ Some triple → (IsTrue b ↔ HasTriple pairs triple)
     → filter_map (λ t. agree pattern t row) (present pairs) ≡ (if b then row ∷ [] else [])
 checked_by pairs pattern row true triple a k e h =
-    there (present pairs) (present_ascends pairs a) pattern row k.s k.p k.o k.subject k.predicate k.object triple e (present_from_pair pairs triple (h.0 refl))
+    there (present pairs) pattern row k.s k.p k.o k.subject k.predicate k.object triple (present_ascends pairs a) e (present_from_pair pairs triple (h.0 refl))
 checked_by pairs pattern row false triple a k e h =
-    absent (present pairs) (present_ascends pairs a) pattern row k.s k.p k.o k.subject k.predicate k.object triple e
+    absent (present pairs) pattern row k.s k.p k.o k.subject k.predicate k.object triple e
     (λ g. true≢false (sym (h.1 (pair_from_present pairs triple g))))
 
-pub unchecked : (pairs : List Tagged) (pattern : PatternTriple) (row : List (Option Term)) → IsAscending tagged_cmp pairs → IsBoundIn row pattern
+pub unchecked : (pairs : List Tagged) (pattern : PatternTriple) (row : List (Option Term)) → IsBoundIn row pattern
     → instance_of pattern row ≡ None → filter_map (λ t. agree pattern t row) (present pairs) ≡ []
-unchecked pairs pattern row a k e = no_triple (present pairs) (present_ascends pairs a) pattern row k.s k.p k.o k.subject k.predicate k.object e
+unchecked pairs pattern row k e = no_triple (present pairs) pattern row k.s k.p k.o k.subject k.predicate k.object e

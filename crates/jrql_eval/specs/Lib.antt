@@ -3,3 +3,4 @@ pub mod Asked
 pub mod ColumnOrder
 pub mod Evaluating
 pub mod Planning
+pub mod PlanEffects

@@ -4,9 +4,11 @@ ghost use Rattle.std.specs.List.{flat_map};
 ghost use Rattle.std.specs.Option.{option_copied, option_to_list};
 ghost use Rattle.mld_ops.specs.InOrder.{IsPutInOrder};
 ghost use Rattle.mld_ops.specs.Present.{present};
+ghost use Rattle.mld_ops.specs.Tagged.{tagged_cmp};
 ghost use Rattle.rdf_terms.specs.Order.{iri_cmp};
 ghost use Rattle.jrql_ast.specs.InForm.{IsQueryInForm};
 ghost use Rattle.jrql_ast.specs.QueryAnswers.{IsAnswer, found, solution_limit};
+ghost use Rattle.tree_clock.specs.Lists.{IsAscending};
 ghost use Rattle.jrql_eval.specs.Asked.{AsksSubjects, IsDescribedBy, all_targeted, bound_iris, described_by, described_where};
 
 use crate::faults::EvalFault;
@@ -105,7 +107,8 @@ fn add_described(
     iri: &Iri,
     subjects: &mut Vec<Described>,
 ) -> Result<(), AllocError>
-    ensures { OnOk result (subjects.new.items ≡ subjects.old.items ++ described_where (present graph.now.pairs) iri.now) }
+    ensures subjects { OnOk result (subjects.new.items ≡ subjects.old.items ++ described_where (present graph.now.pairs) iri.now) }
+    ensures ascending { IsAscending tagged_cmp graph.now.pairs }
 {
     let triples = triples_with(alloc, graph, Some(iri), None, None)?;
     add_subject(alloc, iri, &triples, subjects)
@@ -113,8 +116,9 @@ fn add_described(
 
 // The IRIs that are subjects, each with its triples.
 fn describe_all(alloc: Global, graph: &Graph, iris: &[&Iri]) -> Result<Vec<Described>, AllocError>
-    ensures { IfOk result (λ subjects. subjects.items
+    ensures subjects { IfOk result (λ subjects. subjects.items
         ≡ flat_map (described_where (present graph.now.pairs)) (map (λ x. x.now) iris.now)) }
+    ensures ascending { 0 < length iris.now → IsAscending tagged_cmp graph.now.pairs }
 {
     let mut subjects = Vec::new(alloc);
     for iri in iris {
@@ -134,7 +138,6 @@ fn describe_targets(
 {
     let mut iris = targeted(alloc, targets, rows)?;
     put_iris(&mut iris);
-    graph.ascends();
     describe_all(alloc, graph, &iris)
 }
 

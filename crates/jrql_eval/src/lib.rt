@@ -1,9 +1,10 @@
-//! Queries over a graph: solutions, selects and describes.
+//! Queries over a graph: solutions, selects and describes; and the effects of updates.
 #![tactic(auto)]
 
 mod binding;
 mod columns;
 mod describing;
+mod effects;
 mod faults;
 mod filters;
 mod limits;
@@ -15,6 +16,7 @@ mod selecting;
 mod solving;
 
 pub use describing::describe;
+pub use effects::{effect, one_effect};
 pub use faults::EvalFault;
 pub use limits::SOLUTION_LIMIT;
 pub use selecting::select;

@@ -133,7 +133,7 @@ fn best_place(left: &[&PatternTriple], bound: &[bool]) -> usize
     best
 }
 
-// AddsRows patterns where they stand.
+// Adds patterns where they stand.
 fn add_patterns<'a>(
     left: &mut Vec<&'a PatternTriple>,
     patterns: &'a [PatternTriple],

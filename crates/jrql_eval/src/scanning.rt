@@ -5,6 +5,8 @@ ghost use Rattle.std.specs.Option.{option_copied, option_map};
 ghost use Rattle.graph_index.specs.Matching.{FindsEach, matches};
 ghost use Rattle.mld_ops.specs.InOrder.{IsPutInOrder};
 ghost use Rattle.mld_ops.specs.Present.{present};
+ghost use Rattle.mld_ops.specs.Tagged.{tagged_cmp};
+ghost use Rattle.tree_clock.specs.Lists.{IsAscending};
 ghost use Rattle.rdf_terms.specs.Order.{triple_cmp};
 ghost use Rattle.mld_ops.specs.declared.tagged.Tagged.{Tagged};
 ghost use Rattle.jrql_ast.specs.declared.patterns.PatternTriple.{PatternTriple};
@@ -33,8 +35,9 @@ fn pairs_in<'a, L: Ledger>(
     requires name { blank.name ≡ L.name }
     requires parts { blank.parts ≡ L.parts }
     requires some { 0 < L.parts }
-    ensures { IfOk result (λ found. FindsEach (matches (option_copied s.entry) (option_copied p.entry) (option_copied o.entry))
-        graph.now.pairs (map (λ x. x.now) found.items)) }
+    ensures found { IfOk result (λ found. FindsEach (matches (option_copied s.entry) (option_copied p.entry)
+        (option_copied o.entry)) graph.now.pairs (map (λ x. x.now) found.items)) }
+    ensures ascending { IsAscending tagged_cmp graph.now.pairs }
 {
     let mut steps = Steps::<L>::new(blank);
     graph.scan(alloc, s, p, o, &mut steps)
@@ -68,13 +71,13 @@ pub(crate) fn triples_with<'a>(
     p: Option<&Iri>,
     o: Option<&Term>,
 ) -> Result<Vec<&'a Triple>, AllocError>
-    ensures { IfOk result (λ triples. map (λ x. x.now) triples.items
+    ensures triples { IfOk result (λ triples. map (λ x. x.now) triples.items
         ≡ filter (has_parts (option_copied s.entry) (option_copied p.entry) (option_copied o.entry)) (present graph.now.pairs)) }
+    ensures ascending { IsAscending tagged_cmp graph.now.pairs }
 {
     let pairs = pairs_in::<Brand>(alloc, graph, s, p, o, Blank::new(1))?;
     let mut triples = triples_of(alloc, &pairs)?;
     put_in_order(&mut triples);
-    graph.ascends();
     Ok(triples)
 }
 
@@ -108,7 +111,6 @@ pub(crate) fn triples_for<'a>(
         return Ok(Vec::new(alloc));
     };
     let object = term_at(&pattern.o, row);
-    graph.ascends();
     triples_with(alloc, graph, s, p, object)
 }
 
@@ -152,7 +154,6 @@ fn is_present(
     ensures { IfOk result (λ there. filter_map (λ triple. agree pattern.now triple row.now) (present graph.now.pairs)
         ≡ (if there then row.now ∷ [] else [])) }
 {
-    graph.ascends();
     match instance(pattern, row)? {
         Some(triple) => Ok(graph.has_triple(&triple)),
         None => Ok(false),

@@ -1,7 +1,12 @@
-use Rattle.std.proofs.Common.{◌≡◌, map, take, flat_map}
+use Rattle.std.proofs.Common.{◌≡◌, ◌<◌, map, take, flat_map}
 use Rattle.mld_ops.specs.Present.{present}
+use Rattle.mld_ops.specs.Tagged.{tagged_cmp}
+use Rattle.tree_clock.specs.Lists.{IsAscending}
 use Rattle.jrql_eval.specs.Asked.{described_where}
 use Rattle.jrql_eval.proofs.describing.describe_all.Given as goal
 
 abbrev pub invariant-loop-iri : goal.invariant-loop-iri
-invariant-loop-iri l = l.subjects.items ≡ flat_map (described_where (present l.graph.pairs)) (map (λ x. x.now) (take l.iri-index l.iris))
+invariant-loop-iri l = record {
+  subjects : l.subjects.items ≡ flat_map (described_where (present l.graph.pairs)) (map (λ x. x.now) (take l.iri-index l.iris));
+  ascending : 0 < l.iri-index → IsAscending tagged_cmp l.graph.pairs;
+}

@@ -1,4 +1,5 @@
-use Rattle.std.proofs.Common.{◌∙◌, List, ℕ, flat_map, map, ap, subst}
+use Rattle.std.proofs.Common.{◌∙◌, ◌<◌, List, ℕ, length, flat_map, map, sym, ap, subst}
+use Rattle.std.proofs.lemmas.List.{length-map}
 use Rattle.rdf_terms.specs.Order.{iri_cmp}
 use Rattle.mld_ops.specs.InOrder.{IsPutInOrder}
 use Rattle.mld_ops.specs.Present.{present}
@@ -13,7 +14,10 @@ returns c =
     let graph = present c.args.graph.now.pairs in
     let iris = map (λ x. x.now) c.put_iris.new.iris.items in
     let put = subst (λ (given : List (List ℕ)). IsPutInOrder iri_cmp given iris) c.in_ok-iris.ensures c.put_iris.ensures in
+    let some = λ (l : 0 < length iris).
+    let some_put : 0 < length c.put_iris.new.iris.items = subst (λ n. 0 < n) (length-map c.put_iris.new.iris.items (λ x. x.now)) l in
+    present_ascends c.args.graph.now.pairs (c.describe_all.ensures.ascending (subst (λ zs. 0 < length zs) (sym c.deref.ensures.value) some_put)) in
     ok_weaker c.describe_all.result
     (λ subjects e. e ∙ ap (λ l. flat_map (described_where graph) (map (λ x. x.now) l)) c.deref.ensures.value
-    ∙ described_are graph c.args.rows.now c.args.targets.now iris (present_ascends c.args.graph.now.pairs c.ascends.ensures) put)
-    c.describe_all.ensures
+    ∙ described_are graph c.args.rows.now c.args.targets.now iris some put)
+    c.describe_all.ensures.subjects

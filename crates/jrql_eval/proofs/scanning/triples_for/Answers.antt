@@ -38,4 +38,4 @@ returns c =
     ∙ found_filtered (λ triple. agree pattern triple row) (has_parts s p o)
     (λ triple next h. subst (λ (z : Option Term). has_parts s p z triple ≡ true) (sym c.term_at-object.ensures) (has_parts_known pattern row s p es ep triple next h))
     (present c.args.graph.now.pairs))
-    c.triples_with.ensures
+    c.triples_with.ensures.triples

@@ -7,9 +7,9 @@ use Rattle.mld_ops.specs.InOrder.{IsPutInOrder}
 use Rattle.jrql_eval.proofs.TripleScans.{scanned_is}
 use Rattle.jrql_eval.proofs.scanning.triples_with.Goals as goal
 
-pub returns : goal.returns
-returns c =
+pub returns-clause-triples : goal.returns-clause-triples
+returns-clause-triples c =
     let kept = map (λ x. x.now) c.put_in_order.new.triples.items in
     let given = c.in_ok-triples.ensures ∙ ap (λ pairs. map (λ (pair : Tagged). pair.triple) (map (λ x. x.now) pairs)) c.deref.ensures.value in
     scanned_is c.args.graph.now.pairs (map (λ x. x.now) c.in_ok-pairs.pairs.items) (option_copied c.args.s) (option_copied c.args.p) (option_copied c.args.o)
-    c.ascends.ensures c.in_ok-pairs.ensures kept (subst (λ (triples : List Triple). IsPutInOrder triple_cmp triples kept) given c.put_in_order.ensures)
+    c.in_ok-pairs.ensures.ascending c.in_ok-pairs.ensures.found kept (subst (λ (triples : List Triple). IsPutInOrder triple_cmp triples kept) given c.put_in_order.ensures)
