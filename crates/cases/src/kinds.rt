@@ -3,8 +3,8 @@
 use crate::held::Held;
 use crate::lines::Line;
 use crate::{
-    comparisons, contexts, expanding, forms, objects, orders, parts, queries, references, shorts,
-    subjects, tags, triples, types, written,
+    comparisons, contexts, expanding, forms, iris, objects, orders, parts, queries, references,
+    shorts, subjects, tags, triples, types, updates, written,
 };
 use std::alloc::{AllocError, Global};
 
@@ -26,6 +26,7 @@ pub fn given_by(
         "tag" => tags::given_by(alloc, input),
         "resolve" => references::given_by(alloc, input),
         "triple" => triples::given_by(alloc, input),
+        "iri" => iris::given_by(alloc, input),
         "order" => orders::given_by(alloc, input),
         "escaped" | "closed" | "common" => comparisons::given_by(alloc, line.word, input),
         "pattern" | "insert" => subjects::given_by(alloc, held, line.word, input),
@@ -40,6 +41,7 @@ pub fn given_by(
         "written" => written::written_given_by(alloc, held, input),
         "again" => written::again_given_by(alloc, held, input),
         "query" => queries::given_by(alloc, input),
+        "update" => updates::given_by(alloc, input),
         _ => Ok(None),
     }
 }

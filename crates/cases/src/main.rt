@@ -7,6 +7,7 @@ mod expanding;
 mod faults;
 mod forms;
 mod held;
+mod iris;
 mod kinds;
 mod lines;
 mod objects;
@@ -22,6 +23,7 @@ mod tallies;
 mod texts;
 mod triples;
 mod types;
+mod updates;
 mod written;
 
 use held::Held;

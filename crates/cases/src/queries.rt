@@ -31,7 +31,7 @@ fn query_text(alloc: Global, query: &Query) -> Result<String, AllocError> {
         What::Select(select) => put_select(&mut text, select, names)?,
         What::Describe(targets) => put_describe(&mut text, targets.as_slice(), names)?,
     }
-    put_group(alloc, &mut text, &query.group)?;
+    put_group(alloc, &mut text, "; ", &query.group)?;
     put_names(alloc, &mut text, &query.group)?;
     Ok(text)
 }
@@ -76,10 +76,15 @@ fn put_target(text: &mut String, target: &Target, names: &[Text]) -> Result<(), 
     }
 }
 
-/// Puts patterns, branches and filters.
-fn put_group(alloc: Global, text: &mut String, group: &Group) -> Result<(), AllocError> {
+/// Puts patterns behind a mark, and branches and filters.
+pub fn put_group(
+    alloc: Global,
+    text: &mut String,
+    mark: &str,
+    group: &Group,
+) -> Result<(), AllocError> {
     let names = group.names.as_slice();
-    put_triples(alloc, text, "; ", group.patterns.as_slice(), names)?;
+    put_triples(alloc, text, mark, group.patterns.as_slice(), names)?;
     for branch in group.branches.as_slice() {
         put_triples(alloc, text, "; or ", branch.as_slice(), names)?;
     }
@@ -90,7 +95,7 @@ fn put_group(alloc: Global, text: &mut String, group: &Group) -> Result<(), Allo
 }
 
 /// Puts triples behind a mark.
-fn put_triples(
+pub fn put_triples(
     alloc: Global,
     text: &mut String,
     mark: &str,
@@ -126,7 +131,7 @@ fn put_filter(text: &mut String, filter: &Filter, names: &[Text]) -> Result<(), 
 }
 
 /// Puts the named variables, where there are any, and how many have no name, where there are any.
-fn put_names(alloc: Global, text: &mut String, group: &Group) -> Result<(), AllocError> {
+pub fn put_names(alloc: Global, text: &mut String, group: &Group) -> Result<(), AllocError> {
     let mut names = Vec::new(alloc);
     for name in group.names.as_slice() {
         names.push(String::from_str(alloc, name.as_str())?)?;

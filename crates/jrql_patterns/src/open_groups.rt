@@ -5,9 +5,10 @@ ghost use Rattle.serde_json.specs.View.{view};
 ghost use Rattle.jsonld_context.specs.Telling.{IsToldBy};
 ghost use Rattle.jsonld_values.specs.Numbering.{numbered_triple, numbered_filter};
 ghost use Rattle.jsonld_values.specs.VariableNames.{marked};
+ghost use Rattle.jsonld_subjects.specs.SubjectReading.{subjects_read};
 ghost use Rattle.jrql_patterns.specs.OpenGroups.{empty_group, with_group_names, meet_number, group_of};
 ghost use Rattle.jrql_patterns.specs.FilterReading.{read_comparison};
-ghost use Rattle.jrql_patterns.specs.WhereReading.{read_pattern, read_branch};
+ghost use Rattle.jrql_patterns.specs.WhereReading.{read_branch};
 
 use crate::filters::read_sides;
 use crate::lists::push;
@@ -113,19 +114,20 @@ impl OpenGroup {
         }
     }
 
-    /// Reads a subject whose triples every solution has.
-    pub(crate) fn read_patterns(
+    /// Reads subjects beside the group, with the names of its text. After a fault it isn't to be used again.
+    pub fn read_apart(
         &mut self,
         alloc: Global,
         context: &Context,
+        place: Place,
         value: &Value,
-    ) -> Result<(), JsonFault>
-        ensures ok { IfOk result (λ _. read_pattern context.now (view value.now) self.old ≡ Ok self.new) }
-        ensures err { IfErr result (IsToldBy (read_pattern context.now (view value.now) self.old)) }
+    ) -> Result<Vec<PatternTriple>, JsonFault>
+        ensures ok { IfOk result (λ triples. subjects_read context.now place self.old.names (view value.now)
+            ≡ Ok (record { names = self.new.names; triples = triples.items })) }
+        ensures err { IfErr result (IsToldBy (subjects_read context.now place self.old.names (view value.now))) }
+        ensures kept { OnOk result (self.new ≡ with_group_names self.old self.new.names) }
     {
-        let triples = read_subjects(alloc, value, context, Place::Pattern, &mut self.names)?;
-        put_behind(&mut self.patterns, triples)?;
-        Ok(())
+        read_subjects(alloc, value, context, place, &mut self.names)
     }
 
     /// Reads a branch: a subject, or an array of subjects.

@@ -9,6 +9,7 @@ use crate::filters::read_filter;
 use crate::lists::has_one;
 use crate::open_groups::OpenGroup;
 use jsonld_context::{Context, JsonFault, member_at};
+use jsonld_subjects::Place;
 use jsonld_values::bad_subject;
 use serde_json::{Map, Value};
 use std::alloc::Global;
@@ -79,7 +80,9 @@ fn read_condition(
     if let Some(alternatives) = sole_member(members, "@union") {
         return read_union(alloc, context, alternatives, so_far);
     }
-    so_far.read_patterns(alloc, context, value)
+    let triples = so_far.read_apart(alloc, context, Place::Pattern, value)?;
+    so_far.put_patterns(triples)?;
+    Ok(())
 }
 
 /// Reads items of `@where`.

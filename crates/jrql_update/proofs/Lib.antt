@@ -1,0 +1,3 @@
+pub mod KeptUpdates
+mod BesideKeys
+mod FirstClauses

@@ -1,0 +1,6 @@
+use Rattle.serde_json.specs.View.{view}
+use Rattle.jrql_update.proofs.KeptUpdates.{ok_in_form}
+use Rattle.jrql_update.proofs.updates.read_update.Goals as goal
+
+pub returns-clause-in_form : goal.returns-clause-in_form
+returns-clause-in_form c = ok_in_form c.args.domain.now (view c.in_ok-value.value) c.update_said.result c.update_said.ensures.ok
