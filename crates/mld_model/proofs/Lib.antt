@@ -1,4 +1,5 @@
 pub mod StateLaws
+pub mod UpdateLaws
 pub mod PairsLaws
 pub mod LocalLaws
 pub mod ReleasedLaws
@@ -21,6 +22,5 @@ pub mod LeadsLaws
 pub mod TruncatedStands
 pub mod MergedStands
 pub mod AnswersStand
-pub mod UpdateLaws
 pub mod ComparingLaws
 pub mod LocalSteps

@@ -13,6 +13,7 @@ use Rattle.tree_clock.specs.Clock.{ticks_of, Covers}
 use Rattle.mld_ops.specs.declared.tagged.Tagged.{Tagged}
 use Rattle.mld_ops.specs.Effect.{range_of}
 use Rattle.mld_ops.specs.Effects.{EffectValue, ChangesNothing}
+use Rattle.mld_ops.specs.Breaches.{IsFirstBreach, BreaksNone}
 use Rattle.mld_ops.specs.Entry.{EntryValue}
 use Rattle.mld_ops.specs.Held.{ranges_of}
 use Rattle.mld_ops.specs.History.{Operation, IsDone, IsInserted, IsNext, dot_at}
@@ -24,10 +25,10 @@ use Rattle.mld_ops.proofs.PickingLaws.{kept_members, pairs_more}
 use Rattle.op_fusion.specs.Compacting.{AreCompacted}
 use Rattle.mld_model.specs.declared.CloneState.TheVariants as states
 use Rattle.mld_model.specs.Clone.{Clone, Absent, Asking, Down, Live, Stored, known_of, with_range, merged_with, truncated_to, IsKnown, IsReady}
-use Rattle.mld_model.specs.CloneStep.{changes_nothing, makes_operation, IsNextTick, after_operation, holds_already, holds_too_many, holds_from_now, knows_already, accepts, holds_back, after_asking, after_fork, left_half, asked_itself, is_too_deep, forks, joined_with, becomes_live, lacks_nothing, sends_ranges, sends_snapshot, knows_all, merges, LiveTakes, Takes, Joins, Reopens}
+use Rattle.mld_model.specs.CloneStep.{changes_nothing, breaks_single, makes_operation, IsNextTick, after_operation, holds_already, holds_too_many, holds_from_now, knows_already, accepts, holds_back, after_asking, after_fork, left_half, asked_itself, is_too_deep, forks, joined_with, becomes_live, lacks_nothing, sends_ranges, sends_snapshot, knows_all, merges, LiveTakes, Takes, Joins, Reopens}
 use Rattle.mld_model.specs.Local.{LocalAsker, LocalClone, stored_of, next_dot, LocallyMakes, LocallyAccepts, MustBeHeld, LocallyHolds, IsFullFor, IsForeign, IsForeignSnapshot, LocallyForks, LocallyCompacts, LocallyTruncates, KnowsSnapshot, LocallyMerges, snapshot_of, LocallyAnswersWant, LocallyAnswersBehind, joined_clone}
-use Rattle.mld_model.specs.LocalStep.{Task, Update, Take, Join, Ask, Compact, Truncate, Stop, Open, LocalState, GivesNoLeaf, LocallyOpens, updates_nothing, updates, knows_entry, accepts_entry, holds_entry, is_full, knows_snapshot, merges_snapshot, sends_nothing, sends_entries, sends_all, asks_itself, is_deep, forks_leaf, needs_no_leaf, adopts_leaf, passes_over, asks_for_leaf, asks_for_rest, compacts_journal, truncates_journal, stops, opens, DoesTask, StandsAt, IsSentAs, IsTaskIn, StepStands, LocalStepsAreTheModels, NoneIsForeign}
-use Rattle.mld_model.specs.Reply.{Reply, Did, NoOperation, Took, Merged, Held, HeldFull, AlreadyKnown, Sent, Answer, NothingToSend, Kept, Joined, Deep, Ignored, Stopped, Opened}
+use Rattle.mld_model.specs.LocalStep.{Task, Update, Take, Join, Ask, Compact, Truncate, Stop, Open, LocalState, GivesNoLeaf, LocallyOpens, updates_nothing, update_breaks, updates, knows_entry, accepts_entry, holds_entry, is_full, knows_snapshot, merges_snapshot, sends_nothing, sends_entries, sends_all, asks_itself, is_deep, forks_leaf, needs_no_leaf, adopts_leaf, passes_over, asks_for_leaf, asks_for_rest, compacts_journal, truncates_journal, stops, opens, DoesTask, StandsAt, IsSentAs, IsTaskIn, StepStands, LocalStepsAreTheModels, NoneIsForeign}
+use Rattle.mld_model.specs.Reply.{Reply, Did, NoOperation, Single, Took, Merged, Held, HeldFull, AlreadyKnown, Sent, Answer, NothingToSend, Kept, Joined, Deep, Ignored, Stopped, Opened}
 use Rattle.mld_model.specs.Sound.{Keeps, IsDoneRange, IsSoundClone, IsSound}
 use Rattle.mld_model.specs.StandsFor.{kept_by, LiveAt, AskingAt, DownAt, IsCloneOf, EntryStandsFor, StoredStandsFor, LocalStandsFor, SnapshotStandsFor, MessageStandsFor}
 use Rattle.mld_model.specs.World.{World, Message, RangeOf, Want, SnapshotOf, JoinAsk, JoinGive, clone_at, clone_count, with_clone}
@@ -119,12 +120,25 @@ module _ (world : World) (number : ℕ) (sound : IsSound world) where
   updates_none : (running : LocalClone) (effect : EffectValue) → LiveAt world number running → ChangesNothing effect
       → StepStands world number (Update effect) NoOperation [] (states.Live running)
   updates_none running effect at none = stays (states.Live running) at (Update effect) NoOperation
-      (live_does world (clone_at world number) NoOperation world _ (kept_by running at.base at.journal) at.held at.live (changes_nothing none (refl, refl)))
+      (live_does world (clone_at world number) NoOperation world _ (kept_by running at.base at.journal) at.held at.live
+      (running.pairs, at.stands.pairs, changes_nothing none (refl, refl)))
+
+  breach_stands : (running : LocalClone) (effect : EffectValue) (place : List ℕ × List ℕ) → LiveAt world number running → ¬ ChangesNothing effect
+      → IsFirstBreach running.properties running.pairs effect place
+      → StepStands world number (Update effect) (Single place.0 place.1) [] (states.Live running)
+  breach_stands running effect place at some first = stays (states.Live running) at (Update effect) (Single place.0 place.1)
+      (live_does world (clone_at world number) (Single place.0 place.1) world _ (kept_by running at.base at.journal) at.held at.live (
+        running.pairs,
+        at.stands.pairs,
+        breaks_single some place
+            (subst (λ (properties : List (List ℕ)). IsFirstBreach properties running.pairs effect place) at.is.properties first) (refl, refl),
+      ))
 
   made_stands : (old : LocalClone) (effect : EffectValue) (new : LocalClone) (entry : EntryValue) → LiveAt world number old
-      → ¬ ChangesNothing effect → ((pair : Tagged) → Has effect.deletes pair → Has old.pairs pair) → LocallyMakes old effect new entry
+      → ¬ ChangesNothing effect → BreaksNone old.properties old.pairs effect → ((pair : Tagged) → Has effect.deletes pair → Has old.pairs pair)
+      → LocallyMakes old effect new entry
       → StepStands world number (Update effect) (Did (next_dot old) (length world.messages + 1)) (CarriesEntry entry ∷ []) (states.Live new)
-  made_stands old effect new entry at some among made =
+  made_stands old effect new entry at some fits among made =
       let stored : Stored = kept_by old at.base at.journal in
       let reply : Reply = Did (next_dot old) (length world.messages + 1) in
       let whole : IsSoundClone world.history stored = live_sound world number stored at.held sound at.live in
@@ -137,8 +151,13 @@ module _ (world : World) (number : ℕ) (sound : IsSound world) where
       let then : Stored = with_range stored (range_of (next_dot old)) in
       record {
         next = next;
-        does = live_does world (clone_at world number) reply next _ stored at.held at.live
-            (makes_operation some (record { tick = (next_dot old).tick; is_next = tick; replies = refl; changes = refl }));
+        does = live_does world (clone_at world number) reply next _ stored at.held at.live (
+          old.pairs,
+          at.stands.pairs,
+          makes_operation some
+              (subst (λ (properties : List (List ℕ)). BreaksNone properties old.pairs effect) at.is.properties fits)
+              (record { tick = (next_dot old).tick; is_next = tick; replies = refl; changes = refl }),
+        );
         sound = made_sound world number stored at.held sound at.live (next_dot old).tick effect.deletes effect.inserts tick covered inserted;
         stands = live_from next number new (Live then at.held) (get_or-set_same world.clones number (Live then at.held) Absent (live_inside old at)) (
           still_clone_of world next number old new made.same refl refl at.is,
@@ -505,8 +524,10 @@ taken_in world what other C is then = absurd is
 pub local_steps : LocalStepsAreTheModels
 local_steps world number old new job other reply sent sound at is (updates_nothing clone effect none) =
     subst (λ (t : Task Message). StepStands world number t reply sent new) (sym is) (updates_none world number sound clone effect at none)
-local_steps world number old new job other reply sent sound at is (updates before effect after entry some among made) =
-    subst (λ (t : Task Message). StepStands world number t reply sent new) (sym is) (made_stands world number sound before effect after entry at some among made)
+local_steps world number old new job other reply sent sound at is (update_breaks clone effect place some first) =
+    subst (λ (t : Task Message). StepStands world number t reply sent new) (sym is) (breach_stands world number sound clone effect place at some first)
+local_steps world number old new job other reply sent sound at is (updates before effect after entry some fits among made) =
+    subst (λ (t : Task Message). StepStands world number t reply sent new) (sym is) (made_stands world number sound before effect after entry at some fits among made)
 local_steps world number old new job other reply sent sound at is (knows_entry clone entry known) =
     taken_in world (CarriesEntry entry) other (λ t. StepStands world number t reply sent new) is (λ message s. known_stands world number sound clone entry at message s known)
 local_steps world number old new job other reply sent sound at is (accepts_entry before entry after ranges locally) =

@@ -1,37 +1,34 @@
--- The effects of an `add` and of a `remove`: each is one, and deletes pairs that are present.
-use Rattle.std.proofs.Common.{◌≡◌, List, sym, ◌∙◌, ap, subst}
-use Rattle.rdf_terms.specs.declared.terms.Triple.{Triple}
+-- What follows of an update of a clone, by what became of it.
+use Rattle.std.proofs.Common.{◌≡◌, ℕ, List}
+use Rattle.tree_clock.specs.declared.dots.Dot.{Dot}
+use Rattle.tree_clock.specs.declared.dots.Range.{Range}
 use Rattle.tree_clock.specs.Lists.{Has}
 use Rattle.mld_ops.specs.declared.tagged.Tagged.{Tagged}
-use Rattle.mld_ops.specs.Effects.{EffectValue, deleting, ArePairsOf, DeletesAll}
-use Rattle.mld_ops.specs.Tagged.{tagged_cmp}
-use Rattle.mld_ops.proofs.AscendingLaws.{same_ascending}
-use Rattle.mld_ops.proofs.TaggedLaws.{tagged_total, tagged_exact}
-use Rattle.mld_model.specs.CloneStep.{AddsTriple}
+use Rattle.mld_ops.specs.Effects.{EffectValue}
+use Rattle.mld_ops.specs.History.{dot_at}
+use Rattle.mld_ops.specs.Meaning.{IsMeaning}
+use Rattle.mld_model.specs.Clone.{Clone, Live, Stored, known_of}
+use Rattle.mld_model.specs.CloneStep.{Answers, IsNextTick, Updates, UpdatesOver, is_too_large, has_effect, UpdatesBy}
+use Rattle.mld_model.specs.Reply.{Reply, TooMany}
+use Rattle.mld_model.specs.World.{World}
+use Rattle.mld_model.proofs.StateLaws.{IsState, if_live}
 
 -- an effect by the rule deletes pairs that are present
-abbrev pub DeletesPresent : (List Tagged → EffectValue → Type 0) → Type 0
-DeletesPresent rule = (pairs : List Tagged) (effect : EffectValue) → rule pairs effect → (pair : Tagged) → Has effect.deletes pair → Has pairs pair
+abbrev pub DeletesPresent : (Dot → List Tagged → EffectValue → Type 0) → Type 0
+DeletesPresent rule = (dot : Dot) (pairs : List Tagged) (effect : EffectValue) → rule dot pairs effect
+    → (pair : Tagged) → Has effect.deletes pair → Has pairs pair
 
--- and it is one
-abbrev pub HasOneEffect : (List Tagged → EffectValue → Type 0) → Type 0
-HasOneEffect rule = (pairs : List Tagged) (effect other : EffectValue) → rule pairs effect → rule pairs other → effect ≡ other
+-- what holds where the clone replies with its state, or that the update has too many solutions, and nothing changes, and where it is live
+-- with these pairs and its update has an effect, holds whatever became of the update
+module _ (C : Type 0) (world : World) (number : ℕ) (too_large : List Tagged → Type 0) (rule : Dot → List Tagged → EffectValue → Type 0) (clone : Clone) (reply : Reply) (next : World)
+    (state : (answer : Reply) → IsState answer → Answers world answer reply next → C) (many : Answers world TooMany reply next → C)
+    (does : (stored : Stored) (held : List Range) (pairs : List Tagged) (tick : ℕ) (effect : EffectValue) → clone ≡ Live stored held
+    → IsMeaning world.history (known_of stored) pairs → IsNextTick (known_of stored) stored.path tick → rule (dot_at stored.path tick) pairs effect
+    → Updates world number stored held pairs effect reply next → C) where
+  over : (stored : Stored) (held : List Range) (pairs : List Tagged) → clone ≡ Live stored held → IsMeaning world.history (known_of stored) pairs
+      → UpdatesOver world number stored held pairs (too_large pairs) (λ dot effect. rule dot pairs effect) reply next → C
+  over stored held pairs live meant (is_too_large large p) = many p
+  over stored held pairs live meant (has_effect tick is_next effect has p) = does stored held pairs tick effect live meant is_next has p
 
--- a triple has one list of pairs among the pairs of a clone
-pairs_once : (triple : Triple) (pairs found others : List Tagged) → ArePairsOf triple pairs found → ArePairsOf triple pairs others → found ≡ others
-pairs_once triple pairs found others p q =
-    same_ascending tagged_cmp tagged_total tagged_exact found others p.ascending q.ascending
-    (λ x h. (q.members x).1 ((p.members x).0 h)) (λ x h. (p.members x).1 ((q.members x).0 h))
-
-module _ (triple : Triple) where
-  pub adds_present : DeletesPresent (AddsTriple triple)
-  adds_present pairs effect adds pair h = absurd (subst (λ (e : EffectValue). Has e.deletes pair) adds h)
-
-  pub adds_one : HasOneEffect (AddsTriple triple)
-  adds_one pairs effect other p q = p ∙ sym q
-
-  pub removes_present : DeletesPresent (DeletesAll triple)
-  removes_present pairs effect all pair h = ((all.are.members pair).0 (subst (λ (e : EffectValue). Has e.deletes pair) all.is h)).0
-
-  pub removes_one : HasOneEffect (DeletesAll triple)
-  removes_one pairs effect other p q = p.is ∙ ap deleting (pairs_once triple pairs p.found q.found p.are q.are) ∙ sym q.is
+  pub if_updates : UpdatesBy world number too_large rule clone reply next → C
+  if_updates = if_live C world clone reply next _ state (λ stored held live p. over stored held p.0 live p.1 p.2)

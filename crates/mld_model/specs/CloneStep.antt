@@ -1,16 +1,17 @@
 -- What a clone of a world does, and what comes to it: each with its reply and the world after it, whatever line asks for it.
 use Rattle.std.specs.Prelude.{◌≡◌, ◌≢◌, ℕ, ◌+◌, ◌<◌, ◌≤◌, List, [], ◌∷◌, ◌++◌, ◌↔◌, length, map}
 use Rattle.std.specs.List.{range_with_len}
-use Rattle.rdf_terms.specs.declared.terms.Triple.{Triple}
 use Rattle.tree_clock.specs.Limits.{path_limit}
 use Rattle.tree_clock.specs.Path.{zero_letter, one_letter}
+use Rattle.tree_clock.specs.declared.dots.Dot.{Dot}
 use Rattle.tree_clock.specs.declared.dots.Range.{Range}
 use Rattle.tree_clock.specs.Lists.{Has}
 use Rattle.tree_clock.specs.Dot.{Knows}
 use Rattle.mld_ops.specs.declared.tagged.Tagged.{Tagged}
 use Rattle.mld_ops.specs.History.{Operation, dot_at}
 use Rattle.mld_ops.specs.Effect.{range_of}
-use Rattle.mld_ops.specs.Effects.{EffectValue, ChangesNothing, inserting, DeletesAll, operation_of}
+use Rattle.mld_ops.specs.Effects.{EffectValue, ChangesNothing, operation_of}
+use Rattle.mld_ops.specs.Breaches.{IsFirstBreach, BreaksNone}
 use Rattle.mld_ops.specs.Meaning.{IsMeaning}
 use Rattle.mld_ops.specs.Picking.{DropsThose}
 use Rattle.op_fusion.specs.Compacting.{AreCompacted}
@@ -18,7 +19,7 @@ use Rattle.mld_model.specs.Clone.{Clone, Absent, Asking, Empty, Down, Live, Stor
 use Rattle.mld_ops.specs.Held.{held_limit}
 use Rattle.mld_model.specs.Comparing.{ComparesBy}
 use Rattle.mld_model.specs.World.{World, Message, RangeOf, Want, SnapshotOf, JoinAsk, JoinGive, with_clone}
-use Rattle.mld_model.specs.Reply.{Reply, Did, NoOperation, Took, Merged, Held, HeldFull, AlreadyKnown, Shows, Sent, Answer, NothingToSend, Kept, Joined, Deep, Ignored, IsAbsent, IsAsking, IsDown, IsLive, Stopped, Opened}
+use Rattle.mld_model.specs.Reply.{Reply, Did, NoOperation, Single, TooMany, Took, Merged, Held, HeldFull, AlreadyKnown, Shows, Sent, Answer, NothingToSend, Kept, Joined, Deep, Ignored, IsAbsent, IsAsking, IsDown, IsLive, Stopped, Opened}
 
 -- a reply that changes nothing
 abbrev pub Answers : World → Reply → Reply → World → Type 0
@@ -59,28 +60,32 @@ pub record Makes (world : World) (number : ℕ) (stored : Stored) (held : List R
   pub replies : reply ≡ Did (dot_at stored.path tick) (length world.messages + 1)
   pub changes : next ≡ after_operation world number stored held (operation_of (dot_at stored.path tick) (known_of stored) effect)
 
--- a live clone makes an update by its effect: it changes nothing and no operation is made, or one is made
-pub data Updates (world : World) (number : ℕ) (stored : Stored) (held : List Range) (effect : EffectValue) (reply : Reply) (next : World) : Type 0 where
-  changes_nothing : ChangesNothing effect → Answers world NoOperation reply next → Updates world number stored held effect reply next
-  makes_operation : ¬ ChangesNothing effect → Makes world number stored held effect reply next → Updates world number stored held effect reply next
+-- a live clone that has these pairs makes an update by its effect: it changes nothing and no operation is made; or it would give a subject
+-- a second value of a single-valued property, and none is made; or one is made
+pub data Updates (world : World) (number : ℕ) (stored : Stored) (held : List Range) (pairs : List Tagged) (effect : EffectValue) (reply : Reply) (next : World) : Type 0 where
+  changes_nothing : ChangesNothing effect → Answers world NoOperation reply next → Updates world number stored held pairs effect reply next
+  breaks_single : ¬ ChangesNothing effect → (place : List ℕ × List ℕ) → IsFirstBreach world.properties pairs effect place
+      → Answers world (Single place.0 place.1) reply next → Updates world number stored held pairs effect reply next
+  makes_operation : ¬ ChangesNothing effect → BreaksNone world.properties pairs effect → Makes world number stored held effect reply next
+      → Updates world number stored held pairs effect reply next
 
--- a clone makes an update, by a rule that says which effect it has on the pairs that are present for the clone
-abbrev pub UpdatesBy : World → ℕ → (List Tagged → EffectValue → Type 0) → Clone → Reply → World → Type 0
-UpdatesBy world number rule clone reply next = IfLive world clone reply next (λ stored held.
-    (pairs : List Tagged) × (effect : EffectValue) × IsMeaning world.history (known_of stored) pairs × rule pairs effect
-    × Updates world number stored held effect reply next)
+-- an update has more solutions than it may have, or it has an effect at the dot of the clone's next operation
+pub data UpdatesOver (world : World) (number : ℕ) (stored : Stored) (held : List Range) (pairs : List Tagged) (TooLarge : Type 0) (Rule : Dot → EffectValue → Type 0) (reply : Reply) (next : World) : Type 0 where
+  is_too_large : TooLarge → Answers world TooMany reply next → UpdatesOver world number stored held pairs TooLarge Rule reply next
+  has_effect : (tick : ℕ) → IsNextTick (known_of stored) stored.path tick → (effect : EffectValue) → Rule (dot_at stored.path tick) effect
+      → Updates world number stored held pairs effect reply next → UpdatesOver world number stored held pairs TooLarge Rule reply next
 
--- to add a triple inserts it, whatever is present
-abbrev pub AddsTriple : Triple → List Tagged → EffectValue → Type 0
-AddsTriple triple pairs effect = effect ≡ inserting triple
+-- a clone makes an update: a rule says whether it has more solutions than it may have, over the pairs that are present for the clone, and
+-- another which effect it has on these, at a dot
+abbrev pub UpdatesBy : World → ℕ → (List Tagged → Type 0) → (Dot → List Tagged → EffectValue → Type 0) → Clone → Reply → World → Type 0
+UpdatesBy world number too_large rule clone reply next = IfLive world clone reply next (λ stored held.
+    (pairs : List Tagged) × IsMeaning world.history (known_of stored) pairs
+    × UpdatesOver world number stored held pairs (too_large pairs) (λ dot effect. rule dot pairs effect) reply next)
 
--- a triple is added
-abbrev pub Adds : World → ℕ → Triple → Clone → Reply → World → Type 0
-Adds world number triple clone reply next = UpdatesBy world number (AddsTriple triple) clone reply next
-
--- a triple is removed: all its pairs that are present are deleted
-abbrev pub Removes : World → ℕ → Triple → Clone → Reply → World → Type 0
-Removes world number triple clone reply next = UpdatesBy world number (DeletesAll triple) clone reply next
+-- a live clone makes an update of this effect
+abbrev pub UpdatesAs : World → ℕ → EffectValue → Clone → Reply → World → Type 0
+UpdatesAs world number effect clone reply next = IfLive world clone reply next (λ stored held.
+    (pairs : List Tagged) × IsMeaning world.history (known_of stored) pairs × Updates world number stored held pairs effect reply next)
 
 -- a live clone takes a range that is ready, and then those held back that this releases
 pub record Accepts (world : World) (number : ℕ) (stored : Stored) (held : List Range) (range : Range) (reply : Reply) (next : World) : Type 0 where

@@ -6,15 +6,16 @@ use Rattle.tree_clock.specs.declared.dots.Range.{Range}
 use Rattle.tree_clock.specs.Lists.{Has}
 use Rattle.mld_ops.specs.declared.tagged.Tagged.{Tagged}
 use Rattle.mld_ops.specs.Effects.{EffectValue, ChangesNothing}
+use Rattle.mld_ops.specs.Breaches.{IsFirstBreach, BreaksNone}
 use Rattle.mld_ops.specs.Entry.{EntryValue}
 use Rattle.mld_ops.specs.Messages.{SnapshotValue, GiveValue, MessageValue, CarriesEntry, CarriesWant, CarriesSnapshot, CarriesAsk, CarriesGive}
 use Rattle.mld_ops.specs.Ready.{IsKnownEntry}
 use Rattle.mld_model.specs.declared.CloneState.{CloneState}
 use Rattle.mld_model.specs.declared.CloneState.TheVariants as states
 use Rattle.mld_model.specs.Clone.{Absent}
-use Rattle.mld_model.specs.CloneStep.{IfLive, Updates, Takes, Joins, Wants, Compacts, Truncates, Stops, Reopens}
+use Rattle.mld_model.specs.CloneStep.{UpdatesAs, Takes, Joins, Wants, Compacts, Truncates, Stops, Reopens}
 use Rattle.mld_model.specs.Local.{LocalAsker, LocalClone, IsSameClone, IsLocal, next_dot, LocallyMakes, LocallyAccepts, MustBeHeld, LocallyHolds, IsFullFor, IsForeign, IsForeignSnapshot, LocallyForks, LocallyCompacts, LocallyTruncates, KnowsSnapshot, LocallyMerges, LocallyAnswersWant, LocallyAnswersBehind, joined_clone}
-use Rattle.mld_model.specs.Reply.{Reply, Did, NoOperation, Took, Merged, Held, HeldFull, AlreadyKnown, Sent, Answer, NothingToSend, Kept, Joined, Deep, Ignored, Stopped, Opened}
+use Rattle.mld_model.specs.Reply.{Reply, Did, NoOperation, Single, Took, Merged, Held, HeldFull, AlreadyKnown, Sent, Answer, NothingToSend, Kept, Joined, Deep, Ignored, Stopped, Opened}
 use Rattle.mld_model.specs.Sound.{IsSound}
 use Rattle.mld_model.specs.StandsFor.{LiveAt, AskingAt, DownAt, MessageStandsFor}
 use Rattle.mld_model.specs.World.{World, Message, clone_at}
@@ -53,9 +54,14 @@ pub record LocallyOpens (down new : LocalClone) : Type 0 where
 -- a clone alone does what it is told, where so many messages were sent before: its state, the task, its reply, the messages that it sends,
 -- and its state then
 pub data LocalStep (count : ℕ) : LocalState → Task MessageValue → Reply → List MessageValue → LocalState → Type 0 where
-  -- an update that changes nothing, and one that makes an operation; it deletes pairs that are there
+  -- an update that changes nothing; one that would give a subject a second value of a single-valued property; and one that makes an
+  -- operation; it deletes pairs that are there
   updates_nothing : (clone : LocalClone) (effect : EffectValue) → ChangesNothing effect → LocalStep count (states.Live clone) (Update effect) NoOperation [] (states.Live clone)
+  update_breaks : (clone : LocalClone) (effect : EffectValue) (place : List ℕ × List ℕ) → ¬ ChangesNothing effect
+      → IsFirstBreach clone.properties clone.pairs effect place
+      → LocalStep count (states.Live clone) (Update effect) (Single place.0 place.1) [] (states.Live clone)
   updates : (old : LocalClone) (effect : EffectValue) (new : LocalClone) (entry : EntryValue) → ¬ ChangesNothing effect
+      → BreaksNone old.properties old.pairs effect
       → ((pair : Tagged) → Has effect.deletes pair → Has old.pairs pair) → LocallyMakes old effect new entry
       → LocalStep count (states.Live old) (Update effect) (Did (next_dot old) (count + 1)) (CarriesEntry entry ∷ []) (states.Live new)
   -- an entry that is known, one that is ready, one that is held back, and one for which there is no room
@@ -105,7 +111,7 @@ pub data LocalStep (count : ℕ) : LocalState → Task MessageValue → Reply �
 
 -- the clone of the number does what it is told, in the model: its reply, and the world after it
 abbrev pub DoesTask : World → ℕ → Task Message → Reply → World → Type 0
-DoesTask world number (Update effect) reply next = IfLive world (clone_at world number) reply next (λ stored held. Updates world number stored held effect reply next)
+DoesTask world number (Update effect) reply next = UpdatesAs world number effect (clone_at world number) reply next
 DoesTask world number (Take message) reply next = Takes world number message (clone_at world number) reply next
 DoesTask world number Join reply next = Joins world number (clone_at world number) reply next
 DoesTask world number Ask reply next = Wants world (clone_at world number) reply next

@@ -8,10 +8,14 @@ use Rattle.mld_ops.specs.declared.tagged.Tagged.{Tagged}
 pub data Reply : Type 0 where
   -- so many clones are ready
   Ready : ℕ → Reply
+  -- a single-valued property is set
+  PropertySet : Reply
   -- the operation of the dot was made and sent in the message of the number
   Did : Dot → ℕ → Reply
   -- there was nothing to do, and no operation was made
   NoOperation : Reply
+  -- the update would give this subject a second value of this single-valued property, and no operation was made
+  Single : List ℕ → List ℕ → Reply
   -- the ranges were taken, in this order
   Took : List Range → Reply
   -- a snapshot was merged, and then these ranges were taken that had been held back, in this order
@@ -26,7 +30,7 @@ pub data Reply : Type 0 where
   Shows : List Tagged → Reply
   -- this is the answer to a query, as a line of JSON without its LF
   Tells : List ℕ → Reply
-  -- the query has more solutions than it may have
+  -- the query or the update has more solutions than it may have
   TooMany : Reply
   -- how the dots of two clones compare
   Same : Reply
