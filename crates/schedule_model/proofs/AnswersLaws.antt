@@ -13,12 +13,15 @@ use Rattle.mld_ops.specs.History.{Operation, dot_at}
 use Rattle.mld_ops.specs.Meaning.{IsMeaning}
 use Rattle.mld_ops.specs.Effect.{range_of}
 use Rattle.mld_ops.proofs.OperationLaws.{range_of_has}
-use Rattle.schedule_model.specs.declared.Command.TheVariants.{Add, Remove, Deliver, Show, Query, Compare, Join, Ask, Compact, Truncate, Stop, Open}
+use Rattle.schedule_model.specs.declared.Command.TheVariants.{Add, Remove, Update, Deliver, Show, Query, Compare, Join, Ask, Compact, Truncate, Stop, Open}
 use Rattle.mld_ops.specs.Effects.{EffectValue, DeletesAll, operation_of}
+use Rattle.jrql_ast.specs.declared.plans.UpdatePlan.{UpdatePlan}
+use Rattle.jrql_ast.specs.Templates.{insertion_of, deletion_of}
+use Rattle.jrql_eval.specs.PlanEffects.{IsPlanEffect}
 use Rattle.mld_model.specs.Clone.{Clone, Absent, Asking, Down, Live, Stored, kept_of, known_of, with_range, merged_with, truncated_to}
 use Rattle.mld_model.specs.World.{World, Message, RangeOf, Want, SnapshotOf, JoinAsk, JoinGive, message_at, clone_at, with_clone}
 use Rattle.mld_model.specs.Reply.{Reply, Did, NoMessage, IsAbsent, IsDown}
-use Rattle.mld_model.specs.CloneStep.{Answers, Makes, Updates, changes_nothing, makes_operation, UpdatesBy, AddsTriple, holds_already, holds_too_many, holds_from_now, TakesRange, knows_already, accepts, holds_back, Asks, Joins, left_half, TakesAsk, asked_itself, is_too_deep, forks, joined_with, TakesLeaf, becomes_live, leaves_it, AskerTakes, LiveTakes, Takes, Stops, Reopens, Lists, Compares, ComparesWith, Weighs, TakesWant, lacks_nothing, sends_ranges, sends_snapshot, TakesSnapshot, knows_all, merges, Wants, Compacts, Truncates}
+use Rattle.mld_model.specs.CloneStep.{Answers, IsNextTick, Makes, Updates, changes_nothing, breaks_single, makes_operation, holds_already, holds_too_many, holds_from_now, TakesRange, knows_already, accepts, holds_back, Asks, Joins, left_half, TakesAsk, asked_itself, is_too_deep, forks, joined_with, TakesLeaf, becomes_live, leaves_it, AskerTakes, LiveTakes, Takes, Stops, Reopens, Lists, Compares, ComparesWith, Weighs, TakesWant, lacks_nothing, sends_ranges, sends_snapshot, TakesSnapshot, knows_all, merges, Wants, Compacts, Truncates}
 use Rattle.mld_model.proofs.StateLaws.{by_state, IsState, is_absent, is_asking, is_down, if_live, IsStanding, stands_absent, stands_asking, stands_live, if_opens}
 use Rattle.schedule_model.specs.Step.{Step}
 use Rattle.schedule_model.specs.Runs.{Stage, Waiting, SetUp, Running, Commands, Acts, says_nothing, commands, Runs}
@@ -28,11 +31,14 @@ use Rattle.mld_model.proofs.StoredLaws.{kept_then}
 use Rattle.mld_model.proofs.CompactedJournals.{known_compacted}
 use Rattle.mld_model.proofs.ReleaseLaws.{releases_known}
 use Rattle.mld_model.proofs.KnownLaws.{known_with-old, known_with-new}
+use Rattle.schedule_model.specs.Updating.{UpdatesByPlan, AddsTriple}
+use Rattle.schedule_model.proofs.PlanLaws.{insertion_effect, deletion_effect, if_planned}
+use Rattle.schedule_model.proofs.StepLaws.{one_next_tick}
 use Rattle.schedule_model.proofs.StepSoundLaws.{lists_same, queries_same, weighs_same}
 use Rattle.jrql_patterns.specs.declared.queries.ReadQuery.{ReadQuery}
 use Rattle.schedule_model.specs.Querying.{Queries}
-use Rattle.schedule_model.specs.Answers.{Remembers, RemembersUpdate}
-use Rattle.schedule_model.specs.Laws.{AddRemembers, RemoveRemembers, DidRemembers, StepRemembers, AnswersSurvive}
+use Rattle.schedule_model.specs.Answers.{Remembers, RemembersUpdate, Survives}
+use Rattle.schedule_model.specs.Laws.{AddRemembers, RemoveRemembers, UpdateRemembers, DidRemembers, StepRemembers, AnswersSurvive}
 
 -- ---- the step that makes an operation
 
@@ -90,10 +96,12 @@ module _ (world next : World) (dot : Dot) (message : ℕ) where
 
   -- an update that tells of a dot made an operation, and its clone remembers it
   updates_remember : (number : ℕ) (rule : List Tagged → EffectValue → Type 0) (stored : Stored) (held : List Range) (pairs : List Tagged) (effect : EffectValue)
-      → clone_at world number ≡ Live stored held → IsMeaning world.history (known_of stored) pairs → rule pairs effect
-      → Updates world number stored held effect (Did dot message) next → RemembersUpdate world number rule dot next
+      → clone_at world number ≡ Live stored held → IsMeaning world.history (known_of stored) pairs
+      → ((tick : ℕ) → IsNextTick (known_of stored) stored.path tick → dot_at stored.path tick ≡ dot → rule pairs effect)
+      → Updates world number stored held pairs effect (Did dot message) next → RemembersUpdate world number rule dot next
   updates_remember number rule stored held pairs effect is meant does (changes_nothing none p) = absurd (cc (p.0))
-  updates_remember number rule stored held pairs effect is meant does (makes_operation some p) = (
+  updates_remember number rule stored held pairs effect is meant does (breaks_single some place first p) = absurd (cc (p.0))
+  updates_remember number rule stored held pairs effect is meant does (makes_operation some fits p) = (
     own_operation stored p.tick effect,
     record {
       effect = effect;
@@ -103,19 +111,22 @@ module _ (world next : World) (dot : Dot) (message : ℕ) where
       live = is;
       pairs = pairs;
       meant = meant;
-      does = does;
+      does = does p.tick p.is_next (told_dot (dot_at stored.path p.tick) dot _ message p.replies);
       is = ap (λ (d : Dot). operation_of d (known_of stored) effect) (told_dot (dot_at stored.path p.tick) dot _ message p.replies);
     },
     made_head world number stored held effect (Did dot message) next p,
     makes_remembers world number stored held effect (Did dot message) next is p,
   )
 
-  updates_by_remember : (number : ℕ) (rule : List Tagged → EffectValue → Type 0) (clone : Clone) → clone_at world number ≡ clone
-      → UpdatesBy world number rule clone (Did dot message) next → RemembersUpdate world number rule dot next
-  updates_by_remember number rule clone is =
-      if_live (RemembersUpdate world number rule dot next) world clone (Did dot message) next _
-      (λ answer state p. absurd (state_tells_none answer state p))
-      (λ stored held live p. updates_remember number rule stored held p.0 p.1 (is ∙ live) p.2 p.3 p.4)
+  planned_remember : (number : ℕ) (plan : UpdatePlan) (rule : List Tagged → EffectValue → Type 0)
+      → ((pairs : List Tagged) (effect : EffectValue) → IsPlanEffect world.domain dot pairs plan effect → rule pairs effect)
+      → UpdatesByPlan world number plan (clone_at world number) (Did dot message) next → RemembersUpdate world number rule dot next
+  planned_remember number plan rule means =
+      if_planned (RemembersUpdate world number rule dot next) world number plan (clone_at world number) (Did dot message) next
+      (λ answer state p. absurd (state_tells_none answer state p)) (λ p. absurd (cc (p.0)))
+      (λ stored held pairs tick effect live meant is_next has p. updates_remember number rule stored held pairs effect live meant
+      (λ own comes same. means pairs effect (subst (λ (at : Dot). IsPlanEffect world.domain at pairs plan effect)
+      (ap (λ (n : ℕ). dot_at stored.path n) (one_next_tick (known_of stored) stored.path tick own is_next comes) ∙ same) has)) p)
 
   -- a range that comes to a live clone is answered without a dot
   receives_tell_none : (number : ℕ) (stored : Stored) (held : List Range) (range : Range) → ¬ TakesRange world number stored held range (Did dot message) next
@@ -226,23 +237,35 @@ module _ (world next : World) (dot : Dot) (message : ℕ) where
 -- the dot that an `add` tells of is that of an operation which inserts just the triple, and the clone remembers it
 pub add_remembers : AddRemembers
 unfolding Step
-add_remembers world number triple dot message next p = updates_by_remember world next dot message number (AddsTriple triple) (clone_at world number) refl p
+add_remembers world number triple dot message next p =
+    planned_remember world next dot message number (insertion_of triple) (AddsTriple triple) (λ pairs. insertion_effect world.domain dot pairs triple) p
 
 -- the dot that a `remove` tells of is that of an operation which deletes the pairs of the triple, and the clone remembers it
 pub remove_remembers : RemoveRemembers
 unfolding Step
-remove_remembers world number triple dot message next p = updates_by_remember world next dot message number (DeletesAll triple) (clone_at world number) refl p
+remove_remembers world number triple dot message next p =
+    planned_remember world next dot message number (deletion_of triple) (DeletesAll triple) (λ pairs. deletion_effect world.domain dot pairs triple) p
+
+-- the dot that an `update` tells of is that of an operation by the effect of its plan, and the clone remembers it
+pub update_remembers : UpdateRemembers
+unfolding Step
+update_remembers world number plan dot message next p =
+    planned_remember world next dot message number plan (λ pairs effect. IsPlanEffect world.domain dot pairs plan effect) (λ pairs effect has. has) p
+
+-- whatever its plan is, the clone remembers the operation
+planned_survives : (world : World) (number : ℕ) (plan : UpdatePlan) (dot : Dot) (message : ℕ) (next : World)
+    → UpdatesByPlan world number plan (clone_at world number) (Did dot message) next → Survives world next dot next number
+planned_survives world number plan dot message next p =
+    let made = planned_remember world next dot message number plan (λ pairs effect. IsPlanEffect world.domain dot pairs plan effect) (λ pairs effect has. has) p in
+    record { operation = made.0; is = ap (λ (o : Operation). o.dot) made.1.is; made = made.2; remembers = made.3 }
 
 -- the dot that a command tells of is that of an operation which its step put at the head of the history, and its clone
 -- remembers it
 pub did_remembers : DidRemembers
 unfolding Step
-did_remembers world (Add number triple) dot message next p =
-    let made = updates_by_remember world next dot message number (AddsTriple triple) (clone_at world number) refl p in
-    record { operation = made.0; is = ap (λ (o : Operation). o.dot) made.1.is; made = made.2; remembers = made.3 }
-did_remembers world (Remove number triple) dot message next p =
-    let made = updates_by_remember world next dot message number (DeletesAll triple) (clone_at world number) refl p in
-    record { operation = made.0; is = ap (λ (o : Operation). o.dot) made.1.is; made = made.2; remembers = made.3 }
+did_remembers world (Add number triple) dot message next p = planned_survives world number (insertion_of triple) dot message next p
+did_remembers world (Remove number triple) dot message next p = planned_survives world number (deletion_of triple) dot message next p
+did_remembers world (Update number plan) dot message next p = planned_survives world number plan dot message next p
 did_remembers world (Deliver sent number) dot message next p = absurd (delivers_tell_none world next dot message number (message_at world sent) p)
 did_remembers world (Show number) dot message next p = absurd (lists_tell_none world next dot message (clone_at world number) p)
 did_remembers world (Query number read) dot message next p = absurd (queries_tell_none world next dot message read (clone_at world number) p)
@@ -317,16 +340,16 @@ module _ (world next : World) (number : ℕ) (operation : Operation) (remembers 
       grown_remembers maker stored (with_range stored (range_of (dot_at stored.path made.tick))) held held is (ap (λ (w : World). w.clones) made.changes) (known_with-old stored (range_of (dot_at stored.path made.tick))) (λ other stands. subst (λ (w : World). Has w.history other) (sym made.changes) (inr stands))
 
   -- what is remembered stays so at an update
-  updates_keep : (maker : ℕ) (stored : Stored) (held : List Range) (effect : EffectValue) (reply : Reply) → clone_at world maker ≡ Live stored held
-      → Updates world maker stored held effect reply next → Remembers next number operation
-  updates_keep maker stored held effect reply is (changes_nothing none p) = same_remembers p.1
-  updates_keep maker stored held effect reply is (makes_operation some p) = makes_keeps maker stored held effect reply is p
+  updates_keep : (maker : ℕ) (stored : Stored) (held : List Range) (pairs : List Tagged) (effect : EffectValue) (reply : Reply) → clone_at world maker ≡ Live stored held
+      → Updates world maker stored held pairs effect reply next → Remembers next number operation
+  updates_keep maker stored held pairs effect reply is (changes_nothing none p) = same_remembers p.1
+  updates_keep maker stored held pairs effect reply is (breaks_single some place first p) = same_remembers p.1
+  updates_keep maker stored held pairs effect reply is (makes_operation some fits p) = makes_keeps maker stored held effect reply is p
 
-  updates_by_keep : (maker : ℕ) (rule : List Tagged → EffectValue → Type 0) (clone : Clone) (reply : Reply) → clone_at world maker ≡ clone
-      → UpdatesBy world maker rule clone reply next → Remembers next number operation
-  updates_by_keep maker rule clone reply is =
-      if_live (Remembers next number operation) world clone reply next _ (λ answer state p. same_remembers p.1)
-      (λ stored held live p. updates_keep maker stored held p.1 reply (is ∙ live) p.4)
+  planned_keep : (maker : ℕ) (plan : UpdatePlan) (reply : Reply) → UpdatesByPlan world maker plan (clone_at world maker) reply next → Remembers next number operation
+  planned_keep maker plan reply =
+      if_planned (Remembers next number operation) world maker plan (clone_at world maker) reply next (λ answer state p. same_remembers p.1)
+      (λ p. same_remembers p.1) (λ stored held pairs tick effect live meant is_next has p. updates_keep maker stored held pairs effect reply live p)
 
   -- where a range comes to a live clone
   receives_keep : (taker : ℕ) (stored : Stored) (held : List Range) (range : Range) (reply : Reply) → clone_at world taker ≡ Live stored held
@@ -473,9 +496,11 @@ module _ (world next : World) (number : ℕ) (operation : Operation) (remembers 
 pub step_remembers : StepRemembers
 unfolding Step
 step_remembers world number operation (Add maker triple) reply next remembers p =
-    updates_by_keep world next number operation remembers maker (AddsTriple triple) (clone_at world maker) reply refl p
+    planned_keep world next number operation remembers maker (insertion_of triple) reply p
 step_remembers world number operation (Remove maker triple) reply next remembers p =
-    updates_by_keep world next number operation remembers maker (DeletesAll triple) (clone_at world maker) reply refl p
+    planned_keep world next number operation remembers maker (deletion_of triple) reply p
+step_remembers world number operation (Update maker plan) reply next remembers p =
+    planned_keep world next number operation remembers maker plan reply p
 step_remembers world number operation (Deliver message taker) reply next remembers p =
     delivers_keep world next number operation remembers taker (message_at world message) reply p
 step_remembers world number operation (Show shower) reply next remembers p =

@@ -1,7 +1,7 @@
 -- What a step changes: of the clones the command's own alone, neither the domain nor the properties, and of the history nothing but that
 -- an operation may have joined it.
 use Rattle.std.specs.Prelude.{◌≡◌, ◌≢◌, ℕ, List, [], ◌∷◌, ◌++◌, Option, Some, None, MatchOption}
-use Rattle.std.proofs.Common.{refl, sym, ◌∙◌, ap, subst}
+use Rattle.std.proofs.Common.{sym, ◌∙◌, ap, subst}
 use Rattle.std.proofs.lemmas.List.{get_or-set_other}
 use Rattle.tree_clock.specs.declared.dots.Range.{Range}
 use Rattle.tree_clock.specs.Lists.{Has}
@@ -10,16 +10,19 @@ use Rattle.mld_ops.specs.declared.tagged.Tagged.{Tagged}
 use Rattle.mld_ops.specs.History.{Operation, IsInserted, IsNext, dot_at}
 use Rattle.mld_ops.specs.Meaning.{IsMeaning}
 use Rattle.schedule_model.specs.declared.Command.{Command}
-use Rattle.schedule_model.specs.declared.Command.TheVariants.{Add, Remove, Deliver, Show, Query, Compare, Join, Ask, Compact, Truncate, Stop, Open}
-use Rattle.mld_ops.specs.Effects.{EffectValue, DeletesAll, operation_of}
+use Rattle.schedule_model.specs.declared.Command.TheVariants.{Add, Remove, Update, Deliver, Show, Query, Compare, Join, Ask, Compact, Truncate, Stop, Open}
+use Rattle.mld_ops.specs.Effects.{EffectValue, operation_of}
+use Rattle.jrql_ast.specs.declared.plans.UpdatePlan.{UpdatePlan}
+use Rattle.jrql_ast.specs.Templates.{insertion_of, deletion_of}
 use Rattle.mld_model.specs.Clone.{Clone, Absent, Asking, Down, Live, Stored, known_of, truncated_to}
 use Rattle.mld_model.specs.World.{World, Message, RangeOf, Want, SnapshotOf, JoinAsk, JoinGive, message_at, clone_at, with_clone}
 use Rattle.mld_model.specs.Local.{LocalStored}
 use Rattle.mld_model.specs.Reply.{Reply, NoMessage}
 use Rattle.mld_model.specs.Sound.{Keeps, IsSoundClone, IsSound}
 use Rattle.mld_model.specs.StandsFor.{StoredStandsFor}
-use Rattle.mld_model.specs.CloneStep.{Answers, Makes, Updates, changes_nothing, makes_operation, UpdatesBy, AddsTriple, holds_already, holds_too_many, holds_from_now, TakesRange, knows_already, accepts, holds_back, Asks, Joins, left_half, TakesAsk, asked_itself, is_too_deep, forks, joined_with, TakesLeaf, becomes_live, leaves_it, AskerTakes, LiveTakes, Takes, Stops, Reopens, TakesWant, lacks_nothing, sends_ranges, sends_snapshot, TakesSnapshot, knows_all, merges, Wants, Compacts, Truncates}
-use Rattle.mld_model.proofs.UpdateLaws.{DeletesPresent, adds_present, removes_present}
+use Rattle.mld_model.specs.CloneStep.{Answers, Makes, Updates, changes_nothing, breaks_single, makes_operation, holds_already, holds_too_many, holds_from_now, TakesRange, knows_already, accepts, holds_back, Asks, Joins, left_half, TakesAsk, asked_itself, is_too_deep, forks, joined_with, TakesLeaf, becomes_live, leaves_it, AskerTakes, LiveTakes, Takes, Stops, Reopens, TakesWant, lacks_nothing, sends_ranges, sends_snapshot, TakesSnapshot, knows_all, merges, Wants, Compacts, Truncates}
+use Rattle.schedule_model.specs.Updating.{UpdatesByPlan}
+use Rattle.schedule_model.proofs.PlanLaws.{plan_present, if_planned}
 use Rattle.mld_model.proofs.StateLaws.{by_state, if_live, if_opens}
 use Rattle.mld_model.proofs.SoundLaws.{made_is_next, live_sound}
 use Rattle.mld_model.proofs.StoredLaws.{stored_still_stands}
@@ -87,16 +90,17 @@ module _ (world next : World) (number : ℕ) where
   -- an update that deletes pairs of the clone
   updates_change : (stored : Stored) (held : List Range) (pairs : List Tagged) (effect : EffectValue) (reply : Reply) → clone_at world number ≡ Live stored held
       → IsMeaning world.history (known_of stored) pairs → ((pair : Tagged) → Has effect.deletes pair → Has pairs pair)
-      → Updates world number stored held effect reply next → Changes world next number
+      → Updates world number stored held pairs effect reply next → Changes world next number
   updates_change stored held pairs effect reply is meant among (changes_nothing none p) = same_changes p.1
-  updates_change stored held pairs effect reply is meant among (makes_operation some p) =
+  updates_change stored held pairs effect reply is meant among (breaks_single some place first p) = same_changes p.1
+  updates_change stored held pairs effect reply is meant among (makes_operation some fits p) =
       makes_changes stored held effect reply is (λ pair h. (meant.sound pair (among pair h)).covered) (λ pair h. (meant.sound pair (among pair h)).inserted) p
 
-  updates_by_change : (rule : List Tagged → EffectValue → Type 0) → DeletesPresent rule → (clone : Clone) (reply : Reply) → clone_at world number ≡ clone
-      → UpdatesBy world number rule clone reply next → Changes world next number
-  updates_by_change rule present clone reply is =
-      if_live (Changes world next number) world clone reply next _ (λ answer state p. same_changes p.1)
-      (λ stored held live p. updates_change stored held p.0 p.1 reply (is ∙ live) p.2 (present p.0 p.1 p.3) p.4)
+  planned_change : (plan : UpdatePlan) (reply : Reply) → UpdatesByPlan world number plan (clone_at world number) reply next → Changes world next number
+  planned_change plan reply =
+      if_planned (Changes world next number) world number plan (clone_at world number) reply next (λ answer state p. same_changes p.1) (λ p. same_changes p.1)
+      (λ stored held pairs tick effect live meant is_next has p. updates_change stored held pairs effect reply live meant
+      (plan_present world.domain plan (dot_at stored.path tick) pairs effect has) p)
 
   -- ---- messages
 
@@ -201,8 +205,9 @@ module _ (world next : World) (number : ℕ) where
 -- each step
 pub step_changes : (world : World) (command : Command) (reply : Reply) (next : World) → Step world command reply next → Changes world next (number_of_clone command)
 unfolding Step
-step_changes world (Add number triple) reply next p = updates_by_change world next number (AddsTriple triple) (adds_present triple) (clone_at world number) reply refl p
-step_changes world (Remove number triple) reply next p = updates_by_change world next number (DeletesAll triple) (removes_present triple) (clone_at world number) reply refl p
+step_changes world (Add number triple) reply next p = planned_change world next number (insertion_of triple) reply p
+step_changes world (Remove number triple) reply next p = planned_change world next number (deletion_of triple) reply p
+step_changes world (Update number plan) reply next p = planned_change world next number plan reply p
 step_changes world (Deliver message number) reply next p = delivers_change world next number (message_at world message) reply p
 step_changes world (Show number) reply next p = same_changes world next number (lists_same world (clone_at world number) reply next p)
 step_changes world (Query number read) reply next p = same_changes world next number (queries_same world read (clone_at world number) reply next p)

@@ -7,15 +7,19 @@ use Rattle.tree_clock.specs.declared.dots.Range.{Range}
 use Rattle.mld_ops.specs.declared.tagged.Tagged.{Tagged}
 use Rattle.mld_ops.specs.History.{Operation, dot_at}
 use Rattle.schedule_model.specs.declared.Command.{Command}
-use Rattle.schedule_model.specs.declared.Command.TheVariants.{Add, Remove, Deliver, Show, Query, Compare, Join, Ask, Compact, Truncate, Stop, Open}
-use Rattle.mld_ops.specs.Effects.{EffectValue, DeletesAll, operation_of}
+use Rattle.schedule_model.specs.declared.Command.TheVariants.{Add, Remove, Update, Deliver, Show, Query, Compare, Join, Ask, Compact, Truncate, Stop, Open}
+use Rattle.mld_ops.specs.Effects.{EffectValue, operation_of}
+use Rattle.jrql_ast.specs.declared.plans.UpdatePlan.{UpdatePlan}
+use Rattle.jrql_ast.specs.Templates.{insertion_of, deletion_of}
 use Rattle.mld_model.specs.Clone.{Clone, Absent, Asking, Empty, Down, Live, Stored, known_of, with_range, merged_with, truncated_to, Releases, kept_of}
 use Rattle.mld_model.specs.World.{World, Message, RangeOf, Want, SnapshotOf, JoinAsk, JoinGive, message_at, clone_count, clone_at, with_clone}
 use Rattle.mld_model.specs.Reply.{Reply, Did, Took, Merged, AlreadyKnown, Answer, Joined, NoMessage, Ignored, IsAbsent, IsDown}
-use Rattle.mld_model.specs.CloneStep.{Answers, Makes, Updates, changes_nothing, makes_operation, UpdatesBy, AddsTriple, Accepts, HoldsBack, holds_already, holds_too_many, holds_from_now, TakesRange, knows_already, accepts, holds_back, Asks, Joins, left_half, TakesAsk, asked_itself, is_too_deep, forks, joined_with, TakesLeaf, becomes_live, leaves_it, AskerTakes, LiveTakes, Takes, Stops, Reopens, TakesWant, lacks_nothing, sends_ranges, sends_snapshot, Merges, TakesSnapshot, knows_all, merges, Wants, Compacts, Truncates}
+use Rattle.mld_model.specs.CloneStep.{Answers, Makes, Updates, changes_nothing, breaks_single, makes_operation, Accepts, HoldsBack, holds_already, holds_too_many, holds_from_now, TakesRange, knows_already, accepts, holds_back, Asks, Joins, left_half, TakesAsk, asked_itself, is_too_deep, forks, joined_with, TakesLeaf, becomes_live, leaves_it, AskerTakes, LiveTakes, Takes, Stops, Reopens, TakesWant, lacks_nothing, sends_ranges, sends_snapshot, Merges, TakesSnapshot, knows_all, merges, Wants, Compacts, Truncates}
 use Rattle.mld_model.proofs.StateLaws.{by_state, IsState, is_absent, is_asking, is_down, if_live, if_opens}
 use Rattle.op_fusion.specs.Compacting.{AreCompacted}
 use Rattle.mld_model.proofs.CompactedJournals.{compacted_shrinks}
+use Rattle.schedule_model.specs.Updating.{UpdatesByPlan}
+use Rattle.schedule_model.proofs.PlanLaws.{if_planned}
 use Rattle.schedule_model.proofs.StepSoundLaws.{lists_same, queries_same, weighs_same}
 use Rattle.mld_model.specs.Durable.{DurableStep, AppendsMade, AppendsTaken, Swaps, kept_after, history_after}
 use Rattle.schedule_model.specs.Step.{Step, number_of_clone}
@@ -190,16 +194,18 @@ module _ (world next : World) (number : ℕ) where
   state_leads answer reply is_down p = unmade_leads _ reply refl p
 
   -- an update has such steps
-  updates_lead : (stored : Stored) (held : List Range) (effect : EffectValue) (reply : Reply) → number < length world.clones
-      → clone_at world number ≡ Live stored held → Updates world number stored held effect reply next → MakesAndLeads world number reply next
-  updates_lead stored held effect reply inside is (changes_nothing none p) = unmade_leads _ reply refl p
-  updates_lead stored held effect reply inside is (makes_operation some p) = makes_leads stored held effect reply inside is p
+  updates_lead : (stored : Stored) (held : List Range) (pairs : List Tagged) (effect : EffectValue) (reply : Reply) → number < length world.clones
+      → clone_at world number ≡ Live stored held → Updates world number stored held pairs effect reply next → MakesAndLeads world number reply next
+  updates_lead stored held pairs effect reply inside is (changes_nothing none p) = unmade_leads _ reply refl p
+  updates_lead stored held pairs effect reply inside is (breaks_single some place first p) = unmade_leads _ reply refl p
+  updates_lead stored held pairs effect reply inside is (makes_operation some fits p) = makes_leads stored held effect reply inside is p
 
-  updates_by_lead : (rule : List Tagged → EffectValue → Type 0) (clone : Clone) (reply : Reply) → number < length world.clones → clone_at world number ≡ clone
-      → UpdatesBy world number rule clone reply next → MakesAndLeads world number reply next
-  updates_by_lead rule clone reply inside is =
-      if_live (MakesAndLeads world number reply next) world clone reply next _ (λ answer state. state_leads answer reply state)
-      (λ stored held live p. updates_lead stored held p.1 reply inside (is ∙ live) p.4)
+  planned_lead : (plan : UpdatePlan) (reply : Reply) → number < length world.clones → UpdatesByPlan world number plan (clone_at world number) reply next
+      → MakesAndLeads world number reply next
+  planned_lead plan reply inside =
+      if_planned (MakesAndLeads world number reply next) world number plan (clone_at world number) reply next (λ answer state. state_leads answer reply state)
+      (λ p. unmade_leads _ reply refl p)
+      (λ stored held pairs tick effect live meant is_next has p. updates_lead stored held pairs effect reply inside live p)
 
   -- ---- messages
 
@@ -404,11 +410,14 @@ place_of world number small count = omega (arith, small, count)
 pub durable_steps_lead : DurableStepsLead
 unfolding Step DurableSteps
 durable_steps_lead world (Add number triple) reply next small count p =
-    let made = updates_by_lead world next number (AddsTriple triple) (clone_at world number) reply (place_of world number small count) refl p in
+    let made = planned_lead world next number (insertion_of triple) reply (place_of world number small count) p in
     leads_durably world (Add number triple) reply next made.0 made.1 made.2
 durable_steps_lead world (Remove number triple) reply next small count p =
-    let made = updates_by_lead world next number (DeletesAll triple) (clone_at world number) reply (place_of world number small count) refl p in
+    let made = planned_lead world next number (deletion_of triple) reply (place_of world number small count) p in
     leads_durably world (Remove number triple) reply next made.0 made.1 made.2
+durable_steps_lead world (Update number plan) reply next small count p =
+    let made = planned_lead world next number plan reply (place_of world number small count) p in
+    leads_durably world (Update number plan) reply next made.0 made.1 made.2
 durable_steps_lead world (Deliver message number) reply next small count p =
     let given = delivers_lead world next number (message_at world message) reply (place_of world number small count) p in
     leads_durably world (Deliver message number) reply next given.0 given.1 given.2
@@ -464,6 +473,7 @@ pub one_durable_list : OneDurableList
 unfolding DurableSteps
 one_durable_list world (Add number triple) reply next steps other p q = makes_once world reply next steps other p q
 one_durable_list world (Remove number triple) reply next steps other p q = makes_once world reply next steps other p q
+one_durable_list world (Update number plan) reply next steps other p q = makes_once world reply next steps other p q
 one_durable_list world (Deliver message number) reply next steps other p q = delivers_once (clone_at world number) (message_at world message) reply steps other p q
 one_durable_list world (Show number) reply next steps other p q = p ∙ sym q
 one_durable_list world (Query number read) reply next steps other p q = p ∙ sym q

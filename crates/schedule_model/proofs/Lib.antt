@@ -1,4 +1,6 @@
 pub mod LackingLaws
+mod PlansRead
+pub mod PlanLaws
 pub mod WorldLaws
 pub mod JoinLaws
 pub mod ChangesLaws

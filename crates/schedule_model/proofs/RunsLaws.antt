@@ -8,11 +8,11 @@ use Rattle.mld_model.specs.World.{World, founded}
 use Rattle.mld_model.specs.Reply.{Ready}
 use Rattle.schedule_model.specs.ReplyText.{reply_text}
 use Rattle.schedule_model.specs.Step.{Step}
-use Rattle.schedule_model.specs.Schedule.{Setup, SpellsCommand}
-use Rattle.schedule_model.specs.Runs.{Stage, Waiting, SetUp, Running, IsFoundedBy, IsWorldOf, SetsUp, Commands, Acts, says_nothing, sets_up, commands, Runs, IsUnbuilt, IsBad, IsFirst, IsBadRest, bad_line, no_domain, Outcome, Finished, BadLine, UnbuiltLine, Verdict}
+use Rattle.schedule_model.specs.Schedule.{Setup, with_property, SpellsCommand}
+use Rattle.schedule_model.specs.Runs.{Stage, Waiting, SetUp, Running, IsFoundedBy, IsWorldOf, SetsUp, SetsOne, Commands, Acts, says_nothing, sets_up, sets_property, commands, Runs, IsUnbuilt, IsBad, IsFirst, IsBadRest, bad_line, no_domain, Outcome, Finished, BadLine, UnbuiltLine, Verdict}
 use Rattle.schedule_model.specs.Laws.{OneAct, OneOutcome, OneRun, OneVerdict}
-use Rattle.schedule_model.proofs.ScheduleLaws.{one_kind, one_setup, one_command}
-use Rattle.schedule_model.proofs.StepLaws.{one_step}
+use Rattle.schedule_model.proofs.ScheduleLaws.{one_kind, one_setup, one_property, one_command, spells_in_form}
+use Rattle.schedule_model.proofs.StepLaws.{step_once}
 
 -- ---- lines
 
@@ -21,6 +21,12 @@ sets_up_once : (line text other : List ℕ) (next after : Stage) → SetsUp line
 sets_up_once line text other next after p q =
     let same = one_setup line p.setup q.setup p.spells q.spells in
     (p.replies ∙ ap (λ (setup : Setup). reply_text (Ready setup.count)) same ∙ sym q.replies, p.changes ∙ ap SetUp same ∙ sym q.changes)
+
+-- a line sets one property
+sets_one_once : (setup : Setup) (line text other : List ℕ) (next after : Stage) → SetsOne setup line text next → SetsOne setup line other after → (text ≡ other) × (next ≡ after)
+sets_one_once setup line text other next after p q =
+    let same = one_property line p.property q.property p.sets.spells q.sets.spells in
+    (p.replies ∙ sym q.replies, p.changes ∙ ap (λ (property : List ℕ). SetUp (with_property setup property)) same ∙ sym q.changes)
 
 -- a setup founds one world
 founded_once : (setup : Setup) (world other : World) → IsFoundedBy setup world → IsFoundedBy setup other → world ≡ other
@@ -48,7 +54,7 @@ commands_once stage line text other next after p q =
     let world = world_once stage p.world q.world p.founds q.founds in
     let spells = subst (λ (world : World). SpellsCommand world.domain line p.command) world p.spells in
     let command = one_command q.world.domain line p.command q.command spells q.spells in
-    let same = one_step q.world q.command p.reply q.reply p.after q.after
+    let same = step_once q.world q.command p.reply q.reply p.after q.after (spells_in_form q.world.domain line q.command q.spells)
     (subst₂ (λ (world : World) (command : Command). Step world command p.reply p.after) world command p.steps) q.steps in
     (p.replies ∙ ap reply_text same.0 ∙ sym q.replies, p.changes ∙ ap Running same.1 ∙ sym q.changes)
 
@@ -56,12 +62,17 @@ commands_once stage line text other next after p q =
 pub one_act : OneAct
 one_act stage line text other next after (says_nothing h none is) (says_nothing k too was) = (none ∙ sym too, is ∙ sym was)
 one_act stage line text other next after (says_nothing h none is) (sets_up q) = absurd ((one_kind line).nothing_setup h q.setup q.spells)
+one_act stage line text other next after (says_nothing h none is) (sets_property q) = absurd ((one_kind line).nothing_single h q.property q.sets.spells)
 one_act stage line text other next after (says_nothing h none is) (commands q) = absurd ((one_kind line).nothing_command h q.world.domain q.command q.spells)
 one_act stage line text other next after (sets_up p) (says_nothing k too was) = absurd ((one_kind line).nothing_setup k p.setup p.spells)
 one_act stage line text other next after (sets_up p) (sets_up q) = sets_up_once line text other next after p q
 one_act stage line text other next after (sets_up p) (commands q) = absurd q.founds
+one_act stage line text other next after (sets_property p) (says_nothing k too was) = absurd ((one_kind line).nothing_single k p.property p.sets.spells)
+one_act (SetUp setup) line text other next after (sets_property p) (sets_property q) = sets_one_once setup line text other next after p q
+one_act stage line text other next after (sets_property p) (commands q) = absurd ((one_kind line).single_command p.property p.sets.spells q.world.domain q.command q.spells)
 one_act stage line text other next after (commands p) (says_nothing k too was) = absurd ((one_kind line).nothing_command k p.world.domain p.command p.spells)
 one_act stage line text other next after (commands p) (sets_up q) = absurd p.founds
+one_act stage line text other next after (commands p) (sets_property q) = absurd ((one_kind line).single_command q.property q.sets.spells p.world.domain p.command p.spells)
 one_act stage line text other next after (commands p) (commands q) = commands_once stage line text other next after p q
 
 -- ---- the outcomes of a line
@@ -70,9 +81,10 @@ one_act stage line text other next after (commands p) (commands q) = commands_on
 acts_bad : (stage : Stage) (line text : List ℕ) (next : Stage) → Acts stage line text next → ¬ IsBad stage line
 acts_bad stage line text next (says_nothing h none is) bad = bad.0 h
 acts_bad stage line text next (sets_up p) bad = bad.2 p.setup p.spells
+acts_bad (SetUp setup) line text next (sets_property p) bad = bad.2.0 p.property p.sets
 acts_bad Waiting line text next (commands p) bad = absurd p.founds
 acts_bad (SetUp setup) line text next (commands p) bad =
-    bad.2 p.command (subst (λ (world : World). SpellsCommand world.domain line p.command) p.founds.is p.spells)
+    bad.2.1 p.command (subst (λ (world : World). SpellsCommand world.domain line p.command) p.founds.is p.spells)
 acts_bad (Running world) line text next (commands p) bad =
     bad.2 p.command (subst (λ (world : World). SpellsCommand world.domain line p.command) p.founds p.spells)
 
@@ -80,6 +92,7 @@ acts_bad (Running world) line text next (commands p) bad =
 acts_unbuilt : (stage : Stage) (line text : List ℕ) (next : Stage) → Acts stage line text next → ¬ IsUnbuilt line
 acts_unbuilt stage line text next (says_nothing h none is) word = (one_kind line).nothing_unbuilt h word
 acts_unbuilt stage line text next (sets_up p) word = (one_kind line).unbuilt_setup word p.setup p.spells
+acts_unbuilt stage line text next (sets_property p) word = (one_kind line).unbuilt_single word p.property p.sets.spells
 acts_unbuilt stage line text next (commands p) word = (one_kind line).unbuilt_command word p.world.domain p.command p.spells
 
 -- what is outside the grammar isn't among the lines that will be built

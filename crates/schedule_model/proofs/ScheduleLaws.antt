@@ -6,19 +6,26 @@ use Rattle.std.proofs.Common.{refl, sym, ◌∙◌, subst, ap, arith, inl, inr, 
 use Rattle.std.proofs.lemmas.Bool.{false≢true, and_parts}
 use Rattle.std.proofs.lemmas.Fmt.{decimal_injective}
 use Rattle.iri_rules.specs.Domain.{is_domain, is_domain_byte, domain_limit}
-use Rattle.rdf_terms.specs.Grammar.{SpellsTriple}
+use Rattle.rdf_terms.specs.Grammar.{SpellsIri, SpellsTriple}
+use Rattle.term_texts.specs.Marks.{dot}
+use Rattle.rdf_terms.specs.declared.terms.Term.TheVariants as terms
+use Rattle.rdf_terms.specs.declared.terms.Triple.{Triple}
+use Rattle.jrql_ast.specs.declared.plans.UpdatePlan.{UpdatePlan}
+use Rattle.jrql_ast.specs.InForm.{IsPlanInForm}
 use Rattle.jsonld_context.specs.declared.faults.JsonFault.{JsonFault}
+use Rattle.jrql_update.specs.UpdateReading.{update_read}
 use Rattle.jrql_patterns.specs.QueryReading.{query_read}
 use Rattle.jrql_patterns.specs.declared.queries.ReadQuery.{ReadQuery}
 use Rattle.schedule_model.specs.Characters.{space, hash_mark}
 use Rattle.mld_model.specs.World.{clone_count}
 use Rattle.schedule_model.specs.declared.Command.{Command}
-use Rattle.schedule_model.specs.declared.Command.TheVariants.{Add, Remove, Deliver, Show, Query, Compare, Join, Ask, Compact, Truncate, Stop, Open}
-use Rattle.schedule_model.specs.Schedule.{IsNothing, empty, comment, is_unbuilt, Setup, SpellsSetup, SpellsCommand}
+use Rattle.schedule_model.specs.declared.Command.TheVariants.{Add, Remove, Update, Deliver, Show, Query, Compare, Join, Ask, Compact, Truncate, Stop, Open}
+use Rattle.schedule_model.specs.Schedule.{IsNothing, empty, comment, is_unbuilt, Setup, SpellsSetup, SpellsSingle, SpellsCommand}
 use Rattle.schedule_model.proofs.LackingLaws.{Lacks, Lacks-from_test, one_split, apart, no_space}
 use Rattle.rdf_terms.proofs.Complete.{one_spelled}
 use Rattle.schedule_model.specs.Step.{HasCloneNumbers}
-use Rattle.schedule_model.specs.Laws.{OneKind, OneSetup, OneCommand}
+use Rattle.schedule_model.specs.Laws.{OneKind, OneSetup, OneProperty, OneCommand}
+use Rattle.schedule_model.proofs.PlansRead.{update_in_form}
 
 -- ---- what a line begins with
 
@@ -34,10 +41,11 @@ nothing_apart h e other = elim (nothing_begins h) [
   | inr some ↦ apart some.1 e other
 ]
 
--- the first byte of a command: `a`, `r`, `d`, `s`, `q`, `j`, `o`, `c` or `t`
+-- the first byte of a command: `a`, `r`, `u`, `d`, `s`, `q`, `j`, `o`, `c` or `t`
 begins : Command → ℕ
 begins (Add number triple) = 97
 begins (Remove number triple) = 114
+begins (Update number plan) = 117
 begins (Deliver message number) = 100
 begins (Show number) = 115
 begins (Query number read) = 113
@@ -54,6 +62,7 @@ command_begins : (domain line : List ℕ) (command : Command) → SpellsCommand 
 unfolding begins
 command_begins domain line (Add number triple) h = (_, h.1)
 command_begins domain line (Remove number triple) h = (_, h.1)
+command_begins domain line (Update number plan) h = (_, h.1)
 command_begins domain line (Deliver message number) h = (_, h.0)
 command_begins domain line (Show number) h = (_, h.0)
 command_begins domain line (Query number read) h = (_, h.1)
@@ -70,6 +79,7 @@ begins_apart : (command : Command) → nat_eq hash_mark (begins command) ≡ fal
 unfolding begins
 begins_apart (Add number triple) = refl
 begins_apart (Remove number triple) = refl
+begins_apart (Update number plan) = refl
 begins_apart (Deliver message number) = refl
 begins_apart (Show number) = refl
 begins_apart (Query number read) = refl
@@ -91,6 +101,7 @@ small h = omega arith
 pub spells_numbers : (domain line : List ℕ) (command : Command) → SpellsCommand domain line command → HasCloneNumbers command
 spells_numbers domain line (Add number triple) h = h.2
 spells_numbers domain line (Remove number triple) h = h.2
+spells_numbers domain line (Update number plan) h = h.2
 spells_numbers domain line (Deliver message number) h = h.2
 spells_numbers domain line (Show number) h = h.1
 spells_numbers domain line (Query number read) h = h.2
@@ -128,11 +139,17 @@ unbuilt_setup : (line : List ℕ) (setup : Setup) → IsTrue (is_unbuilt line) �
 unfolding is_unbuilt
 unbuilt_setup line setup u h = false≢true (subst (λ (l : List ℕ). is_unbuilt l ≡ true) h.whole u)
 
+-- nor a line that sets a property
+unbuilt_single : (line property : List ℕ) → IsTrue (is_unbuilt line) → ¬ SpellsSingle line property
+unfolding is_unbuilt
+unbuilt_single line property u h = false≢true (subst (λ (l : List ℕ). is_unbuilt l ≡ true) h.whole u)
+
 -- nor a command
 unbuilt_command : (domain line : List ℕ) (command : Command) → IsTrue (is_unbuilt line) → ¬ SpellsCommand domain line command
 unfolding is_unbuilt
 unbuilt_command domain line (Add number triple) u h = false≢true (subst (λ (l : List ℕ). is_unbuilt l ≡ true) h.1 u)
 unbuilt_command domain line (Remove number triple) u h = false≢true (subst (λ (l : List ℕ). is_unbuilt l ≡ true) h.1 u)
+unbuilt_command domain line (Update number plan) u h = false≢true (subst (λ (l : List ℕ). is_unbuilt l ≡ true) h.1 u)
 unbuilt_command domain line (Deliver message number) u h = false≢true (subst (λ (l : List ℕ). is_unbuilt l ≡ true) h.0 u)
 unbuilt_command domain line (Show number) u h = false≢true (subst (λ (l : List ℕ). is_unbuilt l ≡ true) h.0 u)
 unbuilt_command domain line (Query number read) u h = false≢true (subst (λ (l : List ℕ). is_unbuilt l ≡ true) h.1 u)
@@ -150,6 +167,7 @@ unbuilt_command domain line (Compare number other) u h = false≢true (subst (λ
 setup_command : (domain line : List ℕ) (setup : Setup) (command : Command) → SpellsSetup line setup → ¬ SpellsCommand domain line command
 setup_command domain line setup (Add number triple) p q = apart p.whole q.1 refl
 setup_command domain line setup (Remove number triple) p q = apart p.whole q.1 refl
+setup_command domain line setup (Update number plan) p q = apart p.whole q.1 refl
 setup_command domain line setup (Deliver message number) p q = apart (ap (drop 1) p.whole) (ap (drop 1) q.0) refl
 setup_command domain line setup (Show number) p q = apart p.whole q.0 refl
 setup_command domain line setup (Query number read) p q = apart p.whole q.1 refl
@@ -161,6 +179,22 @@ setup_command domain line setup (Stop number) p q = apart p.whole q.0 refl
 setup_command domain line setup (Open number) p q = apart p.whole q.0 refl
 setup_command domain line setup (Compare number other) p q = apart p.whole q.0 refl
 
+-- no line that sets a property is one
+single_command : (domain line property : List ℕ) (command : Command) → SpellsSingle line property → ¬ SpellsCommand domain line command
+single_command domain line property (Add number triple) p q = apart p.whole q.1 refl
+single_command domain line property (Remove number triple) p q = apart p.whole q.1 refl
+single_command domain line property (Update number plan) p q = apart p.whole q.1 refl
+single_command domain line property (Deliver message number) p q = apart p.whole q.0 refl
+single_command domain line property (Show number) p q = apart (ap (drop 1) p.whole) (ap (drop 1) q.0) refl
+single_command domain line property (Query number read) p q = apart p.whole q.1 refl
+single_command domain line property (Join number) p q = apart p.whole q.0 refl
+single_command domain line property (Ask number) p q = apart p.whole q.0 refl
+single_command domain line property (Compact number) p q = apart p.whole q.0 refl
+single_command domain line property (Truncate number keep) p q = apart p.whole q.0 refl
+single_command domain line property (Stop number) p q = apart (ap (drop 1) p.whole) (ap (drop 1) q.0) refl
+single_command domain line property (Open number) p q = apart p.whole q.0 refl
+single_command domain line property (Compare number other) p q = apart p.whole q.0 refl
+
 -- each line is of at most one kind
 pub one_kind : OneKind
 one_kind line = record {
@@ -168,6 +202,10 @@ one_kind line = record {
   nothing_setup = λ h setup spells. nothing_apart h spells.whole refl;
   nothing_command = λ h domain command spells. let first = command_begins domain line command spells in nothing_apart h first.1 (begins_apart command);
   unbuilt_setup = λ u setup. unbuilt_setup line setup u;
+  nothing_single = λ h property spells. nothing_apart h spells.whole refl;
+  unbuilt_single = λ u property. unbuilt_single line property u;
+  setup_single = λ setup spells property sets. apart spells.whole sets.whole refl;
+  single_command = λ property sets domain command. single_command domain line property command sets;
   unbuilt_command = λ u domain command. unbuilt_command domain line command u;
   setup_command = λ setup spells domain command. setup_command domain line setup command spells;
 }
@@ -186,9 +224,43 @@ one_setup line setup other p q =
     let none : setup.properties ≡ other.properties = p.none ∙ sym q.none in
     λ i. record { domain = parts.0 i; properties = none i; count = counts i }
 
+-- a triple of one IRI, whose text it spells three times
+abbrev triple_of_one : List ℕ → Triple
+triple_of_one iri = record { s = iri; p = iri; o = terms.Iri iri }
+
+spelled_thrice : (text iri : List ℕ) → SpellsIri text iri → SpellsTriple (text ++ (text ++ (text ++ dot ∷ []))) (triple_of_one iri)
+unfolding SpellsTriple
+spelled_thrice text iri spelled = (
+  record { before = []; subject = text; after_subject = []; predicate = text; after_predicate = []; object = text; after_object = []; after_dot = [] },
+  record { blanks = refl; subject = spelled; predicate = spelled; object = spelled; whole = refl },
+)
+
+-- so a text spells one IRI
+one_iri : (text iri other : List ℕ) → SpellsIri text iri → SpellsIri text other → iri ≡ other
+one_iri text iri other p q =
+    ap (λ (triple : Triple). triple.s) (one_spelled (text ++ (text ++ (text ++ dot ∷ []))) (triple_of_one iri) (triple_of_one other) (spelled_thrice text iri p) (spelled_thrice text other q))
+
+-- and a line sets one property
+pub one_property : OneProperty
+one_property line property other p q =
+    one_iri q.text property other (subst (λ (text : List ℕ). SpellsIri text property) (ap (drop 7) (sym p.whole ∙ q.whole)) p.is.spelled) q.is.spelled
+
 -- a reading gives one query
 one_read : (read other : ReadQuery) → ◌≡◌ {A = Result ReadQuery JsonFault} (Ok read) (Ok other) → read ≡ other
 one_read read other same = cc
+
+-- and one plan
+one_plan : (plan other : UpdatePlan) → ◌≡◌ {A = Result UpdatePlan JsonFault} (Ok plan) (Ok other) → plan ≡ other
+one_plan plan other same = cc
+
+-- what is updated by is a plan in form
+abbrev pub HasPlanInForm : Command → Type 0
+HasPlanInForm (Update number plan) = IsPlanInForm plan
+HasPlanInForm command = Unit {0}
+
+pub spells_in_form : (domain line : List ℕ) (command : Command) → SpellsCommand domain line command → HasPlanInForm command
+spells_in_form domain line (Update number plan) h = update_in_form domain h.0 plan h.3
+spells_in_form domain line command h = tt
 
 -- a line spells one command
 pub one_command : OneCommand
@@ -210,6 +282,10 @@ one_command domain line (Show number) (Show other) p q =
 one_command domain line (Query number read) (Query other second) p q =
     let parts = one_number number other p.0 q.0 (small p.2) (small q.2) (ap (drop 6) (sym p.1 ∙ q.1)) in
     let same : read ≡ second = one_read read second (sym p.3 ∙ ap (query_read domain) parts.1 ∙ q.3) in
+    cc (parts.0, same)
+one_command domain line (Update number plan) (Update other second) p q =
+    let parts = one_number number other p.0 q.0 (small p.2) (small q.2) (ap (drop 7) (sym p.1 ∙ q.1)) in
+    let same : plan ≡ second = one_plan plan second (sym p.3 ∙ ap (update_read domain) parts.1 ∙ q.3) in
     cc (parts.0, same)
 one_command domain line (Join number) (Join other) p q =
     ap Join (decimal_injective number other (small p.1) (small q.1) (ap (drop 5) (sym p.0 ∙ q.0)))

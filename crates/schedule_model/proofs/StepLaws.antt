@@ -7,17 +7,25 @@ use Rattle.tree_clock.specs.declared.dots.Range.{Range}
 use Rattle.mld_ops.specs.declared.tagged.Tagged.{Tagged}
 use Rattle.mld_ops.specs.History.{dot_at}
 use Rattle.mld_ops.proofs.MeaningLaws.{one_meaning}
-use Rattle.schedule_model.specs.declared.Command.TheVariants.{Add, Remove, Deliver, Show, Query, Compare, Join, Ask, Compact, Truncate, Stop, Open}
+use Rattle.schedule_model.specs.declared.Command.TheVariants.{Add, Remove, Update, Deliver, Show, Query, Compare, Join, Ask, Compact, Truncate, Stop, Open}
 use Rattle.mld_ops.proofs.PickingLaws.{drops_one}
-use Rattle.mld_ops.specs.Effects.{EffectValue, DeletesAll, operation_of}
+use Rattle.mld_ops.specs.Effects.{EffectValue, operation_of}
+use Rattle.jrql_ast.specs.declared.plans.UpdatePlan.{UpdatePlan}
+use Rattle.jrql_ast.specs.InForm.{IsPlanInForm}
+use Rattle.jrql_ast.specs.Templates.{insertion_of, deletion_of}
+use Rattle.jrql_eval.specs.PlanEffects.{IsPlanEffect, HasTooMany}
 use Rattle.mld_model.specs.Clone.{Clone, Live, Stored, known_of, with_range, merged_with, IsKnown, AreKnownTo}
 use Rattle.mld_model.specs.World.{World, Message, RangeOf, Want, SnapshotOf, JoinAsk, JoinGive, message_at, clone_at, with_clone}
-use Rattle.mld_model.specs.Reply.{Reply, Did, Took, Merged, Shows, Answer, Kept, NoMessage}
+use Rattle.mld_model.specs.Reply.{Reply, Did, Single, Took, Merged, Shows, Answer, Kept, NoMessage}
 use Rattle.mld_model.proofs.ComparingLaws.{compares_once}
-use Rattle.mld_model.specs.CloneStep.{Answers, IsNextTick, after_operation, Makes, Updates, changes_nothing, makes_operation, UpdatesBy, AddsTriple, Accepts, HoldsBack, holds_already, holds_too_many, holds_from_now, TakesRange, knows_already, accepts, holds_back, Joins, TakesAsk, asked_itself, is_too_deep, forks, TakesLeaf, becomes_live, leaves_it, AskerTakes, LiveTakes, Takes, Stops, Lists, ComparesWith, Weighs, TakesWant, lacks_nothing, sends_ranges, sends_snapshot, Merges, TakesSnapshot, knows_all, merges, Wants, Compacts, Truncates}
-use Rattle.mld_model.proofs.UpdateLaws.{HasOneEffect, adds_one, removes_one}
+use Rattle.mld_model.specs.CloneStep.{Answers, IsNextTick, after_operation, Makes, Updates, changes_nothing, breaks_single, makes_operation, UpdatesOver, is_too_large, has_effect, Accepts, HoldsBack, holds_already, holds_too_many, holds_from_now, TakesRange, knows_already, accepts, holds_back, Joins, TakesAsk, asked_itself, is_too_deep, forks, TakesLeaf, becomes_live, leaves_it, AskerTakes, LiveTakes, Takes, Stops, Lists, ComparesWith, Weighs, TakesWant, lacks_nothing, sends_ranges, sends_snapshot, Merges, TakesSnapshot, knows_all, merges, Wants, Compacts, Truncates}
+use Rattle.schedule_model.specs.Updating.{UpdatesByPlan}
+use Rattle.mld_ops.proofs.BreachLaws.{one_breach}
+use Rattle.schedule_model.proofs.PlanLaws.{one_effect, insertion_in_form, deletion_in_form}
 use Rattle.mld_model.proofs.StateLaws.{by_one_state, AreSame, answers_once, once_if_live, opens_once}
-use Rattle.schedule_model.specs.Step.{Step}
+use Rattle.schedule_model.specs.declared.Command.{Command}
+use Rattle.schedule_model.specs.Step.{IsCommandInForm, Step}
+use Rattle.schedule_model.proofs.ScheduleLaws.{HasPlanInForm}
 use Rattle.schedule_model.proofs.QueryLaws.{queries_once}
 use Rattle.mld_model.proofs.ReleaseLaws.{releases_once}
 use Rattle.mld_model.proofs.CompactedJournals.{compacted_once}
@@ -30,7 +38,7 @@ not_below known path tick other p q below =
     omega (arith, again.1)
 
 -- so one tick comes next
-one_next_tick : (known : List Range) (path : List ℕ) (tick other : ℕ) → IsNextTick known path tick → IsNextTick known path other → tick ≡ other
+pub one_next_tick : (known : List Range) (path : List ℕ) (tick other : ℕ) → IsNextTick known path tick → IsNextTick known path other → tick ≡ other
 one_next_tick known path tick other p q = elim (cases_order tick other) [
   | inl same ↦ same
   | inr (inl below) ↦ absurd (not_below known path tick other p q below)
@@ -56,6 +64,10 @@ weighs_once : (world : World) (clone others : Clone) (reply other : Reply) (next
 weighs_once world clone others reply other next after =
     once_if_live world clone reply other next after _ _ (λ stored held. compares_with_once world stored others reply other next after)
 
+-- what is broken first is one place
+one_place : {place other : List ℕ × List ℕ} → ◌≡◌ {A = Option (List ℕ × List ℕ)} (Some place) (Some other) → place ≡ other
+one_place same = cc
+
 -- each step has one outcome: two of them that are given
 module _ (world : World) (number : ℕ) (reply other : Reply) (next after : World) where
   -- a local change has one outcome
@@ -68,21 +80,44 @@ module _ (world : World) (number : ℕ) (reply other : Reply) (next after : Worl
       )
 
   -- an update of one effect has one outcome
-  updates_once : (stored : Stored) (held : List Range) (effect : EffectValue) → Updates world number stored held effect reply next
-      → Updates world number stored held effect other after → AreSame reply next other after
-  updates_once stored held effect (changes_nothing none p) (changes_nothing too q) = answers_once p q
-  updates_once stored held effect (changes_nothing none p) (makes_operation some q) = absurd (some none)
-  updates_once stored held effect (makes_operation some p) (changes_nothing none q) = absurd (some none)
-  updates_once stored held effect (makes_operation some p) (makes_operation too q) = makes_once stored held effect p q
+  updates_once : (stored : Stored) (held : List Range) (pairs : List Tagged) (effect : EffectValue) → Updates world number stored held pairs effect reply next
+      → Updates world number stored held pairs effect other after → AreSame reply next other after
+  updates_once stored held pairs effect (changes_nothing none p) (changes_nothing too q) = answers_once p q
+  updates_once stored held pairs effect (changes_nothing none p) (breaks_single some place first q) = absurd (some none)
+  updates_once stored held pairs effect (changes_nothing none p) (makes_operation some fits q) = absurd (some none)
+  updates_once stored held pairs effect (breaks_single some place first p) (changes_nothing none q) = absurd (some none)
+  updates_once stored held pairs effect (breaks_single some place first p) (breaks_single too second least q) =
+      let same : place ≡ second = one_place (one_breach world.properties pairs effect (Some place) (Some second) first least) in
+      (p.0 ∙ ap (λ (breach : List ℕ × List ℕ). Single breach.0 breach.1) same ∙ sym q.0, p.1 ∙ sym q.1)
+  updates_once stored held pairs effect (breaks_single some place first p) (makes_operation too fits q) = absurd (fits place.0 place.1 first.single first.breaks)
+  updates_once stored held pairs effect (makes_operation some fits p) (changes_nothing none q) = absurd (some none)
+  updates_once stored held pairs effect (makes_operation some fits p) (breaks_single too place first q) = absurd (fits place.0 place.1 first.single first.breaks)
+  updates_once stored held pairs effect (makes_operation some fits p) (makes_operation too suits q) = makes_once stored held effect p q
 
-  -- so has one by a rule of one effect
-  updates_by_once : (rule : List Tagged → EffectValue → Type 0) → HasOneEffect rule → (clone : Clone) → UpdatesBy world number rule clone reply next
-      → UpdatesBy world number rule clone other after → AreSame reply next other after
-  updates_by_once rule one clone =
+  -- so has one by a plan in form, over pairs
+  over_once : (plan : UpdatePlan) → IsPlanInForm plan → (stored : Stored) (held : List Range) (pairs : List Tagged)
+      → UpdatesOver world number stored held pairs (HasTooMany pairs plan) (λ dot effect. IsPlanEffect world.domain dot pairs plan effect) reply next
+      → UpdatesOver world number stored held pairs (HasTooMany pairs plan) (λ dot effect. IsPlanEffect world.domain dot pairs plan effect) other after
+      → AreSame reply next other after
+  over_once plan form stored held pairs (is_too_large many p) (is_too_large more q) = answers_once p q
+  over_once plan form stored held pairs (is_too_large many p) (has_effect tick is_next effect has q) = absurd (omega (arith, many, has.few))
+  over_once plan form stored held pairs (has_effect tick is_next effect has p) (is_too_large many q) = absurd (omega (arith, many, has.few))
+  over_once plan form stored held pairs (has_effect tick is_next effect has p) (has_effect second comes another too q) =
+      let ticks : tick ≡ second = one_next_tick (known_of stored) stored.path tick second is_next comes in
+      let here : IsPlanEffect world.domain (dot_at stored.path tick) pairs plan another =
+      subst (λ (n : ℕ). IsPlanEffect world.domain (dot_at stored.path n) pairs plan another) (sym ticks) too in
+      let same : another ≡ effect = one_effect world.domain (dot_at stored.path tick) pairs plan another effect form here has in
+      updates_once stored held pairs effect p (subst (λ (e : EffectValue). Updates world number stored held pairs e other after) same q)
+
+  -- and whatever the state of the clone is
+  planned_once : (plan : UpdatePlan) → IsPlanInForm plan → (clone : Clone) → UpdatesByPlan world number plan clone reply next
+      → UpdatesByPlan world number plan clone other after → AreSame reply next other after
+  planned_once plan form clone =
       once_if_live world clone reply other next after _ _ (λ stored held p q.
-      let same : p.0 ≡ q.0 = one_meaning world.history (known_of stored) p.0 q.0 p.2 q.2 in
-      let effect : p.1 ≡ q.1 = one q.0 p.1 q.1 (subst (λ (pairs : List Tagged). rule pairs p.1) same p.3) q.3 in
-      updates_once stored held p.1 p.4 (subst (λ (e : EffectValue). Updates world number stored held e other after) (sym effect) q.4))
+      let same : q.0 ≡ p.0 = one_meaning world.history (known_of stored) q.0 p.0 q.1 p.1 in
+      over_once plan form stored held p.0 p.2
+      (subst (λ (pairs : List Tagged). UpdatesOver world number stored held pairs (HasTooMany pairs plan) (λ dot effect. IsPlanEffect world.domain dot pairs plan effect) other after)
+      same q.2))
 
   -- a range that is taken has one outcome
   accepts_once : (stored : Stored) (held : List Range) (range : Range) → Accepts world number stored held range reply next
@@ -233,21 +268,32 @@ module _ (world : World) (number : ℕ) (reply other : Reply) (next after : Worl
   delivers_once None p q = answers_once p q
   delivers_once (Some message) p q = takes_once message (clone_at world number) p q
 
--- a step of a world by a command has one reply, and leads to one world
-pub one_step : OneStep
+-- a step of a world by a command whose plan is in form has one reply, and leads to one world
+pub step_once : (world : World) (command : Command) (reply other : Reply) (next after : World) → HasPlanInForm command
+    → Step world command reply next → Step world command other after → AreSame reply next other after
 unfolding Step
-one_step world (Add number triple) reply other next after p q =
-    updates_by_once world number reply other next after (AddsTriple triple) (adds_one triple) (clone_at world number) p q
-one_step world (Remove number triple) reply other next after p q =
-    updates_by_once world number reply other next after (DeletesAll triple) (removes_one triple) (clone_at world number) p q
-one_step world (Deliver message number) reply other next after p q = delivers_once world number reply other next after (message_at world message) p q
-one_step world (Show number) reply other next after p q = lists_once world (clone_at world number) reply other next after p q
-one_step world (Query number read) reply other next after p q = queries_once world read (clone_at world number) reply other next after p q
-one_step world (Join number) reply other next after p q = joins_once world number reply other next after (clone_at world number) p q
-one_step world (Ask number) reply other next after p q = asks_once world number reply other next after (clone_at world number) p q
-one_step world (Compact number) reply other next after p q = compacts_once world number reply other next after (clone_at world number) p q
-one_step world (Truncate number keep) reply other next after p q = truncates_once world number reply other next after keep (clone_at world number) p q
-one_step world (Stop number) reply other next after p q = stops_once world number reply other next after (clone_at world number) p q
-one_step world (Open number) reply other next after p q = opens_once world number (clone_at world number) reply other next after p q
-one_step world (Compare number second) reply other next after p q =
+step_once world (Add number triple) reply other next after form p q =
+    planned_once world number reply other next after (insertion_of triple) (insertion_in_form triple) (clone_at world number) p q
+step_once world (Remove number triple) reply other next after form p q =
+    planned_once world number reply other next after (deletion_of triple) (deletion_in_form triple) (clone_at world number) p q
+step_once world (Update number plan) reply other next after form p q =
+    planned_once world number reply other next after plan form (clone_at world number) p q
+step_once world (Deliver message number) reply other next after form p q = delivers_once world number reply other next after (message_at world message) p q
+step_once world (Show number) reply other next after form p q = lists_once world (clone_at world number) reply other next after p q
+step_once world (Query number read) reply other next after form p q = queries_once world read (clone_at world number) reply other next after p q
+step_once world (Join number) reply other next after form p q = joins_once world number reply other next after (clone_at world number) p q
+step_once world (Ask number) reply other next after form p q = asks_once world number reply other next after (clone_at world number) p q
+step_once world (Compact number) reply other next after form p q = compacts_once world number reply other next after (clone_at world number) p q
+step_once world (Truncate number keep) reply other next after form p q = truncates_once world number reply other next after keep (clone_at world number) p q
+step_once world (Stop number) reply other next after form p q = stops_once world number reply other next after (clone_at world number) p q
+step_once world (Open number) reply other next after form p q = opens_once world number (clone_at world number) reply other next after p q
+step_once world (Compare number second) reply other next after form p q =
     weighs_once world (clone_at world number) (clone_at world second) reply other next after p q
+
+-- and so has one by a command in form
+has_plan_in_form : (command : Command) → IsCommandInForm command → HasPlanInForm command
+has_plan_in_form (Update number plan) form = form
+has_plan_in_form command form = tt
+
+pub one_step : OneStep
+one_step world command reply other next after form p q = step_once world command reply other next after (has_plan_in_form command form) p q

@@ -6,17 +6,21 @@ use Rattle.tree_clock.specs.Lists.{Has}
 use Rattle.mld_ops.specs.declared.tagged.Tagged.{Tagged}
 use Rattle.mld_ops.specs.Meaning.{IsMeaning}
 use Rattle.mld_ops.proofs.MeaningLaws.{one_meaning, same_known}
-use Rattle.schedule_model.specs.declared.Command.TheVariants.{Add, Remove, Deliver, Show, Query, Compare, Join, Ask, Compact, Truncate, Stop, Open}
-use Rattle.mld_ops.specs.Effects.{EffectValue, DeletesAll}
+use Rattle.schedule_model.specs.declared.Command.TheVariants.{Add, Remove, Update, Deliver, Show, Query, Compare, Join, Ask, Compact, Truncate, Stop, Open}
+use Rattle.mld_ops.specs.Effects.{EffectValue}
+use Rattle.mld_ops.specs.History.{dot_at}
+use Rattle.jrql_ast.specs.declared.plans.UpdatePlan.{UpdatePlan}
+use Rattle.jrql_ast.specs.Templates.{insertion_of, deletion_of}
 use Rattle.mld_model.specs.Clone.{Clone, Absent, Asking, Live, Stored, known_of, IsKnown}
 use Rattle.mld_model.specs.World.{World, Message, RangeOf, Want, SnapshotOf, JoinAsk, JoinGive, message_at, clone_count, clone_at}
 use Rattle.mld_model.specs.Reply.{Reply, NoMessage}
-use Rattle.mld_model.specs.CloneStep.{Answers, Updates, changes_nothing, makes_operation, UpdatesBy, AddsTriple, holds_already, holds_too_many, holds_from_now, TakesRange, knows_already, accepts, holds_back, Asks, Joins, TakesAsk, asked_itself, is_too_deep, forks, TakesLeaf, becomes_live, leaves_it, AskerTakes, LiveTakes, Takes, Stops, Reopens, Lists, ComparesWith, Weighs, TakesWant, lacks_nothing, sends_ranges, sends_snapshot, TakesSnapshot, knows_all, merges, Wants, Compacts, Truncates}
+use Rattle.mld_model.specs.CloneStep.{Answers, Updates, changes_nothing, breaks_single, makes_operation, holds_already, holds_too_many, holds_from_now, TakesRange, knows_already, accepts, holds_back, Asks, Joins, TakesAsk, asked_itself, is_too_deep, forks, TakesLeaf, becomes_live, leaves_it, AskerTakes, LiveTakes, Takes, Stops, Reopens, Lists, ComparesWith, Weighs, TakesWant, lacks_nothing, sends_ranges, sends_snapshot, TakesSnapshot, knows_all, merges, Wants, Compacts, Truncates}
 use Rattle.mld_model.proofs.StateLaws.{by_state, if_live, if_opens}
 use Rattle.jrql_patterns.specs.declared.queries.ReadQuery.{ReadQuery}
 use Rattle.schedule_model.specs.Querying.{Queries}
+use Rattle.schedule_model.specs.Updating.{UpdatesByPlan}
 use Rattle.schedule_model.specs.Step.{Step}
-use Rattle.schedule_model.specs.Runs.{Stage, Waiting, SetUp, Running, IsWorldOf, Commands, Acts, says_nothing, sets_up, commands, Runs}
+use Rattle.schedule_model.specs.Runs.{Stage, Waiting, SetUp, Running, IsWorldOf, Commands, Acts, says_nothing, sets_up, sets_property, commands, Runs}
 use Rattle.mld_model.specs.Sound.{Keeps, IsSound}
 use Rattle.mld_model.proofs.LeafLaws.{apart_differ}
 use Rattle.mld_ops.proofs.PickingLaws.{kept_members}
@@ -24,7 +28,7 @@ use Rattle.mld_model.proofs.JournalLaws.{journal_done}
 use Rattle.mld_model.proofs.SoundLaws.{made_sound, taken_sound, holding_sound, live_sound}
 use Rattle.mld_model.proofs.SendingLaws.{wanted_sound, ranges_sent_sound}
 use Rattle.mld_model.proofs.CompactedJournals.{compacted_sound}
-use Rattle.mld_model.proofs.UpdateLaws.{DeletesPresent, adds_present, removes_present}
+use Rattle.schedule_model.proofs.PlanLaws.{plan_present, if_planned}
 use Rattle.mld_model.proofs.MergedLaws.{truncated_sound, merged_sound, snapshot_sent_sound}
 use Rattle.mld_model.proofs.StoredLaws.{stopped_sound, opened_sound, opened_empty_sound}
 use Rattle.mld_model.proofs.JoiningLaws.{asked_sound, forked_sound, stands_at, joined_sound, place_of_message}
@@ -43,17 +47,19 @@ module _ (world next : World) (reply : Reply) (sound : IsSound world) where
   -- an update that deletes pairs of the clone leads to a sound world
   updates_sound : (number : ℕ) (stored : Stored) (held : List Range) (pairs : List Tagged) (effect : EffectValue) → clone_at world number ≡ Live stored held
       → IsMeaning world.history (known_of stored) pairs → ((pair : Tagged) → Has effect.deletes pair → Has pairs pair)
-      → Updates world number stored held effect reply next → IsSound next
+      → Updates world number stored held pairs effect reply next → IsSound next
   updates_sound number stored held pairs effect is meant among (changes_nothing none p) = same_sound world next sound p.1
-  updates_sound number stored held pairs effect is meant among (makes_operation some p) =
+  updates_sound number stored held pairs effect is meant among (breaks_single some place first p) = same_sound world next sound p.1
+  updates_sound number stored held pairs effect is meant among (makes_operation some fits p) =
       subst IsSound (sym p.changes) (made_sound world number stored held sound is p.tick effect.deletes effect.inserts p.is_next
       (λ pair h. (meant.sound pair (among pair h)).covered) (λ pair h. (meant.sound pair (among pair h)).inserted))
 
-  updates_by_sound : (number : ℕ) (rule : List Tagged → EffectValue → Type 0) → DeletesPresent rule → (clone : Clone) → clone_at world number ≡ clone
-      → UpdatesBy world number rule clone reply next → IsSound next
-  updates_by_sound number rule present clone is =
-      if_live (IsSound next) world clone reply next _ (λ answer state p. same_sound world next sound p.1)
-      (λ stored held live p. updates_sound number stored held p.0 p.1 (is ∙ live) p.2 (present p.0 p.1 p.3) p.4)
+  planned_sound : (number : ℕ) (plan : UpdatePlan) → UpdatesByPlan world number plan (clone_at world number) reply next → IsSound next
+  planned_sound number plan =
+      if_planned (IsSound next) world number plan (clone_at world number) reply next (λ answer state p. same_sound world next sound p.1)
+      (λ p. same_sound world next sound p.1)
+      (λ stored held pairs tick effect live meant is_next has p. updates_sound number stored held pairs effect live meant
+      (plan_present world.domain plan (dot_at stored.path tick) pairs effect has) p)
 
   -- a range that comes to a live clone leads to a sound world
   receives_sound : (number : ℕ) (stored : Stored) (held : List Range) (range : Range) → clone_at world number ≡ Live stored held → Has world.messages (RangeOf range)
@@ -194,10 +200,9 @@ weighs_same world clone other reply next =
 -- a step of a sound world, by a command whose clones there are, leads to a sound world
 pub step_sound : StepIsSound
 unfolding Step
-step_sound world (Add number triple) reply next small sound p =
-    updates_by_sound world next reply sound number (AddsTriple triple) (adds_present triple) (clone_at world number) refl p
-step_sound world (Remove number triple) reply next small sound p =
-    updates_by_sound world next reply sound number (DeletesAll triple) (removes_present triple) (clone_at world number) refl p
+step_sound world (Add number triple) reply next small sound p = planned_sound world next reply sound number (insertion_of triple) p
+step_sound world (Remove number triple) reply next small sound p = planned_sound world next reply sound number (deletion_of triple) p
+step_sound world (Update number plan) reply next small sound p = planned_sound world next reply sound number plan p
 step_sound world (Deliver message number) reply next small sound p = delivers_sound world next reply sound number (message_at world message) (place_of_message world message) p
 step_sound world (Show number) reply next small sound p = same_sound world next sound (lists_same world (clone_at world number) reply next p)
 step_sound world (Query number read) reply next small sound p = same_sound world next sound (queries_same world read (clone_at world number) reply next p)
@@ -234,6 +239,7 @@ commands_sound stage line text next sound p =
 acts_sound : (stage : Stage) (line text : List ℕ) (next : Stage) → IsSoundStage stage → Acts stage line text next → IsSoundStage next
 acts_sound stage line text next sound (says_nothing h none is) = subst IsSoundStage (sym is) sound
 acts_sound stage line text next sound (sets_up p) = subst IsSoundStage (sym p.changes) tt
+acts_sound stage line text next sound (sets_property p) = subst IsSoundStage (sym p.changes) tt
 acts_sound stage line text next sound (commands p) = commands_sound stage line text next sound p
 
 -- and so do lines

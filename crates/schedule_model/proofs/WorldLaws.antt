@@ -1,12 +1,11 @@
 -- A running world that takes a step stands for what the model's step makes.
-use Rattle.std.proofs.Common.{◌≡◌, ◌≢◌, ℕ, zero, suc, ◌+◌, ◌<◌, ◌≤◌, List, [], ◌∷◌, ◌++◌, ◌↔◌, inl, inr, refl, sym, ◌∙◌, ap, arith, subst, length, get_or, set, Option, Some, None, map, ltb}
+use Rattle.std.proofs.Common.{◌≡◌, ℕ, zero, suc, ◌+◌, ◌<◌, ◌≤◌, List, [], ◌∷◌, ◌++◌, ◌↔◌, inl, inr, refl, sym, ◌∙◌, ap, arith, subst, length, get_or, set, Option, Some, None, map, ltb, append-nil}
 use Rattle.std.specs.Prelude.{slice_get, MatchOption}
 use Rattle.std.specs.List.{range_with_len}
 use Rattle.std.proofs.lemmas.Bool.{cases_lt, cases_Bool}
 use Rattle.std.proofs.lemmas.List.{length-set}
 use Rattle.std.proofs.lemmas.Option.{slice_get_within, get_or_from_slice_get}
 use Rattle.std.proofs.lemmas.List.FromFn.{get_or-map-range_with_len, length-map-range_with_len}
-use Rattle.rdf_terms.specs.declared.terms.Triple.{Triple}
 use Rattle.tree_clock.specs.declared.dots.Dot.{Dot}
 use Rattle.tree_clock.specs.declared.dots.Range.{Range}
 use Rattle.tree_clock.specs.Lists.{Has}
@@ -16,32 +15,39 @@ use Rattle.mld_ops.specs.declared.tagged.Tagged.{Tagged}
 use Rattle.mld_ops.specs.Messages.{MessageValue, CarriesEntry}
 use Rattle.mld_ops.specs.Entry.{EntryValue}
 use Rattle.mld_ops.specs.History.{Operation, IsDone, dot_at}
-use Rattle.mld_ops.specs.Effects.{inserting, deleting, ArePairsOf}
+use Rattle.mld_ops.specs.Effects.{EffectValue, ChangesNothing}
+use Rattle.mld_ops.specs.Breaches.{IsFirstBreach, BreaksNone}
+use Rattle.mld_ops.proofs.MeaningLaws.{one_meaning}
 use Rattle.mld_ops.specs.Ready.{IsKnownEntry}
 use Rattle.schedule_model.specs.declared.Command.{Command}
-use Rattle.schedule_model.specs.declared.Command.TheVariants.{Add, Remove, Deliver, Show, Query, Compare}
+use Rattle.schedule_model.specs.declared.Command.TheVariants.{Add, Remove, Update, Deliver, Show, Query, Compare}
 use Rattle.mld_model.specs.declared.CloneState.TheVariants as states
 use Rattle.mld_model.specs.Clone.{Clone, Absent, Asking, Empty, Down, Live, Stored, known_of, AreKnownTo}
 use Rattle.mld_ops.specs.Held.{held_limit}
 use Rattle.mld_model.specs.World.{World, Message, message_at, clone_at, with_clone, founded, founded_clone, clone_count}
 use Rattle.mld_ops.specs.Present.{present}
+use Rattle.jrql_ast.specs.declared.plans.UpdatePlan.{UpdatePlan}
+use Rattle.jrql_ast.specs.Templates.{insertion_of, deletion_of}
+use Rattle.jrql_eval.specs.PlanEffects.{IsPlanEffect, HasTooMany}
 use Rattle.jrql_patterns.specs.declared.queries.ReadQuery.{ReadQuery}
+use Rattle.schedule_model.specs.Updating.{UpdatesByPlan}
 use Rattle.schedule_model.specs.Querying.{AnswersQuery}
-use Rattle.schedule_model.specs.Step.{Step}
-use Rattle.mld_model.specs.CloneStep.{Answers, IfLive, changes_nothing, Takes, Compares}
+use Rattle.schedule_model.specs.Step.{Step, number_of_clone}
+use Rattle.mld_model.specs.CloneStep.{Answers, IfLive, Updates, is_too_large, has_effect, UpdatesAs, Takes, Compares}
 use Rattle.mld_model.proofs.StateLaws.{live_does}
-use Rattle.mld_model.specs.Reply.{Reply, Did, NoOperation, Took, Held, HeldFull, AlreadyKnown, Shows, NoMessage}
+use Rattle.mld_model.specs.Reply.{Reply, Did, NoOperation, Single, TooMany, Took, Held, HeldFull, AlreadyKnown, Shows, NoMessage}
 use Rattle.mld_model.specs.Sound.{IsSound}
 use Rattle.mld_model.specs.Local.{LocalClone, next_dot, LocallyMakes, LocallyAccepts, MustBeHeld, IsFullFor, IsForeign}
 use Rattle.mld_ops.specs.Held.{ranges_of}
 use Rattle.mld_model.specs.StandsFor.{RunningClone, RunningWorld, LocalStandsFor, CloneStandsFor, MessageStandsFor, StandsFor, founded_local, founded_running}
 use Rattle.mld_model.proofs.SoundLaws.{live_sound}
-use Rattle.mld_model.proofs.LocalLaws.{kept_by}
+use Rattle.mld_model.proofs.LocalLaws.{kept_by, next_tick_of}
 use Rattle.mld_model.proofs.LocalSteps.{none_foreign}
 use Rattle.mld_model.proofs.PairsLaws.{no_pair_at}
-use Rattle.mld_model.proofs.StandsForLaws.{LiveAt, live_at, clone_stands_as, clones_stand_set}
-use Rattle.schedule_model.specs.WorldStep.{Follows, IsMissingReply, IsAwayReply}
-use Rattle.mld_model.specs.LocalStep.{Update, updates, knows_entry, accepts_entry, holds_entry, is_full}
+use Rattle.mld_model.proofs.StandsForLaws.{LiveAt, live_at, clone_stands_as, clones_stand_set, set_as_it_is}
+use Rattle.schedule_model.specs.WorldStep.{Follows, IsUpdateOf, IsMissingReply, IsAwayReply}
+use Rattle.mld_model.specs.LocalStep.{Update as UpdateTask, LocalStep, updates_nothing, update_breaks, updates, knows_entry, accepts_entry, holds_entry, is_full}
+use Rattle.schedule_model.proofs.PlanLaws.{plan_present}
 use Rattle.schedule_model.proofs.FollowsLaws.{SentAs, sent_as, local_follows, taking_stays, taking_turns}
 use Rattle.mld_model.specs.Comparing.{IsAmongDots}
 use Rattle.mld_model.proofs.ComparingLaws.{compares_alike}
@@ -102,9 +108,28 @@ missing_replies world number (states.Down device) (Down stored) reply does is st
 missing_replies world number (states.Live live) clone reply does is stands = absurd is
 missing_replies world number state clone reply does is stands = absurd stands
 
--- one triple is some
-some_inserts : {triple : Triple} → triple ∷ [] ≢ []
-some_inserts same = cc
+-- a command that makes an update is done at the clone of its number
+update_at : (command : Command) (number : ℕ) (plan : UpdatePlan) → IsUpdateOf command number plan → number ≡ number_of_clone command
+update_at (Add at triple) number plan is = sym is.0
+update_at (Remove at triple) number plan is = sym is.0
+update_at (Update at own) number plan is = sym is.0
+update_at command number plan is = absurd is
+
+-- and its step is that of the plan
+module _ (world next : World) where
+  planned : (at number : ℕ) (own plan : UpdatePlan) (reply : Reply) → at ≡ number → plan ≡ own → UpdatesByPlan world number plan (clone_at world number) reply next
+      → UpdatesByPlan world at own (clone_at world at) reply next
+  planned at number own plan reply here same p =
+      subst (λ (k : ℕ). UpdatesByPlan world k own (clone_at world k) reply next) (sym here)
+      (subst (λ (it : UpdatePlan). UpdatesByPlan world number it (clone_at world number) reply next) same p)
+
+  update_step : (command : Command) (number : ℕ) (plan : UpdatePlan) (reply : Reply) → IsUpdateOf command number plan
+      → UpdatesByPlan world number plan (clone_at world number) reply next → Step world command reply next
+  unfolding Step
+  update_step (Add at triple) number plan reply is p = planned at number (insertion_of triple) plan reply is.0 is.1 p
+  update_step (Remove at triple) number plan reply is p = planned at number (deletion_of triple) plan reply is.0 is.1 p
+  update_step (Update at own) number plan reply is p = planned at number own plan reply is.0 is.1 p
+  update_step command number plan reply is p = absurd is
 
 -- a running world that stands for a world
 module _ (running : RunningWorld) (world : World) (stands : StandsFor running world) where
@@ -178,64 +203,81 @@ module _ (running : RunningWorld) (world : World) (stands : StandsFor running wo
     | inr none ↦ omega arith
   ]
 
-  -- ---- add
+  -- ---- updates
 
-  -- a live clone adds a triple
-  pub add_follows : (number : ℕ) (triple : Triple) (live : LocalClone)
-      → slice_get running.clones number ≡ Some (states.Live live) → (new : LocalClone) (entry : EntryValue) → LocallyMakes live (inserting triple) new entry
-      → Follows world (Add number triple) (Did (next_dot live) (length running.messages + 1)) (stepped_sending running number new entry)
-  unfolding Step
-  add_follows number triple live is new entry makes =
-      let at : LiveAt world number live = live_at running world stands number live is in
-      let reply : Reply = Did (next_dot live) (length running.messages + 1) in
-      local_follows running world stands sound (Add number triple) (states.Live live) (states.Live new) (Update (inserting triple)) (Update (inserting triple)) reply (CarriesEntry entry ∷ [])
-      (set running.clones number (states.Live new)) (running.messages ++ CarriesEntry entry ∷ []) at refl
-      (λ next does. live_does world (clone_at world number) reply next _ (kept_by live at.base at.journal) at.held at.live
-      (live.pairs, inserting triple, at.stands.pairs, refl {a = inserting triple}, live_did world (clone_at world number) reply next _ (kept_by live at.base at.journal) at.held at.live does))
-      (updates live (inserting triple) new entry (λ none. some_inserts none.inserts) (λ pair h. absurd h) makes) refl refl
+  -- a live clone does what its command tells it, by the effect of a plan on its pairs, at the dot of its next operation
+  plans_as : (number : ℕ) (plan : UpdatePlan) (live : LocalClone) → LiveAt world number live → (effect : EffectValue)
+      → IsPlanEffect live.domain (next_dot live) live.pairs plan effect → (reply : Reply) (next : World)
+      → UpdatesAs world number effect (clone_at world number) reply next → UpdatesByPlan world number plan (clone_at world number) reply next
+  plans_as number plan live at effect has reply next does =
+      let stored : Stored = kept_by live at.base at.journal in
+      let done = live_did world (clone_at world number) reply next _ stored at.held at.live does in
+      let same : done.0 ≡ live.pairs = one_meaning world.history (known_of stored) done.0 live.pairs done.1 at.stands.pairs in
+      live_does world (clone_at world number) reply next _ stored at.held at.live (
+        live.pairs,
+        at.stands.pairs,
+        has_effect (next_dot live).tick (next_tick_of live (known_of stored) at.stands.known) effect
+            (subst (λ (domain : List ℕ). IsPlanEffect domain (next_dot live) live.pairs plan effect) at.is.domain has)
+            (subst (λ (pairs : List Tagged). Updates world number stored at.held pairs effect reply next) same done.2),
+      )
 
-  -- a clone that isn't live adds nothing
-  pub add_missing : (number : ℕ) (triple : Triple) (state : RunningClone) (reply : Reply)
-      → slice_get running.clones number ≡ Some state → IsMissingReply state reply → Follows world (Add number triple) reply (stepped running)
-  unfolding Step
-  add_missing number triple state reply is missing =
-      staying_follows (Add number triple) reply
-      (missing_replies world number state (clone_at world number) reply _ missing (stands.clones number state is))
+  -- a command tells the clone of the number to make the update of a plan
+  module _ (command : Command) (number : ℕ) (plan : UpdatePlan) (is_update : IsUpdateOf command number plan) where
+    -- a live clone makes it, by its effect
+    module _ (live : LocalClone) (is : slice_get running.clones number ≡ Some (states.Live live)) where
+      -- what it does alone follows the model
+      update_local : (effect : EffectValue) → IsPlanEffect live.domain (next_dot live) live.pairs plan effect → (new : LocalClone) (reply : Reply)
+          (sent : List MessageValue) (clones : List RunningClone) (messages : List MessageValue)
+          → LocalStep (length running.messages) (states.Live live) (UpdateTask effect) reply sent (states.Live new)
+          → set running.clones number (states.Live new) ≡ clones → running.messages ++ sent ≡ messages
+          → Follows world command reply (record running { clones = clones; messages = messages; steps = running.steps + 1 })
+      update_local effect has new reply sent clones messages does turned told =
+          let at : LiveAt world number live = live_at running world stands number live is in
+          let here : number ≡ number_of_clone command = update_at command number plan is_update in
+          local_follows running world stands sound command (states.Live live) (states.Live new) (UpdateTask effect) (UpdateTask effect) reply sent clones messages
+          (subst (λ (k : ℕ). LiveAt world k live) here at) refl
+          (λ next done. update_step world next command number plan reply is_update
+          (plans_as number plan live at effect has reply next (subst (λ (k : ℕ). UpdatesAs world k effect (clone_at world k) reply next) (sym here) done)))
+          does (subst (λ (k : ℕ). set running.clones k (states.Live new) ≡ clones) here turned) told
 
-  -- ---- remove
+      -- its plan has too many solutions over the clone's triples
+      pub update_too_large : HasTooMany live.pairs plan → Follows world command TooMany (stepped running)
+      update_too_large many =
+          let at : LiveAt world number live = live_at running world stands number live is in
+          staying_follows command TooMany (update_step world world command number plan TooMany is_update
+          (live_does world (clone_at world number) TooMany world _ (kept_by live at.base at.journal) at.held at.live
+          (live.pairs, at.stands.pairs, is_too_large many (refl, refl))))
 
-  -- a live clone that has pairs of a triple removes it
-  pub remove_follows : (number : ℕ) (triple : Triple) (live : LocalClone)
-      → slice_get running.clones number ≡ Some (states.Live live) → (deletes : List Tagged) (new : LocalClone) (entry : EntryValue) → ArePairsOf triple live.pairs deletes → deletes ≢ []
-      → LocallyMakes live (deleting deletes) new entry
-      → Follows world (Remove number triple) (Did (next_dot live) (length running.messages + 1)) (stepped_sending running number new entry)
-  unfolding Step
-  remove_follows number triple live is deletes new entry are some makes =
-      let at : LiveAt world number live = live_at running world stands number live is in
-      let reply : Reply = Did (next_dot live) (length running.messages + 1) in
-      local_follows running world stands sound (Remove number triple) (states.Live live) (states.Live new) (Update (deleting deletes)) (Update (deleting deletes)) reply (CarriesEntry entry ∷ [])
-      (set running.clones number (states.Live new)) (running.messages ++ CarriesEntry entry ∷ []) at refl
-      (λ next does. live_does world (clone_at world number) reply next _ (kept_by live at.base at.journal) at.held at.live
-      (live.pairs, deleting deletes, at.stands.pairs, record { found = deletes; are = are; is = refl {a = deleting deletes} }, live_did world (clone_at world number) reply next _ (kept_by live at.base at.journal) at.held at.live does))
-      (updates live (deleting deletes) new entry (λ none. some none.deletes) (λ pair h. ((are.members pair).0 h).0) makes) refl refl
+      -- its effect changes nothing
+      pub update_nothing : (effect : EffectValue) → IsPlanEffect live.domain (next_dot live) live.pairs plan effect → ChangesNothing effect
+          → Follows world command NoOperation (stepped running)
+      update_nothing effect has none =
+          update_local effect has live NoOperation [] running.clones running.messages (updates_nothing live effect none)
+          (set_as_it_is running.clones number (states.Live live) is) (append-nil running.messages)
 
-  -- a live clone that has none removes nothing
-  pub remove_nothing : (number : ℕ) (triple : Triple) (live : LocalClone)
-      → slice_get running.clones number ≡ Some (states.Live live) → ArePairsOf triple live.pairs [] → Follows world (Remove number triple) NoOperation (stepped running)
-  unfolding Step
-  remove_nothing number triple live is none =
-      let at : LiveAt world number live = live_at running world stands number live is in
-      staying_follows (Remove number triple) NoOperation
-      (live_does world (clone_at world number) NoOperation world _ (kept_by live at.base at.journal) at.held at.live
-      (live.pairs, deleting [], at.stands.pairs, record { found = []; are = none; is = refl {a = deleting []} }, changes_nothing (record { deletes = refl; inserts = refl }) (refl, refl)))
+      -- its effect would give a subject a second value of a single-valued property
+      pub update_single : (effect : EffectValue) → IsPlanEffect live.domain (next_dot live) live.pairs plan effect → ¬ ChangesNothing effect
+          → (place : List ℕ × List ℕ) → IsFirstBreach live.properties live.pairs effect place
+          → Follows world command (Single place.0 place.1) (stepped running)
+      update_single effect has some place first =
+          update_local effect has live (Single place.0 place.1) [] running.clones running.messages (update_breaks live effect place some first)
+          (set_as_it_is running.clones number (states.Live live) is) (append-nil running.messages)
 
-  -- a clone that isn't live removes nothing
-  pub remove_missing : (number : ℕ) (triple : Triple) (state : RunningClone) (reply : Reply)
-      → slice_get running.clones number ≡ Some state → IsMissingReply state reply → Follows world (Remove number triple) reply (stepped running)
-  unfolding Step
-  remove_missing number triple state reply is missing =
-      staying_follows (Remove number triple) reply
-      (missing_replies world number state (clone_at world number) reply _ missing (stands.clones number state is))
+      -- the clone makes the operation of its effect, and the entry is sent
+      pub update_made : (effect : EffectValue) → IsPlanEffect live.domain (next_dot live) live.pairs plan effect → ¬ ChangesNothing effect
+          → BreaksNone live.properties live.pairs effect → (new : LocalClone) (entry : EntryValue) → LocallyMakes live effect new entry
+          → Follows world command (Did (next_dot live) (length running.messages + 1)) (stepped_sending running number new entry)
+      update_made effect has some fits new entry makes =
+          update_local effect has new (Did (next_dot live) (length running.messages + 1)) (CarriesEntry entry ∷ []) (set running.clones number (states.Live new))
+          (running.messages ++ CarriesEntry entry ∷ [])
+          (updates live effect new entry some fits (plan_present live.domain plan (next_dot live) live.pairs effect has) makes) refl refl
+
+    -- a clone that isn't live makes none
+    pub update_missing : (state : RunningClone) (reply : Reply) → slice_get running.clones number ≡ Some state → IsMissingReply state reply
+        → Follows world command reply (stepped running)
+    update_missing state reply is missing =
+        staying_follows command reply (update_step world world command number plan reply is_update
+        (missing_replies world number state (clone_at world number) reply _ missing (stands.clones number state is)))
 
   -- ---- deliver
 

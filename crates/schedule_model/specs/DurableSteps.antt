@@ -3,7 +3,7 @@ use Rattle.std.specs.Prelude.{◌≡◌, ◌≢◌, ℕ, List, [], ◌∷◌, ma
 use Rattle.tree_clock.specs.declared.dots.Range.{Range}
 use Rattle.mld_ops.specs.History.{Operation}
 use Rattle.schedule_model.specs.declared.Command.{Command}
-use Rattle.schedule_model.specs.declared.Command.TheVariants.{Add, Remove, Deliver, Show, Query, Compare, Join, Ask, Compact, Truncate, Stop, Open}
+use Rattle.schedule_model.specs.declared.Command.TheVariants.{Add, Remove, Update, Deliver, Show, Query, Compare, Join, Ask, Compact, Truncate, Stop, Open}
 use Rattle.mld_model.specs.Clone.{Clone, Live, Stored, kept_of, merged_with}
 use Rattle.mld_model.specs.CloneStep.{joined_with}
 use Rattle.mld_model.specs.World.{World, Message, RangeOf, Want, SnapshotOf, JoinAsk, JoinGive, message_at, clone_at, clone_count}
@@ -60,6 +60,7 @@ pub data SwapsDurably (world next : World) (number : ℕ) (steps : List DurableS
 unfoldable pub DurableSteps : World → Command → Reply → World → List DurableStep → Type 0
 DurableSteps world (Add number triple) reply next steps = MakesDurably world reply next steps
 DurableSteps world (Remove number triple) reply next steps = MakesDurably world reply next steps
+DurableSteps world (Update number plan) reply next steps = MakesDurably world reply next steps
 DurableSteps world (Deliver message number) reply next steps =
     MatchOption (message_at world message) (steps ≡ []) (λ sent. steps ≡ message_steps (clone_at world number) sent reply)
 DurableSteps world (Show number) reply next steps = steps ≡ []

@@ -8,24 +8,30 @@ use Rattle.mld_ops.specs.Effects.{DeletesAll}
 use Rattle.mld_ops.specs.History.{Operation}
 use Rattle.mld_ops.specs.Meaning.{IsMeaning}
 use Rattle.schedule_model.specs.declared.Command.{Command}
-use Rattle.schedule_model.specs.declared.Command.TheVariants.{Add, Remove}
+use Rattle.schedule_model.specs.declared.Command.TheVariants.{Add, Remove, Update}
 use Rattle.mld_model.specs.Clone.{AreKnownTo}
-use Rattle.mld_model.specs.CloneStep.{AddsTriple}
 use Rattle.mld_model.specs.World.{World, founded}
 use Rattle.mld_model.specs.Reply.{Reply, Did}
-use Rattle.schedule_model.specs.Step.{HasCloneNumbers, number_of_clone, Step}
+use Rattle.schedule_model.specs.Step.{HasCloneNumbers, IsCommandInForm, number_of_clone, Step}
+use Rattle.schedule_model.specs.Updating.{AddsTriple}
+use Rattle.jrql_ast.specs.declared.plans.UpdatePlan.{UpdatePlan}
+use Rattle.jrql_eval.specs.PlanEffects.{IsPlanEffect}
 use Rattle.mld_model.specs.Sound.{IsSound}
-use Rattle.schedule_model.specs.Schedule.{IsNothing, is_unbuilt, Setup, SpellsSetup, SpellsCommand}
+use Rattle.schedule_model.specs.Schedule.{IsNothing, is_unbuilt, Setup, SpellsSetup, SpellsSingle, SpellsCommand}
 use Rattle.schedule_model.specs.Answers.{Remembers, RemembersUpdate, Survives}
 use Rattle.schedule_model.specs.Promises.{ClonesAnswerAlike, AnswersHold, LeavesDiffer, KeepsPromises}
 use Rattle.schedule_model.specs.Runs.{Stage, Waiting, IsWorldOf, Acts, Runs, IsBad, IsUnbuilt, Outcome, Verdict}
 
--- a line is at most one of these: it says nothing, it isn't built yet, it is a domain line, it is a command
+-- a line is at most one of these: it says nothing, it isn't built yet, it is a domain line, it sets a property, it is a command
 pub record IsOfOneKind (line : List ℕ) : Type 0 where
   pub nothing_unbuilt : IsNothing line → ¬ IsTrue (is_unbuilt line)
   pub nothing_setup : IsNothing line → (setup : Setup) → ¬ SpellsSetup line setup
   pub nothing_command : IsNothing line → (domain : List ℕ) (command : Command) → ¬ SpellsCommand domain line command
   pub unbuilt_setup : IsTrue (is_unbuilt line) → (setup : Setup) → ¬ SpellsSetup line setup
+  pub nothing_single : IsNothing line → (property : List ℕ) → ¬ SpellsSingle line property
+  pub unbuilt_single : IsTrue (is_unbuilt line) → (property : List ℕ) → ¬ SpellsSingle line property
+  pub setup_single : (setup : Setup) → SpellsSetup line setup → (property : List ℕ) → ¬ SpellsSingle line property
+  pub single_command : (property : List ℕ) → SpellsSingle line property → (domain : List ℕ) (command : Command) → ¬ SpellsCommand domain line command
   pub unbuilt_command : IsTrue (is_unbuilt line) → (domain : List ℕ) (command : Command) → ¬ SpellsCommand domain line command
   pub setup_command : (setup : Setup) → SpellsSetup line setup → (domain : List ℕ) (command : Command) → ¬ SpellsCommand domain line command
 
@@ -37,13 +43,17 @@ OneKind = (line : List ℕ) → IsOfOneKind line
 abbrev pub OneSetup : Type 0
 OneSetup = (line : List ℕ) (setup other : Setup) → SpellsSetup line setup → SpellsSetup line other → setup ≡ other
 
+-- a line spells one property
+abbrev pub OneProperty : Type 0
+OneProperty = (line property other : List ℕ) → SpellsSingle line property → SpellsSingle line other → property ≡ other
+
 -- a line spells one command
 abbrev pub OneCommand : Type 0
 OneCommand = (domain line : List ℕ) (command other : Command) → SpellsCommand domain line command → SpellsCommand domain line other → command ≡ other
 
--- a step of a world by a command has one reply, and leads to one world
+-- a step of a world by a command in form has one reply, and leads to one world
 abbrev pub OneStep : Type 0
-OneStep = (world : World) (command : Command) (reply other : Reply) (next after : World)
+OneStep = (world : World) (command : Command) (reply other : Reply) (next after : World) → IsCommandInForm command
     → Step world command reply next → Step world command other after → (reply ≡ other) × (next ≡ after)
 
 -- a line adds one text to what is written, and leads to one stage
@@ -102,6 +112,13 @@ AddRemembers = (world : World) (number : ℕ) (triple : Triple) (dot : Dot) (mes
 abbrev pub RemoveRemembers : Type 0
 RemoveRemembers = (world : World) (number : ℕ) (triple : Triple) (dot : Dot) (message : ℕ) (next : World)
     → Step world (Remove number triple) (Did dot message) next → RemembersUpdate world number (DeletesAll triple) dot next
+
+-- the dot that an `update` tells of is that of an operation that its clone made by the effect of the plan on the pairs that it had; the step
+-- put it at the head of the history, and its clone remembers it
+abbrev pub UpdateRemembers : Type 0
+UpdateRemembers = (world : World) (number : ℕ) (plan : UpdatePlan) (dot : Dot) (message : ℕ) (next : World)
+    → Step world (Update number plan) (Did dot message) next
+    → RemembersUpdate world number (λ pairs effect. IsPlanEffect world.domain dot pairs plan effect) dot next
 
 -- the dot that a command tells of is that of an operation which its step put at the head of the history, and the clone that
 -- the command says of remembers it

@@ -1,6 +1,7 @@
 pub mod Characters
 pub mod ReplyText
 pub mod Querying
+pub mod Updating
 pub mod Step
 pub mod DurableSteps
 pub mod Schedule

@@ -2,12 +2,12 @@
 use Rattle.std.specs.Prelude.{ℕ, List, [], ◌∷◌, ◌++◌, codes, length}
 use Rattle.std.specs.List.{flat_map}
 use Rattle.std.specs.Fmt.{decimal}
-use Rattle.rdf_terms.specs.Spelling.{triple_text}
+use Rattle.rdf_terms.specs.Spelling.{iri_text, triple_text}
 use Rattle.tree_clock.specs.declared.dots.Range.{Range}
 use Rattle.tree_clock.specs.Path.{path_text}
 use Rattle.tree_clock.specs.Dot.{dot_text, range_text}
 use Rattle.mld_ops.specs.declared.tagged.Tagged.{Tagged}
-use Rattle.mld_model.specs.Reply.{Reply, Ready, Did, NoOperation, Took, Merged, Held, HeldFull, AlreadyKnown, Shows, Tells, TooMany, Same, Less, More, Apart, Sent, Answer, NothingToSend, Kept, Joined, Deep, NoMessage, Ignored, IsAbsent, IsAsking, IsDown, IsLive, Stopped, Opened}
+use Rattle.mld_model.specs.Reply.{Reply, Ready, PropertySet, Did, NoOperation, Single, Took, Merged, Held, HeldFull, AlreadyKnown, Shows, Tells, TooMany, Same, Less, More, Apart, Sent, Answer, NothingToSend, Kept, Joined, Deep, NoMessage, Ignored, IsAbsent, IsAsking, IsDown, IsLive, Stopped, Opened}
 use Rattle.schedule_model.specs.Characters.{space, line_end}
 
 -- the line of a pair
@@ -25,8 +25,10 @@ spaced_message number = codes " m" ++ decimal number
 -- the text of a reply
 unfoldable pub reply_text : Reply → List ℕ
 reply_text (Ready count) = codes "ready " ++ (decimal count ++ line_end ∷ [])
+reply_text PropertySet = codes "ok\n"
 reply_text (Did dot number) = codes "did " ++ (dot_text dot ++ (codes " m" ++ (decimal number ++ line_end ∷ [])))
 reply_text NoOperation = codes "none\n"
+reply_text (Single subject property) = codes "single " ++ (iri_text subject ++ space ∷ (iri_text property ++ line_end ∷ []))
 reply_text (Took ranges) = codes "took" ++ (flat_map spaced_range ranges ++ line_end ∷ [])
 reply_text (Merged ranges) = codes "merged" ++ (flat_map spaced_range ranges ++ line_end ∷ [])
 reply_text Held = codes "held\n"

@@ -2,10 +2,10 @@
 use Rattle.std.specs.Prelude.{◌≡◌, ℕ, ◌+◌, List, [], ◌∷◌, ◌++◌, IsTrue, length}
 use Rattle.schedule_model.specs.declared.Command.{Command}
 use Rattle.mld_model.specs.World.{World, founded}
-use Rattle.mld_model.specs.Reply.{Reply, Ready}
+use Rattle.mld_model.specs.Reply.{Reply, Ready, PropertySet}
 use Rattle.schedule_model.specs.ReplyText.{reply_text}
 use Rattle.schedule_model.specs.Step.{Step}
-use Rattle.schedule_model.specs.Schedule.{IsNothing, is_unbuilt, Setup, KeepsEachOnce, SpellsSetup, SpellsCommand}
+use Rattle.schedule_model.specs.Schedule.{IsNothing, is_unbuilt, Setup, KeepsEachOnce, SpellsSetup, SetsProperty, with_property, SpellsCommand}
 
 -- how far a schedule has come
 pub data Stage : Type 0 where
@@ -35,6 +35,13 @@ pub record SetsUp (line text : List ℕ) (next : Stage) : Type 0 where
   pub replies : text ≡ reply_text (Ready setup.count)
   pub changes : next ≡ SetUp setup
 
+-- a line sets one more single-valued property
+pub record SetsOne (setup : Setup) (line text : List ℕ) (next : Stage) : Type 0 where
+  pub property : List ℕ
+  pub sets : SetsProperty setup line property
+  pub replies : text ≡ reply_text PropertySet
+  pub changes : next ≡ SetUp (with_property setup property)
+
 -- a command line makes one step of the world, and founds it first where no clone is founded
 pub record Commands (stage : Stage) (line text : List ℕ) (next : Stage) : Type 0 where
   pub world : World
@@ -47,10 +54,11 @@ pub record Commands (stage : Stage) (line text : List ℕ) (next : Stage) : Type
   pub replies : text ≡ reply_text reply
   pub changes : next ≡ Running after
 
--- the line says nothing, or is the domain line, or commands: it adds the text to what is written and leads to the next stage
+-- the line says nothing, or is the domain line, or sets a property, or commands: it adds the text to what is written and leads to the next stage
 pub data Acts : Stage → List ℕ → List ℕ → Stage → Type 0 where
   says_nothing : {stage : Stage} {line text : List ℕ} {next : Stage} → IsNothing line → text ≡ [] → next ≡ stage → Acts stage line text next
   sets_up : {line text : List ℕ} {next : Stage} → SetsUp line text next → Acts Waiting line text next
+  sets_property : {setup : Setup} {line text : List ℕ} {next : Stage} → SetsOne setup line text next → Acts (SetUp setup) line text next
   commands : {stage : Stage} {line text : List ℕ} {next : Stage} → Commands stage line text next → Acts stage line text next
 
 -- a run over lines, one after another: the text is what they add, in order
@@ -63,10 +71,12 @@ Runs stage (line ∷ lines) text next =
 abbrev pub IsUnbuilt : List ℕ → Type 0
 IsUnbuilt line = IsTrue (is_unbuilt line)
 
--- the line spells none of what may come at this stage: a domain line while a schedule waits, and then a command
+-- the line spells none of what may come at this stage: a domain line while a schedule waits, then a property until the clones are founded,
+-- or a command
 abbrev pub SpellsNone : Stage → List ℕ → Type 0
 SpellsNone Waiting line = (setup : Setup) → ¬ SpellsSetup line setup
-SpellsNone (SetUp setup) line = (command : Command) → ¬ SpellsCommand setup.domain line command
+SpellsNone (SetUp setup) line =
+    ((property : List ℕ) → ¬ SetsProperty setup line property) × ((command : Command) → ¬ SpellsCommand setup.domain line command)
 SpellsNone (Running world) line = (command : Command) → ¬ SpellsCommand world.domain line command
 
 -- the line is outside the grammar at this stage, and isn't one that will be built

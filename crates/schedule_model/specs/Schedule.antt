@@ -1,18 +1,20 @@
 -- The grammar of a schedule's lines, as bytes without their LF.
-use Rattle.std.specs.Prelude.{◌≡◌, ℕ, ◌^◌, ◌<◌, ◌≤◌, List, [], ◌∷◌, ◌++◌, Bool, not, ◌==◌, nat_eq, IsTrue, codes, take_while, Ok}
+use Rattle.std.specs.Prelude.{◌≡◌, ℕ, ◌^◌, ◌<◌, ◌≤◌, List, [], ◌∷◌, ◌++◌, length, Bool, not, ◌==◌, nat_eq, IsTrue, codes, take_while, Ok}
 use Rattle.std.specs.Cmp.Lexicographic.{pointwise}
 use Rattle.std.specs.List.{list_any}
 use Rattle.std.specs.Str.{IsUtf8}
 use Rattle.std.specs.Fmt.{decimal}
 use Rattle.iri_rules.specs.Domain.{is_domain}
-use Rattle.rdf_terms.specs.Grammar.{SpellsTriple, IsTripleWithin}
+use Rattle.rdf_terms.specs.Grammar.{SpellsTriple, IsTripleWithin, IsIriText}
+use Rattle.jrql_ast.specs.declared.plans.UpdatePlan.{UpdatePlan}
+use Rattle.jrql_update.specs.UpdateReading.{update_read}
 use Rattle.jrql_patterns.specs.QueryReading.{query_read}
 use Rattle.jrql_patterns.specs.declared.queries.ReadQuery.{ReadQuery}
 use Rattle.schedule_model.specs.Characters.{space, hash_mark}
 use Rattle.mld_ops.specs.Properties.{AreKept}
 use Rattle.mld_model.specs.World.{clone_count}
 use Rattle.schedule_model.specs.declared.Command.{Command}
-use Rattle.schedule_model.specs.declared.Command.TheVariants.{Add, Remove, Deliver, Show, Query, Compare, Join, Ask, Compact, Truncate, Stop, Open}
+use Rattle.schedule_model.specs.declared.Command.TheVariants.{Add, Remove, Update, Deliver, Show, Query, Compare, Join, Ask, Compact, Truncate, Stop, Open}
 
 -- an empty line, or a comment: `#` first, and UTF-8 throughout
 pub data IsNothing : List ℕ → Type 0 where
@@ -29,7 +31,7 @@ is_word = pointwise nat_eq
 
 -- the first words of lines that aren't built yet
 abbrev pub unbuilt_words : List (List ℕ)
-unbuilt_words = codes "update" ∷ codes "single" ∷ codes "crash" ∷ []
+unbuilt_words = codes "crash" ∷ []
 
 -- a line that isn't built yet, whatever its rest is: one of those words first
 unfoldable pub is_unbuilt : List ℕ → Bool
@@ -45,11 +47,17 @@ pub record Setup : Type 0 where
 abbrev pub KeepsEachOnce : List (List ℕ) → List (List ℕ) → Type 0
 KeepsEachOnce given kept = AreKept given kept
 
--- a setup by which clones may be founded: its domain's name is one, and it has as many clones as there may be
+-- how many lines may set a single-valued property, repeats included
+abbrev pub single_limit : ℕ
+single_limit = 16
+
+-- a setup by which clones may be founded: its domain's name is one, it has as many clones as there may be, and no more lines set a property
+-- than may
 pub record IsSetup (setup : Setup) : Type 0 where
   pub name : IsTrue (is_domain setup.domain)
   pub some : 1 ≤ setup.count
   pub most : setup.count ≤ clone_count
+  pub few : length setup.properties ≤ single_limit
 
 -- `domain D clones N`, which sets no property
 pub record SpellsSetup (line : List ℕ) (setup : Setup) : Type 0 where
@@ -59,11 +67,28 @@ pub record SpellsSetup (line : List ℕ) (setup : Setup) : Type 0 where
   pub most : setup.count ≤ clone_count
   pub none : setup.properties ≡ []
 
+-- `single <IRI>`: the line sets a single-valued property, an IRI as it stands in a triple
+pub record SpellsSingle (line property : List ℕ) : Type 0 where
+  pub text : List ℕ
+  pub whole : line ≡ codes "single " ++ text
+  pub bytes : IsUtf8 text
+  pub is : IsIriText text property
+
+-- a setup with one more property
+abbrev pub with_property : Setup → List ℕ → Setup
+with_property setup property = record setup { properties = setup.properties ++ property ∷ [] }
+
+-- the line sets a property of a domain that is set up, and it isn't one line too many
+pub record SetsProperty (setup : Setup) (line property : List ℕ) : Type 0 where
+  pub spells : SpellsSingle line property
+  pub room : length setup.properties < single_limit
+
 -- the number of a clone, the first of which is 0
 abbrev pub IsCloneNumber : ℕ → Type 0
 IsCloneNumber number = number < clone_count
 
--- the line spells the command, whatever the domain is; a triple is the rest of its line. No query is spelled so
+-- the line spells the command, whatever the domain is; a triple is the rest of its line. No query and no
+-- plan is spelled so
 abbrev pub SpellsAnywhere : List ℕ → Command → Type 0
 SpellsAnywhere line (Add number triple) =
     (text : List ℕ) × (line ≡ codes "add " ++ (decimal number ++ space ∷ text)) × IsCloneNumber number
@@ -71,6 +96,7 @@ SpellsAnywhere line (Add number triple) =
 SpellsAnywhere line (Remove number triple) =
     (text : List ℕ) × (line ≡ codes "remove " ++ (decimal number ++ space ∷ text)) × IsCloneNumber number
     × IsUtf8 text × SpellsTriple text triple × IsTripleWithin triple
+SpellsAnywhere line (Update number plan) = ⊥
 SpellsAnywhere line (Deliver message number) =
     (line ≡ codes "deliver " ++ (decimal message ++ space ∷ decimal number)) × (message < 2 ^ 64) × IsCloneNumber number
 SpellsAnywhere line (Show number) = (line ≡ codes "show " ++ decimal number) × IsCloneNumber number
@@ -90,7 +116,13 @@ abbrev pub SpellsQuery : List ℕ → List ℕ → ℕ → ReadQuery → Type 0
 SpellsQuery domain line number read =
     (text : List ℕ) × (line ≡ codes "query " ++ (decimal number ++ space ∷ text)) × IsCloneNumber number × (query_read domain text ≡ Ok read)
 
--- the line spells the command in the domain of this name; any command but a query is spelled alike in all domains
+-- the rest of the line is a JSON text that says the plan of an update in this domain, without a fault
+abbrev pub SpellsUpdate : List ℕ → List ℕ → ℕ → UpdatePlan → Type 0
+SpellsUpdate domain line number plan =
+    (text : List ℕ) × (line ≡ codes "update " ++ (decimal number ++ space ∷ text)) × IsCloneNumber number × (update_read domain text ≡ Ok plan)
+
+-- the line spells the command in the domain of this name; any command but a query and an update is spelled alike in all domains
 abbrev pub SpellsCommand : List ℕ → List ℕ → Command → Type 0
 SpellsCommand domain line (Query number read) = SpellsQuery domain line number read
+SpellsCommand domain line (Update number plan) = SpellsUpdate domain line number plan
 SpellsCommand domain line command = SpellsAnywhere line command

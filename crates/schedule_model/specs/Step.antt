@@ -1,17 +1,19 @@
 -- One step of the world: a command, its reply, and the world after it.
 use Rattle.std.specs.Prelude.{ℕ, ◌<◌, MatchOption}
-use Rattle.jrql_ast.specs.InForm.{IsQueryInForm}
+use Rattle.jrql_ast.specs.InForm.{IsQueryInForm, IsPlanInForm}
 use Rattle.schedule_model.specs.declared.Command.{Command}
-use Rattle.schedule_model.specs.declared.Command.TheVariants.{Add, Remove, Deliver, Show, Query, Compare, Join, Ask, Compact, Truncate, Stop, Open}
-use Rattle.mld_model.specs.CloneStep.{Answers, Adds, Removes, Takes, Lists, Joins, Wants, Compacts, Truncates, Stops, Reopens, Weighs}
+use Rattle.schedule_model.specs.declared.Command.TheVariants.{Add, Remove, Update, Deliver, Show, Query, Compare, Join, Ask, Compact, Truncate, Stop, Open}
+use Rattle.mld_model.specs.CloneStep.{Answers, Takes, Lists, Joins, Wants, Compacts, Truncates, Stops, Reopens, Weighs}
 use Rattle.mld_model.specs.World.{World, message_at, clone_at, clone_count}
 use Rattle.mld_model.specs.Reply.{Reply, NoMessage}
 use Rattle.schedule_model.specs.Querying.{Queries}
+use Rattle.schedule_model.specs.Updating.{UpdatesByPlan, Adds, Removes}
 
 -- the numbers of clones in a command are those of clones that there are
 abbrev pub HasCloneNumbers : Command → Type 0
 HasCloneNumbers (Add number triple) = number < clone_count
 HasCloneNumbers (Remove number triple) = number < clone_count
+HasCloneNumbers (Update number plan) = number < clone_count
 HasCloneNumbers (Deliver message number) = number < clone_count
 HasCloneNumbers (Show number) = number < clone_count
 HasCloneNumbers (Query number read) = number < clone_count
@@ -23,15 +25,17 @@ HasCloneNumbers (Stop number) = number < clone_count
 HasCloneNumbers (Open number) = number < clone_count
 HasCloneNumbers (Compare number other) = (number < clone_count) × (other < clone_count)
 
--- the query of a command is in form
-abbrev pub HasQueryInForm : Command → Type 0
-HasQueryInForm (Query number read) = IsQueryInForm read.query
-HasQueryInForm command = Unit {0}
+-- the query of a command is in form, and so is its plan
+abbrev pub IsCommandInForm : Command → Type 0
+IsCommandInForm (Query number read) = IsQueryInForm read.query
+IsCommandInForm (Update number plan) = IsPlanInForm plan
+IsCommandInForm command = Unit {0}
 
 -- what a command says of: the clone that it is done at (the first of two)
 abbrev pub number_of_clone : Command → ℕ
 number_of_clone (Add number triple) = number
 number_of_clone (Remove number triple) = number
+number_of_clone (Update number plan) = number
 number_of_clone (Deliver message number) = number
 number_of_clone (Show number) = number
 number_of_clone (Query number read) = number
@@ -47,6 +51,7 @@ number_of_clone (Compare number other) = number
 unfoldable pub Step : World → Command → Reply → World → Type 0
 Step world (Add number triple) reply next = Adds world number triple (clone_at world number) reply next
 Step world (Remove number triple) reply next = Removes world number triple (clone_at world number) reply next
+Step world (Update number plan) reply next = UpdatesByPlan world number plan (clone_at world number) reply next
 Step world (Deliver message number) reply next =
     MatchOption (message_at world message) (Answers world NoMessage reply next) (λ sent. Takes world number sent (clone_at world number) reply next)
 Step world (Show number) reply next = Lists world (clone_at world number) reply next

@@ -2,7 +2,10 @@
 use Rattle.std.specs.Prelude.{◌≡◌, ℕ, ◌+◌, List, [], ◌∷◌, ◌++◌, Option, slice_set}
 use Rattle.mld_ops.specs.Entry.{EntryValue}
 use Rattle.mld_ops.specs.Messages.{MessageValue, CarriesEntry}
+use Rattle.jrql_ast.specs.declared.plans.UpdatePlan.{UpdatePlan}
+use Rattle.jrql_ast.specs.Templates.{insertion_of, deletion_of}
 use Rattle.schedule_model.specs.declared.Command.{Command}
+use Rattle.schedule_model.specs.declared.Command.TheVariants.{Add, Remove, Update}
 use Rattle.mld_model.specs.Comparing.{ClocksCompare}
 use Rattle.mld_model.specs.World.{World, numbered}
 use Rattle.mld_model.specs.Reply.{Reply, IsAbsent, IsAsking, IsDown, IsLive}
@@ -51,6 +54,13 @@ pub record Follows (world : World) (command : Command) (reply : Reply) (running 
   pub steps : Step world command reply next
   pub sound : IsSound next
   pub stands : StandsFor running next
+
+-- the command tells the clone of the number to make the update of a plan
+abbrev pub IsUpdateOf : Command → ℕ → UpdatePlan → Type 0
+IsUpdateOf (Add at triple) number plan = (at ≡ number) × (plan ≡ insertion_of triple)
+IsUpdateOf (Remove at triple) number plan = (at ≡ number) × (plan ≡ deletion_of triple)
+IsUpdateOf (Update at own) number plan = (at ≡ number) × (plan ≡ own)
+IsUpdateOf command number plan = ⊥
 
 -- the reply of a clone that isn't live, which is its state
 abbrev pub IsMissingReply : RunningClone → Reply → Type 0

@@ -7,6 +7,7 @@ mod soundness;
 mod verdicts;
 
 pub use durable::durable_steps_lead;
+use jrql_ast::UpdatePlan;
 use jrql_patterns::ReadQuery;
 use rdf_terms::Triple;
 pub use soundness::{answers_survive, promises_kept, sound_worlds};
@@ -19,6 +20,8 @@ pub enum Command {
     Add(u8, Triple),
     /// `remove C TRIPLE`: clone C deletes the triple.
     Remove(u8, Triple),
+    /// `update C JSON`: clone C deletes and inserts what the plan says.
+    Update(u8, UpdatePlan),
     /// `deliver M C`: message M comes to clone C.
     Deliver(u64, u8),
     /// `show C`: the pairs of clone C.

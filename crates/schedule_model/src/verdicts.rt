@@ -1,15 +1,16 @@
 //! A schedule has one verdict. Each function has no code, and its contract is a law.
-ghost use Rattle.schedule_model.specs.Laws.{OneKind, OneSetup, OneCommand, OneStep, OneAct, OneOutcome, OneRun, OneVerdict};
+ghost use Rattle.schedule_model.specs.Laws.{OneKind, OneSetup, OneProperty, OneCommand, OneStep, OneAct, OneOutcome, OneRun, OneVerdict};
 
-/// A line of a schedule is read in one way: it says nothing, isn't built yet, is a domain line or is a command, and never
-/// two of these; and it spells one setup, or one command.
+/// A line of a schedule is read in one way: it says nothing, isn't built yet, is a domain line, sets a property or is a command,
+/// and never two of these; and it spells one setup, one property, or one command.
 pub fn one_reading()
     ensures kind { OneKind }
     ensures setup { OneSetup }
+    ensures property { OneProperty }
     ensures command { OneCommand }
 {}
 
-/// A step of a world by a command has one reply, and leads to one world.
+/// A step of a world by a command in form has one reply, and leads to one world.
 pub fn one_step()
     ensures { OneStep }
 {}

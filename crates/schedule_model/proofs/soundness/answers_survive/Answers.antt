@@ -7,6 +7,9 @@ returns-clause-add c = laws.add_remembers
 pub returns-clause-remove : goal.returns-clause-remove
 returns-clause-remove c = laws.remove_remembers
 
+pub returns-clause-update : goal.returns-clause-update
+returns-clause-update c = laws.update_remembers
+
 pub returns-clause-did : goal.returns-clause-did
 returns-clause-did c = laws.did_remembers
 
