@@ -27,19 +27,23 @@ use Rattle.clone_core.specs.CloneClosing.{update_stop, receive_stop}
 use Rattle.causal_buffer.specs.declared.faults.HeldFault.{HeldFault}
 use Rattle.causal_buffer.specs.declared.faults.HeldFault.TheVariants as held
 use Rattle.mld_ops.specs.declared.messages.Message.TheVariants as message
-use Rattle.clone_core.specs.declared.answers.Got.{Got}
-use Rattle.clone_core.specs.CloneFaults.{fault_of_held, update_fault_of, receive_fault_of, receive_fault_of_swap, keep_fault_of}
+use Rattle.clone_answers.specs.declared.answers.Got.{Got}
+use Rattle.jrql_eval.specs.declared.faults.EvalFault.{EvalFault}
+use Rattle.jrql_eval.specs.declared.faults.EvalFault.TheVariants as eval
+use Rattle.clone_answers.specs.CloneFaults.{fault_of_held, update_fault_of, update_fault_of_effect, receive_fault_of, receive_fault_of_swap, keep_fault_of}
 use Rattle.mld_ops.specs.Effects.{EffectValue}
 use Rattle.clone_plans.specs.Making.{IsEntryOf}
-use Rattle.clone_core.specs.DurableCalls.{Changes, Creates, RefusedSteps, AppendsOwn, UpdateSteps, WouldReceive}
+use Rattle.jrql_ast.specs.declared.plans.UpdatePlan.{UpdatePlan}
+use Rattle.clone_core.specs.CloneUpdates.{HasEffect, IsMakeable}
+use Rattle.clone_core.specs.DurableCalls.{Changes, Creates, RefusedSteps, AppendsOwn, AppendsPlanned, EffectSteps, UpdateSteps, WouldReceive}
 use Rattle.clone_core.specs.CallParts.{MakesDone, MakeSteps}
-use Rattle.clone_core.specs.declared.answers.Done.{Done}
-use Rattle.clone_core.specs.declared.answers.Done.TheVariants as done
-use Rattle.clone_core.specs.declared.faults.KeepFault.TheVariants as keep
-use Rattle.clone_core.specs.declared.faults.ReceiveFault.{ReceiveFault}
-use Rattle.clone_core.specs.declared.faults.ReceiveFault.TheVariants as receive
-use Rattle.clone_core.specs.declared.faults.UpdateFault.{UpdateFault}
-use Rattle.clone_core.specs.declared.faults.UpdateFault.TheVariants as update
+use Rattle.clone_answers.specs.declared.answers.Done.{Done}
+use Rattle.clone_answers.specs.declared.answers.Done.TheVariants as done
+use Rattle.clone_answers.specs.declared.faults.KeepFault.TheVariants as keep
+use Rattle.clone_answers.specs.declared.faults.ReceiveFault.{ReceiveFault}
+use Rattle.clone_answers.specs.declared.faults.ReceiveFault.TheVariants as receive
+use Rattle.clone_answers.specs.declared.faults.UpdateFault.{UpdateFault}
+use Rattle.clone_answers.specs.declared.faults.UpdateFault.TheVariants as update
 use Rattle.clone_core.proofs.AppendLaws.{OnJournal, kept_by}
 use Rattle.clone_core.proofs.StopLaws.{banked}
 
@@ -183,15 +187,39 @@ module _ {B : Type 0} (log : B → Option Log) (meter : B → Meter) (old new : 
   would_make (Some why.NoMemory) steps (inr h) = inr (entry, own, h)
 
   steps_make : (result : Result Done UpdateFault) → IfOk result (MakesDone old.local entry new.local) → (steps : List KeptStep) → MakeSteps entry result steps
-      → UpdateSteps old.local effect result steps
+      → EffectSteps old.local effect result steps
   steps_make (Ok done.Nothing) ok steps h = absurd ok
   steps_make (Ok (done.Made made)) ok steps h = h ∙ ap (λ (e : EntryValue). Appended e ∷ []) (sym ok.0)
   steps_make (Err refused) ok steps h = would_make (update_stop refused) steps h
 
   pub makes_update : (result : Result Done UpdateFault) → IfOk result (MakesDone old.local entry new.local)
       → (steps : List KeptStep) × MakeSteps entry result steps × Changes log meter steps old new.banks (IsOk result) (IsErrOf result update.Device)
-      → (steps : List KeptStep) × UpdateSteps old.local effect result steps × Changes log meter steps old new.banks (IsOk result) (IsErrOf result update.Device)
+      → (steps : List KeptStep) × EffectSteps old.local effect result steps × Changes log meter steps old new.banks (IsOk result) (IsErrOf result update.Device)
   makes_update result ok made = (made.0, steps_make result ok made.0 made.1, made.2)
+
+-- those of the effect of a plan are those of an update
+module _ (old : LocalClone) (plan : UpdatePlan) (effect : EffectValue) (has : HasEffect old plan effect) (may : IsMakeable old effect) where
+  planned : (steps : List KeptStep) → AppendsOwn old effect steps → AppendsPlanned old plan steps
+  planned steps h = record { due = record { effect = effect; has = has; may = may }; appends = h }
+
+  would_plan : (stop : Option Why) (steps : List KeptStep) → RefusedSteps (AppendsOwn old effect) stop steps → RefusedSteps (AppendsPlanned old plan) stop steps
+  would_plan None steps h = h
+  would_plan (Some why.Device) steps h = planned steps h
+  would_plan (Some why.NoMemory) steps (inl h) = inl h
+  would_plan (Some why.NoMemory) steps (inr h) = inr (planned steps h)
+
+  pub planned_steps : (result : Result Done UpdateFault) (steps : List KeptStep) → EffectSteps old effect result steps → UpdateSteps old plan result steps
+  planned_steps (Ok done.Nothing) steps h = h
+  planned_steps (Ok (done.Made made)) steps h = h
+  planned_steps (Err refused) steps h = would_plan (update_stop refused) steps h
+
+-- a plan whose effect isn't given changes nothing
+pub effect_steps : {B : Type 0} (log : B → Option Log) (meter : B → Meter) (old : BankedClone B) (plan : UpdatePlan) (told : EvalFault)
+    → (steps : List KeptStep) × UpdateSteps old.local plan (Err (update_fault_of_effect told)) steps
+    × Changes log meter steps old old.banks (IsOk {T = Done} {E = UpdateFault} (Err (update_fault_of_effect told)))
+    (IsErrOf {T = Done} (Err (update_fault_of_effect told)) update.Device)
+effect_steps log meter old plan eval.TooMany = ([], refl, changes_none log meter old old.banks refl (λ f. absurd cc))
+effect_steps log meter old plan eval.NoMemory = ([], inl refl, changes_none log meter old old.banks refl (λ f. absurd cc))
 
 -- ---- an entry that can't be held
 

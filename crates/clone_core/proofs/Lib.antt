@@ -5,7 +5,7 @@ pub mod AppendLaws
 pub mod StopLaws
 pub mod DurableLaws
 pub mod Begun
-pub mod Updating
+pub mod OwnUpdates
 pub mod Mounting
 pub mod FusedRuns
 pub mod Sending

@@ -16,8 +16,8 @@ use Rattle.journal_sides.specs.Heads.{HeadValue}
 use Rattle.clone_banks.specs.KeptSteps.{Swapped, appends}
 use Rattle.clone_core.specs.Banked.{head_over}
 use Rattle.clone_core.specs.DurableCalls.{merged_steps}
-use Rattle.clone_core.specs.CloneFaults.{receive_fault_of_swap}
-use Rattle.clone_core.specs.declared.faults.ReceiveFault.TheVariants as fault
+use Rattle.clone_answers.specs.CloneFaults.{receive_fault_of_swap}
+use Rattle.clone_answers.specs.declared.faults.ReceiveFault.TheVariants as fault
 use Rattle.clone_core.proofs.DurableLaws.{err_same}
 use Rattle.clone_core.proofs.Taking.{releases_shorter}
 

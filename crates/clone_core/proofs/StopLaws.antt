@@ -10,7 +10,7 @@ use Rattle.journal_store.specs.declared.faults.Why.{Why}
 use Rattle.journal_store.specs.declared.faults.Why.TheVariants as why
 use Rattle.mld_model.specs.Local.{LocalClone}
 use Rattle.clone_core.specs.Banked.{BankedClone}
-use Rattle.clone_core.specs.CloneFaults.{update_fault_of, receive_fault_of, receive_fault_of_swap, keep_fault_of}
+use Rattle.clone_answers.specs.CloneFaults.{update_fault_of, receive_fault_of, receive_fault_of_swap, keep_fault_of}
 use Rattle.clone_core.specs.CloneClosing.{Shuts, LeavesClone, update_stop, receive_stop}
 use Rattle.clone_core.specs.Due.{IsDueSwap}
 use Rattle.clone_core.specs.CallParts.{StopsClone, StopsMerge, StopsKeep}
@@ -92,3 +92,13 @@ stops_due log meter Due old new (Some why.Device) due s =
 stops_due log meter Due old new (Some why.NoMemory) due (inl same) = inl same
 stops_due log meter Due old new (Some why.NoMemory) due (inr s) =
     inr (record { was = s.was; due = due; now = s.now; called = s.called; local = s.local; generation = s.generation })
+
+-- a part that was stopped leaves what the call leaves, where there is as much to do for the call
+pub stops_leave : {B : Type 0} (log : B → Option Log) (meter : B → Meter) (Part Due : Type 0) (old new : BankedClone B) (stop : Option Why) → (Part → Due)
+    → StopsClone log meter Part ⊥ old new stop → LeavesClone log meter Due ⊥ old new stop
+stops_leave log meter Part Due old new None due h = absurd h
+stops_leave log meter Part Due old new (Some why.Device) due h =
+    record { was = h.was; due = due h.due; now = h.now; called = h.called; local = h.local; generation = h.generation }
+stops_leave log meter Part Due old new (Some why.NoMemory) due (inl h) = inl h
+stops_leave log meter Part Due old new (Some why.NoMemory) due (inr h) =
+    inr (record { was = h.was; due = due h.due; now = h.now; called = h.called; local = h.local; generation = h.generation })

@@ -13,13 +13,13 @@ use Rattle.clone_core.specs.Banked.{BankedClone}
 use Rattle.clone_banks.specs.KeptSteps.{KeptStep, Appended}
 use Rattle.clone_core.specs.CloneClosing.{LeavesClone, update_stop, receive_stop, keep_stop}
 use Rattle.clone_core.specs.DurableCalls.{RefusedSteps}
-use Rattle.clone_core.specs.declared.answers.Done.{Done}
-use Rattle.clone_core.specs.declared.answers.Done.TheVariants as done
-use Rattle.clone_core.specs.declared.faults.KeepFault.{KeepFault}
-use Rattle.clone_core.specs.declared.faults.KeepFault.TheVariants as keep
-use Rattle.clone_core.specs.declared.faults.ReceiveFault.{ReceiveFault}
-use Rattle.clone_core.specs.declared.faults.ReceiveFault.TheVariants as receive
-use Rattle.clone_core.specs.declared.faults.UpdateFault.{UpdateFault}
+use Rattle.clone_answers.specs.declared.answers.Done.{Done}
+use Rattle.clone_answers.specs.declared.answers.Done.TheVariants as done
+use Rattle.clone_answers.specs.declared.faults.KeepFault.{KeepFault}
+use Rattle.clone_answers.specs.declared.faults.KeepFault.TheVariants as keep
+use Rattle.clone_answers.specs.declared.faults.ReceiveFault.{ReceiveFault}
+use Rattle.clone_answers.specs.declared.faults.ReceiveFault.TheVariants as receive
+use Rattle.clone_answers.specs.declared.faults.UpdateFault.{UpdateFault}
 use Rattle.journal_sides.specs.Heads.{HeadValue}
 use Rattle.journal_store.specs.Calls.{made}
 use Rattle.journal_store.specs.Standing.{JournalValue, KeepsJust}

@@ -1,4 +1,4 @@
--- What a clone answers to an update, to a message, and to a comparison with another clone.
+-- What a clone answers to a message, and to a comparison with another clone.
 use Rattle.std.specs.Prelude.{◌≡◌, ◌≢◌, ℕ, List}
 use Rattle.tree_clock.specs.declared.dots.Dot.{Dot}
 use Rattle.tree_clock.specs.declared.dots.Range.{Range}
@@ -6,33 +6,20 @@ use Rattle.tree_clock.specs.Lists.{Has}
 use Rattle.tree_clock.specs.Clock.{ticks_of, Covers}
 use Rattle.mld_ops.specs.declared.messages.Message.{Message}
 use Rattle.mld_ops.specs.declared.messages.Message.TheVariants as message
-use Rattle.mld_ops.specs.declared.tagged.Tagged.{Tagged}
-use Rattle.mld_ops.specs.Effects.{EffectValue, ChangesNothing}
 use Rattle.mld_ops.specs.Entry.{EntryValue}
 use Rattle.mld_ops.specs.Messages.{snapshot_value}
 use Rattle.mld_ops.specs.Ready.{IsKnownEntry}
-use Rattle.mld_model.specs.Local.{LocalClone, LocallyMakes, LocallyAccepts, MustBeHeld, LocallyHolds, IsFullFor, IsForeign, IsForeignSnapshot}
+use Rattle.mld_model.specs.Local.{LocalClone, LocallyAccepts, MustBeHeld, LocallyHolds, IsFullFor, IsForeign, IsForeignSnapshot}
 use Rattle.mld_model.specs.Reply.{Reply, Same, Less, More, Apart}
 use Rattle.clone_core.specs.Joining.{LocallyGives, RefusesAsk}
 use Rattle.clone_core.specs.Merging.{ReceivesSnapshot, RefusesSnapshot}
 use Rattle.clone_core.specs.Wants.{AnswersWant, RefusesWant}
-use Rattle.clone_core.specs.declared.answers.Covering.{Covering}
-use Rattle.clone_core.specs.declared.answers.Covering.TheVariants as covering
-use Rattle.clone_core.specs.declared.answers.Done.{Done}
-use Rattle.clone_core.specs.declared.answers.Done.TheVariants as done
-use Rattle.clone_core.specs.declared.answers.Got.{Got}
-use Rattle.clone_core.specs.declared.answers.Got.TheVariants as got
-use Rattle.clone_core.specs.declared.faults.ReceiveFault.{ReceiveFault}
-use Rattle.clone_core.specs.declared.faults.ReceiveFault.TheVariants as fault
-
--- the effect deletes pairs that the clone has
-abbrev pub DeletesOwn : LocalClone → EffectValue → Type 0
-DeletesOwn clone effect = (pair : Tagged) → Has effect.deletes pair → Has clone.pairs pair
-
--- what became of an update: its effect changes nothing, and nothing was done; or the clone made the operation of it
-abbrev pub LocallyUpdates : LocalClone → EffectValue → Done → LocalClone → Type 0
-LocallyUpdates old effect done.Nothing new = ChangesNothing effect × (new ≡ old)
-LocallyUpdates old effect (done.Made entry) new = ¬ ChangesNothing effect × LocallyMakes old effect new entry
+use Rattle.clone_answers.specs.declared.answers.Covering.{Covering}
+use Rattle.clone_answers.specs.declared.answers.Covering.TheVariants as covering
+use Rattle.clone_answers.specs.declared.answers.Got.{Got}
+use Rattle.clone_answers.specs.declared.answers.Got.TheVariants as got
+use Rattle.clone_answers.specs.declared.faults.ReceiveFault.{ReceiveFault}
+use Rattle.clone_answers.specs.declared.faults.ReceiveFault.TheVariants as fault
 
 -- what became of an entry: it was known; or it was taken with those that it released, whose ranges are told; or it is held, where it is
 -- neither known nor ready

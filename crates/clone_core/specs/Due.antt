@@ -3,16 +3,11 @@ use Rattle.std.specs.Prelude.{◌≡◌, ◌≢◌, ◌<◌, ◌-◌, ◌^◌, �
 use Rattle.tree_clock.specs.Limits.{path_limit}
 use Rattle.mld_ops.specs.declared.messages.Message.{Message}
 use Rattle.mld_ops.specs.declared.messages.Message.TheVariants as message
-use Rattle.mld_ops.specs.Effects.{EffectValue, ChangesNothing}
 use Rattle.mld_ops.specs.Entry.{EntryValue}
 use Rattle.mld_ops.specs.Messages.{SnapshotValue, snapshot_value}
 use Rattle.mld_ops.specs.Ready.{IsReadyEntry}
 use Rattle.mld_model.specs.Local.{LocalClone, IsForeign, IsForeignSnapshot, KnowsSnapshot}
 use Rattle.clone_core.specs.Banked.{BankedClone}
-
--- an update has an operation to append: its effect changes something
-abbrev pub IsDueUpdate : EffectValue → Type 0
-IsDueUpdate effect = ¬ ChangesNothing effect
 
 -- an entry is taken: it isn't foreign, and it is ready, so it isn't known
 pub record IsDueEntry (clone : LocalClone) (entry : EntryValue) : Type 0 where

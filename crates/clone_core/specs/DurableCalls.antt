@@ -15,18 +15,20 @@ use Rattle.journal_sides.specs.Pairs.{Keeps, KeepsNone}
 use Rattle.journal_store.specs.Closing.{StaysTold}
 use Rattle.journal_store.specs.declared.faults.Why.{Why}
 use Rattle.journal_store.specs.declared.faults.Why.TheVariants as why
+use Rattle.jrql_ast.specs.declared.plans.UpdatePlan.{UpdatePlan}
 use Rattle.mld_model.specs.Local.{LocalClone, LocallyAccepts, LocallyMerges, next_dot}
 use Rattle.clone_plans.specs.Making.{IsEntryOf}
 use Rattle.clone_banks.specs.KeptSteps.{KeptStep, Created, Appended, Forked, Swapped, appends, calls_of_all, LeavesSome}
 use Rattle.clone_core.specs.Banked.{BankedClone, head_of, kept_as}
 use Rattle.clone_core.specs.CloneClosing.{update_stop, receive_stop, keep_stop}
-use Rattle.clone_core.specs.declared.answers.Done.{Done}
-use Rattle.clone_core.specs.declared.answers.Done.TheVariants as done
-use Rattle.clone_core.specs.declared.answers.Got.{Got}
-use Rattle.clone_core.specs.declared.answers.Got.TheVariants as got
-use Rattle.clone_core.specs.declared.faults.KeepFault.{KeepFault}
-use Rattle.clone_core.specs.declared.faults.ReceiveFault.{ReceiveFault}
-use Rattle.clone_core.specs.declared.faults.UpdateFault.{UpdateFault}
+use Rattle.clone_core.specs.CloneUpdates.{IsDueUpdate}
+use Rattle.clone_answers.specs.declared.answers.Done.{Done}
+use Rattle.clone_answers.specs.declared.answers.Done.TheVariants as done
+use Rattle.clone_answers.specs.declared.answers.Got.{Got}
+use Rattle.clone_answers.specs.declared.answers.Got.TheVariants as got
+use Rattle.clone_answers.specs.declared.faults.KeepFault.{KeepFault}
+use Rattle.clone_answers.specs.declared.faults.ReceiveFault.{ReceiveFault}
+use Rattle.clone_answers.specs.declared.faults.UpdateFault.{UpdateFault}
 
 -- where there are no changes the banks are as they were; else at each moment a crash leaves the old clone after a front of the changes
 abbrev pub LeavesFronts : {B : Type 0} → (B → Option Log) → (B → Meter) → List KeptStep → BankedClone B → B → Type 0
@@ -50,15 +52,27 @@ RefusedSteps Would (Some why.NoMemory) steps = (steps ≡ []) ⊎ Would steps
 
 -- ---- an update
 
--- the append of the entry of the operation which the clone would make next, of this effect
+-- the append of the entry of the operation of an effect, which the clone would make next
 abbrev pub AppendsOwn : LocalClone → EffectValue → List KeptStep → Type 0
 AppendsOwn old effect steps = (entry : EntryValue) × IsEntryOf old.ticks (next_dot old) effect entry × (steps ≡ Appended entry ∷ [])
 
--- those of an update: the append of the operation that was made
-abbrev pub UpdateSteps : LocalClone → EffectValue → Result Done UpdateFault → List KeptStep → Type 0
-UpdateSteps old effect (Ok done.Nothing) steps = steps ≡ []
-UpdateSteps old effect (Ok (done.Made entry)) steps = steps ≡ Appended entry ∷ []
-UpdateSteps old effect (Err refused) steps = RefusedSteps (AppendsOwn old effect) (update_stop refused) steps
+-- that of the effect of a plan
+pub record AppendsPlanned (old : LocalClone) (plan : UpdatePlan) (steps : List KeptStep) : Type 0 where
+  pub due : IsDueUpdate old plan
+  pub appends : AppendsOwn old due.effect steps
+
+-- those of a local change: the append of the operation that was made, or of the one that would have been (`Would`)
+abbrev pub OwnSteps : (List KeptStep → Type 0) → Result Done UpdateFault → List KeptStep → Type 0
+OwnSteps Would (Ok done.Nothing) steps = steps ≡ []
+OwnSteps Would (Ok (done.Made entry)) steps = steps ≡ Appended entry ∷ []
+OwnSteps Would (Err refused) steps = RefusedSteps Would (update_stop refused) steps
+
+-- those of an effect, and those of an update
+abbrev pub EffectSteps : LocalClone → EffectValue → Result Done UpdateFault → List KeptStep → Type 0
+EffectSteps old effect result steps = OwnSteps (AppendsOwn old effect) result steps
+
+abbrev pub UpdateSteps : LocalClone → UpdatePlan → Result Done UpdateFault → List KeptStep → Type 0
+UpdateSteps old plan result steps = OwnSteps (AppendsPlanned old plan) result steps
 
 -- ---- a message
 

@@ -15,10 +15,10 @@ use Rattle.clone_core.specs.Banked.{BankedAsker}
 use Rattle.clone_core.specs.CloneClosing.{GivesBanksBack}
 use Rattle.clone_core.specs.declared.askers.Adopted.{Adopted}
 use Rattle.clone_core.specs.declared.askers.Adopted.TheVariants as adopted
-use Rattle.clone_core.specs.declared.answers.Got.{Got}
-use Rattle.clone_core.specs.declared.answers.Got.TheVariants as got
-use Rattle.clone_core.specs.declared.faults.ReceiveFault.{ReceiveFault}
-use Rattle.clone_core.specs.declared.faults.ReceiveFault.TheVariants as fault
+use Rattle.clone_answers.specs.declared.answers.Got.{Got}
+use Rattle.clone_answers.specs.declared.answers.Got.TheVariants as got
+use Rattle.clone_answers.specs.declared.faults.ReceiveFault.{ReceiveFault}
+use Rattle.clone_answers.specs.declared.faults.ReceiveFault.TheVariants as fault
 
 -- ---- giving
 

@@ -1,7 +1,7 @@
 pub mod Banked
 pub mod FoundClone
 pub mod CloneCalls
-pub mod CloneFaults
+pub mod CloneUpdates
 pub mod CloneClosing
 pub mod Due
 pub mod DurableCalls

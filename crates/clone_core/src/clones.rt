@@ -3,22 +3,20 @@ ghost use Rattle.std.specs.Prelude.{◌≡◌, MatchOption};
 ghost use Rattle.clone_core.specs.CloneCalls.{HasRange, LacksRange};
 ghost use Rattle.clone_plans.specs.Plans.{left_of};
 
-use crate::answers::{Covering, Done, Got};
-use crate::faults::{ReceiveFault, UpdateFault};
 use causal_buffer::{Held, HeldFault, is_known, is_ready};
+use clone_answers::{Covering, Got, ReceiveFault};
 use clone_banks::{append_entries, append_fork, create, push_all};
-use clone_plans::{Replayed, entry_of_effect, prepare_own, prepare_plan};
+use clone_plans::{Replayed, prepare_plan};
 use graph_index::Graph;
 use iri_rules::Text;
 use journal_store::{Blank, Head, Journal, MakeFault, Why};
 use mld_io::{Banks, CrashBanks, Leave};
-use mld_ops::{Effect, Entry, Give, Message, Messages, Snapshot, Tagged, kept_properties};
-use rdf_terms::{Iri, Triple};
+use mld_ops::{Entry, Give, Message, Messages, Snapshot, Tagged, kept_properties};
+use rdf_terms::Iri;
 use std::alloc::{AllocError, Global};
 use std::marker::Model;
-use std::slice;
 use std::thread::Threads;
-use tree_clock::{Clock, Dot, Leaf, PATH_LIMIT, Path, Range, TICK_LIMIT};
+use tree_clock::{Clock, Leaf, PATH_LIMIT, Path, Range};
 use uuid::Uuid;
 
 /// A clone on its banks: its id, domain, single-valued properties and leaf; the clock and the pairs of its base; its clock, the entries
@@ -55,31 +53,26 @@ impl<B: Banks> MldClone<B> {
     ghost use Rattle.std.specs.Prelude.{◌≡◌, ◌≢◌, ◌<◌, ◌↔◌, ◌∷◌, [], ℕ, List, true, false, length, None, Some, IsTrue, IfOk, IfErr, IsOk, OnOk, OnErr, IsErrOf, MatchOption};
     ghost use Rattle.mld_io.specs.Disk.{Log};
     ghost use Rattle.journal_sides.specs.Heads.{head_value};
-    ghost use Rattle.journal_store.specs.Closing.{IsMade};
     ghost use Rattle.journal_store.specs.declared.faults.Why.{Why};
     ghost use Rattle.clone_banks.specs.KeptSteps.{KeptStep};
     ghost use Rattle.clone_core.specs.Banked.{IsOnBanks, KeepsClone, head_of};
     ghost use Rattle.clone_core.specs.FoundClone.{begun_clone, found_clone};
-    ghost use Rattle.clone_core.specs.CloneClosing.{StaysOpen, LeavesClone, update_stop, receive_stop, banks_of_made, FailsToFound, GivesBanksBack};
-    ghost use Rattle.clone_core.specs.DurableCalls.{Changes, Creates, UpdateSteps, MessageSteps};
-    ghost use Rattle.clone_core.specs.Due.{IsDueUpdate, IsDueEntry, IsDueAsk, IsDueMessage, IsSwapDue, IsMessageSpent};
-    ghost use Rattle.clone_core.specs.Joining.{LocallyGives, AreGood, AnswersGood, RefusesAsk};
+    ghost use Rattle.clone_core.specs.CloneClosing.{StaysOpen, LeavesClone, receive_stop, banks_of_made, FailsToFound, GivesBanksBack};
+    ghost use Rattle.clone_core.specs.DurableCalls.{Changes, Creates, MessageSteps};
+    ghost use Rattle.clone_core.specs.Due.{IsDueEntry, IsDueAsk, IsDueMessage, IsSwapDue, IsMessageSpent};
+    ghost use Rattle.clone_core.specs.Joining.{AnswersGood, RefusesAsk};
     ghost use Rattle.iri_rules.specs.Domain.{is_domain};
     ghost use Rattle.rdf_terms.specs.Order.{iri_cmp};
     ghost use Rattle.mld_ops.specs.declared.messages.Message.TheVariants as kinds;
-    ghost use Rattle.mld_ops.specs.Effects.{ArePairsOf};
     ghost use Rattle.mld_ops.specs.Messages.{snapshot_value, message_value, IsGoodSnapshot, IsGoodMessage};
     ghost use Rattle.mld_ops.specs.Properties.{AreKept};
-    ghost use Rattle.clone_core.specs.CloneCalls.{LocallyUpdates, DeletesOwn, LocallyReceives, ReceivesEntry, RefusesEntry, ReceivesAsk, Refuses, covering_reply, HasRange, LacksRange};
-    ghost use Rattle.clone_plans.specs.Making.{IsNextEntry};
-    ghost use Rattle.clone_core.specs.CallParts.{StopsClone, StopsOpen, MakeSteps, MakesDone, IsFullAt, BeginsJournal};
+    ghost use Rattle.clone_core.specs.CloneCalls.{LocallyReceives, ReceivesEntry, RefusesEntry, ReceivesAsk, Refuses, covering_reply, HasRange, LacksRange};
+    ghost use Rattle.clone_core.specs.CallParts.{StopsClone, StopsOpen, IsFullAt, BeginsJournal};
     ghost use Rattle.clone_core.specs.Merging.{StaysOpenBy};
     ghost use Rattle.mld_model.specs.Comparing.{ClocksCompare};
-    ghost use Rattle.mld_model.specs.Local.{IsLocal, IsNamed, blank_clone, joined_clone, snapshot_of, next_dot, LocallyMakes, LocallyAccepts, LocallyHolds, IsForeign};
-    ghost use Rattle.mld_ops.specs.Ready.{IsReadyEntry};
+    ghost use Rattle.mld_model.specs.Local.{IsLocal, IsNamed, blank_clone, snapshot_of, LocallyHolds, IsForeign};
     ghost use Rattle.mld_ops.specs.Tagged.{tagged_cmp};
-    ghost use Rattle.tree_clock.specs.Clock.{ticks_of, IsClock};
-    ghost use Rattle.tree_clock.specs.Limits.{path_limit, tick_limit};
+    ghost use Rattle.tree_clock.specs.Clock.{IsClock};
     ghost use Rattle.tree_clock.specs.Lists.{IsAscending};
 
     /// The first clone of a domain, at the root path, which keeps these properties in order. It knows nothing. Its banks keep it from
@@ -268,13 +261,6 @@ impl<B: Banks> MldClone<B> {
         self.pairs.to_list(alloc)
     }
 
-    /// The clone's pairs of a triple, ascending.
-    pub fn pairs_of(&self, alloc: Global, triple: &Triple) -> Result<Vec<Tagged>, AllocError>
-        ensures { IfOk result (λ found. ArePairsOf triple.now self.now.local.pairs found.items) }
-    {
-        self.pairs().of_triple(alloc, triple)
-    }
-
     /// The entry of the journal that has this very range.
     pub fn entry_of(&self, range: &Range) -> Option<&Entry>
         ensures { MatchOption result (LacksRange self.now.local.entries range.now) (λ entry. HasRange self.now.local.entries range.now entry.now) }
@@ -309,86 +295,6 @@ impl<B: Banks> MldClone<B> {
             (false, true) => Covering::More,
             (false, false) => Covering::Apart,
         }
-    }
-
-    /// Makes the operation of an effect, unless this changes nothing: the effect deletes pairs that the clone has. Its entry is appended to
-    /// the journal on the banks before it is handed out.
-    ///
-    /// # Errors
-    ///
-    /// In this order: `Closed` where an earlier call closed the clone; `TicksSpent` where its path has no tick left; `Device` where the
-    /// device failed, which closes the clone. `NoMemory` leaves it as it was, or closes it where a call of the device was done. After the
-    /// others it is as it was.
-    pub fn update(&mut self, alloc: Global, effect: &Effect) -> Result<Done, UpdateFault>
-        requires { DeletesOwn self.old.local effect.now }
-        ensures ok { IfOk result (λ done. LocallyUpdates self.old.local effect.now done self.new.local) }
-        ensures opened { OnOk result (StaysOpen self.old self.new) }
-        ensures closed { (why : Why) → IsErrOf result (UpdateFault.Closed why) ↔ (self.old.closed ≡ Some why) }
-        ensures spent { IsErrOf result UpdateFault.TicksSpent
-            ↔ ((self.old.closed ≡ None) × (ticks_of self.old.local.ticks self.old.local.path ≡ tick_limit)) }
-        ensures left { IfErr result (λ fault.
-            LeavesClone B.log B.meter (IsDueUpdate effect.now) ⊥ self.old self.new (update_stop fault)) }
-        ensures durable { (steps : List KeptStep) × UpdateSteps self.old.local effect.now result steps
-            × Changes B.log B.meter steps self.old self.new.banks (IsOk result) (IsErrOf result UpdateFault.Device) }
-    {
-        if let Some(why) = self.is_closed() {
-            return Err(UpdateFault::Closed { why });
-        }
-        let path = self.path();
-        let tick = self.known().ticks(&path);
-        if tick == TICK_LIMIT {
-            return Err(UpdateFault::TicksSpent);
-        }
-        let dot = Dot {
-            path,
-            tick: tick + 1,
-        };
-        if effect.is_empty() {
-            return Ok(Done::Nothing);
-        }
-        self.make_by(alloc, &dot, effect)
-    }
-
-    // Makes the operation of an effect, which changes something, at the next dot.
-    fn make_by(&mut self, alloc: Global, dot: &Dot, effect: &Effect) -> Result<Done, UpdateFault>
-        requires opened { self.old.closed ≡ None }
-        requires dot { dot.now ≡ next_dot self.old.local }
-        requires own { DeletesOwn self.old.local effect.now }
-        requires due { IsDueUpdate effect.now }
-        ensures ok { IfOk result (λ done. LocallyUpdates self.old.local effect.now done self.new.local) }
-        ensures opened { OnOk result (StaysOpen self.old self.new) }
-        ensures err { IfErr result (λ fault. StopsClone B.log B.meter (IsDueUpdate effect.now) ⊥ self.old self.new (update_stop fault)) }
-        ensures durable { (steps : List KeptStep) × UpdateSteps self.old.local effect.now result steps
-            × Changes B.log B.meter steps self.old self.new.banks (IsOk result) (IsErrOf result UpdateFault.Device) }
-    {
-        let entry = entry_of_effect(alloc, self.known(), dot, effect)?;
-        self.make(alloc, dot, entry)
-    }
-
-    // Takes the entry of an operation of the clone's own, once all room is made and the entry is appended, and hands out a copy.
-    fn make(&mut self, alloc: Global, dot: &Dot, entry: Entry) -> Result<Done, UpdateFault>
-        requires opened { self.old.closed ≡ None }
-        requires dot { dot.now ≡ next_dot self.old.local }
-        requires next { IsNextEntry self.old.local.ticks dot.now entry }
-        ensures ok { IfOk result (MakesDone self.old.local entry self.new.local) }
-        ensures opened { OnOk result (StaysOpen self.old self.new) }
-        ensures err { IfErr result (λ fault. StopsClone B.log B.meter (Unit {0}) ⊥ self.old self.new (update_stop fault)) }
-        ensures durable { (steps : List KeptStep) × MakeSteps entry result steps
-            × Changes B.log B.meter steps self.old self.new.banks (IsOk result) (IsErrOf result UpdateFault.Device) }
-    {
-        let made = entry.copy_in(alloc)?;
-        let cut = prepare_own(
-            alloc,
-            &mut self.clock,
-            &mut self.entries,
-            &mut self.pairs,
-            &entry,
-        )?;
-        append_entries(&mut self.journal, slice::from_ref(&entry))?;
-        self.clock.raise(dot);
-        self.pairs.apply(cut);
-        self.entries.push_reserved(entry);
-        Ok(Done::Made(made))
     }
 
     /// Takes an entry that is ready, and then those held back that this releases; or holds it back. Forks the leaf for who asks for one.

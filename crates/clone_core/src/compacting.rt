@@ -1,6 +1,6 @@
 //! Compacting a clone's journal, in memory and on its banks.
 use crate::clones::MldClone;
-use crate::faults::KeepFault;
+use clone_answers::KeepFault;
 use clone_banks::swap_kept;
 use journal_store::Head;
 use mld_io::Banks;

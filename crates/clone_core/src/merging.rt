@@ -1,7 +1,6 @@
 //! Merging a snapshot into a clone, in memory and on its banks.
-use crate::answers::Got;
 use crate::clones::{MldClone, replace_held};
-use crate::faults::ReceiveFault;
+use clone_answers::{Got, ReceiveFault};
 use clone_banks::{replace_base, swap_and_append};
 use clone_plans::{Merge, prepare_merge};
 use mld_io::Banks;

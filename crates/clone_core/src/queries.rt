@@ -1,42 +1,10 @@
 //! Queries: what a clone answers over the triples that are present for it.
 use crate::clones::MldClone;
-use journal_store::Why;
+use clone_answers::QueryFault;
 use jrql_ast::{Answer, Query, What};
-use jrql_eval::{EvalFault, describe, select};
+use jrql_eval::{describe, select};
 use mld_io::Banks;
 use std::alloc::Global;
-use thiserror::Error;
-
-/// Why a query wasn't answered.
-#[derive(Clone, Copy, Debug, PartialEq, Eq, Error)]
-pub enum QueryFault {
-    /// An earlier call closed the clone.
-    #[error("the clone is closed")]
-    Closed {
-        /// Why it did.
-        why: Why,
-    },
-    /// The query has more than 1,048,576 solutions.
-    #[error("more than 1,048,576 solutions")]
-    TooMany,
-    /// Memory ran out.
-    #[error("out of memory")]
-    NoMemory,
-}
-
-impl From<EvalFault> for QueryFault {
-    ghost use Rattle.std.specs.Prelude.{◌≡◌};
-    ghost use Rattle.clone_core.specs.CloneFaults.{query_fault_of};
-
-    ghost from_gives = { λ fault refused. refused ≡ query_fault_of fault };
-
-    fn from(fault: EvalFault) -> QueryFault {
-        match fault {
-            EvalFault::TooMany => QueryFault::TooMany,
-            EvalFault::NoMemory => QueryFault::NoMemory,
-        }
-    }
-}
 
 impl<B: Banks> MldClone<B> {
     ghost use Rattle.std.specs.Prelude.{◌≡◌, ◌↔◌, ◌<◌, ◌≤◌, Some, length, IfOk, IsErrOf};

@@ -1,6 +1,6 @@
 //! Truncating a clone's journal, in memory and on its banks.
 use crate::clones::MldClone;
-use crate::faults::KeepFault;
+use clone_answers::KeepFault;
 use clone_banks::{drop_front, replace_base, swap_kept};
 use clone_plans::{led_to, tell_clock};
 use mld_io::Banks;

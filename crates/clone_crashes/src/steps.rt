@@ -6,7 +6,8 @@ use crate::lines::cut_word;
 use crate::messages::{range, second, snapshot, triple_of};
 use clone_core::{Done, KeepFault, MldClone, ReceiveFault, UpdateFault};
 use disk_model::MemoryBanks;
-use mld_ops::{Effect, Message};
+use jrql_ast::UpdatePlan;
+use mld_ops::Message;
 use std::alloc::Global;
 use std::thread::Threads;
 
@@ -43,16 +44,14 @@ pub fn do_steps<R: Threads>(
 
 /// Makes the update that inserts a triple.
 fn add(alloc: Global, clone: &mut TestClone, name: &str) -> Tried<()> {
-    let effect = Effect::insertion(alloc, triple_of(alloc, name)?)?;
-    updated(clone.update(alloc, &effect))
+    let plan = UpdatePlan::insertion(alloc, triple_of(alloc, name)?)?;
+    updated(clone.update(alloc, &plan))
 }
 
-/// Makes the update that deletes the pairs of a triple.
+/// Makes the update that deletes a triple.
 fn remove(alloc: Global, clone: &mut TestClone, name: &str) -> Tried<()> {
-    let triple = triple_of(alloc, name)?;
-    let pairs = clone.pairs_of(alloc, &triple)?;
-    let effect = Effect::deletion(alloc, pairs);
-    updated(clone.update(alloc, &effect))
+    let plan = UpdatePlan::deletion(alloc, triple_of(alloc, name)?)?;
+    updated(clone.update(alloc, &plan))
 }
 
 /// How an update ended.

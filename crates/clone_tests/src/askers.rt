@@ -4,7 +4,7 @@ ghost use Rattle.std.specs.Prelude.{IfOk};
 ghost use Rattle.mld_ops.specs.Messages.{message_value, IsGoodMessage};
 
 use crate::made::{TestAsker, TestClone, Word, are_given, asker, clock, parts, set};
-use clone_core::{Adopted, UpdateFault};
+use clone_core::Adopted;
 use disk_model::MemoryBanks;
 use journal_store::MakeFault;
 use mld_io::Leave;
@@ -58,7 +58,7 @@ fn uses_the_last_tick(clone: &mut TestClone, alloc: Global) -> bool {
     clone.base().ticks(&Path::root()) == 4_294_967_294
         && set(clone, alloc, true) == Word::Made(4_294_967_295)
         && parts(clone) == (1, 0, 1, 4_294_967_295)
-        && set(clone, alloc, false) == Word::NotSet(UpdateFault::TicksSpent)
+        && set(clone, alloc, false) == Word::SetSpent
         && parts(clone) == (1, 0, 1, 4_294_967_295)
 }
 

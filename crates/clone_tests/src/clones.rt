@@ -1,6 +1,6 @@
 //! A clone's parts, a foreign use of its leaf, and a device that fails.
 use crate::made::{TestClone, Word, are_given, first, parts, receive, set};
-use clone_core::{ReceiveFault, UpdateFault};
+use clone_core::ReceiveFault;
 use journal_store::Why;
 use mld_io::Leave;
 use std::alloc::Global;
@@ -70,7 +70,7 @@ fn tells_a_foreign_use<R: Threads>(clone: &mut TestClone, rt: &R, alloc: Global)
 /// Whether it refuses an add where the third call of the device fails, and is closed, with all that it had.
 fn is_closed_by_a_fault(clone: &mut TestClone, alloc: Global) -> bool {
     clone.arm(2, Leave::Lose);
-    set(clone, alloc, true) == Word::NotSet(UpdateFault::Device)
+    set(clone, alloc, true) == Word::SetFailed
         && clone.is_closed() == Some(Why::Device)
         && parts(clone) == (1, 0, 1, 1)
 }
@@ -78,7 +78,7 @@ fn is_closed_by_a_fault(clone: &mut TestClone, alloc: Global) -> bool {
 /// Whether it refuses to add and to take since its device failed, and is as it was.
 fn stays_closed<R: Threads>(clone: &mut TestClone, rt: &R, alloc: Global) -> bool {
     let why = Why::Device;
-    set(clone, alloc, true) == Word::NotSet(UpdateFault::Closed { why })
+    set(clone, alloc, true) == Word::SetClosed(why)
         && receive(clone, rt, alloc, range(right(), 1, 1))
             == Word::NotTaken(ReceiveFault::Closed { why })
         && parts(clone) == (1, 0, 1, 1)

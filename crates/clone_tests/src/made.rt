@@ -1,13 +1,15 @@
 //! The clones that tests work on, in boxes, which are let go in one step; and what they do, on loans and in plain words.
 ghost use Rattle.std.specs.Prelude.{IfOk, IsTrue};
 ghost use Rattle.iri_rules.specs.Domain.{is_domain};
+ghost use Rattle.jrql_ast.specs.InForm.{IsPlanInForm};
 ghost use Rattle.mld_ops.specs.Messages.{message_value, IsGoodMessage};
 
 use clone_core::{Asker, Done, Got, MldClone, Mounted, ReceiveFault, UpdateFault};
 use disk_model::MemoryBanks;
 use iri_rules::{Text, is_domain};
-use journal_store::Blank;
-use mld_ops::{Effect, Entry, Message};
+use journal_store::{Blank, Why};
+use jrql_ast::UpdatePlan;
+use mld_ops::{Entry, Message};
 use rdf_terms::{Iri, Triple, read_triple};
 use std::alloc::{AllocError, Global};
 use std::test::Fail;
@@ -36,7 +38,12 @@ pub enum Word {
     Took(usize),
     Held,
     Known,
-    NotSet(UpdateFault),
+    /// No operation was made, since the clone is closed.
+    SetClosed(Why),
+    /// So it was since no tick is left.
+    SetSpent,
+    /// And so since the device failed.
+    SetFailed,
     NotTaken(ReceiveFault),
     /// Another answer, or none, since what was to be handed to the clone could not be made.
     Other,
@@ -46,7 +53,10 @@ fn word_of_done(done: Result<Done, UpdateFault>) -> Word {
     match done {
         Ok(Done::Made(entry)) => Word::Made(entry.range().last),
         Ok(Done::Nothing) => Word::Other,
-        Err(fault) => Word::NotSet(fault),
+        Err(UpdateFault::Closed { why }) => Word::SetClosed(why),
+        Err(UpdateFault::TicksSpent) => Word::SetSpent,
+        Err(UpdateFault::Device) => Word::SetFailed,
+        Err(_fault) => Word::Other,
     }
 }
 
@@ -68,31 +78,26 @@ pub fn set(clone: &mut TestClone, alloc: Global, present: bool) -> Word {
     }
 }
 
-/// Makes the update that inserts a triple, or the one that deletes its pairs.
+/// Makes the update that inserts a triple, or the one that deletes it.
 fn set_to(
     clone: &mut TestClone,
     alloc: Global,
     triple: Triple,
     present: bool,
 ) -> Result<Done, UpdateFault> {
+    let plan = plan_of(alloc, triple, present)?;
+    clone.update(alloc, &plan)
+}
+
+/// The plan that inserts a triple, or the one that deletes it.
+fn plan_of(alloc: Global, triple: Triple, present: bool) -> Result<UpdatePlan, AllocError>
+    ensures { IfOk result IsPlanInForm }
+{
     if present {
-        add(clone, alloc, triple)
+        UpdatePlan::insertion(alloc, triple)
     } else {
-        remove(clone, alloc, &triple)
+        UpdatePlan::deletion(alloc, triple)
     }
-}
-
-/// Makes the update that inserts a triple.
-fn add(clone: &mut TestClone, alloc: Global, triple: Triple) -> Result<Done, UpdateFault> {
-    let effect = Effect::insertion(alloc, triple)?;
-    clone.update(alloc, &effect)
-}
-
-/// Makes the update that deletes the pairs of a triple.
-fn remove(clone: &mut TestClone, alloc: Global, triple: &Triple) -> Result<Done, UpdateFault> {
-    let pairs = clone.pairs_of(alloc, triple)?;
-    let effect = Effect::deletion(alloc, pairs);
-    clone.update(alloc, &effect)
 }
 
 /// What a clone answers to the entry of a range that deletes and inserts nothing.

@@ -11,14 +11,14 @@ use Rattle.clone_banks.specs.Appending.{MayAppendAll}
 use Rattle.clone_banks.specs.BankCalls.{append_calls}
 use Rattle.clone_banks.specs.KeptSteps.{KeptStep, Appended}
 use Rattle.clone_core.specs.Banked.{BankedClone}
-use Rattle.clone_core.specs.CloneFaults.{update_fault_of}
+use Rattle.clone_answers.specs.CloneFaults.{update_fault_of}
 use Rattle.clone_plans.specs.Making.{IsNextEntry}
 use Rattle.clone_core.specs.CallParts.{MakesDone}
 use Rattle.clone_core.specs.View.{local_of}
-use Rattle.clone_core.specs.declared.answers.Done.{Done}
-use Rattle.clone_core.specs.declared.answers.Done.TheVariants as done
-use Rattle.clone_core.specs.declared.faults.UpdateFault.{UpdateFault}
-use Rattle.clone_core.specs.declared.faults.UpdateFault.TheVariants as update
+use Rattle.clone_answers.specs.declared.answers.Done.{Done}
+use Rattle.clone_answers.specs.declared.answers.Done.TheVariants as done
+use Rattle.clone_answers.specs.declared.faults.UpdateFault.{UpdateFault}
+use Rattle.clone_answers.specs.declared.faults.UpdateFault.TheVariants as update
 use Rattle.clone_core.proofs.AppendLaws.{own_may, taken_on_banks, refused_on_banks}
 use Rattle.clone_core.proofs.DurableLaws.{changes_none, appends_made, done_metered, stopped_metered, update_tells, update_would}
 use Rattle.clone_core.proofs.StopLaws.{update_stops}

@@ -5,13 +5,12 @@ use Rattle.tree_clock.specs.Clock.{ticks_of, Covers}
 use Rattle.mld_model.specs.Local.{next_dot}
 use Rattle.clone_plans.specs.Making.{IsEntryOf, IsNextEntry}
 use Rattle.clone_plans.proofs.MakingLaws.{next_entry}
-use Rattle.clone_core.specs.CloneCalls.{LocallyUpdates}
+use Rattle.clone_core.specs.CloneUpdates.{IsMakeable, LocallyUpdates}
 use Rattle.clone_core.specs.CloneClosing.{update_stop}
-use Rattle.clone_core.specs.Due.{IsDueUpdate}
 use Rattle.clone_core.specs.CallParts.{MakesDone, StopsClone}
 use Rattle.clone_core.proofs.DurableLaws.{changes_none, makes_update}
 use Rattle.clone_core.proofs.StopLaws.{stops_due}
-use Rattle.clone_core.proofs.Updating.{updates_as}
+use Rattle.clone_core.proofs.OwnUpdates.{updates_as}
 use Rattle.clone_core.proofs.clones.MldClone.make_by.Goals as goal
 
 pub entry_of_effect-requires-clause-tick : goal.entry_of_effect-requires-clause-tick
@@ -21,7 +20,7 @@ entry_of_effect-requires-clause-tick g c =
 
 pub entry_of_effect-requires-clause-deletes : goal.entry_of_effect-requires-clause-deletes
 entry_of_effect-requires-clause-deletes g c = λ pair h.
-    subst (λ ts. Covers ts pair.dot) (sym c.known.ensures.ticks) (c.known.ensures.local.covered pair (c.requires.own pair h))
+    subst (λ ts. Covers ts pair.dot) (sym c.known.ensures.ticks) (c.known.ensures.local.covered pair (c.requires.may.own pair h))
 
 pub make-requires-clause-next : goal.make-requires-clause-next
 make-requires-clause-next g c =
@@ -48,13 +47,13 @@ returns-clause-ok g c =
     let entry = c.in_ok-entry.entry in
     let is = subst (λ ts. IsEntryOf ts c.args.dot.now effect entry) c.known.ensures.ticks c.in_ok-entry.ensures in
     IfOk-weaker c.make.result (MakesDone old entry c.make.new.self.local) (λ made. LocallyUpdates old effect made c.make.new.self.local)
-    (λ made h. updates_as old effect c.args.dot.now entry c.make.new.self.local made c.requires.dot c.requires.due is h)
+    (λ made h. updates_as old effect c.args.dot.now entry c.make.new.self.local made c.requires.dot c.requires.may is h)
     c.make.ensures.ok
 
 pub returns-clause-err : goal.returns-clause-err
 returns-clause-err g c =
     let effect = c.args.effect.now in
     IfErr-weaker c.make.result (λ fault. StopsClone g.B.Banks.log g.B.Banks.meter (Unit {0}) ⊥ c.args.self.now c.make.new.self (update_stop fault))
-    (λ fault. StopsClone g.B.Banks.log g.B.Banks.meter (IsDueUpdate effect) ⊥ c.args.self.now c.make.new.self (update_stop fault))
-    (λ fault h. stops_due g.B.Banks.log g.B.Banks.meter (IsDueUpdate effect) c.args.self.now c.make.new.self (update_stop fault) c.requires.due h)
+    (λ fault. StopsClone g.B.Banks.log g.B.Banks.meter (IsMakeable c.args.self.now.local effect) ⊥ c.args.self.now c.make.new.self (update_stop fault))
+    (λ fault h. stops_due g.B.Banks.log g.B.Banks.meter (IsMakeable c.args.self.now.local effect) c.args.self.now c.make.new.self (update_stop fault) c.requires.may h)
     c.make.ensures.err

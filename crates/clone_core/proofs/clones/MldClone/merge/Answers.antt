@@ -16,14 +16,14 @@ use Rattle.clone_banks.specs.BankCalls.{append_calls, swap_calls}
 use Rattle.clone_banks.specs.KeptSteps.{Swapped, appends}
 use Rattle.clone_banks.proofs.Appended.{appends_calls}
 use Rattle.clone_core.specs.Banked.{BankedClone, head_over}
-use Rattle.clone_core.specs.CloneFaults.{receive_fault_of_swap}
+use Rattle.clone_answers.specs.CloneFaults.{receive_fault_of_swap}
 use Rattle.clone_core.specs.CloneClosing.{receive_stop}
 use Rattle.clone_core.specs.DurableCalls.{WouldReceive}
 use Rattle.clone_core.specs.View.{local_of}
-use Rattle.clone_core.specs.declared.answers.Got.{Got}
-use Rattle.clone_core.specs.declared.answers.Got.TheVariants as got
-use Rattle.clone_core.specs.declared.faults.ReceiveFault.{ReceiveFault}
-use Rattle.clone_core.specs.declared.faults.ReceiveFault.TheVariants as receive
+use Rattle.clone_answers.specs.declared.answers.Got.{Got}
+use Rattle.clone_answers.specs.declared.answers.Got.TheVariants as got
+use Rattle.clone_answers.specs.declared.faults.ReceiveFault.{ReceiveFault}
+use Rattle.clone_answers.specs.declared.faults.ReceiveFault.TheVariants as receive
 use Rattle.clone_core.proofs.AppendLaws.{keeps_some, swapped_on_banks, unswapped_on_banks}
 use Rattle.clone_core.proofs.DurableLaws.{changes_none, changes_made, done_metered, merge_tells, swap_refused}
 use Rattle.clone_core.proofs.Merged.{released_ready, merged_clone, merged_is_local, merged_step, spent_as}

@@ -10,12 +10,12 @@ use Rattle.journal_store.specs.declared.faults.SwapFault.TheVariants as swap
 use Rattle.clone_plans.specs.Replays.{AreReadyEntries}
 use Rattle.clone_banks.specs.BankCalls.{swap_calls}
 use Rattle.clone_banks.specs.KeptSteps.{KeptStep, Swapped}
-use Rattle.clone_core.specs.CloneFaults.{keep_fault_of}
+use Rattle.clone_answers.specs.CloneFaults.{keep_fault_of}
 use Rattle.clone_core.specs.CloneClosing.{keep_stop}
 use Rattle.clone_core.specs.DurableCalls.{SwapsTo}
 use Rattle.clone_core.specs.View.{local_of}
-use Rattle.clone_core.specs.declared.faults.KeepFault.{KeepFault}
-use Rattle.clone_core.specs.declared.faults.KeepFault.TheVariants as keep
+use Rattle.clone_answers.specs.declared.faults.KeepFault.{KeepFault}
+use Rattle.clone_answers.specs.declared.faults.KeepFault.TheVariants as keep
 use Rattle.clone_core.proofs.AppendLaws.{swapped_on_banks, unswapped_on_banks}
 use Rattle.clone_core.proofs.DurableLaws.{changes_none, changes_made, done_metered, keep_tells, swap_refused}
 use Rattle.clone_core.proofs.StopLaws.{unswapped_stops}

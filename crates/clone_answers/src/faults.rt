@@ -1,11 +1,13 @@
 //! Why a clone refuses.
 use causal_buffer::HeldFault;
 use journal_store::{SwapFault, Why};
+use jrql_eval::EvalFault;
+use rdf_terms::Iri;
 use std::alloc::AllocError;
 use thiserror::Error;
 
 /// Why an update was refused.
-#[derive(Clone, Copy, Debug, PartialEq, Eq, Error)]
+#[derive(Debug, PartialEq, Eq, Error, Drop)]
 pub enum UpdateFault {
     /// An earlier call closed the clone.
     #[error("the clone is closed")]
@@ -16,6 +18,17 @@ pub enum UpdateFault {
     /// The clone's path has no tick left.
     #[error("no tick is left")]
     TicksSpent,
+    /// Its plan has more than 1,048,576 solutions.
+    #[error("more than 1,048,576 solutions")]
+    TooMany,
+    /// A subject would get a second value of a single-valued property: the first one, and its property.
+    #[error("a second value of a single-valued property")]
+    Single {
+        /// The subject.
+        s: Iri,
+        /// The property.
+        p: Iri,
+    },
     /// The device failed, which closes the clone.
     #[error("the device failed")]
     Device,
@@ -79,9 +92,26 @@ pub enum KeepFault {
     NoMemory,
 }
 
+/// Why a query wasn't answered.
+#[derive(Clone, Copy, Debug, PartialEq, Eq, Error)]
+pub enum QueryFault {
+    /// An earlier call closed the clone.
+    #[error("the clone is closed")]
+    Closed {
+        /// Why it did.
+        why: Why,
+    },
+    /// The query has more than 1,048,576 solutions.
+    #[error("more than 1,048,576 solutions")]
+    TooMany,
+    /// Memory ran out.
+    #[error("out of memory")]
+    NoMemory,
+}
+
 impl From<AllocError> for UpdateFault {
     ghost use Rattle.std.specs.Prelude.{◌≡◌};
-    ghost use Rattle.clone_core.specs.declared.faults.UpdateFault.TheVariants.{NoMemory};
+    ghost use Rattle.clone_answers.specs.declared.faults.UpdateFault.TheVariants.{NoMemory};
 
     ghost from_gives = { λ _ fault. fault ≡ NoMemory };
 
@@ -92,7 +122,7 @@ impl From<AllocError> for UpdateFault {
 
 impl From<AllocError> for ReceiveFault {
     ghost use Rattle.std.specs.Prelude.{◌≡◌};
-    ghost use Rattle.clone_core.specs.declared.faults.ReceiveFault.TheVariants.{NoMemory};
+    ghost use Rattle.clone_answers.specs.declared.faults.ReceiveFault.TheVariants.{NoMemory};
 
     ghost from_gives = { λ _ fault. fault ≡ NoMemory };
 
@@ -103,7 +133,7 @@ impl From<AllocError> for ReceiveFault {
 
 impl From<AllocError> for KeepFault {
     ghost use Rattle.std.specs.Prelude.{◌≡◌};
-    ghost use Rattle.clone_core.specs.declared.faults.KeepFault.TheVariants.{NoMemory};
+    ghost use Rattle.clone_answers.specs.declared.faults.KeepFault.TheVariants.{NoMemory};
 
     ghost from_gives = { λ _ fault. fault ≡ NoMemory };
 
@@ -113,7 +143,7 @@ impl From<AllocError> for KeepFault {
 }
 
 impl From<SwapFault> for KeepFault {
-    ghost use Rattle.clone_core.specs.CloneFaults.{keep_fault_of};
+    ghost use Rattle.clone_answers.specs.CloneFaults.{keep_fault_of};
     ghost use Rattle.std.specs.Prelude.{◌≡◌};
 
     ghost from_gives = { λ swap fault. fault ≡ keep_fault_of swap };
@@ -129,7 +159,7 @@ impl From<SwapFault> for KeepFault {
 }
 
 impl From<SwapFault> for ReceiveFault {
-    ghost use Rattle.clone_core.specs.CloneFaults.{receive_fault_of_swap};
+    ghost use Rattle.clone_answers.specs.CloneFaults.{receive_fault_of_swap};
     ghost use Rattle.std.specs.Prelude.{◌≡◌};
 
     ghost from_gives = { λ swap fault. fault ≡ receive_fault_of_swap swap };
@@ -145,7 +175,7 @@ impl From<SwapFault> for ReceiveFault {
 }
 
 impl From<Why> for UpdateFault {
-    ghost use Rattle.clone_core.specs.CloneFaults.{update_fault_of};
+    ghost use Rattle.clone_answers.specs.CloneFaults.{update_fault_of};
     ghost use Rattle.std.specs.Prelude.{◌≡◌};
 
     ghost from_gives = { λ why fault. fault ≡ update_fault_of why };
@@ -158,8 +188,22 @@ impl From<Why> for UpdateFault {
     }
 }
 
+impl From<EvalFault> for UpdateFault {
+    ghost use Rattle.clone_answers.specs.CloneFaults.{update_fault_of_effect};
+    ghost use Rattle.std.specs.Prelude.{◌≡◌};
+
+    ghost from_gives = { λ effect fault. fault ≡ update_fault_of_effect effect };
+
+    fn from(fault: EvalFault) -> UpdateFault {
+        match fault {
+            EvalFault::TooMany => UpdateFault::TooMany,
+            EvalFault::NoMemory => UpdateFault::NoMemory,
+        }
+    }
+}
+
 impl From<Why> for ReceiveFault {
-    ghost use Rattle.clone_core.specs.CloneFaults.{receive_fault_of};
+    ghost use Rattle.clone_answers.specs.CloneFaults.{receive_fault_of};
     ghost use Rattle.std.specs.Prelude.{◌≡◌};
 
     ghost from_gives = { λ why fault. fault ≡ receive_fault_of why };
@@ -173,7 +217,7 @@ impl From<Why> for ReceiveFault {
 }
 
 impl From<HeldFault> for ReceiveFault {
-    ghost use Rattle.clone_core.specs.CloneFaults.{fault_of_held};
+    ghost use Rattle.clone_answers.specs.CloneFaults.{fault_of_held};
     ghost use Rattle.std.specs.Prelude.{◌≡◌};
 
     ghost from_gives = { λ held fault. fault ≡ fault_of_held held };
@@ -182,6 +226,20 @@ impl From<HeldFault> for ReceiveFault {
         match fault {
             HeldFault::Full => ReceiveFault::HeldFull,
             HeldFault::NoMemory => ReceiveFault::NoMemory,
+        }
+    }
+}
+
+impl From<EvalFault> for QueryFault {
+    ghost use Rattle.std.specs.Prelude.{◌≡◌};
+    ghost use Rattle.clone_answers.specs.CloneFaults.{query_fault_of};
+
+    ghost from_gives = { λ fault refused. refused ≡ query_fault_of fault };
+
+    fn from(fault: EvalFault) -> QueryFault {
+        match fault {
+            EvalFault::TooMany => QueryFault::TooMany,
+            EvalFault::NoMemory => QueryFault::NoMemory,
         }
     }
 }

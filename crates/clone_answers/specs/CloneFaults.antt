@@ -5,16 +5,16 @@ use Rattle.journal_store.specs.declared.faults.SwapFault.{SwapFault}
 use Rattle.journal_store.specs.declared.faults.SwapFault.TheVariants as swap
 use Rattle.journal_store.specs.declared.faults.Why.{Why}
 use Rattle.journal_store.specs.declared.faults.Why.TheVariants as why
-use Rattle.clone_core.specs.declared.faults.KeepFault.{KeepFault}
-use Rattle.clone_core.specs.declared.faults.KeepFault.TheVariants as keep
-use Rattle.clone_core.specs.declared.faults.ReceiveFault.{ReceiveFault}
-use Rattle.clone_core.specs.declared.faults.ReceiveFault.TheVariants as fault
+use Rattle.clone_answers.specs.declared.faults.KeepFault.{KeepFault}
+use Rattle.clone_answers.specs.declared.faults.KeepFault.TheVariants as keep
+use Rattle.clone_answers.specs.declared.faults.ReceiveFault.{ReceiveFault}
+use Rattle.clone_answers.specs.declared.faults.ReceiveFault.TheVariants as fault
 use Rattle.jrql_eval.specs.declared.faults.EvalFault.{EvalFault}
 use Rattle.jrql_eval.specs.declared.faults.EvalFault.TheVariants as eval
-use Rattle.clone_core.specs.declared.queries.QueryFault.{QueryFault}
-use Rattle.clone_core.specs.declared.queries.QueryFault.TheVariants as query
-use Rattle.clone_core.specs.declared.faults.UpdateFault.{UpdateFault}
-use Rattle.clone_core.specs.declared.faults.UpdateFault.TheVariants as update
+use Rattle.clone_answers.specs.declared.faults.QueryFault.{QueryFault}
+use Rattle.clone_answers.specs.declared.faults.QueryFault.TheVariants as query
+use Rattle.clone_answers.specs.declared.faults.UpdateFault.{UpdateFault}
+use Rattle.clone_answers.specs.declared.faults.UpdateFault.TheVariants as update
 
 -- why a message is refused whose entry can't be held
 abbrev pub fault_of_held : HeldFault → ReceiveFault
@@ -49,3 +49,8 @@ keep_fault_of swap.NoMemory = keep.NoMemory
 abbrev pub query_fault_of : EvalFault → QueryFault
 query_fault_of eval.TooMany = query.TooMany
 query_fault_of eval.NoMemory = query.NoMemory
+
+-- why an update is refused whose effect isn't given
+abbrev pub update_fault_of_effect : EvalFault → UpdateFault
+update_fault_of_effect eval.TooMany = update.TooMany
+update_fault_of_effect eval.NoMemory = update.NoMemory
