@@ -13,7 +13,9 @@ numbers_between first end = range_with_len first (end - first)
 abbrev pub reply_value : Reply → model.Reply
 reply_value (replies.Ready count) = model.Ready count
 reply_value (replies.Did dot message) = model.Did dot message
+reply_value replies.PropertySet = model.PropertySet
 reply_value replies.NoOperation = model.NoOperation
+reply_value (replies.Single subject property) = model.Single subject property
 reply_value (replies.Took ranges) = model.Took ranges
 reply_value (replies.Merged ranges) = model.Merged ranges
 reply_value replies.Held = model.Held

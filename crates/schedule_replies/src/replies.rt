@@ -2,7 +2,7 @@
 ghost use Rattle.std.specs.Prelude.{◌≡◌, ◌++◌, ◌∷◌, [], map, OnOk, OnErr};
 ghost use Rattle.std.specs.List.{flat_map};
 ghost use Rattle.rdf_terms.specs.Kept.{KeepsStart};
-ghost use Rattle.mld_model.specs.Reply.{Ready, Did, Answer, Joined, Shows};
+ghost use Rattle.mld_model.specs.Reply.{Ready, PropertySet, Did, Single, Answer, Joined, Shows};
 ghost use Rattle.schedule_model.specs.Characters.{line_end};
 ghost use Rattle.schedule_model.specs.ReplyText.{reply_text, pair_line, spaced_range};
 ghost use Rattle.schedule_replies.specs.Replies.{reply_value, numbers_between};
@@ -10,7 +10,7 @@ ghost use Rattle.schedule_replies.specs.Replies.{reply_value, numbers_between};
 use crate::pieces::{push_count, push_dot, push_numbered, push_path, push_range};
 use graph_index::Graph;
 use mld_ops::Tagged;
-use rdf_terms::write_triple;
+use rdf_terms::{Iri, write_triple};
 use std::alloc::AllocError;
 use tree_clock::{Dot, Path, Range, Ranges};
 
@@ -26,8 +26,12 @@ pub enum Reply<'a> {
         /// The number of the message.
         message: usize,
     },
+    /// `ok`: a single-valued property is set.
+    PropertySet,
     /// `none`: there was nothing to do, and no operation was made.
     NoOperation,
+    /// `single`, then both: the update would give the subject a second value of the single-valued property, and no operation was made.
+    Single(Iri, Iri),
     /// `took`, then each range: the ranges were taken, in this order.
     Took(Ranges),
     /// `merged`, then each range: a snapshot was merged, and these ranges were taken then that had been held back, in this order.
@@ -42,7 +46,7 @@ pub enum Reply<'a> {
     Shows(&'a Graph),
     /// A line of JSON: this is the answer to a query, without its LF.
     Tells(Vec<u8>),
-    /// `too many`: the query has more solutions than it may have.
+    /// `too many`: the query or the update has more solutions than it may have.
     TooMany,
     /// `same`: two clones know the same dots.
     Same,
@@ -108,6 +112,14 @@ pub fn push_ready(out: &mut Vec<u8>, count: u8) -> Result<(), AllocError>
     push_reply(out, &Reply::Ready(count))
 }
 
+/// Adds `ok` to an output. Where memory is wanting, the output is as it was.
+pub fn push_property_set(out: &mut Vec<u8>) -> Result<(), AllocError>
+    ensures ok { OnOk result (out.new.items ≡ out.old.items ++ reply_text PropertySet) }
+    ensures err { OnErr result (out.new.items ≡ out.old.items) }
+{
+    push_reply(out, &Reply::PropertySet)
+}
+
 /// Adds the text of a reply to an output. Where memory is wanting, what stood there still stands in front.
 fn push_text(out: &mut Vec<u8>, reply: &Reply<'_>) -> Result<(), AllocError>
     ensures ok { OnOk result (out.new.items ≡ out.old.items ++ reply_text (reply_value reply.now)) }
@@ -116,7 +128,9 @@ fn push_text(out: &mut Vec<u8>, reply: &Reply<'_>) -> Result<(), AllocError>
     match reply {
         Reply::Ready(count) => push_count(out, b"ready ", u64::from(*count)),
         Reply::Did { dot, message } => push_did(out, dot, *message),
+        Reply::PropertySet => out.extend_from_slice(b"ok\n"),
         Reply::NoOperation => out.extend_from_slice(b"none\n"),
+        Reply::Single(subject, property) => push_single(out, subject, property),
         Reply::Took(ranges) => push_ranges(out, b"took", ranges.as_slice()),
         Reply::Merged(ranges) => push_ranges(out, b"merged", ranges.as_slice()),
         Reply::Held => out.extend_from_slice(b"held\n"),
@@ -154,6 +168,18 @@ fn push_did(out: &mut Vec<u8>, dot: &Dot, message: usize) -> Result<(), AllocErr
     out.extend_from_slice(b"did ")?;
     push_dot(out, dot)?;
     push_count(out, b" m", message as u64)
+}
+
+/// `single <S> <P>`.
+fn push_single(out: &mut Vec<u8>, subject: &Iri, property: &Iri) -> Result<(), AllocError>
+    ensures ok { OnOk result (out.new.items ≡ out.old.items ++ reply_text (Single subject.now property.now)) }
+    ensures err { OnErr result (KeepsStart out.old.items out.new.items) }
+{
+    out.extend_from_slice(b"single <")?;
+    out.extend_from_slice(subject.as_str().as_bytes())?;
+    out.extend_from_slice(b"> <")?;
+    out.extend_from_slice(property.as_str().as_bytes())?;
+    out.extend_from_slice(b">\n")
 }
 
 /// `joined P`.

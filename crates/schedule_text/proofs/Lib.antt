@@ -3,3 +3,4 @@ pub mod LinesNumbers
 pub mod LinesSetups
 pub mod LinesCommands
 mod LinesQueries
+mod LinesUpdates

@@ -12,7 +12,7 @@ use Rattle.rdf_terms.specs.declared.faults.TripleFault.TheVariants.{NotTriple, T
 use Rattle.schedule_model.specs.Characters.{space}
 use Rattle.mld_model.specs.World.{clone_count}
 use Rattle.schedule_model.specs.declared.Command.{Command}
-use Rattle.schedule_model.specs.declared.Command.TheVariants.{Add, Remove, Deliver, Show, Query, Compare, Join, Ask, Compact, Truncate, Stop, Open}
+use Rattle.schedule_model.specs.declared.Command.TheVariants.{Add, Remove, Update, Deliver, Show, Query, Compare, Join, Ask, Compact, Truncate, Stop, Open}
 use Rattle.schedule_model.proofs.LackingLaws.{Lacks, apart}
 use Rattle.schedule_model.specs.Schedule.{SpellsAnywhere}
 use Rattle.schedule_text.specs.ReadLines.{IsTripleText, IsCloneAndTriple, IsAddRest, IsRemoveRest, IsDeliverRest, IsShowRest, IsCompareRest, IsJoinRest, IsAskRest, IsCompactRest, IsTruncateRest, IsStopRest, IsOpenRest}
@@ -45,6 +45,7 @@ add_back line rest e (Remove number triple) h = absurd (apart e h.1 refl)
 add_back line rest e (Deliver message number) h = absurd (apart e h.0 refl)
 add_back line rest e (Show number) h = absurd (apart e h.0 refl)
 add_back line rest e (Query number read) h = absurd h
+add_back line rest e (Update number plan) h = absurd h
 add_back line rest e (Compare number other) h = absurd (apart e h.0 refl)
 add_back line rest e (Join number) h = absurd (apart e h.0 refl)
 add_back line rest e (Ask number) h = absurd (apart (ap (drop 1) e) (ap (drop 1) h.0) refl)
@@ -67,6 +68,7 @@ remove_back line rest e (Remove number triple) h =
 remove_back line rest e (Deliver message number) h = absurd (apart e h.0 refl)
 remove_back line rest e (Show number) h = absurd (apart e h.0 refl)
 remove_back line rest e (Query number read) h = absurd h
+remove_back line rest e (Update number plan) h = absurd h
 remove_back line rest e (Compare number other) h = absurd (apart e h.0 refl)
 remove_back line rest e (Join number) h = absurd (apart e h.0 refl)
 remove_back line rest e (Ask number) h = absurd (apart e h.0 refl)
@@ -88,6 +90,7 @@ deliver_back line rest e (Remove number triple) h = absurd (apart e h.1 refl)
 deliver_back line rest e (Deliver message number) h = (message, number, refl, ap (drop 8) (sym e ∙ h.0), h.1, h.2)
 deliver_back line rest e (Show number) h = absurd (apart e h.0 refl)
 deliver_back line rest e (Query number read) h = absurd h
+deliver_back line rest e (Update number plan) h = absurd h
 deliver_back line rest e (Compare number other) h = absurd (apart e h.0 refl)
 deliver_back line rest e (Join number) h = absurd (apart e h.0 refl)
 deliver_back line rest e (Ask number) h = absurd (apart e h.0 refl)
@@ -109,6 +112,7 @@ show_back line rest e (Remove number triple) h = absurd (apart e h.1 refl)
 show_back line rest e (Deliver message number) h = absurd (apart e h.0 refl)
 show_back line rest e (Show number) h = (number, refl, ap (drop 5) (sym e ∙ h.0), h.1)
 show_back line rest e (Query number read) h = absurd h
+show_back line rest e (Update number plan) h = absurd h
 show_back line rest e (Compare number other) h = absurd (apart e h.0 refl)
 show_back line rest e (Join number) h = absurd (apart e h.0 refl)
 show_back line rest e (Ask number) h = absurd (apart e h.0 refl)
@@ -130,6 +134,7 @@ compare_back line rest e (Remove number triple) h = absurd (apart e h.1 refl)
 compare_back line rest e (Deliver message number) h = absurd (apart e h.0 refl)
 compare_back line rest e (Show number) h = absurd (apart e h.0 refl)
 compare_back line rest e (Query number read) h = absurd h
+compare_back line rest e (Update number plan) h = absurd h
 compare_back line rest e (Compare number other) h = (number, other, refl, ap (drop 8) (sym e ∙ h.0), h.1, h.2)
 compare_back line rest e (Join number) h = absurd (apart e h.0 refl)
 compare_back line rest e (Ask number) h = absurd (apart e h.0 refl)
@@ -151,6 +156,7 @@ join_back line rest e (Remove number triple) h = absurd (apart e h.1 refl)
 join_back line rest e (Deliver message number) h = absurd (apart e h.0 refl)
 join_back line rest e (Show number) h = absurd (apart e h.0 refl)
 join_back line rest e (Query number read) h = absurd h
+join_back line rest e (Update number plan) h = absurd h
 join_back line rest e (Compare number other) h = absurd (apart e h.0 refl)
 join_back line rest e (Join number) h = (number, refl, ap (drop 5) (sym e ∙ h.0), h.1)
 join_back line rest e (Ask number) h = absurd (apart e h.0 refl)
@@ -172,6 +178,7 @@ ask_back line rest e (Remove number triple) h = absurd (apart e h.1 refl)
 ask_back line rest e (Deliver message number) h = absurd (apart e h.0 refl)
 ask_back line rest e (Show number) h = absurd (apart e h.0 refl)
 ask_back line rest e (Query number read) h = absurd h
+ask_back line rest e (Update number plan) h = absurd h
 ask_back line rest e (Compare number other) h = absurd (apart e h.0 refl)
 ask_back line rest e (Join number) h = absurd (apart e h.0 refl)
 ask_back line rest e (Ask number) h = (number, refl, ap (drop 4) (sym e ∙ h.0), h.1)
@@ -193,6 +200,7 @@ compact_back line rest e (Remove number triple) h = absurd (apart e h.1 refl)
 compact_back line rest e (Deliver message number) h = absurd (apart e h.0 refl)
 compact_back line rest e (Show number) h = absurd (apart e h.0 refl)
 compact_back line rest e (Query number read) h = absurd h
+compact_back line rest e (Update number plan) h = absurd h
 compact_back line rest e (Compare number other) h = absurd (apart (ap (drop 5) e) (ap (drop 5) h.0) refl)
 compact_back line rest e (Join number) h = absurd (apart e h.0 refl)
 compact_back line rest e (Ask number) h = absurd (apart e h.0 refl)
@@ -214,6 +222,7 @@ truncate_back line rest e (Remove number triple) h = absurd (apart e h.1 refl)
 truncate_back line rest e (Deliver message number) h = absurd (apart e h.0 refl)
 truncate_back line rest e (Show number) h = absurd (apart e h.0 refl)
 truncate_back line rest e (Query number read) h = absurd h
+truncate_back line rest e (Update number plan) h = absurd h
 truncate_back line rest e (Compare number other) h = absurd (apart e h.0 refl)
 truncate_back line rest e (Join number) h = absurd (apart e h.0 refl)
 truncate_back line rest e (Ask number) h = absurd (apart e h.0 refl)
@@ -235,6 +244,7 @@ stop_back line rest e (Remove number triple) h = absurd (apart e h.1 refl)
 stop_back line rest e (Deliver message number) h = absurd (apart e h.0 refl)
 stop_back line rest e (Show number) h = absurd (apart (ap (drop 1) e) (ap (drop 1) h.0) refl)
 stop_back line rest e (Query number read) h = absurd h
+stop_back line rest e (Update number plan) h = absurd h
 stop_back line rest e (Compare number other) h = absurd (apart e h.0 refl)
 stop_back line rest e (Join number) h = absurd (apart e h.0 refl)
 stop_back line rest e (Ask number) h = absurd (apart e h.0 refl)
@@ -256,6 +266,7 @@ open_back line rest e (Remove number triple) h = absurd (apart e h.1 refl)
 open_back line rest e (Deliver message number) h = absurd (apart e h.0 refl)
 open_back line rest e (Show number) h = absurd (apart e h.0 refl)
 open_back line rest e (Query number read) h = absurd h
+open_back line rest e (Update number plan) h = absurd h
 open_back line rest e (Compare number other) h = absurd (apart e h.0 refl)
 open_back line rest e (Join number) h = absurd (apart e h.0 refl)
 open_back line rest e (Ask number) h = absurd (apart e h.0 refl)

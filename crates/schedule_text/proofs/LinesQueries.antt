@@ -7,9 +7,9 @@ use Rattle.jrql_patterns.specs.declared.queries.ReadQuery.{ReadQuery}
 use Rattle.mld_model.specs.World.{clone_count}
 use Rattle.schedule_model.specs.Characters.{space}
 use Rattle.schedule_model.specs.declared.Command.{Command}
-use Rattle.schedule_model.specs.declared.Command.TheVariants.{Add, Remove, Deliver, Show, Query, Compare, Join, Ask, Compact, Truncate, Stop, Open}
+use Rattle.schedule_model.specs.declared.Command.TheVariants.{Add, Remove, Update, Deliver, Show, Query, Compare, Join, Ask, Compact, Truncate, Stop, Open}
 use Rattle.schedule_model.specs.Schedule.{SpellsAnywhere, SpellsCommand}
-use Rattle.schedule_model.specs.Step.{HasQueryInForm}
+use Rattle.schedule_model.specs.Step.{IsCommandInForm}
 use Rattle.schedule_model.proofs.LackingLaws.{Lacks, apart}
 use Rattle.schedule_text.specs.ReadLines.{IsQueryText, IsQueryRest, IsFoundInForm}
 use Rattle.schedule_text.proofs.LinesText.{has_space}
@@ -26,6 +26,7 @@ query_back domain line rest e (Query number read) h =
     (number, read, refl, record { text = h.0; whole = ap (drop 6) (sym e ∙ h.1); clone = h.2; said = h.3 })
 query_back domain line rest e (Add number triple) h = absurd (apart e h.1 refl)
 query_back domain line rest e (Remove number triple) h = absurd (apart e h.1 refl)
+query_back domain line rest e (Update number plan) h = absurd (apart e h.1 refl)
 query_back domain line rest e (Deliver message number) h = absurd (apart e h.0 refl)
 query_back domain line rest e (Show number) h = absurd (apart e h.0 refl)
 query_back domain line rest e (Compare number other) h = absurd (apart e h.0 refl)
@@ -39,24 +40,27 @@ query_back domain line rest e (Open number) h = absurd (apart e h.0 refl)
 pub query_behind : (domain line rest : List ℕ) → line ≡ codes "query " ++ rest → (command : Command) → IsQueryRest domain rest command ↔ SpellsCommand domain line command
 query_behind domain line rest e command = (query_there domain line rest e command, query_back domain line rest e command)
 
--- a line that is no query spells what it spells in any domain
-pub elsewhere : (domain line : List ℕ) → ((rest : List ℕ) → line ≢ codes "query " ++ rest) → (command : Command) → SpellsAnywhere line command ↔ SpellsCommand domain line command
-elsewhere domain line none (Query number read) = (λ h. absurd h, λ h. absurd (none (decimal number ++ space ∷ h.0) h.1))
-elsewhere domain line none (Add number triple) = (λ h. h, λ h. h)
-elsewhere domain line none (Remove number triple) = (λ h. h, λ h. h)
-elsewhere domain line none (Deliver message number) = (λ h. h, λ h. h)
-elsewhere domain line none (Show number) = (λ h. h, λ h. h)
-elsewhere domain line none (Compare number other) = (λ h. h, λ h. h)
-elsewhere domain line none (Join number) = (λ h. h, λ h. h)
-elsewhere domain line none (Ask number) = (λ h. h, λ h. h)
-elsewhere domain line none (Compact number) = (λ h. h, λ h. h)
-elsewhere domain line none (Truncate number keep) = (λ h. h, λ h. h)
-elsewhere domain line none (Stop number) = (λ h. h, λ h. h)
-elsewhere domain line none (Open number) = (λ h. h, λ h. h)
+-- a line that is neither a query nor an update spells what it spells in any domain
+pub elsewhere : (domain line : List ℕ) → ((rest : List ℕ) → line ≢ codes "query " ++ rest) → ((rest : List ℕ) → line ≢ codes "update " ++ rest) → (command : Command)
+    → SpellsAnywhere line command ↔ SpellsCommand domain line command
+elsewhere domain line none nor (Query number read) = (λ h. absurd h, λ h. absurd (none (decimal number ++ space ∷ h.0) h.1))
+elsewhere domain line none nor (Update number plan) = (λ h. absurd h, λ h. absurd (nor (decimal number ++ space ∷ h.0) h.1))
+elsewhere domain line none nor (Add number triple) = (λ h. h, λ h. h)
+elsewhere domain line none nor (Remove number triple) = (λ h. h, λ h. h)
+elsewhere domain line none nor (Deliver message number) = (λ h. h, λ h. h)
+elsewhere domain line none nor (Show number) = (λ h. h, λ h. h)
+elsewhere domain line none nor (Compare number other) = (λ h. h, λ h. h)
+elsewhere domain line none nor (Join number) = (λ h. h, λ h. h)
+elsewhere domain line none nor (Ask number) = (λ h. h, λ h. h)
+elsewhere domain line none nor (Compact number) = (λ h. h, λ h. h)
+elsewhere domain line none nor (Truncate number keep) = (λ h. h, λ h. h)
+elsewhere domain line none nor (Stop number) = (λ h. h, λ h. h)
+elsewhere domain line none nor (Open number) = (λ h. h, λ h. h)
 
--- and has no query that could be out of form
-plain_form : (line : List ℕ) (command : Command) → SpellsAnywhere line command → HasQueryInForm command
+-- and has nothing that could be out of form
+plain_form : (line : List ℕ) (command : Command) → SpellsAnywhere line command → IsCommandInForm command
 plain_form line (Query number read) h = absurd h
+plain_form line (Update number plan) h = absurd h
 plain_form line (Add number triple) h = tt
 plain_form line (Remove number triple) h = tt
 plain_form line (Deliver message number) h = tt

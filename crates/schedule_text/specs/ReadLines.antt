@@ -4,14 +4,16 @@ use Rattle.std.specs.Str.{IsUtf8}
 use Rattle.std.specs.Fmt.{decimal}
 use Rattle.rdf_terms.specs.declared.terms.Triple.{Triple}
 use Rattle.rdf_terms.specs.Grammar.{SpellsTriple, IsTripleWithin}
+use Rattle.jrql_ast.specs.declared.plans.UpdatePlan.{UpdatePlan}
+use Rattle.jrql_update.specs.UpdateReading.{update_read}
 use Rattle.jrql_patterns.specs.QueryReading.{query_read}
 use Rattle.jrql_patterns.specs.declared.queries.ReadQuery.{ReadQuery}
 use Rattle.schedule_model.specs.Characters.{space}
-use Rattle.schedule_model.specs.declared.Command.TheVariants.{Add, Remove, Deliver, Show, Query, Compare, Join, Ask, Compact, Truncate, Stop, Open}
+use Rattle.schedule_model.specs.declared.Command.TheVariants.{Add, Remove, Update, Deliver, Show, Query, Compare, Join, Ask, Compact, Truncate, Stop, Open}
 use Rattle.schedule_model.specs.declared.Command.{Command}
-use Rattle.schedule_model.specs.Schedule.{Setup as ModelSetup, IsNothing, is_unbuilt, SpellsSetup, SpellsCommand, IsCloneNumber}
+use Rattle.schedule_model.specs.Schedule.{Setup as ModelSetup, IsNothing, is_unbuilt, SpellsSetup, SetsProperty, with_property, SpellsCommand, IsCloneNumber}
 use Rattle.schedule_model.specs.Runs.{IsBad, IsUnbuilt, Waiting}
-use Rattle.schedule_model.specs.Step.{HasQueryInForm}
+use Rattle.schedule_model.specs.Step.{IsCommandInForm}
 use Rattle.schedule_text.specs.declared.setups.Setup.{Setup}
 use Rattle.schedule_text.specs.declared.setups.SetupLine.{SetupLine}
 use Rattle.schedule_text.specs.declared.setups.SetupLine.TheVariants as lines
@@ -21,13 +23,14 @@ abbrev pub setup_of : Setup → ModelSetup
 setup_of setup = record { domain = setup.domain; properties = setup.props.items; count = setup.clones }
 
 -- what a line was read as before the clones are founded: while no domain line has come it says nothing, or it is the domain
--- line; and behind that one it leaves the setup as it was
+-- line; and behind that one it sets one more single-valued property, or leaves the setup as it was
 abbrev pub SetupIs : List ℕ → Option Setup → SetupLine → Type 0
 SetupIs line None (lines.Other None) = IsNothing line
 SetupIs line None (lines.Other (Some setup)) = ⊥
 SetupIs line None (lines.Setup setup) = SpellsSetup line (setup_of setup)
-SetupIs line (Some setup) (lines.Other so_far) = so_far ≡ Some setup
-SetupIs line (Some setup) (lines.Setup next) = ⊥
+SetupIs line (Some setup) (lines.Other so_far) = (so_far ≡ Some setup) × ((property : List ℕ) → ¬ SetsProperty (setup_of setup) line property)
+SetupIs line (Some setup) (lines.Setup next) =
+    (property : List ℕ) × SetsProperty (setup_of setup) line property × (setup_of next ≡ with_property (setup_of setup) property)
 
 -- no domain line has come, and the line is outside the grammar and isn't one that will be built
 abbrev pub IsBadSetup : List ℕ → Option Setup → Type 0
@@ -57,7 +60,7 @@ pub record IsTripleText (text : List ℕ) (triple : Triple) : Type 0 where
 -- what was read of a line has its query in form, where it is one
 abbrev pub IsFoundInForm : Option Command → Type 0
 IsFoundInForm None = Unit {0}
-IsFoundInForm (Some command) = HasQueryInForm command
+IsFoundInForm (Some command) = IsCommandInForm command
 
 -- the JSON text says the query in the domain of this name
 abbrev pub IsQueryText : List ℕ → List ℕ → ReadQuery → Type 0
@@ -95,6 +98,21 @@ pub record IsCloneAndQuery (domain rest : List ℕ) (number : ℕ) (read : ReadQ
 -- the rest of a `query` line
 abbrev pub IsQueryRest : List ℕ → List ℕ → Command → Type 0
 IsQueryRest domain rest command = (number : ℕ) × (read : ReadQuery) × (command ≡ Query number read) × IsCloneAndQuery domain rest number read
+
+-- the JSON text says the plan of an update in the domain of this name
+abbrev pub IsUpdateText : List ℕ → List ℕ → UpdatePlan → Type 0
+IsUpdateText domain text plan = update_read domain text ≡ Ok plan
+
+-- a clone's number, a space, and the text of an update
+pub record IsCloneAndUpdate (domain rest : List ℕ) (number : ℕ) (plan : UpdatePlan) : Type 0 where
+  pub text : List ℕ
+  pub whole : rest ≡ decimal number ++ space ∷ text
+  pub clone : IsCloneNumber number
+  pub said : IsUpdateText domain text plan
+
+-- the rest of an `update` line
+abbrev pub IsUpdateRest : List ℕ → List ℕ → Command → Type 0
+IsUpdateRest domain rest command = (number : ℕ) × (plan : UpdatePlan) × (command ≡ Update number plan) × IsCloneAndUpdate domain rest number plan
 
 abbrev pub IsCompareRest : List ℕ → Command → Type 0
 IsCompareRest rest command = (number : ℕ) × (other : ℕ) × (command ≡ Compare number other) × (rest ≡ decimal number ++ space ∷ decimal other)

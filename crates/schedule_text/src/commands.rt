@@ -9,6 +9,7 @@ ghost use Rattle.schedule_text.specs.ReadLines.{CommandIs, IsBadCommand, IsTripl
 use crate::numbers::{read_clone, read_number};
 use crate::queries::read_query_command;
 use crate::refusals::LineRefusal;
+use crate::updates::read_update_command;
 use crate::words::{behind, is_nothing, is_unbuilt, split_at_space};
 use rdf_terms::{Triple, TripleFault, read_triple};
 use schedule_model::Command;
@@ -47,10 +48,13 @@ fn command_in(alloc: Global, line: &[u8], domain: &str) -> Result<Option<Command
     if let Some(rest) = behind(line, b"query ") {
         return read_query_command(alloc, rest, domain);
     }
+    if let Some(rest) = behind(line, b"update ") {
+        return read_update_command(alloc, rest, domain);
+    }
     command_of(alloc, line)
 }
 
-/// The command of a line that isn't a query, where the line spells one.
+/// The command of a line that is neither a query nor an update, where the line spells one.
 fn command_of(alloc: Global, line: &[u8]) -> Result<Option<Command>, AllocError>
     ensures { IfOk result (λ found. MatchOption found ((command : Command) → ¬ SpellsAnywhere line.now command) (λ command. SpellsAnywhere line.now command)) }
 {

@@ -6,6 +6,7 @@ mod numbers;
 mod queries;
 mod refusals;
 mod setups;
+mod updates;
 mod words;
 
 pub use commands::read_command;

@@ -56,7 +56,7 @@ fn read_query_text(
 }
 
 /// Passes a fault that a text has; any other is want of memory.
-fn text_fault(fault: &JsonFault) -> Result<(), AllocError>
+pub fn text_fault(fault: &JsonFault) -> Result<(), AllocError>
     ensures { OnOk result (fault.now ≢ faults.NoMemory) }
 {
     match fault {

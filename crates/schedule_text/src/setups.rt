@@ -1,15 +1,18 @@
 //! The domain line, which sets up.
-ghost use Rattle.std.specs.Prelude.{◌≡◌, IsTrue, IfOk, IsErrOf, MatchOption};
+ghost use Rattle.std.specs.Prelude.{◌≡◌, ℕ, List, Some, IsTrue, IfOk, IfErr, IsErrOf, MatchOption};
 ghost use Rattle.iri_rules.specs.Domain.{is_domain};
-ghost use Rattle.schedule_model.specs.Schedule.{Setup as ModelSetup, SpellsSetup};
+ghost use Rattle.schedule_model.specs.Schedule.{Setup as ModelSetup, SpellsSetup, SpellsSingle, with_property};
 ghost use Rattle.schedule_text.specs.ReadLines.{setup_of, SetupIs, IsBadSetup, IsUnbuiltSetup};
 
 use crate::numbers::read_count;
 use crate::refusals::LineRefusal;
 use crate::words::{behind, is_nothing, is_unbuilt, split_at_space};
 use iri_rules::{Text, is_domain};
-use rdf_terms::Iri;
+use rdf_terms::{Iri, read_iri};
 use std::alloc::{AllocError, Global};
+
+/// How many lines may set a single-valued property, repeats included.
+const SINGLE_LIMIT: usize = 16;
 
 /// What a domain is set up with.
 #[derive(Debug, Drop)]
@@ -18,7 +21,7 @@ pub struct Setup {
     pub domain: Text,
     /// How many clones are founded, 1 to `CLONE_COUNT`.
     pub clones: u8,
-    /// The single-valued properties, as they were given. No line sets one yet.
+    /// The single-valued properties, as the lines set them, repeats included.
     pub props: Vec<Iri>,
 }
 
@@ -33,8 +36,9 @@ pub enum SetupLine {
 
 /// Reads a line, without its LF, while no clone is founded, with what is set up so far.
 ///
-/// While no domain line has come this is `domain D clones N`, or `Other` for an empty line or a comment. From then on each line
-/// is `Other`, whatever it holds: it is for `read_command` to say what it is.
+/// While no domain line has come this is `domain D clones N`, or `Other` for an empty line or a comment. From then on it is
+/// `single <IRI>`, as long as no more than 16 lines are; any other line is `Other`, whatever it holds: it is for `read_command` to say
+/// what it is.
 pub fn read_setup(
     alloc: Global,
     line: &[u8],
@@ -45,7 +49,7 @@ pub fn read_setup(
     ensures unbuilt { IsErrOf result LineRefusal.Unbuilt → IsUnbuiltSetup line.now so_far }
 {
     match so_far {
-        Some(setup) => Ok(SetupLine::Other(Some(setup))),
+        Some(setup) => read_later(alloc, line, setup),
         None => read_first(alloc, line),
     }
 }
@@ -66,6 +70,41 @@ fn read_first(alloc: Global, line: &[u8]) -> Result<SetupLine, LineRefusal>
         Some(setup) => Ok(SetupLine::Setup(setup)),
         None => Err(LineRefusal::BadLine),
     }
+}
+
+/// Reads a line once the domain is set up.
+fn read_later(alloc: Global, line: &[u8], setup: Setup) -> Result<SetupLine, LineRefusal>
+    ensures ok { IfOk result (SetupIs line.now (Some setup)) }
+    ensures err { IfErr result (λ fault. fault ≡ LineRefusal.NoMemory) }
+{
+    if setup.props.len() >= SINGLE_LIMIT {
+        return Ok(SetupLine::Other(Some(setup)));
+    }
+    let Some(property) = single_line(alloc, line)? else {
+        return Ok(SetupLine::Other(Some(setup)));
+    };
+    Ok(SetupLine::Setup(with_property(setup, property)?))
+}
+
+/// What is set up, with one more single-valued property.
+fn with_property(mut setup: Setup, property: Iri) -> Result<Setup, AllocError>
+    ensures { IfOk result (λ next. setup_of next ≡ with_property (setup_of setup) property) }
+{
+    setup.props.push(property)?;
+    Ok(setup)
+}
+
+/// `single <IRI>`, where the line spells it: the IRI.
+fn single_line(alloc: Global, line: &[u8]) -> Result<Option<Iri>, AllocError>
+    ensures { IfOk result (λ found. MatchOption found ((property : List ℕ) → ¬ SpellsSingle line.now property) (λ property. SpellsSingle line.now property)) }
+{
+    let Some(rest) = behind(line, b"single ") else {
+        return Ok(None);
+    };
+    let Ok(text) = str::from_utf8(rest) else {
+        return Ok(None);
+    };
+    read_iri(alloc, text)
 }
 
 /// `domain D clones N`, where the line spells it.

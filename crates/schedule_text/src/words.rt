@@ -16,7 +16,7 @@ pub fn is_nothing(line: &[u8]) -> bool
 }
 
 /// The first words of lines that aren't built yet.
-const UNBUILT_WORDS: [&[u8]; 3] = [b"update", b"single", b"crash"];
+const UNBUILT_WORDS: [&[u8]; 1] = [b"crash"];
 
 /// A line that isn't built yet: one of those words comes first.
 #[tactic(auto, unfolding(schedule_model::specs::Schedule::is_unbuilt))]

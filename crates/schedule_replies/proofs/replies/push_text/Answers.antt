@@ -4,6 +4,10 @@ use Rattle.schedule_replies.specs.Replies.{reply_value}
 use Rattle.schedule_replies.proofs.RepliesShown.{word_pushed}
 use Rattle.schedule_replies.proofs.replies.push_text.Goals as goal
 
+pub returns-in-PropertySet-clause-ok : goal.returns-in-PropertySet-clause-ok
+unfolding reply_text
+returns-in-PropertySet-clause-ok c = search rules
+
 pub returns-in-NoOperation-clause-ok : goal.returns-in-NoOperation-clause-ok
 unfolding reply_text
 returns-in-NoOperation-clause-ok c = search rules
