@@ -20,7 +20,7 @@ use Rattle.mld_model.specs.World.{World, Message, clone_at, message_at}
 use Rattle.clone_core.specs.Banked.{BankedClone}
 use Rattle.clone_core.specs.CloneClosing.{StaysOpen}
 use Rattle.schedule_model.specs.declared.Command.{Command}
-use Rattle.schedule_model.specs.declared.Command.TheVariants.{Add, Remove, Deliver, Show, Query, Compare, Join, Ask, Compact, Truncate, Stop, Open}
+use Rattle.schedule_model.specs.declared.Command.TheVariants.{Add, Remove, Update, Deliver, Show, Query, Compare, Join, Ask, Compact, Truncate, Stop, Open}
 use Rattle.schedule_model.specs.Step.{Step, number_of_clone}
 use Rattle.schedule_model.specs.WorldStep.{Follows}
 use Rattle.schedule_model.proofs.ChangesLaws.{step_keeps_domain, step_keeps_others, kept_still_stands}
@@ -232,6 +232,7 @@ down_stays : (world next : World) (command : Command) (reply : Reply) → StaysS
 unfolding Step
 down_stays world next (Add number triple) reply shut stands step = (down_by world number (clone_at world number) _ _ _ _ stands step).1
 down_stays world next (Remove number triple) reply shut stands step = (down_by world number (clone_at world number) _ _ _ _ stands step).1
+down_stays world next (Update number plan) reply shut stands step = (down_by world number (clone_at world number) _ _ _ _ stands step).1
 down_stays world next (Deliver message number) reply shut stands step = down_takes world next number reply (message_at world message) (clone_at world number) stands step
 down_stays world next (Show number) reply shut stands step = (down_by world number (clone_at world number) _ _ _ _ stands step).1
 down_stays world next (Query number read) reply shut stands step = (down_by world number (clone_at world number) _ _ _ _ stands step).1

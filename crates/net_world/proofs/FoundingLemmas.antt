@@ -167,9 +167,9 @@ module _ {B : Type 0} (setup : Setup) where
               record {
                 opened = there.opened.opened;
                 other = λ same.
-                    let alike : number ≡ 0 = same_number number 0 (omega (arith, below, is.may.most)) (omega arith) (sym id ∙ same ∙ ap (λ (c : LocalClone). c.id) local) in
+                    let alike : number ≡ 0 = same_number number 0 (omega (arith, below, is.most)) (omega arith) (sym id ∙ same ∙ ap (λ (c : LocalClone). c.id) local) in
                     omega (arith, alike, some);
-                room = omega (arith, long, below, is.may.most);
+                room = omega (arith, long, below, is.most);
               },
             )
         | inr past ↦ absurd (omega (arith, past.0, inside))

@@ -1,6 +1,6 @@
 -- What a clone does with a message that comes to it, by what it answers.
 use Rattle.std.specs.Prelude.{◌≡◌, ◌≢◌, ℕ, ◌+◌, ◌-◌, ◌^◌, List, ◌++◌, None, length, map, Result, Ok, Err}
-use Rattle.mld_ops.specs.Messages.{MessageValue, CarriesEntry, CarriesSnapshot, give_value, message_value, IsGoodMessage}
+use Rattle.mld_ops.specs.Messages.{MessageValue, give_value, message_value, IsGoodMessage}
 use Rattle.mld_ops.specs.declared.messages.Give.{Give}
 use Rattle.mld_ops.specs.declared.messages.Message.{Message}
 use Rattle.mld_model.specs.declared.CloneState.TheVariants as states
@@ -13,8 +13,8 @@ use Rattle.clone_core.specs.CloneCalls.{LocallyReceives, Refuses}
 use Rattle.clone_core.specs.Joining.{IsGiveFor, GivesNone}
 use Rattle.clone_core.specs.declared.askers.Adopted.{Adopted}
 use Rattle.clone_core.specs.declared.askers.Adopted.TheVariants as adopted
-use Rattle.clone_core.specs.declared.answers.Got.TheVariants as got
-use Rattle.clone_core.specs.declared.faults.ReceiveFault.TheVariants as fault
+use Rattle.clone_answers.specs.declared.answers.Got.TheVariants as got
+use Rattle.clone_answers.specs.declared.faults.ReceiveFault.TheVariants as fault
 use Rattle.net_world.specs.declared.deliver.Received.{Received}
 use Rattle.net_world.specs.declared.deliver.Received.TheVariants as received
 use Rattle.net_world.specs.declared.faults.WorldFault.{WorldFault}

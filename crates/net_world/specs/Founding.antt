@@ -1,8 +1,9 @@
 -- How a world is founded: the first clone forks its leaf for the others, one after another.
-use Rattle.std.specs.Prelude.{◌≡◌, ◌≢◌, ◌<◌, ℕ, List, [], ◌∷◌, None, Result, Ok, Err, OnOk, IfErr, Option, map, length}
+use Rattle.std.specs.Prelude.{◌≡◌, ◌≢◌, ◌<◌, ◌≤◌, ℕ, List, [], ◌∷◌, None, Result, Ok, Err, OnOk, IfErr, IsTrue, Option, map, length}
 use Rattle.std.specs.List.{range_with_len}
 use Rattle.mld_io.specs.Arm.{Meter}
 use Rattle.mld_io.specs.Disk.{Log}
+use Rattle.iri_rules.specs.Domain.{is_domain}
 use Rattle.rdf_terms.specs.Order.{iri_cmp}
 use Rattle.tree_clock.specs.Limits.{path_limit}
 use Rattle.journal_store.specs.declared.faults.MakeFault.{MakeFault}
@@ -17,7 +18,7 @@ use Rattle.mld_model.specs.World.{World, clone_count}
 use Rattle.mld_model.specs.declared.CloneState.TheVariants as states
 use Rattle.clone_core.specs.Banked.{BankedAsker, BankedClone}
 use Rattle.clone_core.specs.CloneClosing.{banks_of_made, StaysOpen}
-use Rattle.schedule_model.specs.Schedule.{Setup, IsSetup}
+use Rattle.schedule_model.specs.Schedule.{Setup}
 use Rattle.schedule_model.specs.Runs.{IsFoundedBy}
 use Rattle.tree_clock.specs.Lists.{Has, IsAscending}
 use Rattle.net_world.specs.declared.faults.WorldFault.{WorldFault}
@@ -29,7 +30,9 @@ use Rattle.net_world.specs.WorldFaults.{fault_of_made}
 
 -- a setup by which clones are founded, whose single-valued properties are kept: they ascend as terms, each once
 pub record IsKeptSetup (setup : Setup) : Type 0 where
-  pub may : IsSetup setup
+  pub name : IsTrue (is_domain setup.domain)
+  pub some : 1 ≤ setup.count
+  pub most : setup.count ≤ clone_count
   pub ascending : IsAscending iri_cmp setup.properties
 
 -- the running world stands for the world that is founded with the setup

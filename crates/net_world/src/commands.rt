@@ -2,12 +2,12 @@
 ghost use Rattle.std.specs.Prelude.{◌≡◌, vec_len, IfErr, OnOk, OnErr};
 ghost use Rattle.mld_model.specs.Local.{IsNamed};
 ghost use Rattle.mld_model.specs.World.{clone_count};
-ghost use Rattle.schedule_model.specs.Step.{HasCloneNumbers, HasQueryInForm, number_of_clone};
+ghost use Rattle.schedule_model.specs.Step.{HasCloneNumbers, IsCommandInForm, number_of_clone};
 ghost use Rattle.net_world.specs.Commands.{Answered, TellsReply, FailsToTell};
 ghost use Rattle.net_world.specs.WorldParts.{HasStepLeft, KeepsDomain, HasFaultsOfParts};
 
 use crate::ask::ask;
-use crate::changes::{add, remove};
+use crate::changes::{add, remove, update};
 use crate::compare::compare;
 use crate::deliver::deliver;
 use crate::faults::WorldFault;
@@ -36,7 +36,7 @@ pub fn answer<R: Threads, B: CrashBanks>(
     requires count { vec_len parts.old.clones ≡ clone_count }
     requires named { IsNamed parts.old.domain parts.old.properties.items }
     requires numbers { HasCloneNumbers command.now }
-    requires form { HasQueryInForm command.now }
+    requires form { IsCommandInForm command.now }
     ensures keeps { KeepsDomain B.meter (number_of_clone command.now) parts.old parts.new }
     ensures done { OnOk result (Answered B.log parts.old command.now parts.new out.old.items out.new.items) }
     ensures faults { HasFaultsOfParts B.meter (number_of_clone command.now) parts.old parts.new result }
@@ -45,6 +45,7 @@ pub fn answer<R: Threads, B: CrashBanks>(
     match command {
         Command::Add(number, triple) => tell(out, add(alloc, parts, *number, triple)),
         Command::Remove(number, triple) => tell(out, remove(alloc, parts, *number, triple)),
+        Command::Update(number, plan) => tell(out, update(alloc, parts, *number, plan)),
         Command::Deliver(message, number) => {
             tell(out, deliver(rt, alloc, parts, *message, *number))
         }

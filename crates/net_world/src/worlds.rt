@@ -46,7 +46,7 @@ impl<B: CrashBanks> World<B> {
     ghost use Rattle.mld_model.specs.World.{World as ModelWorld, clone_count};
     ghost use Rattle.net_world.specs.WorldBanks.{StandsOnBanks, AllBanksStandFor, banks_of, MetersGoOn, HadNoFaults, RefusesFounding, HasFaultsFor, OthersStay, memory_of};
     ghost use Rattle.schedule_model.specs.Schedule.{IsSetup};
-    ghost use Rattle.schedule_model.specs.Step.{HasCloneNumbers, HasQueryInForm, number_of_clone};
+    ghost use Rattle.schedule_model.specs.Step.{HasCloneNumbers, IsCommandInForm, number_of_clone};
     ghost use Rattle.schedule_text.specs.ReadLines.{setup_of};
     ghost use Rattle.net_world.specs.Founding.{StandsFounded};
     ghost use Rattle.net_world.specs.Worlds.{IsStanding, Stepped};
@@ -134,7 +134,7 @@ impl<B: CrashBanks> World<B> {
         requires few { self.old.steps < step_limit }
         requires standing { IsStanding B.log self.old }
         requires numbers { HasCloneNumbers command.now }
-        requires form { HasQueryInForm command.now }
+        requires form { IsCommandInForm command.now }
         ensures done { OnOk result (Stepped B.log self.old command.now self.new out.old.items out.new.items) }
         ensures standing { OnOk result (IsStanding B.log self.new) }
         ensures steps { OnOk result (self.new.steps ≡ self.old.steps + 1) }

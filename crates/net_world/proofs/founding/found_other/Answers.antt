@@ -14,7 +14,7 @@ use Rattle.net_world.proofs.founding.found_other.Goals as goal
 
 pub take_blank-blank-requires : goal.take_blank-blank-requires
 take_blank-blank-requires g c =
-    absent_there (setup_of c.args.setup.now) c.args.number c.args.clones.now.items (omega (arith, c.requires.below, c.requires.setup.may.most)) c.requires.founded
+    absent_there (setup_of c.args.setup.now) c.args.number c.args.clones.now.items (omega (arith, c.requires.below, c.requires.setup.most)) c.requires.founded
 
 pub join_first-state-requires : goal.join_first-state-requires
 join_first-state-requires g c =
