@@ -1,19 +1,20 @@
 -- What a line makes of a schedule's state, and what its end does.
-use Rattle.std.proofs.Common.{◌≡◌, ◌≢◌, ℕ, List, [], refl, sym, ◌∙◌, ap, subst, length, Option, None, Some, Vec, Global}
+use Rattle.std.proofs.Common.{◌≡◌, ◌≢◌, ℕ, ◌≤◌, List, [], ◌∷◌, ◌++◌, refl, sym, ◌∙◌, ap, subst, length, Option, None, Some, Vec, Global, arith}
+use Rattle.std.proofs.lemmas.List.{length-append}
 use Rattle.std.specs.Prelude.{Result, Ok, Err, OnOk, IfErr, IsErrOf}
 use Rattle.mld_io.specs.Arm.{Meter}
 use Rattle.mld_io.specs.Disk.{Log}
 use Rattle.schedule_model.specs.declared.Command.{Command}
 use Rattle.mld_model.specs.World.{World, clone_count}
-use Rattle.mld_model.specs.Reply.{Ready}
+use Rattle.mld_model.specs.Reply.{Ready, PropertySet}
 use Rattle.mld_model.specs.Sound.{IsSound}
 use Rattle.mld_model.proofs.FoundedLaws.{founded_sound}
 use Rattle.schedule_model.specs.ReplyText.{reply_text}
-use Rattle.schedule_model.specs.Runs.{Stage, Waiting, SetUp, Running, IsWorldOf, IsBad, says_nothing, sets_up, commands}
+use Rattle.schedule_model.specs.Runs.{Stage, Waiting, SetUp, Running, IsWorldOf, IsBad, says_nothing, sets_up, sets_property, commands}
 use Rattle.schedule_text.specs.declared.setups.Setup.{Setup}
 use Rattle.schedule_text.specs.declared.setups.SetupLine.{SetupLine}
 use Rattle.schedule_text.specs.declared.setups.SetupLine.TheVariants as lines
-use Rattle.schedule_model.specs.Schedule.{Setup as ModelSetup, SpellsSetup, SpellsCommand, IsSetup}
+use Rattle.schedule_model.specs.Schedule.{Setup as ModelSetup, SpellsSetup, SetsProperty, SpellsCommand, IsSetup, single_limit, with_property}
 use Rattle.schedule_text.specs.ReadLines.{setup_of, SetupIs, CommandIs, IsBadCommand}
 use Rattle.net_world.specs.Founding.{StandsFounded}
 use Rattle.net_world.specs.WorldBanks.{BankedWorld, StandsOnBanks}
@@ -22,7 +23,7 @@ use Rattle.mld_replay.specs.Stops.{StopsWith}
 use Rattle.mld_replay.specs.declared.stops.LineStop.TheVariants as stops
 use Rattle.mld_replay.proofs.MeterLemmas.{well_same, well_then, stop_later}
 use Rattle.net_world.specs.Worlds.{Stepped, FollowsOnBanks}
-use Rattle.mld_replay.specs.Stages.{StageStands, SpellsAt, IsStandingStage, ActsWell, EndsWell}
+use Rattle.mld_replay.specs.Stages.{StageStands, SpellsAt, steps_of, GetsProperty, GetsNone, IsStandingStage, ActsWell, EndsWell}
 use Rattle.mld_replay.specs.declared.stops.LineStop.{LineStop}
 use Rattle.mld_replay.specs.declared.stages.Stage.{Stage as RunningStage}
 use Rattle.mld_replay.specs.declared.stages.Stage.TheVariants as stages
@@ -31,7 +32,9 @@ use Rattle.mld_replay.specs.declared.stages.Stage.TheVariants as stages
 
 -- by what a domain line spells clones may be founded
 spelled_setup : (line : List ℕ) (setup : ModelSetup) → SpellsSetup line setup → IsSetup setup
-spelled_setup line setup spelled = record { name = spelled.name; some = spelled.some; most = spelled.most }
+spelled_setup line setup spelled =
+    let few : length setup.properties ≤ single_limit = subst (λ (l : List (List ℕ)). length l ≤ single_limit) (sym spelled.none) (omega arith) in
+    record { name = spelled.name; some = spelled.some; most = spelled.most; few = few }
 
 -- it is the domain line
 pub set_up : {B : Type 0} (log : B → Option Log) (line : List ℕ) (read : SetupLine) (setup : Setup) (blanks : Vec B Global) (text : List ℕ) → read ≡ lines.Setup setup → SetupIs line None read
@@ -119,9 +122,10 @@ pub bad_running : {B : Type 0} (log : B → Option Log) (running : BankedWorld B
 bad_running log running domain line same bad model stands =
     (bad.0, bad.1, λ command spells. bad.2 command (subst (λ (d : List ℕ). SpellsCommand d line command) (sym (same ∙ stands.memory.domain)) spells))
 
-pub bad_set_up : (setup : Setup) (domain line : List ℕ) → domain ≡ setup.domain → IsBadCommand domain line → IsBad (SetUp (setup_of setup)) line
-bad_set_up setup domain line same bad =
-    (bad.0, bad.1, λ command spells. bad.2 command (subst (λ (d : List ℕ). SpellsCommand d line command) (sym same) spells))
+pub bad_set_up : (setup : Setup) (domain line : List ℕ) → domain ≡ setup.domain → ((property : List ℕ) → ¬ SetsProperty (setup_of setup) line property) → IsBadCommand domain line
+    → IsBad (SetUp (setup_of setup)) line
+bad_set_up setup domain line same none bad =
+    (bad.0, bad.1, (none, λ command spells. bad.2 command (subst (λ (d : List ℕ). SpellsCommand d line command) (sym same) spells)))
 
 -- it says nothing
 pub nothing_said : {B : Type 0} (log : B → Option Log) (stage : Stage) (domain line : List ℕ) (read : Option Command) (running : RunningStage B) → read ≡ None → CommandIs domain line read
@@ -141,6 +145,12 @@ set_up_stage {B = B} log P state setup blanks is h stage stands = let Q : Runnin
     at Waiting stands = absurd stands
     at (SetUp model) stands = subst (λ s. P (SetUp s)) stands.0 (h (subst (λ s. IsSetup s) (sym stands.0) stands.1))
     at (Running world) stands = absurd stands
+
+-- a line that sets no property and is no command in its domain is bad
+pub bad_here : {B : Type 0} (log : B → Option Log) (state : RunningStage B) (setup : Setup) (blanks : Vec B Global) (domain line : List ℕ) → state ≡ stages.SetUp setup blanks → domain ≡ setup.domain
+    → GetsNone line state → IsBadCommand domain line → (stage : Stage) → StageStands log state stage → IsBad stage line
+bad_here {B = B} log state setup blanks domain line is same none bad =
+    set_up_stage log (λ stage. IsBad stage line) state setup blanks is (λ may. bad_set_up setup domain line same (subst (λ (s : RunningStage B). GetsNone line s) is none) bad)
 
 -- what is spelled in the domain that is set up is spelled at that stage
 spells_set_up : {B : Type 0} (log : B → Option Log) (state : RunningStage B) (setup : Setup) (blanks : Vec B Global) (domain line : List ℕ) (command : Command) → state ≡ stages.SetUp setup blanks
@@ -194,6 +204,71 @@ running_stage {B = B} log P state running is h stage stands = let Q : RunningSta
 -- a state that is over stands for none
 pub over_stage : {B : Type 0} (log : B → Option Log) (state : RunningStage B) (banks : Vec B Global) → state ≡ stages.Over banks → IsStandingStage log state → ⊥
 over_stage {B = B} log state banks is standing = let Q : RunningStage B → Type 0 = λ s. StageStands log s standing.stage in subst Q is standing.stands
+
+-- ---- a line that sets a property
+
+-- one more property leaves a setup one by which clones may be founded
+one_more : (setup : ModelSetup) (line property : List ℕ) → SetsProperty setup line property → IsSetup setup → IsSetup (with_property setup property)
+one_more setup line property sets may =
+    let few : length (setup.properties ++ property ∷ []) ≤ single_limit = omega (arith, sets.room, length-append setup.properties (property ∷ [])) in
+    record { name = may.name; some = may.some; most = may.most; few = few }
+
+-- so it is set at the stage
+set_at : {B : Type 0} (log : B → Option Log) (setup next : Setup) (blanks others : Vec B Global) (line text : List ℕ) → SetupIs line (Some setup) (lines.Setup next) → others ≡ blanks
+    → text ≡ reply_text PropertySet → (stage : Stage) → StageStands log (stages.SetUp setup blanks) stage → ActsWell log stage line text (stages.SetUp next others)
+set_at log setup next blanks others line text is same writes Waiting stands = absurd stands
+set_at {B = B} log setup next blanks others line text is same writes (SetUp model) stands =
+    let sets : SetsProperty model line is.0 = subst (λ (s : ModelSetup). SetsProperty s line is.0) stands.0 is.1 in
+    record {
+      next = SetUp (with_property model is.0);
+      acts = sets_property (record { property = is.0; sets = sets; replies = writes; changes = refl });
+      stands = (is.2 ∙ ap (λ (s : ModelSetup). with_property s is.0) stands.0, one_more model line is.0 sets stands.1, ap (λ (b : Vec B Global). length b.items) same ∙ stands.2);
+    }
+set_at log setup next blanks others line text is same writes (Running world) stands = absurd stands
+
+pub property_set : {B : Type 0} (log : B → Option Log) (line text : List ℕ) (old new : RunningStage B) → GetsProperty line old new → text ≡ reply_text PropertySet
+    → (stage : Stage) → StageStands log old stage → ActsWell log stage line text new
+property_set log line text (stages.SetUp setup blanks) (stages.SetUp next others) gets writes = set_at log setup next blanks others line text gets.0 gets.1 writes
+property_set log line text (stages.SetUp setup blanks) (stages.Waiting others) gets writes = absurd gets
+property_set log line text (stages.SetUp setup blanks) (stages.Running running) gets writes = absurd gets
+property_set log line text (stages.SetUp setup blanks) (stages.Over others) gets writes = absurd gets
+property_set log line text (stages.Waiting blanks) new gets writes = absurd gets
+property_set log line text (stages.Running running) new gets writes = absurd gets
+property_set log line text (stages.Over banks) new gets writes = absurd gets
+
+-- no step was made
+pub property_steps : {B : Type 0} (line : List ℕ) (old new : RunningStage B) → GetsProperty line old new → steps_of new ≡ 0
+property_steps line (stages.SetUp setup blanks) (stages.SetUp next others) gets = refl
+property_steps line (stages.SetUp setup blanks) (stages.Waiting others) gets = absurd gets
+property_steps line (stages.SetUp setup blanks) (stages.Running running) gets = absurd gets
+property_steps line (stages.SetUp setup blanks) (stages.Over others) gets = absurd gets
+property_steps line (stages.Waiting blanks) new gets = absurd gets
+property_steps line (stages.Running running) new gets = absurd gets
+property_steps line (stages.Over banks) new gets = absurd gets
+
+-- what was read of the line, and put in place of what was taken out
+pub got_property : {B : Type 0} (line : List ℕ) (old : RunningStage B) (setup next : Setup) (blanks : Vec B Global) → old ≡ stages.SetUp setup blanks → SetupIs line (Some setup) (lines.Setup next)
+    → GetsProperty line old (stages.SetUp next blanks)
+got_property {B = B} line old setup next blanks is reads = subst (λ (s : RunningStage B). GetsProperty line s (stages.SetUp next blanks)) (sym is) (reads, refl)
+
+pub got_none : {B : Type 0} (line : List ℕ) (old : RunningStage B) (setup : Setup) (blanks : Vec B Global) (so_far : Option Setup) → old ≡ stages.SetUp setup blanks
+    → SetupIs line (Some setup) (lines.Other so_far) → GetsNone line old
+got_none {B = B} line old setup blanks so_far is reads = subst (λ (s : RunningStage B). GetsNone line s) (sym is) reads.1
+
+pub same_set_up : {B : Type 0} (line : List ℕ) (old : RunningStage B) (setup other : Setup) (blanks : Vec B Global) → old ≡ stages.SetUp setup blanks
+    → SetupIs line (Some setup) (lines.Other (Some other)) → stages.SetUp other blanks ≡ old
+same_set_up {B = B} line old setup other blanks is reads =
+    let told : ◌≡◌ {A = Option Setup} (Some other) (Some setup) = reads.0 in
+    let same : other ≡ setup = cc in
+    let state : Setup → RunningStage B = λ s. stages.SetUp s blanks in
+    ap state same ∙ sym is
+
+-- a line is done alike in a state that is the same
+pub acted_same : {B : Type 0} (log : B → Option Log) (result : Result (Unit {0}) LineStop) (old same new : RunningStage B) (line text : List ℕ) → same ≡ old
+    → OnOk result ((stage : Stage) → StageStands log same stage → ActsWell log stage line text new)
+    → OnOk result ((stage : Stage) → StageStands log old stage → ActsWell log stage line text new)
+acted_same {B = B} log result old same new line text is =
+    subst (λ (s : RunningStage B). OnOk result ((stage : Stage) → StageStands log s stage → ActsWell log stage line text new)) is
 
 -- ---- the end of the lines
 

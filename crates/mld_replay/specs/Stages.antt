@@ -1,12 +1,13 @@
 -- What the state of a schedule has to do with the stage of the model.
-use Rattle.std.specs.Prelude.{◌≡◌, ℕ, List, Option, length}
+use Rattle.std.specs.Prelude.{◌≡◌, ℕ, List, Option, Some, length}
 use Rattle.mld_io.specs.Disk.{Log}
 use Rattle.mld_model.specs.World.{World, clone_count}
 use Rattle.mld_model.specs.Sound.{IsSound}
 use Rattle.schedule_model.specs.declared.Command.{Command}
 use Rattle.schedule_model.specs.Runs.{Stage, Waiting, SetUp, Running, IsWorldOf, Acts}
-use Rattle.schedule_model.specs.Schedule.{IsSetup, SpellsCommand}
-use Rattle.schedule_text.specs.ReadLines.{setup_of}
+use Rattle.schedule_model.specs.Schedule.{IsSetup, SetsProperty, SpellsCommand}
+use Rattle.schedule_text.specs.ReadLines.{setup_of, SetupIs}
+use Rattle.schedule_text.specs.declared.setups.SetupLine.TheVariants as lines
 use Rattle.net_world.specs.WorldBanks.{StandsOnBanks, banks_of}
 use Rattle.mld_replay.specs.declared.stages.Stage.{Stage as RunningStage}
 use Rattle.mld_replay.specs.declared.stages.Stage.TheVariants as stages
@@ -45,6 +46,16 @@ banks_of_stage (stages.Over banks) = banks.items
 abbrev pub IsSetUpState : {B : Type 0} → RunningStage B → Type 0
 IsSetUpState (stages.SetUp setup blanks) = Unit {0}
 IsSetUpState state = ⊥
+
+-- the line sets one more property of a domain that is set up, on the same banks
+abbrev pub GetsProperty : {B : Type 0} → List ℕ → RunningStage B → RunningStage B → Type 0
+GetsProperty line (stages.SetUp setup blanks) (stages.SetUp next others) = SetupIs line (Some setup) (lines.Setup next) × (others ≡ blanks)
+GetsProperty line old new = ⊥
+
+-- the domain is set up, and the line sets none
+abbrev pub GetsNone : {B : Type 0} → List ℕ → RunningStage B → Type 0
+GetsNone line (stages.SetUp setup blanks) = (property : List ℕ) → ¬ SetsProperty (setup_of setup) line property
+GetsNone line state = ⊥
 
 -- why a world isn't founded, or a command of it not done: a device failed, or there was want of memory
 abbrev pub IsWorldStop : LineStop → Type 0

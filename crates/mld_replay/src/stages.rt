@@ -1,22 +1,22 @@
 //! How far a schedule has come, and what a line makes of that.
-ghost use Rattle.std.specs.Prelude.{◌≡◌, ◌<◌, ◌≤◌, ◌+◌, [], ℕ, List, IfOk, IfErr, OnOk, OnErr, IsErrOf};
+ghost use Rattle.std.specs.Prelude.{◌≡◌, ◌<◌, ◌≤◌, ◌+◌, [], ℕ, List, IsTrue, IfOk, IfErr, OnOk, OnErr, IsErrOf};
 ghost use Rattle.mld_model.specs.World.{World as ModelWorld};
 ghost use Rattle.mld_model.specs.Sound.{IsSound};
 ghost use Rattle.net_world.specs.WorldBanks.{StandsOnBanks, banks_of};
 ghost use Rattle.schedule_model.specs.Runs.{Stage as ModelStage, Waiting, Running, IsBad, IsUnbuilt};
-ghost use Rattle.schedule_model.specs.Step.{HasCloneNumbers, HasQueryInForm};
+ghost use Rattle.schedule_model.specs.Step.{HasCloneNumbers, IsCommandInForm};
 ghost use Rattle.net_world.specs.Worlds.{IsStanding, Stepped};
 ghost use Rattle.schedule_model.specs.WorldStep.{step_limit};
 ghost use Rattle.mld_replay.specs.BankFaults.{AreWell};
 ghost use Rattle.mld_replay.specs.Stops.{StopsWith};
-ghost use Rattle.mld_replay.specs.Stages.{StageStands, SpellsAt, IsStandingStage, IsSetUpState, IsWorldStop, steps_of, banks_of_stage, ActsWell, EndsWell};
+ghost use Rattle.mld_replay.specs.Stages.{StageStands, SpellsAt, IsStandingStage, IsSetUpState, GetsProperty, GetsNone, IsWorldStop, steps_of, banks_of_stage, ActsWell, EndsWell};
 ghost use Rattle.mld_replay.specs.declared.stages.Stage.TheVariants as stages;
 
 use crate::stops::LineStop;
 use journal_store::Blank;
 use mld_io::{Banks, CrashBanks};
 use net_world::World;
-use schedule_replies::push_ready;
+use schedule_replies::{push_property_set, push_ready};
 use schedule_text::{Command, Setup, SetupLine, read_command, read_setup};
 use std::alloc::Global;
 use std::mem;
@@ -57,10 +57,7 @@ pub fn act<R: Threads, B: CrashBanks>(
     reply.clear();
     match stage {
         Stage::Waiting(_) => set_up(alloc, stage, line, reply),
-        Stage::SetUp(setup, _) => match read_command(alloc, line, setup.domain.as_str())? {
-            None => Ok(()),
-            Some(command) => start(rt, alloc, stage, &command, reply),
-        },
+        Stage::SetUp(_, _) => set_or_start(rt, alloc, stage, line, reply),
         Stage::Running(world) => command(rt, alloc, world, line, reply),
         Stage::Over(_) => unreachable!(),
     }
@@ -105,6 +102,96 @@ fn take_waiting<B: CrashBanks>(alloc: Global, stage: &mut Stage<B>) -> Vec<Blank
     }
 }
 
+/// Does a line once the domain is set up, while no clone is founded, and makes the text of its reply: it sets one more single-valued
+/// property, or it may be the first command.
+fn set_or_start<R: Threads, B: CrashBanks>(
+    rt: &R,
+    alloc: Global,
+    stage: &mut Stage<B>,
+    line: &[u8],
+    reply: &mut Vec<u8>,
+) -> Result<(), LineStop>
+    requires standing { IsStandingStage B.log stage.old }
+    requires set_up { IsSetUpState stage.old }
+    requires empty { reply.old.items ≡ [] }
+    ensures ok { OnOk result ((model : ModelStage) → StageStands B.log stage.old model → ActsWell B.log model line.now reply.new.items stage.new) }
+    ensures steps { OnOk result (steps_of stage.new ≤ 1) }
+    ensures bad { IsErrOf result LineStop.BadLine → (model : ModelStage) → StageStands B.log stage.old model → IsBad model line.now }
+    ensures kept { IsErrOf result LineStop.BadLine → stage.new ≡ stage.old }
+    ensures unbuilt { IsErrOf result LineStop.Unbuilt → IsUnbuilt line.now }
+    ensures kept_unbuilt { IsErrOf result LineStop.Unbuilt → stage.new ≡ stage.old }
+    ensures well { OnOk result (AreWell B.meter (banks_of_stage stage.old) (banks_of_stage stage.new)) }
+    ensures back { IfErr result (StopsWith B.meter (banks_of_stage stage.old) (banks_of_stage stage.new)) }
+{
+    let is_set = set_property(alloc, stage, line)?;
+    if is_set {
+        push_property_set(reply)?;
+        return Ok(());
+    }
+    first(rt, alloc, stage, line, reply)
+}
+
+/// Sets a single-valued property, where the line says one and no more lines did than may; whether it did. Else the stage is as it was, but
+/// for want of memory, which leaves the banks alone.
+fn set_property<B: CrashBanks>(
+    alloc: Global,
+    stage: &mut Stage<B>,
+    line: &[u8],
+) -> Result<bool, LineStop>
+    requires { IsSetUpState stage.old }
+    ensures set { IfOk result (λ set. IsTrue set → GetsProperty line.now stage.old stage.new) }
+    ensures none { IfOk result (λ set. ¬ IsTrue set → GetsNone line.now stage.old) }
+    ensures kept { IfOk result (λ set. ¬ IsTrue set → stage.new ≡ stage.old) }
+    ensures banks { banks_of_stage stage.new ≡ banks_of_stage stage.old }
+    ensures err { IfErr result (λ stop. stop ≡ LineStop.NoMemory) }
+{
+    let (setup, blanks) = take_set_up(alloc, stage);
+    match read_setup(alloc, line, Some(setup)) {
+        Ok(SetupLine::Setup(next)) => {
+            *stage = Stage::SetUp(next, blanks);
+            Ok(true)
+        }
+        Ok(SetupLine::Other(Some(setup))) => {
+            *stage = Stage::SetUp(setup, blanks);
+            Ok(false)
+        }
+        Ok(SetupLine::Other(None)) => unreachable!(),
+        Err(refusal) => {
+            *stage = Stage::Waiting(blanks);
+            Err(LineStop::from(refusal))
+        }
+    }
+}
+
+/// Does a line that sets no property while no clone is founded, and makes the text of its reply. A command founds the clones.
+fn first<R: Threads, B: CrashBanks>(
+    rt: &R,
+    alloc: Global,
+    stage: &mut Stage<B>,
+    line: &[u8],
+    reply: &mut Vec<u8>,
+) -> Result<(), LineStop>
+    requires standing { IsStandingStage B.log stage.old }
+    requires none { GetsNone line.now stage.old }
+    requires empty { reply.old.items ≡ [] }
+    ensures ok { OnOk result ((model : ModelStage) → StageStands B.log stage.old model → ActsWell B.log model line.now reply.new.items stage.new) }
+    ensures steps { OnOk result (steps_of stage.new ≤ 1) }
+    ensures bad { IsErrOf result LineStop.BadLine → (model : ModelStage) → StageStands B.log stage.old model → IsBad model line.now }
+    ensures kept { IsErrOf result LineStop.BadLine → stage.new ≡ stage.old }
+    ensures unbuilt { IsErrOf result LineStop.Unbuilt → IsUnbuilt line.now }
+    ensures kept_unbuilt { IsErrOf result LineStop.Unbuilt → stage.new ≡ stage.old }
+    ensures well { OnOk result (AreWell B.meter (banks_of_stage stage.old) (banks_of_stage stage.new)) }
+    ensures back { IfErr result (StopsWith B.meter (banks_of_stage stage.old) (banks_of_stage stage.new)) }
+{
+    match stage {
+        Stage::SetUp(setup, _) => match read_command(alloc, line, setup.domain.as_str())? {
+            None => Ok(()),
+            Some(command) => start(rt, alloc, stage, &command, reply),
+        },
+        _ => unreachable!(),
+    }
+}
+
 /// Founds the clones of a domain that is set up by its first command, and makes the text of the command's reply.
 fn start<R: Threads, B: CrashBanks>(
     rt: &R,
@@ -116,7 +203,7 @@ fn start<R: Threads, B: CrashBanks>(
     requires standing { IsStandingStage B.log stage.old }
     requires set_up { IsSetUpState stage.old }
     requires numbers { HasCloneNumbers command.now }
-    requires form { HasQueryInForm command.now }
+    requires form { IsCommandInForm command.now }
     requires empty { reply.old.items ≡ [] }
     ensures ok { OnOk result ((model : ModelStage) (line : List ℕ) → StageStands B.log stage.old model → SpellsAt model line command.now
         → ActsWell B.log model line reply.new.items stage.new) }
@@ -205,7 +292,7 @@ fn step<R: Threads, B: CrashBanks>(
     requires few { world.old.steps < step_limit }
     requires standing { IsStanding B.log world.old }
     requires numbers { HasCloneNumbers command.now }
-    requires form { HasQueryInForm command.now }
+    requires form { IsCommandInForm command.now }
     requires empty { reply.old.items ≡ [] }
     ensures ok { OnOk result (Stepped B.log world.old command.now world.new [] reply.new.items) }
     ensures steps { OnOk result (world.new.steps ≡ world.old.steps + 1) }

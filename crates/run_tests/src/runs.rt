@@ -30,7 +30,7 @@ fn ends<R: Threads>(
 fn a_line_that_is_no_command_ends_the_run(rt: HostRuntime) -> Result<(), Fail> {
     let bad = RunFault::BadLine;
     let unbuilt = RunFault::Unbuilt;
-    let cases: [(&[u8], u8, RunFault, &[u8], bool); 10] = [
+    let cases: [(&[u8], u8, RunFault, &[u8], bool); 13] = [
         // Bytes that no transcript has.
         (b"\n# c\n\xff\n", 4, bad(3), b"", false),
         (b"domain d clones 2\r\n", 4, bad(1), b"", false),
@@ -55,6 +55,20 @@ fn a_line_that_is_no_command_ends_the_run(rt: HostRuntime) -> Result<(), Fail> {
             b"ready 2\n",
             false,
         ),
+        (
+            b"domain d clones 2\nsingle <a:\xff>\n",
+            4,
+            bad(2),
+            b"ready 2\n",
+            false,
+        ),
+        (
+            b"domain d clones 2\nupdate 0 {\"p\":\"\xff\"}\n",
+            4,
+            bad(2),
+            b"ready 2\n",
+            false,
+        ),
         // A world is told of where a command was done.
         (
             b"domain d clones 1\n\n# c\nshow\nshow 0\n",
@@ -71,7 +85,8 @@ fn a_line_that_is_no_command_ends_the_run(rt: HostRuntime) -> Result<(), Fail> {
             true,
         ),
         (b"", 4, bad(1), b"", false),
-        (b"single\n", 20, unbuilt(1), b"", false),
+        (b"single <a:b>\n", 4, bad(1), b"", false),
+        (b"crash\n", 20, unbuilt(1), b"", false),
         (
             b"domain d clones 1\nshow 0\ncrash 0\n",
             20,

@@ -1,0 +1,15 @@
+use Rattle.std.proofs.Common.{◌∙◌, ◌++◌, ap, List, ℕ, arith}
+use Rattle.mld_model.specs.Reply.{PropertySet}
+use Rattle.schedule_model.specs.ReplyText.{reply_text}
+use Rattle.mld_replay.proofs.StageLemmas.{property_set, property_steps}
+use Rattle.mld_replay.proofs.stages.set_or_start.Goals as goal
+
+pub returns-then-is_set-clause-ok : goal.returns-then-is_set-clause-ok
+returns-then-is_set-clause-ok g c =
+    property_set g.B.Banks.log c.args.line.now c.push_property_set.new.out.items c.args.stage.now c.set_property.new.stage (c.in_ok-is_set.ensures.set c.if-is_set.true)
+    (c.in_ok-push_property_set.ensures.ok ∙ ap (λ (t : List ℕ). t ++ reply_text PropertySet) c.requires.empty)
+
+pub returns-then-is_set-clause-steps : goal.returns-then-is_set-clause-steps
+returns-then-is_set-clause-steps g c =
+    let none = property_steps c.args.line.now c.args.stage.now c.set_property.new.stage (c.in_ok-is_set.ensures.set c.if-is_set.true) in
+    omega (arith, none)
