@@ -43,7 +43,7 @@ fn push_restart(made: &mut String, clone: u8) -> Result<(), AllocError> {
 /// The places of a transcript where a clone may stop and open, as numbers of lines that were given before.
 #[derive(Clone, Copy)]
 pub struct Places {
-    /// The first: behind the line that sets up the domain.
+    /// The first: behind the lines that set up the domain and its single-valued properties.
     pub first: u64,
     /// The one after the last: the last is behind all lines.
     pub end: u64,
@@ -61,7 +61,7 @@ pub fn places_of(text: &str) -> Option<Places> {
         if line.starts_with(GIVEN) {
             count = count.saturating_add(1);
         }
-        if line.starts_with("> domain ") && found.is_none() {
+        if line.starts_with("> domain ") || line.starts_with("> single ") {
             found = Some(count);
         }
         ends = line == "= 0";
