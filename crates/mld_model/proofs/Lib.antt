@@ -1,4 +1,7 @@
 pub mod StateLaws
+pub mod CrashedLaws
+pub mod FoundingLaws
+pub mod FrontLaws
 pub mod UpdateLaws
 pub mod PairsLaws
 pub mod LocalLaws

@@ -1,5 +1,5 @@
--- What a clone keeps on its device, and the durable steps that change it. A crash leaves a prefix of a list of them (`take`).
-use Rattle.std.specs.Prelude.{List, [], ◌∷◌, Option, Some, None, take, ℕ}
+-- What a clone keeps on its device, and the durable steps that change it. A crash leaves a front of a list of them (`CrashFronts.antt`).
+use Rattle.std.specs.Prelude.{List, [], ◌∷◌, Option, Some, None}
 use Rattle.tree_clock.specs.declared.dots.Range.{Range}
 use Rattle.mld_ops.specs.History.{Operation}
 use Rattle.mld_ops.specs.Effect.{range_of}
@@ -38,11 +38,3 @@ abbrev pub history_after : List Operation → List DurableStep → List Operatio
 history_after history [] = history
 history_after history (AppendsMade operation ∷ steps) = history_after (operation ∷ history) steps
 history_after history (step ∷ steps) = history_after history steps
-
--- what is kept where so many of the durable steps stand, the first ones: a crash leaves a front of them
-abbrev pub kept_at_front : Option Stored → List DurableStep → ℕ → Option Stored
-kept_at_front kept steps count = kept_after kept (take count steps)
-
--- and the history there
-abbrev pub history_at_front : List Operation → List DurableStep → ℕ → List Operation
-history_at_front history steps count = history_after history (take count steps)

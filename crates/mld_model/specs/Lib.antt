@@ -4,6 +4,8 @@ pub mod Reply
 pub mod Comparing
 pub mod CloneStep
 pub mod Durable
+pub mod CrashFronts
+pub mod FoundingSteps
 pub mod Sound
 pub mod StandsFor
 pub mod Local

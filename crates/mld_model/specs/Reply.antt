@@ -62,3 +62,7 @@ pub data Reply : Type 0 where
   Stopped : Reply
   -- a clone that was down is live
   Opened : Reply
+  -- a crash caught a call of the command's clone
+  Crashed : Reply
+  -- no call was caught: this is the reply of the command, and then its clone crashed
+  ThenCrashed : Reply → Reply

@@ -2,9 +2,11 @@
 //! Another program can stand on it: it knows no lines and no commands. Its function has no code, and carries laws as its contract.
 #![tactic(auto)]
 
+mod founding;
 mod limits;
 mod steps;
 
+pub use founding::founding_steps_lead;
 pub use limits::CLONE_COUNT;
 pub use steps::local_steps_follow;
 
