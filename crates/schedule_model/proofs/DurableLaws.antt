@@ -1,4 +1,4 @@
--- The durable steps of a command lead to the next world.
+-- The durable steps of a plain command lead to the next world, and are one list.
 use Rattle.std.specs.Prelude.{◌≡◌, ◌≢◌, ℕ, ◌<◌, List, [], ◌∷◌, ◌++◌, ◌⊎◌, ◌+◌, ◌-◌, ◌≤◌, Option, Some, None, MatchOption, map, length, take, drop}
 use Rattle.std.proofs.Common.{refl, sym, ◌∙◌, ap, arith, subst, inl, inr, get_or, set, append-nil, append_assoc}
 use Rattle.std.proofs.lemmas.Bool.{cases_order}
@@ -7,12 +7,12 @@ use Rattle.tree_clock.specs.declared.dots.Range.{Range}
 use Rattle.mld_ops.specs.declared.tagged.Tagged.{Tagged}
 use Rattle.mld_ops.specs.History.{Operation, dot_at}
 use Rattle.schedule_model.specs.declared.Command.{Command}
-use Rattle.schedule_model.specs.declared.Command.TheVariants.{Add, Remove, Update, Deliver, Show, Query, Compare, Join, Ask, Compact, Truncate, Stop, Open}
+use Rattle.schedule_model.specs.declared.Command.TheVariants.{Add, Remove, Update, Deliver, Show, Query, Compare, Join, Ask, Compact, Truncate, Stop, Open, Crash}
 use Rattle.mld_ops.specs.Effects.{EffectValue, operation_of}
 use Rattle.jrql_ast.specs.declared.plans.UpdatePlan.{UpdatePlan}
 use Rattle.jrql_ast.specs.Templates.{insertion_of, deletion_of}
 use Rattle.mld_model.specs.Clone.{Clone, Absent, Asking, Empty, Down, Live, Stored, known_of, with_range, merged_with, truncated_to, Releases, kept_of}
-use Rattle.mld_model.specs.World.{World, Message, RangeOf, Want, SnapshotOf, JoinAsk, JoinGive, message_at, clone_count, clone_at, with_clone}
+use Rattle.mld_model.specs.World.{World, Message, RangeOf, Want, SnapshotOf, JoinAsk, JoinGive, message_at, clone_at, with_clone}
 use Rattle.mld_model.specs.Reply.{Reply, Did, Took, Merged, AlreadyKnown, Answer, Joined, NoMessage, Ignored, IsAbsent, IsDown}
 use Rattle.mld_model.specs.CloneStep.{Answers, Makes, Updates, changes_nothing, breaks_single, makes_operation, Accepts, HoldsBack, holds_already, holds_too_many, holds_from_now, TakesRange, knows_already, accepts, holds_back, Asks, Joins, left_half, TakesAsk, asked_itself, is_too_deep, forks, joined_with, TakesLeaf, becomes_live, leaves_it, AskerTakes, LiveTakes, Takes, Stops, Reopens, TakesWant, lacks_nothing, sends_ranges, sends_snapshot, Merges, TakesSnapshot, knows_all, merges, Wants, Compacts, Truncates}
 use Rattle.mld_model.proofs.StateLaws.{by_state, IsState, is_absent, is_asking, is_down, if_live, if_opens}
@@ -20,15 +20,16 @@ use Rattle.op_fusion.specs.Compacting.{AreCompacted}
 use Rattle.mld_model.proofs.CompactedJournals.{compacted_shrinks}
 use Rattle.schedule_model.specs.Updating.{UpdatesByPlan}
 use Rattle.schedule_model.proofs.PlanLaws.{if_planned}
-use Rattle.schedule_model.proofs.StepSoundLaws.{lists_same, queries_same, weighs_same}
+use Rattle.schedule_model.proofs.PlainSound.{lists_same, queries_same, weighs_same}
 use Rattle.mld_model.specs.Durable.{DurableStep, AppendsMade, AppendsTaken, Swaps, kept_after, history_after}
-use Rattle.schedule_model.specs.Step.{Step, number_of_clone}
-use Rattle.schedule_model.specs.DurableSteps.{SwapsDurably, keeps_the_same, swaps_it, MakesDurably, taking_steps, giving_steps, joining_steps, merging_steps, message_steps, DurableSteps, LeadsDurably, DurableStepsLead, OneDurableList}
+use Rattle.schedule_model.specs.Step.{number_of_clone}
+use Rattle.schedule_model.specs.PlainStep.{PlainStep}
+use Rattle.schedule_model.specs.PlainDurable.{SwapsDurably, keeps_the_same, swaps_it, MakesDurably, taking_steps, giving_steps, joining_steps, merging_steps, message_steps, PlainDurableSteps}
 
 -- ---- what durable steps lead to
 
 -- the steps give what the clone of the number keeps in the next world, and the history; the other clones keep what they kept
-record Leads (world : World) (number : ℕ) (steps : List DurableStep) (next : World) : Type 0 where
+pub record Leads (world : World) (number : ℕ) (steps : List DurableStep) (next : World) : Type 0 where
   pub kept : kept_after (kept_of (clone_at world number)) steps ≡ kept_of (clone_at next number)
   pub made : history_after world.history steps ≡ next.history
   pub others : (other : ℕ) → other ≢ number → kept_of (clone_at next other) ≡ kept_of (clone_at world other)
@@ -396,51 +397,41 @@ module _ (world next : World) (number : ℕ) where
 
 -- ---- the laws
 
--- steps of a command that lead there
-leads_durably : (world : World) (command : Command) (reply : Reply) (next : World) (steps : List DurableStep)
-    → DurableSteps world command reply next steps → Leads world (number_of_clone command) steps next → LeadsDurably world command reply next
-leads_durably world command reply next steps are leads =
-    record { steps = steps; are = are; kept = leads.kept; made = leads.made; others = leads.others }
+-- there are durable steps of a command that lead to the next world
+abbrev pub PlainlyLeads : World → Command → Reply → World → Type 0
+PlainlyLeads world command reply next =
+    (steps : List DurableStep) × PlainDurableSteps world command reply next steps × Leads world (number_of_clone command) steps next
 
--- a number of a clone is one of the places
-place_of : (world : World) (number : ℕ) → number < clone_count → length world.clones ≡ clone_count → number < length world.clones
-place_of world number small count = omega (arith, small, count)
-
--- each step of a world by a command whose clones there are has durable steps that lead to the next world
-pub durable_steps_lead : DurableStepsLead
-unfolding Step DurableSteps
-durable_steps_lead world (Add number triple) reply next small count p =
-    let made = planned_lead world next number (insertion_of triple) reply (place_of world number small count) p in
-    leads_durably world (Add number triple) reply next made.0 made.1 made.2
-durable_steps_lead world (Remove number triple) reply next small count p =
-    let made = planned_lead world next number (deletion_of triple) reply (place_of world number small count) p in
-    leads_durably world (Remove number triple) reply next made.0 made.1 made.2
-durable_steps_lead world (Update number plan) reply next small count p =
-    let made = planned_lead world next number plan reply (place_of world number small count) p in
-    leads_durably world (Update number plan) reply next made.0 made.1 made.2
-durable_steps_lead world (Deliver message number) reply next small count p =
-    let given = delivers_lead world next number (message_at world message) reply (place_of world number small count) p in
-    leads_durably world (Deliver message number) reply next given.0 given.1 given.2
-durable_steps_lead world (Show number) reply next small count p =
-    leads_durably world (Show number) reply next [] refl (same_leads world next number (lists_same world (clone_at world number) reply next p))
-durable_steps_lead world (Query number read) reply next small count p =
-    leads_durably world (Query number read) reply next [] refl (same_leads world next number (queries_same world read (clone_at world number) reply next p))
-durable_steps_lead world (Join number) reply next small count p =
-    leads_durably world (Join number) reply next [] refl (joins_lead world next number (clone_at world number) reply (place_of world number small count) refl p)
-durable_steps_lead world (Ask number) reply next small count p =
-    leads_durably world (Ask number) reply next [] refl (wants_lead world next number (clone_at world number) reply p)
-durable_steps_lead world (Compact number) reply next small count p =
-    let swapped = compacts_lead world next number (clone_at world number) reply (place_of world number small count) refl p in
-    leads_durably world (Compact number) reply next swapped.0 swapped.1 swapped.2
-durable_steps_lead world (Truncate number keep) reply next small count p =
-    let swapped = truncates_lead world next number keep (clone_at world number) reply (place_of world number small count) refl p in
-    leads_durably world (Truncate number keep) reply next swapped.0 swapped.1 swapped.2
-durable_steps_lead world (Stop number) reply next small count p =
-    leads_durably world (Stop number) reply next [] refl (stops_lead world next number (clone_at world number) reply (place_of world number small count) refl p)
-durable_steps_lead world (Open number) reply next small count p =
-    leads_durably world (Open number) reply next [] refl (opens_lead world next number (clone_at world number) reply (place_of world number small count) refl p)
-durable_steps_lead world (Compare number other) reply next small count p =
-    leads_durably world (Compare number other) reply next [] refl (same_leads world next number (weighs_same world (clone_at world number) (clone_at world other) reply next p))
+-- each step of a world by a plain command whose clone there is has such
+pub plain_leads : (world : World) (command : Command) (reply : Reply) (next : World) → number_of_clone command < length world.clones
+    → PlainStep world command reply next → PlainlyLeads world command reply next
+plain_leads world (Add number triple) reply next inside p =
+    planned_lead world next number (insertion_of triple) reply inside p
+plain_leads world (Remove number triple) reply next inside p =
+    planned_lead world next number (deletion_of triple) reply inside p
+plain_leads world (Update number plan) reply next inside p =
+    planned_lead world next number plan reply inside p
+plain_leads world (Deliver message number) reply next inside p =
+    delivers_lead world next number (message_at world message) reply inside p
+plain_leads world (Show number) reply next inside p =
+    ([], refl, same_leads world next number (lists_same world (clone_at world number) reply next p))
+plain_leads world (Query number read) reply next inside p =
+    ([], refl, same_leads world next number (queries_same world read (clone_at world number) reply next p))
+plain_leads world (Join number) reply next inside p =
+    ([], refl, joins_lead world next number (clone_at world number) reply inside refl p)
+plain_leads world (Ask number) reply next inside p =
+    ([], refl, wants_lead world next number (clone_at world number) reply p)
+plain_leads world (Compact number) reply next inside p =
+    compacts_lead world next number (clone_at world number) reply inside refl p
+plain_leads world (Truncate number keep) reply next inside p =
+    truncates_lead world next number keep (clone_at world number) reply inside refl p
+plain_leads world (Stop number) reply next inside p =
+    ([], refl, stops_lead world next number (clone_at world number) reply inside refl p)
+plain_leads world (Open number) reply next inside p =
+    ([], refl, opens_lead world next number (clone_at world number) reply inside refl p)
+plain_leads world (Compare number other) reply next inside p =
+    ([], refl, same_leads world next number (weighs_same world (clone_at world number) (clone_at world other) reply next p))
+plain_leads world (Crash call leave task) reply next inside p = absurd p
 
 -- one operation joined the history
 one_operation : (history next : List Operation) (operation other : Operation) → next ≡ operation ∷ history → next ≡ other ∷ history → operation ≡ other
@@ -468,19 +459,20 @@ swaps_once world next number steps other (swaps_it stored kept differs p) (keeps
 swaps_once world next number steps other (swaps_it stored kept differs p) (swaps_it second too apart q) =
     p ∙ ap (λ (s : Stored). Swaps s ∷ []) (one_kept stored second (sym kept ∙ too)) ∙ sym q
 
--- the durable steps of a step are one list
-pub one_durable_list : OneDurableList
-unfolding DurableSteps
-one_durable_list world (Add number triple) reply next steps other p q = makes_once world reply next steps other p q
-one_durable_list world (Remove number triple) reply next steps other p q = makes_once world reply next steps other p q
-one_durable_list world (Update number plan) reply next steps other p q = makes_once world reply next steps other p q
-one_durable_list world (Deliver message number) reply next steps other p q = delivers_once (clone_at world number) (message_at world message) reply steps other p q
-one_durable_list world (Show number) reply next steps other p q = p ∙ sym q
-one_durable_list world (Query number read) reply next steps other p q = p ∙ sym q
-one_durable_list world (Join number) reply next steps other p q = p ∙ sym q
-one_durable_list world (Ask number) reply next steps other p q = p ∙ sym q
-one_durable_list world (Compact number) reply next steps other p q = swaps_once world next number steps other p q
-one_durable_list world (Truncate number keep) reply next steps other p q = swaps_once world next number steps other p q
-one_durable_list world (Stop number) reply next steps other p q = p ∙ sym q
-one_durable_list world (Open number) reply next steps other p q = p ∙ sym q
-one_durable_list world (Compare number second) reply next steps other p q = p ∙ sym q
+-- the durable steps of a step by a plain command are one list
+pub plain_list_once : (world : World) (command : Command) (reply : Reply) (next : World) (steps other : List DurableStep)
+    → PlainDurableSteps world command reply next steps → PlainDurableSteps world command reply next other → steps ≡ other
+plain_list_once world (Add number triple) reply next steps other p q = makes_once world reply next steps other p q
+plain_list_once world (Remove number triple) reply next steps other p q = makes_once world reply next steps other p q
+plain_list_once world (Update number plan) reply next steps other p q = makes_once world reply next steps other p q
+plain_list_once world (Deliver message number) reply next steps other p q = delivers_once (clone_at world number) (message_at world message) reply steps other p q
+plain_list_once world (Show number) reply next steps other p q = p ∙ sym q
+plain_list_once world (Query number read) reply next steps other p q = p ∙ sym q
+plain_list_once world (Join number) reply next steps other p q = p ∙ sym q
+plain_list_once world (Ask number) reply next steps other p q = p ∙ sym q
+plain_list_once world (Compact number) reply next steps other p q = swaps_once world next number steps other p q
+plain_list_once world (Truncate number keep) reply next steps other p q = swaps_once world next number steps other p q
+plain_list_once world (Stop number) reply next steps other p q = p ∙ sym q
+plain_list_once world (Open number) reply next steps other p q = p ∙ sym q
+plain_list_once world (Compare number second) reply next steps other p q = p ∙ sym q
+plain_list_once world (Crash call leave task) reply next steps other p q = absurd p

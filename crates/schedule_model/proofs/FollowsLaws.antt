@@ -71,14 +71,14 @@ module _ (running : RunningWorld) (world : World) (stands : StandsFor running wo
       let done : IsDone world.history last = is_next.causes.done last (known (suc before) (omega arith) (omega arith)) in
       omega (arith, stands.ticks done.operation done.stands, ap (λ (d : Dot). d.tick) done.is)
 
-  ticks_grown : (after : List Operation) → Grows world.history after → (operation : Operation) → Has after operation → operation.dot.tick ≤ running.steps + 1
+  pub ticks_grown : (after : List Operation) → Grows world.history after → (operation : Operation) → Has after operation → operation.dot.tick ≤ running.steps + 1
   ticks_grown after (stays same) operation h = omega (arith, stands.ticks operation (subst (λ (history : List Operation). Has history operation) same h))
   ticks_grown after (grows_by made is_next same) operation h = elim (subst (λ (history : List Operation). Has history operation) same h) [
     | inl it ↦ let P : Operation → Type 0 = λ o. o.dot.tick ≤ running.steps + 1 in subst P it (tick_within made is_next made.dot.tick is_next.ticks)
     | inr old ↦ omega (arith, stands.ticks operation old)
   ]
 
-  messages_grown : (after : List Operation) → Grows world.history after → AllZip (MessageStandsFor after) running.messages world.messages
+  pub messages_grown : (after : List Operation) → Grows world.history after → AllZip (MessageStandsFor after) running.messages world.messages
   messages_grown after (stays same) =
       subst (λ (history : List Operation). AllZip (MessageStandsFor history) running.messages world.messages) (sym same) stands.messages
   messages_grown after (grows_by made is_next same) =
@@ -95,7 +95,7 @@ module _ (running : RunningWorld) (world : World) (stands : StandsFor running wo
   -- ---- a step
 
   -- the clone of the number is in another state, and the others are as they were
-  clones_follow : (next : World) (number : ℕ) (new : RunningClone) → Changes world next number → CloneStandsFor next number new (clone_at next number)
+  pub clones_follow : (next : World) (number : ℕ) (new : RunningClone) → Changes world next number → CloneStandsFor next number new (clone_at next number)
       → (other : ℕ) (state : RunningClone) → slice_get (set running.clones number new) other ≡ Some state → CloneStandsFor next other state (clone_at next other)
   clones_follow next number new changes now other state is =
       let inside : other < length running.clones = omega (arith, slice_get_within (set running.clones number new) other state is, length-set running.clones number new) in

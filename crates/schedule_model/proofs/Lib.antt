@@ -3,6 +3,7 @@ mod PlansRead
 pub mod PlanLaws
 pub mod WorldLaws
 pub mod JoinLaws
+pub mod PlainChanges
 pub mod ChangesLaws
 pub mod FollowsLaws
 pub mod StopLaws
@@ -12,7 +13,15 @@ pub mod ScheduleLaws
 mod QueryLaws
 pub mod StepLaws
 pub mod RunsLaws
+pub mod PlainSound
 pub mod StepSoundLaws
+pub mod PlainAnswers
 pub mod AnswersLaws
 pub mod PromisesLaws
 pub mod DurableLaws
+pub mod FrontsStand
+pub mod CrashedSteps
+pub mod CrashedDurable
+pub mod ArmedLaws
+pub mod CrashFollows
+mod CrashRows

@@ -2,9 +2,9 @@
 use Rattle.mld_model.specs.Clone.{known_of}
 use Rattle.mld_model.specs.Sound.{IsSound}
 use Rattle.schedule_model.specs.Laws.{RunsKeepPromises}
-use Rattle.schedule_model.proofs.StepSoundLaws.{runs_sound, same_pairs, one_leaf}
+use Rattle.schedule_model.proofs.StepSoundLaws.{runs_sound, one_leaf}
 use Rattle.schedule_model.proofs.AnswersLaws.{answers_survive}
-use Rattle.schedule_model.proofs.QueryLaws.{same_answers}
+use Rattle.schedule_model.proofs.QueryLaws.{same_pairs, same_answers}
 
 pub promises_kept : RunsKeepPromises
 promises_kept lines text stage world runs founds =

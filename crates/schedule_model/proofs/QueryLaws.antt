@@ -4,7 +4,7 @@ use Rattle.std.proofs.Common.{refl, sym, ◌∙◌, ap, arith, subst}
 use Rattle.rdf_terms.specs.declared.terms.Triple.{Triple}
 use Rattle.mld_ops.specs.declared.tagged.Tagged.{Tagged}
 use Rattle.mld_ops.specs.Present.{present}
-use Rattle.mld_ops.proofs.MeaningLaws.{one_meaning}
+use Rattle.mld_ops.proofs.MeaningLaws.{one_meaning, same_known}
 use Rattle.jrql_ast.specs.declared.answers.Answer.{Answer}
 use Rattle.jrql_patterns.specs.declared.queries.ReadQuery.{ReadQuery}
 use Rattle.jrql_reply.specs.AnswerText.{SpellsAnswer}
@@ -12,12 +12,11 @@ use Rattle.mld_model.specs.Clone.{Clone, known_of}
 use Rattle.mld_model.specs.Reply.{Reply, Tells, TooMany}
 use Rattle.mld_model.specs.World.{World}
 use Rattle.mld_model.proofs.StateLaws.{AreSame, once_if_live}
-use Rattle.schedule_model.specs.Laws.{SameAnswers}
+use Rattle.schedule_model.specs.Laws.{SamePairs, SameAnswers}
 use Rattle.schedule_model.specs.Querying.{TellsAnswer, AnswersQuery, Queries}
 use Rattle.schedule_model.specs.Step.{Step}
 use Rattle.jrql_ast.proofs.OneAnswer.{one_answer}
 use Rattle.jrql_reply.proofs.OneText.{one_text}
-use Rattle.schedule_model.proofs.StepSoundLaws.{same_pairs}
 
 -- an answer has one text, and a query one answer
 one_telling : (graph : List Triple) (read : ReadQuery) (text other : List ℕ) → TellsAnswer graph read text → TellsAnswer graph read other → text ≡ other
@@ -43,7 +42,12 @@ queries_once world read clone reply other next after =
     let same : p.0 ≡ q.0 = one_meaning world.history (known_of stored) p.0 q.0 p.1 q.1 in
     (one_reply (present q.0) read reply other (subst (λ (pairs : List Tagged). AnswersQuery (present pairs) read reply) same p.2) q.2, p.3 ∙ sym q.3))
 
--- clones that know the same dots answer each query alike
+-- clones that know the same dots have the same pairs
+pub same_pairs : SamePairs
+same_pairs history known other pairs others here there p q =
+    one_meaning history other pairs others (same_known history known other pairs here there p) q
+
+-- and answer each query alike
 pub same_answers : SameAnswers
 unfolding Step
 same_answers world number other stored kept held waiting one two within back read reply second next after p q =

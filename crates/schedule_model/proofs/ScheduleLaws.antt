@@ -1,10 +1,12 @@
 -- Each line of a schedule is of one kind, and is read in one way.
-use Rattle.std.specs.Prelude.{◌≡◌, ℕ, ◌^◌, ◌<◌, List, [], ◌∷◌, ◌++◌, ◌⊎◌, false, true, ◌&&◌, IsTrue, Result, Ok, codes, nat_eq, nat_le, length}
+use Rattle.std.specs.Prelude.{◌≡◌, ℕ, ◌^◌, ◌<◌, List, [], ◌∷◌, ◌++◌, ◌⊎◌, false, ◌&&◌, IsTrue, Option, Some, None, Result, Ok, codes, nat_eq, nat_le, length}
 use Rattle.std.specs.List.{list_all}
 use Rattle.std.specs.Fmt.{decimal}
-use Rattle.std.proofs.Common.{refl, sym, ◌∙◌, subst, ap, arith, inl, inr, drop, one-add}
-use Rattle.std.proofs.lemmas.Bool.{false≢true, and_parts}
+use Rattle.std.proofs.Common.{refl, sym, ◌∙◌, subst, ap, arith, inl, inr, drop}
+use Rattle.std.proofs.lemmas.Bool.{and_parts}
 use Rattle.std.proofs.lemmas.Fmt.{decimal_injective}
+use Rattle.mld_io.specs.declared.banks.Leave.{Leave}
+use Rattle.mld_io.specs.declared.banks.Leave.TheVariants.{Lose, Keep, Torn}
 use Rattle.iri_rules.specs.Domain.{is_domain, is_domain_byte, domain_limit}
 use Rattle.rdf_terms.specs.Grammar.{SpellsIri, SpellsTriple}
 use Rattle.term_texts.specs.Marks.{dot}
@@ -19,11 +21,14 @@ use Rattle.jrql_patterns.specs.declared.queries.ReadQuery.{ReadQuery}
 use Rattle.schedule_model.specs.Characters.{space, hash_mark}
 use Rattle.mld_model.specs.World.{clone_count}
 use Rattle.schedule_model.specs.declared.Command.{Command}
-use Rattle.schedule_model.specs.declared.Command.TheVariants.{Add, Remove, Update, Deliver, Show, Query, Compare, Join, Ask, Compact, Truncate, Stop, Open}
-use Rattle.schedule_model.specs.Schedule.{IsNothing, empty, comment, is_unbuilt, Setup, SpellsSetup, SpellsSingle, SpellsCommand}
+use Rattle.schedule_model.specs.declared.Command.TheVariants.{Add, Remove, Update, Deliver, Show, Query, Compare, Join, Ask, Compact, Truncate, Stop, Open, Crash}
+use Rattle.schedule_model.specs.declared.CrashTask.{CrashTask}
+use Rattle.schedule_model.specs.declared.CrashTask.TheVariants as tasks
+use Rattle.schedule_model.specs.Schedule.{IsNothing, empty, comment, Setup, SpellsSetup, SpellsSingle, SpellsPlain, leave_word, SpellsCrash, SpellsCommand, IsCrashLine}
 use Rattle.schedule_model.proofs.LackingLaws.{Lacks, Lacks-from_test, one_split, apart, no_space}
 use Rattle.rdf_terms.proofs.Complete.{one_spelled}
-use Rattle.schedule_model.specs.Step.{HasCloneNumbers}
+use Rattle.schedule_model.specs.Tasks.{command_of, number_of_task}
+use Rattle.schedule_model.specs.Step.{HasCloneNumbers, IsTaskInForm, IsCrash}
 use Rattle.schedule_model.specs.Laws.{OneKind, OneSetup, OneProperty, OneCommand}
 use Rattle.schedule_model.proofs.PlansRead.{update_in_form}
 
@@ -56,6 +61,7 @@ begins (Truncate number keep) = 116
 begins (Stop number) = 115
 begins (Open number) = 111
 begins (Compare number other) = 99
+begins (Crash call leave task) = 99
 
 -- a command begins with that byte
 command_begins : (domain line : List ℕ) (command : Command) → SpellsCommand domain line command → (rest : List ℕ) × (line ≡ begins command ∷ rest)
@@ -73,6 +79,7 @@ command_begins domain line (Truncate number keep) h = (_, h.0)
 command_begins domain line (Stop number) h = (_, h.0)
 command_begins domain line (Open number) h = (_, h.0)
 command_begins domain line (Compare number other) h = (_, h.0)
+command_begins domain line (Crash call leave task) h = (_, h.whole)
 
 -- no command begins with `#`
 begins_apart : (command : Command) → nat_eq hash_mark (begins command) ≡ false
@@ -90,12 +97,23 @@ begins_apart (Truncate number keep) = refl
 begins_apart (Stop number) = refl
 begins_apart (Open number) = refl
 begins_apart (Compare number other) = refl
+begins_apart (Crash call leave task) = refl
 
 -- ---- numbers
 
 -- the number of a clone is a small number
 small : {number : ℕ} → number < clone_count → number < 2 ^ 64
 small h = omega arith
+
+-- the number of the clone in the command of a crash line is one of a clone that there is
+task_number : (domain text : List ℕ) (task : CrashTask) → SpellsPlain domain text (command_of task) → number_of_task task < clone_count
+task_number domain text (tasks.Add number triple) h = h.2
+task_number domain text (tasks.Remove number triple) h = h.2
+task_number domain text (tasks.Update number plan) h = h.2
+task_number domain text (tasks.Deliver message number) h = h.2
+task_number domain text (tasks.Compact number) h = h.1
+task_number domain text (tasks.Truncate number keep) h = h.1
+task_number domain text (tasks.Open number) h = h.1
 
 -- the numbers of clones in a command that a line spells are those of clones that there are
 pub spells_numbers : (domain line : List ℕ) (command : Command) → SpellsCommand domain line command → HasCloneNumbers command
@@ -112,54 +130,13 @@ spells_numbers domain line (Truncate number keep) h = h.1
 spells_numbers domain line (Stop number) h = h.1
 spells_numbers domain line (Open number) h = h.1
 spells_numbers domain line (Compare number other) h = (h.1, h.2)
+spells_numbers domain line (Crash call leave task) h = task_number domain h.text task h.spells
 
 -- a number and what stands behind the space after it
 one_number : (m n : ℕ) (x y : List ℕ) → m < 2 ^ 64 → n < 2 ^ 64 → decimal m ++ space ∷ x ≡ decimal n ++ space ∷ y → (m ≡ n) × (x ≡ y)
 one_number m n x y p q e =
     let parts = one_split space (decimal m) (decimal n) x y (no_space m p) (no_space n q) e in
     (decimal_injective m n p q parts.0, parts.1)
-
--- ---- lines that aren't built yet
-
--- a comment is none of them
-unbuilt_comment : (rest : List ℕ) → is_unbuilt (hash_mark ∷ rest) ≡ false
-unfolding is_unbuilt
-unbuilt_comment rest = rw one-add refl
-
--- nor is any line that says nothing
-unbuilt_nothing : (line : List ℕ) → IsNothing line → ¬ IsTrue (is_unbuilt line)
-unfolding is_unbuilt
-unbuilt_nothing line h u = elim (nothing_begins h) [
-  | inl none ↦ false≢true (subst (λ (l : List ℕ). is_unbuilt l ≡ true) none u)
-  | inr some ↦ false≢true (sym (unbuilt_comment some.0) ∙ subst (λ (l : List ℕ). is_unbuilt l ≡ true) some.1 u)
-]
-
--- nor a domain line
-unbuilt_setup : (line : List ℕ) (setup : Setup) → IsTrue (is_unbuilt line) → ¬ SpellsSetup line setup
-unfolding is_unbuilt
-unbuilt_setup line setup u h = false≢true (subst (λ (l : List ℕ). is_unbuilt l ≡ true) h.whole u)
-
--- nor a line that sets a property
-unbuilt_single : (line property : List ℕ) → IsTrue (is_unbuilt line) → ¬ SpellsSingle line property
-unfolding is_unbuilt
-unbuilt_single line property u h = false≢true (subst (λ (l : List ℕ). is_unbuilt l ≡ true) h.whole u)
-
--- nor a command
-unbuilt_command : (domain line : List ℕ) (command : Command) → IsTrue (is_unbuilt line) → ¬ SpellsCommand domain line command
-unfolding is_unbuilt
-unbuilt_command domain line (Add number triple) u h = false≢true (subst (λ (l : List ℕ). is_unbuilt l ≡ true) h.1 u)
-unbuilt_command domain line (Remove number triple) u h = false≢true (subst (λ (l : List ℕ). is_unbuilt l ≡ true) h.1 u)
-unbuilt_command domain line (Update number plan) u h = false≢true (subst (λ (l : List ℕ). is_unbuilt l ≡ true) h.1 u)
-unbuilt_command domain line (Deliver message number) u h = false≢true (subst (λ (l : List ℕ). is_unbuilt l ≡ true) h.0 u)
-unbuilt_command domain line (Show number) u h = false≢true (subst (λ (l : List ℕ). is_unbuilt l ≡ true) h.0 u)
-unbuilt_command domain line (Query number read) u h = false≢true (subst (λ (l : List ℕ). is_unbuilt l ≡ true) h.1 u)
-unbuilt_command domain line (Join number) u h = false≢true (subst (λ (l : List ℕ). is_unbuilt l ≡ true) h.0 u)
-unbuilt_command domain line (Ask number) u h = false≢true (subst (λ (l : List ℕ). is_unbuilt l ≡ true) h.0 u)
-unbuilt_command domain line (Compact number) u h = false≢true (subst (λ (l : List ℕ). is_unbuilt l ≡ true) h.0 u)
-unbuilt_command domain line (Truncate number keep) u h = false≢true (subst (λ (l : List ℕ). is_unbuilt l ≡ true) h.0 u)
-unbuilt_command domain line (Stop number) u h = false≢true (subst (λ (l : List ℕ). is_unbuilt l ≡ true) h.0 u)
-unbuilt_command domain line (Open number) u h = false≢true (subst (λ (l : List ℕ). is_unbuilt l ≡ true) h.0 u)
-unbuilt_command domain line (Compare number other) u h = false≢true (subst (λ (l : List ℕ). is_unbuilt l ≡ true) h.0 u)
 
 -- ---- domain lines and commands
 
@@ -178,6 +155,7 @@ setup_command domain line setup (Truncate number keep) p q = apart p.whole q.0 r
 setup_command domain line setup (Stop number) p q = apart p.whole q.0 refl
 setup_command domain line setup (Open number) p q = apart p.whole q.0 refl
 setup_command domain line setup (Compare number other) p q = apart p.whole q.0 refl
+setup_command domain line setup (Crash call leave task) p q = apart p.whole q.whole refl
 
 -- no line that sets a property is one
 single_command : (domain line property : List ℕ) (command : Command) → SpellsSingle line property → ¬ SpellsCommand domain line command
@@ -194,19 +172,16 @@ single_command domain line property (Truncate number keep) p q = apart p.whole q
 single_command domain line property (Stop number) p q = apart (ap (drop 1) p.whole) (ap (drop 1) q.0) refl
 single_command domain line property (Open number) p q = apart p.whole q.0 refl
 single_command domain line property (Compare number other) p q = apart p.whole q.0 refl
+single_command domain line property (Crash call leave task) p q = apart p.whole q.whole refl
 
 -- each line is of at most one kind
 pub one_kind : OneKind
 one_kind line = record {
-  nothing_unbuilt = unbuilt_nothing line;
   nothing_setup = λ h setup spells. nothing_apart h spells.whole refl;
   nothing_command = λ h domain command spells. let first = command_begins domain line command spells in nothing_apart h first.1 (begins_apart command);
-  unbuilt_setup = λ u setup. unbuilt_setup line setup u;
   nothing_single = λ h property spells. nothing_apart h spells.whole refl;
-  unbuilt_single = λ u property. unbuilt_single line property u;
   setup_single = λ setup spells property sets. apart spells.whole sets.whole refl;
   single_command = λ property sets domain command. single_command domain line property command sets;
-  unbuilt_command = λ u domain command. unbuilt_command domain line command u;
   setup_command = λ setup spells domain command. setup_command domain line setup command spells;
 }
 
@@ -256,59 +231,152 @@ one_plan plan other same = cc
 -- what is updated by is a plan in form
 abbrev pub HasPlanInForm : Command → Type 0
 HasPlanInForm (Update number plan) = IsPlanInForm plan
+HasPlanInForm (Crash call leave task) = IsTaskInForm task
 HasPlanInForm command = Unit {0}
+
+task_in_form : (domain text : List ℕ) (task : CrashTask) → SpellsPlain domain text (command_of task) → IsTaskInForm task
+task_in_form domain text (tasks.Update number plan) h = update_in_form domain h.0 plan h.3
+task_in_form domain text task h = tt
+
+-- and so is that of a crash line's command
+pub task_has_plan : (task : CrashTask) → IsTaskInForm task → HasPlanInForm (command_of task)
+task_has_plan (tasks.Update number plan) form = form
+task_has_plan task form = tt
 
 pub spells_in_form : (domain line : List ℕ) (command : Command) → SpellsCommand domain line command → HasPlanInForm command
 spells_in_form domain line (Update number plan) h = update_in_form domain h.0 plan h.3
+spells_in_form domain line (Crash call leave task) h = task_in_form domain h.text task h.spells
 spells_in_form domain line command h = tt
 
--- a line spells one command
-pub one_command : OneCommand
+-- a line spells one plain command
+one_plain : (domain line : List ℕ) (command other : Command) → SpellsPlain domain line command → SpellsPlain domain line other → command ≡ other
 unfolding begins
-one_command domain line (Add number triple) (Add other second) p q =
+one_plain domain line (Add number triple) (Add other second) p q =
     let parts = one_number number other p.0 q.0 (small p.2) (small q.2) (ap (drop 4) (sym p.1 ∙ q.1)) in
     let same = one_spelled q.0 triple second (subst (λ (text : List ℕ). SpellsTriple text triple) parts.1 p.4) q.4 in
     cc (parts.0, same)
-one_command domain line (Remove number triple) (Remove other second) p q =
+one_plain domain line (Remove number triple) (Remove other second) p q =
     let parts = one_number number other p.0 q.0 (small p.2) (small q.2) (ap (drop 7) (sym p.1 ∙ q.1)) in
     let same = one_spelled q.0 triple second (subst (λ (text : List ℕ). SpellsTriple text triple) parts.1 p.4) q.4 in
     cc (parts.0, same)
-one_command domain line (Deliver message number) (Deliver other second) p q =
+one_plain domain line (Deliver message number) (Deliver other second) p q =
     let parts = one_number message other (decimal number) (decimal second) p.1 q.1 (ap (drop 8) (sym p.0 ∙ q.0)) in
     let same = decimal_injective number second (small p.2) (small q.2) parts.1 in
     cc (parts.0, same)
-one_command domain line (Show number) (Show other) p q =
+one_plain domain line (Show number) (Show other) p q =
     ap Show (decimal_injective number other (small p.1) (small q.1) (ap (drop 5) (sym p.0 ∙ q.0)))
-one_command domain line (Query number read) (Query other second) p q =
+one_plain domain line (Query number read) (Query other second) p q =
     let parts = one_number number other p.0 q.0 (small p.2) (small q.2) (ap (drop 6) (sym p.1 ∙ q.1)) in
     let same : read ≡ second = one_read read second (sym p.3 ∙ ap (query_read domain) parts.1 ∙ q.3) in
     cc (parts.0, same)
-one_command domain line (Update number plan) (Update other second) p q =
+one_plain domain line (Update number plan) (Update other second) p q =
     let parts = one_number number other p.0 q.0 (small p.2) (small q.2) (ap (drop 7) (sym p.1 ∙ q.1)) in
     let same : plan ≡ second = one_plan plan second (sym p.3 ∙ ap (update_read domain) parts.1 ∙ q.3) in
     cc (parts.0, same)
-one_command domain line (Join number) (Join other) p q =
+one_plain domain line (Join number) (Join other) p q =
     ap Join (decimal_injective number other (small p.1) (small q.1) (ap (drop 5) (sym p.0 ∙ q.0)))
-one_command domain line (Ask number) (Ask other) p q =
+one_plain domain line (Ask number) (Ask other) p q =
     ap Ask (decimal_injective number other (small p.1) (small q.1) (ap (drop 4) (sym p.0 ∙ q.0)))
-one_command domain line (Compact number) (Compact other) p q =
+one_plain domain line (Compact number) (Compact other) p q =
     ap Compact (decimal_injective number other (small p.1) (small q.1) (ap (drop 8) (sym p.0 ∙ q.0)))
-one_command domain line (Truncate number keep) (Truncate other second) p q =
+one_plain domain line (Truncate number keep) (Truncate other second) p q =
     let parts = one_number number other (decimal keep) (decimal second) (small p.1) (small q.1) (ap (drop 9) (sym p.0 ∙ q.0)) in
     let same = decimal_injective keep second p.2 q.2 parts.1 in
     cc (parts.0, same)
-one_command domain line (Add number triple) (Ask other) p q = absurd (apart (ap (drop 1) p.1) (ap (drop 1) q.0) refl)
-one_command domain line (Ask number) (Add other triple) p q = absurd (apart (ap (drop 1) p.0) (ap (drop 1) q.1) refl)
-one_command domain line (Compare number with) (Compact other) p q = absurd (apart (ap (drop 5) p.0) (ap (drop 5) q.0) refl)
-one_command domain line (Compact number) (Compare other second) p q = absurd (apart (ap (drop 5) p.0) (ap (drop 5) q.0) refl)
-one_command domain line (Stop number) (Stop other) p q =
+one_plain domain line (Add number triple) (Ask other) p q = absurd (apart (ap (drop 1) p.1) (ap (drop 1) q.0) refl)
+one_plain domain line (Ask number) (Add other triple) p q = absurd (apart (ap (drop 1) p.0) (ap (drop 1) q.1) refl)
+one_plain domain line (Compare number with) (Compact other) p q = absurd (apart (ap (drop 5) p.0) (ap (drop 5) q.0) refl)
+one_plain domain line (Compact number) (Compare other second) p q = absurd (apart (ap (drop 5) p.0) (ap (drop 5) q.0) refl)
+one_plain domain line (Stop number) (Stop other) p q =
     ap Stop (decimal_injective number other (small p.1) (small q.1) (ap (drop 5) (sym p.0 ∙ q.0)))
-one_command domain line (Open number) (Open other) p q =
+one_plain domain line (Open number) (Open other) p q =
     ap Open (decimal_injective number other (small p.1) (small q.1) (ap (drop 5) (sym p.0 ∙ q.0)))
-one_command domain line (Show number) (Stop other) p q = absurd (apart (ap (drop 1) p.0) (ap (drop 1) q.0) refl)
-one_command domain line (Stop number) (Show other) p q = absurd (apart (ap (drop 1) p.0) (ap (drop 1) q.0) refl)
-one_command domain line (Compare number with) (Compare other second) p q =
+one_plain domain line (Show number) (Stop other) p q = absurd (apart (ap (drop 1) p.0) (ap (drop 1) q.0) refl)
+one_plain domain line (Stop number) (Show other) p q = absurd (apart (ap (drop 1) p.0) (ap (drop 1) q.0) refl)
+one_plain domain line (Compare number with) (Compare other second) p q =
     let parts = one_number number other (decimal with) (decimal second) (small p.1) (small q.1) (ap (drop 8) (sym p.0 ∙ q.0)) in
     let same = decimal_injective with second (small p.2) (small q.2) parts.1 in
     cc (parts.0, same)
-one_command domain line command other p q = absurd (apart (command_begins domain line command p).1 (command_begins domain line other q).1 refl)
+one_plain domain line (Crash call leave task) other p q = absurd p
+one_plain domain line command (Crash call leave task) p q = absurd q
+one_plain domain line command other p q = absurd (apart (command_begins domain line command p).1 (command_begins domain line other q).1 refl)
+
+-- ---- crash lines
+
+-- no crash line spells a plain command
+crash_apart : (domain line rest : List ℕ) (command : Command) → line ≡ codes "crash " ++ rest → ¬ SpellsPlain domain line command
+unfolding begins
+crash_apart domain line rest (Compact number) w q = apart (ap (drop 1) w) (ap (drop 1) q.0) refl
+crash_apart domain line rest (Compare number other) w q = apart (ap (drop 1) w) (ap (drop 1) q.0) refl
+crash_apart domain line rest (Crash call leave task) w q = absurd q
+crash_apart domain line rest command w q = apart w (command_begins domain line command q).1 refl
+
+-- a line that spells one is a crash line
+pub spells_crash : (domain line : List ℕ) (command : Command) → SpellsCommand domain line command → IsCrash command → IsCrashLine line
+spells_crash domain line (Crash call leave task) h is = (_, h.whole)
+spells_crash domain line command h is = absurd is
+
+-- the word of what a crash leaves has no space
+leave_lacks : (leave : Leave) → Lacks space (leave_word leave)
+leave_lacks Lose = Lacks-from_test (nat_le 97) space refl (codes "lose") refl
+leave_lacks Keep = Lacks-from_test (nat_le 97) space refl (codes "keep") refl
+leave_lacks Torn = Lacks-from_test (nat_le 97) space refl (codes "torn") refl
+
+-- and is that of one
+one_leave : (leave other : Leave) → leave_word leave ≡ leave_word other → leave ≡ other
+one_leave Lose Lose e = refl
+one_leave Lose Keep e = absurd (apart refl e refl)
+one_leave Lose Torn e = absurd (apart refl e refl)
+one_leave Keep Lose e = absurd (apart refl e refl)
+one_leave Keep Keep e = refl
+one_leave Keep Torn e = absurd (apart refl e refl)
+one_leave Torn Lose e = absurd (apart refl e refl)
+one_leave Torn Keep e = absurd (apart refl e refl)
+one_leave Torn Torn e = refl
+
+-- the command of a crash line is that of one
+task_of : Command → Option CrashTask
+task_of (Add number triple) = Some (tasks.Add number triple)
+task_of (Remove number triple) = Some (tasks.Remove number triple)
+task_of (Update number plan) = Some (tasks.Update number plan)
+task_of (Deliver message number) = Some (tasks.Deliver message number)
+task_of (Compact number) = Some (tasks.Compact number)
+task_of (Truncate number keep) = Some (tasks.Truncate number keep)
+task_of (Open number) = Some (tasks.Open number)
+task_of command = None
+
+is_task : (task : CrashTask) → task_of (command_of task) ≡ Some task
+unfolding task_of
+is_task (tasks.Add number triple) = refl
+is_task (tasks.Remove number triple) = refl
+is_task (tasks.Update number plan) = refl
+is_task (tasks.Deliver message number) = refl
+is_task (tasks.Compact number) = refl
+is_task (tasks.Truncate number keep) = refl
+is_task (tasks.Open number) = refl
+
+some_task : (task other : CrashTask) → ◌≡◌ {A = Option CrashTask} (Some task) (Some other) → task ≡ other
+some_task task other same = cc
+
+one_task : (task other : CrashTask) → command_of task ≡ command_of other → task ≡ other
+one_task task other same = some_task task other (sym (is_task task) ∙ ap task_of same ∙ is_task other)
+
+-- a crash line spells one
+one_crash : (domain line : List ℕ) (call second : ℕ) (leave left : Leave) (task other : CrashTask) → SpellsCrash domain line call leave task
+    → SpellsCrash domain line second left other → (call ≡ second) × (leave ≡ left) × (task ≡ other)
+one_crash domain line call second leave left task other p q =
+    let numbers = one_number call second (leave_word leave ++ space ∷ p.text) (leave_word left ++ space ∷ q.text) (omega (arith, p.small)) (omega (arith, q.small))
+    (ap (drop 6) (sym p.whole ∙ q.whole)) in
+    let words = one_split space (leave_word leave) (leave_word left) p.text q.text (leave_lacks leave) (leave_lacks left) numbers.1 in
+    let commands = one_plain domain q.text (command_of task) (command_of other)
+    (subst (λ (text : List ℕ). SpellsPlain domain text (command_of task)) words.1 p.spells) q.spells in
+    (numbers.0, one_leave leave left words.0, one_task task other commands)
+
+-- a line spells one command
+pub one_command : OneCommand
+one_command domain line (Crash call leave task) (Crash second left other) p q =
+    let same = one_crash domain line call second leave left task other p q in
+    λ i. Crash (same.0 i) (same.1 i) (same.2 i)
+one_command domain line (Crash call leave task) other p q = absurd (crash_apart domain line _ other p.whole q)
+one_command domain line command (Crash call leave task) p q = absurd (crash_apart domain line _ command q.whole p)
+one_command domain line command other p q = one_plain domain line command other p q

@@ -1,4 +1,4 @@
--- A step of the world has one outcome.
+-- A step of the world by a plain command has one outcome.
 use Rattle.std.specs.Prelude.{◌≡◌, ℕ, ◌+◌, ◌<◌, List, [], ◌∷◌, ◌++◌, length, map, Option, Some, None, MatchOption}
 use Rattle.std.specs.List.{range_with_len}
 use Rattle.std.proofs.Common.{sym, ◌∙◌, ap, arith, inl, inr, subst}
@@ -7,7 +7,7 @@ use Rattle.tree_clock.specs.declared.dots.Range.{Range}
 use Rattle.mld_ops.specs.declared.tagged.Tagged.{Tagged}
 use Rattle.mld_ops.specs.History.{dot_at}
 use Rattle.mld_ops.proofs.MeaningLaws.{one_meaning}
-use Rattle.schedule_model.specs.declared.Command.TheVariants.{Add, Remove, Update, Deliver, Show, Query, Compare, Join, Ask, Compact, Truncate, Stop, Open}
+use Rattle.schedule_model.specs.declared.Command.TheVariants.{Add, Remove, Update, Deliver, Show, Query, Compare, Join, Ask, Compact, Truncate, Stop, Open, Crash}
 use Rattle.mld_ops.proofs.PickingLaws.{drops_one}
 use Rattle.mld_ops.specs.Effects.{EffectValue, operation_of}
 use Rattle.jrql_ast.specs.declared.plans.UpdatePlan.{UpdatePlan}
@@ -24,12 +24,11 @@ use Rattle.mld_ops.proofs.BreachLaws.{one_breach}
 use Rattle.schedule_model.proofs.PlanLaws.{one_effect, insertion_in_form, deletion_in_form}
 use Rattle.mld_model.proofs.StateLaws.{by_one_state, AreSame, answers_once, once_if_live, opens_once}
 use Rattle.schedule_model.specs.declared.Command.{Command}
-use Rattle.schedule_model.specs.Step.{IsCommandInForm, Step}
+use Rattle.schedule_model.specs.PlainStep.{PlainStep}
 use Rattle.schedule_model.proofs.ScheduleLaws.{HasPlanInForm}
 use Rattle.schedule_model.proofs.QueryLaws.{queries_once}
 use Rattle.mld_model.proofs.ReleaseLaws.{releases_once}
 use Rattle.mld_model.proofs.CompactedJournals.{compacted_once}
-use Rattle.schedule_model.specs.Laws.{OneStep}
 
 -- of two ticks that come next neither is below the other
 not_below : (known : List Range) (path : List ℕ) (tick other : ℕ) → IsNextTick known path tick → IsNextTick known path other → ¬ (tick < other)
@@ -268,32 +267,24 @@ module _ (world : World) (number : ℕ) (reply other : Reply) (next after : Worl
   delivers_once None p q = answers_once p q
   delivers_once (Some message) p q = takes_once message (clone_at world number) p q
 
--- a step of a world by a command whose plan is in form has one reply, and leads to one world
-pub step_once : (world : World) (command : Command) (reply other : Reply) (next after : World) → HasPlanInForm command
-    → Step world command reply next → Step world command other after → AreSame reply next other after
-unfolding Step
-step_once world (Add number triple) reply other next after form p q =
+-- a step of a world by a plain command whose plan is in form has one reply, and leads to one world
+pub plain_once : (world : World) (command : Command) (reply other : Reply) (next after : World) → HasPlanInForm command
+    → PlainStep world command reply next → PlainStep world command other after → AreSame reply next other after
+plain_once world (Add number triple) reply other next after form p q =
     planned_once world number reply other next after (insertion_of triple) (insertion_in_form triple) (clone_at world number) p q
-step_once world (Remove number triple) reply other next after form p q =
+plain_once world (Remove number triple) reply other next after form p q =
     planned_once world number reply other next after (deletion_of triple) (deletion_in_form triple) (clone_at world number) p q
-step_once world (Update number plan) reply other next after form p q =
+plain_once world (Update number plan) reply other next after form p q =
     planned_once world number reply other next after plan form (clone_at world number) p q
-step_once world (Deliver message number) reply other next after form p q = delivers_once world number reply other next after (message_at world message) p q
-step_once world (Show number) reply other next after form p q = lists_once world (clone_at world number) reply other next after p q
-step_once world (Query number read) reply other next after form p q = queries_once world read (clone_at world number) reply other next after p q
-step_once world (Join number) reply other next after form p q = joins_once world number reply other next after (clone_at world number) p q
-step_once world (Ask number) reply other next after form p q = asks_once world number reply other next after (clone_at world number) p q
-step_once world (Compact number) reply other next after form p q = compacts_once world number reply other next after (clone_at world number) p q
-step_once world (Truncate number keep) reply other next after form p q = truncates_once world number reply other next after keep (clone_at world number) p q
-step_once world (Stop number) reply other next after form p q = stops_once world number reply other next after (clone_at world number) p q
-step_once world (Open number) reply other next after form p q = opens_once world number (clone_at world number) reply other next after p q
-step_once world (Compare number second) reply other next after form p q =
+plain_once world (Deliver message number) reply other next after form p q = delivers_once world number reply other next after (message_at world message) p q
+plain_once world (Show number) reply other next after form p q = lists_once world (clone_at world number) reply other next after p q
+plain_once world (Query number read) reply other next after form p q = queries_once world read (clone_at world number) reply other next after p q
+plain_once world (Join number) reply other next after form p q = joins_once world number reply other next after (clone_at world number) p q
+plain_once world (Ask number) reply other next after form p q = asks_once world number reply other next after (clone_at world number) p q
+plain_once world (Compact number) reply other next after form p q = compacts_once world number reply other next after (clone_at world number) p q
+plain_once world (Truncate number keep) reply other next after form p q = truncates_once world number reply other next after keep (clone_at world number) p q
+plain_once world (Stop number) reply other next after form p q = stops_once world number reply other next after (clone_at world number) p q
+plain_once world (Open number) reply other next after form p q = opens_once world number (clone_at world number) reply other next after p q
+plain_once world (Compare number second) reply other next after form p q =
     weighs_once world (clone_at world number) (clone_at world second) reply other next after p q
-
--- and so has one by a command in form
-has_plan_in_form : (command : Command) → IsCommandInForm command → HasPlanInForm command
-has_plan_in_form (Update number plan) form = form
-has_plan_in_form command form = tt
-
-pub one_step : OneStep
-one_step world command reply other next after form p q = step_once world command reply other next after (has_plan_in_form command form) p q
+plain_once world (Crash call leave task) reply other next after form p q = absurd p

@@ -12,7 +12,7 @@ use Rattle.schedule_model.specs.declared.Command.{Command}
 use Rattle.mld_model.specs.Clone.{Stored, Live, known_of}
 use Rattle.mld_model.specs.World.{World, clone_at}
 use Rattle.mld_model.specs.Sound.{Keeps}
-use Rattle.mld_model.specs.Reply.{Did}
+use Rattle.mld_model.specs.Reply.{Reply, Did, ThenCrashed}
 use Rattle.schedule_model.specs.Step.{Step, number_of_clone}
 use Rattle.schedule_model.specs.Schedule.{SpellsCommand}
 use Rattle.schedule_model.specs.Runs.{Stage, Waiting, Running, IsWorldOf, Runs}
@@ -42,6 +42,12 @@ abbrev pub RemembersUpdate : World → ℕ → (List Tagged → EffectValue → 
 RemembersUpdate before number rule dot next =
     (operation : Operation) × IsMadeBy before number rule dot operation × (next.history ≡ operation ∷ before.history) × Remembers next number operation
 
+-- the reply tells of the dot: `did DOT` stands alone or before `crashed`
+abbrev pub TellsOfDot : Reply → Dot → Type 0
+TellsOfDot (Did own message) dot = own ≡ dot
+TellsOfDot (ThenCrashed reply) dot = TellsOfDot reply dot
+TellsOfDot reply dot = ⊥
+
 -- one of the lines is a command at the clone of the number, its answer tells of the dot, and the run that it stands in leads to
 -- the world
 pub record IsAnswered (lines : List (List ℕ)) (number : ℕ) (dot : Dot) (world : World) : Type 0 where
@@ -60,9 +66,10 @@ pub record IsAnswered (lines : List (List ℕ)) (number : ℕ) (dot : Dot) (worl
   pub at : number ≡ number_of_clone command
   pub spells : SpellsCommand before.domain line command
   -- whose step has this answer
-  pub message : ℕ
+  pub reply : Reply
+  pub tells : TellsOfDot reply dot
   pub after : World
-  pub steps : Step before command (Did dot message) after
+  pub steps : Step before command reply after
   -- and the lines behind it lead from the world after it to this one
   pub more : List ℕ
   pub goes_on : Runs (Running after) rest more (Running world)

@@ -2,6 +2,10 @@ pub mod Characters
 pub mod ReplyText
 pub mod Querying
 pub mod Updating
+pub mod Tasks
+pub mod PlainStep
+pub mod PlainDurable
+pub mod Crashing
 pub mod Step
 pub mod DurableSteps
 pub mod Schedule

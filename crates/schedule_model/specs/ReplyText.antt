@@ -7,7 +7,7 @@ use Rattle.tree_clock.specs.declared.dots.Range.{Range}
 use Rattle.tree_clock.specs.Path.{path_text}
 use Rattle.tree_clock.specs.Dot.{dot_text, range_text}
 use Rattle.mld_ops.specs.declared.tagged.Tagged.{Tagged}
-use Rattle.mld_model.specs.Reply.{Reply, Ready, PropertySet, Did, NoOperation, Single, Took, Merged, Held, HeldFull, AlreadyKnown, Shows, Tells, TooMany, Same, Less, More, Apart, Sent, Answer, NothingToSend, Kept, Joined, Deep, NoMessage, Ignored, IsAbsent, IsAsking, IsDown, IsLive, Stopped, Opened}
+use Rattle.mld_model.specs.Reply.{Reply, Ready, PropertySet, Did, NoOperation, Single, Took, Merged, Held, HeldFull, AlreadyKnown, Shows, Tells, TooMany, Same, Less, More, Apart, Sent, Answer, NothingToSend, Kept, Joined, Deep, NoMessage, Ignored, IsAbsent, IsAsking, IsDown, IsLive, Stopped, Opened, Crashed, ThenCrashed}
 use Rattle.schedule_model.specs.Characters.{space, line_end}
 
 -- the line of a pair
@@ -55,3 +55,5 @@ reply_text IsDown = codes "down\n"
 reply_text IsLive = codes "live\n"
 reply_text Stopped = codes "stopped\n"
 reply_text Opened = codes "opened\n"
+reply_text Crashed = codes "crashed\n"
+reply_text (ThenCrashed reply) = reply_text reply ++ codes "crashed\n"

@@ -1,9 +1,9 @@
 -- The grammar of a schedule's lines, as bytes without their LF.
-use Rattle.std.specs.Prelude.{◌≡◌, ℕ, ◌^◌, ◌<◌, ◌≤◌, List, [], ◌∷◌, ◌++◌, length, Bool, not, ◌==◌, nat_eq, IsTrue, codes, take_while, Ok}
-use Rattle.std.specs.Cmp.Lexicographic.{pointwise}
-use Rattle.std.specs.List.{list_any}
+use Rattle.std.specs.Prelude.{◌≡◌, ℕ, ◌^◌, ◌<◌, ◌≤◌, List, [], ◌∷◌, ◌++◌, length, IsTrue, codes, Ok}
 use Rattle.std.specs.Str.{IsUtf8}
 use Rattle.std.specs.Fmt.{decimal}
+use Rattle.mld_io.specs.declared.banks.Leave.{Leave}
+use Rattle.mld_io.specs.declared.banks.Leave.TheVariants.{Lose, Keep, Torn}
 use Rattle.iri_rules.specs.Domain.{is_domain}
 use Rattle.rdf_terms.specs.Grammar.{SpellsTriple, IsTripleWithin, IsIriText}
 use Rattle.jrql_ast.specs.declared.plans.UpdatePlan.{UpdatePlan}
@@ -14,28 +14,14 @@ use Rattle.schedule_model.specs.Characters.{space, hash_mark}
 use Rattle.mld_ops.specs.Properties.{AreKept}
 use Rattle.mld_model.specs.World.{clone_count}
 use Rattle.schedule_model.specs.declared.Command.{Command}
-use Rattle.schedule_model.specs.declared.Command.TheVariants.{Add, Remove, Update, Deliver, Show, Query, Compare, Join, Ask, Compact, Truncate, Stop, Open}
+use Rattle.schedule_model.specs.declared.Command.TheVariants.{Add, Remove, Update, Deliver, Show, Query, Compare, Join, Ask, Compact, Truncate, Stop, Open, Crash}
+use Rattle.schedule_model.specs.declared.CrashTask.{CrashTask}
+use Rattle.schedule_model.specs.Tasks.{command_of}
 
 -- an empty line, or a comment: `#` first, and UTF-8 throughout
 pub data IsNothing : List ℕ → Type 0 where
   empty : IsNothing []
   comment : (rest : List ℕ) → IsUtf8 (hash_mark ∷ rest) → IsNothing (hash_mark ∷ rest)
-
--- the bytes before the first space
-abbrev pub first_word : List ℕ → List ℕ
-first_word line = take_while (λ byte. not (byte == space)) line
-
--- two texts are the same
-abbrev pub is_word : List ℕ → List ℕ → Bool
-is_word = pointwise nat_eq
-
--- the first words of lines that aren't built yet
-abbrev pub unbuilt_words : List (List ℕ)
-unbuilt_words = codes "crash" ∷ []
-
--- a line that isn't built yet, whatever its rest is: one of those words first
-unfoldable pub is_unbuilt : List ℕ → Bool
-is_unbuilt line = list_any (λ word. is_word word (first_word line)) unbuilt_words
 
 -- what a domain is set up with: its name, its single-valued properties as they were given, and how many clones it begins with
 pub record Setup : Type 0 where
@@ -87,8 +73,8 @@ pub record SetsProperty (setup : Setup) (line property : List ℕ) : Type 0 wher
 abbrev pub IsCloneNumber : ℕ → Type 0
 IsCloneNumber number = number < clone_count
 
--- the line spells the command, whatever the domain is; a triple is the rest of its line. No query and no
--- plan is spelled so
+-- the line spells the command, whatever the domain is; a triple is the rest of its line. No query, no plan and no
+-- crash line is spelled so
 abbrev pub SpellsAnywhere : List ℕ → Command → Type 0
 SpellsAnywhere line (Add number triple) =
     (text : List ℕ) × (line ≡ codes "add " ++ (decimal number ++ space ∷ text)) × IsCloneNumber number
@@ -101,6 +87,7 @@ SpellsAnywhere line (Deliver message number) =
     (line ≡ codes "deliver " ++ (decimal message ++ space ∷ decimal number)) × (message < 2 ^ 64) × IsCloneNumber number
 SpellsAnywhere line (Show number) = (line ≡ codes "show " ++ decimal number) × IsCloneNumber number
 SpellsAnywhere line (Query number read) = ⊥
+SpellsAnywhere line (Crash call leave task) = ⊥
 SpellsAnywhere line (Join number) = (line ≡ codes "join " ++ decimal number) × IsCloneNumber number
 SpellsAnywhere line (Ask number) = (line ≡ codes "ask " ++ decimal number) × IsCloneNumber number
 SpellsAnywhere line (Compact number) = (line ≡ codes "compact " ++ decimal number) × IsCloneNumber number
@@ -121,8 +108,30 @@ abbrev pub SpellsUpdate : List ℕ → List ℕ → ℕ → UpdatePlan → Type 
 SpellsUpdate domain line number plan =
     (text : List ℕ) × (line ≡ codes "update " ++ (decimal number ++ space ∷ text)) × IsCloneNumber number × (update_read domain text ≡ Ok plan)
 
--- the line spells the command in the domain of this name; any command but a query and an update is spelled alike in all domains
+-- the line spells a plain command in the domain of this name; any but a query and an update is spelled alike in all domains
+abbrev pub SpellsPlain : List ℕ → List ℕ → Command → Type 0
+SpellsPlain domain line (Query number read) = SpellsQuery domain line number read
+SpellsPlain domain line (Update number plan) = SpellsUpdate domain line number plan
+SpellsPlain domain line command = SpellsAnywhere line command
+
+-- the word of what a crash leaves of writes that aren't synced
+abbrev pub leave_word : Leave → List ℕ
+leave_word Lose = codes "lose"
+leave_word Keep = codes "keep"
+leave_word Torn = codes "torn"
+
+-- `crash K LEAVE COMMAND`: the rest of the line spells the command
+pub record SpellsCrash (domain line : List ℕ) (call : ℕ) (leave : Leave) (task : CrashTask) : Type 0 where
+  pub text : List ℕ
+  pub whole : line ≡ codes "crash " ++ (decimal call ++ space ∷ (leave_word leave ++ space ∷ text))
+  pub small : call < 2 ^ 32
+  pub spells : SpellsPlain domain text (command_of task)
+
+-- the line spells the command in the domain of this name
 abbrev pub SpellsCommand : List ℕ → List ℕ → Command → Type 0
-SpellsCommand domain line (Query number read) = SpellsQuery domain line number read
-SpellsCommand domain line (Update number plan) = SpellsUpdate domain line number plan
-SpellsCommand domain line command = SpellsAnywhere line command
+SpellsCommand domain line (Crash call leave task) = SpellsCrash domain line call leave task
+SpellsCommand domain line command = SpellsPlain domain line command
+
+-- the line is a crash line, whatever its rest is
+abbrev pub IsCrashLine : List ℕ → Type 0
+IsCrashLine line = (rest : List ℕ) × (line ≡ codes "crash " ++ rest)

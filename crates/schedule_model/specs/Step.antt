@@ -1,13 +1,16 @@
 -- One step of the world: a command, its reply, and the world after it.
-use Rattle.std.specs.Prelude.{ℕ, ◌<◌, MatchOption}
+use Rattle.std.specs.Prelude.{ℕ, ◌<◌, List, Bool}
 use Rattle.jrql_ast.specs.InForm.{IsQueryInForm, IsPlanInForm}
 use Rattle.schedule_model.specs.declared.Command.{Command}
-use Rattle.schedule_model.specs.declared.Command.TheVariants.{Add, Remove, Update, Deliver, Show, Query, Compare, Join, Ask, Compact, Truncate, Stop, Open}
-use Rattle.mld_model.specs.CloneStep.{Answers, Takes, Lists, Joins, Wants, Compacts, Truncates, Stops, Reopens, Weighs}
-use Rattle.mld_model.specs.World.{World, message_at, clone_at, clone_count}
-use Rattle.mld_model.specs.Reply.{Reply, NoMessage}
-use Rattle.schedule_model.specs.Querying.{Queries}
-use Rattle.schedule_model.specs.Updating.{UpdatesByPlan, Adds, Removes}
+use Rattle.schedule_model.specs.declared.Command.TheVariants.{Add, Remove, Update, Deliver, Show, Query, Compare, Join, Ask, Compact, Truncate, Stop, Open, Crash}
+use Rattle.schedule_model.specs.declared.CrashTask.{CrashTask}
+use Rattle.schedule_model.specs.declared.CrashTask.TheVariants as tasks
+use Rattle.mld_model.specs.World.{World, clone_count}
+use Rattle.mld_model.specs.Reply.{Reply}
+use Rattle.mld_model.specs.Durable.{DurableStep}
+use Rattle.schedule_model.specs.Tasks.{number_of_task}
+use Rattle.schedule_model.specs.PlainStep.{PlainStep}
+use Rattle.schedule_model.specs.Crashing.{Crashes}
 
 -- the numbers of clones in a command are those of clones that there are
 abbrev pub HasCloneNumbers : Command → Type 0
@@ -24,9 +27,16 @@ HasCloneNumbers (Truncate number keep) = number < clone_count
 HasCloneNumbers (Stop number) = number < clone_count
 HasCloneNumbers (Open number) = number < clone_count
 HasCloneNumbers (Compare number other) = (number < clone_count) × (other < clone_count)
+HasCloneNumbers (Crash call leave task) = number_of_task task < clone_count
+
+-- the plan of a crash line's command is in form
+abbrev pub IsTaskInForm : CrashTask → Type 0
+IsTaskInForm (tasks.Update number plan) = IsPlanInForm plan
+IsTaskInForm task = Unit {0}
 
 -- the query of a command is in form, and so is its plan
 abbrev pub IsCommandInForm : Command → Type 0
+IsCommandInForm (Crash call leave task) = IsTaskInForm task
 IsCommandInForm (Query number read) = IsQueryInForm read.query
 IsCommandInForm (Update number plan) = IsPlanInForm plan
 IsCommandInForm command = Unit {0}
@@ -46,20 +56,20 @@ number_of_clone (Truncate number keep) = number
 number_of_clone (Stop number) = number
 number_of_clone (Open number) = number
 number_of_clone (Compare number other) = number
+number_of_clone (Crash call leave task) = number_of_task task
 
--- the step: the world before, the command, the reply, the world after
+-- the command is a crash line
+abbrev pub IsCrash : Command → Type 0
+IsCrash (Crash call leave task) = Unit {0}
+IsCrash command = ⊥
+
+-- The step: the world before, the command, the reply, the world after. A plain command makes its step, and a crash line crashes, by one choice.
+-- What the crash leaves of writes that aren't synced is not the model's: the choice stands for it.
 unfoldable pub Step : World → Command → Reply → World → Type 0
-Step world (Add number triple) reply next = Adds world number triple (clone_at world number) reply next
-Step world (Remove number triple) reply next = Removes world number triple (clone_at world number) reply next
-Step world (Update number plan) reply next = UpdatesByPlan world number plan (clone_at world number) reply next
-Step world (Deliver message number) reply next =
-    MatchOption (message_at world message) (Answers world NoMessage reply next) (λ sent. Takes world number sent (clone_at world number) reply next)
-Step world (Show number) reply next = Lists world (clone_at world number) reply next
-Step world (Query number read) reply next = Queries world read (clone_at world number) reply next
-Step world (Join number) reply next = Joins world number (clone_at world number) reply next
-Step world (Ask number) reply next = Wants world (clone_at world number) reply next
-Step world (Compact number) reply next = Compacts world number (clone_at world number) reply next
-Step world (Truncate number keep) reply next = Truncates world number keep (clone_at world number) reply next
-Step world (Stop number) reply next = Stops world number (clone_at world number) reply next
-Step world (Open number) reply next = Reopens world number (clone_at world number) reply next
-Step world (Compare number other) reply next = Weighs world (clone_at world number) (clone_at world other) reply next
+Step world (Crash call leave task) reply next = (choice : Bool) × (steps : List DurableStep) × Crashes choice call world task steps reply next
+Step world command reply next = PlainStep world command reply next
+
+-- the step by this choice, which a plain command doesn't heed
+unfoldable pub StepBy : Bool → World → Command → Reply → World → Type 0
+StepBy choice world (Crash call leave task) reply next = (steps : List DurableStep) × Crashes choice call world task steps reply next
+StepBy choice world command reply next = PlainStep world command reply next

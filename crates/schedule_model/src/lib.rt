@@ -2,13 +2,16 @@
 //! of the world that it leads to. Its functions have no code: each carries a law as its contract.
 #![tactic(auto)]
 
+mod crashes;
 mod durable;
 mod soundness;
 mod verdicts;
 
+pub use crashes::crash_lines;
 pub use durable::durable_steps_lead;
 use jrql_ast::UpdatePlan;
 use jrql_patterns::ReadQuery;
+use mld_io::Leave;
 use rdf_terms::Triple;
 pub use soundness::{answers_survive, promises_kept, sound_worlds};
 pub use verdicts::{one_reading, one_step, one_verdict};
@@ -41,5 +44,26 @@ pub enum Command {
     /// `stop C`: clone C stops, and forgets what it holds back.
     Stop(u8),
     /// `open C`: clone C, which is down, runs again with what its banks keep.
+    Open(u8),
+    /// `crash K LEAVE COMMAND`: the command is done while the device of its clone is armed to crash at its call K, the first of which is 0.
+    Crash(u32, Leave, CrashTask),
+}
+
+/// The command of a crash line: one of those that may call the device of their clone.
+#[derive(Debug, Drop)]
+pub enum CrashTask {
+    /// `add C TRIPLE`.
+    Add(u8, Triple),
+    /// `remove C TRIPLE`.
+    Remove(u8, Triple),
+    /// `update C JSON`.
+    Update(u8, UpdatePlan),
+    /// `deliver M C`.
+    Deliver(u64, u8),
+    /// `compact C`.
+    Compact(u8),
+    /// `truncate C M`.
+    Truncate(u8, u64),
+    /// `open C`.
     Open(u8),
 }

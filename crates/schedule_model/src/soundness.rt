@@ -14,16 +14,16 @@ pub fn sound_worlds()
     ensures one_leaf { OneLeaf }
 {}
 
-/// An answer that tells of a dot holds from then on. A clone *remembers* an operation where it is live or down and knows the
-/// operation's dot, and the operation stands in the world's history.
+/// An answer that tells of a dot, by `did` alone or before `crashed`, holds from then on. A clone *remembers* an operation where it is
+/// live or down and knows the operation's dot, and the operation stands in the world's history.
 ///
 /// The dot that an `add` tells of is that of an operation whose effect inserts the triple alone and deletes nothing. The dot
 /// that a `remove` tells of is that of an operation whose effect inserts nothing and deletes all pairs of the triple, at least
 /// one, that the clone had before. The dot that an `update` tells of is that of an operation by the effect of its plan on the
-/// pairs that the clone had before. Whatever command tells of a dot, its step put the operation of that dot at the head of the
-/// history, and its clone remembers that operation after the step. What a clone remembers before a step it remembers after it,
-/// whatever the command is. So in the world that a schedule reaches, the operation of each of its lines that was answered with
-/// a dot is remembered by its clone.
+/// pairs that the clone had before. So it is where these are the commands of crash lines. Whatever command tells of a dot, its step
+/// put the operation of that dot at the head of the history, and its clone remembers that operation after the step. What a clone
+/// remembers before a step it remembers after it, whatever the command is, a crash line too. So in the world that a schedule reaches,
+/// the operation of each of its lines that was answered with a dot is remembered by its clone.
 pub fn answers_survive()
     ensures add { AddRemembers }
     ensures remove { RemoveRemembers }

@@ -1,4 +1,4 @@
-use Rattle.schedule_model.proofs.DurableLaws as laws
+use Rattle.schedule_model.proofs.CrashedDurable as laws
 use Rattle.schedule_model.proofs.durable.durable_steps_lead.Goals as goal
 
 pub returns-clause-lead : goal.returns-clause-lead

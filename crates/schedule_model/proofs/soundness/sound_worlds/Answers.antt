@@ -1,5 +1,5 @@
 use Rattle.mld_model.proofs.FoundedLaws.{founded_sound}
-use Rattle.schedule_model.proofs.QueryLaws.{same_answers}
+use Rattle.schedule_model.proofs.QueryLaws.{same_pairs, same_answers}
 use Rattle.schedule_model.proofs.StepSoundLaws as laws
 use Rattle.schedule_model.proofs.soundness.sound_worlds.Goals as goal
 
@@ -13,7 +13,7 @@ pub returns-clause-runs : goal.returns-clause-runs
 returns-clause-runs c = laws.runs_sound
 
 pub returns-clause-same_pairs : goal.returns-clause-same_pairs
-returns-clause-same_pairs c = laws.same_pairs
+returns-clause-same_pairs c = same_pairs
 
 pub returns-clause-same_answers : goal.returns-clause-same_answers
 returns-clause-same_answers c = same_answers

@@ -1,5 +1,8 @@
-use Rattle.schedule_model.proofs.StepLaws as laws
+use Rattle.schedule_model.proofs.CrashedDurable as laws
 use Rattle.schedule_model.proofs.verdicts.one_step.Goals as goal
 
-pub returns : goal.returns
-returns c = laws.one_step
+pub returns-clause-once : goal.returns-clause-once
+returns-clause-once c = laws.one_step
+
+pub returns-clause-chosen : goal.returns-clause-chosen
+returns-clause-chosen c = laws.steps_by_choice
