@@ -42,3 +42,4 @@ reply_value replies.Down = model.IsDown
 reply_value replies.Live = model.IsLive
 reply_value replies.Stopped = model.Stopped
 reply_value replies.Opened = model.Opened
+reply_value replies.Crashed = model.Crashed

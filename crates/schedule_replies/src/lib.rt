@@ -4,4 +4,4 @@
 mod pieces;
 mod replies;
 
-pub use replies::{Reply, push_property_set, push_ready, push_reply};
+pub use replies::{Reply, push_property_set, push_ready, push_reply, push_then_crashed};

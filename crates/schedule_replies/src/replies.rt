@@ -2,7 +2,7 @@
 ghost use Rattle.std.specs.Prelude.{◌≡◌, ◌++◌, ◌∷◌, [], map, OnOk, OnErr};
 ghost use Rattle.std.specs.List.{flat_map};
 ghost use Rattle.rdf_terms.specs.Kept.{KeepsStart};
-ghost use Rattle.mld_model.specs.Reply.{Ready, PropertySet, Did, Single, Answer, Joined, Shows};
+ghost use Rattle.mld_model.specs.Reply.{Ready, PropertySet, Did, Single, Answer, Joined, Shows, ThenCrashed};
 ghost use Rattle.schedule_model.specs.Characters.{line_end};
 ghost use Rattle.schedule_model.specs.ReplyText.{reply_text, pair_line, spaced_range};
 ghost use Rattle.schedule_replies.specs.Replies.{reply_value, numbers_between};
@@ -89,6 +89,8 @@ pub enum Reply<'a> {
     Stopped,
     /// `opened`: the clone that was down is live.
     Opened,
+    /// `crashed`: the device of the clone crashed before the command was done.
+    Crashed,
 }
 
 /// Adds the text of a reply to an output. Where memory is wanting, the output is as it was.
@@ -98,6 +100,20 @@ pub fn push_reply(out: &mut Vec<u8>, reply: &Reply<'_>) -> Result<(), AllocError
 {
     let before = out.len();
     let done = push_text(out, reply);
+    if done.is_err() {
+        out.truncate(before);
+    }
+    done
+}
+
+/// Adds the text of a reply to an output, and then `crashed`: the command was done, and then the device of its clone crashed. Where memory
+/// is wanting, the output is as it was.
+pub fn push_then_crashed(out: &mut Vec<u8>, reply: &Reply<'_>) -> Result<(), AllocError>
+    ensures ok { OnOk result (out.new.items ≡ out.old.items ++ reply_text (ThenCrashed (reply_value reply.now))) }
+    ensures err { OnErr result (out.new.items ≡ out.old.items) }
+{
+    let before = out.len();
+    let done = push_both(out, reply);
     if done.is_err() {
         out.truncate(before);
     }
@@ -118,6 +134,15 @@ pub fn push_property_set(out: &mut Vec<u8>) -> Result<(), AllocError>
     ensures err { OnErr result (out.new.items ≡ out.old.items) }
 {
     push_reply(out, &Reply::PropertySet)
+}
+
+/// Adds the text of a reply to an output, and then `crashed`. Where memory is wanting, what stood there still stands in front.
+fn push_both(out: &mut Vec<u8>, reply: &Reply<'_>) -> Result<(), AllocError>
+    ensures ok { OnOk result (out.new.items ≡ out.old.items ++ reply_text (ThenCrashed (reply_value reply.now))) }
+    ensures err { OnErr result (KeepsStart out.old.items out.new.items) }
+{
+    push_text(out, reply)?;
+    out.extend_from_slice(b"crashed\n")
 }
 
 /// Adds the text of a reply to an output. Where memory is wanting, what stood there still stands in front.
@@ -157,6 +182,7 @@ fn push_text(out: &mut Vec<u8>, reply: &Reply<'_>) -> Result<(), AllocError>
         Reply::Live => out.extend_from_slice(b"live\n"),
         Reply::Stopped => out.extend_from_slice(b"stopped\n"),
         Reply::Opened => out.extend_from_slice(b"opened\n"),
+        Reply::Crashed => out.extend_from_slice(b"crashed\n"),
     }
 }
 

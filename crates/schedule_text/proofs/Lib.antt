@@ -4,3 +4,4 @@ pub mod LinesSetups
 pub mod LinesCommands
 mod LinesQueries
 mod LinesUpdates
+mod LinesCrashes

@@ -12,7 +12,7 @@ use Rattle.rdf_terms.specs.declared.faults.TripleFault.TheVariants.{NotTriple, T
 use Rattle.schedule_model.specs.Characters.{space}
 use Rattle.mld_model.specs.World.{clone_count}
 use Rattle.schedule_model.specs.declared.Command.{Command}
-use Rattle.schedule_model.specs.declared.Command.TheVariants.{Add, Remove, Update, Deliver, Show, Query, Compare, Join, Ask, Compact, Truncate, Stop, Open}
+use Rattle.schedule_model.specs.declared.Command.TheVariants.{Add, Remove, Update, Deliver, Show, Query, Compare, Join, Ask, Compact, Truncate, Stop, Open, Crash}
 use Rattle.schedule_model.proofs.LackingLaws.{Lacks, apart}
 use Rattle.schedule_model.specs.Schedule.{SpellsAnywhere}
 use Rattle.schedule_text.specs.ReadLines.{IsTripleText, IsCloneAndTriple, IsAddRest, IsRemoveRest, IsDeliverRest, IsShowRest, IsCompareRest, IsJoinRest, IsAskRest, IsCompactRest, IsTruncateRest, IsStopRest, IsOpenRest}
@@ -53,6 +53,7 @@ add_back line rest e (Compact number) h = absurd (apart e h.0 refl)
 add_back line rest e (Truncate number keep) h = absurd (apart e h.0 refl)
 add_back line rest e (Stop number) h = absurd (apart e h.0 refl)
 add_back line rest e (Open number) h = absurd (apart e h.0 refl)
+add_back line rest e (Crash call leave task) h = absurd h
 
 pub add_behind : (line rest : List ℕ) → line ≡ codes "add " ++ rest → (command : Command) → IsAddRest rest command ↔ SpellsAnywhere line command
 add_behind line rest e command = (add_there line rest e command, add_back line rest e command)
@@ -76,6 +77,7 @@ remove_back line rest e (Compact number) h = absurd (apart e h.0 refl)
 remove_back line rest e (Truncate number keep) h = absurd (apart e h.0 refl)
 remove_back line rest e (Stop number) h = absurd (apart e h.0 refl)
 remove_back line rest e (Open number) h = absurd (apart e h.0 refl)
+remove_back line rest e (Crash call leave task) h = absurd h
 
 pub remove_behind : (line rest : List ℕ) → line ≡ codes "remove " ++ rest → (command : Command) → IsRemoveRest rest command ↔ SpellsAnywhere line command
 remove_behind line rest e command = (remove_there line rest e command, remove_back line rest e command)
@@ -98,6 +100,7 @@ deliver_back line rest e (Compact number) h = absurd (apart e h.0 refl)
 deliver_back line rest e (Truncate number keep) h = absurd (apart e h.0 refl)
 deliver_back line rest e (Stop number) h = absurd (apart e h.0 refl)
 deliver_back line rest e (Open number) h = absurd (apart e h.0 refl)
+deliver_back line rest e (Crash call leave task) h = absurd h
 
 pub deliver_behind : (line rest : List ℕ) → line ≡ codes "deliver " ++ rest → (command : Command) → IsDeliverRest rest command ↔ SpellsAnywhere line command
 deliver_behind line rest e command = (deliver_there line rest e command, deliver_back line rest e command)
@@ -120,6 +123,7 @@ show_back line rest e (Compact number) h = absurd (apart e h.0 refl)
 show_back line rest e (Truncate number keep) h = absurd (apart e h.0 refl)
 show_back line rest e (Stop number) h = absurd (apart (ap (drop 1) e) (ap (drop 1) h.0) refl)
 show_back line rest e (Open number) h = absurd (apart e h.0 refl)
+show_back line rest e (Crash call leave task) h = absurd h
 
 pub show_behind : (line rest : List ℕ) → line ≡ codes "show " ++ rest → (command : Command) → IsShowRest rest command ↔ SpellsAnywhere line command
 show_behind line rest e command = (show_there line rest e command, show_back line rest e command)
@@ -142,6 +146,7 @@ compare_back line rest e (Compact number) h = absurd (apart (ap (drop 5) e) (ap 
 compare_back line rest e (Truncate number keep) h = absurd (apart e h.0 refl)
 compare_back line rest e (Stop number) h = absurd (apart e h.0 refl)
 compare_back line rest e (Open number) h = absurd (apart e h.0 refl)
+compare_back line rest e (Crash call leave task) h = absurd h
 
 pub compare_behind : (line rest : List ℕ) → line ≡ codes "compare " ++ rest → (command : Command) → IsCompareRest rest command ↔ SpellsAnywhere line command
 compare_behind line rest e command = (compare_there line rest e command, compare_back line rest e command)
@@ -164,6 +169,7 @@ join_back line rest e (Compact number) h = absurd (apart e h.0 refl)
 join_back line rest e (Truncate number keep) h = absurd (apart e h.0 refl)
 join_back line rest e (Stop number) h = absurd (apart e h.0 refl)
 join_back line rest e (Open number) h = absurd (apart e h.0 refl)
+join_back line rest e (Crash call leave task) h = absurd h
 
 pub join_behind : (line rest : List ℕ) → line ≡ codes "join " ++ rest → (command : Command) → IsJoinRest rest command ↔ SpellsAnywhere line command
 join_behind line rest e command = (join_there line rest e command, join_back line rest e command)
@@ -186,6 +192,7 @@ ask_back line rest e (Compact number) h = absurd (apart e h.0 refl)
 ask_back line rest e (Truncate number keep) h = absurd (apart e h.0 refl)
 ask_back line rest e (Stop number) h = absurd (apart e h.0 refl)
 ask_back line rest e (Open number) h = absurd (apart e h.0 refl)
+ask_back line rest e (Crash call leave task) h = absurd h
 
 pub ask_behind : (line rest : List ℕ) → line ≡ codes "ask " ++ rest → (command : Command) → IsAskRest rest command ↔ SpellsAnywhere line command
 ask_behind line rest e command = (ask_there line rest e command, ask_back line rest e command)
@@ -208,6 +215,7 @@ compact_back line rest e (Compact number) h = (number, refl, ap (drop 8) (sym e 
 compact_back line rest e (Truncate number keep) h = absurd (apart e h.0 refl)
 compact_back line rest e (Stop number) h = absurd (apart e h.0 refl)
 compact_back line rest e (Open number) h = absurd (apart e h.0 refl)
+compact_back line rest e (Crash call leave task) h = absurd h
 
 pub compact_behind : (line rest : List ℕ) → line ≡ codes "compact " ++ rest → (command : Command) → IsCompactRest rest command ↔ SpellsAnywhere line command
 compact_behind line rest e command = (compact_there line rest e command, compact_back line rest e command)
@@ -230,6 +238,7 @@ truncate_back line rest e (Compact number) h = absurd (apart e h.0 refl)
 truncate_back line rest e (Truncate number keep) h = (number, keep, refl, ap (drop 9) (sym e ∙ h.0), h.1, h.2)
 truncate_back line rest e (Stop number) h = absurd (apart e h.0 refl)
 truncate_back line rest e (Open number) h = absurd (apart e h.0 refl)
+truncate_back line rest e (Crash call leave task) h = absurd h
 
 pub truncate_behind : (line rest : List ℕ) → line ≡ codes "truncate " ++ rest → (command : Command) → IsTruncateRest rest command ↔ SpellsAnywhere line command
 truncate_behind line rest e command = (truncate_there line rest e command, truncate_back line rest e command)
@@ -252,6 +261,7 @@ stop_back line rest e (Compact number) h = absurd (apart e h.0 refl)
 stop_back line rest e (Truncate number keep) h = absurd (apart e h.0 refl)
 stop_back line rest e (Stop number) h = (number, refl, ap (drop 5) (sym e ∙ h.0), h.1)
 stop_back line rest e (Open number) h = absurd (apart e h.0 refl)
+stop_back line rest e (Crash call leave task) h = absurd h
 
 pub stop_behind : (line rest : List ℕ) → line ≡ codes "stop " ++ rest → (command : Command) → IsStopRest rest command ↔ SpellsAnywhere line command
 stop_behind line rest e command = (stop_there line rest e command, stop_back line rest e command)
@@ -274,6 +284,7 @@ open_back line rest e (Compact number) h = absurd (apart e h.0 refl)
 open_back line rest e (Truncate number keep) h = absurd (apart e h.0 refl)
 open_back line rest e (Stop number) h = absurd (apart e h.0 refl)
 open_back line rest e (Open number) h = (number, refl, ap (drop 5) (sym e ∙ h.0), h.1)
+open_back line rest e (Crash call leave task) h = absurd h
 
 pub open_behind : (line rest : List ℕ) → line ≡ codes "open " ++ rest → (command : Command) → IsOpenRest rest command ↔ SpellsAnywhere line command
 open_behind line rest e command = (open_there line rest e command, open_back line rest e command)

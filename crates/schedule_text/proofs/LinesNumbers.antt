@@ -17,6 +17,10 @@ use Rattle.schedule_model.proofs.LackingLaws.{Lacks, Lacks-decimal, one_split}
 pub small : {number : ℕ} → number < clone_count → number < 2 ^ 64
 small h = omega arith
 
+-- and so is that of a call
+pub small_call : {call : ℕ} → call < 2 ^ 32 → call < 2 ^ 64
+small_call h = omega arith
+
 -- numbers are written in ASCII
 pub decimal_text : (text : List ℕ) (number : ℕ) → number < 2 ^ 64 → text ≡ decimal number → IsUtf8 text
 decimal_text text number h e = subst (λ (t : List ℕ). IsUtf8 t) (sym e) (IsUtf8-from_ascii (decimal number) (IsAscii-decimal number h))

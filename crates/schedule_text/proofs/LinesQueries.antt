@@ -7,8 +7,8 @@ use Rattle.jrql_patterns.specs.declared.queries.ReadQuery.{ReadQuery}
 use Rattle.mld_model.specs.World.{clone_count}
 use Rattle.schedule_model.specs.Characters.{space}
 use Rattle.schedule_model.specs.declared.Command.{Command}
-use Rattle.schedule_model.specs.declared.Command.TheVariants.{Add, Remove, Update, Deliver, Show, Query, Compare, Join, Ask, Compact, Truncate, Stop, Open}
-use Rattle.schedule_model.specs.Schedule.{SpellsAnywhere, SpellsCommand}
+use Rattle.schedule_model.specs.declared.Command.TheVariants.{Add, Remove, Update, Deliver, Show, Query, Compare, Join, Ask, Compact, Truncate, Stop, Open, Crash}
+use Rattle.schedule_model.specs.Schedule.{SpellsAnywhere, SpellsPlain}
 use Rattle.schedule_model.specs.Step.{IsCommandInForm}
 use Rattle.schedule_model.proofs.LackingLaws.{Lacks, apart}
 use Rattle.schedule_text.specs.ReadLines.{IsQueryText, IsQueryRest, IsFoundInForm}
@@ -17,11 +17,11 @@ use Rattle.schedule_text.proofs.LinesNumbers.{small, number_first}
 
 -- ---- what follows the first word
 
-query_there : (domain line rest : List ℕ) → line ≡ codes "query " ++ rest → (command : Command) → IsQueryRest domain rest command → SpellsCommand domain line command
+query_there : (domain line rest : List ℕ) → line ≡ codes "query " ++ rest → (command : Command) → IsQueryRest domain rest command → SpellsPlain domain line command
 query_there domain line rest e command h =
-    subst (λ (k : Command). SpellsCommand domain line k) (sym h.2) (h.3.text, e ∙ ap (λ (r : List ℕ). codes "query " ++ r) h.3.whole, h.3.clone, h.3.said)
+    subst (λ (k : Command). SpellsPlain domain line k) (sym h.2) (h.3.text, e ∙ ap (λ (r : List ℕ). codes "query " ++ r) h.3.whole, h.3.clone, h.3.said)
 
-query_back : (domain line rest : List ℕ) → line ≡ codes "query " ++ rest → (command : Command) → SpellsCommand domain line command → IsQueryRest domain rest command
+query_back : (domain line rest : List ℕ) → line ≡ codes "query " ++ rest → (command : Command) → SpellsPlain domain line command → IsQueryRest domain rest command
 query_back domain line rest e (Query number read) h =
     (number, read, refl, record { text = h.0; whole = ap (drop 6) (sym e ∙ h.1); clone = h.2; said = h.3 })
 query_back domain line rest e (Add number triple) h = absurd (apart e h.1 refl)
@@ -36,13 +36,14 @@ query_back domain line rest e (Compact number) h = absurd (apart e h.0 refl)
 query_back domain line rest e (Truncate number keep) h = absurd (apart e h.0 refl)
 query_back domain line rest e (Stop number) h = absurd (apart e h.0 refl)
 query_back domain line rest e (Open number) h = absurd (apart e h.0 refl)
+query_back domain line rest e (Crash call leave task) h = absurd h
 
-pub query_behind : (domain line rest : List ℕ) → line ≡ codes "query " ++ rest → (command : Command) → IsQueryRest domain rest command ↔ SpellsCommand domain line command
+pub query_behind : (domain line rest : List ℕ) → line ≡ codes "query " ++ rest → (command : Command) → IsQueryRest domain rest command ↔ SpellsPlain domain line command
 query_behind domain line rest e command = (query_there domain line rest e command, query_back domain line rest e command)
 
 -- a line that is neither a query nor an update spells what it spells in any domain
 pub elsewhere : (domain line : List ℕ) → ((rest : List ℕ) → line ≢ codes "query " ++ rest) → ((rest : List ℕ) → line ≢ codes "update " ++ rest) → (command : Command)
-    → SpellsAnywhere line command ↔ SpellsCommand domain line command
+    → SpellsAnywhere line command ↔ SpellsPlain domain line command
 elsewhere domain line none nor (Query number read) = (λ h. absurd h, λ h. absurd (none (decimal number ++ space ∷ h.0) h.1))
 elsewhere domain line none nor (Update number plan) = (λ h. absurd h, λ h. absurd (nor (decimal number ++ space ∷ h.0) h.1))
 elsewhere domain line none nor (Add number triple) = (λ h. h, λ h. h)
@@ -56,6 +57,7 @@ elsewhere domain line none nor (Compact number) = (λ h. h, λ h. h)
 elsewhere domain line none nor (Truncate number keep) = (λ h. h, λ h. h)
 elsewhere domain line none nor (Stop number) = (λ h. h, λ h. h)
 elsewhere domain line none nor (Open number) = (λ h. h, λ h. h)
+elsewhere domain line none nor (Crash call leave task) = (λ h. h, λ h. h)
 
 -- and has nothing that could be out of form
 plain_form : (line : List ℕ) (command : Command) → SpellsAnywhere line command → IsCommandInForm command
@@ -72,6 +74,7 @@ plain_form line (Compact number) h = tt
 plain_form line (Truncate number keep) h = tt
 plain_form line (Stop number) h = tt
 plain_form line (Open number) h = tt
+plain_form line (Crash call leave task) h = absurd h
 
 pub plain_in_form : {E : Type 0} (line : List ℕ) (result : Result (Option Command) E)
     → IfOk result (λ found. MatchOption found ((command : Command) → ¬ SpellsAnywhere line command) (λ command. SpellsAnywhere line command)) → IfOk result IsFoundInForm

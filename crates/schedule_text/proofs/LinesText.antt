@@ -1,15 +1,14 @@
--- A line is split at its first space, and its first word says whether it isn't built yet.
+-- A line is split at its first space, or says nothing.
 use Rattle.std.proofs.Common.{◌≡◌, ◌≢◌, ℕ, zero, suc, ◌+◌, ◌-◌, ◌<◌, ◌≤◌, List, [], ◌∷◌, ◌++◌, ◌↔◌, length, get_or, take, drop, Bool, IsTrue, refl, sym, ap, subst, ◌∙◌, arith}
 use Rattle.std.specs.Str.{IsUtf8}
-use Rattle.std.proofs.lemmas.Bool.{ne_eqb, false≢true}
+use Rattle.std.proofs.lemmas.Bool.{false≢true}
 use Rattle.std.proofs.lemmas.List.{take_all, length-drop, nil_from_length}
 use Rattle.std.specs.Result.{MatchResult, is_ok}
 use Rattle.std.specs.declared.result.Result.{Result}
 use Rattle.std.specs.declared.result.Result.TheVariants.{Ok, Err}
-use Rattle.std.proofs.lemmas.List.Sums.{take_while-cons}
 use Rattle.schedule_model.specs.Characters.{space, hash_mark}
 use Rattle.schedule_model.proofs.LackingLaws.{Lacks, Lacks_parts}
-use Rattle.schedule_model.specs.Schedule.{IsNothing, empty, comment, first_word}
+use Rattle.schedule_model.specs.Schedule.{IsNothing, empty, comment}
 
 -- ---- spaces
 
@@ -41,19 +40,6 @@ split_cut line place below e =
 -- a text that lacks spaces has none
 pub has_space : (line front rest : List ℕ) → Lacks space line → line ≡ front ++ space ∷ rest → ⊥
 has_space line front rest h e = (Lacks_parts space front (space ∷ rest) (subst (λ (l : List ℕ). Lacks space l) e h)).1.0 refl
-
--- ---- first words
-
-pub word_alone : (line : List ℕ) → Lacks space line → line ≡ first_word line
-word_alone [] h = refl
-word_alone (byte ∷ line) h = rw (take_while-cons, ne_eqb byte space h.0) (ap (λ rest. byte ∷ rest) (word_alone line h.1))
-
-word_before : (word rest : List ℕ) → Lacks space word → word ≡ first_word (word ++ space ∷ rest)
-word_before [] rest h = rw take_while-cons refl
-word_before (byte ∷ word) rest h = rw (take_while-cons, ne_eqb byte space h.0) (ap (λ rest. byte ∷ rest) (word_before word rest h.1))
-
-pub word_before_space : (line word rest : List ℕ) → line ≡ word ++ space ∷ rest → Lacks space word → word ≡ first_word line
-word_before_space line word rest e h = subst (λ (l : List ℕ). word ≡ first_word l) (sym e) (word_before word rest h)
 
 -- ---- lines that say nothing
 

@@ -5,8 +5,8 @@ use Rattle.jrql_ast.specs.declared.plans.UpdatePlan.{UpdatePlan}
 use Rattle.mld_model.specs.World.{clone_count}
 use Rattle.schedule_model.specs.Characters.{space}
 use Rattle.schedule_model.specs.declared.Command.{Command}
-use Rattle.schedule_model.specs.declared.Command.TheVariants.{Add, Remove, Update, Deliver, Show, Query, Compare, Join, Ask, Compact, Truncate, Stop, Open}
-use Rattle.schedule_model.specs.Schedule.{SpellsCommand}
+use Rattle.schedule_model.specs.declared.Command.TheVariants.{Add, Remove, Update, Deliver, Show, Query, Compare, Join, Ask, Compact, Truncate, Stop, Open, Crash}
+use Rattle.schedule_model.specs.Schedule.{SpellsPlain}
 use Rattle.schedule_model.proofs.LackingLaws.{Lacks, apart}
 use Rattle.schedule_text.specs.ReadLines.{IsUpdateText, IsUpdateRest}
 use Rattle.schedule_text.proofs.LinesText.{has_space}
@@ -14,11 +14,11 @@ use Rattle.schedule_text.proofs.LinesNumbers.{small, number_first}
 
 -- ---- what follows the first word
 
-update_there : (domain line rest : List ℕ) → line ≡ codes "update " ++ rest → (command : Command) → IsUpdateRest domain rest command → SpellsCommand domain line command
+update_there : (domain line rest : List ℕ) → line ≡ codes "update " ++ rest → (command : Command) → IsUpdateRest domain rest command → SpellsPlain domain line command
 update_there domain line rest e command h =
-    subst (λ (k : Command). SpellsCommand domain line k) (sym h.2) (h.3.text, e ∙ ap (λ (r : List ℕ). codes "update " ++ r) h.3.whole, h.3.clone, h.3.said)
+    subst (λ (k : Command). SpellsPlain domain line k) (sym h.2) (h.3.text, e ∙ ap (λ (r : List ℕ). codes "update " ++ r) h.3.whole, h.3.clone, h.3.said)
 
-update_back : (domain line rest : List ℕ) → line ≡ codes "update " ++ rest → (command : Command) → SpellsCommand domain line command → IsUpdateRest domain rest command
+update_back : (domain line rest : List ℕ) → line ≡ codes "update " ++ rest → (command : Command) → SpellsPlain domain line command → IsUpdateRest domain rest command
 update_back domain line rest e (Update number plan) h =
     (number, plan, refl, record { text = h.0; whole = ap (drop 7) (sym e ∙ h.1); clone = h.2; said = h.3 })
 update_back domain line rest e (Query number read) h = absurd (apart e h.1 refl)
@@ -33,8 +33,9 @@ update_back domain line rest e (Compact number) h = absurd (apart e h.0 refl)
 update_back domain line rest e (Truncate number keep) h = absurd (apart e h.0 refl)
 update_back domain line rest e (Stop number) h = absurd (apart e h.0 refl)
 update_back domain line rest e (Open number) h = absurd (apart e h.0 refl)
+update_back domain line rest e (Crash call leave task) h = absurd h
 
-pub update_behind : (domain line rest : List ℕ) → line ≡ codes "update " ++ rest → (command : Command) → IsUpdateRest domain rest command ↔ SpellsCommand domain line command
+pub update_behind : (domain line rest : List ℕ) → line ≡ codes "update " ++ rest → (command : Command) → IsUpdateRest domain rest command ↔ SpellsPlain domain line command
 update_behind domain line rest e command = (update_there domain line rest e command, update_back domain line rest e command)
 
 -- ---- the parts of an update

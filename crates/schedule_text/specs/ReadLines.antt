@@ -1,7 +1,8 @@
 -- What a line of a schedule was read as.
-use Rattle.std.specs.Prelude.{◌≡◌, ℕ, ◌<◌, ◌^◌, List, ◌∷◌, ◌++◌, IsTrue, Option, None, Some, Ok}
+use Rattle.std.specs.Prelude.{◌≡◌, ℕ, ◌<◌, ◌^◌, List, ◌∷◌, ◌++◌, Option, None, Some, Ok}
 use Rattle.std.specs.Str.{IsUtf8}
 use Rattle.std.specs.Fmt.{decimal}
+use Rattle.mld_io.specs.declared.banks.Leave.{Leave}
 use Rattle.rdf_terms.specs.declared.terms.Triple.{Triple}
 use Rattle.rdf_terms.specs.Grammar.{SpellsTriple, IsTripleWithin}
 use Rattle.jrql_ast.specs.declared.plans.UpdatePlan.{UpdatePlan}
@@ -9,11 +10,13 @@ use Rattle.jrql_update.specs.UpdateReading.{update_read}
 use Rattle.jrql_patterns.specs.QueryReading.{query_read}
 use Rattle.jrql_patterns.specs.declared.queries.ReadQuery.{ReadQuery}
 use Rattle.schedule_model.specs.Characters.{space}
-use Rattle.schedule_model.specs.declared.Command.TheVariants.{Add, Remove, Update, Deliver, Show, Query, Compare, Join, Ask, Compact, Truncate, Stop, Open}
+use Rattle.schedule_model.specs.declared.Command.TheVariants.{Add, Remove, Update, Deliver, Show, Query, Compare, Join, Ask, Compact, Truncate, Stop, Open, Crash}
 use Rattle.schedule_model.specs.declared.Command.{Command}
-use Rattle.schedule_model.specs.Schedule.{Setup as ModelSetup, IsNothing, is_unbuilt, SpellsSetup, SetsProperty, with_property, SpellsCommand, IsCloneNumber}
-use Rattle.schedule_model.specs.Runs.{IsBad, IsUnbuilt, Waiting}
+use Rattle.schedule_model.specs.declared.CrashTask.{CrashTask}
+use Rattle.schedule_model.specs.Schedule.{Setup as ModelSetup, IsNothing, SpellsSetup, SetsProperty, with_property, SpellsPlain, SpellsCommand, leave_word, IsCloneNumber}
+use Rattle.schedule_model.specs.Runs.{IsBad, Waiting}
 use Rattle.schedule_model.specs.Step.{IsCommandInForm}
+use Rattle.schedule_model.specs.Tasks.{command_of}
 use Rattle.schedule_text.specs.declared.setups.Setup.{Setup}
 use Rattle.schedule_text.specs.declared.setups.SetupLine.{SetupLine}
 use Rattle.schedule_text.specs.declared.setups.SetupLine.TheVariants as lines
@@ -32,24 +35,19 @@ SetupIs line (Some setup) (lines.Other so_far) = (so_far ≡ Some setup) × ((pr
 SetupIs line (Some setup) (lines.Setup next) =
     (property : List ℕ) × SetsProperty (setup_of setup) line property × (setup_of next ≡ with_property (setup_of setup) property)
 
--- no domain line has come, and the line is outside the grammar and isn't one that will be built
+-- no domain line has come, and the line is outside the grammar
 abbrev pub IsBadSetup : List ℕ → Option Setup → Type 0
 IsBadSetup line None = IsBad Waiting line
 IsBadSetup line (Some setup) = ⊥
-
--- no domain line has come, and the line isn't built yet
-abbrev pub IsUnbuiltSetup : List ℕ → Option Setup → Type 0
-IsUnbuiltSetup line None = IsUnbuilt line
-IsUnbuiltSetup line (Some setup) = ⊥
 
 -- a line that was read behind the domain line of this domain: it says nothing, or it is a command
 abbrev pub CommandIs : List ℕ → List ℕ → Option Command → Type 0
 CommandIs domain line None = IsNothing line
 CommandIs domain line (Some command) = SpellsCommand domain line command
 
--- it is outside the grammar, and isn't one that will be built
+-- it is outside the grammar
 abbrev pub IsBadCommand : List ℕ → List ℕ → Type 0
-IsBadCommand domain line = ¬ IsNothing line × ¬ IsTrue (is_unbuilt line) × ((command : Command) → ¬ SpellsCommand domain line command)
+IsBadCommand domain line = ¬ IsNothing line × ((command : Command) → ¬ SpellsCommand domain line command)
 
 -- the text of a triple within the limits
 pub record IsTripleText (text : List ℕ) (triple : Triple) : Type 0 where
@@ -141,3 +139,19 @@ IsStopRest rest command = (number : ℕ) × (command ≡ Stop number) × (rest �
 -- the rest of an `open` line
 abbrev pub IsOpenRest : List ℕ → Command → Type 0
 IsOpenRest rest command = (number : ℕ) × (command ≡ Open number) × (rest ≡ decimal number) × IsCloneNumber number
+
+-- the number of a call, what the crash leaves, and a text, with a space between each two
+pub record IsArming (rest : List ℕ) (call : ℕ) (leave : Leave) (text : List ℕ) : Type 0 where
+  pub whole : rest ≡ decimal call ++ space ∷ (leave_word leave ++ space ∷ text)
+  pub small : call < 2 ^ 32
+
+-- and the text spells the command of a crash line in this domain
+pub record IsArmedTask (domain rest : List ℕ) (call : ℕ) (leave : Leave) (task : CrashTask) : Type 0 where
+  pub text : List ℕ
+  pub arms : IsArming rest call leave text
+  pub spells : SpellsPlain domain text (command_of task)
+
+-- the rest of a `crash` line
+abbrev pub IsCrashRest : List ℕ → List ℕ → Command → Type 0
+IsCrashRest domain rest command =
+    (call : ℕ) × (leave : Leave) × (task : CrashTask) × (command ≡ Crash call leave task) × IsArmedTask domain rest call leave task

@@ -2,15 +2,16 @@
 ghost use Rattle.std.specs.Prelude.{ℕ, IsTrue, IfOk, IsErrOf, MatchOption};
 ghost use Rattle.iri_rules.specs.Domain.{is_domain};
 ghost use Rattle.rdf_terms.specs.declared.terms.Triple.{Triple};
-ghost use Rattle.schedule_model.specs.Schedule.{is_unbuilt, SpellsAnywhere, SpellsCommand};
+ghost use Rattle.schedule_model.specs.Schedule.{SpellsAnywhere, SpellsPlain, SpellsCommand};
 ghost use Rattle.schedule_model.specs.declared.Command.{Command};
 ghost use Rattle.schedule_text.specs.ReadLines.{CommandIs, IsBadCommand, IsTripleText, IsCloneAndTriple, IsAddRest, IsRemoveRest, IsDeliverRest, IsShowRest, IsCompareRest, IsJoinRest, IsAskRest, IsCompactRest, IsTruncateRest, IsStopRest, IsOpenRest, IsFoundInForm};
 
+use crate::crashes::read_crash_command;
 use crate::numbers::{read_clone, read_number};
 use crate::queries::read_query_command;
 use crate::refusals::LineRefusal;
 use crate::updates::read_update_command;
-use crate::words::{behind, is_nothing, is_unbuilt, split_at_space};
+use crate::words::{behind, is_nothing, split_at_space};
 use rdf_terms::{Triple, TripleFault, read_triple};
 use schedule_model::Command;
 use std::alloc::{AllocError, Global};
@@ -24,14 +25,10 @@ pub fn read_command(
     requires { IsTrue (is_domain domain.now) }
     ensures ok { IfOk result (CommandIs domain.now line.now) }
     ensures bad { IsErrOf result LineRefusal.BadLine → IsBadCommand domain.now line.now }
-    ensures unbuilt { IsErrOf result LineRefusal.Unbuilt → IsTrue (is_unbuilt line.now) }
     ensures in_form { IfOk result IsFoundInForm }
 {
     if is_nothing(line) {
         return Ok(None);
-    }
-    if is_unbuilt(line) {
-        return Err(LineRefusal::Unbuilt);
     }
     match command_in(alloc, line, domain)? {
         Some(command) => Ok(Some(command)),
@@ -45,6 +42,22 @@ fn command_in(alloc: Global, line: &[u8], domain: &str) -> Result<Option<Command
     ensures found { IfOk result (λ found. MatchOption found ((command : Command) → ¬ SpellsCommand domain.now line.now command) (λ command. SpellsCommand domain.now line.now command)) }
     ensures in_form { IfOk result IsFoundInForm }
 {
+    if let Some(rest) = behind(line, b"crash ") {
+        return read_crash_command(alloc, rest, domain);
+    }
+    plain_command(alloc, line, domain)
+}
+
+/// The command of a line that is no crash line, where the line spells one in the domain of this name.
+pub fn plain_command(
+    alloc: Global,
+    line: &[u8],
+    domain: &str,
+) -> Result<Option<Command>, AllocError>
+    requires { IsTrue (is_domain domain.now) }
+    ensures found { IfOk result (λ found. MatchOption found ((command : Command) → ¬ SpellsPlain domain.now line.now command) (λ command. SpellsPlain domain.now line.now command)) }
+    ensures in_form { IfOk result IsFoundInForm }
+{
     if let Some(rest) = behind(line, b"query ") {
         return read_query_command(alloc, rest, domain);
     }
@@ -54,7 +67,7 @@ fn command_in(alloc: Global, line: &[u8], domain: &str) -> Result<Option<Command
     command_of(alloc, line)
 }
 
-/// The command of a line that is neither a query nor an update, where the line spells one.
+/// The command of a line whose command is spelled alike in all domains, where the line spells one.
 fn command_of(alloc: Global, line: &[u8]) -> Result<Option<Command>, AllocError>
     ensures { IfOk result (λ found. MatchOption found ((command : Command) → ¬ SpellsAnywhere line.now command) (λ command. SpellsAnywhere line.now command)) }
 {

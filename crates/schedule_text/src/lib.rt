@@ -2,6 +2,7 @@
 #![tactic(auto)]
 
 mod commands;
+mod crashes;
 mod numbers;
 mod queries;
 mod refusals;

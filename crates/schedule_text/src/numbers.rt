@@ -57,3 +57,14 @@ pub fn read_count(text: &[u8]) -> Option<u8>
     }
     Some(number as u8)
 }
+
+/// The number of a call at which a device crashes, the first of which is 0.
+pub fn read_call(text: &[u8]) -> Option<u32>
+    ensures { MatchOption result ((number : ℕ) → number < 2 ^ 32 → text.now ≢ decimal number) (λ number. (number < 2 ^ 32) × (text.now ≡ decimal number)) }
+{
+    let number = read_number(text)?;
+    if number > u64::from(u32::MAX) {
+        return None;
+    }
+    Some(number as u32)
+}

@@ -9,9 +9,6 @@ pub enum LineRefusal {
     /// It is outside the grammar.
     #[error("bad line")]
     BadLine,
-    /// It isn't built yet.
-    #[error("unbuilt")]
-    Unbuilt,
     /// No memory was found.
     #[error("no memory")]
     NoMemory,

@@ -2,11 +2,11 @@
 ghost use Rattle.std.specs.Prelude.{◌≡◌, ℕ, List, Some, IsTrue, IfOk, IfErr, IsErrOf, MatchOption};
 ghost use Rattle.iri_rules.specs.Domain.{is_domain};
 ghost use Rattle.schedule_model.specs.Schedule.{Setup as ModelSetup, SpellsSetup, SpellsSingle, with_property};
-ghost use Rattle.schedule_text.specs.ReadLines.{setup_of, SetupIs, IsBadSetup, IsUnbuiltSetup};
+ghost use Rattle.schedule_text.specs.ReadLines.{setup_of, SetupIs, IsBadSetup};
 
 use crate::numbers::read_count;
 use crate::refusals::LineRefusal;
-use crate::words::{behind, is_nothing, is_unbuilt, split_at_space};
+use crate::words::{behind, is_nothing, split_at_space};
 use iri_rules::{Text, is_domain};
 use rdf_terms::{Iri, read_iri};
 use std::alloc::{AllocError, Global};
@@ -46,7 +46,6 @@ pub fn read_setup(
 ) -> Result<SetupLine, LineRefusal>
     ensures ok { IfOk result (SetupIs line.now so_far) }
     ensures bad { IsErrOf result LineRefusal.BadLine → IsBadSetup line.now so_far }
-    ensures unbuilt { IsErrOf result LineRefusal.Unbuilt → IsUnbuiltSetup line.now so_far }
 {
     match so_far {
         Some(setup) => read_later(alloc, line, setup),
@@ -58,13 +57,9 @@ pub fn read_setup(
 fn read_first(alloc: Global, line: &[u8]) -> Result<SetupLine, LineRefusal>
     ensures ok { IfOk result (SetupIs line.now None) }
     ensures bad { IsErrOf result LineRefusal.BadLine → IsBadSetup line.now None }
-    ensures unbuilt { IsErrOf result LineRefusal.Unbuilt → IsUnbuiltSetup line.now None }
 {
     if is_nothing(line) {
         return Ok(SetupLine::Other(None));
-    }
-    if is_unbuilt(line) {
-        return Err(LineRefusal::Unbuilt);
     }
     match domain_line(alloc, line)? {
         Some(setup) => Ok(SetupLine::Setup(setup)),

@@ -1,9 +1,8 @@
-//! The words of a line: where it is split, lines that say nothing, and first words that aren't built yet.
+//! The words of a line: where it is split, and lines that say nothing.
 ghost use Rattle.std.specs.Prelude.{◌≡◌, ◌≢◌, ◌<◌, ◌++◌, ◌∷◌, ◌↔◌, ℕ, List, IsTrue, MatchOption, EachIndex, slice_index, length};
-ghost use Rattle.std.specs.List.{list_any};
 ghost use Rattle.schedule_model.specs.Lacking.{Lacks};
 ghost use Rattle.schedule_model.specs.Characters.{space};
-ghost use Rattle.schedule_model.specs.Schedule.{IsNothing, is_unbuilt, unbuilt_words, is_word, first_word};
+ghost use Rattle.schedule_model.specs.Schedule.{IsNothing};
 
 /// An empty line, or a comment that is UTF-8.
 pub fn is_nothing(line: &[u8]) -> bool
@@ -13,35 +12,6 @@ pub fn is_nothing(line: &[u8]) -> bool
         return true;
     }
     line[0] == b'#' && str::from_utf8(line).is_ok()
-}
-
-/// The first words of lines that aren't built yet.
-const UNBUILT_WORDS: [&[u8]; 1] = [b"crash"];
-
-/// A line that isn't built yet: one of those words comes first.
-#[tactic(auto, unfolding(schedule_model::specs::Schedule::is_unbuilt))]
-pub fn is_unbuilt(line: &[u8]) -> bool
-    ensures { result ≡ is_unbuilt line.now }
-{
-    is_unbuilt_word(first_word(line))
-}
-
-/// One of the first words of lines that aren't built yet.
-fn is_unbuilt_word(word: &[u8]) -> bool
-    ensures { result ≡ list_any (λ unbuilt. is_word unbuilt word.now) unbuilt_words }
-{
-    UNBUILT_WORDS.iter().any(|unbuilt| *unbuilt == word)
-}
-
-/// The bytes before the first space, or all of them.
-#[tactic(auto, using(crate::proofs::LinesText::word_alone, crate::proofs::LinesText::word_before_space))]
-fn first_word(line: &[u8]) -> &[u8]
-    ensures { result.now ≡ first_word line.now }
-{
-    match split_at_space(line) {
-        Some((word, _)) => word,
-        None => line,
-    }
 }
 
 /// Where the first space is.

@@ -107,3 +107,7 @@ returns-in-Sent-clause-ok c = search rules
 pub returns-in-Kept-clause-ok : goal.returns-in-Kept-clause-ok
 unfolding reply_text
 returns-in-Kept-clause-ok c = search rules
+
+pub returns-in-Crashed-clause-ok : goal.returns-in-Crashed-clause-ok
+unfolding reply_text
+returns-in-Crashed-clause-ok c = word_pushed c.extend_from_slice-in-Crashed.result c.args.out.now.items _ _ _ c.extend_from_slice-in-Crashed.ensures.items (sym (ap (λ w. reply_text (reply_value w)) c.in-Crashed.is))
