@@ -1,0 +1,4 @@
+pub mod CarriedSteps
+pub mod Deeds
+pub mod CrashLines
+pub mod CrashLaws
