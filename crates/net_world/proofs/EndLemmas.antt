@@ -1,7 +1,6 @@
 -- The banks of a world: where it is founded, and where its clones stop.
 use Rattle.std.proofs.Common.{◌≡◌, ℕ, zero, suc, List, [], ◌∷◌, Option, Some, None, MatchOption, refl, sym, ◌∙◌, arith, subst, inl, inr, map, option_map}
-use Rattle.std.specs.Prelude.{slice_get}
-use Rattle.std.specs.Prelude.{IsSome}
+use Rattle.std.specs.Prelude.{slice_get, IsSome}
 use Rattle.std.proofs.lemmas.Option.{slice_get-map}
 use Rattle.mld_io.specs.Disk.{Log}
 use Rattle.journal_store.specs.Standing.{KeepsNothing}
@@ -17,11 +16,11 @@ use Rattle.schedule_model.specs.Schedule.{Setup, KeepsEachOnce}
 use Rattle.schedule_model.proofs.WorldLaws.{founded_stands}
 use Rattle.clone_core.specs.Banked.{kept_as}
 use Rattle.net_world.specs.Founding.{IsOpenState, AreFounded, StandsFounded}
-use Rattle.net_world.specs.WorldBanks.{BankedState, BankedWorld, in_memory, banks_of_state, memory_of, KeepsNoneNow, KeepsStored, BanksStandFor, AllBanksStandFor, IsBacked, StandsOnBanks}
-use Rattle.net_world.specs.WorldEnds.{KeepsState, KeepAll}
-use Rattle.net_world.specs.Worlds.{IsStanding}
-use Rattle.net_world.proofs.BankLemmas.{memory_at}
-use Rattle.net_world.proofs.StopLemmas.{told_log}
+use Rattle.world_commands.specs.WorldBanks.{BankedState, BankedWorld, in_memory, banks_of_state, memory_of, KeepsNoneNow, KeepsStored, BanksStandFor, AllBanksStandFor, IsBacked, StandsOnBanks}
+use Rattle.world_commands.specs.WorldEnds.{KeepsState, KeepAll}
+use Rattle.world_commands.specs.Worlds.{IsStanding}
+use Rattle.world_commands.proofs.BankLemmas.{memory_at}
+use Rattle.world_commands.proofs.StopLemmas.{told_log}
 
 -- what stands in a place of a list is a member of it
 member_at : {X : Type 0} (items : List X) (place : ℕ) (item : X) → slice_get items place ≡ Some item → Has items item
@@ -82,7 +81,7 @@ module _ {B : Type 0} (log : B → Option Log) where
       record { log = now.0; now_is = now.1; keeps = blank now.0 now.1 }
 
   -- the banks of a clone that stopped
-  stopped_stands : (world : World) (steps number : ℕ) (state : BankedState B) (clone : Clone) → CloneStandsFor world number (in_memory state) clone → IsBacked log world steps number state
+  pub stopped_stands : (world : World) (steps number : ℕ) (state : BankedState B) (clone : Clone) → CloneStandsFor world number (in_memory state) clone → IsBacked log world steps number state
       → clone_at world number ≡ clone → KeepsState log state → IsSome (log (banks_of_state state))
       → MatchOption (kept_of clone) (KeepsNoneNow (log (banks_of_state state))) (λ stored. KeepsStored world number stored (log (banks_of_state state)))
   stopped_stands world steps number (states.Down banks) clone stands backed at keeps some =
@@ -104,16 +103,7 @@ module _ {B : Type 0} (log : B → Option Log) where
       }
   stopped_stands world steps number state clone stands backed at keeps some = absurd stands
 
-  -- what the banks of one more clone keep
-  pub keeps_more : (state : BankedState B) (left rest all : List (BankedState B)) → left ≡ state ∷ rest → KeepsState log state → (KeepAll log left → KeepAll log all)
-      → KeepAll log rest → KeepAll log all
-  keeps_more state left rest all more keeps so_far others =
-      so_far (subst (λ (l : List (BankedState B)). KeepAll log l) (sym more) (λ other has. elim has [
-        | inl same ↦ subst (λ (s : BankedState B). KeepsState log s) same keeps
-        | inr later ↦ others other later
-      ]))
-
-  -- and those of all clones
+  -- the banks of all clones keep what they stand for
   pub all_stand : (running : BankedWorld B) → ((banks : B) → IsSome (log banks)) → KeepAll log running.clones → (world : World) → StandsOnBanks log running world
       → AllBanksStandFor log world (map banks_of_state running.clones)
   all_stand running tells keeps world stands number one at =

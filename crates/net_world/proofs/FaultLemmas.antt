@@ -8,13 +8,14 @@ use Rattle.journal_store.specs.declared.faults.MakeFault.{MakeFault}
 use Rattle.mld_model.specs.declared.CloneState.TheVariants as states
 use Rattle.clone_core.specs.Banked.{BankedClone}
 use Rattle.clone_core.specs.CloneClosing.{FailsToFound}
-use Rattle.net_world.specs.declared.faults.WorldFault.{WorldFault}
-use Rattle.net_world.specs.declared.faults.WorldFault.TheVariants as faults
-use Rattle.net_world.specs.WorldBanks.{BankedState, banks_of_state, MeterGoesOn, MetersGoOn, HadNoFault, HadNoFaults, HadFault, HasFailed, HasFaultsFor}
+use Rattle.world_commands.specs.declared.faults.WorldFault.{WorldFault}
+use Rattle.world_commands.specs.declared.faults.WorldFault.TheVariants as faults
+use Rattle.world_commands.specs.WorldBanks.{BankedState, banks_of_state, MeterGoesOn, MetersGoOn, HadNoFault, HadNoFaults, HadFault, HasFailed, HasFaultsFor}
+use Rattle.net_world.specs.CrashedWorlds.{AreUnarmed}
 use Rattle.net_world.specs.Founding.{HasFaultsOf, HasFaultsBy, IsMadeFirst}
-use Rattle.net_world.specs.OneCall.{FailsAt, HasFaultsAt}
-use Rattle.net_world.specs.WorldFaults.{fault_of_made}
-use Rattle.net_world.proofs.BankLemmas.{quiet_metered, faults_made}
+use Rattle.world_commands.specs.OneCall.{FailsAt, HasFaultsAt}
+use Rattle.world_commands.specs.WorldFaults.{fault_of_made}
+use Rattle.world_commands.proofs.BankLemmas.{quiet_metered, faults_made}
 
 -- whether the banks of the first clone had a fault, which was made, or was not
 pub first_faults : {B U : Type 0} (calls : ℕ) (made : Result (BankedClone B) (MakeFault × B)) (told : BankedState B × Result U WorldFault) (before now : Meter) (Done : Type 0)
@@ -59,6 +60,12 @@ module _ {B : Type 0} (meter : B → Meter) where
     | inl found ↦ (found.0, found.2)
     | inr past ↦ absurd (omega (arith, past.0, on.count, slice_get_within new number now at))
   ]
+
+  -- banks that weren't armed still aren't
+  pub still_unarmed : (old new : List B) → MetersGoOn meter old new → AreUnarmed meter old → AreUnarmed meter new
+  still_unarmed old new on unarmed number now has =
+      let was : (b : B) × (slice_get old number ≡ Some b) = stood_too old new number now on has in
+      (on.each number was.0 now was.1 has).unarmed (unarmed number was.0 was.1)
 
   pub meters_then : (old mid new : List B) → MetersGoOn meter old mid → MetersGoOn meter mid new → MetersGoOn meter old new
   meters_then old mid new first second = record {

@@ -20,11 +20,11 @@ use Rattle.mld_ops.specs.declared.messages.Message.TheVariants as kinds
 use Rattle.clone_core.specs.Banked.{BankedClone}
 use Rattle.clone_core.specs.Joining.{LocallyGives, AreGood, IsGiveFor}
 use Rattle.schedule_model.specs.Schedule.{Setup}
-use Rattle.net_world.specs.Founding.{IsKeptSetup, IsNewAsker, GivesLeaf, IsOpenFirst, AreFounded, IsFoundedTo, AreFoundedTo, IsAbsentAt, TakesHalf, HasGiver}
-use Rattle.net_world.specs.States.{HasState, Becomes}
-use Rattle.net_world.specs.WorldBanks.{BankedState, in_memory}
-use Rattle.net_world.proofs.Places.{here_at, other_at}
-use Rattle.net_world.proofs.BankLemmas.{memory_at}
+use Rattle.net_world.specs.Founding.{IsKeptSetup, GivesLeaf, IsOpenFirst, AreFounded, IsFoundedTo, AreFoundedTo, IsAbsentAt, TakesHalf, HasGiver}
+use Rattle.world_commands.specs.States.{HasState, Becomes, IsNewAsker}
+use Rattle.world_commands.specs.WorldBanks.{BankedState, in_memory}
+use Rattle.world_commands.proofs.Places.{here_at, other_at}
+use Rattle.world_commands.proofs.BankLemmas.{memory_at}
 use Rattle.tree_clock.specs.Lists.{Has}
 use Rattle.tree_clock.specs.Path.{zero_letter, one_letter}
 

@@ -3,7 +3,7 @@ use Rattle.std.proofs.Common.{◌≡◌, ◌<◌, ◌+◌, ℕ, List, [], ◌∷
 use Rattle.std.proofs.lemmas.List.{map-append, take_more}
 use Rattle.mld_model.specs.StandsFor.{RunningClone}
 use Rattle.world_summaries.specs.declared.summaries.CloneSummary.{CloneSummary}
-use Rattle.net_world.specs.WorldBanks.{BankedState, in_memory}
+use Rattle.world_commands.specs.WorldBanks.{BankedState, in_memory}
 use Rattle.world_summaries.specs.WorldSummary.{Summarizes, SummarizesAll}
 use Rattle.world_summaries.proofs.SummaryLemmas.{summarizes_one}
 

@@ -1,20 +1,24 @@
 -- A command is done and its reply told.
-use Rattle.std.specs.Prelude.{◌≡◌, ℕ, List, ◌++◌, Option, Result, Ok, Err}
+use Rattle.std.specs.Prelude.{◌≡◌, ℕ, ◌+◌, List, ◌++◌, Option, Result, Ok, Err}
 use Rattle.mld_io.specs.Disk.{Log}
+use Rattle.mld_model.specs.Reply as model
 use Rattle.schedule_model.specs.declared.Command.{Command}
 use Rattle.schedule_model.specs.ReplyText.{reply_text}
 use Rattle.schedule_replies.specs.Replies.{reply_value}
 use Rattle.schedule_replies.specs.declared.replies.Reply.{Reply}
-use Rattle.net_world.specs.declared.faults.WorldFault.{WorldFault}
-use Rattle.net_world.specs.declared.faults.WorldFault.TheVariants as faults
-use Rattle.net_world.specs.declared.parts.Parts.{Parts}
-use Rattle.net_world.specs.WorldParts.{Does}
+use Rattle.world_commands.specs.declared.faults.WorldFault.{WorldFault}
+use Rattle.world_commands.specs.declared.faults.WorldFault.TheVariants as faults
+use Rattle.world_commands.specs.declared.parts.Parts.{Parts}
+use Rattle.world_commands.specs.WorldParts.{running_of}
+use Rattle.world_commands.specs.Worlds.{MovesOnBanks}
+use Rattle.net_world.specs.CrashedWorlds.{crashed_reply}
+use Rattle.net_world.specs.declared.crash.Crashed.{Crashed}
 
 -- the command was done, and the text of its reply was added
 pub record Answered {B : Type 0} (log : B → Option Log) (old : Parts B) (command : Command) (new : Parts B) (before after : List ℕ) : Type 0 where
-  pub reply : Reply
-  pub done : Does log old command new reply
-  pub told : after ≡ before ++ reply_text (reply_value reply)
+  pub reply : model.Reply
+  pub moves : (steps : ℕ) → MovesOnBanks log (running_of old steps) command reply (running_of new (steps + 1))
+  pub told : after ≡ before ++ reply_text reply
 
 -- a reply was found, and its text was added
 abbrev pub TellsReply : Result Reply WorldFault → List ℕ → List ℕ → Type 0
@@ -22,6 +26,11 @@ TellsReply (Ok reply) before after = after ≡ before ++ reply_text (reply_value
 TellsReply (Err error) before after = ⊥
 
 -- no reply was found, and this is the fault; or there is no memory for its text
-abbrev pub FailsToTell : Result Reply WorldFault → WorldFault → Type 0
+abbrev pub FailsToTell : {T : Type 0} → Result T WorldFault → WorldFault → Type 0
 FailsToTell (Ok reply) fault = fault ≡ faults.NoMemory
 FailsToTell (Err refused) fault = fault ≡ refused
+
+-- the end of a crash line was found, and its text was added
+abbrev pub TellsCrash : Result Crashed WorldFault → List ℕ → List ℕ → Type 0
+TellsCrash (Ok ended) before after = after ≡ before ++ reply_text (crashed_reply ended)
+TellsCrash (Err error) before after = ⊥

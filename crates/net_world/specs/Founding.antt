@@ -8,12 +8,11 @@ use Rattle.rdf_terms.specs.Order.{iri_cmp}
 use Rattle.tree_clock.specs.Limits.{path_limit}
 use Rattle.journal_store.specs.declared.faults.MakeFault.{MakeFault}
 use Rattle.mld_ops.specs.Messages.{GiveValue, give_value, IsGoodSnapshot}
-use Rattle.mld_ops.specs.Properties.{AreKept}
 use Rattle.mld_ops.specs.declared.messages.Give.{Give}
 use Rattle.mld_ops.specs.declared.messages.Message.{Message}
 use Rattle.mld_ops.specs.declared.messages.Message.TheVariants as kinds
 use Rattle.mld_model.specs.Local.{LocalAsker, LocallyForks, joined_clone}
-use Rattle.mld_model.specs.StandsFor.{id_of, founded_local}
+use Rattle.mld_model.specs.StandsFor.{founded_local}
 use Rattle.mld_model.specs.World.{World, clone_count}
 use Rattle.mld_model.specs.declared.CloneState.TheVariants as states
 use Rattle.clone_core.specs.Banked.{BankedAsker, BankedClone}
@@ -21,12 +20,12 @@ use Rattle.clone_core.specs.CloneClosing.{banks_of_made, StaysOpen}
 use Rattle.schedule_model.specs.Schedule.{Setup}
 use Rattle.schedule_model.specs.Runs.{IsFoundedBy}
 use Rattle.tree_clock.specs.Lists.{Has, IsAscending}
-use Rattle.net_world.specs.declared.faults.WorldFault.{WorldFault}
-use Rattle.net_world.specs.declared.faults.WorldFault.TheVariants as faults
-use Rattle.net_world.specs.States.{HasState, Becomes}
-use Rattle.net_world.specs.WorldBanks.{BankedState, BankedWorld, StandsOnBanks, in_memory, banks_of_state, MeterGoesOn, HadNoFault, HadNoFaults, HasFailed}
-use Rattle.net_world.specs.OneCall.{HasFaultsAt}
-use Rattle.net_world.specs.WorldFaults.{fault_of_made}
+use Rattle.world_commands.specs.declared.faults.WorldFault.{WorldFault}
+use Rattle.world_commands.specs.declared.faults.WorldFault.TheVariants as faults
+use Rattle.world_commands.specs.States.{HasState, Becomes}
+use Rattle.world_commands.specs.WorldBanks.{BankedState, BankedWorld, StandsOnBanks, in_memory, banks_of_state, MeterGoesOn, HadNoFault, HadNoFaults, HasFailed}
+use Rattle.world_commands.specs.OneCall.{HasFaultsAt}
+use Rattle.world_commands.specs.WorldFaults.{fault_of_made}
 
 -- a setup by which clones are founded, whose single-valued properties are kept: they ascend as terms, each once
 pub record IsKeptSetup (setup : Setup) : Type 0 where
@@ -40,12 +39,6 @@ pub record StandsFounded {B : Type 0} (log : B → Option Log) (setup : Setup) (
   pub world : World
   pub founds : IsFoundedBy setup world
   pub stands : StandsOnBanks log running world
-
--- one who asks begins with the id of its number, this domain, and these properties as they are kept
-pub record IsNewAsker (domain : List ℕ) (properties : List (List ℕ)) (number : ℕ) (asker : LocalAsker) : Type 0 where
-  pub id : asker.id ≡ id_of number
-  pub domain_is : asker.domain ≡ domain
-  pub kept : AreKept properties asker.properties
 
 -- the one message gives this leaf to the one who asks, with a snapshot that may be taken
 pub record GivesLeaf (messages : List Message) (asker : LocalAsker) (leaf : GiveValue) : Type 0 where

@@ -1,15 +1,4 @@
-pub mod States
 pub mod Founding
-pub mod Worlds
-pub mod WorldParts
-pub mod Changes
-pub mod Delivering
-pub mod Asking
+pub mod CrashedWorlds
+pub mod LeftBehind
 pub mod Commands
-pub mod WorldBanks
-pub mod OneCall
-pub mod WorldFaults
-pub mod StoppedClones
-pub mod OpeningBanks
-pub mod WorldEnds
-pub mod KeptJournals

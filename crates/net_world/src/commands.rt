@@ -1,28 +1,32 @@
 //! Commands: each has a function of its name in a file of its own, which gives its reply.
-ghost use Rattle.std.specs.Prelude.{◌≡◌, vec_len, IfErr, OnOk, OnErr};
+ghost use Rattle.std.specs.Prelude.{◌≡◌, map, vec_len, IfErr, OnOk, OnErr};
 ghost use Rattle.mld_model.specs.Local.{IsNamed};
 ghost use Rattle.mld_model.specs.World.{clone_count};
 ghost use Rattle.schedule_model.specs.Step.{HasCloneNumbers, IsCommandInForm, number_of_clone};
-ghost use Rattle.net_world.specs.Commands.{Answered, TellsReply, FailsToTell};
-ghost use Rattle.net_world.specs.WorldParts.{HasStepLeft, KeepsDomain, HasFaultsOfParts};
+ghost use Rattle.net_world.specs.Commands.{Answered, TellsReply, FailsToTell, TellsCrash};
+ghost use Rattle.net_world.specs.CrashedWorlds.{AreUnarmed};
+ghost use Rattle.net_world.specs.LeftBehind.{LeavesBanksOf};
+ghost use Rattle.schedule_model.specs.Tasks.{command_done};
+ghost use Rattle.world_commands.specs.WorldBanks.{banks_of_state};
+ghost use Rattle.world_commands.specs.WorldParts.{HasStepLeft, KeepsDomain, HasFaultsOfParts};
 
-use crate::ask::ask;
-use crate::changes::{add, remove, update};
-use crate::compare::compare;
-use crate::deliver::deliver;
-use crate::faults::WorldFault;
-use crate::join::join;
-use crate::keeping::{Keeping, keep};
-use crate::opening::open;
-use crate::parts::Parts;
-use crate::query::query;
-use crate::show::show;
-use crate::stopping::stop;
+use crate::crash::{Crashed, crash};
 use mld_io::{Banks, CrashBanks};
 use schedule_model::Command;
-use schedule_replies::{Reply, push_reply};
+use schedule_replies::{Reply, push_reply, push_then_crashed};
 use std::alloc::Global;
 use std::thread::Threads;
+use world_commands::ask::ask;
+use world_commands::changes::{add, remove, update};
+use world_commands::compare::compare;
+use world_commands::deliver::deliver;
+use world_commands::join::join;
+use world_commands::keeping::{Keeping, keep};
+use world_commands::opening::open;
+use world_commands::query::query;
+use world_commands::show::show;
+use world_commands::stopping::stop;
+use world_commands::{Parts, WorldFault};
 
 /// Does a command, and adds the text of its reply to the output, which is as it was where the command is refused.
 pub fn answer<R: Threads, B: CrashBanks>(
@@ -37,7 +41,9 @@ pub fn answer<R: Threads, B: CrashBanks>(
     requires named { IsNamed parts.old.domain parts.old.properties.items }
     requires numbers { HasCloneNumbers command.now }
     requires form { IsCommandInForm command.now }
+    requires unarmed { AreUnarmed B.meter (map banks_of_state parts.old.clones.items) }
     ensures keeps { KeepsDomain B.meter (number_of_clone command.now) parts.old parts.new }
+    ensures left { LeavesBanksOf B.log parts.old (command_done command.now) (number_of_clone command.now) parts.new }
     ensures done { OnOk result (Answered B.log parts.old command.now parts.new out.old.items out.new.items) }
     ensures faults { HasFaultsOfParts B.meter (number_of_clone command.now) parts.old parts.new result }
     ensures out { OnErr result (out.new.items ≡ out.old.items) }
@@ -61,6 +67,9 @@ pub fn answer<R: Threads, B: CrashBanks>(
         Command::Show(number) => tell(out, Ok(show(parts, *number))),
         Command::Query(number, read) => tell(out, query(alloc, parts, *number, read)),
         Command::Compare(number, other) => tell(out, Ok(compare(parts, *number, *other))),
+        Command::Crash(call, leave, task) => {
+            tell_crash(out, crash(rt, alloc, parts, *call, *leave, task))
+        }
     }
 }
 
@@ -72,6 +81,20 @@ fn tell(out: &mut Vec<u8>, reply: Result<Reply<'_>, WorldFault>) -> Result<(), W
 {
     match reply {
         Ok(reply) => Ok(push_reply(out, &reply)?),
+        Err(fault) => Err(fault),
+    }
+}
+
+/// Adds the text of the end of a crash line to an output, which is as it was where there is none.
+fn tell_crash(out: &mut Vec<u8>, ended: Result<Crashed, WorldFault>) -> Result<(), WorldFault>
+    ensures told { OnOk result (TellsCrash ended out.old.items out.new.items) }
+    ensures cause { IfErr result (FailsToTell ended) }
+    ensures out { OnErr result (out.new.items ≡ out.old.items) }
+{
+    match ended {
+        Ok(Crashed::Unarmed(reply)) => Ok(push_reply(out, &reply)?),
+        Ok(Crashed::Caught) => Ok(push_reply(out, &Reply::Crashed)?),
+        Ok(Crashed::Behind(reply)) => Ok(push_then_crashed(out, &reply)?),
         Err(fault) => Err(fault),
     }
 }

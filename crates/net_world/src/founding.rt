@@ -6,14 +6,11 @@ ghost use Rattle.mld_model.specs.declared.CloneState.TheVariants as kinds;
 ghost use Rattle.clone_core.specs.CloneClosing.{StaysOpen};
 ghost use Rattle.clone_core.specs.Joining.{LocallyGives, AreGood};
 ghost use Rattle.net_world.specs.Founding.{IsKeptSetup, GivesLeaf, AreFounded, AreFoundedTo, IsAbsentAt, IsMadeFirst, MayGive, LivesAtLeaf, JoinsBy, HasGiver, JoinsFirst, HasFaultsBy};
-ghost use Rattle.net_world.specs.WorldBanks.{BankedState, banks_of_state, MeterGoesOn, MetersGoOn, HadNoFaults, RefusesFounding};
+ghost use Rattle.world_commands.specs.WorldBanks.{BankedState, banks_of_state, MeterGoesOn, MetersGoOn, HadNoFaults, RefusesFounding};
 ghost use Rattle.schedule_text.specs.ReadLines.{setup_of};
-ghost use Rattle.net_world.specs.States.{HasState};
-ghost use Rattle.net_world.specs.OneCall.{HasFaultsAt};
+ghost use Rattle.world_commands.specs.States.{HasState};
+ghost use Rattle.world_commands.specs.OneCall.{HasFaultsAt};
 
-use crate::faults::{WorldFault, made_fault};
-use crate::states::{RunningClone, copy_named, id_of, new_asker, put_state, take_state};
-use crate::stopping::stop_all;
 use clone_core::{Adopted, Asker, Got, MldClone, ReceiveFault};
 use journal_store::{Blank, MakeFault};
 use mld_io::{Banks, CrashBanks};
@@ -22,6 +19,10 @@ use mld_ops::Messages;
 use schedule_text::Setup;
 use std::alloc::{AllocError, Global};
 use std::thread::Threads;
+use world_commands::stopping::stop_all;
+use world_commands::{
+    RunningClone, WorldFault, copy_named, id_of, made_fault, new_asker, put_state, take_state,
+};
 
 /// The clones of the founded world, absent ones with them, each on banks of its own. Where the device of a clone fails, all banks are
 /// given back, in order; where memory runs out, none are.

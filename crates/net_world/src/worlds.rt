@@ -1,11 +1,7 @@
 //! The world: its clones, and every message ever sent.
 
 use crate::commands::answer;
-use crate::faults::WorldFault;
 use crate::founding::found_clones;
-use crate::parts::Parts;
-use crate::states::copy_named;
-use crate::stopping::stop_all;
 use crate::summaries::summarize;
 use journal_store::Blank;
 use mld_io::{Banks, CrashBanks};
@@ -16,6 +12,8 @@ use schedule_text::Setup;
 use std::alloc::{AllocError, Global};
 use std::marker::Model;
 use std::thread::Threads;
+use world_commands::stopping::stop_all;
+use world_commands::{Parts, WorldFault, copy_named};
 use world_summaries::Summary;
 
 /// A world that runs, each clone on banks of its own.
@@ -29,8 +27,8 @@ impl<B: CrashBanks> Model for World<B> {
     ghost use Rattle.std.specs.Prelude.{◌≡◌, vec_len};
     ghost use Rattle.mld_model.specs.Local.{IsNamed};
     ghost use Rattle.mld_model.specs.World.{clone_count};
-    ghost use Rattle.net_world.specs.WorldBanks.{BankedWorld};
-    ghost use Rattle.net_world.specs.WorldParts.{running_of};
+    ghost use Rattle.world_commands.specs.WorldBanks.{BankedWorld};
+    ghost use Rattle.world_commands.specs.WorldParts.{running_of};
 
     ghost Value = { BankedWorld B };
 
@@ -44,12 +42,14 @@ impl<B: CrashBanks> World<B> {
     ghost use Rattle.schedule_model.specs.WorldStep.{step_limit};
     ghost use Rattle.iri_rules.specs.Domain.{is_domain};
     ghost use Rattle.mld_model.specs.World.{World as ModelWorld, clone_count};
-    ghost use Rattle.net_world.specs.WorldBanks.{StandsOnBanks, AllBanksStandFor, banks_of, MetersGoOn, HadNoFaults, RefusesFounding, HasFaultsFor, OthersStay, memory_of};
+    ghost use Rattle.world_commands.specs.WorldBanks.{StandsOnBanks, AllBanksStandFor, banks_of, MetersGoOn, HadNoFaults, RefusesFounding, HasFaultsFor, OthersStay, memory_of};
     ghost use Rattle.schedule_model.specs.Schedule.{IsSetup};
     ghost use Rattle.schedule_model.specs.Step.{HasCloneNumbers, IsCommandInForm, number_of_clone};
     ghost use Rattle.schedule_text.specs.ReadLines.{setup_of};
     ghost use Rattle.net_world.specs.Founding.{StandsFounded};
-    ghost use Rattle.net_world.specs.Worlds.{IsStanding, Stepped};
+    ghost use Rattle.net_world.specs.CrashedWorlds.{AreUnarmed};
+    ghost use Rattle.net_world.specs.LeftBehind.{LeavesBanks};
+    ghost use Rattle.world_commands.specs.Worlds.{IsStanding, Stepped};
     ghost use Rattle.world_summaries.specs.WorldSummary.{Tells};
 
     /// The founded world: the clones from 0 on are live, each with a leaf of its own, and the others are absent. Each has banks of its
@@ -118,12 +118,14 @@ impl<B: CrashBanks> World<B> {
         Ok(banks)
     }
 
-    /// Does a command, and adds the text of its reply to the output. It uses the banks of the command's clone alone. After `Device` and
-    /// `NoMemory` the world may have done a part of it, and is only asked for its banks; the output is as it was.
+    /// Does a command or a crash line, and adds the text of its reply to the output. No banks may be armed; a crash line arms those of its
+    /// clone, and none is armed behind it. A command uses the banks of its clone alone, and whatever it answers, a crash leaves of them what it
+    /// might have left before, or what stands for the clone after a front of the command's durable steps. After `Device` and `NoMemory` the
+    /// world may have done a part of it, and is only asked for its banks; the output is as it was.
     ///
     /// # Errors
     ///
-    /// `Device` where the device of the command's clone failed, which it names; and `NoMemory`.
+    /// `Device` where the device of the command's clone failed, which it names, and no arm caught the call; and `NoMemory`.
     pub fn step<R: Threads>(
         &mut self,
         rt: &R,
@@ -135,11 +137,13 @@ impl<B: CrashBanks> World<B> {
         requires standing { IsStanding B.log self.old }
         requires numbers { HasCloneNumbers command.now }
         requires form { IsCommandInForm command.now }
+        requires unarmed { AreUnarmed B.meter (banks_of self.old) }
         ensures done { OnOk result (Stepped B.log self.old command.now self.new out.old.items out.new.items) }
         ensures standing { OnOk result (IsStanding B.log self.new) }
         ensures steps { OnOk result (self.new.steps ≡ self.old.steps + 1) }
         ensures meters { MetersGoOn B.meter (banks_of self.old) (banks_of self.new) }
         ensures faults { HasFaultsFor (number_of_clone command.now) B.meter (banks_of self.old) (banks_of self.new) result }
+        ensures left { LeavesBanks B.log self.old command.now (banks_of self.new) }
         ensures others { OthersStay (number_of_clone command.now) (banks_of self.old) (banks_of self.new) }
         ensures out { OnErr result (out.new.items ≡ out.old.items) }
     {

@@ -1,9 +1,9 @@
 use Rattle.std.proofs.Common.{◌≡◌, ◌∙◌, ◌++◌, [], List, arith, rules, ap, sym, subst, map}
 use Rattle.mld_model.specs.declared.CloneState.TheVariants as kinds
 use Rattle.schedule_text.specs.ReadLines.{setup_of}
-use Rattle.net_world.specs.WorldBanks.{BankedState, banks_of_state, MetersGoOn, HadNoFaults, HasFailed}
+use Rattle.world_commands.specs.WorldBanks.{BankedState, banks_of_state, MetersGoOn, HadNoFaults, HasFailed}
 use Rattle.net_world.specs.Founding.{HasFaultsOf}
-use Rattle.net_world.specs.declared.faults.WorldFault.TheVariants as faults
+use Rattle.world_commands.specs.declared.faults.WorldFault.TheVariants as faults
 use Rattle.net_world.proofs.FaultLemmas.{banks_of_absent}
 use Rattle.net_world.proofs.FoundingLemmas.{all_absent, all_founded}
 use Rattle.net_world.proofs.founding.found_clones.Given as given

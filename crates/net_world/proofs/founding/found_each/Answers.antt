@@ -1,6 +1,6 @@
 use Rattle.std.proofs.Common.{arith, map}
 use Rattle.std.proofs.lemmas.Result.{err_from_is_err_and}
-use Rattle.net_world.specs.WorldBanks.{banks_of_state}
+use Rattle.world_commands.specs.WorldBanks.{banks_of_state}
 use Rattle.net_world.proofs.FaultLemmas.{meters_then, quiet_then, then_fails}
 use Rattle.net_world.proofs.founding.found_each.Goals as goal
 

@@ -1,7 +1,7 @@
 use Rattle.std.proofs.Common.{◌≤◌, map}
 use Rattle.net_world.specs.Founding.{AreFoundedTo}
 use Rattle.schedule_text.specs.ReadLines.{setup_of}
-use Rattle.net_world.specs.WorldBanks.{banks_of_state, MetersGoOn, HadNoFaults}
+use Rattle.world_commands.specs.WorldBanks.{banks_of_state, MetersGoOn, HadNoFaults}
 use Rattle.net_world.proofs.founding.found_each.Given as goal
 
 abbrev pub invariant-loop-number : goal.invariant-loop-number

@@ -4,10 +4,10 @@ use Rattle.mld_model.specs.declared.CloneState.TheVariants as kinds
 use Rattle.clone_banks.specs.BankCalls.{create_calls}
 use Rattle.clone_core.specs.CloneClosing.{banks_of_made}
 use Rattle.schedule_text.specs.ReadLines.{setup_of}
-use Rattle.net_world.specs.States.{Becomes}
-use Rattle.net_world.specs.WorldBanks.{BankedState, banks_of_state, MeterGoesOn}
-use Rattle.net_world.specs.OneCall.{HasFaultsAt}
-use Rattle.net_world.proofs.BankLemmas.{goes_on, meters_set, faults_set}
+use Rattle.world_commands.specs.States.{Becomes}
+use Rattle.world_commands.specs.WorldBanks.{BankedState, banks_of_state, MeterGoesOn}
+use Rattle.world_commands.specs.OneCall.{HasFaultsAt}
+use Rattle.world_commands.proofs.BankLemmas.{goes_on, meters_set, faults_set}
 use Rattle.net_world.proofs.FaultLemmas.{first_faults, faults_of}
 use Rattle.net_world.proofs.FoundingLemmas.{absent_there, first_founded}
 use Rattle.net_world.proofs.founding.found_first.Given as given

@@ -2,11 +2,11 @@ use Rattle.std.proofs.Common.{◌≡◌, ◌+◌, ◌∙◌, List, arith, sym, s
 use Rattle.std.proofs.lemmas.Option.{slice_get_within}
 use Rattle.std.proofs.lemmas.Result.{on_ok_weaker}
 use Rattle.mld_model.specs.declared.CloneState.TheVariants as kinds
-use Rattle.net_world.specs.Founding.{IsNewAsker, HasFaultsOfTwo, giving, taking, HasFaultsBy}
+use Rattle.net_world.specs.Founding.{HasFaultsOfTwo, giving, taking, HasFaultsBy}
 use Rattle.schedule_text.specs.ReadLines.{setup_of}
-use Rattle.net_world.specs.States.{Becomes}
-use Rattle.net_world.specs.WorldBanks.{BankedState, banks_of_state, MeterGoesOn, MetersGoOn}
-use Rattle.net_world.proofs.BankLemmas.{meters_set, faults_set, quiet_becomes}
+use Rattle.world_commands.specs.States.{Becomes, IsNewAsker}
+use Rattle.world_commands.specs.WorldBanks.{BankedState, banks_of_state, MeterGoesOn, MetersGoOn}
+use Rattle.world_commands.proofs.BankLemmas.{meters_set, faults_set, quiet_becomes}
 use Rattle.net_world.proofs.FaultLemmas.{meters_then, faults_of, faults_then, then_faults}
 use Rattle.net_world.proofs.FoundingLemmas.{absent_there, giver_there, first_stays, comes_back, one_more}
 use Rattle.net_world.proofs.founding.found_other.Given as given

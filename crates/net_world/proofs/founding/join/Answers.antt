@@ -2,7 +2,7 @@ use Rattle.std.proofs.Common.{refl}
 use Rattle.std.proofs.lemmas.Result.{on_ok_weaker}
 use Rattle.mld_ops.specs.Messages.{give_value}
 use Rattle.net_world.specs.Founding.{giving, taking}
-use Rattle.net_world.proofs.BankLemmas.{goes_on_same}
+use Rattle.world_commands.proofs.BankLemmas.{goes_on_same}
 use Rattle.net_world.proofs.FoundingLemmas.{gives_leaf}
 use Rattle.net_world.proofs.founding.join.Goals as goal
 

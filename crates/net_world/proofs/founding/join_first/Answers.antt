@@ -1,7 +1,7 @@
 use Rattle.std.proofs.Common.{refl, rules}
 use Rattle.std.proofs.lemmas.Option.{slice_get_within}
 use Rattle.mld_model.specs.declared.CloneState.TheVariants as kinds
-use Rattle.net_world.proofs.Places.{place_read}
+use Rattle.world_commands.proofs.Places.{place_read}
 use Rattle.net_world.proofs.founding.join_first.Goals as goal
 
 pub returns-clause-joins : goal.returns-clause-joins

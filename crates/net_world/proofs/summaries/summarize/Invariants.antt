@@ -1,5 +1,5 @@
 use Rattle.std.proofs.Common.{map, take}
-use Rattle.net_world.specs.WorldBanks.{in_memory}
+use Rattle.world_commands.specs.WorldBanks.{in_memory}
 use Rattle.world_summaries.specs.WorldSummary.{SummarizesAll}
 use Rattle.net_world.proofs.summaries.summarize.Given as goal
 

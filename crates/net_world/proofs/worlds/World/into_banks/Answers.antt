@@ -1,6 +1,6 @@
 use Rattle.std.proofs.Common.{◌≡◌, ◌∙◌, ◌++◌, List, ap, sym, subst, map}
-use Rattle.net_world.specs.WorldBanks.{BankedState, BankedWorld, banks_of_state, AllBanksStandFor}
-use Rattle.net_world.specs.WorldEnds.{KeepAll}
+use Rattle.world_commands.specs.WorldBanks.{BankedState, BankedWorld, banks_of_state, AllBanksStandFor}
+use Rattle.world_commands.specs.WorldEnds.{KeepAll}
 use Rattle.net_world.proofs.EndLemmas.{all_stand}
 use Rattle.net_world.proofs.worlds.World.into_banks.Goals as goal
 

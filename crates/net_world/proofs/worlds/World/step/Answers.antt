@@ -1,10 +1,12 @@
 use Rattle.std.proofs.Common.{◌+◌, List, Err, ap, map, subst}
 use Rattle.std.proofs.lemmas.Result.{err_from_is_err_and}
 use Rattle.schedule_model.specs.Step.{number_of_clone}
-use Rattle.net_world.specs.WorldBanks.{BankedWorld, banks_of_state, HadNoFaults, HasFaultsFor}
-use Rattle.net_world.specs.WorldParts.{running_of}
-use Rattle.net_world.specs.Worlds.{Stepped}
-use Rattle.net_world.proofs.WorldLemmas.{standing_after, step_answered, step_banks, step_begun}
+use Rattle.world_commands.specs.WorldBanks.{BankedWorld, banks_of_state, HadNoFaults, HasFaultsFor}
+use Rattle.world_commands.specs.WorldParts.{running_of}
+use Rattle.world_commands.specs.Worlds.{Stepped}
+use Rattle.schedule_model.specs.Tasks.{command_done}
+use Rattle.net_world.specs.LeftBehind.{LeavesBanksAt}
+use Rattle.net_world.proofs.StepLemmas.{standing_after, step_answered, step_banks, step_begun}
 use Rattle.net_world.proofs.worlds.World.step.Goals as goal
 
 pub returns : goal.returns
@@ -22,6 +24,7 @@ returns g c =
       meters = used.meters;
       faults = subst (λ (l : List g.row.B.Denot). HadNoFaults g.B.Banks.meter l (map banks_of_state new.clones.items)) begun c.in_ok-answer.ensures.faults;
       others = used.others;
+      left = subst (λ (w : BankedWorld g.row.B.Denot). LeavesBanksAt g.B.Banks.log w (command_done c.args.command.now) (number_of_clone c.args.command.now) (map banks_of_state new.clones.items)) c.self.view_is (c.in_ok-answer.ensures.left steps);
       out = tt;
     }
 
@@ -39,5 +42,6 @@ returns-in_err-answer g c =
       meters = used.meters;
       faults = subst (λ (l : List g.row.B.Denot). HasFaultsFor {T = Unit {0}} (number_of_clone c.args.command.now) g.B.Banks.meter l (map banks_of_state new.clones.items) (Err c.in_err-answer.field-0.0)) begun c.in_err-answer.ensures.faults;
       others = used.others;
+      left = subst (λ (w : BankedWorld g.row.B.Denot). LeavesBanksAt g.B.Banks.log w (command_done c.args.command.now) (number_of_clone c.args.command.now) (map banks_of_state new.clones.items)) c.self.view_is (c.in_err-answer.ensures.left steps);
       out = c.in_err-answer.ensures.out;
     })

@@ -1,0 +1,11 @@
+pub mod Places
+pub mod BankLemmas
+pub mod WorldLemmas
+pub mod ChangeLemmas
+pub mod DeliverLemmas
+pub mod JoinLemmas
+pub mod LookLemmas
+pub mod StopLemmas
+pub mod AskLemmas
+pub mod KeepLemmas
+pub mod LeftLemmas

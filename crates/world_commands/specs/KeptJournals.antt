@@ -1,0 +1,25 @@
+-- What a live clone keeps of its journal, by the command and the reply.
+use Rattle.std.specs.Prelude.{◌≡◌, ℕ, length}
+use Rattle.schedule_model.specs.declared.Command.{Command}
+use Rattle.schedule_model.specs.declared.Command.TheVariants as commands
+use Rattle.schedule_replies.specs.declared.replies.Reply.{Reply}
+use Rattle.schedule_replies.specs.declared.replies.Reply.TheVariants as replies
+use Rattle.clone_core.specs.Banked.{BankedClone}
+use Rattle.clone_core.specs.Keeping.{KeepsCompacted, KeepsTruncated}
+use Rattle.world_commands.specs.declared.keeping.Keeping.{Keeping}
+use Rattle.world_commands.specs.declared.keeping.Keeping.TheVariants as keepings
+
+-- the command by which the clone of a number keeps so much
+abbrev pub keeping_command : ℕ → Keeping → Command
+keeping_command number keepings.Compacted = commands.Compact number
+keeping_command number (keepings.Last count) = commands.Truncate number count
+
+-- the journal is kept compacted, or so many entries at its end are kept
+abbrev pub KeepsBy : {B : Type 0} → Keeping → BankedClone B → BankedClone B → Type 0
+KeepsBy keepings.Compacted old new = KeepsCompacted old new
+KeepsBy (keepings.Last count) old new = KeepsTruncated old count new
+
+-- so much of the journal is kept, and the reply names how many entries it has then
+abbrev pub KeepsAs : {B : Type 0} → Keeping → BankedClone B → BankedClone B → Reply → Type 0
+KeepsAs keeping old new (replies.Kept count) = KeepsBy keeping old new × (count ≡ length new.local.entries)
+KeepsAs keeping old new reply = ⊥

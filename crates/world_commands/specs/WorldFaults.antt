@@ -1,0 +1,11 @@
+-- The faults of a world, after those of the banks of its clones.
+use Rattle.std.specs.Prelude.{ℕ}
+use Rattle.journal_store.specs.declared.faults.MakeFault.{MakeFault}
+use Rattle.journal_store.specs.declared.faults.MakeFault.TheVariants as make
+use Rattle.world_commands.specs.declared.faults.WorldFault.{WorldFault}
+use Rattle.world_commands.specs.declared.faults.WorldFault.TheVariants as faults
+
+-- the fault of a clone that could not be made
+abbrev pub fault_of_made : ℕ → MakeFault → WorldFault
+fault_of_made clone make.Device = faults.Device clone
+fault_of_made clone make.NoMemory = faults.NoMemory
