@@ -12,7 +12,7 @@ use Rattle.journal_store.specs.declared.faults.MountFault.TheVariants.{Damaged, 
 use Rattle.clone_core.specs.Opening.{TellsClone}
 use Rattle.clone_core.specs.declared.mounts.Mounted.{Mounted}
 use Rattle.clone_core.specs.declared.mounts.Mounted.TheVariants.{Live, Empty, Refused}
-use Rattle.net_world.specs.WorldBanks.{MeterGoesOn, MetersGoOn, HadNoFault, HadNoFaults, HasFailed, HadFault}
+use Rattle.world_commands.specs.WorldBanks.{MeterGoesOn, MetersGoOn, HadNoFault, HadNoFaults, HasFailed, HadFault}
 use Rattle.mld_replay.specs.Filled.{IsFilled, IsFirstFilled, LogsStay}
 use Rattle.mld_replay.specs.Looking.{AreEmpty, AreEmptyBefore, StopsLookingAt, StopsLooking}
 use Rattle.mld_replay.specs.BankFaults.{AreWell, HaveFailed, all_left, BringsBack}

@@ -8,7 +8,7 @@ use Rattle.journal_store.specs.Standing.{IsBlankLog}
 use Rattle.mld_model.specs.World.{World}
 use Rattle.mld_model.specs.Sound.{IsSound}
 use Rattle.schedule_model.specs.Runs.{Stage, Running}
-use Rattle.net_world.specs.WorldBanks.{BankedWorld, StandsOnBanks, AllBanksStandFor, KeepsNoneNow}
+use Rattle.world_commands.specs.WorldBanks.{BankedWorld, StandsOnBanks, AllBanksStandFor, KeepsNoneNow}
 use Rattle.world_summaries.specs.declared.summaries.Summary.{Summary}
 use Rattle.mld_replay.specs.RunSummaries.{TellsOf}
 use Rattle.mld_replay.specs.Replaying.{EndsBy}

@@ -1,15 +1,16 @@
 -- The meters of banks, from call to call.
-use Rattle.std.proofs.Common.{◌≡◌, ◌≢◌, ℕ, List, refl, sym, ◌∙◌, ap, arith, subst, length, Option, Some, get_or, Err}
+use Rattle.std.proofs.Common.{◌≡◌, ◌≢◌, ℕ, List, refl, sym, ◌∙◌, ap, arith, subst, length, Option, Some, get_or, Err, inl, inr}
 use Rattle.std.specs.Prelude.{slice_get}
 use Rattle.std.proofs.lemmas.Option.{slice_get_within, slice_get-get_or}
-use Rattle.mld_io.specs.Arm.{Meter}
-use Rattle.net_world.specs.WorldBanks.{MeterGoesOn, MetersGoOn, HadNoFaults, HasFailed, HasFaultsFor, RefusesFounding}
-use Rattle.net_world.specs.declared.faults.WorldFault.{WorldFault}
-use Rattle.net_world.specs.declared.faults.WorldFault.TheVariants as worlds
+use Rattle.mld_io.specs.Arm.{Arm, Meter, Unarmed}
+use Rattle.world_commands.specs.WorldBanks.{MeterGoesOn, MetersGoOn, HadNoFaults, HasFailed, HasFaultsFor, RefusesFounding}
+use Rattle.net_world.specs.CrashedWorlds.{AreUnarmed}
+use Rattle.world_commands.specs.declared.faults.WorldFault.{WorldFault}
+use Rattle.world_commands.specs.declared.faults.WorldFault.TheVariants as worlds
 use Rattle.net_world.proofs.FaultLemmas.{goes_then, fault_later}
 use Rattle.schedule_text.specs.declared.refusals.LineRefusal.{LineRefusal}
 use Rattle.schedule_text.specs.declared.refusals.LineRefusal.TheVariants as refusals
-use Rattle.mld_replay.specs.BankFaults.{AreWell, HaveFailed, AreLeft, none_left, all_left, BringsBack}
+use Rattle.mld_replay.specs.BankFaults.{AreWell, HaveFailed, HadRealFault, AreLeft, none_left, all_left, BringsBack, ReturnsBanks}
 use Rattle.mld_replay.specs.Stops.{StopsWith, stop_of, stop_of_world, fault_of}
 use Rattle.mld_replay.specs.declared.stops.LineStop.{LineStop}
 use Rattle.mld_replay.specs.declared.stops.LineStop.TheVariants as stops
@@ -43,6 +44,12 @@ meters_then meter old middle new one two = record {
       let there = there_later old middle number was one.count was_at in
       goes_then (meter was) (meter there.0) (meter now) (one.each number was there.0 was_at there.1) (two.each number there.0 now there.1 now_at);
 }
+
+-- what isn't armed stays so
+pub unarmed_later : {B : Type 0} (meter : B → Meter) (old new : List B) → MetersGoOn meter old new → AreUnarmed meter old → AreUnarmed meter new
+unarmed_later meter old new goes unarmed number now now_at =
+    let there = there_later new old number now (sym goes.count) now_at in
+    (goes.each number there.0 now there.1 now_at).unarmed (unarmed number there.0 there.1)
 
 pub quiet_same : {B : Type 0} (meter : B → Meter) (banks : List B) → HadNoFaults meter banks banks
 quiet_same {B = B} meter banks number was now was_at now_at = ap (λ (one : B). (meter one).real_faults) (some_is (sym now_at ∙ was_at))
@@ -115,12 +122,33 @@ founding_stops meter blanks back (worlds.Device clone) refuses = record { meters
 -- a line that was not read called nothing
 pub unread_stops : {B : Type 0} (meter : B → Meter) (banks : List B) (refusal : LineRefusal) → StopsWith meter banks banks (stop_of refusal)
 unread_stops meter banks refusals.BadLine = well_same meter banks
-unread_stops meter banks refusals.Unbuilt = well_same meter banks
 unread_stops meter banks refusals.NoMemory = all_left (well_same meter banks)
 
 -- and what ends a line, ends the run
 pub run_of_stop : {B : Type 0} (meter : B → Meter) (old new : List B) (stop : LineStop) (number : ℕ) → StopsWith meter old new stop → BringsBack meter old new (Some (fault_of stop number))
 run_of_stop meter old new stops.BadLine number back = back
-run_of_stop meter old new stops.Unbuilt number back = back
 run_of_stop meter old new (stops.Device clone) number back = back
 run_of_stop meter old new stops.NoMemory number back = back
+
+-- banks that are not armed catch no call, so the fault of a clone's was a real one
+real_fault : {B : Type 0} (meter : B → Meter) (clone : ℕ) (old new : List B) → AreUnarmed meter old → HaveFailed meter clone old new → HadRealFault meter clone old new
+real_fault meter clone old new unarmed fails =
+    let f = fails.failed in
+    let now_unarmed : (meter f.now).arm ≡ Unarmed = (fails.meters.each clone f.was f.now f.before f.behind).unarmed (unarmed clone f.was f.before) in
+    record {
+      meters = fails.meters;
+      was = f.was;
+      now = f.now;
+      before = f.before;
+      behind = f.behind;
+      fault = elim f.fault [
+        | inl caught ↦ absurd (cc (sym caught ∙ now_unarmed))
+        | inr rose ↦ rose
+      ];
+      others = f.others;
+    }
+
+pub back_unarmed : {B : Type 0} (meter : B → Meter) (old new : List B) (fault : Option RunFault) → AreUnarmed meter old → BringsBack meter old new fault → ReturnsBanks meter old new fault
+back_unarmed meter old new (Some (faults.Device clone)) unarmed back = real_fault meter clone old new unarmed back
+back_unarmed meter old new (Some faults.NoMemory) unarmed back = back
+back_unarmed meter old new fault unarmed back = back

@@ -11,8 +11,8 @@ use Rattle.std.specs.Io.KnownBytes.{Appends}
 use Rattle.mld_io.specs.Disk.{Log}
 use Rattle.mld_io.specs.Lines.{lines_of, after_line, IsCutShort}
 use Rattle.mld_io.proofs.LinesLaws.{first_of_lines_lem}
-use Rattle.schedule_model.specs.Runs.{Stage, Waiting, Acts, Runs, bad_line, no_domain, IsBad, IsUnbuilt, RunsBefore, Verdict}
-use Rattle.mld_replay.specs.Ran.{Finishes, StopsAtBad, StopsAtUnbuilt, StopsAtLarge, BreaksOff, ReadsLines, WritesFront, WritesWhole, EndsSo, CountsReads, CountsWrites}
+use Rattle.schedule_model.specs.Runs.{Stage, Waiting, Acts, Runs, bad_line, no_domain, IsBad, RunsBefore, Verdict}
+use Rattle.mld_replay.specs.Ran.{Finishes, StopsAtBad, StopsAtLarge, BreaksOff, ReadsLines, WritesFront, WritesWhole, EndsSo, CountsReads, CountsWrites}
 use Rattle.mld_replay.specs.Replaying.{TakesLine, IfSomeLine, IsReadingFault, IsWritingFault, IsReplayFault, IsLineFault, IsEndFault, HasReadCause, HasWriteFaultCause}
 use Rattle.mld_replay.specs.Stages.{StageStands, IsStandingStage, ActsWell, EndsWell, steps_of}
 use Rattle.mld_replay.specs.declared.stages.Stage.{Stage as RunningStage}
@@ -251,22 +251,6 @@ stops_bad log given left rest before now size grown running done line way takes 
     let b = before_line log given left rest before now size grown running done line way takes bytes is in
     record { text = way.text; stage = way.stage; verdict = record { before = b.0; bad = bad_line line b.1 (bad way.stage way.stands) }; fits = b.2; written = way.written; holds = way.stands }
 
--- a line that was taken isn't built
-pub stops_unbuilt : {B : Type 0} (log : B → Option Log) (given left rest before now : Option (List ℕ)) (size grown : ℕ) (running : RunningStage B) (done : ℕ) (line : List ℕ) → IsUnderWay log given left before now size running done
-    → ((bytes : List ℕ) → left ≡ Some bytes → TakesLine size bytes rest grown (Some line)) → IsUnbuilt line
-    → (bytes : List ℕ) → given ≡ Some bytes → StopsAtUnbuilt (StageStands log running) bytes (done + 1) before now
-unfolding Verdict
-stops_unbuilt log given left rest before now size grown running done line way takes unbuilt bytes is =
-    let b = before_line log given left rest before now size grown running done line way takes bytes is in
-    record {
-      text = way.text;
-      stage = way.stage;
-      verdict = record { before = b.0; line = line; first = b.1; unbuilt = unbuilt };
-      fits = b.2;
-      written = way.written;
-      holds = way.stands;
-    }
-
 -- the line of the number is too large
 pub stops_large : {B : Type 0} (log : B → Option Log) (given left before now : Option (List ℕ)) (size : ℕ) (running : RunningStage B) (done number : ℕ) → IsUnderWay log given left before now size running done → number ≡ done + 1
     → ((bytes : List ℕ) → left ≡ Some bytes → BreaksLimits size bytes) → (bytes : List ℕ) → given ≡ Some bytes → StopsAtLarge (StageStands log running) bytes number before now
@@ -317,13 +301,12 @@ ends_reading Told Kept fault bytes left before after reading breaks large front 
 
 -- where one was not done
 pub ends_line : (Told Kept : Stage → Type 0) (fault : RunFault) (bytes : List ℕ) (left before after : Option (List ℕ)) → IsLineFault fault
-    → ((at : ℕ) → fault ≡ faults.BadLine at → StopsAtBad Told bytes at before after) → ((at : ℕ) → fault ≡ faults.Unbuilt at → StopsAtUnbuilt Kept bytes at before after)
+    → ((at : ℕ) → fault ≡ faults.BadLine at → StopsAtBad Told bytes at before after)
     → WritesWhole bytes before after → WritesFront (λ _. Unit {0}) bytes before after → EndsSo Told Kept (Some fault) bytes left before after
-ends_line Told Kept (faults.BadLine at) bytes left before after doing bad unbuilt whole front = bad at refl
-ends_line Told Kept (faults.Unbuilt at) bytes left before after doing bad unbuilt whole front = unbuilt at refl
-ends_line Told Kept (faults.Device clone) bytes left before after doing bad unbuilt whole front = whole
-ends_line Told Kept faults.NoMemory bytes left before after doing bad unbuilt whole front = front
-ends_line Told Kept fault bytes left before after doing bad unbuilt whole front = absurd doing
+ends_line Told Kept (faults.BadLine at) bytes left before after doing bad whole front = bad at refl
+ends_line Told Kept (faults.Device clone) bytes left before after doing bad whole front = whole
+ends_line Told Kept faults.NoMemory bytes left before after doing bad whole front = front
+ends_line Told Kept fault bytes left before after doing bad whole front = absurd doing
 
 -- where its reply could not be written
 pub ends_writing : (Told Kept : Stage → Type 0) (fault : RunFault) (bytes : List ℕ) (left before after : Option (List ℕ)) → IsWritingFault fault → WritesFront Kept bytes before after
@@ -353,7 +336,6 @@ reading_replays fault reading = absurd reading
 pub line_replays : (fault : RunFault) → IsLineFault fault → IsReplayFault fault
 line_replays (faults.Device clone) doing = tt
 line_replays (faults.BadLine line) doing = tt
-line_replays (faults.Unbuilt line) doing = tt
 line_replays faults.NoMemory doing = tt
 line_replays fault doing = absurd doing
 
@@ -410,7 +392,6 @@ reads_counted first before now (faults.BadLine line) cause same = cause.quiet (�
 reads_counted first before now (faults.Device clone) cause same = cause.quiet (λ is. absurd (cc (is))) ∙ same
 reads_counted first before now (faults.TooLarge line) cause same = cause.quiet (λ is. absurd (cc (is))) ∙ same
 reads_counted first before now (faults.NotEmpty clone) cause same = cause.quiet (λ is. absurd (cc (is))) ∙ same
-reads_counted first before now (faults.Unbuilt line) cause same = cause.quiet (λ is. absurd (cc (is))) ∙ same
 
 pub writes_counted : {T : Type 0} (first before now : ℕ) (fault : RunFault) → HasWriteFaultCause {T = T} before now (Err fault) → before ≡ first → CountsWrites first now (Some fault)
 writes_counted first before now faults.WriteFault cause same = subst (λ (n : ℕ). Rose n now) same (cause.failed refl)
@@ -421,7 +402,6 @@ writes_counted first before now (faults.BadLine line) cause same = cause.quiet (
 writes_counted first before now (faults.Device clone) cause same = cause.quiet (λ is. absurd (cc (is))) ∙ same
 writes_counted first before now (faults.TooLarge line) cause same = cause.quiet (λ is. absurd (cc (is))) ∙ same
 writes_counted first before now (faults.NotEmpty clone) cause same = cause.quiet (λ is. absurd (cc (is))) ∙ same
-writes_counted first before now (faults.Unbuilt line) cause same = cause.quiet (λ is. absurd (cc (is))) ∙ same
 
 -- the count is what it was, and no other fault is told
 
@@ -445,15 +425,6 @@ stops_bad_at {B = B} log given left rest before now size grown running done take
     let P : ℕ → Type 0 = λ n. StopsAtBad (StageStands log running) bytes n before now in
     let Q : RunningStage B → Type 0 = λ w. StopsAtBad (StageStands log w) bytes at before now in
     subst Q (sym kept) (subst P (sym counts) (stops_bad log given left rest before now size grown running done line way (takes_some left rest taken size grown piece line is same takes) bad bytes told))
-
-pub stops_unbuilt_at : {B : Type 0} (log : B → Option Log) (given left rest before now : Option (List ℕ)) (size grown : ℕ) (running : RunningStage B) (done : ℕ) (taken : Option (List ℕ)) (piece line : List ℕ) (at : ℕ)
-    → IsUnderWay log given left before now size running done → taken ≡ Some piece → line ≡ piece → ((bytes : List ℕ) → left ≡ Some bytes → TakesLine size bytes rest grown taken)
-    → at ≡ done + 1 → IsUnbuilt line → (next : RunningStage B) → next ≡ running
-    → (bytes : List ℕ) → given ≡ Some bytes → StopsAtUnbuilt (StageStands log next) bytes at before now
-stops_unbuilt_at {B = B} log given left rest before now size grown running done taken piece line at way is same takes counts unbuilt next kept bytes told =
-    let P : ℕ → Type 0 = λ n. StopsAtUnbuilt (StageStands log running) bytes n before now in
-    let Q : RunningStage B → Type 0 = λ w. StopsAtUnbuilt (StageStands log w) bytes at before now in
-    subst Q (sym kept) (subst P (sym counts) (stops_unbuilt log given left rest before now size grown running done line way (takes_some left rest taken size grown piece line is same takes) unbuilt bytes told))
 
 -- the end of the source while no domain line has come, said of an equal state and number
 
@@ -484,20 +455,8 @@ bad_fault {U = U} stop number at fault is same = let fault_is : fault ≡ faults
   where
     bad_stop : (stop : LineStop) (number at : ℕ) → fault_of stop number ≡ faults.BadLine at → (◌≡◌ {A = Result U LineStop} (Err stop) (Err stops.BadLine)) × (at ≡ number)
     bad_stop stops.BadLine number at same = (refl, cc)
-    bad_stop stops.Unbuilt number at same = absurd (cc)
     bad_stop (stops.Device clone) number at same = absurd (cc)
     bad_stop stops.NoMemory number at same = absurd (cc)
-
--- and that of an unbuilt line from a stop at one
-pub unbuilt_fault : {T U : Type 0} (stop : LineStop) (number at : ℕ) (fault : RunFault) → fault ≡ fault_of stop number → ◌≡◌ {A = Result T RunFault} (Err fault) (Err (faults.Unbuilt at))
-    → (◌≡◌ {A = Result U LineStop} (Err stop) (Err stops.Unbuilt)) × (at ≡ number)
-unbuilt_fault {U = U} stop number at fault is same = let fault_is : fault ≡ faults.Unbuilt at = cc in unbuilt_stop stop number at (sym is ∙ fault_is)
-  where
-    unbuilt_stop : (stop : LineStop) (number at : ℕ) → fault_of stop number ≡ faults.Unbuilt at → (◌≡◌ {A = Result U LineStop} (Err stop) (Err stops.Unbuilt)) × (at ≡ number)
-    unbuilt_stop stops.BadLine number at same = absurd (cc)
-    unbuilt_stop stops.Unbuilt number at same = (refl, cc)
-    unbuilt_stop (stops.Device clone) number at same = absurd (cc)
-    unbuilt_stop stops.NoMemory number at same = absurd (cc)
 
 -- what holds of a line that was there
 pub of_line : (P : List ℕ → Type 0) (taken : Option (List ℕ)) (line : List ℕ) → taken ≡ Some line → IfSomeLine P taken → P line

@@ -17,12 +17,12 @@ use Rattle.schedule_text.specs.declared.setups.SetupLine.TheVariants as lines
 use Rattle.schedule_model.specs.Schedule.{Setup as ModelSetup, SpellsSetup, SetsProperty, SpellsCommand, IsSetup, single_limit, with_property}
 use Rattle.schedule_text.specs.ReadLines.{setup_of, SetupIs, CommandIs, IsBadCommand}
 use Rattle.net_world.specs.Founding.{StandsFounded}
-use Rattle.net_world.specs.WorldBanks.{BankedWorld, StandsOnBanks}
+use Rattle.world_commands.specs.WorldBanks.{BankedWorld, StandsOnBanks}
 use Rattle.mld_replay.specs.BankFaults.{AreWell, all_left}
 use Rattle.mld_replay.specs.Stops.{StopsWith}
 use Rattle.mld_replay.specs.declared.stops.LineStop.TheVariants as stops
 use Rattle.mld_replay.proofs.MeterLemmas.{well_same, well_then, stop_later}
-use Rattle.net_world.specs.Worlds.{Stepped, FollowsOnBanks}
+use Rattle.world_commands.specs.Worlds.{Stepped, FollowsOnBanks}
 use Rattle.mld_replay.specs.Stages.{StageStands, SpellsAt, steps_of, GetsProperty, GetsNone, IsStandingStage, ActsWell, EndsWell}
 use Rattle.mld_replay.specs.declared.stops.LineStop.{LineStop}
 use Rattle.mld_replay.specs.declared.stages.Stage.{Stage as RunningStage}
@@ -120,12 +120,12 @@ commanded_all log (Err stop) domain line command old new text same spells steppe
 pub bad_running : {B : Type 0} (log : B → Option Log) (running : BankedWorld B) (domain line : List ℕ) → domain ≡ running.domain → IsBadCommand domain line
     → (model : World) → StandsOnBanks log running model → IsBad (Running model) line
 bad_running log running domain line same bad model stands =
-    (bad.0, bad.1, λ command spells. bad.2 command (subst (λ (d : List ℕ). SpellsCommand d line command) (sym (same ∙ stands.memory.domain)) spells))
+    (bad.0, λ command spells. bad.1 command (subst (λ (d : List ℕ). SpellsCommand d line command) (sym (same ∙ stands.memory.domain)) spells))
 
 pub bad_set_up : (setup : Setup) (domain line : List ℕ) → domain ≡ setup.domain → ((property : List ℕ) → ¬ SetsProperty (setup_of setup) line property) → IsBadCommand domain line
     → IsBad (SetUp (setup_of setup)) line
 bad_set_up setup domain line same none bad =
-    (bad.0, bad.1, (none, λ command spells. bad.2 command (subst (λ (d : List ℕ). SpellsCommand d line command) (sym same) spells)))
+    (bad.0, (none, λ command spells. bad.1 command (subst (λ (d : List ℕ). SpellsCommand d line command) (sym same) spells)))
 
 -- it says nothing
 pub nothing_said : {B : Type 0} (log : B → Option Log) (stage : Stage) (domain line : List ℕ) (read : Option Command) (running : RunningStage B) → read ≡ None → CommandIs domain line read

@@ -9,12 +9,13 @@ use Rattle.mld_io.specs.Arm.{Meter}
 use Rattle.mld_io.specs.Disk.{Log}
 use Rattle.mld_io.specs.Lines.{lines_of}
 use Rattle.mld_model.specs.World.{World}
-use Rattle.schedule_model.specs.Runs.{Stage, Running, RunsBefore, Outcome, Finished, BadLine, UnbuiltLine, Verdict}
-use Rattle.schedule_model.proofs.RunsLaws.{one_verdict}
+use Rattle.schedule_model.specs.Runs.{Stage, Running, RunsBefore, Outcome, Finished, BadLine, Verdict}
+use Rattle.schedule_model.specs.Laws.{AreOfOneKind}
+use Rattle.schedule_model.proofs.RunsLaws.{one_kind_of_verdict}
 use Rattle.mld_replay.specs.BankFaults.{AreWell, none_left, BringsBack}
 use Rattle.mld_replay.specs.Filled.{IsFirstFilled, EndsBefore, LogsStay, HeedsFilled}
 use Rattle.mld_replay.specs.Looking.{AreEmpty, StopsLooking, StopsBlanking}
-use Rattle.mld_replay.specs.Ran.{Finishes, StopsAtBad, StopsAtUnbuilt, StopsAtLarge, BreaksOff, WritesFront, EndsSo, Agrees, EndsAs, LeavesAlone, AreUntouched, HasNotBegun, CountsReads, CountsWrites, tells}
+use Rattle.mld_replay.specs.Ran.{Finishes, StopsAtBad, StopsAtLarge, BreaksOff, WritesFront, EndsSo, Agrees, EndsAs, LeavesAlone, AreUntouched, HasNotBegun, CountsReads, CountsWrites, tells}
 use Rattle.mld_replay.specs.Replaying.{EndsBy, IsReplayFault}
 use Rattle.mld_replay.specs.Stages.{StageStands, banks_of_stage}
 use Rattle.mld_replay.specs.KeptBanks.{BanksKeep}
@@ -73,16 +74,6 @@ breaks_as P Q bytes left before now holds ends = record {
   holds = holds ends.stage ends.holds;
 }
 
-unbuilt_as : (P Q : Stage → Type 0) (bytes : List ℕ) (line : ℕ) (before now : Option (List ℕ)) → ((stage : Stage) → P stage → Q stage) → StopsAtUnbuilt P bytes line before now → StopsAtUnbuilt Q bytes line before now
-unbuilt_as P Q bytes line before now holds ends = record {
-  text = ends.text;
-  stage = ends.stage;
-  verdict = ends.verdict;
-  fits = ends.fits;
-  written = ends.written;
-  holds = holds ends.stage ends.holds;
-}
-
 -- what is told and kept at an end, whatever the fault is
 ends_as : (P Told Kept : Stage → Type 0) (fault : Option RunFault) (bytes : List ℕ) (left before now : Option (List ℕ)) → (IsTrue (tells fault) → (stage : Stage) → P stage → Told stage)
     → ((stage : Stage) → P stage → Kept stage) → EndsSo P P fault bytes left before now → EndsSo Told Kept fault bytes left before now
@@ -95,7 +86,6 @@ ends_as P Told Kept (Some faults.NoMemory) bytes left before now told kept ends 
 ends_as P Told Kept (Some (faults.Device clone)) bytes left before now told kept ends = ends
 ends_as P Told Kept (Some (faults.TooLarge line)) bytes left before now told kept ends = large_as P Told bytes line before now (told refl) ends
 ends_as P Told Kept (Some (faults.NotEmpty clone)) bytes left before now told kept ends = ends
-ends_as P Told Kept (Some (faults.Unbuilt line)) bytes left before now told kept ends = unbuilt_as P Kept bytes line before now kept ends
 
 -- ---- at each end a front of the text of a run was written
 
@@ -124,17 +114,12 @@ front_all bytes text world before after verdict written = record {
   holds = tt;
 }
 
--- or of those before the first that is bad or unbuilt
+-- or of those before the first that is bad
 
 front_bad : (bytes : List ℕ) (number : ℕ) (text : List ℕ) (stage : Stage) (before after : Option (List ℕ)) → Verdict (lines_of bytes) (BadLine number text stage) → Appends before after text
     → WritesFront (λ _. Unit {0}) bytes before after
 unfolding Verdict
 front_bad bytes number text stage before after verdict written = front_before bytes number text stage before after verdict.before written
-
-front_unbuilt : (bytes : List ℕ) (number : ℕ) (text : List ℕ) (stage : Stage) (before after : Option (List ℕ)) → Verdict (lines_of bytes) (UnbuiltLine number text stage) → Appends before after text
-    → WritesFront (λ _. Unit {0}) bytes before after
-unfolding Verdict
-front_unbuilt bytes number text stage before after verdict written = front_before bytes number text stage before after verdict.before written
 
 -- or nothing was written
 front_none : (bytes : List ℕ) (before after : Option (List ℕ)) → after ≡ before → WritesFront (λ _. Unit {0}) bytes before after
@@ -152,7 +137,6 @@ front_of_end Told Kept (Some (faults.Device clone)) bytes left before now ends =
     record { lines = ends.lines; rest = ends.rest; whole = ends.whole; text = ends.text; stage = ends.stage; runs = ends.runs; size = length ends.text; written = all_written before now ends.text ends.written; holds = tt }
 front_of_end Told Kept (Some (faults.TooLarge line)) bytes left before now ends = front_before bytes line ends.text ends.stage before now ends.done ends.written
 front_of_end Told Kept (Some (faults.NotEmpty clone)) bytes left before now ends = front_none bytes before now ends.none_written
-front_of_end Told Kept (Some (faults.Unbuilt line)) bytes left before now ends = front_unbuilt bytes line ends.text ends.stage before now ends.verdict ends.written
 
 -- ---- the clauses of the run, where it came to the replay
 
@@ -202,16 +186,23 @@ pub replay_not_filled : (result : Result (Unit {0}) RunFault) (clone : ℕ) → 
 replay_not_filled (Ok done) clone begun is = absurd (cc (is))
 replay_not_filled (Err fault) clone begun is = let same : fault ≡ faults.NotEmpty clone = cc (is) in absurd (subst IsReplayFault same begun)
 
--- the run agrees with the verdict
+-- the end of the lines, and the first bad one, agree with whatever is of one kind with them
+agrees_at_end : (text : List ℕ) (world : World) (outcome : Outcome) → AreOfOneKind (Finished text world) outcome → Agrees None outcome
+agrees_at_end text world (Finished other second) alike = tt
+agrees_at_end text world (BadLine number other stage) alike = absurd alike
+
+agrees_at_bad : (line : ℕ) (text : List ℕ) (stage : Stage) (outcome : Outcome) → AreOfOneKind (BadLine line text stage) outcome → Agrees (Some (faults.BadLine line)) outcome
+agrees_at_bad line text stage (Finished other world) alike = absurd alike
+agrees_at_bad line text stage (BadLine number other second) alike = alike
+
+-- the run agrees with each verdict, by whichever choices
 pub agrees_so : (Told Kept : Stage → Type 0) (fault : Option RunFault) (bytes : List ℕ) (left before now : Option (List ℕ)) → EndsSo Told Kept fault bytes left before now
     → fault ≢ Some faults.Usage → (outcome : Outcome) → Verdict (lines_of bytes) outcome → Agrees fault outcome
 agrees_so Told Kept None bytes left before now ends usage outcome verdict =
-    subst (λ (o : Outcome). Agrees None o) (one_verdict (lines_of bytes) (Finished ends.text ends.world) outcome ends.verdict verdict) tt
+    agrees_at_end ends.text ends.world outcome (one_kind_of_verdict (lines_of bytes) (Finished ends.text ends.world) outcome ends.verdict verdict)
 agrees_so Told Kept (Some faults.Usage) bytes left before now ends usage outcome verdict = absurd (usage refl)
 agrees_so Told Kept (Some (faults.BadLine line)) bytes left before now ends usage outcome verdict =
-    subst (λ (o : Outcome). Agrees (Some (faults.BadLine line)) o) (one_verdict (lines_of bytes) (BadLine line ends.text ends.stage) outcome ends.verdict verdict) refl
-agrees_so Told Kept (Some (faults.Unbuilt line)) bytes left before now ends usage outcome verdict =
-    subst (λ (o : Outcome). Agrees (Some (faults.Unbuilt line)) o) (one_verdict (lines_of bytes) (UnbuiltLine line ends.text ends.stage) outcome ends.verdict verdict) refl
+    agrees_at_bad line ends.text ends.stage outcome (one_kind_of_verdict (lines_of bytes) (BadLine line ends.text ends.stage) outcome ends.verdict verdict)
 agrees_so Told Kept (Some faults.ReadFault) bytes left before now ends usage outcome verdict = tt
 agrees_so Told Kept (Some faults.WriteFault) bytes left before now ends usage outcome verdict = tt
 agrees_so Told Kept (Some faults.NoMemory) bytes left before now ends usage outcome verdict = tt

@@ -1,7 +1,8 @@
 -- What becomes of the banks, by how a run ended.
-use Rattle.std.specs.Prelude.{◌≡◌, ℕ, List, [], Option, Some}
+use Rattle.std.specs.Prelude.{◌≡◌, ◌≢◌, ℕ, List, [], Option, Some, slice_get}
 use Rattle.mld_io.specs.Arm.{Meter}
-use Rattle.net_world.specs.WorldBanks.{MetersGoOn, HadNoFaults, HasFailed}
+use Rattle.mld_io.specs.Faults.{counted}
+use Rattle.world_commands.specs.WorldBanks.{MetersGoOn, HadNoFault, HadNoFaults, HasFailed}
 use Rattle.mld_replay.specs.declared.run.RunFault.{RunFault}
 use Rattle.mld_replay.specs.declared.run.RunFault.TheVariants as faults
 
@@ -15,14 +16,30 @@ pub record HaveFailed {B : Type 0} (meter : B → Meter) (clone : ℕ) (old new 
   pub meters : MetersGoOn meter old new
   pub failed : HasFailed meter clone old new
 
+-- all come back, and those of this clone, which there are, had one real fault, and no others had any
+pub record HadRealFault {B : Type 0} (meter : B → Meter) (clone : ℕ) (old new : List B) : Type 0 where
+  pub meters : MetersGoOn meter old new
+  pub was : B
+  pub now : B
+  pub before : slice_get old clone ≡ Some was
+  pub behind : slice_get new clone ≡ Some now
+  pub fault : (meter now).real_faults ≡ counted (meter was).real_faults
+  pub others : (other : ℕ) (one two : B) → other ≢ clone → slice_get old other ≡ Some one → slice_get new other ≡ Some two → HadNoFault (meter one) (meter two)
+
 -- none come back, or all, and no call of them had a real fault
 pub data AreLeft {B : Type 0} (meter : B → Meter) (old new : List B) : Type 0 where
   none_left : new ≡ [] → AreLeft meter old new
   all_left : AreWell meter old new → AreLeft meter old new
 
--- what a run brings back, by its fault: where it names a device, a call of those banks failed; where memory ran out, none may come back;
+-- what a part of a run brings back, by its fault: where it names a device, a call of those banks failed; where memory ran out, none may come back;
 -- and else all do
 abbrev pub BringsBack : {B : Type 0} → (B → Meter) → List B → List B → Option RunFault → Type 0
 BringsBack meter old new (Some (faults.Device clone)) = HaveFailed meter clone old new
 BringsBack meter old new (Some faults.NoMemory) = AreLeft meter old new
 BringsBack meter old new fault = AreWell meter old new
+
+-- so it is of a whole run, whose banks are not armed: where it names a device, those banks had a real fault
+abbrev pub ReturnsBanks : {B : Type 0} → (B → Meter) → List B → List B → Option RunFault → Type 0
+ReturnsBanks meter old new (Some (faults.Device clone)) = HadRealFault meter clone old new
+ReturnsBanks meter old new (Some faults.NoMemory) = AreLeft meter old new
+ReturnsBanks meter old new fault = AreWell meter old new

@@ -14,4 +14,3 @@ fault_text (faults.Device clone) = codes "mld: clone " ++ decimal clone ++ codes
 fault_text (faults.NotEmpty clone) = codes "mld: bank " ++ decimal clone ++ codes ": not empty"
 fault_text faults.NoMemory = codes "mld: no memory"
 fault_text (faults.TooLarge line) = codes "mld: line " ++ decimal line ++ codes ": too large"
-fault_text (faults.Unbuilt line) = codes "mld: line " ++ decimal line ++ codes ": unbuilt"

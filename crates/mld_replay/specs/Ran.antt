@@ -5,7 +5,7 @@ use Rattle.mld_io.specs.Faults.{Rose}
 use Rattle.mld_io.specs.Lines.{lines_of, ended_lines, IsCutShort}
 use Rattle.mld_replay.specs.TooLarge.{left_after, IsTooLargeLine}
 use Rattle.mld_model.specs.World.{World}
-use Rattle.schedule_model.specs.Runs.{Stage, Waiting, Running, Runs, RunsBefore, Outcome, Finished, BadLine, UnbuiltLine, Verdict}
+use Rattle.schedule_model.specs.Runs.{Stage, Waiting, Running, Runs, RunsBefore, Outcome, Finished, BadLine, Verdict}
 use Rattle.schedule_model.specs.Promises.{KeepsPromises}
 use Rattle.mld_io.specs.Disk.{Log}
 use Rattle.mld_replay.specs.RunSummaries.{TellsOf}
@@ -25,7 +25,6 @@ status_of (Some faults.NoMemory) = 5
 status_of (Some (faults.Device clone)) = 6
 status_of (Some (faults.TooLarge line)) = 7
 status_of (Some (faults.NotEmpty clone)) = 8
-status_of (Some (faults.Unbuilt line)) = 20
 
 -- the one word is `replay`
 abbrev pub IsReplay : List (List ℕ) → Type 0
@@ -49,16 +48,6 @@ pub record StopsAtBad (P : Stage → Type 0) (bytes : List ℕ) (number : ℕ) (
   pub text : List ℕ
   pub stage : Stage
   pub verdict : Verdict (lines_of bytes) (BadLine number text stage)
-  pub fits : (lines : ℕ) → lines < number → ¬ IsTooLargeLine bytes lines
-  pub written : Appends before after text
-  pub holds : P stage
-
--- the line of the number is the first unbuilt one, no line up to it is too large, and the text of the lines before it was written;
--- and this holds of the stage that they led to
-pub record StopsAtUnbuilt (P : Stage → Type 0) (bytes : List ℕ) (number : ℕ) (before after : Option (List ℕ)) : Type 0 where
-  pub text : List ℕ
-  pub stage : Stage
-  pub verdict : Verdict (lines_of bytes) (UnbuiltLine number text stage)
   pub fits : (lines : ℕ) → lines < number → ¬ IsTooLargeLine bytes lines
   pub written : Appends before after text
   pub holds : P stage
@@ -134,7 +123,6 @@ EndsSo Told Kept (Some faults.NoMemory) bytes left before after = WritesFront (�
 EndsSo Told Kept (Some (faults.Device clone)) bytes left before after = WritesWhole bytes before after
 EndsSo Told Kept (Some (faults.TooLarge line)) bytes left before after = StopsAtLarge Told bytes line before after
 EndsSo Told Kept (Some (faults.NotEmpty clone)) bytes left before after = HasNotBegun bytes left before after
-EndsSo Told Kept (Some (faults.Unbuilt line)) bytes left before after = StopsAtUnbuilt Kept bytes line before after
 
 -- what a run leaves as it was, by its fault: source, sink and banks where its words are none that it knows, and source and sink where
 -- banks are not empty
@@ -165,12 +153,11 @@ pub record CountsFaults (fault : Option RunFault) (source source_now sink sink_n
   pub read : CountsReads source source_now fault
   pub write : CountsWrites sink sink_now fault
 
--- the run ended as the verdict says, or by a fault of reading, of writing or of a device, want of memory, a line that is too large, or
+-- the run ended as the verdict says, at its end or by the first bad line, or by a fault of reading, of writing or of a device, want of memory, a line that is too large, or
 -- banks that are not empty
 abbrev pub Agrees : Option RunFault → Outcome → Type 0
 Agrees None (Finished text world) = Unit {0}
 Agrees (Some (faults.BadLine line)) (BadLine number text stage) = line ≡ number
-Agrees (Some (faults.Unbuilt line)) (UnbuiltLine number text stage) = line ≡ number
 Agrees (Some faults.ReadFault) outcome = Unit {0}
 Agrees (Some faults.WriteFault) outcome = Unit {0}
 Agrees (Some faults.NoMemory) outcome = Unit {0}

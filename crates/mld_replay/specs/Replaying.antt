@@ -43,11 +43,10 @@ IsReplayFault faults.Usage = ⊥
 IsReplayFault (faults.NotEmpty clone) = ⊥
 IsReplayFault fault = Unit {0}
 
--- the faults of a line: it is bad or unbuilt, a device failed, or there was want of memory
+-- the faults of a line: it is bad, a device failed, or there was want of memory
 abbrev pub IsLineFault : RunFault → Type 0
 IsLineFault (faults.Device clone) = Unit {0}
 IsLineFault (faults.BadLine line) = Unit {0}
-IsLineFault (faults.Unbuilt line) = Unit {0}
 IsLineFault faults.NoMemory = Unit {0}
 IsLineFault fault = ⊥
 

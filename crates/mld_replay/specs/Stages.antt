@@ -8,7 +8,7 @@ use Rattle.schedule_model.specs.Runs.{Stage, Waiting, SetUp, Running, IsWorldOf,
 use Rattle.schedule_model.specs.Schedule.{IsSetup, SetsProperty, SpellsCommand}
 use Rattle.schedule_text.specs.ReadLines.{setup_of, SetupIs}
 use Rattle.schedule_text.specs.declared.setups.SetupLine.TheVariants as lines
-use Rattle.net_world.specs.WorldBanks.{StandsOnBanks, banks_of}
+use Rattle.world_commands.specs.WorldBanks.{StandsOnBanks, banks_of}
 use Rattle.mld_replay.specs.declared.stages.Stage.{Stage as RunningStage}
 use Rattle.mld_replay.specs.declared.stages.Stage.TheVariants as stages
 use Rattle.mld_replay.specs.declared.stops.LineStop.{LineStop}

@@ -3,8 +3,8 @@ use Rattle.std.specs.Prelude.{ℕ, List}
 use Rattle.mld_io.specs.Arm.{Meter}
 use Rattle.schedule_text.specs.declared.refusals.LineRefusal.{LineRefusal}
 use Rattle.schedule_text.specs.declared.refusals.LineRefusal.TheVariants as refusals
-use Rattle.net_world.specs.declared.faults.WorldFault.{WorldFault}
-use Rattle.net_world.specs.declared.faults.WorldFault.TheVariants as worlds
+use Rattle.world_commands.specs.declared.faults.WorldFault.{WorldFault}
+use Rattle.world_commands.specs.declared.faults.WorldFault.TheVariants as worlds
 use Rattle.mld_replay.specs.declared.stops.LineStop.{LineStop}
 use Rattle.mld_replay.specs.declared.stops.LineStop.TheVariants as stops
 use Rattle.mld_replay.specs.declared.run.RunFault.{RunFault}
@@ -14,7 +14,6 @@ use Rattle.mld_replay.specs.BankFaults.{AreWell, HaveFailed, AreLeft}
 -- a line that isn't read isn't done
 abbrev pub stop_of : LineRefusal → LineStop
 stop_of refusals.BadLine = stops.BadLine
-stop_of refusals.Unbuilt = stops.Unbuilt
 stop_of refusals.NoMemory = stops.NoMemory
 
 -- nor is one that a world refuses
@@ -25,7 +24,6 @@ stop_of_world worlds.NoMemory = stops.NoMemory
 -- the run ends at the line of the number
 abbrev pub fault_of : LineStop → ℕ → RunFault
 fault_of stops.BadLine number = faults.BadLine number
-fault_of stops.Unbuilt number = faults.Unbuilt number
 fault_of (stops.Device clone) number = faults.Device clone
 fault_of stops.NoMemory number = faults.NoMemory
 

@@ -4,12 +4,13 @@ ghost use Rattle.std.specs.Io.KnownBytes.{Appends};
 ghost use Rattle.std.specs.Result.{result_err};
 ghost use Rattle.std.specs.String.{string_bytes};
 ghost use Rattle.mld_io.specs.Lines.{lines_of, HasNoEnd, IsCutShort};
-ghost use Rattle.schedule_model.specs.Runs.{Stage as ModelStage, Waiting, Outcome, Verdict, IsBad, IsUnbuilt};
+ghost use Rattle.schedule_model.specs.Runs.{Stage as ModelStage, Waiting, Outcome, Verdict, IsBad};
 ghost use Rattle.schedule_model.specs.WorldStep.{step_limit};
 ghost use Rattle.mld_replay.specs.Stops.{fault_of};
 ghost use Rattle.mld_replay.specs.TooLarge.{BreaksLimits, line_limit, input_limit};
 ghost use Rattle.mld_model.specs.World.{clone_count};
-ghost use Rattle.mld_replay.specs.BankFaults.{BringsBack};
+ghost use Rattle.net_world.specs.CrashedWorlds.{AreUnarmed};
+ghost use Rattle.mld_replay.specs.BankFaults.{BringsBack, ReturnsBanks};
 ghost use Rattle.mld_replay.specs.Filled.{HeedsFilled};
 ghost use Rattle.mld_replay.specs.Stages.{StageStands, IsStandingStage, steps_of, banks_of_stage, ActsWell, EndsWell};
 ghost use Rattle.mld_replay.specs.KeptBanks.{BanksKeep};
@@ -47,8 +48,6 @@ pub enum RunFault {
     TooLarge(u64),
     /// The banks of this number are not empty.
     NotEmpty(u8),
-    /// The line of this number isn't built yet.
-    Unbuilt(u64),
 }
 
 /// How a run ended.
@@ -65,14 +64,14 @@ pub struct Ran<B> {
 }
 
 /// Does all that the program does: by the word `replay` it reads a schedule from the source and writes the replies. Each clone lives on
-/// banks of its own, of which there are as many as clones; they come back in their order.
+/// banks of its own, of which there are as many as clones, and none is armed to crash; they come back in their order.
 ///
 /// # Statuses
 /// 0: the source was read to its end. 1: the words are not `replay` alone; nothing is read or written. 2: the source
 /// failed; the lines whose LF was read are done. 3: the sink failed. 4: a line is outside the grammar, or the input ended
 /// before a `domain` line. 5: no memory. 6: the device of the clone that is named failed. 7: a line is too large. 8: banks are not
-/// empty; nothing is read or written, and they stay as they were. 20: a line isn't built yet, and nothing of it is done. Each line is
-/// answered before the next is read. A failure of a device ends the run by 6, or by 5 with no banks given back.
+/// empty; nothing is read or written, and they stay as they were. Each line is answered before the next is read. A failure of a device
+/// ends the run by 6, or by 5 with no banks given back; a crash that a line asked for is none.
 pub fn run<R: Threads, S: Source, K: Sink, B: CrashBanks>(
     rt: &R,
     alloc: Global,
@@ -81,7 +80,8 @@ pub fn run<R: Threads, S: Source, K: Sink, B: CrashBanks>(
     sink: &mut K,
     banks: Vec<B>,
 ) -> Ran<B>
-    requires { vec_len banks ≡ clone_count }
+    requires count { vec_len banks ≡ clone_count }
+    requires unarmed { AreUnarmed B.meter banks.items }
     ensures status { result.status ≡ status_of result.fault }
     ensures usage { (result.fault ≡ Some RunFault.Usage) ↔ (¬ IsReplay (map (λ w. string_bytes w) words.now.items)) }
     // At 1 and 8 nothing is read or written, and at 1 no bank is called.
@@ -90,25 +90,25 @@ pub fn run<R: Threads, S: Source, K: Sink, B: CrashBanks>(
     //
     // 0: the source is read to its end, and none of its lines is too large. The world that they lead to has the meaning of what each
     // clone knows; clones of it that know the same have the same pairs, each answer of a dot holds in it, and no two hold one leaf.
-    // 4, 20 and 7: the line of that number is the first that is bad, unbuilt or too large, and at 4 and 20 none up to it is too large.
-    // The text is that of the lines before it. 2: the source failed within a line, or before it told its end, and the lines done are
-    // those whose LF was read. 3: the text is a front, and the line whose reply could not be written was done. 6: it is that of the
-    // lines before the one under way. At 0, 2, 4 and 7 the world that the lines done lead to is told of, and at these, 3 and 20 the
-    // banks keep it.
+    // 4 and 7: the line of that number is the first that is bad or too large, and at 4 none up to it is too large. The text is that of the
+    // lines before it. 2: the source failed within a line, or before it told its end, and the lines done are those whose LF was read.
+    // 3: the text is a front, and the line whose reply could not be written was done. 6: it is that of the lines before the one under
+    // way. At 0, 2, 4 and 7 the world that the lines done lead to is told of, and at these and 3 the banks keep it.
     ensures ends { (bytes : List ℕ) → S.left source.old ≡ Some bytes
         → EndsSo (EndsAs B.log result) (BanksKeep B.log result.banks.items) result.fault bytes (S.left source.new) (K.held sink.old) (K.held sink.new) }
     // 8 tells of the first banks with a side that has bytes. Where there are such, the run ends by 8 with their number, by 6 with it or a
     // lower one, or by 1 or 5; no line is read, and the log of each bank stays.
     ensures filled { HeedsFilled B.log banks.items result.banks.items result.fault (AreUntouched source.old source.new sink.old sink.new) }
-    // Unless memory ran out all banks come back, in order, and at 5 all or none. At 6 a call of the banks of that clone failed: it had a
-    // real fault, where they were not armed. No others had one, and at any other status none that comes back had.
-    ensures back { BringsBack B.meter banks.items result.banks.items result.fault }
+    // Unless memory ran out all banks come back, in order, and at 5 all or none. At 6 those of that clone had one real fault, and no
+    // others had any; at any other status none that comes back had one.
+    ensures back { ReturnsBanks B.meter banks.items result.banks.items result.fault }
     // At the other statuses nothing is told of the world.
     ensures silent { ¬ IsTrue (tells result.fault) → result.world ≡ None }
     // 2 comes just where the source's count of faults rose, and 3 where the sink's did; but where memory for the summary or the banks
     // was wanting after a failed read or write, the run ended by 5.
     ensures counts { CountsFaults result.fault (S.faults source.old) (S.faults source.new) (K.faults sink.old) (K.faults sink.new) }
-    // Whatever the verdict on the lines is, the run ends so, unless it ended by 2, 3, 5, 6, 7 or 8.
+    // Whatever a verdict on the lines is, by whichever choices at its crash lines, the run ends so, unless it ended by 2, 3, 5, 6, 7 or 8:
+    // at its end, or by 4 at that line.
     ensures exact { (bytes : List ℕ) → S.left source.old ≡ Some bytes → (outcome : Outcome) → Verdict (lines_of bytes) outcome
         → IsReplay (map (λ w. string_bytes w) words.now.items) → Agrees result.fault outcome }
 {
@@ -180,7 +180,6 @@ fn status_of(fault: Option<RunFault>) -> u8
         Some(RunFault::Device(_)) => 6,
         Some(RunFault::TooLarge(_)) => 7,
         Some(RunFault::NotEmpty(_)) => 8,
-        Some(RunFault::Unbuilt(_)) => 20,
     }
 }
 
@@ -194,8 +193,7 @@ fn is_replay(words: &Vec<String>) -> bool
     }
 }
 
-/// Replays the schedule of the source, and leaves the stage that it leads to. Where a line isn't built or memory runs out,
-/// what is left is not to be used.
+/// Replays the schedule of the source, and leaves the stage that it leads to. Where memory runs out, what is left is not to be used.
 fn replay<R: Threads, S: Source, K: Sink, B: CrashBanks>(
     rt: &R,
     alloc: Global,
@@ -203,7 +201,8 @@ fn replay<R: Threads, S: Source, K: Sink, B: CrashBanks>(
     sink: &mut K,
     stage: &mut Stage<B>,
 ) -> Result<(), RunFault>
-    requires { StageStands B.log stage.old Waiting }
+    requires waits { StageStands B.log stage.old Waiting }
+    requires unarmed { AreUnarmed B.meter (banks_of_stage stage.old) }
     ensures begun { IfErr result IsReplayFault }
     ensures ends { (bytes : List ℕ) → S.left source.old ≡ Some bytes
         → EndsSo (StageStands B.log stage.new) (StageStands B.log stage.new) (result_err result) bytes (S.left source.new) (K.held sink.old) (K.held sink.new) }
@@ -275,12 +274,11 @@ fn do_line<R: Threads, B: CrashBanks>(
 ) -> Result<(), RunFault>
     requires few { steps_of stage.old < step_limit }
     requires standing { IsStandingStage B.log stage.old }
+    requires unarmed { AreUnarmed B.meter (banks_of_stage stage.old) }
     ensures ok { OnOk result ((model : ModelStage) → StageStands B.log stage.old model → ActsWell B.log model line.now reply.new.items stage.new) }
     ensures steps { OnOk result (steps_of stage.new ≤ steps_of stage.old + 1) }
     ensures bad { (at : ℕ) → IsErrOf result (RunFault.BadLine at) → (at ≡ number) × ((model : ModelStage) → StageStands B.log stage.old model → IsBad model line.now) }
     ensures kept { (at : ℕ) → IsErrOf result (RunFault.BadLine at) → stage.new ≡ stage.old }
-    ensures unbuilt { (at : ℕ) → IsErrOf result (RunFault.Unbuilt at) → (at ≡ number) × IsUnbuilt line.now }
-    ensures kept_unbuilt { (at : ℕ) → IsErrOf result (RunFault.Unbuilt at) → stage.new ≡ stage.old }
     ensures back { BringsBack B.meter (banks_of_stage stage.old) (banks_of_stage stage.new) (result_err result) }
     ensures other { IfErr result IsLineFault }
 {
@@ -316,7 +314,6 @@ fn fault_of(stop: LineStop, number: u64) -> RunFault
 {
     match stop {
         LineStop::BadLine => RunFault::BadLine(number),
-        LineStop::Unbuilt => RunFault::Unbuilt(number),
         LineStop::Device(clone) => RunFault::Device(clone),
         LineStop::NoMemory => RunFault::NoMemory,
     }
@@ -339,7 +336,6 @@ impl fmt::Display for RunFault {
             RunFault::Device(clone) => write!(f, "mld: clone {clone}: device fault"),
             RunFault::NotEmpty(clone) => write!(f, "mld: bank {clone}: not empty"),
             RunFault::TooLarge(line) => write!(f, "mld: line {line}: too large"),
-            RunFault::Unbuilt(line) => write!(f, "mld: line {line}: unbuilt"),
         }
     }
 }

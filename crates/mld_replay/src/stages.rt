@@ -2,10 +2,11 @@
 ghost use Rattle.std.specs.Prelude.{◌≡◌, ◌<◌, ◌≤◌, ◌+◌, [], ℕ, List, IsTrue, IfOk, IfErr, OnOk, OnErr, IsErrOf};
 ghost use Rattle.mld_model.specs.World.{World as ModelWorld};
 ghost use Rattle.mld_model.specs.Sound.{IsSound};
-ghost use Rattle.net_world.specs.WorldBanks.{StandsOnBanks, banks_of};
-ghost use Rattle.schedule_model.specs.Runs.{Stage as ModelStage, Waiting, Running, IsBad, IsUnbuilt};
+ghost use Rattle.world_commands.specs.WorldBanks.{StandsOnBanks, banks_of};
+ghost use Rattle.net_world.specs.CrashedWorlds.{AreUnarmed};
+ghost use Rattle.schedule_model.specs.Runs.{Stage as ModelStage, Waiting, Running, IsBad};
 ghost use Rattle.schedule_model.specs.Step.{HasCloneNumbers, IsCommandInForm};
-ghost use Rattle.net_world.specs.Worlds.{IsStanding, Stepped};
+ghost use Rattle.world_commands.specs.Worlds.{IsStanding, Stepped};
 ghost use Rattle.schedule_model.specs.WorldStep.{step_limit};
 ghost use Rattle.mld_replay.specs.BankFaults.{AreWell};
 ghost use Rattle.mld_replay.specs.Stops.{StopsWith};
@@ -45,12 +46,11 @@ pub fn act<R: Threads, B: CrashBanks>(
 ) -> Result<(), LineStop>
     requires few { steps_of stage.old < step_limit }
     requires standing { IsStandingStage B.log stage.old }
+    requires unarmed { AreUnarmed B.meter (banks_of_stage stage.old) }
     ensures ok { OnOk result ((model : ModelStage) → StageStands B.log stage.old model → ActsWell B.log model line.now reply.new.items stage.new) }
     ensures steps { OnOk result (steps_of stage.new ≤ steps_of stage.old + 1) }
     ensures bad { IsErrOf result LineStop.BadLine → (model : ModelStage) → StageStands B.log stage.old model → IsBad model line.now }
     ensures kept { IsErrOf result LineStop.BadLine → stage.new ≡ stage.old }
-    ensures unbuilt { IsErrOf result LineStop.Unbuilt → IsUnbuilt line.now }
-    ensures kept_unbuilt { IsErrOf result LineStop.Unbuilt → stage.new ≡ stage.old }
     ensures well { OnOk result (AreWell B.meter (banks_of_stage stage.old) (banks_of_stage stage.new)) }
     ensures back { IfErr result (StopsWith B.meter (banks_of_stage stage.old) (banks_of_stage stage.new)) }
 {
@@ -75,7 +75,6 @@ fn set_up<B: CrashBanks>(
     ensures ok { OnOk result (ActsWell B.log Waiting line.now reply.new.items stage.new) }
     ensures steps { OnOk result (steps_of stage.new ≡ 0) }
     ensures bad { IsErrOf result LineStop.BadLine → IsBad Waiting line.now }
-    ensures unbuilt { IsErrOf result LineStop.Unbuilt → IsUnbuilt line.now }
     ensures kept { OnErr result (stage.new ≡ stage.old) }
     ensures banks { banks_of_stage stage.new ≡ banks_of_stage stage.old }
     ensures device { (clone : ℕ) → ¬ IsErrOf result (LineStop.Device clone) }
@@ -112,14 +111,13 @@ fn set_or_start<R: Threads, B: CrashBanks>(
     reply: &mut Vec<u8>,
 ) -> Result<(), LineStop>
     requires standing { IsStandingStage B.log stage.old }
+    requires unarmed { AreUnarmed B.meter (banks_of_stage stage.old) }
     requires set_up { IsSetUpState stage.old }
     requires empty { reply.old.items ≡ [] }
     ensures ok { OnOk result ((model : ModelStage) → StageStands B.log stage.old model → ActsWell B.log model line.now reply.new.items stage.new) }
     ensures steps { OnOk result (steps_of stage.new ≤ 1) }
     ensures bad { IsErrOf result LineStop.BadLine → (model : ModelStage) → StageStands B.log stage.old model → IsBad model line.now }
     ensures kept { IsErrOf result LineStop.BadLine → stage.new ≡ stage.old }
-    ensures unbuilt { IsErrOf result LineStop.Unbuilt → IsUnbuilt line.now }
-    ensures kept_unbuilt { IsErrOf result LineStop.Unbuilt → stage.new ≡ stage.old }
     ensures well { OnOk result (AreWell B.meter (banks_of_stage stage.old) (banks_of_stage stage.new)) }
     ensures back { IfErr result (StopsWith B.meter (banks_of_stage stage.old) (banks_of_stage stage.new)) }
 {
@@ -172,14 +170,13 @@ fn first<R: Threads, B: CrashBanks>(
     reply: &mut Vec<u8>,
 ) -> Result<(), LineStop>
     requires standing { IsStandingStage B.log stage.old }
+    requires unarmed { AreUnarmed B.meter (banks_of_stage stage.old) }
     requires none { GetsNone line.now stage.old }
     requires empty { reply.old.items ≡ [] }
     ensures ok { OnOk result ((model : ModelStage) → StageStands B.log stage.old model → ActsWell B.log model line.now reply.new.items stage.new) }
     ensures steps { OnOk result (steps_of stage.new ≤ 1) }
     ensures bad { IsErrOf result LineStop.BadLine → (model : ModelStage) → StageStands B.log stage.old model → IsBad model line.now }
     ensures kept { IsErrOf result LineStop.BadLine → stage.new ≡ stage.old }
-    ensures unbuilt { IsErrOf result LineStop.Unbuilt → IsUnbuilt line.now }
-    ensures kept_unbuilt { IsErrOf result LineStop.Unbuilt → stage.new ≡ stage.old }
     ensures well { OnOk result (AreWell B.meter (banks_of_stage stage.old) (banks_of_stage stage.new)) }
     ensures back { IfErr result (StopsWith B.meter (banks_of_stage stage.old) (banks_of_stage stage.new)) }
 {
@@ -201,6 +198,7 @@ fn start<R: Threads, B: CrashBanks>(
     reply: &mut Vec<u8>,
 ) -> Result<(), LineStop>
     requires standing { IsStandingStage B.log stage.old }
+    requires unarmed { AreUnarmed B.meter (banks_of_stage stage.old) }
     requires set_up { IsSetUpState stage.old }
     requires numbers { HasCloneNumbers command.now }
     requires form { IsCommandInForm command.now }
@@ -264,14 +262,13 @@ fn command<R: Threads, B: CrashBanks>(
 ) -> Result<(), LineStop>
     requires few { world.old.steps < step_limit }
     requires standing { IsStanding B.log world.old }
+    requires unarmed { AreUnarmed B.meter (banks_of world.old) }
     requires empty { reply.old.items ≡ [] }
     ensures ok { OnOk result ((model : ModelWorld) → StandsOnBanks B.log world.old model → IsSound model
         → ActsWell B.log (Running model) line.now reply.new.items (stages.Running world.new)) }
     ensures steps { OnOk result (world.new.steps ≤ world.old.steps + 1) }
     ensures bad { IsErrOf result LineStop.BadLine → (model : ModelWorld) → StandsOnBanks B.log world.old model → IsBad (Running model) line.now }
     ensures kept { IsErrOf result LineStop.BadLine → world.new ≡ world.old }
-    ensures unbuilt { IsErrOf result LineStop.Unbuilt → IsUnbuilt line.now }
-    ensures kept_unbuilt { IsErrOf result LineStop.Unbuilt → world.new ≡ world.old }
     ensures well { OnOk result (AreWell B.meter (banks_of world.old) (banks_of world.new)) }
     ensures back { IfErr result (StopsWith B.meter (banks_of world.old) (banks_of world.new)) }
 {
@@ -291,6 +288,7 @@ fn step<R: Threads, B: CrashBanks>(
 ) -> Result<(), LineStop>
     requires few { world.old.steps < step_limit }
     requires standing { IsStanding B.log world.old }
+    requires unarmed { AreUnarmed B.meter (banks_of world.old) }
     requires numbers { HasCloneNumbers command.now }
     requires form { IsCommandInForm command.now }
     requires empty { reply.old.items ≡ [] }
@@ -314,7 +312,6 @@ pub fn finish<R: Threads, B: CrashBanks>(
     ensures ok { OnOk result ((model : ModelStage) → StageStands B.log stage.old model → EndsWell B.log model stage.new) }
     ensures bad { IsErrOf result LineStop.BadLine → (model : ModelStage) → StageStands B.log stage.old model → model ≡ Waiting }
     ensures kept { IsErrOf result LineStop.BadLine → stage.new ≡ stage.old }
-    ensures built { ¬ IsErrOf result LineStop.Unbuilt }
     ensures well { OnOk result (AreWell B.meter (banks_of_stage stage.old) (banks_of_stage stage.new)) }
     ensures back { IfErr result (StopsWith B.meter (banks_of_stage stage.old) (banks_of_stage stage.new)) }
 {

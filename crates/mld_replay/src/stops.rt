@@ -10,9 +10,6 @@ pub enum LineStop {
     /// It is outside the grammar.
     #[error("bad line")]
     BadLine,
-    /// It isn't built yet.
-    #[error("unbuilt")]
-    Unbuilt,
     /// The device of a clone failed.
     #[error("clone {0}: device fault")]
     Device(u8),
@@ -30,7 +27,6 @@ impl From<LineRefusal> for LineStop {
     fn from(refusal: LineRefusal) -> LineStop {
         match refusal {
             LineRefusal::BadLine => LineStop::BadLine,
-            LineRefusal::Unbuilt => LineStop::Unbuilt,
             LineRefusal::NoMemory => LineStop::NoMemory,
         }
     }

@@ -1,6 +1,9 @@
 //! Replaying a schedule from memory. Banks are run on in here alone, and let go, so that a test has plain words to compare.
-ghost use Rattle.std.specs.Prelude.{◌≡◌, ◌<◌, IfOk, vec_len};
+ghost use Rattle.std.specs.Prelude.{◌≡◌, ◌<◌, ℕ, Some, IfOk, slice_get, vec_len};
+ghost use Rattle.mld_io.specs.Arm.{Unarmed};
 ghost use Rattle.mld_model.specs.World.{clone_count};
+ghost use Rattle.disk_model.specs.BankSteps.{BanksValue};
+ghost use Rattle.disk_model.specs.CountedCalls.{meter_of};
 
 use disk_model::{MemoryBanks, blank_banks};
 use mld_io::{Banks, MemorySink, MemorySource, Side};
@@ -81,27 +84,37 @@ pub fn words(alloc: Global, texts: &[&str]) -> Result<Vec<String>, AllocError> {
     Ok(words)
 }
 
-/// Banks for each clone.
+/// Banks for each clone. None is armed.
 pub fn banks(alloc: Global, odd: Odd) -> Result<Vec<MemoryBanks>, AllocError>
-    ensures { IfOk result (λ banks. vec_len banks ≡ clone_count) }
+    ensures count { IfOk result (λ banks. vec_len banks ≡ clone_count) }
+    ensures unarmed { IfOk result (λ banks. (number : ℕ) (one : BanksValue) → slice_get banks.items number ≡ Some one → (meter_of one.calls).arm ≡ Unarmed) }
 {
     let mut banks = blank_banks(alloc, usize::from(CLONE_COUNT))?;
-    make_odd(&mut banks, odd)?;
+    let number = number_of(odd);
+    if number < banks.len() {
+        make_odd(&mut banks[number], odd)?;
+    }
     Ok(banks)
 }
 
-/// Has the banks of one clone differ.
-fn make_odd(banks: &mut [MemoryBanks], odd: Odd) -> Result<(), AllocError> {
+/// The number of the clone whose banks differ, and of the first where none do.
+fn number_of(odd: Odd) -> usize {
+    match odd {
+        Odd::Nothing => 0,
+        Odd::Fails(clone, _) | Odd::Filled(clone) => usize::from(clone),
+    }
+}
+
+/// Has the banks of a clone differ. They are not armed.
+fn make_odd(banks: &mut MemoryBanks, odd: Odd) -> Result<(), AllocError>
+    requires { (meter_of banks.old.calls).arm ≡ Unarmed }
+    ensures { (meter_of banks.new.calls).arm ≡ Unarmed }
+{
     match odd {
         Odd::Nothing => Ok(()),
-        Odd::Fails(clone, call) => match banks.get_mut(usize::from(clone)) {
-            Some(banks) => banks.fail_call(call),
-            None => Ok(()),
-        },
-        Odd::Filled(clone) => {
-            if let Some(banks) = banks.get_mut(usize::from(clone)) {
-                let _written = banks.write_at(Side::B, 0, &[0]);
-            }
+        Odd::Fails(_, call) => banks.fail_call(call),
+        Odd::Filled(_) => {
+            let _written = banks.write_at(Side::B, 0, &[0]);
             Ok(())
         }
     }

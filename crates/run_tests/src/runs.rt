@@ -29,7 +29,6 @@ fn ends<R: Threads>(
 #[test]
 fn a_line_that_is_no_command_ends_the_run(rt: HostRuntime) -> Result<(), Fail> {
     let bad = RunFault::BadLine;
-    let unbuilt = RunFault::Unbuilt;
     let cases: [(&[u8], u8, RunFault, &[u8], bool); 13] = [
         // Bytes that no transcript has.
         (b"\n# c\n\xff\n", 4, bad(3), b"", false),
@@ -69,6 +68,13 @@ fn a_line_that_is_no_command_ends_the_run(rt: HostRuntime) -> Result<(), Fail> {
             b"ready 2\n",
             false,
         ),
+        (
+            b"domain d clones 2\ncrash 0 keep add 0 <http://d/a> <http://d/#p> \"\xff\" .\n",
+            4,
+            bad(2),
+            b"ready 2\n",
+            false,
+        ),
         // A world is told of where a command was done.
         (
             b"domain d clones 1\n\n# c\nshow\nshow 0\n",
@@ -86,13 +92,12 @@ fn a_line_that_is_no_command_ends_the_run(rt: HostRuntime) -> Result<(), Fail> {
         ),
         (b"", 4, bad(1), b"", false),
         (b"single <a:b>\n", 4, bad(1), b"", false),
-        (b"crash\n", 20, unbuilt(1), b"", false),
         (
-            b"domain d clones 1\nshow 0\ncrash 0\n",
-            20,
-            unbuilt(3),
-            b"ready 1\nhas 0\n",
-            false,
+            b"domain d clones 1\ncrash 0 keep open 0\ncrash 0\n",
+            4,
+            bad(3),
+            b"ready 1\nlive\ncrashed\n",
+            true,
         ),
     ];
     for (schedule, status, fault, text, tells) in cases {

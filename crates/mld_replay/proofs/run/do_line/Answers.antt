@@ -1,6 +1,6 @@
 use Rattle.mld_replay.specs.Stages.{banks_of_stage}
 use Rattle.mld_replay.proofs.MeterLemmas.{run_of_stop}
-use Rattle.mld_replay.proofs.RunLemmas.{bad_fault, unbuilt_fault}
+use Rattle.mld_replay.proofs.RunLemmas.{bad_fault}
 use Rattle.mld_replay.proofs.run.do_line.Goals as goal
 
 pub returns-in-Err-clause-bad : goal.returns-in-Err-clause-bad
@@ -8,20 +8,10 @@ returns-in-Err-clause-bad g c = λ at is.
     let b = bad_fault c.in-Err.stop c.args.number at c.fault_of.result c.fault_of.ensures is in
     (b.1, c.in-Err.ensures.bad b.0)
 
-pub returns-in-Err-clause-unbuilt : goal.returns-in-Err-clause-unbuilt
-returns-in-Err-clause-unbuilt g c = λ at is.
-    let b = unbuilt_fault c.in-Err.stop c.args.number at c.fault_of.result c.fault_of.ensures is in
-    (b.1, c.in-Err.ensures.unbuilt b.0)
-
 pub returns-in-Err-clause-kept : goal.returns-in-Err-clause-kept
 returns-in-Err-clause-kept g c = λ at is.
     let b = bad_fault c.in-Err.stop c.args.number at c.fault_of.result c.fault_of.ensures is in
     c.in-Err.ensures.kept b.0
-
-pub returns-in-Err-clause-kept_unbuilt : goal.returns-in-Err-clause-kept_unbuilt
-returns-in-Err-clause-kept_unbuilt g c = λ at is.
-    let b = unbuilt_fault c.in-Err.stop c.args.number at c.fault_of.result c.fault_of.ensures is in
-    c.in-Err.ensures.kept_unbuilt b.0
 
 pub returns-in-Ok-clause-back : goal.returns-in-Ok-clause-back
 returns-in-Ok-clause-back g c = c.in-Ok.ensures.well

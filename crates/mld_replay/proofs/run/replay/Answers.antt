@@ -2,16 +2,16 @@ use Rattle.std.proofs.Common.{◌∙◌, refl, sym, ap, arith, Some}
 use Rattle.std.specs.Result.{result_err}
 use Rattle.std.proofs.lemmas.Result.{err_from_is_err_and}
 use Rattle.mld_replay.proofs.LimitLemmas.{end_first, end_more, end_cut, end_none}
-use Rattle.mld_replay.proofs.RunLemmas.{under_way_first, under_way_more, front_first, front_any, whole_of_way, front_of_way, front_of_reply, takes_some, stops_bad_at, stops_unbuilt_at, stops_large, breaks_off, finishes, ends_waiting_at, on_ok, read_well, wrote_well, err_same, of_line, ends_reading, ends_line, ends_writing, ends_lines, reading_replays, line_replays, writing_replays, end_replays, reads_counted, writes_counted, reads_same, writes_same, not_of_reading, not_of_writing, reading_not_writing, line_not_reading, line_not_writing, writing_not_reading, end_not_reading, end_not_writing}
+use Rattle.mld_replay.proofs.RunLemmas.{under_way_first, under_way_more, front_first, front_any, whole_of_way, front_of_way, front_of_reply, takes_some, stops_bad_at, stops_large, breaks_off, finishes, ends_waiting_at, on_ok, read_well, wrote_well, err_same, of_line, ends_reading, ends_line, ends_writing, ends_lines, reading_replays, line_replays, writing_replays, end_replays, reads_counted, writes_counted, reads_same, writes_same, not_of_reading, not_of_writing, reading_not_writing, line_not_reading, line_not_writing, writing_not_reading, end_not_reading, end_not_writing}
 use Rattle.schedule_model.specs.Runs.{Stage}
 use Rattle.mld_replay.specs.Stages.{StageStands, EndsWell, banks_of_stage}
 use Rattle.mld_replay.specs.declared.run.RunFault.TheVariants as faults
-use Rattle.mld_replay.proofs.MeterLemmas.{well_same, well_then, back_same, back_later, back_well}
+use Rattle.mld_replay.proofs.MeterLemmas.{unarmed_later, well_same, well_then, back_same, back_later, back_well}
 use Rattle.mld_replay.proofs.run.replay.Goals as goal
 
 pub loop-reply-init : goal.loop-reply-init
 loop-reply-init g c = record {
-  way = under_way_first g.B.Banks.log (g.S.Source.left c.args.source.now) (g.K.Sink.held c.args.sink.now) c.in_ok-lines.lines.taken c.args.stage.now (ap (λ l. l.taken) c.in_ok-lines.ensures) c.requires;
+  way = under_way_first g.B.Banks.log (g.S.Source.left c.args.source.now) (g.K.Sink.held c.args.sink.now) c.in_ok-lines.lines.taken c.args.stage.now (ap (λ l. l.taken) c.in_ok-lines.ensures) c.requires.waits;
   well = well_same g.B.Banks.meter (banks_of_stage c.args.stage.now);
   ends = end_first (g.S.Source.left c.args.source.now) c.in_ok-lines.lines.ended (ap (λ l. l.ended) c.in_ok-lines.ensures);
   good = ap (λ l. l.good) c.in_ok-lines.ensures;
@@ -44,6 +44,10 @@ loop-reply-preserved g c = record {
   writes = wrote_well _ _ _ c.in_ok-write_reply.ensures.cause ∙ c.loop-reply.invariant.writes;
   within = omega (arith, c.next_line.ensures.limits.1, (of_line _ c.in_ok-line.field-0 c.in-Some.line c.in-Some.is c.in_ok-line.ensures.progress).1);
 }
+
+pub do_line-requires-clause-unarmed : goal.do_line-requires-clause-unarmed
+do_line-requires-clause-unarmed g c =
+    unarmed_later g.B.Banks.meter (banks_of_stage c.args.stage.now) (banks_of_stage c.loop-reply.stage) c.loop-reply.invariant.well.meters c.requires.unarmed
 
 -- ---- there was no room for lines
 
@@ -125,11 +129,6 @@ returns-in_err-do_line-clause-ends g c = λ bytes told.
     stops_bad_at g.B.Banks.log (g.S.Source.left c.args.source.now) (g.S.Source.left c.loop-reply.source) (g.S.Source.left c.next_line.new.source)
     (g.K.Sink.held c.args.sink.now) (g.K.Sink.held c.loop-reply.sink) c.loop-reply.lines.taken c.next_line.new.lines.taken c.loop-reply.stage c.loop-reply.done c.in_ok-line.field-0 c.in-Some.line c.as_slice.result.now at
     c.loop-reply.invariant.way c.in-Some.is c.as_slice.ensures c.in_ok-line.ensures.line b.0 b.1 c.do_line.new.stage (c.in_err-do_line.ensures.kept at (err_same _ _ is)) bytes told)
-    (λ at is.
-    let b = c.in_err-do_line.ensures.unbuilt at (err_same _ _ is) in
-    stops_unbuilt_at g.B.Banks.log (g.S.Source.left c.args.source.now) (g.S.Source.left c.loop-reply.source) (g.S.Source.left c.next_line.new.source)
-    (g.K.Sink.held c.args.sink.now) (g.K.Sink.held c.loop-reply.sink) c.loop-reply.lines.taken c.next_line.new.lines.taken c.loop-reply.stage c.loop-reply.done c.in_ok-line.field-0 c.in-Some.line c.as_slice.result.now at
-    c.loop-reply.invariant.way c.in-Some.is c.as_slice.ensures c.in_ok-line.ensures.line b.0 b.1 c.do_line.new.stage (c.in_err-do_line.ensures.kept_unbuilt at (err_same _ _ is)) bytes told)
     (whole_of_way g.B.Banks.log (g.S.Source.left c.args.source.now) (g.S.Source.left c.loop-reply.source) (g.K.Sink.held c.args.sink.now) (g.K.Sink.held c.loop-reply.sink)
     c.loop-reply.lines.taken c.loop-reply.stage c.loop-reply.done c.loop-reply.invariant.way bytes told)
     (front_any _ bytes _ _ (front_of_way g.B.Banks.log (g.S.Source.left c.args.source.now) (g.S.Source.left c.loop-reply.source) (g.K.Sink.held c.args.sink.now) (g.K.Sink.held c.loop-reply.sink)

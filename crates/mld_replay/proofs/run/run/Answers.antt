@@ -4,7 +4,7 @@ use Rattle.mld_replay.specs.declared.run.RunFault.TheVariants as faults
 use Rattle.mld_replay.specs.Ran.{EndsAs, AreUntouched, LeavesAlone, CountsFaults, Agrees}
 use Rattle.mld_replay.specs.Stages.{StageStands}
 use Rattle.mld_replay.specs.KeptBanks.{BanksKeep}
-use Rattle.mld_replay.proofs.MeterLemmas.{well_then, back_same}
+use Rattle.mld_replay.proofs.MeterLemmas.{well_then, unarmed_later, back_same, back_unarmed}
 use Rattle.mld_replay.proofs.BlankLemmas.{empty_still}
 use Rattle.mld_replay.proofs.SummaryLemmas.{ends_by, back_by, said_by, replay_alone, replay_not_usage, replay_not_filled, agrees_so, looking_fault, blanking_fault, bank_ends, left_alone, not_begun, bank_alone, bank_reads, bank_writes, bank_agrees, looking_heeds, empty_heeds, blanking_not_filled, usage_heeds, refused_back, back_told}
 use Rattle.mld_replay.proofs.run.run.Goals as goal
@@ -56,8 +56,9 @@ returns-in-Err-clause-filled g c =
 
 pub returns-in-Err-clause-back : goal.returns-in-Err-clause-back
 returns-in-Err-clause-back g c =
-    back_told g.B.Banks.meter c.args.banks.items c.find_filled.new.banks.items c.ended-in-Err.result.banks.items (Some c.in-Err.fault) c.ended-in-Err.result.fault c.ended-in-Err.ensures.fault
-    (ap (λ b. b.items) c.ended-in-Err.ensures.banks) c.in-Err.ensures.back
+    back_unarmed g.B.Banks.meter c.args.banks.items c.ended-in-Err.result.banks.items c.ended-in-Err.result.fault c.requires.unarmed
+    (back_told g.B.Banks.meter c.args.banks.items c.find_filled.new.banks.items c.ended-in-Err.result.banks.items (Some c.in-Err.fault) c.ended-in-Err.result.fault c.ended-in-Err.ensures.fault
+    (ap (λ b. b.items) c.ended-in-Err.ensures.banks) c.in-Err.ensures.back)
 
 -- ---- no blanks could be made
 
@@ -92,12 +93,18 @@ returns-in-Err-blanks_of-clause-filled g c =
 
 pub returns-in-Err-blanks_of-clause-back : goal.returns-in-Err-blanks_of-clause-back
 returns-in-Err-blanks_of-clause-back g c =
-    back_told g.B.Banks.meter c.args.banks.items c.in-Err-blanks_of.banks.items c.ended-in-Err-blanks_of.result.banks.items (Some c.in-Err-blanks_of.fault) c.ended-in-Err-blanks_of.result.fault
+    back_unarmed g.B.Banks.meter c.args.banks.items c.ended-in-Err-blanks_of.result.banks.items c.ended-in-Err-blanks_of.result.fault c.requires.unarmed
+    (back_told g.B.Banks.meter c.args.banks.items c.in-Err-blanks_of.banks.items c.ended-in-Err-blanks_of.result.banks.items (Some c.in-Err-blanks_of.fault) c.ended-in-Err-blanks_of.result.fault
     c.ended-in-Err-blanks_of.ensures.fault (ap (λ b. b.items) c.ended-in-Err-blanks_of.ensures.banks)
     (refused_back g.B.Banks.meter c.args.banks.items c.find_filled.new.banks.items c.in-Err-blanks_of.banks.items c.in-Err-blanks_of.fault c.in_default.ensures.back
-    c.in-Err-blanks_of.ensures.err)
+    c.in-Err-blanks_of.ensures.err))
 
 -- ---- the replay
+
+pub replay-requires-clause-unarmed : goal.replay-requires-clause-unarmed
+replay-requires-clause-unarmed g c =
+    let well = well_then g.B.Banks.meter c.args.banks.items c.find_filled.new.banks.items c.in-Ok.blanks.items c.in_default.ensures.back c.in-Ok.ensures.well in
+    unarmed_later g.B.Banks.meter c.args.banks.items c.in-Ok.blanks.items well.meters c.requires.unarmed
 
 pub returns-in-Ok-clause-untouched : goal.returns-in-Ok-clause-untouched
 returns-in-Ok-clause-untouched g c =
@@ -117,9 +124,10 @@ returns-in-Ok-clause-filled g c =
 
 pub returns-in-Ok-clause-back : goal.returns-in-Ok-clause-back
 returns-in-Ok-clause-back g c =
-    back_by g.B.Banks.log c.err-fault.result c.replay.new.stage c.ended_with.result g.B.Banks.meter c.args.banks.items c.in-Ok.blanks.items c.ended_with.ensures.ends
+    back_unarmed g.B.Banks.meter c.args.banks.items c.ended_with.result.banks.items c.ended_with.result.fault c.requires.unarmed
+    (back_by g.B.Banks.log c.err-fault.result c.replay.new.stage c.ended_with.result g.B.Banks.meter c.args.banks.items c.in-Ok.blanks.items c.ended_with.ensures.ends
     (well_then g.B.Banks.meter c.args.banks.items c.find_filled.new.banks.items c.in-Ok.blanks.items c.in_default.ensures.back c.in-Ok.ensures.well)
-    (rw c.err-fault.ensures.value c.replay.ensures.back)
+    (rw c.err-fault.ensures.value c.replay.ensures.back))
 
 pub returns-in-Ok-clause-counts : goal.returns-in-Ok-clause-counts
 returns-in-Ok-clause-counts g c =

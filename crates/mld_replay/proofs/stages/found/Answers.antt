@@ -1,5 +1,5 @@
 use Rattle.std.proofs.Common.{ap, sym, subst}
-use Rattle.net_world.specs.WorldBanks.{banks_of}
+use Rattle.world_commands.specs.WorldBanks.{banks_of}
 use Rattle.mld_replay.specs.BankFaults.{AreWell}
 use Rattle.mld_replay.specs.Stops.{StopsWith, stop_of_world}
 use Rattle.mld_replay.specs.Stages.{EndsWell, banks_of_stage}

@@ -1,7 +1,12 @@
-use Rattle.net_world.specs.WorldBanks.{banks_of}
+use Rattle.world_commands.specs.WorldBanks.{banks_of}
 use Rattle.mld_replay.specs.Stages.{banks_of_stage}
+use Rattle.mld_replay.proofs.MeterLemmas.{unarmed_later}
 use Rattle.mld_replay.proofs.StageLemmas.{started_all, well_after, stops_after}
 use Rattle.mld_replay.proofs.stages.start.Goals as goal
+
+pub step-done-requires-clause-unarmed : goal.step-done-requires-clause-unarmed
+step-done-requires-clause-unarmed g c =
+    unarmed_later g.B.Banks.meter (banks_of_stage c.args.stage.now) (banks_of c.in_ok-world.world) c.in_ok-world.ensures.well.meters c.requires.unarmed
 
 pub returns-clause-ok : goal.returns-clause-ok
 returns-clause-ok g c =
