@@ -60,9 +60,7 @@ pub fn end_of_run(status: u8, fault: Option<RunFault>) -> End
     End {
         status,
         line: match fault {
-            Some(RunFault::BadLine(line) | RunFault::TooLarge(line) | RunFault::Unbuilt(line)) => {
-                Some(line)
-            }
+            Some(RunFault::BadLine(line) | RunFault::TooLarge(line)) => Some(line),
             _ => None,
         },
     }

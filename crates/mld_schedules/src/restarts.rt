@@ -49,13 +49,13 @@ pub struct Places {
     pub end: u64,
 }
 
-/// These places; `None` where a restart could be seen: the run doesn't reach its end, a range is held back, or a clone stops.
+/// These places; `None` where a restart could be seen: the run doesn't reach its end, a range is held back, or a clone stops or crashes.
 pub fn places_of(text: &str) -> Option<Places> {
     let mut count = 0u64;
     let mut found = None;
     let mut ends = false;
     for line in text.lines() {
-        if line.starts_with("held") || line.starts_with("> stop ") {
+        if line.starts_with("held") || line.starts_with("> stop ") || line.starts_with("> crash ") {
             return None;
         }
         if line.starts_with(GIVEN) {
