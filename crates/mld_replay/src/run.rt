@@ -80,8 +80,7 @@ pub fn run<R: Threads, S: Source, K: Sink, B: CrashBanks>(
     sink: &mut K,
     banks: Vec<B>,
 ) -> Ran<B>
-    requires count { vec_len banks ≡ clone_count }
-    requires unarmed { AreUnarmed B.meter banks.items }
+    requires { (vec_len banks ≡ clone_count) × AreUnarmed B.meter banks.items }
     ensures status { result.status ≡ status_of result.fault }
     ensures usage { (result.fault ≡ Some RunFault.Usage) ↔ (¬ IsReplay (map (λ w. string_bytes w) words.now.items)) }
     // At 1 and 8 nothing is read or written, and at 1 no bank is called.

@@ -56,7 +56,7 @@ returns-in-Err-clause-filled g c =
 
 pub returns-in-Err-clause-back : goal.returns-in-Err-clause-back
 returns-in-Err-clause-back g c =
-    back_unarmed g.B.Banks.meter c.args.banks.items c.ended-in-Err.result.banks.items c.ended-in-Err.result.fault c.requires.unarmed
+    back_unarmed g.B.Banks.meter c.args.banks.items c.ended-in-Err.result.banks.items c.ended-in-Err.result.fault c.requires.1
     (back_told g.B.Banks.meter c.args.banks.items c.find_filled.new.banks.items c.ended-in-Err.result.banks.items (Some c.in-Err.fault) c.ended-in-Err.result.fault c.ended-in-Err.ensures.fault
     (ap (λ b. b.items) c.ended-in-Err.ensures.banks) c.in-Err.ensures.back)
 
@@ -93,7 +93,7 @@ returns-in-Err-blanks_of-clause-filled g c =
 
 pub returns-in-Err-blanks_of-clause-back : goal.returns-in-Err-blanks_of-clause-back
 returns-in-Err-blanks_of-clause-back g c =
-    back_unarmed g.B.Banks.meter c.args.banks.items c.ended-in-Err-blanks_of.result.banks.items c.ended-in-Err-blanks_of.result.fault c.requires.unarmed
+    back_unarmed g.B.Banks.meter c.args.banks.items c.ended-in-Err-blanks_of.result.banks.items c.ended-in-Err-blanks_of.result.fault c.requires.1
     (back_told g.B.Banks.meter c.args.banks.items c.in-Err-blanks_of.banks.items c.ended-in-Err-blanks_of.result.banks.items (Some c.in-Err-blanks_of.fault) c.ended-in-Err-blanks_of.result.fault
     c.ended-in-Err-blanks_of.ensures.fault (ap (λ b. b.items) c.ended-in-Err-blanks_of.ensures.banks)
     (refused_back g.B.Banks.meter c.args.banks.items c.find_filled.new.banks.items c.in-Err-blanks_of.banks.items c.in-Err-blanks_of.fault c.in_default.ensures.back
@@ -104,7 +104,7 @@ returns-in-Err-blanks_of-clause-back g c =
 pub replay-requires-clause-unarmed : goal.replay-requires-clause-unarmed
 replay-requires-clause-unarmed g c =
     let well = well_then g.B.Banks.meter c.args.banks.items c.find_filled.new.banks.items c.in-Ok.blanks.items c.in_default.ensures.back c.in-Ok.ensures.well in
-    unarmed_later g.B.Banks.meter c.args.banks.items c.in-Ok.blanks.items well.meters c.requires.unarmed
+    unarmed_later g.B.Banks.meter c.args.banks.items c.in-Ok.blanks.items well.meters c.requires.1
 
 pub returns-in-Ok-clause-untouched : goal.returns-in-Ok-clause-untouched
 returns-in-Ok-clause-untouched g c =
@@ -124,7 +124,7 @@ returns-in-Ok-clause-filled g c =
 
 pub returns-in-Ok-clause-back : goal.returns-in-Ok-clause-back
 returns-in-Ok-clause-back g c =
-    back_unarmed g.B.Banks.meter c.args.banks.items c.ended_with.result.banks.items c.ended_with.result.fault c.requires.unarmed
+    back_unarmed g.B.Banks.meter c.args.banks.items c.ended_with.result.banks.items c.ended_with.result.fault c.requires.1
     (back_by g.B.Banks.log c.err-fault.result c.replay.new.stage c.ended_with.result g.B.Banks.meter c.args.banks.items c.in-Ok.blanks.items c.ended_with.ensures.ends
     (well_then g.B.Banks.meter c.args.banks.items c.find_filled.new.banks.items c.in-Ok.blanks.items c.in_default.ensures.back c.in-Ok.ensures.well)
     (rw c.err-fault.ensures.value c.replay.ensures.back))
