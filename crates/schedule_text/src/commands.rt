@@ -144,7 +144,7 @@ fn read_clone_and_triple(alloc: Global, rest: &[u8]) -> Result<Option<(u8, Tripl
 }
 
 /// The triple of a text, where the text is UTF-8 and spells one within the limits.
-fn read_triple_bytes(alloc: Global, text: &[u8]) -> Result<Option<Triple>, AllocError>
+pub fn read_triple_bytes(alloc: Global, text: &[u8]) -> Result<Option<Triple>, AllocError>
     ensures { IfOk result (λ found. MatchOption found ((triple : Triple) → ¬ IsTripleText text.now triple) (λ triple. IsTripleText text.now triple)) }
 {
     let Ok(text) = str::from_utf8(text) else {

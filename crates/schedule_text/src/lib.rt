@@ -10,7 +10,11 @@ mod setups;
 mod updates;
 mod words;
 
-pub use commands::read_command;
+pub use commands::{read_command, read_triple_bytes};
+pub use numbers::read_number;
+pub use queries::read_query_text;
 pub use refusals::LineRefusal;
 pub use schedule_model::Command;
-pub use setups::{Setup, SetupLine, read_setup};
+pub use setups::{Setup, SetupLine, read_domain, read_setup};
+pub use updates::read_update_text;
+pub use words::{behind, is_nothing, split_at_space};

@@ -37,7 +37,7 @@ pub fn read_query_command(
 }
 
 /// The query of a JSON text, where it says one without a fault.
-fn read_query_text(
+pub fn read_query_text(
     alloc: Global,
     text: &[u8],
     domain: &str,

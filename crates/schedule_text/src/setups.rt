@@ -129,7 +129,7 @@ fn domain_line(alloc: Global, line: &[u8]) -> Result<Option<Setup>, AllocError>
 }
 
 /// The name of a domain.
-fn read_domain(alloc: Global, text: &[u8]) -> Result<Option<Text>, AllocError>
+pub fn read_domain(alloc: Global, text: &[u8]) -> Result<Option<Text>, AllocError>
     ensures { IfOk result (λ found. MatchOption found (¬ IsTrue (is_domain text.now)) (λ domain. IsTrue (is_domain text.now) × (domain ≡ text.now))) }
 {
     let Ok(text) = str::from_utf8(text) else {

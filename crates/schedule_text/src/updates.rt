@@ -37,7 +37,7 @@ pub fn read_update_command(
 }
 
 /// The plan of a JSON text, where it says one without a fault.
-fn read_update_text(
+pub fn read_update_text(
     alloc: Global,
     text: &[u8],
     domain: &str,
