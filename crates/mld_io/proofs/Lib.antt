@@ -5,3 +5,4 @@ pub mod Ahead
 pub mod Copies
 pub mod LineSteps
 pub mod Writes
+pub mod Unarmed

@@ -4,6 +4,7 @@
 
 mod banks;
 mod faults;
+mod file_banks;
 mod line_reader;
 mod memory;
 mod pieces;
@@ -14,6 +15,7 @@ mod standard;
 
 pub use banks::{Banks, CrashBanks, Leave, Side};
 pub use faults::{Failed, IoFault, LineFault, WriteFault};
+pub use file_banks::FileBanks;
 pub use line_reader::{Lines, first_of_lines};
 pub use memory::{MemorySink, MemorySource};
 pub use pieces::Piece;
