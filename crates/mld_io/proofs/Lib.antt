@@ -6,3 +6,5 @@ pub mod Copies
 pub mod LineSteps
 pub mod Writes
 pub mod Unarmed
+pub mod OpenOnes
+pub mod EventLists

@@ -6,3 +6,6 @@ pub mod Lines
 pub mod Reads
 pub mod Memory
 pub mod Standard
+pub mod Wires
+pub mod Records
+pub mod MemoryWires
