@@ -1,0 +1,8 @@
+//! The words of the shell's command line: the name of a folder, and nothing else.
+#![tactic(auto)]
+
+mod faults;
+mod folder;
+
+pub use faults::WordsFault;
+pub use folder::read_folder;
