@@ -4,6 +4,8 @@
 #[cfg(test)]
 mod banks;
 #[cfg(test)]
+mod generated;
+#[cfg(test)]
 mod replays;
 #[cfg(test)]
 mod runs;
