@@ -1,0 +1,4 @@
+mod ShellWords
+mod ShellIris
+mod ShellCommands
+mod OneShell

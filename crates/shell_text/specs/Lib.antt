@@ -1,0 +1,3 @@
+pub mod ShellLines
+pub mod ReadShell
+pub mod ShellLaws
