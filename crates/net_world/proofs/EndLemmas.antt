@@ -23,7 +23,7 @@ use Rattle.world_commands.proofs.BankLemmas.{memory_at}
 use Rattle.world_commands.proofs.StopLemmas.{told_log}
 
 -- what stands in a place of a list is a member of it
-member_at : {X : Type 0} (items : List X) (place : ℕ) (item : X) → slice_get items place ≡ Some item → Has items item
+pub member_at : {X : Type 0} (items : List X) (place : ℕ) (item : X) → slice_get items place ≡ Some item → Has items item
 member_at [] place item at = absurd (cc at)
 member_at (first ∷ items) zero item at = inl (cc at)
 member_at (first ∷ items) (suc before) item at = inr (member_at items before item at)
@@ -32,7 +32,7 @@ module _ {B : Type 0} (log : B → Option Log) where
   -- ---- founding
 
   -- a clone that was just founded is open where it is live
-  founded_backed : (world : World) (steps number : ℕ) (state : BankedState B) → IsOpenState state → IsBacked log world steps number state
+  pub founded_backed : (world : World) (steps number : ℕ) (state : BankedState B) → IsOpenState state → IsBacked log world steps number state
   founded_backed world steps number (states.Absent banks) opened = tt
   founded_backed world steps number (states.Asking asking) opened = absurd opened
   founded_backed world steps number (states.Down banks) opened = absurd opened

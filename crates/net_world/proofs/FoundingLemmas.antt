@@ -8,7 +8,7 @@ use Rattle.std.proofs.lemmas.List.FromFn.{get_or-map-range_with_len, length-map-
 use Rattle.std.proofs.lemmas.Option.{slice_get-map, slice_get_cases, slice_get_within, get_or_from_slice_get}
 use Rattle.mld_model.specs.World.{clone_count, founded_path}
 use Rattle.mld_model.specs.declared.CloneState.TheVariants as states
-use Rattle.mld_model.specs.Local.{LocalAsker, LocalClone, blank_clone, joined_clone}
+use Rattle.mld_model.specs.Local.{LocalAsker, LocalClone, LocallyForks, blank_clone, joined_clone}
 use Rattle.mld_model.specs.StandsFor.{RunningClone, id_of, founded_local}
 use Rattle.mld_model.proofs.StandsForLaws.{same_number}
 use Rattle.mld_ops.specs.Messages.{GiveValue, give_value}
@@ -18,6 +18,7 @@ use Rattle.mld_ops.specs.declared.messages.Give.{Give}
 use Rattle.mld_ops.specs.declared.messages.Message.{Message}
 use Rattle.mld_ops.specs.declared.messages.Message.TheVariants as kinds
 use Rattle.clone_core.specs.Banked.{BankedClone}
+use Rattle.clone_core.specs.CloneClosing.{StaysOpen}
 use Rattle.clone_core.specs.Joining.{LocallyGives, AreGood, IsGiveFor}
 use Rattle.schedule_model.specs.Schedule.{Setup}
 use Rattle.net_world.specs.Founding.{IsKeptSetup, GivesLeaf, IsOpenFirst, AreFounded, IsFoundedTo, AreFoundedTo, IsAbsentAt, TakesHalf, HasGiver}
@@ -81,7 +82,7 @@ place_of (first ∷ items) item (inr later) = let found : (place : ℕ) × (slic
 
 module _ {B : Type 0} (setup : Setup) where
   -- a live clone of the founded ones
-  live_is : (number place : ℕ) (clone : BankedClone B) → place < number → IsFoundedTo setup number place (states.Live clone) → clone.local ≡ founded_there setup number place
+  pub live_is : (number place : ℕ) (clone : BankedClone B) → place < number → IsFoundedTo setup number place (states.Live clone) → clone.local ≡ founded_there setup number place
   live_is number place clone below is =
       ap (λ (s : RunningClone). local_in clone.local s) (is.memory ∙ founded_within setup number place below)
 
@@ -176,22 +177,22 @@ module _ {B : Type 0} (setup : Setup) where
       ]
 
   -- the first clone once it has forked for the next one
-  first_after : (number : ℕ) (asker : LocalAsker) (was now : BankedClone B) (state : BankedState B) → 1 ≤ number → was.local ≡ founded_there setup number 0 → IsOpenFirst was → TakesHalf asker was now state
-      → IsFoundedTo setup (number + 1) 0 (states.Live now)
-  first_after number asker was now state some was_is first takes =
-      let local : now.local ≡ founded_there setup (number + 1) 0 = takes.forks.left ∙ (λ i. record (was_is i) { path = (was_is i).path ++ zero_letter ∷ [] })
+  pub first_after : (number : ℕ) (asker : LocalAsker) (leaf : GiveValue) (was now : BankedClone B) → 1 ≤ number → was.local ≡ founded_there setup number 0 → IsOpenFirst was
+      → LocallyForks was.local asker.id now.local leaf → StaysOpen was now → IsFoundedTo setup (number + 1) 0 (states.Live now)
+  first_after number asker leaf was now some was_is first forks opened =
+      let local : now.local ≡ founded_there setup (number + 1) 0 = forks.left ∙ (λ i. record (was_is i) { path = (was_is i).path ++ zero_letter ∷ [] })
       ∙ ap (λ (leaf : List ℕ). blank_clone (id_of 0) setup.domain setup.properties leaf) (left_after number some) in
       record {
         memory = ap (λ (l : LocalClone). states.Live l) local ∙ sym (founded_within setup (number + 1) 0 (omega arith));
-        opened = record { opened = takes.opened.opened; first = takes.opened.generation ∙ first.first };
+        opened = record { opened = opened.opened; first = opened.generation ∙ first.first };
       }
 
-  -- the next one
-  next_lives : (number : ℕ) (asker : LocalAsker) (was now : BankedClone B) (state : BankedState B) → IsKeptSetup setup → 1 ≤ number → was.local ≡ founded_there setup number 0
-      → IsNewAsker setup.domain setup.properties number asker → TakesHalf asker was now state → IsFoundedTo setup (number + 1) number state
-  next_lives number asker was now state is some was_is new takes =
+  -- the next one is at the right half
+  pub half_is : (number : ℕ) (asker : LocalAsker) (leaf : GiveValue) (was now : BankedClone B) → IsKeptSetup setup → 1 ≤ number → was.local ≡ founded_there setup number 0
+      → IsNewAsker setup.domain setup.properties number asker → LocallyForks was.local asker.id now.local leaf → joined_clone asker leaf ≡ founded_there setup (number + 1) number
+  half_is number asker leaf was now is some was_is new forks =
       let kept : asker.properties ≡ setup.properties = kept_same setup.properties asker.properties new.kept is.ascending in
-      let local : takes.lives.clone.local ≡ founded_there setup (number + 1) number = takes.lives.local ∙ (λ i. joined_clone asker (takes.forks.right i)) ∙ (λ i. record {
+      (λ i. joined_clone asker (forks.right i)) ∙ (λ i. record {
         id = new.id i;
         domain = new.domain_is i;
         properties = kept i;
@@ -202,7 +203,12 @@ module _ {B : Type 0} (setup : Setup) where
         held = [];
         ticks = (was_is i).ticks;
         pairs = (was_is i).pairs;
-      }) ∙ ap (λ (leaf : List ℕ). blank_clone (id_of number) setup.domain setup.properties leaf) (right_for number some) in
+      }) ∙ ap (λ (path : List ℕ). blank_clone (id_of number) setup.domain setup.properties path) (right_for number some)
+
+  next_lives : (number : ℕ) (asker : LocalAsker) (was now : BankedClone B) (state : BankedState B) → IsKeptSetup setup → 1 ≤ number → was.local ≡ founded_there setup number 0
+      → IsNewAsker setup.domain setup.properties number asker → TakesHalf asker was now state → IsFoundedTo setup (number + 1) number state
+  next_lives number asker was now state is some was_is new takes =
+      let local : takes.lives.clone.local ≡ founded_there setup (number + 1) number = takes.lives.local ∙ half_is number asker takes.leaf was now is some was_is new takes.forks in
       subst (λ (s : BankedState B). IsFoundedTo setup (number + 1) number s) (sym takes.lives.is) (record {
         memory = ap (λ (l : LocalClone). states.Live l) local ∙ sym (founded_within setup (number + 1) number (omega arith));
         opened = takes.lives.opened;
@@ -223,7 +229,7 @@ module _ {B : Type 0} (setup : Setup) where
                   let is_now : states.Live now ≡ found =
                   here_at (set old number state) 0 (states.Live now) found (subst (λ (k : ℕ). HasState (set (set old number state) 0 (states.Live now)) k found) first there) in
                   subst (λ (k : ℕ). IsFoundedTo setup (number + 1) k found) (sym first)
-                  (subst (λ (s : BankedState B). IsFoundedTo setup (number + 1) 0 s) is_now (first_after number asker was now state some was_is was_there.opened takes))
+                  (subst (λ (s : BankedState B). IsFoundedTo setup (number + 1) 0 s) is_now (first_after number asker takes.leaf was now some was_is was_there.opened takes.forks takes.opened))
               | inr differs ↦
                   let still : HasState (set old number state) place found = other_at (set old number state) 0 place (states.Live now) found differs there in
                   elim (cases_eq place number) [

@@ -46,6 +46,16 @@ same_left before behind was now same told is image left =
     let one : behind ≡ before = cc (same, told, is) in
     subst (λ (l : Log). MayLeave l image) one left
 
+-- what a crash now leaves reads as after a front of the changes
+pub some_read : (before behind : Log) (now : Option Log) (reading : PairReading) (steps : List KeptStep) (was is : Arm) → now ≡ Some behind → LeavesSome before now reading steps was is
+    → LeavesOnly behind (ReadsSome reading steps was)
+some_read before behind now reading steps was is told some image left =
+    let same : grown_by some.moments.added before ≡ behind = one (grown_by some.moments.added before) behind (sym some.moments.now_is ∙ told) in
+    AtEachMoment-last before some.moments.added (λ calls i. ReadsSome reading steps was i) some.moments.each image (subst (λ (l : Log). MayLeave l image) (sym same) left)
+  where
+    one : (first second : Log) → Some first ≡ Some second → first ≡ second
+    one first second same = cc
+
 -- ---- a state of the clone, and the one that it was left in
 
 module _ {B : Type 0} (log : B → Option Log) (meter : B → Meter) (task : CrashTask) (running : BankedWorld B) (world : World) (stands : StandsOnBanks log running world) (sound : IsSound world)
@@ -53,16 +63,11 @@ module _ {B : Type 0} (log : B → Option Log) (meter : B → Meter) (task : Cra
   some_left : (before behind : Log) (now : Option Log) (reading : PairReading) (steps : List KeptStep) (was is : Arm) → now ≡ Some behind → LeavesSome before now reading steps was is
       → CarriedDeed world (command_of task) (number_of_task task) reading steps → LeavesOnly behind (LeftBy world (command_of task) (number_of_task task) before)
   some_left before behind now reading steps was is told some carried image left =
-      let same : grown_by some.moments.added before ≡ behind = one (grown_by some.moments.added before) behind (sym some.moments.now_is ∙ told) in
-      let reads : ReadsSome reading steps was image =
-      AtEachMoment-last before some.moments.added (λ calls i. ReadsSome reading steps was i) some.moments.each image (subst (λ (l : Log). MayLeave l image) (sym same) left) in
       inr (
         carried.deed,
-        carried_some (owner_at world (number_of_task task)) world.history reading (kept_of (clone_at world (number_of_task task))) steps carried.deed.steps was image carried.carries reads,
+        carried_some (owner_at world (number_of_task task)) world.history reading (kept_of (clone_at world (number_of_task task))) steps carried.deed.steps was image carried.carries
+            (some_read before behind now reading steps was is told some image left),
       )
-    where
-      one : (first second : Log) → Some first ≡ Some second → first ≡ second
-      one first second same = cc
 
   pub state_left : (was now : BankedState B) (Whole : Type 0) → HasState running.clones (number_of_task task) was → (before behind : Log) → log (banks_of_state was) ≡ Some before
       → log (banks_of_state now) ≡ Some behind → LeavesState log meter (doing_task messages task) Whole was now

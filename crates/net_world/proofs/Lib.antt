@@ -8,3 +8,5 @@ pub mod DeedLemmas
 pub mod CaughtLemmas
 pub mod CrashLemmas
 pub mod LeftFronts
+pub mod SettledBanks
+pub mod FoundingFronts

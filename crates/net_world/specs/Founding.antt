@@ -26,6 +26,7 @@ use Rattle.world_commands.specs.States.{HasState, Becomes}
 use Rattle.world_commands.specs.WorldBanks.{BankedState, BankedWorld, StandsOnBanks, in_memory, banks_of_state, MeterGoesOn, HadNoFault, HadNoFaults, HasFailed}
 use Rattle.world_commands.specs.OneCall.{HasFaultsAt}
 use Rattle.world_commands.specs.WorldFaults.{fault_of_made}
+use Rattle.net_world.specs.FoundingLeft.{StopsJoinBy}
 
 -- a setup by which clones are founded, whose single-valued properties are kept: they ascend as terms, each once
 pub record IsKeptSetup (setup : Setup) : Type 0 where
@@ -124,19 +125,20 @@ pub data HasFaultsOfTwo {U : Type 0} (number : ℕ) (giver giver_now taker taker
   taking : HadNoFault giver giver_now → HasFaultsAt number taker taker_now result → HasFaultsOfTwo number giver giver_now taker taker_now result
 
 -- what became of one who asked the first clone, and of that clone: the leaf was given and taken, or the banks of one of them failed
-pub record JoinsBy {B U : Type 0} (meter : B → Meter) (number : ℕ) (asking : BankedAsker B) (was now : BankedClone B) (told : BankedState B × Result U WorldFault) : Type 0 where
+pub record JoinsBy {B U : Type 0} (log : B → Option Log) (meter : B → Meter) (number : ℕ) (asking : BankedAsker B) (was now : BankedClone B) (told : BankedState B × Result U WorldFault) : Type 0 where
   pub giver : MeterGoesOn (meter was.banks) (meter now.banks)
   pub taker : MeterGoesOn (meter asking.banks) (meter (banks_of_state told.0))
   pub ok : OnOk told.1 (TakesHalf asking.asker was now told.0)
   pub faults : HasFaultsOfTwo number (meter was.banks) (meter now.banks) (meter asking.banks) (meter (banks_of_state told.0)) told.1
+  pub left : IfErr told.1 (StopsJoinBy log meter number asking was now told.0)
 
 -- the first of the clones may give a leaf to the one who asks
 abbrev pub HasGiver : {B : Type 0} → LocalAsker → List (BankedState B) → Type 0
 HasGiver {B = B} asker clones = (first : BankedClone B) × HasState clones 0 (states.Live first) × MayGive asker first
 
 -- what became of one who asked the first of the clones, where no other one changed
-pub record JoinsFirst {B U : Type 0} (meter : B → Meter) (number : ℕ) (asking : BankedAsker B) (old new : List (BankedState B)) (told : BankedState B × Result U WorldFault) : Type 0 where
+pub record JoinsFirst {B U : Type 0} (log : B → Option Log) (meter : B → Meter) (number : ℕ) (asking : BankedAsker B) (old new : List (BankedState B)) (told : BankedState B × Result U WorldFault) : Type 0 where
   pub was : BankedClone B
   pub now : BankedClone B
   pub becomes : Becomes old new 0 (states.Live was) (states.Live now)
-  pub joins : JoinsBy meter number asking was now told
+  pub joins : JoinsBy log meter number asking was now told

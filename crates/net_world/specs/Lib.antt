@@ -1,4 +1,5 @@
 pub mod Founding
+pub mod FoundingLeft
 pub mod CrashedWorlds
 pub mod LeftBehind
 pub mod Commands

@@ -6,6 +6,7 @@ ghost use Rattle.mld_model.specs.declared.CloneState.TheVariants as kinds;
 ghost use Rattle.clone_core.specs.CloneClosing.{StaysOpen};
 ghost use Rattle.clone_core.specs.Joining.{LocallyGives, AreGood};
 ghost use Rattle.net_world.specs.Founding.{IsKeptSetup, GivesLeaf, AreFounded, AreFoundedTo, IsAbsentAt, IsMadeFirst, MayGive, LivesAtLeaf, JoinsBy, HasGiver, JoinsFirst, HasFaultsBy};
+ghost use Rattle.net_world.specs.FoundingLeft.{LeavesKept, StopsFoundingBy, StopsGiving, StopsTaking};
 ghost use Rattle.world_commands.specs.WorldBanks.{BankedState, banks_of_state, MeterGoesOn, MetersGoOn, HadNoFaults, RefusesFounding};
 ghost use Rattle.schedule_text.specs.ReadLines.{setup_of};
 ghost use Rattle.world_commands.specs.States.{HasState};
@@ -38,6 +39,7 @@ pub fn found_clones<R: Threads, B: CrashBanks>(
     ensures meters { IfOk result (λ clones. MetersGoOn B.meter blanks.items (map banks_of_state clones.items)) }
     ensures quiet { IfOk result (λ clones. HadNoFaults B.meter blanks.items (map banks_of_state clones.items)) }
     ensures err { IfErr result (λ refused. RefusesFounding B.meter blanks.items refused.0 refused.1.items) }
+    ensures left { IfErr result (λ refused. LeavesKept B.log (setup_of setup.now) refused.0 refused.1.items) }
 {
     let Ok((mut clones, mut back)) = absent_clones(alloc, blanks) else {
         return Err((WorldFault::NoMemory, Vec::new(alloc)));
@@ -81,6 +83,7 @@ fn found_each<R: Threads, B: CrashBanks>(
     ensures ok { OnOk result (AreFoundedTo (setup_of setup.now) setup.now.clones clones.new.items) }
     ensures meters { MetersGoOn B.meter (map banks_of_state clones.old.items) (map banks_of_state clones.new.items) }
     ensures faults { HasFaultsBy B.meter (map banks_of_state clones.old.items) (map banks_of_state clones.new.items) result }
+    ensures left { IfErr result (StopsFoundingBy B.log (setup_of setup.now) clones.new.items) }
 {
     found_first(alloc, setup, clones)?;
     for number in 1..setup.clones {
@@ -100,6 +103,7 @@ fn found_first<B: CrashBanks>(
     ensures ok { OnOk result (AreFoundedTo (setup_of setup.now) 1 clones.new.items) }
     ensures meters { MetersGoOn B.meter (map banks_of_state clones.old.items) (map banks_of_state clones.new.items) }
     ensures faults { HasFaultsBy B.meter (map banks_of_state clones.old.items) (map banks_of_state clones.new.items) result }
+    ensures left { IfErr result (StopsFoundingBy B.log (setup_of setup.now) clones.new.items) }
 {
     let named = copy_named(alloc, &setup.domain, setup.props.as_slice())?;
     let blank = take_blank(clones, 0);
@@ -150,6 +154,7 @@ fn found_other<R: Threads, B: CrashBanks>(
     ensures ok { OnOk result (AreFoundedTo (setup_of setup.now) (number + 1) clones.new.items) }
     ensures meters { MetersGoOn B.meter (map banks_of_state clones.old.items) (map banks_of_state clones.new.items) }
     ensures faults { HasFaultsBy B.meter (map banks_of_state clones.old.items) (map banks_of_state clones.new.items) result }
+    ensures left { IfErr result (StopsFoundingBy B.log (setup_of setup.now) clones.new.items) }
 {
     let named = copy_named(alloc, &setup.domain, setup.props.as_slice())?;
     let blank = take_blank(clones, number);
@@ -168,7 +173,7 @@ fn join_first<R: Threads, B: CrashBanks>(
     asker: Asker<B>,
 ) -> (RunningClone<B>, Result<(), WorldFault>)
     requires { HasGiver asker.asker clones.old.items }
-    ensures joins { JoinsFirst B.meter number asker clones.old.items clones.new.items result }
+    ensures joins { JoinsFirst B.log B.meter number asker clones.old.items clones.new.items result }
     ensures len { vec_len clones.new ≡ vec_len clones.old }
     ensures capacity { vec_capacity clones.new ≡ vec_capacity clones.old }
 {
@@ -187,7 +192,7 @@ fn join<R: Threads, B: CrashBanks>(
     asker: Asker<B>,
 ) -> (RunningClone<B>, Result<(), WorldFault>)
     requires { MayGive asker.asker first.old }
-    ensures { JoinsBy B.meter number asker first.old first.new result }
+    ensures { JoinsBy B.log B.meter number asker first.old first.new result }
 {
     match given_leaf(rt, alloc, first, &asker) {
         Ok(answer) => taken_leaf(rt, alloc, number, asker, &answer),
@@ -208,6 +213,7 @@ fn given_leaf<R: Threads, B: CrashBanks>(
     ensures opened { OnOk result (StaysOpen first.old first.new) }
     ensures meter { MeterGoesOn (B.meter first.old.banks) (B.meter first.new.banks) }
     ensures faults { HasFaultsAt 0 (B.meter first.old.banks) (B.meter first.new.banks) result }
+    ensures left { IfErr result (StopsGiving B.log B.meter first.old first.new.banks) }
 {
     match first.receive(rt, alloc, &asker.ask()) {
         Ok(Got::Answer(messages)) => Ok(messages),
@@ -234,6 +240,8 @@ fn taken_leaf<R: Threads, B: CrashBanks>(
     ensures taken { OnOk result.1 ((leaf : GiveValue) → GivesLeaf answer.now asker.asker leaf → LivesAtLeaf asker.asker leaf result.0) }
     ensures meter { MeterGoesOn (B.meter asker.banks) (B.meter (banks_of_state result.0)) }
     ensures faults { HasFaultsAt number (B.meter asker.banks) (B.meter (banks_of_state result.0)) result.1 }
+    ensures left { IfErr result.1 (λ fault. (leaf : GiveValue) → GivesLeaf answer.now asker.asker leaf
+        → StopsTaking B.log B.meter number asker leaf (banks_of_state result.0) fault) }
 {
     match asker.receive(rt, alloc, &answer.as_slice()[0]) {
         Adopted::Joined(clone) => (CloneState::Live(clone), Ok(())),

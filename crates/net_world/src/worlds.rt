@@ -47,6 +47,7 @@ impl<B: CrashBanks> World<B> {
     ghost use Rattle.schedule_model.specs.Step.{HasCloneNumbers, IsCommandInForm, number_of_clone};
     ghost use Rattle.schedule_text.specs.ReadLines.{setup_of};
     ghost use Rattle.net_world.specs.Founding.{StandsFounded};
+    ghost use Rattle.net_world.specs.FoundingLeft.{LeavesFounded};
     ghost use Rattle.net_world.specs.CrashedWorlds.{AreUnarmed};
     ghost use Rattle.net_world.specs.LeftBehind.{LeavesBanks};
     ghost use Rattle.world_commands.specs.Worlds.{IsStanding, Stepped};
@@ -57,7 +58,9 @@ impl<B: CrashBanks> World<B> {
     ///
     /// # Errors
     ///
-    /// `Device` where the device of a clone failed; all banks are given back, in order. `NoMemory`, with which none are.
+    /// `Device` where the device of a clone failed; all banks are given back, in order. The clone was in the middle of a durable step of
+    /// founding: whatever a crash leaves of the banks, the steps before that one stand, that one may, and no later one does. `NoMemory`,
+    /// with which no banks are given back.
     pub fn found<R: Threads>(
         rt: &R,
         alloc: Global,
@@ -72,6 +75,7 @@ impl<B: CrashBanks> World<B> {
         ensures meters { IfOk result (λ world. MetersGoOn B.meter blanks.items (banks_of world)) }
         ensures quiet { IfOk result (λ world. HadNoFaults B.meter blanks.items (banks_of world)) }
         ensures err { IfErr result (λ refused. RefusesFounding B.meter blanks.items refused.0 refused.1.items) }
+        ensures left { IfErr result (λ refused. LeavesFounded B.log (setup_of setup.now) refused.0 refused.1.items) }
     {
         let Ok(named) = copy_named(alloc, &setup.domain, setup.props.as_slice()) else {
             return Err((WorldFault::NoMemory, Vec::new(alloc)));

@@ -6,6 +6,8 @@ use Rattle.net_world.specs.Founding.{HasFaultsOf}
 use Rattle.world_commands.specs.declared.faults.WorldFault.TheVariants as faults
 use Rattle.net_world.proofs.FaultLemmas.{banks_of_absent}
 use Rattle.net_world.proofs.FoundingLemmas.{all_absent, all_founded}
+use Rattle.net_world.specs.FoundingLeft.{StopsFoundingBy}
+use Rattle.net_world.proofs.FoundingFronts.{founding_left}
 use Rattle.net_world.proofs.founding.found_clones.Given as given
 use Rattle.net_world.proofs.founding.found_clones.Goals as goal
 
@@ -43,3 +45,14 @@ returns-in-Err-Device-clause-err g c =
       subst (λ (l : List g.row.B.Denot). HasFailed meter c.in-Err-Device.clone l c.stop_all.new.banks.items) (begun_as g c.args.blanks.items c.in-Ok.clones.items (search rules))
           (subst (λ (l : List g.row.B.Denot). HasFailed meter c.in-Err-Device.clone begun l) (sym given) fails),
     )
+
+pub returns-in-Err-Device-clause-left : goal.returns-in-Err-Device-clause-left
+returns-in-Err-Device-clause-left g c =
+    let log = g.B.Banks.log in
+    let setup = setup_of c.args.setup.now in
+    let clones = c.found_each.new.clones.items in
+    let left = map banks_of_state clones in
+    let none : c.in-Ok.back.items ≡ [] = search rules in
+    let given : c.stop_all.new.banks.items ≡ left = c.stop_all.ensures.banks ∙ ap (λ (l : List g.row.B.Denot). l ++ left) none in
+    founding_left log g.B.Banks.meter g.met.B.CrashBanks.tells setup clones c.stop_all.new.banks.items c.in-Err-Device.clone given c.stop_all.ensures.kept
+    (subst (StopsFoundingBy log setup clones) c.in-Err-Device.field-0-is c.in-Err-Device.ensures.left)

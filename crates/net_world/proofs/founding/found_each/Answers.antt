@@ -26,3 +26,8 @@ loop-number-preserved g c =
       omega arith,
       omega (arith, c.loop-number-test.true),
     )
+
+pub returns-in_err-found_other-clause-left : goal.returns-in_err-found_other-clause-left
+returns-in_err-found_other-clause-left g c =
+    let p = err_from_is_err_and c.from_residual-in_err-found_other.result c.from_residual-in_err-found_other.ensures.1 in
+    rw (p.1, p.2) c.in_err-found_other.ensures.left

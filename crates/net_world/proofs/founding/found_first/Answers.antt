@@ -1,4 +1,4 @@
-use Rattle.std.proofs.Common.{◌∙◌, arith, ap, sym, subst, set, map}
+use Rattle.std.proofs.Common.{◌∙◌, [], arith, ap, sym, subst, set, map}
 use Rattle.std.proofs.lemmas.Result.{on_ok_weaker, IfOk-at_ok}
 use Rattle.mld_model.specs.declared.CloneState.TheVariants as kinds
 use Rattle.clone_banks.specs.BankCalls.{create_calls}
@@ -10,6 +10,10 @@ use Rattle.world_commands.specs.OneCall.{HasFaultsAt}
 use Rattle.world_commands.proofs.BankLemmas.{goes_on, meters_set, faults_set}
 use Rattle.net_world.proofs.FaultLemmas.{first_faults, faults_of}
 use Rattle.net_world.proofs.FoundingLemmas.{absent_there, first_founded}
+use Rattle.mld_model.specs.Local.{blank_clone}
+use Rattle.clone_banks.specs.KeptSteps.{LeavesMade}
+use Rattle.clone_core.specs.Banked.{head_of}
+use Rattle.net_world.proofs.FoundingFronts.{first_left}
 use Rattle.net_world.proofs.founding.found_first.Given as given
 use Rattle.net_world.proofs.founding.found_first.Goals as goal
 
@@ -42,3 +46,13 @@ returns-clause-faults g c =
     (faults_set meter c.args.clones.now.items c.put_state.new.clones.items 0 (kinds.Absent blank) state c.first_of-state.result.1 (becomes g c)
     (subst (λ (b : g.row.B.Denot). HasFaultsAt 0 (meter blank) (meter b) c.first_of-state.result.1) (sym c.first_of-state.ensures.banks)
     (first_faults create_calls c.genesis-genesis.result c.first_of-state.result (meter blank) (meter (banks_of_made c.genesis-genesis.result)) _ c.first_of-state.ensures c.genesis-genesis.ensures.durable.2.metered)))
+
+pub returns-clause-left : goal.returns-clause-left
+returns-clause-left g c =
+    let durable = c.genesis-genesis.ensures.durable in
+    let state = c.first_of-state.result.0 in
+    let making = subst (λ (b : g.row.B.Denot). LeavesMade g.B.Banks.log g.B.Banks.meter (head_of (blank_clone c.id_of.result c.in_ok-named.named.domain durable.0 [])) c.take_blank-blank.result b)
+    (sym c.first_of-state.ensures.banks) durable.2.moments in
+    first_left g.B.Banks.log g.B.Banks.meter g.met.B.CrashBanks.tells (setup_of c.args.setup.now) c.args.clones.now.items c.put_state.new.clones.items state c.take_blank-blank.result
+    c.id_of.result c.in_ok-named.named.domain c.in_ok-named.named.properties.items durable.0 c.genesis-genesis.result c.first_of-state.result.1
+    c.requires.setup c.requires.absent c.id_of.ensures c.in_ok-named.ensures.domain (c.in_ok-named.ensures.properties ∙ c.as_slice.ensures.value) durable.1 making (becomes g c).now c.first_of-state.ensures.err

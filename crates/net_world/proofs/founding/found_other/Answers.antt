@@ -1,13 +1,14 @@
 use Rattle.std.proofs.Common.{◌≡◌, ◌+◌, ◌∙◌, List, arith, sym, subst, set, map, length}
 use Rattle.std.proofs.lemmas.Option.{slice_get_within}
-use Rattle.std.proofs.lemmas.Result.{on_ok_weaker}
+use Rattle.std.proofs.lemmas.Result.{on_ok_weaker, IfErr-weaker}
 use Rattle.mld_model.specs.declared.CloneState.TheVariants as kinds
 use Rattle.net_world.specs.Founding.{HasFaultsOfTwo, giving, taking, HasFaultsBy}
 use Rattle.schedule_text.specs.ReadLines.{setup_of}
-use Rattle.world_commands.specs.States.{Becomes, IsNewAsker}
+use Rattle.world_commands.specs.States.{HasState, Becomes, IsNewAsker}
 use Rattle.world_commands.specs.WorldBanks.{BankedState, banks_of_state, MeterGoesOn, MetersGoOn}
 use Rattle.world_commands.proofs.BankLemmas.{meters_set, faults_set, quiet_becomes}
 use Rattle.net_world.proofs.FaultLemmas.{meters_then, faults_of, faults_then, then_faults}
+use Rattle.net_world.proofs.FoundingFronts.{join_stops_by}
 use Rattle.net_world.proofs.FoundingLemmas.{absent_there, giver_there, first_stays, comes_back, one_more}
 use Rattle.net_world.proofs.founding.found_other.Given as given
 use Rattle.net_world.proofs.founding.found_other.Goals as goal
@@ -51,19 +52,34 @@ module _ (g : given.Over) (c : goal.After-put_state g) where
   second = meters_set g.B.Banks.meter between c.put_state.new.clones.items 0 (kinds.Live c.join_first-state.ensures.joins.was) (kinds.Live c.join_first-state.ensures.joins.now) changes.1
       c.join_first-state.ensures.joins.joins.giver
 
+-- the first clone before it was asked, and the one who asks
+module _ (g : given.Over) (c : goal.After-put_state g) where
+  at_first : HasState c.args.clones.now.items 0 (kinds.Live c.join_first-state.ensures.joins.was)
+  at_first =
+      let old = c.args.clones.now.items in
+      let left = c.take_blank-blank.new.clones.items in
+      let taken = c.take_blank-blank.ensures in
+      let inside = slice_get_within old c.args.number (kinds.Absent c.take_blank-blank.result) taken.was in
+      let counted : length left + 1 ≡ length old = omega (arith, taken.len) in
+      sym (first_stays old left c.args.number (kinds.Absent c.take_blank-blank.result) c.requires.some inside counted (taken.back (kinds.Absent c.take_blank-blank.result))) ∙ c.join_first-state.ensures.joins.becomes.was
+
+  begins : IsNewAsker (setup_of c.args.setup.now).domain (setup_of c.args.setup.now).properties c.args.number c.new_asker-asker.result.asker
+  begins = subst (λ (p : List _). IsNewAsker c.args.setup.now.domain p c.args.number c.new_asker-asker.result.asker) (c.in_ok-named.ensures.properties ∙ c.as_slice.ensures.value)
+      (subst (λ (d : List _). IsNewAsker d c.in_ok-named.named.properties.items c.args.number c.new_asker-asker.result.asker) c.in_ok-named.ensures.domain c.new_asker-asker.ensures.asker)
+
 pub returns-clause-ok : goal.returns-clause-ok
 returns-clause-ok g c = on_ok_weaker c.join_first-state.result.1 (λ takes.
-    let old = c.args.clones.now.items in
-    let left = c.take_blank-blank.new.clones.items in
-    let taken = c.take_blank-blank.ensures in
     let joins = c.join_first-state.ensures.joins in
-    let inside = slice_get_within old c.args.number (kinds.Absent c.take_blank-blank.result) taken.was in
-    let counted : length left + 1 ≡ length old = omega (arith, taken.len) in
-    let at = sym (first_stays old left c.args.number (kinds.Absent c.take_blank-blank.result) c.requires.some inside counted (taken.back (kinds.Absent c.take_blank-blank.result))) ∙ joins.becomes.was in
-    let begins = subst (λ (p : List _). IsNewAsker c.args.setup.now.domain p c.args.number c.new_asker-asker.result.asker) (c.in_ok-named.ensures.properties ∙ c.as_slice.ensures.value)
-    (subst (λ (d : List _). IsNewAsker d c.in_ok-named.named.properties.items c.args.number c.new_asker-asker.result.asker) c.in_ok-named.ensures.domain c.new_asker-asker.ensures.asker) in
-    one_more (setup_of c.args.setup.now) c.args.number old c.put_state.new.clones.items c.new_asker-asker.result.asker joins.was joins.now (state g c) c.requires.setup c.requires.some begins
-    c.requires.founded at takes (changes g c).1.now) c.join_first-state.ensures.joins.joins.ok
+    one_more (setup_of c.args.setup.now) c.args.number c.args.clones.now.items c.put_state.new.clones.items c.new_asker-asker.result.asker joins.was joins.now (state g c) c.requires.setup c.requires.some (begins g c)
+    c.requires.founded (at_first g c) takes (changes g c).1.now) c.join_first-state.ensures.joins.joins.ok
+
+pub returns-clause-left : goal.returns-clause-left
+returns-clause-left g c =
+    let joins = c.join_first-state.ensures.joins in
+    IfErr-weaker c.join_first-state.result.1 _ _ (λ fault stops.
+    join_stops_by g.B.Banks.log g.B.Banks.meter g.met.B.CrashBanks.tells (setup_of c.args.setup.now) c.args.number c.args.clones.now.items c.put_state.new.clones.items c.new_asker-asker.result
+    c.take_blank-blank.result joins.was joins.now (state g c) fault c.requires.setup c.requires.some c.requires.below (begins g c) c.requires.founded (at_first g c) c.take_blank-blank.ensures.was
+    (changes g c).1.now stops) joins.joins.left
 
 pub returns-clause-meters : goal.returns-clause-meters
 returns-clause-meters g c =
