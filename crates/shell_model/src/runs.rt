@@ -1,0 +1,7 @@
+//! The laws of runs.
+ghost use Rattle.shell_model.specs.Laws.{StepsLead};
+
+/// The banks read, after a run over lines, as after the durable steps of the run.
+pub fn steps_lead()
+    ensures { StepsLead }
+{}
