@@ -1,0 +1,6 @@
+mod Moments
+mod MeterLaws
+mod LiveLaws
+mod ShutLaws
+mod LineLaws
+mod Answered

@@ -1,0 +1,5 @@
+pub mod Lines
+pub mod LiveCalls
+pub mod Replies
+pub mod ShutCalls
+pub mod Sessions

@@ -1,0 +1,41 @@
+-- What a live clone does that stays live.
+use Rattle.std.specs.Prelude.{◌≡◌, ◌⊎◌, ℕ, List, [], ◌++◌, Option, None}
+use Rattle.mld_io.specs.Arm.{Meter}
+use Rattle.mld_io.specs.Disk.{Log}
+use Rattle.mld_ops.specs.Present.{present}
+use Rattle.jrql_patterns.specs.declared.queries.ReadQuery.{ReadQuery}
+use Rattle.mld_model.specs.Local.{LocalClone}
+use Rattle.mld_model.specs.Reply.{Reply}
+use Rattle.schedule_model.specs.Querying.{AnswersQuery}
+use Rattle.clone_banks.specs.KeptSteps.{KeptStep}
+use Rattle.clone_core.specs.Banked.{BankedClone}
+use Rattle.clone_core.specs.DurableCalls.{LeavesFronts}
+use Rattle.shell_model.specs.Shells.{generation_after}
+use Rattle.shell_model.specs.ShellReply.{ShellReply, Says, shell_text}
+
+-- a clone went on by a rule of the model, with this reply: it is open, and at each moment since a crash leaves the old clone after a front of the
+-- durable steps
+pub record GoesOn {B : Type 0} (log : B → Option Log) (meter : B → Meter) (Rule : ShellReply → List KeptStep → LocalClone → Type 0) (old new : BankedClone B) (reply : ShellReply) : Type 0 where
+  pub steps : List KeptStep
+  pub does : Rule reply steps new.local
+  pub opened : new.closed ≡ None
+  pub counts : new.generation ≡ generation_after steps old.generation
+  pub moments : LeavesFronts log meter steps old new.banks
+
+-- and the text of the reply was added to the output
+pub record Answers {B : Type 0} (log : B → Option Log) (meter : B → Meter) (Rule : ShellReply → List KeptStep → LocalClone → Type 0) (old : BankedClone B) (before : List ℕ) (new : BankedClone B) (after : List ℕ) : Type 0 where
+  pub reply : ShellReply
+  pub goes_on : GoesOn log meter Rule old new reply
+  pub written : after ≡ before ++ shell_text reply
+
+-- a clone was stopped in the middle of durable steps that are due, or of none
+pub record StopsShort {B : Type 0} (log : B → Option Log) (meter : B → Meter) (Due : List KeptStep → Type 0) (old : BankedClone B) (now : B) : Type 0 where
+  pub steps : List KeptStep
+  pub due : (steps ≡ []) ⊎ Due steps
+  pub moments : LeavesFronts log meter steps old now
+
+-- a query is answered over what the clone has, and the text of the reply was added to the output
+pub record TellsQuery (clone : LocalClone) (read : ReadQuery) (before after : List ℕ) : Type 0 where
+  pub answer : Reply
+  pub answers : AnswersQuery (present clone.pairs) read answer
+  pub written : after ≡ before ++ shell_text (Says answer)

@@ -1,0 +1,11 @@
+//! What the shell does with one line: it is read, done on one clone or on the banks of none, and answered.
+#![tactic(auto)]
+
+mod faults;
+mod live;
+mod replies;
+mod sessions;
+mod shut;
+
+pub use faults::SessionFault;
+pub use sessions::Session;
