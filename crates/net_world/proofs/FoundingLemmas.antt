@@ -35,7 +35,7 @@ use Rattle.tree_clock.specs.Path.{zero_letter, one_letter}
 abbrev pub founded_there : Setup → ℕ → ℕ → LocalClone
 founded_there setup number place = blank_clone (id_of place) setup.domain setup.properties (founded_path number place)
 
-founded_within : (setup : Setup) (number place : ℕ) → place < number
+pub founded_within : (setup : Setup) (number place : ℕ) → place < number
     → founded_local setup.domain setup.properties number place ≡ states.Live (founded_there setup number place)
 founded_within setup number place below = rw (lt-ltb place number below) refl
 
@@ -71,11 +71,11 @@ abbrev local_in : LocalClone → RunningClone → LocalClone
 local_in other (states.Live live) = live
 local_in other state = other
 
-live_not_absent : (live : LocalClone) → ¬ (◌≡◌ {A = RunningClone} (states.Live live) (states.Absent tt))
+pub live_not_absent : (live : LocalClone) → ¬ (◌≡◌ {A = RunningClone} (states.Live live) (states.Absent tt))
 live_not_absent live e = cc
 
 -- a member of a list stands in a place of it
-place_of : {X : Type 0} (items : List X) (item : X) → Has items item → (place : ℕ) × (slice_get items place ≡ Some item)
+pub place_of : {X : Type 0} (items : List X) (item : X) → Has items item → (place : ℕ) × (slice_get items place ≡ Some item)
 place_of [] item has = absurd has
 place_of {X = X} (first ∷ items) item (inl same) = (0, ap (λ (x : X). Some x) same)
 place_of (first ∷ items) item (inr later) = let found : (place : ℕ) × (slice_get items place ≡ Some item) = place_of items item later in (suc found.0, found.1)

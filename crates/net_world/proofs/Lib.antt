@@ -10,3 +10,4 @@ pub mod CrashLemmas
 pub mod LeftFronts
 pub mod SettledBanks
 pub mod FoundingFronts
+pub mod SettledSteps

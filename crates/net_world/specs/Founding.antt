@@ -1,5 +1,5 @@
 -- How a world is founded: the first clone forks its leaf for the others, one after another.
-use Rattle.std.specs.Prelude.{◌≡◌, ◌≢◌, ◌<◌, ◌≤◌, ℕ, List, [], ◌∷◌, None, Result, Ok, Err, OnOk, IfErr, IsTrue, Option, map, length}
+use Rattle.std.specs.Prelude.{◌≡◌, ◌≢◌, ◌<◌, ◌≤◌, ℕ, List, [], ◌∷◌, None, Result, Ok, Err, OnOk, IfErr, IsTrue, Option, map, length, slice_get}
 use Rattle.std.specs.List.{range_with_len}
 use Rattle.mld_io.specs.Arm.{Meter}
 use Rattle.mld_io.specs.Disk.{Log}
@@ -88,6 +88,10 @@ pub record IsFoundedTo {B : Type 0} (setup : Setup) (number place : ℕ) (state 
 pub record AreFoundedTo {B : Type 0} (setup : Setup) (number : ℕ) (clones : List (BankedState B)) : Type 0 where
   pub count : length clones ≡ clone_count
   pub each : (place : ℕ) (state : BankedState B) → HasState clones place state → IsFoundedTo setup number place state
+
+-- the clones from the number on are as they were
+abbrev pub StayFrom : {X : Type 0} → ℕ → List X → List X → Type 0
+StayFrom number old new = (place : ℕ) → number ≤ place → slice_get new place ≡ slice_get old place
 
 -- the clone of the number is absent
 abbrev pub IsAbsentAt : {B : Type 0} → List (BankedState B) → ℕ → Type 0

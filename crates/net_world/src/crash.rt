@@ -96,7 +96,7 @@ fn ended(done: Result<Reply<'static>, WorldFault>, is_caught: bool) -> Result<Cr
 }
 
 /// The number of the clone of a crash line.
-fn number_of(task: &CrashTask) -> u8
+pub fn number_of(task: &CrashTask) -> u8
     ensures { result ≡ number_of_task task.now }
 {
     match task {

@@ -5,13 +5,16 @@ ghost use Rattle.mld_model.specs.World.{clone_count};
 ghost use Rattle.mld_model.specs.declared.CloneState.TheVariants as kinds;
 ghost use Rattle.clone_core.specs.CloneClosing.{StaysOpen};
 ghost use Rattle.clone_core.specs.Joining.{LocallyGives, AreGood};
-ghost use Rattle.net_world.specs.Founding.{IsKeptSetup, GivesLeaf, AreFounded, AreFoundedTo, IsAbsentAt, IsMadeFirst, MayGive, LivesAtLeaf, JoinsBy, HasGiver, JoinsFirst, HasFaultsBy};
+ghost use Rattle.net_world.specs.Founding.{IsKeptSetup, GivesLeaf, AreFounded, AreFoundedTo, IsAbsentAt, IsMadeFirst, MayGive, LivesAtLeaf, JoinsBy, HasGiver, JoinsFirst, HasFaultsBy, StayFrom};
+ghost use Rattle.net_world.specs.SettledWorlds.{AreBlank};
+ghost use Rattle.world_commands.specs.WorldEnds.{KeepAll};
 ghost use Rattle.net_world.specs.FoundingLeft.{LeavesKept, StopsFoundingBy, StopsGiving, StopsTaking};
 ghost use Rattle.world_commands.specs.WorldBanks.{BankedState, banks_of_state, MeterGoesOn, MetersGoOn, HadNoFaults, RefusesFounding};
 ghost use Rattle.schedule_text.specs.ReadLines.{setup_of};
 ghost use Rattle.world_commands.specs.States.{HasState};
 ghost use Rattle.world_commands.specs.OneCall.{HasFaultsAt};
 
+use crate::settling::ask_first;
 use clone_core::{Adopted, Asker, Got, MldClone, ReceiveFault};
 use journal_store::{Blank, MakeFault};
 use mld_io::{Banks, CrashBanks};
@@ -39,13 +42,17 @@ pub fn found_clones<R: Threads, B: CrashBanks>(
     ensures meters { IfOk result (λ clones. MetersGoOn B.meter blanks.items (map banks_of_state clones.items)) }
     ensures quiet { IfOk result (λ clones. HadNoFaults B.meter blanks.items (map banks_of_state clones.items)) }
     ensures err { IfErr result (λ refused. RefusesFounding B.meter blanks.items refused.0 refused.1.items) }
+    ensures kept { AreBlank B.log blanks.items → IfOk result (λ clones. KeepAll B.log clones.items) }
     ensures left { IfErr result (λ refused. LeavesKept B.log (setup_of setup.now) refused.0 refused.1.items) }
 {
     let Ok((mut clones, mut back)) = absent_clones(alloc, blanks) else {
         return Err((WorldFault::NoMemory, Vec::new(alloc)));
     };
     match found_each(rt, alloc, setup, &mut clones) {
-        Ok(()) => Ok(clones),
+        Ok(()) => {
+            ask_first(clones.as_slice(), setup.clones);
+            Ok(clones)
+        }
         Err(WorldFault::NoMemory) => Err((WorldFault::NoMemory, Vec::new(alloc))),
         Err(WorldFault::Device { clone }) => {
             stop_all(clones, &mut back);
@@ -81,6 +88,7 @@ fn found_each<R: Threads, B: CrashBanks>(
     requires setup { IsKeptSetup (setup_of setup.now) }
     requires absent { AreFoundedTo (setup_of setup.now) 0 clones.old.items }
     ensures ok { OnOk result (AreFoundedTo (setup_of setup.now) setup.now.clones clones.new.items) }
+    ensures rest { OnOk result (StayFrom setup.now.clones clones.old.items clones.new.items) }
     ensures meters { MetersGoOn B.meter (map banks_of_state clones.old.items) (map banks_of_state clones.new.items) }
     ensures faults { HasFaultsBy B.meter (map banks_of_state clones.old.items) (map banks_of_state clones.new.items) result }
     ensures left { IfErr result (StopsFoundingBy B.log (setup_of setup.now) clones.new.items) }
@@ -101,6 +109,7 @@ fn found_first<B: CrashBanks>(
     requires setup { IsKeptSetup (setup_of setup.now) }
     requires absent { AreFoundedTo (setup_of setup.now) 0 clones.old.items }
     ensures ok { OnOk result (AreFoundedTo (setup_of setup.now) 1 clones.new.items) }
+    ensures rest { OnOk result (StayFrom 1 clones.old.items clones.new.items) }
     ensures meters { MetersGoOn B.meter (map banks_of_state clones.old.items) (map banks_of_state clones.new.items) }
     ensures faults { HasFaultsBy B.meter (map banks_of_state clones.old.items) (map banks_of_state clones.new.items) result }
     ensures left { IfErr result (StopsFoundingBy B.log (setup_of setup.now) clones.new.items) }
@@ -152,6 +161,7 @@ fn found_other<R: Threads, B: CrashBanks>(
     requires below { number < setup.now.clones }
     requires founded { AreFoundedTo (setup_of setup.now) number clones.old.items }
     ensures ok { OnOk result (AreFoundedTo (setup_of setup.now) (number + 1) clones.new.items) }
+    ensures rest { OnOk result (StayFrom (number + 1) clones.old.items clones.new.items) }
     ensures meters { MetersGoOn B.meter (map banks_of_state clones.old.items) (map banks_of_state clones.new.items) }
     ensures faults { HasFaultsBy B.meter (map banks_of_state clones.old.items) (map banks_of_state clones.new.items) result }
     ensures left { IfErr result (StopsFoundingBy B.log (setup_of setup.now) clones.new.items) }

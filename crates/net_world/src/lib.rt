@@ -4,6 +4,7 @@
 mod commands;
 mod crash;
 mod founding;
+mod settling;
 mod summaries;
 mod worlds;
 

@@ -2,6 +2,7 @@
 
 use crate::commands::answer;
 use crate::founding::found_clones;
+use crate::settling::{ask_live, number_of};
 use crate::summaries::summarize;
 use journal_store::Blank;
 use mld_io::{Banks, CrashBanks};
@@ -50,6 +51,7 @@ impl<B: CrashBanks> World<B> {
     ghost use Rattle.net_world.specs.FoundingLeft.{LeavesFounded};
     ghost use Rattle.net_world.specs.CrashedWorlds.{AreUnarmed};
     ghost use Rattle.net_world.specs.LeftBehind.{LeavesBanks};
+    ghost use Rattle.net_world.specs.SettledWorlds.{Settles, SettlesFounded};
     ghost use Rattle.world_commands.specs.Worlds.{IsStanding, Stepped};
     ghost use Rattle.world_summaries.specs.WorldSummary.{Tells};
 
@@ -75,6 +77,7 @@ impl<B: CrashBanks> World<B> {
         ensures meters { IfOk result (λ world. MetersGoOn B.meter blanks.items (banks_of world)) }
         ensures quiet { IfOk result (λ world. HadNoFaults B.meter blanks.items (banks_of world)) }
         ensures err { IfErr result (λ refused. RefusesFounding B.meter blanks.items refused.0 refused.1.items) }
+        ensures settled { IfOk result (SettlesFounded B.log blanks.items) }
         ensures left { IfErr result (λ refused. LeavesFounded B.log (setup_of setup.now) refused.0 refused.1.items) }
     {
         let Ok(named) = copy_named(alloc, &setup.domain, setup.props.as_slice()) else {
@@ -124,7 +127,8 @@ impl<B: CrashBanks> World<B> {
 
     /// Does a command or a crash line, and adds the text of its reply to the output. No banks may be armed; a crash line arms those of its
     /// clone, and none is armed behind it. A command uses the banks of its clone alone, and whatever it answers, a crash leaves of them what it
-    /// might have left before, or what stands for the clone after a front of the command's durable steps. After `Device` and `NoMemory` the
+    /// might have left before, or what stands for the clone after a front of the command's durable steps. Where a crash left of all banks what
+    /// stands for their clones, it does so again behind a command that was done. After `Device` and `NoMemory` the
     /// world may have done a part of it, and is only asked for its banks; the output is as it was.
     ///
     /// # Errors
@@ -148,10 +152,12 @@ impl<B: CrashBanks> World<B> {
         ensures meters { MetersGoOn B.meter (banks_of self.old) (banks_of self.new) }
         ensures faults { HasFaultsFor (number_of_clone command.now) B.meter (banks_of self.old) (banks_of self.new) result }
         ensures left { LeavesBanks B.log self.old command.now (banks_of self.new) }
+        ensures settled { OnOk result (Settles B.log self.old command.now self.new) }
         ensures others { OthersStay (number_of_clone command.now) (banks_of self.old) (banks_of self.new) }
         ensures out { OnErr result (out.new.items ≡ out.old.items) }
     {
         answer(rt, alloc, &mut self.parts, command, out)?;
+        ask_live(self.parts.clones.as_slice(), number_of(command));
         self.steps += 1;
         Ok(())
     }

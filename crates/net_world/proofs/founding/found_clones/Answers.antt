@@ -8,6 +8,7 @@ use Rattle.net_world.proofs.FaultLemmas.{banks_of_absent}
 use Rattle.net_world.proofs.FoundingLemmas.{all_absent, all_founded}
 use Rattle.net_world.specs.FoundingLeft.{StopsFoundingBy}
 use Rattle.net_world.proofs.FoundingFronts.{founding_left}
+use Rattle.net_world.proofs.SettledSteps.{founded_keep}
 use Rattle.net_world.proofs.founding.found_clones.Given as given
 use Rattle.net_world.proofs.founding.found_clones.Goals as goal
 
@@ -56,3 +57,8 @@ returns-in-Err-Device-clause-left g c =
     let given : c.stop_all.new.banks.items ≡ left = c.stop_all.ensures.banks ∙ ap (λ (l : List g.row.B.Denot). l ++ left) none in
     founding_left log g.B.Banks.meter g.met.B.CrashBanks.tells setup clones c.stop_all.new.banks.items c.in-Err-Device.clone given c.stop_all.ensures.kept
     (subst (StopsFoundingBy log setup clones) c.in-Err-Device.field-0-is c.in-Err-Device.ensures.left)
+
+pub returns-in-Ok-found_each-clause-kept : goal.returns-in-Ok-found_each-clause-kept
+returns-in-Ok-found_each-clause-kept g c =
+    founded_keep g.B.Banks.log (setup_of c.args.setup.now) c.in-Ok.clones.items c.found_each.new.clones.items c.args.blanks.items (search rules) c.in-Ok-found_each.ensures.ok c.in-Ok-found_each.ensures.rest
+    (rw (← c.as_slice.ensures.value) c.ask_first.ensures)

@@ -2,6 +2,7 @@ use Rattle.std.proofs.Common.{arith, map}
 use Rattle.std.proofs.lemmas.Result.{err_from_is_err_and}
 use Rattle.world_commands.specs.WorldBanks.{banks_of_state}
 use Rattle.net_world.proofs.FaultLemmas.{meters_then, quiet_then, then_fails}
+use Rattle.net_world.proofs.SettledSteps.{rest_then}
 use Rattle.net_world.proofs.founding.found_each.Goals as goal
 
 pub returns-in_err-found_other-clause-meters : goal.returns-in_err-found_other-clause-meters
@@ -25,6 +26,7 @@ loop-number-preserved g c =
       quiet_then g.B.Banks.meter old mid new c.loop-number.invariant.1 c.loop-number.invariant.2 c.in_ok-found_other.ensures.faults,
       omega arith,
       omega (arith, c.loop-number-test.true),
+      rest_then c.args.clones.now.items c.loop-number.clones.items c.found_other.new.clones.items c.loop-number.number c.loop-number.invariant.5 c.in_ok-found_other.ensures.rest,
     )
 
 pub returns-in_err-found_other-clause-left : goal.returns-in_err-found_other-clause-left

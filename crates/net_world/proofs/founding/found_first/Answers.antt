@@ -14,6 +14,7 @@ use Rattle.mld_model.specs.Local.{blank_clone}
 use Rattle.clone_banks.specs.KeptSteps.{LeavesMade}
 use Rattle.clone_core.specs.Banked.{head_of}
 use Rattle.net_world.proofs.FoundingFronts.{first_left}
+use Rattle.net_world.proofs.SettledSteps.{first_rest}
 use Rattle.net_world.proofs.founding.found_first.Given as given
 use Rattle.net_world.proofs.founding.found_first.Goals as goal
 
@@ -56,3 +57,6 @@ returns-clause-left g c =
     first_left g.B.Banks.log g.B.Banks.meter g.met.B.CrashBanks.tells (setup_of c.args.setup.now) c.args.clones.now.items c.put_state.new.clones.items state c.take_blank-blank.result
     c.id_of.result c.in_ok-named.named.domain c.in_ok-named.named.properties.items durable.0 c.genesis-genesis.result c.first_of-state.result.1
     c.requires.setup c.requires.absent c.id_of.ensures c.in_ok-named.ensures.domain (c.in_ok-named.ensures.properties ∙ c.as_slice.ensures.value) durable.1 making (becomes g c).now c.first_of-state.ensures.err
+
+pub returns-clause-rest : goal.returns-clause-rest
+returns-clause-rest g c = on_ok_weaker c.first_of-state.result.1 (λ made. first_rest c.args.clones.now.items c.put_state.new.clones.items c.first_of-state.result.0 (becomes g c).now) c.first_of-state.ensures.ok

@@ -10,6 +10,7 @@ use Rattle.world_commands.proofs.BankLemmas.{meters_set, faults_set, quiet_becom
 use Rattle.net_world.proofs.FaultLemmas.{meters_then, faults_of, faults_then, then_faults}
 use Rattle.net_world.proofs.FoundingFronts.{join_stops_by}
 use Rattle.net_world.proofs.FoundingLemmas.{absent_there, giver_there, first_stays, comes_back, one_more}
+use Rattle.net_world.proofs.SettledSteps.{other_rest}
 use Rattle.net_world.proofs.founding.found_other.Given as given
 use Rattle.net_world.proofs.founding.found_other.Goals as goal
 
@@ -117,3 +118,7 @@ returns-clause-faults g c =
     both_faults g c
     (subst (λ (b : g.row.B.Denot). HasFaultsOfTwo c.args.number (meter joins.was.banks) (meter joins.now.banks) (meter b) (meter (banks_of_state (state g c))) c.join_first-state.result.1)
     c.new_asker-asker.ensures.banks joins.joins.faults)
+
+pub returns-clause-rest : goal.returns-clause-rest
+returns-clause-rest g c = on_ok_weaker c.join_first-state.result.1 (λ takes.
+    other_rest c.args.clones.now.items c.put_state.new.clones.items c.args.number (state g c) (kinds.Live c.join_first-state.ensures.joins.now) (changes g c).1.now) c.join_first-state.ensures.joins.joins.ok

@@ -6,6 +6,7 @@ use Rattle.schedule_text.specs.ReadLines.{setup_of}
 use Rattle.net_world.proofs.EndLemmas.{founded_from, founded_standing_on}
 use Rattle.std.proofs.lemmas.Result.{err_from_is_err_and}
 use Rattle.net_world.proofs.FoundingFronts.{founded_left}
+use Rattle.net_world.proofs.SettledSteps.{found_settles}
 use Rattle.net_world.proofs.worlds.World.found.Goals as goal
 
 pub returns-clause-founded : goal.returns-clause-founded
@@ -24,3 +25,6 @@ returns-in_err-clones-clause-left g c =
     let setup : Setup = record { domain = c.in-Ok.named.domain; properties = c.kept_properties.result.items; count = c.args.setup.now.clones } in
     let each = subst (λ (properties : List (List ℕ)). KeepsEachOnce properties setup.properties) (c.in-Ok.ensures.properties ∙ c.as_slice.ensures.value) c.kept_properties.ensures in
     rw (p.1, p.2) (founded_left g.B.Banks.log (setup_of c.args.setup.now) setup c.in_err-clones.field-0.0.1.items c.in_err-clones.field-0.0.0 each c.in-Ok.ensures.domain refl c.in_err-clones.ensures.left)
+
+pub returns-clause-settled : goal.returns-clause-settled
+returns-clause-settled g c = found_settles g.B.Banks.log g.met.B.CrashBanks.tells c.args.blanks.items _ c.in_ok-clones.ensures.kept
