@@ -5,16 +5,23 @@ use Rattle.std.proofs.lemmas.Bool.{false≢true, cases_lt}
 use Rattle.std.proofs.lemmas.List.{nil_from_length, append-nil, length-append}
 use Rattle.std.proofs.lemmas.Option.{slice_get_within, slice_get-get_or}
 use Rattle.mld_io.specs.Arm.{Meter}
-use Rattle.mld_io.specs.Disk.{Log, Sides, seen}
+use Rattle.mld_io.specs.Disk.{Log, Sides, seen, MayLeave}
 use Rattle.journal_sides.specs.Pairs.{PairReading, KeepsNone, Keeps, Damages, read_banks}
 use Rattle.journal_sides.specs.SideReadings.{read_side}
 use Rattle.journal_store.specs.declared.faults.MountFault.TheVariants.{Damaged, Device, NoMemory}
+use Rattle.journal_store.specs.Crashes.{LeavesNoMore}
+use Rattle.journal_store.specs.Mounting.{IsSynced}
+use Rattle.journal_store.specs.Standing.{KeepsNothing, IsBlankLog}
 use Rattle.clone_core.specs.Opening.{TellsClone}
 use Rattle.clone_core.specs.declared.mounts.Mounted.{Mounted}
 use Rattle.clone_core.specs.declared.mounts.Mounted.TheVariants.{Live, Empty, Refused}
 use Rattle.world_commands.specs.WorldBanks.{MeterGoesOn, MetersGoOn, HadNoFault, HadNoFaults, HasFailed, HadFault}
 use Rattle.mld_replay.specs.Filled.{IsFilled, IsFirstFilled, LogsStay}
 use Rattle.mld_replay.specs.Looking.{AreEmpty, AreEmptyBefore, StopsLookingAt, StopsLooking}
+use Rattle.world_commands.proofs.StopLemmas.{told_log}
+use Rattle.net_world.specs.SettledWorlds.{AreBlank}
+use Rattle.net_world.proofs.CaughtLemmas.{now_left}
+use Rattle.mld_replay.specs.BanksLeft.{LeavesLess, LeaveNoMore}
 use Rattle.mld_replay.specs.BankFaults.{AreWell, HaveFailed, all_left, BringsBack}
 use Rattle.mld_replay.specs.declared.run.RunFault.{RunFault}
 use Rattle.mld_replay.specs.declared.run.RunFault.TheVariants as faults
@@ -238,22 +245,82 @@ pub empty_still : {B : Type 0} (log : B → Option Log) (old new : List B) → l
 empty_still log old new count logs none = λ place one at filled.
     let there = there_too new old place one (sym count) at in none place there.0 there.1 (subst IsFilled (logs place there.0 one there.1 at) filled)
 
+-- ---- what a crash may leave of banks is what it might have left before
+
+less_one : {B : Type 0} (log : B → Option Log) (one : B) → LeavesLess log one one
+less_one log one before behind was now image left = let same : behind ≡ before = cc (was, now) in subst (λ l. MayLeave l image) same left
+
+less_same : {B : Type 0} (log : B → Option Log) (banks : List B) → LeaveNoMore log banks banks
+less_same {B = B} log banks number was now was_at now_at = let same : was ≡ now = cc (was_at, now_at) in subst (λ (b : B). LeavesLess log was b) same (less_one log was)
+
+-- where logs stayed
+pub stay_less : {B : Type 0} (log : B → Option Log) (old new : List B) → LogsStay log old new → LeaveNoMore log old new
+stay_less log old new logs number was now was_at now_at before behind told is image left =
+    let same : behind ≡ before = cc (logs number was now was_at now_at, told, is) in subst (λ l. MayLeave l image) same left
+
+pub less_then : {B : Type 0} (log : B → Option Log) (tells : (banks : B) → IsSome (log banks)) (old middle new : List B) → length middle ≡ length old → LeaveNoMore log old middle → LeaveNoMore log middle new
+    → LeaveNoMore log old new
+less_then log tells old middle new count first second number was now was_at now_at before behind told is image left =
+    let there = there_too old middle number was count was_at in
+    let between : (l : Log) × (log there.0 ≡ Some l) = told_log (log there.0) (tells there.0) in
+    first number was there.0 was_at there.1 before between.0 told between.1 image (second number there.0 now there.1 now_at between.0 behind between.1 is image left)
+
+pub less_later : {B : Type 0} (log : B → Option Log) (old middle new : List B) → length middle ≡ length old → LogsStay log old middle → LeaveNoMore log middle new → LeaveNoMore log old new
+less_later log old middle new count logs second number was now was_at now_at before behind told is image left =
+    let there = there_too old middle number was count was_at in
+    second number there.0 now there.1 now_at before behind (logs number was there.0 was_at there.1 ∙ told) is image left
+
+-- a mount leaves no more, and makes blanks of banks without a byte
+pub mounted_less : {B : Type 0} (log : B → Option Log) (was now : B) → ((l : Log) → log was ≡ Some l → LeavesNoMore l (log now)) → LeavesLess log was now
+mounted_less log was now moments before behind told is image left = now_left before behind (log now) image (moments before told) is left
+
+pub mounted_blank : {B : Type 0} (log : B → Option Log) (tells : (banks : B) → IsSome (log banks)) (was now : B) → ((l : Log) → log was ≡ Some l → read_banks (seen l) ≡ KeepsNone)
+    → ((l : Log) → log was ≡ Some l → IsSynced (Unit {0}) l (log now)) → IsBlankLog (log now)
+mounted_blank log tells was now reads synced l is =
+    let before : (first : Log) × (log was ≡ Some first) = told_log (log was) (tells was) in
+    let sync : IsSynced (Unit {0}) before.0 (log now) = synced before.0 before.1 in
+    let same : sync.log ≡ l = cc (sync.now_is, is) in
+    subst (λ (one : Log). KeepsNothing one) same (record { none = ap read_banks sync.same ∙ reads before.0 before.1; settled = sync.settled tt })
+
 -- ---- the banks made blanks
 
--- the first banks were made these blanks, and the rest, which are empty, are left; none had a fault
+-- the first banks were made these blanks, and the rest, which are empty, are left; none had a fault, and a crash leaves no more of them
 pub record IsBlanking {B : Type 0} (log : B → Option Log) (meter : B → Meter) (old done rest : List B) (number : ℕ) : Type 0 where
+  pub less : LeaveNoMore log old (done ++ rest)
+  pub blank : AreBlank log done
   pub meters : MetersGoOn meter old (done ++ rest)
   pub quiet : HadNoFaults meter old (done ++ rest)
   pub empty : AreEmpty log rest
   pub counted : number ≡ length done
 
 pub blanking_first : {B : Type 0} (log : B → Option Log) (meter : B → Meter) (old done rest : List B) → done ≡ [] → rest ≡ old → AreEmpty log old → IsBlanking log meter old done rest 0
-blanking_first log meter old done rest none all empty = rw (none, all) (record { meters = meters_same meter old; quiet = quiet_same meter old; empty = empty; counted = refl })
+blanking_first log meter old done rest none all empty = rw (none, all) (record { less = less_same log old; blank = λ number one at. absurd (cc at); meters = meters_same meter old; quiet = quiet_same meter old; empty = empty; counted = refl })
 
 -- the next ones have no bytes
 pub blanking_next : {B : Type 0} (log : B → Option Log) (meter : B → Meter) (old done rest left : List B) (one : B) (number : ℕ) → IsBlanking log meter old done rest number → rest ≡ one ∷ left
     → ¬ IsFilled (log one)
 blanking_next {B = B} log meter old done rest left one number blanking is = subst (λ (l : List B). AreEmpty log l) is blanking.empty zero one refl
+
+-- what is in no place of the end of a list is in its front
+blank_more : {B : Type 0} (log : B → Option Log) (done : List B) (now : B) → AreBlank log done → IsBlankLog (log now) → AreBlank log (done ++ now ∷ [])
+blank_more log [] now blank one zero x at = let same : now ≡ x = cc at in subst (λ b. IsBlankLog (log b)) same one
+blank_more log [] now blank one (suc place) x at = absurd (cc at)
+blank_more log (first ∷ done) now blank one zero x at = blank zero x at
+blank_more log (first ∷ done) now blank one (suc place) x at = blank_more log done now (λ n o there. blank (suc n) o there) one place x at
+
+less_swap : {B : Type 0} (log : B → Option Log) (done : List B) (was now : B) (rest : List B) → LeavesLess log was now → LeaveNoMore log (done ++ was ∷ rest) (done ++ now ∷ rest)
+less_swap log done was now rest less = swap_at (λ x y. LeavesLess log x y) done was now rest less (λ one. less_one log one)
+
+less_before : {B : Type 0} (log : B → Option Log) (meter : B → Meter) (old done rest left : List B) (was : B) (number : ℕ) → IsBlanking log meter old done rest number
+    → rest ≡ was ∷ left → LeaveNoMore log old (done ++ was ∷ left)
+less_before {B = B} log meter old done rest left was number blanking is = subst (λ (l : List B). LeaveNoMore log old (done ++ l)) is blanking.less
+
+less_meters : {B : Type 0} (log : B → Option Log) (meter : B → Meter) (tells : (banks : B) → IsSome (log banks)) (old done rest left : List B) (was now : B) (number : ℕ)
+    → IsBlanking log meter old done rest number → rest ≡ was ∷ left → LeavesLess log was now → LeaveNoMore log old (done ++ now ∷ left)
+less_meters {B = B} log meter tells old done rest left was now number blanking is less =
+    less_then log tells old (done ++ was ∷ left) (done ++ now ∷ left)
+    (subst (λ (l : List B). length (done ++ l) ≡ length old) is blanking.meters.count)
+    (less_before log meter old done rest left was number blanking is) (less_swap log done was now left less)
 
 module _ {B : Type 0} (meter : B → Meter) (done : List B) (was now : B) (rest : List B) where
   meters_swap : MeterGoesOn (meter was) (meter now) → MetersGoOn meter (done ++ was ∷ rest) (done ++ now ∷ rest)
@@ -290,9 +357,12 @@ blanking_meters log meter old done rest left was now number blanking is goes =
     meters_then meter old (done ++ was ∷ left) (done ++ now ∷ left) (meters_before log meter old done rest left was number blanking is) (meters_swap meter done was now left goes)
 
 -- they are made a blank
-pub blanking_more : {B : Type 0} (log : B → Option Log) (meter : B → Meter) (old done rest left more : List B) (was now : B) (number : ℕ) → IsBlanking log meter old done rest number
-    → rest ≡ was ∷ left → more ≡ done ++ now ∷ [] → MeterGoesOn (meter was) (meter now) → HadNoFault (meter was) (meter now) → IsBlanking log meter old more left (number + 1)
-blanking_more {B = B} log meter old done rest left more was now number blanking is more_is goes quiet = rw more_is (record {
+pub blanking_more : {B : Type 0} (log : B → Option Log) (meter : B → Meter) (tells : (banks : B) → IsSome (log banks)) (old done rest left more : List B) (was now : B) (number : ℕ)
+    → IsBlanking log meter old done rest number → rest ≡ was ∷ left → more ≡ done ++ now ∷ [] → MeterGoesOn (meter was) (meter now) → HadNoFault (meter was) (meter now)
+    → IsBlankLog (log now) → LeavesLess log was now → IsBlanking log meter old more left (number + 1)
+blanking_more {B = B} log meter tells old done rest left more was now number blanking is more_is goes quiet blank less = rw more_is (record {
+  less = rw (append_assoc done (now ∷ []) left) (less_meters log meter tells old done rest left was now number blanking is less);
+  blank = blank_more log done now blanking.blank blank;
   meters = rw (append_assoc done (now ∷ []) left) (blanking_meters log meter old done rest left was now number blanking is goes);
   quiet = rw (append_assoc done (now ∷ []) left)
       (quiet_then meter old (done ++ was ∷ left) (done ++ now ∷ left) (meters_before log meter old done rest left was number blanking is)
@@ -319,6 +389,11 @@ blanking_stops log meter old done rest left back was now number blanking is back
 -- none is left
 all_done : {B : Type 0} (P : List B → Type 0) (done rest : List B) → rest ≡ [] → P (done ++ rest) → P done
 all_done {B = B} P done rest none holds = subst P (append-nil done) (subst (λ (l : List B). P (done ++ l)) none holds)
+
+-- what is left of the banks then
+pub blanking_less : {B : Type 0} (log : B → Option Log) (meter : B → Meter) (tells : (banks : B) → IsSome (log banks)) (old done rest left back : List B) (was now : B) (number : ℕ)
+    → IsBlanking log meter old done rest number → rest ≡ was ∷ left → back ≡ done ++ now ∷ left → LeavesLess log was now → LeaveNoMore log old back
+blanking_less log meter tells old done rest left back was now number blanking is back_is less = rw back_is (less_meters log meter tells old done rest left was now number blanking is less)
 
 pub blanking_all : {B : Type 0} (log : B → Option Log) (meter : B → Meter) (old done rest : List B) (number : ℕ) → IsBlanking log meter old done rest number → rest ≡ [] → MetersGoOn meter old done
 blanking_all log meter old done rest number blanking none = all_done (λ l. MetersGoOn meter old l) done rest none blanking.meters

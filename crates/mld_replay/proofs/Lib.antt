@@ -4,4 +4,5 @@ pub mod LimitLemmas
 pub mod MeterLemmas
 pub mod RunLemmas
 pub mod StageLemmas
+pub mod StoppedLemmas
 pub mod SummaryLemmas

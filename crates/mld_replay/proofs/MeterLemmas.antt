@@ -2,7 +2,7 @@
 use Rattle.std.proofs.Common.{◌≡◌, ◌≢◌, ℕ, List, refl, sym, ◌∙◌, ap, arith, subst, length, Option, Some, get_or, Err, inl, inr}
 use Rattle.std.specs.Prelude.{slice_get}
 use Rattle.std.proofs.lemmas.Option.{slice_get_within, slice_get-get_or}
-use Rattle.mld_io.specs.Arm.{Arm, Meter, Unarmed}
+use Rattle.mld_io.specs.Arm.{Meter, Unarmed}
 use Rattle.world_commands.specs.WorldBanks.{MeterGoesOn, MetersGoOn, HadNoFaults, HasFailed, HasFaultsFor, RefusesFounding}
 use Rattle.net_world.specs.CrashedWorlds.{AreUnarmed}
 use Rattle.world_commands.specs.declared.faults.WorldFault.{WorldFault}

@@ -1,10 +1,9 @@
 -- A replay from line to line, and how it ends.
-use Rattle.std.proofs.Common.{◌≡◌, ◌≢◌, ℕ, ◌+◌, ◌≤◌, ◌<◌, List, [], ◌∷◌, ◌++◌, ◌↔◌, refl, sym, ◌∙◌, ap, arith, subst, length, Option, None, Some, append_assoc, append-nil, length-append, get_or, map, take, Bool, Err, Result, Ok}
+use Rattle.std.proofs.Common.{◌≡◌, ◌≢◌, ℕ, ◌+◌, ◌≤◌, ◌<◌, List, [], ◌∷◌, ◌++◌, ◌↔◌, refl, sym, ◌∙◌, ap, arith, subst, length, Option, None, Some, append_assoc, append-nil, length-append, get_or, map, take, drop, Bool, Err, Result, Ok, inl, inr}
 use Rattle.std.specs.Prelude.{IsTrue, nat_eq, OnOk, IfErr}
 use Rattle.std.specs.Result.{result_err}
 use Rattle.mld_io.specs.Faults.{Rose}
-use Rattle.std.proofs.lemmas.List.{take_all}
-use Rattle.std.proofs.Math.Seq.{take-append-add}
+use Rattle.std.proofs.lemmas.List.{take-append-drop}
 use Rattle.std.specs.Cmp.Lexicographic.{pointwise}
 use Rattle.tree_clock.specs.DotLaws.{path_eq-Decides}
 use Rattle.std.specs.Io.KnownBytes.{Appends}
@@ -12,9 +11,10 @@ use Rattle.mld_io.specs.Disk.{Log}
 use Rattle.mld_io.specs.Lines.{lines_of, after_line, IsCutShort}
 use Rattle.mld_io.proofs.LinesLaws.{first_of_lines_lem}
 use Rattle.schedule_model.specs.Runs.{Stage, Waiting, Acts, Runs, bad_line, no_domain, IsBad, RunsBefore, Verdict}
-use Rattle.mld_replay.specs.Ran.{Finishes, StopsAtBad, StopsAtLarge, BreaksOff, ReadsLines, WritesFront, WritesWhole, EndsSo, CountsReads, CountsWrites}
-use Rattle.mld_replay.specs.Replaying.{TakesLine, IfSomeLine, IsReadingFault, IsWritingFault, IsReplayFault, IsLineFault, IsEndFault, HasReadCause, HasWriteFaultCause}
-use Rattle.mld_replay.specs.Stages.{StageStands, IsStandingStage, ActsWell, EndsWell, steps_of}
+use Rattle.mld_replay.specs.Ran.{Saying, Finishes, StopsAtBad, StopsAtLarge, BreaksOff, ReadsLines, WritesFront, WritesWhole, fails_amid, short_amid, short_writing, short_of_banks, EndsSo, CountsReads, CountsWrites}
+use Rattle.mld_replay.specs.BanksLeft.{AreLeftAmid}
+use Rattle.mld_replay.specs.Replaying.{says_by, TakesLine, IfSomeLine, IsReadingFault, IsWritingFault, IsReplayFault, IsLineFault, IsEndFault, HasReadCause, HasWriteFaultCause}
+use Rattle.mld_replay.specs.Stages.{StageStands, IsStandingStage, ActsWell, EndsWell, steps_of, banks_of_stage}
 use Rattle.mld_replay.specs.declared.stages.Stage.{Stage as RunningStage}
 use Rattle.mld_replay.specs.declared.stages.Stage.TheVariants as stages
 use Rattle.schedule_model.proofs.PromisesLaws.{promises_kept}
@@ -22,7 +22,7 @@ use Rattle.mld_replay.specs.declared.run.RunFault.{RunFault}
 use Rattle.mld_replay.specs.declared.run.RunFault.TheVariants as faults
 use Rattle.mld_replay.specs.declared.stops.LineStop.{LineStop}
 use Rattle.mld_replay.specs.declared.stops.LineStop.TheVariants as stops
-use Rattle.mld_replay.specs.Stops.{fault_of}
+use Rattle.mld_replay.specs.Stops.{fault_of, EndsAmid}
 use Rattle.mld_replay.specs.UnderWay.{IsLeft, IsUnderWay}
 use Rattle.mld_replay.specs.TooLarge.{BreaksLimits, IsTooLargeLine}
 use Rattle.mld_replay.proofs.LimitLemmas.{left_first, taken_left, taken_fit, all_fit, large_next}
@@ -109,29 +109,62 @@ under_way_more log given left rest before now after size grown running next done
       written = appends_more before now after way.text text way.written writes;
     }
 
--- ---- what was written is a front of the text of a run over the first lines
+-- ---- between two lines the whole text is written
 
-pub front_first : (before : Option (List ℕ)) (bytes : List ℕ) → WritesFront (λ _. Unit {0}) bytes before before
-front_first before bytes = record { lines = []; rest = lines_of bytes; whole = refl; text = []; stage = Waiting; runs = (refl, refl); size = 0; written = appends_nothing before; holds = tt }
+pub whole_first : (P : Stage → List (List ℕ) → Type 0) (before : Option (List ℕ)) (bytes : List ℕ) → P Waiting (lines_of bytes) → WritesWhole P bytes before before
+whole_first P before bytes holds = record { lines = []; rest = lines_of bytes; whole = refl; text = []; stage = Waiting; runs = (refl, refl); written = appends_nothing before; holds = holds }
 
-pub front_of_way : {B : Type 0} (log : B → Option Log) (given left before now : Option (List ℕ)) (size : ℕ) (running : RunningStage B) (done : ℕ) → IsUnderWay log given left before now size running done
-    → (bytes : List ℕ) → given ≡ Some bytes → WritesFront (StageStands log running) bytes before now
-front_of_way log given left before now size running done way bytes is =
+pub whole_of_way : {B : Type 0} (log : B → Option Log) (P : Stage → List (List ℕ) → Type 0) (given left before now : Option (List ℕ)) (size : ℕ) (running : RunningStage B) (done : ℕ)
+    → (way : IsUnderWay log given left before now size running done) → (bytes : List ℕ) → given ≡ Some bytes
+    → ((rest : List ℕ) → left ≡ Some rest → P way.stage (lines_of rest)) → WritesWhole P bytes before now
+whole_of_way log P given left before now size running done way bytes is holds =
     let at : IsLeft bytes left size done way.lines = way.left_of bytes is in
-    let P : List ℕ → Type 0 = λ t. Appends before now t in
-    record {
-      lines = way.lines;
-      rest = lines_of at.rest;
-      whole = at.whole;
-      text = way.text;
-      stage = way.stage;
-      runs = way.runs;
-      size = length way.text;
-      written = subst P (sym (take_all (length way.text) way.text (omega arith))) way.written;
-      holds = way.stands;
-    }
+    record { lines = way.lines; rest = lines_of at.rest; whole = at.whole; text = way.text; stage = way.stage; runs = way.runs; written = way.written; holds = holds at.rest at.is }
 
--- and so is it where the reply to a line was cut short
+-- the lines still to come, where the next line was taken
+pub line_there : {B : Type 0} (log : B → Option Log) (given left rest before now : Option (List ℕ)) (size grown : ℕ) (running : RunningStage B) (done : ℕ) (line : List ℕ)
+    → (way : IsUnderWay log given left before now size running done) → ((bytes : List ℕ) → left ≡ Some bytes → TakesLine size bytes rest grown (Some line))
+    → (bytes : List ℕ) → given ≡ Some bytes → (others : List (List ℕ)) × (lines_of bytes ≡ way.lines ++ line ∷ others)
+line_there log given left rest before now size grown running done line way takes bytes is =
+    let at : IsLeft bytes left size done way.lines = way.left_of bytes is in
+    let taken : TakesLine size at.rest rest grown (Some line) = takes at.rest at.is in
+    let lines : lines_of at.rest ≡ line ∷ lines_of (after_line at.rest) = first_of_lines_lem at.rest taken.0 ∙ ap (λ l. l ∷ lines_of (after_line at.rest)) (sym taken.1) in
+    (lines_of (after_line at.rest), at.whole ∙ ap (λ ls. way.lines ++ ls) lines)
+
+-- and where there was none
+pub none_there : {B : Type 0} (log : B → Option Log) (given left rest before now : Option (List ℕ)) (size : ℕ) (running : RunningStage B) (done : ℕ)
+    → (way : IsUnderWay log given left before now size running done)
+    → ((bytes : List ℕ) → given ≡ Some bytes → (behind : List ℕ) → left ≡ Some behind → (behind ≡ []) × (rest ≡ Some []))
+    → (bytes : List ℕ) → given ≡ Some bytes → lines_of bytes ≡ way.lines ++ []
+none_there log given left rest before now size running done way none bytes is =
+    let at : IsLeft bytes left size done way.lines = way.left_of bytes is in
+    at.whole ∙ ap (λ b. way.lines ++ lines_of b) (none bytes is at.rest at.is).0
+
+pub whole_with : {B : Type 0} (log : B → Option Log) (P : Stage → List (List ℕ) → Type 0) (given left before now : Option (List ℕ)) (size : ℕ) (running : RunningStage B) (done : ℕ)
+    → (way : IsUnderWay log given left before now size running done) → (bytes : List ℕ) (rest : List (List ℕ)) → lines_of bytes ≡ way.lines ++ rest → P way.stage rest → WritesWhole P bytes before now
+whole_with log P given left before now size running done way bytes rest whole holds =
+    record { lines = way.lines; rest = rest; whole = whole; text = way.text; stage = way.stage; runs = way.runs; written = way.written; holds = holds }
+
+-- it says the same of a weaker property
+pub whole_as : (P Q : Stage → List (List ℕ) → Type 0) (bytes : List ℕ) (before now : Option (List ℕ)) → ((stage : Stage) (rest : List (List ℕ)) → P stage rest → Q stage rest)
+    → WritesWhole P bytes before now → WritesWhole Q bytes before now
+whole_as P Q bytes before now holds whole = record {
+  lines = whole.lines;
+  rest = whole.rest;
+  whole = whole.whole;
+  text = whole.text;
+  stage = whole.stage;
+  runs = whole.runs;
+  written = whole.written;
+  holds = holds whole.stage whole.rest whole.holds;
+}
+
+-- whatever holds
+pub whole_any : (P : Stage → List (List ℕ) → Type 0) (bytes : List ℕ) (before now : Option (List ℕ)) → WritesWhole P bytes before now → WritesWhole (λ stage rest. Unit {0}) bytes before now
+whole_any P bytes before now whole = whole_as P (λ stage rest. Unit {0}) bytes before now (λ stage rest holds. tt) whole
+
+-- ---- the reply to a line was cut short
+
 pub front_of_reply : {B : Type 0} (log : B → Option Log) (given left rest before now after : Option (List ℕ)) (size grown : ℕ) (running next : RunningStage B) (done : ℕ) (line text : List ℕ)
     → IsUnderWay log given left before now size running done
     → ((bytes : List ℕ) → left ≡ Some bytes → TakesLine size bytes rest grown (Some line))
@@ -139,17 +172,22 @@ pub front_of_reply : {B : Type 0} (log : B → Option Log) (given left rest befo
     → (n : ℕ) → Appends now after (take n text) → (bytes : List ℕ) → given ≡ Some bytes → WritesFront (StageStands log next) bytes before after
 front_of_reply log given left rest before now after size grown running next done line text way takes acts n writes bytes is =
     let act : ActsWell log way.stage line text next = acts way.stage way.stands in
-    let at : IsLeft bytes rest grown (done + 1) (way.lines ++ line ∷ []) = taken_left given left size grown done way.lines line rest way.left_of takes bytes is in
-    let P : List ℕ → Type 0 = λ t. Appends before after t in
+    let there = line_there log given left rest before now size grown running done line way takes bytes is in
     record {
-      lines = way.lines ++ line ∷ [];
-      rest = lines_of at.rest;
-      whole = at.whole;
-      text = way.text ++ text;
-      stage = act.next;
-      runs = runs_more Waiting way.stage act.next way.lines way.text line text way.runs act.acts;
-      size = length way.text + n;
-      written = subst P (sym (take-append-add way.text text n)) (appends_more before now after way.text (take n text) way.written writes);
+      lines = way.lines;
+      line = line;
+      rest = there.0;
+      whole = there.1;
+      text = way.text;
+      stage = way.stage;
+      runs = way.runs;
+      reply = text;
+      next = act.next;
+      acts = act.acts;
+      front = take n text;
+      behind = drop n text;
+      of_reply = take-append-drop n text;
+      written = appends_more before now after way.text (take n text) way.written writes;
       holds = act.stands;
     }
 
@@ -157,30 +195,21 @@ front_of_reply log given left rest before now after size grown running next done
 pub front_as : (P Q : Stage → Type 0) (bytes : List ℕ) (before now : Option (List ℕ)) → ((stage : Stage) → P stage → Q stage) → WritesFront P bytes before now → WritesFront Q bytes before now
 front_as P Q bytes before now holds front = record {
   lines = front.lines;
+  line = front.line;
   rest = front.rest;
   whole = front.whole;
   text = front.text;
   stage = front.stage;
   runs = front.runs;
-  size = front.size;
+  reply = front.reply;
+  next = front.next;
+  acts = front.acts;
+  front = front.front;
+  behind = front.behind;
+  of_reply = front.of_reply;
   written = front.written;
-  holds = holds front.stage front.holds;
+  holds = holds front.next front.holds;
 }
-
--- so a front is one of any run
-pub front_any : (P : Stage → Type 0) (bytes : List ℕ) (before now : Option (List ℕ)) → WritesFront P bytes before now → WritesFront (λ _. Unit {0}) bytes before now
-front_any P bytes before now front = front_as P (λ _. Unit {0}) bytes before now (λ stage holds. tt) front
-
--- between two lines the whole text is written
-
-pub whole_first : (before : Option (List ℕ)) (bytes : List ℕ) → WritesWhole bytes before before
-whole_first before bytes = record { lines = []; rest = lines_of bytes; whole = refl; text = []; stage = Waiting; runs = (refl, refl); written = appends_nothing before }
-
-pub whole_of_way : {B : Type 0} (log : B → Option Log) (given left before now : Option (List ℕ)) (size : ℕ) (running : RunningStage B) (done : ℕ) → IsUnderWay log given left before now size running done
-    → (bytes : List ℕ) → given ≡ Some bytes → WritesWhole bytes before now
-whole_of_way log given left before now size running done way bytes is =
-    let at : IsLeft bytes left size done way.lines = way.left_of bytes is in
-    record { lines = way.lines; rest = lines_of at.rest; whole = at.whole; text = way.text; stage = way.stage; runs = way.runs; written = way.written }
 
 -- the state stands for some stage
 pub standing_from : {B : Type 0} (log : B → Option Log) (given left before now : Option (List ℕ)) (size : ℕ) (running : RunningStage B) (done : ℕ) → IsUnderWay log given left before now size running done → IsStandingStage log running
@@ -291,39 +320,50 @@ breaks_off log given left rest before now size running done way cut reads bytes 
 -- ---- the run ends so
 
 -- where a line could not be read
-pub ends_reading : (Told Kept : Stage → Type 0) (fault : RunFault) (bytes : List ℕ) (left before after : Option (List ℕ)) → IsReadingFault fault
-    → (fault ≡ faults.ReadFault → BreaksOff Told bytes left before after) → ((at : ℕ) → fault ≡ faults.TooLarge at → StopsAtLarge Told bytes at before after)
-    → WritesFront (λ _. Unit {0}) bytes before after → EndsSo Told Kept (Some fault) bytes left before after
-ends_reading Told Kept faults.ReadFault bytes left before after reading breaks large front = breaks refl
-ends_reading Told Kept (faults.TooLarge at) bytes left before after reading breaks large front = large at refl
-ends_reading Told Kept faults.NoMemory bytes left before after reading breaks large front = front
-ends_reading Told Kept fault bytes left before after reading breaks large front = absurd reading
+pub ends_reading : (says : Saying) (fault : RunFault) (bytes : List ℕ) (left before after : Option (List ℕ)) → IsReadingFault fault
+    → (fault ≡ faults.ReadFault → BreaksOff says.told bytes left before after) → ((at : ℕ) → fault ≡ faults.TooLarge at → StopsAtLarge says.told bytes at before after)
+    → WritesWhole says.left bytes before after → EndsSo says (Some fault) bytes left before after
+ends_reading says faults.ReadFault bytes left before after reading breaks large whole = breaks refl
+ends_reading says (faults.TooLarge at) bytes left before after reading breaks large whole = large at refl
+ends_reading says faults.NoMemory bytes left before after reading breaks large whole = short_amid whole
+ends_reading says fault bytes left before after reading breaks large whole = absurd reading
 
--- where one was not done
-pub ends_line : (Told Kept : Stage → Type 0) (fault : RunFault) (bytes : List ℕ) (left before after : Option (List ℕ)) → IsLineFault fault
-    → ((at : ℕ) → fault ≡ faults.BadLine at → StopsAtBad Told bytes at before after)
-    → WritesWhole bytes before after → WritesFront (λ _. Unit {0}) bytes before after → EndsSo Told Kept (Some fault) bytes left before after
-ends_line Told Kept (faults.BadLine at) bytes left before after doing bad whole front = bad at refl
-ends_line Told Kept (faults.Device clone) bytes left before after doing bad whole front = whole
-ends_line Told Kept faults.NoMemory bytes left before after doing bad whole front = front
-ends_line Told Kept fault bytes left before after doing bad whole front = absurd doing
+-- where the next line was not done, or the lines not ended: these lines were to come, and this is left of the banks
+pub ends_stopped : {B : Type 0} (log : B → Option Log) (given left before now : Option (List ℕ)) (size : ℕ) (running next : RunningStage B) (done : ℕ)
+    → (way : IsUnderWay log given left before now size running done) → (bytes : List ℕ) (lines : List (List ℕ)) (rest : Option (List ℕ)) (fault : RunFault) → lines_of bytes ≡ way.lines ++ lines
+    → IsLineFault fault → ((at : ℕ) → fault ≡ faults.BadLine at → StopsAtBad (StageStands log next) bytes at before now) → EndsAmid log running (banks_of_stage next) lines fault
+    → EndsSo (says_by log next) (Some fault) bytes rest before now
+ends_stopped log given left before now size running next done way bytes lines rest (faults.BadLine at) whole doing bad amid = bad at refl
+ends_stopped log given left before now size running next done way bytes lines rest (faults.Device clone) whole doing bad amid =
+    fails_amid (whole_with log (AreLeftAmid log (banks_of_stage next)) given left before now size running done way bytes lines whole (amid way.stage way.stands))
+ends_stopped log given left before now size running next done way bytes lines rest faults.NoMemory whole doing bad amid = elim (amid way.stage way.stands) [
+  | inl none ↦ short_of_banks none (inl (whole_with log (λ stage behind. Unit {0}) given left before now size running done way bytes lines whole tt))
+  | inr some ↦ short_amid (whole_with log (AreLeftAmid log (banks_of_stage next)) given left before now size running done way bytes lines whole some)
+]
+ends_stopped log given left before now size running next done way bytes lines rest fault whole doing bad amid = absurd doing
 
 -- where its reply could not be written
-pub ends_writing : (Told Kept : Stage → Type 0) (fault : RunFault) (bytes : List ℕ) (left before after : Option (List ℕ)) → IsWritingFault fault → WritesFront Kept bytes before after
-    → EndsSo Told Kept (Some fault) bytes left before after
-ends_writing Told Kept faults.WriteFault bytes left before after writing front = front
-ends_writing Told Kept faults.NoMemory bytes left before after writing front = front_any Kept bytes before after front
-ends_writing Told Kept fault bytes left before after writing front = absurd writing
+pub ends_writing : (says : Saying) (fault : RunFault) (bytes : List ℕ) (left before after : Option (List ℕ)) → IsWritingFault fault → WritesFront says.kept bytes before after
+    → EndsSo says (Some fault) bytes left before after
+ends_writing says faults.WriteFault bytes left before after writing front = front
+ends_writing says faults.NoMemory bytes left before after writing front = short_writing front
+ends_writing says fault bytes left before after writing front = absurd writing
 
 -- where there were no more lines
-pub ends_lines : (Told Kept : Stage → Type 0) (result : Result (Unit {0}) RunFault) (bytes : List ℕ) (left before after : Option (List ℕ)) → IfErr result IsEndFault
-    → OnOk result (Finishes Told bytes left before after) → ((at : ℕ) → result ≡ Err (faults.BadLine at) → StopsAtBad Told bytes at before after)
-    → WritesWhole bytes before after → WritesFront (λ _. Unit {0}) bytes before after → EndsSo Told Kept (result_err result) bytes left before after
-ends_lines Told Kept (Ok done) bytes left before after ending finished bad whole front = finished
-ends_lines Told Kept (Err (faults.BadLine at)) bytes left before after ending finished bad whole front = bad at refl
-ends_lines Told Kept (Err (faults.Device clone)) bytes left before after ending finished bad whole front = whole
-ends_lines Told Kept (Err faults.NoMemory) bytes left before after ending finished bad whole front = front
-ends_lines Told Kept (Err fault) bytes left before after ending finished bad whole front = absurd ending
+pub ends_lines : {B : Type 0} (log : B → Option Log) (given left before now : Option (List ℕ)) (size : ℕ) (running next : RunningStage B) (done : ℕ)
+    → (way : IsUnderWay log given left before now size running done) → (bytes : List ℕ) (rest : Option (List ℕ)) (result : Result (Unit {0}) RunFault) → lines_of bytes ≡ way.lines ++ []
+    → IfErr result IsEndFault → OnOk result (Finishes (StageStands log next) bytes rest before now)
+    → ((at : ℕ) → result ≡ Err (faults.BadLine at) → StopsAtBad (StageStands log next) bytes at before now) → IfErr result (EndsAmid log running (banks_of_stage next) [])
+    → EndsSo (says_by log next) (result_err result) bytes rest before now
+ends_lines log given left before now size running next done way bytes rest (Ok value) whole ending finished bad amid = finished
+ends_lines log given left before now size running next done way bytes rest (Err fault) whole ending finished bad amid =
+    ends_stopped log given left before now size running next done way bytes [] rest fault whole (line_of_end fault ending) (λ at is. bad at (ap (λ (f : RunFault). Err f) is)) amid
+  where
+    line_of_end : (f : RunFault) → IsEndFault f → IsLineFault f
+    line_of_end (faults.Device clone) ending = tt
+    line_of_end (faults.BadLine line) ending = tt
+    line_of_end faults.NoMemory ending = tt
+    line_of_end f ending = absurd ending
 
 -- ---- the faults of its parts are faults of the replay
 

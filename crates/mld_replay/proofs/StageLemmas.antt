@@ -17,7 +17,8 @@ use Rattle.schedule_text.specs.declared.setups.SetupLine.TheVariants as lines
 use Rattle.schedule_model.specs.Schedule.{Setup as ModelSetup, SpellsSetup, SetsProperty, SpellsCommand, IsSetup, single_limit, with_property}
 use Rattle.schedule_text.specs.ReadLines.{setup_of, SetupIs, CommandIs, IsBadCommand}
 use Rattle.net_world.specs.Founding.{StandsFounded}
-use Rattle.world_commands.specs.WorldBanks.{BankedWorld, StandsOnBanks}
+use Rattle.net_world.specs.SettledWorlds.{AllImagesStand, AreBlank, Settles, SettlesFounded}
+use Rattle.world_commands.specs.WorldBanks.{BankedWorld, StandsOnBanks, banks_of}
 use Rattle.mld_replay.specs.BankFaults.{AreWell, all_left}
 use Rattle.mld_replay.specs.Stops.{StopsWith}
 use Rattle.mld_replay.specs.declared.stops.LineStop.TheVariants as stops
@@ -38,14 +39,14 @@ spelled_setup line setup spelled =
 
 -- it is the domain line
 pub set_up : {B : Type 0} (log : B → Option Log) (line : List ℕ) (read : SetupLine) (setup : Setup) (blanks : Vec B Global) (text : List ℕ) → read ≡ lines.Setup setup → SetupIs line None read
-    → text ≡ reply_text (Ready setup.clones) → length blanks.items ≡ clone_count → ActsWell log Waiting line text (stages.SetUp setup blanks)
-set_up log line read setup blanks text is reads writes count =
+    → text ≡ reply_text (Ready setup.clones) → (length blanks.items ≡ clone_count) × AreBlank log blanks.items → ActsWell log Waiting line text (stages.SetUp setup blanks)
+set_up log line read setup blanks text is reads writes blank =
     let P : SetupLine → Type 0 = λ r. SetupIs line None r in
     let spelled = subst P is reads in
     record {
       next = SetUp (setup_of setup);
       acts = sets_up (record { setup = setup_of setup; spells = spelled; replies = writes; changes = refl });
-      stands = (refl, spelled_setup line (setup_of setup) spelled, count);
+      stands = (refl, spelled_setup line (setup_of setup) spelled, blank.0, blank.1);
     }
 
 -- it says nothing, and still none has come
@@ -58,16 +59,17 @@ still_waits {B = B} log line read so_far running is reads stands = let P : Setup
     waits (Some setup) nothing = absurd nothing
 
 -- the banks of a state in which none has come
-pub waiting_count : {B : Type 0} (log : B → Option Log) (state : RunningStage B) (blanks : Vec B Global) → state ≡ stages.Waiting blanks → StageStands log state Waiting → length blanks.items ≡ clone_count
+pub waiting_count : {B : Type 0} (log : B → Option Log) (state : RunningStage B) (blanks : Vec B Global) → state ≡ stages.Waiting blanks → StageStands log state Waiting
+    → (length blanks.items ≡ clone_count) × AreBlank log blanks.items
 waiting_count {B = B} log state blanks is stands = let P : RunningStage B → Type 0 = λ s. StageStands log s Waiting in subst P is stands
 
 -- ---- a line behind the domain line
 
 -- it is a command
 pub commanded : {B : Type 0} (log : B → Option Log) (stage : Stage) (line : List ℕ) (command : Command) (old new : BankedWorld B) (text : List ℕ)
-    → Stepped log old command new [] text
-    → (model : World) → SpellsCommand model.domain line command → IsWorldOf stage model → StandsOnBanks log old model → IsSound model → ActsWell log stage line text (stages.Running new)
-commanded log stage line command old new text stepped model spells founds stands sound =
+    → Stepped log old command new [] text → Settles log old command new → (model : World) → SpellsCommand model.domain line command → IsWorldOf stage model → StandsOnBanks log old model → IsSound model
+    → AllImagesStand log model (banks_of old) → ActsWell log stage line text (stages.Running new)
+commanded log stage line command old new text stepped settles model spells founds stands sound images =
     let follows : FollowsOnBanks log model command stepped.reply new = stepped.follows model stands sound in
     record {
       next = Running follows.next;
@@ -82,7 +84,7 @@ commanded log stage line command old new text stepped model spells founds stands
         replies = stepped.text;
         changes = refl;
       });
-      stands = (follows.stands, follows.sound);
+      stands = (follows.stands, follows.sound, settles model stands sound images stepped.reply follows.next follows.steps follows.sound follows.stands);
     }
 
 -- a line that was read as a command spells it
@@ -90,31 +92,31 @@ pub spells_read : (domain line : List ℕ) (read : Option Command) (command : Co
 spells_read domain line read command is reads = let P : Option Command → Type 0 = λ c. CommandIs domain line c in subst P is reads
 
 -- what is spelled at a stage is spelled in the world that its clones are founded in
-spells_founded : (stage : Stage) (model : World) (line : List ℕ) (command : Command) → IsWorldOf stage model → SpellsAt stage line command → SpellsCommand model.domain line command
+pub spells_founded : (stage : Stage) (model : World) (line : List ℕ) (command : Command) → IsWorldOf stage model → SpellsAt stage line command → SpellsCommand model.domain line command
 spells_founded Waiting model line command founds spells = absurd spells
 spells_founded (SetUp setup) model line command founds spells = subst (λ (world : World). SpellsCommand world.domain line command) (sym founds.is) spells
 spells_founded (Running now) model line command founds spells = subst (λ (world : World). SpellsCommand world.domain line command) (sym founds) spells
 
 -- it is a command, and the clones were just founded
 pub started : {B : Type 0} (log : B → Option Log) (stage : Stage) (line : List ℕ) (command : Command) (old new : BankedWorld B) (text : List ℕ)
-    → SpellsAt stage line command → Stepped log old command new [] text → EndsWell log stage (stages.Running old) → ActsWell log stage line text (stages.Running new)
-started log stage line command old new text spells stepped founded =
-    commanded log stage line command old new text stepped founded.world (spells_founded stage founded.world line command founded.founds spells)
-    founded.founds founded.stands.0 founded.stands.1
+    → SpellsAt stage line command → Stepped log old command new [] text → Settles log old command new → EndsWell log stage (stages.Running old) → ActsWell log stage line text (stages.Running new)
+started log stage line command old new text spells stepped settles founded =
+    commanded log stage line command old new text stepped settles founded.world (spells_founded stage founded.world line command founded.founds spells)
+    founded.founds founded.stands.0 founded.stands.1 founded.stands.2
 
 -- so it is, whatever its step answered
 pub started_all : {B : Type 0} (log : B → Option Log) (result : Result (Unit {0}) LineStop) (state : RunningStage B) (command : Command) (old new : BankedWorld B) (text : List ℕ)
-    → OnOk result (Stepped log old command new [] text) → ((stage : Stage) → StageStands log state stage → EndsWell log stage (stages.Running old))
+    → OnOk result (Stepped log old command new [] text) → OnOk result (Settles log old command new) → ((stage : Stage) → StageStands log state stage → EndsWell log stage (stages.Running old))
     → OnOk result ((stage : Stage) (line : List ℕ) → StageStands log state stage → SpellsAt stage line command → ActsWell log stage line text (stages.Running new))
-started_all log (Ok done) state command old new text stepped founded = λ stage line stands spells. started log stage line command old new text spells stepped (founded stage stands)
-started_all log (Err stop) state command old new text stepped founded = tt
+started_all log (Ok done) state command old new text stepped settles founded = λ stage line stands spells. started log stage line command old new text spells stepped settles (founded stage stands)
+started_all log (Err stop) state command old new text stepped settles founded = tt
 
 pub commanded_all : {B : Type 0} (log : B → Option Log) (result : Result (Unit {0}) LineStop) (domain line : List ℕ) (command : Command) (old new : BankedWorld B) (text : List ℕ)
-    → domain ≡ old.domain → SpellsCommand domain line command → OnOk result (Stepped log old command new [] text)
-    → OnOk result ((model : World) → StandsOnBanks log old model → IsSound model → ActsWell log (Running model) line text (stages.Running new))
-commanded_all log (Ok done) domain line command old new text same spells stepped = λ model stands sound.
-    commanded log (Running model) line command old new text stepped model (subst (λ (d : List ℕ). SpellsCommand d line command) (same ∙ stands.memory.domain) spells) refl stands sound
-commanded_all log (Err stop) domain line command old new text same spells stepped = tt
+    → domain ≡ old.domain → SpellsCommand domain line command → OnOk result (Stepped log old command new [] text) → OnOk result (Settles log old command new)
+    → OnOk result ((model : World) → StageStands log (stages.Running old) (Running model) → ActsWell log (Running model) line text (stages.Running new))
+commanded_all log (Ok done) domain line command old new text same spells stepped settles = λ model stands.
+    commanded log (Running model) line command old new text stepped settles model (subst (λ (d : List ℕ). SpellsCommand d line command) (same ∙ stands.0.memory.domain) spells) refl stands.0 stands.1 stands.2
+commanded_all log (Err stop) domain line command old new text same spells stepped settles = tt
 
 -- a line that is bad in its domain is bad at the stage
 pub bad_running : {B : Type 0} (log : B → Option Log) (running : BankedWorld B) (domain line : List ℕ) → domain ≡ running.domain → IsBadCommand domain line
@@ -136,7 +138,17 @@ nothing_said log stage domain line read running is reads stands =
 
 -- ---- the stage that a state stands for
 
--- while the domain is set up
+-- while the domain is set up, on blank banks
+pub blank_stage : {B : Type 0} (log : B → Option Log) (P : Stage → Type 0) (state : RunningStage B) (setup : Setup) (blanks : Vec B Global) → state ≡ stages.SetUp setup blanks
+    → (AreBlank log blanks.items → P (SetUp (setup_of setup))) → (stage : Stage) → StageStands log state stage → P stage
+blank_stage {B = B} log P state setup blanks is h stage stands = let Q : RunningStage B → Type 0 = λ s. StageStands log s stage in at stage (subst Q is stands)
+  where
+    at : (stage : Stage) → StageStands log (stages.SetUp setup blanks) stage → P stage
+    at Waiting stands = absurd stands
+    at (SetUp model) stands = subst (λ s. P (SetUp s)) stands.0 (h stands.3)
+    at (Running world) stands = absurd stands
+
+-- and so is the setup one by which clones may be founded
 pub set_up_stage : {B : Type 0} (log : B → Option Log) (P : Stage → Type 0) (state : RunningStage B) (setup : Setup) (blanks : Vec B Global) → state ≡ stages.SetUp setup blanks
     → (IsSetup (setup_of setup) → P (SetUp (setup_of setup))) → (stage : Stage) → StageStands log state stage → P stage
 set_up_stage {B = B} log P state setup blanks is h stage stands = let Q : RunningStage B → Type 0 = λ s. StageStands log s stage in at stage (subst Q is stands)
@@ -153,7 +165,7 @@ bad_here {B = B} log state setup blanks domain line is same none bad =
     set_up_stage log (λ stage. IsBad stage line) state setup blanks is (λ may. bad_set_up setup domain line same (subst (λ (s : RunningStage B). GetsNone line s) is none) bad)
 
 -- what is spelled in the domain that is set up is spelled at that stage
-spells_set_up : {B : Type 0} (log : B → Option Log) (state : RunningStage B) (setup : Setup) (blanks : Vec B Global) (domain line : List ℕ) (command : Command) → state ≡ stages.SetUp setup blanks
+pub spells_set_up : {B : Type 0} (log : B → Option Log) (state : RunningStage B) (setup : Setup) (blanks : Vec B Global) (domain line : List ℕ) (command : Command) → state ≡ stages.SetUp setup blanks
     → domain ≡ setup.domain → SpellsCommand domain line command → (stage : Stage) → StageStands log state stage → SpellsAt stage line command
 spells_set_up log state setup blanks domain line command is same spells =
     set_up_stage log (λ stage. SpellsAt stage line command) state setup blanks is (λ may. subst (λ (d : List ℕ). SpellsCommand d line command) same spells)
@@ -201,6 +213,16 @@ running_stage {B = B} log P state running is h stage stands = let Q : RunningSta
     at (SetUp model) stands = absurd stands
     at (Running model) stands = h model stands.0 stands.1
 
+-- so it is of what stands for it, whole
+pub running_whole : {B : Type 0} (log : B → Option Log) (P : Stage → Type 0) (state : RunningStage B) (running : BankedWorld B) → state ≡ stages.Running running
+    → ((model : World) → StageStands log (stages.Running running) (Running model) → P (Running model)) → (stage : Stage) → StageStands log state stage → P stage
+running_whole {B = B} log P state running is h stage stands = let Q : RunningStage B → Type 0 = λ s. StageStands log s stage in at stage (subst Q is stands)
+  where
+    at : (stage : Stage) → StageStands log (stages.Running running) stage → P stage
+    at Waiting stands = absurd stands
+    at (SetUp model) stands = absurd stands
+    at (Running model) stands = h model stands
+
 -- a state that is over stands for none
 pub over_stage : {B : Type 0} (log : B → Option Log) (state : RunningStage B) (banks : Vec B Global) → state ≡ stages.Over banks → IsStandingStage log state → ⊥
 over_stage {B = B} log state banks is standing = let Q : RunningStage B → Type 0 = λ s. StageStands log s standing.stage in subst Q is standing.stands
@@ -222,7 +244,12 @@ set_at {B = B} log setup next blanks others line text is same writes (SetUp mode
     record {
       next = SetUp (with_property model is.0);
       acts = sets_property (record { property = is.0; sets = sets; replies = writes; changes = refl });
-      stands = (is.2 ∙ ap (λ (s : ModelSetup). with_property s is.0) stands.0, one_more model line is.0 sets stands.1, ap (λ (b : Vec B Global). length b.items) same ∙ stands.2);
+      stands = (
+        is.2 ∙ ap (λ (s : ModelSetup). with_property s is.0) stands.0,
+        one_more model line is.0 sets stands.1,
+        ap (λ (b : Vec B Global). length b.items) same ∙ stands.2,
+        subst (λ (b : Vec B Global). AreBlank log b.items) (sym same) stands.3,
+      );
     }
 set_at log setup next blanks others line text is same writes (Running world) stands = absurd stands
 
@@ -273,11 +300,11 @@ acted_same {B = B} log result old same new line text is =
 -- ---- the end of the lines
 
 -- the clones are founded there, where no command did
-pub founded_end : {B : Type 0} (log : B → Option Log) (setup : Setup) (running : BankedWorld B) → StandsFounded log (setup_of setup) running
-    → EndsWell log (SetUp (setup_of setup)) (stages.Running running)
-founded_end log setup running stands =
+pub founded_end : {B : Type 0} (log : B → Option Log) (setup : Setup) (running : BankedWorld B) (blanks : List B) → StandsFounded log (setup_of setup) running → SettlesFounded log blanks running
+    → AreBlank log blanks → EndsWell log (SetUp (setup_of setup)) (stages.Running running)
+founded_end log setup running blanks stands settles blank =
     let sound : IsSound stands.world = subst (λ (world : World). IsSound world) (sym stands.founds.is) (founded_sound setup.domain stands.founds.kept setup.clones) in
-    record { world = stands.world; founds = stands.founds; stands = (stands.stands, sound) }
+    record { world = stands.world; founds = stands.founds; stands = (stands.stands, sound, settles blank stands.world stands.stands) }
 
 -- ---- what becomes of the banks, where the clones were founded before
 

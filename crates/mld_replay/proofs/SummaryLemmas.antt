@@ -3,8 +3,7 @@ use Rattle.std.specs.Prelude.{Result, Ok, Err, IfErr, IfSome, IsTrue}
 use Rattle.std.specs.Result.{result_err}
 use Rattle.std.specs.Io.KnownBytes.{Appends}
 use Rattle.std.proofs.lemmas.Bool.{cases_lt}
-use Rattle.std.proofs.lemmas.List.{take_all}
-use Rattle.std.proofs.Common.{◌≡◌, ◌≢◌, ◌∙◌, ◌+◌, arith, inl, inr, ap, ℕ, List, [], sym, subst, refl, length, take, append-nil, Option, Some, None}
+use Rattle.std.proofs.Common.{◌≡◌, ◌≢◌, ◌∙◌, ◌+◌, arith, inl, inr, ap, ℕ, List, [], sym, subst, refl, append-nil, Option, Some, None}
 use Rattle.mld_io.specs.Arm.{Meter}
 use Rattle.mld_io.specs.Disk.{Log}
 use Rattle.mld_io.specs.Lines.{lines_of}
@@ -15,16 +14,16 @@ use Rattle.schedule_model.proofs.RunsLaws.{one_kind_of_verdict}
 use Rattle.mld_replay.specs.BankFaults.{AreWell, none_left, BringsBack}
 use Rattle.mld_replay.specs.Filled.{IsFirstFilled, EndsBefore, LogsStay, HeedsFilled}
 use Rattle.mld_replay.specs.Looking.{AreEmpty, StopsLooking, StopsBlanking}
-use Rattle.mld_replay.specs.Ran.{Finishes, StopsAtBad, StopsAtLarge, BreaksOff, WritesFront, EndsSo, Agrees, EndsAs, LeavesAlone, AreUntouched, HasNotBegun, CountsReads, CountsWrites, tells}
-use Rattle.mld_replay.specs.Replaying.{EndsBy, IsReplayFault}
+use Rattle.mld_replay.specs.Ran.{Finishes, StopsAtBad, StopsAtLarge, BreaksOff, WritesSome, Saying, FailsSo, fails_before, fails_amid, RunsShort, short_before, short_amid, short_writing, short_of_banks, EndsSo, says_of, Agrees, LeavesAlone, AreUntouched, HasNotBegun, CountsReads, CountsWrites, tells}
+use Rattle.mld_replay.specs.BanksLeft.{AreLeftAmid}
+use Rattle.mld_replay.specs.Replaying.{EndsBy, says_by, IsReplayFault}
 use Rattle.mld_replay.specs.Stages.{StageStands, banks_of_stage}
-use Rattle.mld_replay.specs.KeptBanks.{BanksKeep}
 use Rattle.mld_replay.specs.declared.stages.Stage.{Stage as RunningStage}
 use Rattle.mld_replay.specs.declared.run.Ran.{Ran}
 use Rattle.mld_replay.specs.declared.run.RunFault.{RunFault}
 use Rattle.mld_replay.specs.declared.run.RunFault.TheVariants as faults
 use Rattle.mld_replay.proofs.MeterLemmas.{back_later}
-use Rattle.mld_replay.proofs.RunLemmas.{front_first, front_as, front_any, whole_first}
+use Rattle.mld_replay.proofs.RunLemmas.{front_as, whole_as, whole_any, whole_first}
 
 -- ---- an end of a run says the same of what is told and kept as of the state
 
@@ -74,82 +73,91 @@ breaks_as P Q bytes left before now holds ends = record {
   holds = holds ends.stage ends.holds;
 }
 
--- what is told and kept at an end, whatever the fault is
-ends_as : (P Told Kept : Stage → Type 0) (fault : Option RunFault) (bytes : List ℕ) (left before now : Option (List ℕ)) → (IsTrue (tells fault) → (stage : Stage) → P stage → Told stage)
-    → ((stage : Stage) → P stage → Kept stage) → EndsSo P P fault bytes left before now → EndsSo Told Kept fault bytes left before now
-ends_as P Told Kept None bytes left before now told kept ends = finishes_as P Told bytes left before now (told refl) ends
-ends_as P Told Kept (Some faults.Usage) bytes left before now told kept ends = ends
-ends_as P Told Kept (Some faults.ReadFault) bytes left before now told kept ends = breaks_as P Told bytes left before now (told refl) ends
-ends_as P Told Kept (Some faults.WriteFault) bytes left before now told kept ends = front_as P Kept bytes before now kept ends
-ends_as P Told Kept (Some (faults.BadLine line)) bytes left before now told kept ends = bad_as P Told bytes line before now (told refl) ends
-ends_as P Told Kept (Some faults.NoMemory) bytes left before now told kept ends = ends
-ends_as P Told Kept (Some (faults.Device clone)) bytes left before now told kept ends = ends
-ends_as P Told Kept (Some (faults.TooLarge line)) bytes left before now told kept ends = large_as P Told bytes line before now (told refl) ends
-ends_as P Told Kept (Some (faults.NotEmpty clone)) bytes left before now told kept ends = ends
+-- what is said at an end, whatever the fault is
+module _ {B : Type 0} (log : B → Option Log) (running : RunningStage B) (says : Saying) (kept : (stage : Stage) → StageStands log running stage → says.kept stage)
+    (amid : (stage : Stage) (rest : List (List ℕ)) → AreLeftAmid log (banks_of_stage running) stage rest → says.left stage rest) (none : banks_of_stage running ≡ [] → says.none)
+    (bytes : List ℕ) (left before now : Option (List ℕ)) where
+  fails_as : FailsSo (says_by log running) bytes left before now → FailsSo says bytes left before now
+  fails_as (fails_before begun same) = absurd same
+  fails_as (fails_amid whole) = fails_amid (whole_as (AreLeftAmid log (banks_of_stage running)) says.left bytes before now amid whole)
 
--- ---- at each end a front of the text of a run was written
+  short_as : RunsShort (says_by log running) bytes left before now → RunsShort says bytes left before now
+  short_as (short_before begun same) = absurd same
+  short_as (short_amid whole) = short_amid (whole_as (AreLeftAmid log (banks_of_stage running)) says.left bytes before now amid whole)
+  short_as (short_writing front) = short_writing (front_as (StageStands log running) says.kept bytes before now kept front)
+  short_as (short_of_banks gone some) = short_of_banks (none gone) some
 
--- the whole text is a front of itself
-all_written : (before after : Option (List ℕ)) (text : List ℕ) → Appends before after text → Appends before after (take (length text) text)
-all_written before after text written = subst (λ (t : List ℕ). Appends before after t) (sym (take_all (length text) text (omega arith))) written
+  ends_as : (fault : Option RunFault) → (IsTrue (tells fault) → (stage : Stage) → StageStands log running stage → says.told stage) → EndsSo (says_by log running) fault bytes left before now
+      → EndsSo says fault bytes left before now
+  ends_as None told ends = finishes_as (StageStands log running) says.told bytes left before now (told refl) ends
+  ends_as (Some faults.Usage) told ends = ends
+  ends_as (Some faults.ReadFault) told ends = breaks_as (StageStands log running) says.told bytes left before now (told refl) ends
+  ends_as (Some faults.WriteFault) told ends = front_as (StageStands log running) says.kept bytes before now kept ends
+  ends_as (Some (faults.BadLine line)) told ends = bad_as (StageStands log running) says.told bytes line before now (told refl) ends
+  ends_as (Some faults.NoMemory) told ends = short_as ends
+  ends_as (Some (faults.Device clone)) told ends = fails_as ends
+  ends_as (Some (faults.TooLarge line)) told ends = large_as (StageStands log running) says.told bytes line before now (told refl) ends
+  ends_as (Some (faults.NotEmpty clone)) told ends = ends
+
+-- ---- at each end the text of a run was written, and a front of one reply more at most
 
 -- it is the text of the lines before a line
-front_before : (bytes : List ℕ) (number : ℕ) (text : List ℕ) (stage : Stage) (before after : Option (List ℕ)) → RunsBefore (lines_of bytes) number text stage → Appends before after text
-    → WritesFront (λ _. Unit {0}) bytes before after
-front_before bytes number text stage before after runs written =
-    record { lines = runs.front; rest = runs.rest; whole = runs.whole; text = text; stage = stage; runs = runs.runs; size = length text; written = all_written before after text written; holds = tt }
+some_before : (bytes : List ℕ) (number : ℕ) (text : List ℕ) (stage : Stage) (before after : Option (List ℕ)) → RunsBefore (lines_of bytes) number text stage → Appends before after text
+    → WritesSome bytes before after
+some_before bytes number text stage before after runs written =
+    inl (record { lines = runs.front; rest = runs.rest; whole = runs.whole; text = text; stage = stage; runs = runs.runs; written = written; holds = tt })
 
 -- or of all lines
-front_all : (bytes text : List ℕ) (world : World) (before after : Option (List ℕ)) → Verdict (lines_of bytes) (Finished text world) → Appends before after text → WritesFront (λ _. Unit {0}) bytes before after
+some_all : (bytes text : List ℕ) (world : World) (before after : Option (List ℕ)) → Verdict (lines_of bytes) (Finished text world) → Appends before after text → WritesSome bytes before after
 unfolding Verdict
-front_all bytes text world before after verdict written = record {
-  lines = lines_of bytes;
-  rest = [];
-  whole = sym (append-nil (lines_of bytes));
-  text = text;
-  stage = verdict.0;
-  runs = verdict.1;
-  size = length text;
-  written = all_written before after text written;
-  holds = tt;
-}
+some_all bytes text world before after verdict written =
+    inl (record { lines = lines_of bytes; rest = []; whole = sym (append-nil (lines_of bytes)); text = text; stage = verdict.0; runs = verdict.1; written = written; holds = tt })
 
 -- or of those before the first that is bad
 
-front_bad : (bytes : List ℕ) (number : ℕ) (text : List ℕ) (stage : Stage) (before after : Option (List ℕ)) → Verdict (lines_of bytes) (BadLine number text stage) → Appends before after text
-    → WritesFront (λ _. Unit {0}) bytes before after
+some_bad : (bytes : List ℕ) (number : ℕ) (text : List ℕ) (stage : Stage) (before after : Option (List ℕ)) → Verdict (lines_of bytes) (BadLine number text stage) → Appends before after text
+    → WritesSome bytes before after
 unfolding Verdict
-front_bad bytes number text stage before after verdict written = front_before bytes number text stage before after verdict.before written
+some_bad bytes number text stage before after verdict written = some_before bytes number text stage before after verdict.before written
 
 -- or nothing was written
-front_none : (bytes : List ℕ) (before after : Option (List ℕ)) → after ≡ before → WritesFront (λ _. Unit {0}) bytes before after
-front_none bytes before after none = subst (λ (o : Option (List ℕ)). WritesFront (λ _. Unit {0}) bytes before o) (sym none) (front_first before bytes)
+some_none : (bytes : List ℕ) (before after : Option (List ℕ)) → after ≡ before → WritesSome bytes before after
+some_none bytes before after none =
+    subst (λ (o : Option (List ℕ)). WritesSome bytes before o) (sym none) (inl (whole_first (λ stage rest. Unit {0}) before bytes tt))
 
-front_of_end : (Told Kept : Stage → Type 0) (fault : Option RunFault) (bytes : List ℕ) (left before now : Option (List ℕ)) → EndsSo Told Kept fault bytes left before now
-    → WritesFront (λ _. Unit {0}) bytes before now
-front_of_end Told Kept None bytes left before now ends = front_all bytes ends.text ends.world before now ends.verdict ends.written
-front_of_end Told Kept (Some faults.Usage) bytes left before now ends = front_none bytes before now ends.none_written
-front_of_end Told Kept (Some faults.ReadFault) bytes left before now ends = front_before bytes (ends.lines + 1) ends.text ends.stage before now ends.done ends.written
-front_of_end Told Kept (Some faults.WriteFault) bytes left before now ends = front_any Kept bytes before now ends
-front_of_end Told Kept (Some (faults.BadLine line)) bytes left before now ends = front_bad bytes line ends.text ends.stage before now ends.verdict ends.written
-front_of_end Told Kept (Some faults.NoMemory) bytes left before now ends = ends
-front_of_end Told Kept (Some (faults.Device clone)) bytes left before now ends =
-    record { lines = ends.lines; rest = ends.rest; whole = ends.whole; text = ends.text; stage = ends.stage; runs = ends.runs; size = length ends.text; written = all_written before now ends.text ends.written; holds = tt }
-front_of_end Told Kept (Some (faults.TooLarge line)) bytes left before now ends = front_before bytes line ends.text ends.stage before now ends.done ends.written
-front_of_end Told Kept (Some (faults.NotEmpty clone)) bytes left before now ends = front_none bytes before now ends.none_written
+some_failed : (says : Saying) (bytes : List ℕ) (left before now : Option (List ℕ)) → FailsSo says bytes left before now → WritesSome bytes before now
+some_failed says bytes left before now (fails_before begun same) = some_none bytes before now begun.none_written
+some_failed says bytes left before now (fails_amid whole) = inl (whole_any says.left bytes before now whole)
+
+some_short : (says : Saying) (bytes : List ℕ) (left before now : Option (List ℕ)) → RunsShort says bytes left before now → WritesSome bytes before now
+some_short says bytes left before now (short_before begun same) = some_none bytes before now begun.none_written
+some_short says bytes left before now (short_amid whole) = inl (whole_any says.left bytes before now whole)
+some_short says bytes left before now (short_writing front) = inr (front_as says.kept (λ stage. Unit {0}) bytes before now (λ stage holds. tt) front)
+some_short says bytes left before now (short_of_banks none some) = some
+
+some_of_end : (says : Saying) (fault : Option RunFault) (bytes : List ℕ) (left before now : Option (List ℕ)) → EndsSo says fault bytes left before now → WritesSome bytes before now
+some_of_end says None bytes left before now ends = some_all bytes ends.text ends.world before now ends.verdict ends.written
+some_of_end says (Some faults.Usage) bytes left before now ends = some_none bytes before now ends.none_written
+some_of_end says (Some faults.ReadFault) bytes left before now ends = some_before bytes (ends.lines + 1) ends.text ends.stage before now ends.done ends.written
+some_of_end says (Some faults.WriteFault) bytes left before now ends = inr (front_as says.kept (λ stage. Unit {0}) bytes before now (λ stage holds. tt) ends)
+some_of_end says (Some (faults.BadLine line)) bytes left before now ends = some_bad bytes line ends.text ends.stage before now ends.verdict ends.written
+some_of_end says (Some faults.NoMemory) bytes left before now ends = some_short says bytes left before now ends
+some_of_end says (Some (faults.Device clone)) bytes left before now ends = some_failed says bytes left before now ends
+some_of_end says (Some (faults.TooLarge line)) bytes left before now ends = some_before bytes line ends.text ends.stage before now ends.done ends.written
+some_of_end says (Some (faults.NotEmpty clone)) bytes left before now ends = some_none bytes before now ends.none_written
 
 -- ---- the clauses of the run, where it came to the replay
 
 module _ {B : Type 0} (log : B → Option Log) (fault : Option RunFault) (running : RunningStage B) (ran : Ran B) where
-  pub ends_by : (bytes : List ℕ) (left before now : Option (List ℕ)) → EndsBy log fault running ran → EndsSo (StageStands log running) (StageStands log running) fault bytes left before now
-      → EndsSo (EndsAs log ran) (BanksKeep log ran.banks.items) ran.fault bytes left before now
-  ends_by bytes left before now (inl whole) ends =
-      subst (λ (f : Option RunFault). EndsSo (EndsAs log ran) (BanksKeep log ran.banks.items) f bytes left before now) (sym whole.fault_is)
-      (ends_as (StageStands log running) (EndsAs log ran) (BanksKeep log ran.banks.items) fault bytes left before now
-      (λ has stage stands. record { told = whole.told has stage stands; kept = whole.kept stage stands }) whole.kept ends)
-  ends_by bytes left before now (inr short) ends =
-      subst (λ (f : Option RunFault). EndsSo (EndsAs log ran) (BanksKeep log ran.banks.items) f bytes left before now) (sym short.fault_is)
-      (front_of_end (StageStands log running) (StageStands log running) fault bytes left before now ends)
+  pub ends_by : (given : List B) (bytes : List ℕ) (left before now : Option (List ℕ)) → EndsBy log fault running ran → EndsSo (says_by log running) fault bytes left before now
+      → EndsSo (says_of log given ran) ran.fault bytes left before now
+  ends_by given bytes left before now (inl whole) ends =
+      subst (λ (f : Option RunFault). EndsSo (says_of log given ran) f bytes left before now) (sym whole.fault_is)
+      (ends_as log running (says_of log given ran) whole.kept (λ stage rest amid. subst (λ (l : List B). AreLeftAmid log l stage rest) (sym whole.banks_are) amid) (λ none. whole.banks_are ∙ none)
+      bytes left before now fault (λ has stage stands. record { told = whole.told has stage stands; kept = whole.kept stage stands }) ends)
+  ends_by given bytes left before now (inr short) ends =
+      subst (λ (f : Option RunFault). EndsSo (says_of log given ran) f bytes left before now) (sym short.fault_is)
+      (short_of_banks short.banks_are (some_of_end (says_by log running) fault bytes left before now ends))
 
   -- the meters of the banks go on
   pub back_by : (meter : B → Meter) (banks blanks : List B) → EndsBy log fault running ran → AreWell meter banks blanks → BringsBack meter blanks (banks_of_stage running) fault
@@ -196,19 +204,19 @@ agrees_at_bad line text stage (Finished other world) alike = absurd alike
 agrees_at_bad line text stage (BadLine number other second) alike = alike
 
 -- the run agrees with each verdict, by whichever choices
-pub agrees_so : (Told Kept : Stage → Type 0) (fault : Option RunFault) (bytes : List ℕ) (left before now : Option (List ℕ)) → EndsSo Told Kept fault bytes left before now
+pub agrees_so : (says : Saying) (fault : Option RunFault) (bytes : List ℕ) (left before now : Option (List ℕ)) → EndsSo says fault bytes left before now
     → fault ≢ Some faults.Usage → (outcome : Outcome) → Verdict (lines_of bytes) outcome → Agrees fault outcome
-agrees_so Told Kept None bytes left before now ends usage outcome verdict =
+agrees_so says None bytes left before now ends usage outcome verdict =
     agrees_at_end ends.text ends.world outcome (one_kind_of_verdict (lines_of bytes) (Finished ends.text ends.world) outcome ends.verdict verdict)
-agrees_so Told Kept (Some faults.Usage) bytes left before now ends usage outcome verdict = absurd (usage refl)
-agrees_so Told Kept (Some (faults.BadLine line)) bytes left before now ends usage outcome verdict =
+agrees_so says (Some faults.Usage) bytes left before now ends usage outcome verdict = absurd (usage refl)
+agrees_so says (Some (faults.BadLine line)) bytes left before now ends usage outcome verdict =
     agrees_at_bad line ends.text ends.stage outcome (one_kind_of_verdict (lines_of bytes) (BadLine line ends.text ends.stage) outcome ends.verdict verdict)
-agrees_so Told Kept (Some faults.ReadFault) bytes left before now ends usage outcome verdict = tt
-agrees_so Told Kept (Some faults.WriteFault) bytes left before now ends usage outcome verdict = tt
-agrees_so Told Kept (Some faults.NoMemory) bytes left before now ends usage outcome verdict = tt
-agrees_so Told Kept (Some (faults.Device clone)) bytes left before now ends usage outcome verdict = tt
-agrees_so Told Kept (Some (faults.TooLarge line)) bytes left before now ends usage outcome verdict = tt
-agrees_so Told Kept (Some (faults.NotEmpty clone)) bytes left before now ends usage outcome verdict = tt
+agrees_so says (Some faults.ReadFault) bytes left before now ends usage outcome verdict = tt
+agrees_so says (Some faults.WriteFault) bytes left before now ends usage outcome verdict = tt
+agrees_so says (Some faults.NoMemory) bytes left before now ends usage outcome verdict = tt
+agrees_so says (Some (faults.Device clone)) bytes left before now ends usage outcome verdict = tt
+agrees_so says (Some (faults.TooLarge line)) bytes left before now ends usage outcome verdict = tt
+agrees_so says (Some (faults.NotEmpty clone)) bytes left before now ends usage outcome verdict = tt
 
 -- ---- where it did not come to the replay
 
@@ -237,14 +245,14 @@ blanking_fault meter banks back faults.NoMemory stops = tt
 blanking_fault meter banks back fault stops = absurd stops
 
 module _ (fault : RunFault) (banks : IsBankFault fault) where
-  pub bank_ends : (Told Kept : Stage → Type 0) (of : Option RunFault) (given before : Option (List ℕ)) (bytes : List ℕ) → of ≡ Some fault → given ≡ Some bytes
-      → EndsSo Told Kept of bytes given before before
-  bank_ends Told Kept of given before bytes is told = subst (λ (f : Option RunFault). EndsSo Told Kept f bytes given before before) (sym is) (at fault banks)
+  pub bank_ends : (says : Saying) (of : Option RunFault) (given before : Option (List ℕ)) (bytes : List ℕ) → of ≡ Some fault → given ≡ Some bytes → says.same
+      → EndsSo says of bytes given before before
+  bank_ends says of given before bytes is told same = subst (λ (f : Option RunFault). EndsSo says f bytes given before before) (sym is) (at fault banks)
     where
-      at : (fault : RunFault) → IsBankFault fault → EndsSo Told Kept (Some fault) bytes given before before
+      at : (fault : RunFault) → IsBankFault fault → EndsSo says (Some fault) bytes given before before
       at (faults.NotEmpty clone) banks = not_begun bytes given before told
-      at (faults.Device clone) banks = whole_first before bytes
-      at faults.NoMemory banks = front_first before bytes
+      at (faults.Device clone) banks = fails_before (not_begun bytes given before told) same
+      at faults.NoMemory banks = short_before (not_begun bytes given before told) same
       at fault banks = absurd banks
 
   pub bank_alone : (Untouched SameBanks : Type 0) → Untouched → LeavesAlone (Some fault) Untouched SameBanks

@@ -2,6 +2,7 @@ pub mod RunSummaries
 pub mod TooLarge
 pub mod Stages
 pub mod KeptBanks
+pub mod BanksLeft
 pub mod Ran
 pub mod Replaying
 pub mod UnderWay

@@ -1,15 +1,16 @@
 -- How a run ends, and what it has written then.
-use Rattle.std.specs.Prelude.{◌≡◌, ℕ, ◌+◌, ◌<◌, List, [], ◌∷◌, ◌++◌, take, Bool, true, false, Option, None, Some, codes}
+use Rattle.std.specs.Prelude.{◌≡◌, ◌⊎◌, ℕ, ◌+◌, ◌<◌, List, [], ◌∷◌, ◌++◌, Bool, true, false, Option, None, Some, codes}
 use Rattle.std.specs.Io.KnownBytes.{Appends}
 use Rattle.mld_io.specs.Faults.{Rose}
 use Rattle.mld_io.specs.Lines.{lines_of, ended_lines, IsCutShort}
 use Rattle.mld_replay.specs.TooLarge.{left_after, IsTooLargeLine}
 use Rattle.mld_model.specs.World.{World}
-use Rattle.schedule_model.specs.Runs.{Stage, Waiting, Running, Runs, RunsBefore, Outcome, Finished, BadLine, Verdict}
+use Rattle.schedule_model.specs.Runs.{Stage, Waiting, Running, Acts, Runs, RunsBefore, Outcome, Finished, BadLine, Verdict}
 use Rattle.schedule_model.specs.Promises.{KeepsPromises}
 use Rattle.mld_io.specs.Disk.{Log}
 use Rattle.mld_replay.specs.RunSummaries.{TellsOf}
 use Rattle.mld_replay.specs.KeptBanks.{BanksKeep}
+use Rattle.mld_replay.specs.BanksLeft.{AreLeftAmid, LeaveNoMore}
 use Rattle.mld_replay.specs.declared.run.Ran.{Ran}
 use Rattle.mld_replay.specs.declared.run.RunFault.{RunFault}
 use Rattle.mld_replay.specs.declared.run.RunFault.TheVariants as faults
@@ -84,20 +85,28 @@ pub record BreaksOff (P : Stage → Type 0) (bytes : List ℕ) (left before afte
   pub written : Appends before after text
   pub holds : P stage
 
--- what was written is a front of the text of a run over the first lines of these bytes, and this holds of the stage that they led to
+-- the reply to a line could not be written: the text of the lines before it was, and a front of its own reply; and this holds of the stage that it
+-- led to
 pub record WritesFront (P : Stage → Type 0) (bytes : List ℕ) (before after : Option (List ℕ)) : Type 0 where
   pub lines : List (List ℕ)
+  pub line : List ℕ
   pub rest : List (List ℕ)
-  pub whole : lines_of bytes ≡ lines ++ rest
+  pub whole : lines_of bytes ≡ lines ++ line ∷ rest
   pub text : List ℕ
   pub stage : Stage
   pub runs : Runs Waiting lines text stage
-  pub size : ℕ
-  pub written : Appends before after (take size text)
-  pub holds : P stage
+  pub reply : List ℕ
+  pub next : Stage
+  pub acts : Acts stage line reply next
+  pub front : List ℕ
+  pub behind : List ℕ
+  pub of_reply : front ++ behind ≡ reply
+  pub written : Appends before after (text ++ front)
+  pub holds : P next
 
--- what was written is the whole text of a run over the first lines of these bytes
-pub record WritesWhole (bytes : List ℕ) (before after : Option (List ℕ)) : Type 0 where
+-- what was written is the whole text of a run over the first lines of these bytes, and this holds of the stage that they led to, and of the lines
+-- still to come
+pub record WritesWhole (P : Stage → List (List ℕ) → Type 0) (bytes : List ℕ) (before after : Option (List ℕ)) : Type 0 where
   pub lines : List (List ℕ)
   pub rest : List (List ℕ)
   pub whole : lines_of bytes ≡ lines ++ rest
@@ -105,24 +114,53 @@ pub record WritesWhole (bytes : List ℕ) (before after : Option (List ℕ)) : T
   pub stage : Stage
   pub runs : Runs Waiting lines text stage
   pub written : Appends before after text
+  pub holds : P stage rest
+
+-- one or the other, whatever holds
+abbrev pub WritesSome : List ℕ → Option (List ℕ) → Option (List ℕ) → Type 0
+WritesSome bytes before after = WritesWhole (λ stage rest. Unit {0}) bytes before after ⊎ WritesFront (λ stage. Unit {0}) bytes before after
 
 -- none of these bytes was read, and nothing was written
 pub record HasNotBegun (bytes : List ℕ) (left before after : Option (List ℕ)) : Type 0 where
   pub all_left : left ≡ Some bytes
   pub none_written : after ≡ before
 
--- How a run over these bytes ended, by its fault: what it did, what it left of them and what it wrote. `Told` is what is to hold of the
--- stage that it came to where it tells of its world, and `Kept` where only its banks tell of that.
-abbrev pub EndsSo : (Told Kept : Stage → Type 0) → Option RunFault → List ℕ → Option (List ℕ) → Option (List ℕ) → Option (List ℕ) → Type 0
-EndsSo Told Kept None bytes left before after = Finishes Told bytes left before after
-EndsSo Told Kept (Some faults.Usage) bytes left before after = HasNotBegun bytes left before after
-EndsSo Told Kept (Some faults.ReadFault) bytes left before after = BreaksOff Told bytes left before after
-EndsSo Told Kept (Some faults.WriteFault) bytes left before after = WritesFront Kept bytes before after
-EndsSo Told Kept (Some (faults.BadLine line)) bytes left before after = StopsAtBad Told bytes line before after
-EndsSo Told Kept (Some faults.NoMemory) bytes left before after = WritesFront (λ _. Unit {0}) bytes before after
-EndsSo Told Kept (Some (faults.Device clone)) bytes left before after = WritesWhole bytes before after
-EndsSo Told Kept (Some (faults.TooLarge line)) bytes left before after = StopsAtLarge Told bytes line before after
-EndsSo Told Kept (Some (faults.NotEmpty clone)) bytes left before after = HasNotBegun bytes left before after
+-- what is said of the world and the banks at the end of a run, by how far it came
+pub record Saying : Type 1 where
+  -- of the stage that it came to, where it tells of its world
+  pub told : Stage → Type 0
+  -- of that stage, where only its banks tell of it
+  pub kept : Stage → Type 0
+  -- of the stage that the lines done led to, and the lines still to come, where it stopped in the middle of the next line
+  pub left : Stage → List (List ℕ) → Type 0
+  -- where no line was begun
+  pub same : Type 0
+  -- where no banks come back
+  pub none : Type 0
+
+-- a device failed: before the first line, or in the middle of a line or of the end
+pub data FailsSo (says : Saying) (bytes : List ℕ) (left before after : Option (List ℕ)) : Type 0 where
+  fails_before : HasNotBegun bytes left before after → says.same → FailsSo says bytes left before after
+  fails_amid : WritesWhole says.left bytes before after → FailsSo says bytes left before after
+
+-- memory ran out: so too, or while a reply was written; or no banks come back
+pub data RunsShort (says : Saying) (bytes : List ℕ) (left before after : Option (List ℕ)) : Type 0 where
+  short_before : HasNotBegun bytes left before after → says.same → RunsShort says bytes left before after
+  short_amid : WritesWhole says.left bytes before after → RunsShort says bytes left before after
+  short_writing : WritesFront says.kept bytes before after → RunsShort says bytes left before after
+  short_of_banks : says.none → WritesSome bytes before after → RunsShort says bytes left before after
+
+-- How a run over these bytes ended, by its fault: what it did, what it left of them, what it wrote, and what is said then.
+abbrev pub EndsSo : Saying → Option RunFault → List ℕ → Option (List ℕ) → Option (List ℕ) → Option (List ℕ) → Type 0
+EndsSo says None bytes left before after = Finishes says.told bytes left before after
+EndsSo says (Some faults.Usage) bytes left before after = HasNotBegun bytes left before after
+EndsSo says (Some faults.ReadFault) bytes left before after = BreaksOff says.told bytes left before after
+EndsSo says (Some faults.WriteFault) bytes left before after = WritesFront says.kept bytes before after
+EndsSo says (Some (faults.BadLine line)) bytes left before after = StopsAtBad says.told bytes line before after
+EndsSo says (Some faults.NoMemory) bytes left before after = RunsShort says bytes left before after
+EndsSo says (Some (faults.Device clone)) bytes left before after = FailsSo says bytes left before after
+EndsSo says (Some (faults.TooLarge line)) bytes left before after = StopsAtLarge says.told bytes line before after
+EndsSo says (Some (faults.NotEmpty clone)) bytes left before after = HasNotBegun bytes left before after
 
 -- what a run leaves as it was, by its fault: source, sink and banks where its words are none that it knows, and source and sink where
 -- banks are not empty
@@ -179,3 +217,13 @@ tells (Some fault) = false
 pub record EndsAs {B : Type 0} (log : B → Option Log) (ran : Ran B) (stage : Stage) : Type 0 where
   pub told : TellsOf ran.world stage
   pub kept : BanksKeep log ran.banks.items stage
+
+-- what a run says at its end, which was handed these banks
+abbrev pub says_of : {B : Type 0} → (B → Option Log) → List B → Ran B → Saying
+says_of log banks ran = record {
+  told = EndsAs log ran;
+  kept = BanksKeep log ran.banks.items;
+  left = AreLeftAmid log ran.banks.items;
+  same = LeaveNoMore log banks ran.banks.items;
+  none = ran.banks.items ≡ [];
+}

@@ -5,7 +5,8 @@ use Rattle.mld_io.specs.Faults.{Rose}
 use Rattle.mld_io.specs.Lines.{first_line, after_line, line_size}
 use Rattle.schedule_model.specs.Runs.{Stage}
 use Rattle.mld_replay.specs.KeptBanks.{BanksKeep}
-use Rattle.mld_replay.specs.Ran.{tells}
+use Rattle.mld_replay.specs.Ran.{Saying, tells}
+use Rattle.mld_replay.specs.BanksLeft.{AreLeftAmid}
 use Rattle.mld_replay.specs.RunSummaries.{TellsOf}
 use Rattle.mld_replay.specs.Stages.{StageStands, banks_of_stage}
 use Rattle.mld_replay.specs.TooLarge.{BreaksLimits}
@@ -68,6 +69,16 @@ pub record HasWriteFaultCause {T : Type 0} (before now : ℕ) (result : Result T
   pub quiet : ¬ IsErrOf result faults.WriteFault → now ≡ before
 
 -- ---- the end of a run
+
+-- what the state of a replay says at its end
+abbrev pub says_by : {B : Type 0} → (B → Option Log) → RunningStage B → Saying
+says_by log running = record {
+  told = StageStands log running;
+  kept = StageStands log running;
+  left = AreLeftAmid log (banks_of_stage running);
+  same = ⊥;
+  none = banks_of_stage running ≡ [];
+}
 
 -- the run ended by this fault: it tells of the stage that it ended at where it has to, and gives back its banks
 pub record EndsWhole {B : Type 0} (log : B → Option Log) (fault : Option RunFault) (running : RunningStage B) (ran : Ran B) : Type 0 where

@@ -8,18 +8,22 @@ use Rattle.schedule_model.specs.Runs.{Stage, Waiting, SetUp, Running, IsWorldOf,
 use Rattle.schedule_model.specs.Schedule.{IsSetup, SetsProperty, SpellsCommand}
 use Rattle.schedule_text.specs.ReadLines.{setup_of, SetupIs}
 use Rattle.schedule_text.specs.declared.setups.SetupLine.TheVariants as lines
-use Rattle.world_commands.specs.WorldBanks.{StandsOnBanks, banks_of}
+use Rattle.net_world.specs.SettledWorlds.{AllImagesStand, AreBlank}
+use Rattle.net_world.specs.LeftBehind.{LeavesBanks}
+use Rattle.schedule_model.specs.Step.{number_of_clone}
+use Rattle.world_commands.specs.WorldBanks.{BankedWorld, StandsOnBanks, OthersStay, banks_of}
 use Rattle.mld_replay.specs.declared.stages.Stage.{Stage as RunningStage}
 use Rattle.mld_replay.specs.declared.stages.Stage.TheVariants as stages
 use Rattle.mld_replay.specs.declared.stops.LineStop.{LineStop}
 use Rattle.mld_replay.specs.declared.stops.LineStop.TheVariants as stops
 
 -- what a schedule's state stands for: nothing while no domain line has come; then what is set up, by which clones may be founded; and
--- from the first command on a sound world. There are as many banks as clones
+-- from the first command on a sound world, for which whatever a crash may leave of the banks stands. There are as many banks as clones, and
+-- they are blank before
 abbrev pub StageStands : {B : Type 0} → (B → Option Log) → RunningStage B → Stage → Type 0
-StageStands log (stages.Waiting blanks) Waiting = length blanks.items ≡ clone_count
-StageStands log (stages.SetUp setup blanks) (SetUp model) = (setup_of setup ≡ model) × IsSetup model × (length blanks.items ≡ clone_count)
-StageStands log (stages.Running running) (Running world) = StandsOnBanks log running world × IsSound world
+StageStands log (stages.Waiting blanks) Waiting = (length blanks.items ≡ clone_count) × AreBlank log blanks.items
+StageStands log (stages.SetUp setup blanks) (SetUp model) = (setup_of setup ≡ model) × IsSetup model × (length blanks.items ≡ clone_count) × AreBlank log blanks.items
+StageStands log (stages.Running running) (Running world) = StandsOnBanks log running world × IsSound world × AllImagesStand log world (banks_of running)
 StageStands log running stage = ⊥
 
 -- the line spells the command in the domain of a stage
@@ -34,6 +38,12 @@ steps_of (stages.Waiting blanks) = 0
 steps_of (stages.SetUp setup blanks) = 0
 steps_of (stages.Running running) = running.steps
 steps_of (stages.Over banks) = 0
+
+-- a command that was refused: of the banks of its clone a crash leaves what it might have left before, or a front of the command's durable steps,
+-- and those of the others are as they were
+pub record StopsCommand {B : Type 0} (log : B → Option Log) (old : BankedWorld B) (command : Command) (new : List B) : Type 0 where
+  pub left : LeavesBanks log old command new
+  pub others : OthersStay (number_of_clone command) (banks_of old) new
 
 -- the banks, by number
 abbrev pub banks_of_stage : {B : Type 0} → RunningStage B → List B

@@ -4,6 +4,9 @@ ghost use Rattle.std.specs.Result.{result_err};
 ghost use Rattle.mld_io.specs.Disk.{Log, bytes_of, seen};
 ghost use Rattle.mld_model.specs.World.{clone_count};
 ghost use Rattle.world_commands.specs.WorldBanks.{MeterGoesOn, MetersGoOn, HadNoFault, HadFault};
+ghost use Rattle.journal_store.specs.Standing.{IsBlankLog};
+ghost use Rattle.net_world.specs.SettledWorlds.{AreBlank};
+ghost use Rattle.mld_replay.specs.BanksLeft.{LeavesLess, LeaveNoMore};
 ghost use Rattle.mld_replay.specs.BankFaults.{AreWell, BringsBack};
 ghost use Rattle.mld_replay.specs.Filled.{IsFilled, LogsStay};
 ghost use Rattle.mld_replay.specs.Looking.{AreEmpty, StopsLookingAt, StopsLooking, StopsBlanking};
@@ -72,7 +75,9 @@ pub fn blanks_of<R: Threads, B: CrashBanks>(
     requires empty { AreEmpty B.log banks.items }
     requires count { vec_len banks ≡ clone_count }
     ensures count { IfOk result (λ blanks. length blanks.items ≡ clone_count) }
+    ensures blank { IfOk result (λ blanks. AreBlank B.log blanks.items) }
     ensures well { IfOk result (λ blanks. AreWell B.meter banks.items blanks.items) }
+    ensures left { IfErr result (λ refused. LeaveNoMore B.log banks.items refused.1.items) }
     ensures err { IfErr result (λ refused. StopsBlanking B.meter banks.items refused.0 refused.1.items) }
 {
     let Ok((mut blanks, back)) = room_for(alloc, banks.len()) else {
@@ -104,6 +109,9 @@ fn blank_of<R: Threads, B: CrashBanks>(
     requires { ¬ IsFilled (B.log banks) }
     ensures ok { IfOk result (λ blank. MeterGoesOn (B.meter banks) (B.meter blank)) }
     ensures quiet { IfOk result (λ blank. HadNoFault (B.meter banks) (B.meter blank)) }
+    ensures blank { IfOk result (λ blank. IsBlankLog (B.log blank)) }
+    ensures less { IfOk result (λ blank. LeavesLess B.log banks blank) }
+    ensures left { IfErr result (λ refused. IfSome refused (λ back. LeavesLess B.log banks back)) }
     ensures later { IfErr result (λ refused. IfSome refused (λ back. MeterGoesOn (B.meter banks) (B.meter back))) }
     ensures failed { IfErr result (λ refused. IfSome refused (λ back. HadFault (B.meter banks) (B.meter back))) }
 {

@@ -1,21 +1,20 @@
 //! The run: all that the program does, over the words, the source and the sink that it is handed.
-ghost use Rattle.std.specs.Prelude.{◌≡◌, ◌↔◌, ◌≤◌, ◌<◌, ◌+◌, ℕ, List, [], map, take, false, None, vec_len, IsTrue, IfOk, IfErr, OnOk, OnErr, IsErrOf};
+ghost use Rattle.std.specs.Prelude.{◌≡◌, ◌↔◌, ◌≤◌, ◌<◌, ◌+◌, ◌∷◌, ℕ, List, [], map, take, false, None, vec_len, IsTrue, IfOk, IfErr, OnOk, OnErr, IsErrOf};
 ghost use Rattle.std.specs.Io.KnownBytes.{Appends};
 ghost use Rattle.std.specs.Result.{result_err};
 ghost use Rattle.std.specs.String.{string_bytes};
 ghost use Rattle.mld_io.specs.Lines.{lines_of, HasNoEnd, IsCutShort};
 ghost use Rattle.schedule_model.specs.Runs.{Stage as ModelStage, Waiting, Outcome, Verdict, IsBad};
 ghost use Rattle.schedule_model.specs.WorldStep.{step_limit};
-ghost use Rattle.mld_replay.specs.Stops.{fault_of};
+ghost use Rattle.mld_replay.specs.Stops.{fault_of, EndsAmid};
 ghost use Rattle.mld_replay.specs.TooLarge.{BreaksLimits, line_limit, input_limit};
 ghost use Rattle.mld_model.specs.World.{clone_count};
 ghost use Rattle.net_world.specs.CrashedWorlds.{AreUnarmed};
 ghost use Rattle.mld_replay.specs.BankFaults.{BringsBack, ReturnsBanks};
 ghost use Rattle.mld_replay.specs.Filled.{HeedsFilled};
 ghost use Rattle.mld_replay.specs.Stages.{StageStands, IsStandingStage, steps_of, banks_of_stage, ActsWell, EndsWell};
-ghost use Rattle.mld_replay.specs.KeptBanks.{BanksKeep};
-ghost use Rattle.mld_replay.specs.Ran.{status_of, tells, IsReplay, EndsSo, EndsAs, Agrees, LeavesAlone, AreUntouched, CountsFaults};
-ghost use Rattle.mld_replay.specs.Replaying.{EndsBy, TakesLine, IfSomeLine, IsReadingFault, IsWritingFault, IsReplayFault, IsLineFault, IsEndFault, HasReadCause, HasWriteFaultCause};
+ghost use Rattle.mld_replay.specs.Ran.{status_of, tells, IsReplay, EndsSo, says_of, Agrees, LeavesAlone, AreUntouched, CountsFaults};
+ghost use Rattle.mld_replay.specs.Replaying.{EndsBy, says_by, TakesLine, IfSomeLine, IsReadingFault, IsWritingFault, IsReplayFault, IsLineFault, IsEndFault, HasReadCause, HasWriteFaultCause};
 
 use crate::blanks::{blanks_of, find_filled};
 use crate::endings::{End, end_of};
@@ -91,10 +90,14 @@ pub fn run<R: Threads, S: Source, K: Sink, B: CrashBanks>(
     // clone knows; clones of it that know the same have the same pairs, each answer of a dot holds in it, and no two hold one leaf.
     // 4 and 7: the line of that number is the first that is bad or too large, and at 4 none up to it is too large. The text is that of the
     // lines before it. 2: the source failed within a line, or before it told its end, and the lines done are those whose LF was read.
-    // 3: the text is a front, and the line whose reply could not be written was done. 6: it is that of the lines before the one under
-    // way. At 0, 2, 4 and 7 the world that the lines done lead to is told of, and at these and 3 the banks keep it.
+    // 3: the line whose reply could not be written was done, and the text is that of the lines before it and a front of that reply. At 0,
+    // 2, 4 and 7 the world that the lines done lead to is told of, and at these and 3 the banks keep it.
+    //
+    // 6: the text is that of the lines before the one under way. Whatever a crash leaves of the banks then has all that these lines made
+    // durable, and of the line under way, or of founding, a front of the durable steps; where no line was begun, it is what it might have left
+    // before the run. 5: so it is too, or as at 3, or no banks come back.
     ensures ends { (bytes : List ℕ) → S.left source.old ≡ Some bytes
-        → EndsSo (EndsAs B.log result) (BanksKeep B.log result.banks.items) result.fault bytes (S.left source.new) (K.held sink.old) (K.held sink.new) }
+        → EndsSo (says_of B.log banks.items result) result.fault bytes (S.left source.new) (K.held sink.old) (K.held sink.new) }
     // 8 tells of the first banks with a side that has bytes. Where there are such, the run ends by 8 with their number, by 6 with it or a
     // lower one, or by 1 or 5; no line is read, and the log of each bank stays.
     ensures filled { HeedsFilled B.log banks.items result.banks.items result.fault (AreUntouched source.old source.new sink.old sink.new) }
@@ -204,7 +207,7 @@ fn replay<R: Threads, S: Source, K: Sink, B: CrashBanks>(
     requires unarmed { AreUnarmed B.meter (banks_of_stage stage.old) }
     ensures begun { IfErr result IsReplayFault }
     ensures ends { (bytes : List ℕ) → S.left source.old ≡ Some bytes
-        → EndsSo (StageStands B.log stage.new) (StageStands B.log stage.new) (result_err result) bytes (S.left source.new) (K.held sink.old) (K.held sink.new) }
+        → EndsSo (says_by B.log stage.new) (result_err result) bytes (S.left source.new) (K.held sink.old) (K.held sink.new) }
     ensures back { BringsBack B.meter (banks_of_stage stage.old) (banks_of_stage stage.new) (result_err result) }
     ensures counts { CountsFaults (result_err result) (S.faults source.old) (S.faults source.new) (K.faults sink.old) (K.faults sink.new) }
 {
@@ -279,6 +282,7 @@ fn do_line<R: Threads, B: CrashBanks>(
     ensures bad { (at : ℕ) → IsErrOf result (RunFault.BadLine at) → (at ≡ number) × ((model : ModelStage) → StageStands B.log stage.old model → IsBad model line.now) }
     ensures kept { (at : ℕ) → IsErrOf result (RunFault.BadLine at) → stage.new ≡ stage.old }
     ensures back { BringsBack B.meter (banks_of_stage stage.old) (banks_of_stage stage.new) (result_err result) }
+    ensures left { IfErr result (λ fault. (rest : List (List ℕ)) → EndsAmid B.log stage.old (banks_of_stage stage.new) (line.now ∷ rest) fault) }
     ensures other { IfErr result IsLineFault }
 {
     match act(rt, alloc, stage, line, reply) {
@@ -299,6 +303,7 @@ fn end_lines<R: Threads, B: CrashBanks>(
     ensures bad { (at : ℕ) → IsErrOf result (RunFault.BadLine at) → (at ≡ number) × ((model : ModelStage) → StageStands B.log stage.old model → model ≡ Waiting) }
     ensures kept { (at : ℕ) → IsErrOf result (RunFault.BadLine at) → stage.new ≡ stage.old }
     ensures back { BringsBack B.meter (banks_of_stage stage.old) (banks_of_stage stage.new) (result_err result) }
+    ensures left { IfErr result (EndsAmid B.log stage.old (banks_of_stage stage.new) []) }
     ensures other { IfErr result IsEndFault }
 {
     match finish(rt, alloc, stage) {

@@ -1,7 +1,6 @@
 //! How far a schedule has come, and what a line makes of that.
-ghost use Rattle.std.specs.Prelude.{◌≡◌, ◌<◌, ◌≤◌, ◌+◌, [], ℕ, List, IsTrue, IfOk, IfErr, OnOk, OnErr, IsErrOf};
+ghost use Rattle.std.specs.Prelude.{◌≡◌, ◌<◌, ◌≤◌, ◌+◌, ◌∷◌, [], ℕ, List, IsTrue, IfOk, IfErr, OnOk, OnErr, IsErrOf};
 ghost use Rattle.mld_model.specs.World.{World as ModelWorld};
-ghost use Rattle.mld_model.specs.Sound.{IsSound};
 ghost use Rattle.world_commands.specs.WorldBanks.{StandsOnBanks, banks_of};
 ghost use Rattle.net_world.specs.CrashedWorlds.{AreUnarmed};
 ghost use Rattle.schedule_model.specs.Runs.{Stage as ModelStage, Waiting, Running, IsBad};
@@ -9,8 +8,10 @@ ghost use Rattle.schedule_model.specs.Step.{HasCloneNumbers, IsCommandInForm};
 ghost use Rattle.world_commands.specs.Worlds.{IsStanding, Stepped};
 ghost use Rattle.schedule_model.specs.WorldStep.{step_limit};
 ghost use Rattle.mld_replay.specs.BankFaults.{AreWell};
-ghost use Rattle.mld_replay.specs.Stops.{StopsWith};
-ghost use Rattle.mld_replay.specs.Stages.{StageStands, SpellsAt, IsStandingStage, IsSetUpState, GetsProperty, GetsNone, IsWorldStop, steps_of, banks_of_stage, ActsWell, EndsWell};
+ghost use Rattle.mld_replay.specs.BanksLeft.{IsDueAt};
+ghost use Rattle.mld_replay.specs.Stops.{StopsWith, StopsAmid, LeavesStopped};
+ghost use Rattle.net_world.specs.SettledWorlds.{Settles};
+ghost use Rattle.mld_replay.specs.Stages.{StageStands, SpellsAt, IsStandingStage, IsSetUpState, GetsProperty, GetsNone, IsWorldStop, StopsCommand, steps_of, banks_of_stage, ActsWell, EndsWell};
 ghost use Rattle.mld_replay.specs.declared.stages.Stage.TheVariants as stages;
 
 use crate::stops::LineStop;
@@ -53,6 +54,7 @@ pub fn act<R: Threads, B: CrashBanks>(
     ensures kept { IsErrOf result LineStop.BadLine → stage.new ≡ stage.old }
     ensures well { OnOk result (AreWell B.meter (banks_of_stage stage.old) (banks_of_stage stage.new)) }
     ensures back { IfErr result (StopsWith B.meter (banks_of_stage stage.old) (banks_of_stage stage.new)) }
+    ensures left { IfErr result (λ stop. (rest : List (List ℕ)) → StopsAmid B.log stage.old (banks_of_stage stage.new) (line.now ∷ rest) stop) }
 {
     reply.clear();
     match stage {
@@ -120,6 +122,7 @@ fn set_or_start<R: Threads, B: CrashBanks>(
     ensures kept { IsErrOf result LineStop.BadLine → stage.new ≡ stage.old }
     ensures well { OnOk result (AreWell B.meter (banks_of_stage stage.old) (banks_of_stage stage.new)) }
     ensures back { IfErr result (StopsWith B.meter (banks_of_stage stage.old) (banks_of_stage stage.new)) }
+    ensures left { IfErr result (λ stop. (rest : List (List ℕ)) → StopsAmid B.log stage.old (banks_of_stage stage.new) (line.now ∷ rest) stop) }
 {
     let is_set = set_property(alloc, stage, line)?;
     if is_set {
@@ -179,6 +182,7 @@ fn first<R: Threads, B: CrashBanks>(
     ensures kept { IsErrOf result LineStop.BadLine → stage.new ≡ stage.old }
     ensures well { OnOk result (AreWell B.meter (banks_of_stage stage.old) (banks_of_stage stage.new)) }
     ensures back { IfErr result (StopsWith B.meter (banks_of_stage stage.old) (banks_of_stage stage.new)) }
+    ensures left { IfErr result (λ stop. (rest : List (List ℕ)) → StopsAmid B.log stage.old (banks_of_stage stage.new) (line.now ∷ rest) stop) }
 {
     match stage {
         Stage::SetUp(setup, _) => match read_command(alloc, line, setup.domain.as_str())? {
@@ -208,6 +212,8 @@ fn start<R: Threads, B: CrashBanks>(
     ensures steps { OnOk result (steps_of stage.new ≡ 1) }
     ensures well { OnOk result (AreWell B.meter (banks_of_stage stage.old) (banks_of_stage stage.new)) }
     ensures back { IfErr result (StopsWith B.meter (banks_of_stage stage.old) (banks_of_stage stage.new)) }
+    ensures left { IfErr result (λ stop. (line : List ℕ) (rest : List (List ℕ)) (model : ModelStage) → StageStands B.log stage.old model → SpellsAt model line command.now
+        → LeavesStopped B.log (banks_of_stage stage.new) model (line ∷ rest) stop) }
     ensures other { IfErr result IsWorldStop }
 {
     let mut world = found(rt, alloc, stage)?;
@@ -229,6 +235,8 @@ fn found<R: Threads, B: CrashBanks>(
     ensures steps { IfOk result (λ world. world.steps ≡ 0) }
     ensures well { IfOk result (λ world. AreWell B.meter (banks_of_stage stage.old) (banks_of world)) }
     ensures back { IfErr result (StopsWith B.meter (banks_of_stage stage.old) (banks_of_stage stage.new)) }
+    ensures left { IfErr result (λ stop. (lines : List (List ℕ)) (model : ModelStage) → StageStands B.log stage.old model → IsDueAt model lines
+        → LeavesStopped B.log (banks_of_stage stage.new) model lines stop) }
     ensures other { IfErr result IsWorldStop }
 {
     let (setup, blanks) = take_set_up(alloc, stage);
@@ -264,13 +272,14 @@ fn command<R: Threads, B: CrashBanks>(
     requires standing { IsStanding B.log world.old }
     requires unarmed { AreUnarmed B.meter (banks_of world.old) }
     requires empty { reply.old.items ≡ [] }
-    ensures ok { OnOk result ((model : ModelWorld) → StandsOnBanks B.log world.old model → IsSound model
+    ensures ok { OnOk result ((model : ModelWorld) → StageStands B.log (stages.Running world.old) (Running model)
         → ActsWell B.log (Running model) line.now reply.new.items (stages.Running world.new)) }
     ensures steps { OnOk result (world.new.steps ≤ world.old.steps + 1) }
     ensures bad { IsErrOf result LineStop.BadLine → (model : ModelWorld) → StandsOnBanks B.log world.old model → IsBad (Running model) line.now }
     ensures kept { IsErrOf result LineStop.BadLine → world.new ≡ world.old }
     ensures well { OnOk result (AreWell B.meter (banks_of world.old) (banks_of world.new)) }
     ensures back { IfErr result (StopsWith B.meter (banks_of world.old) (banks_of world.new)) }
+    ensures left { IfErr result (λ stop. (rest : List (List ℕ)) → StopsAmid B.log (stages.Running world.old) (banks_of world.new) (line.now ∷ rest) stop) }
 {
     match read_command(alloc, line, world.domain())? {
         None => Ok(()),
@@ -296,6 +305,8 @@ fn step<R: Threads, B: CrashBanks>(
     ensures steps { OnOk result (world.new.steps ≡ world.old.steps + 1) }
     ensures well { OnOk result (AreWell B.meter (banks_of world.old) (banks_of world.new)) }
     ensures back { IfErr result (StopsWith B.meter (banks_of world.old) (banks_of world.new)) }
+    ensures settled { OnOk result (Settles B.log world.old command.now world.new) }
+    ensures left { OnErr result (StopsCommand B.log world.old command.now (banks_of world.new)) }
     ensures other { IfErr result IsWorldStop }
 {
     world.step(rt, alloc, command, reply)?;
@@ -314,6 +325,7 @@ pub fn finish<R: Threads, B: CrashBanks>(
     ensures kept { IsErrOf result LineStop.BadLine → stage.new ≡ stage.old }
     ensures well { OnOk result (AreWell B.meter (banks_of_stage stage.old) (banks_of_stage stage.new)) }
     ensures back { IfErr result (StopsWith B.meter (banks_of_stage stage.old) (banks_of_stage stage.new)) }
+    ensures left { IfErr result (StopsAmid B.log stage.old (banks_of_stage stage.new) []) }
 {
     match stage {
         Stage::Waiting(_) => Err(LineStop::BadLine),

@@ -1,6 +1,6 @@
 use Rattle.std.proofs.Common.{rules, arith}
 use Rattle.std.proofs.lemmas.List.{nil_from_length}
-use Rattle.mld_replay.proofs.BlankLemmas.{blanking_first, blanking_next, blanking_more, blanking_stops, blanking_all, blanking_quiet}
+use Rattle.mld_replay.proofs.BlankLemmas.{blanking_first, blanking_next, blanking_more, blanking_stops, blanking_less, blanking_all, blanking_quiet}
 use Rattle.mld_replay.proofs.blanks.blanks_of.Goals as goal
 
 pub loop-one-init : goal.loop-one-init
@@ -23,8 +23,8 @@ returns-in-Err-Some-clause-err g c =
 
 pub loop-one-preserved : goal.loop-one-preserved
 loop-one-preserved g c = record {
-  blanking = blanking_more g.B.Banks.log g.B.Banks.meter c.args.banks.items c.loop-one.blanks.items c.loop-one.rest.items c.pop_front.new.self.items c.push_reserved.new.self.items c.in-Some.one
-      c.in-Ok-blank_of.blank c.loop-one.number c.loop-one.invariant.blanking c.in-Some.ensures.items c.push_reserved.ensures.items c.in-Ok-blank_of.ensures.ok c.in-Ok-blank_of.ensures.quiet;
+  blanking = blanking_more g.B.Banks.log g.B.Banks.meter g.met.B.CrashBanks.tells c.args.banks.items c.loop-one.blanks.items c.loop-one.rest.items c.pop_front.new.self.items c.push_reserved.new.self.items c.in-Some.one
+      c.in-Ok-blank_of.blank c.loop-one.number c.loop-one.invariant.blanking c.in-Some.ensures.items c.push_reserved.ensures.items c.in-Ok-blank_of.ensures.ok c.in-Ok-blank_of.ensures.quiet c.in-Ok-blank_of.ensures.blank c.in-Ok-blank_of.ensures.less;
   count = search (rules, arith);
   room = search (rules, arith);
 }
@@ -36,3 +36,11 @@ returns-clause-well g c =
       meters = blanking_all g.B.Banks.log g.B.Banks.meter c.args.banks.items c.loop-one.blanks.items c.loop-one.rest.items c.loop-one.number c.loop-one.invariant.blanking none;
       quiet = blanking_quiet g.B.Banks.log g.B.Banks.meter c.args.banks.items c.loop-one.blanks.items c.loop-one.rest.items c.loop-one.number c.loop-one.invariant.blanking none;
     }
+
+pub returns-clause-blank : goal.returns-clause-blank
+returns-clause-blank g c = c.loop-one.invariant.blanking.blank
+
+pub returns-in-Err-Some-clause-left : goal.returns-in-Err-Some-clause-left
+returns-in-Err-Some-clause-left g c =
+    blanking_less g.B.Banks.log g.B.Banks.meter g.met.B.CrashBanks.tells c.args.banks.items c.loop-one.blanks.items c.loop-one.rest.items c.pop_front.new.self.items c.all_back-banks.result.items c.in-Some.one
+    c.in-Err-Some.one c.loop-one.number c.loop-one.invariant.blanking c.in-Some.ensures.items c.all_back-banks.ensures (rw c.in-Err-Some.field-0-is at c.in-Err-Some.ensures.left)

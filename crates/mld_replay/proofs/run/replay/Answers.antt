@@ -1,12 +1,18 @@
-use Rattle.std.proofs.Common.{◌∙◌, refl, sym, ap, arith, Some}
+use Rattle.std.proofs.Common.{◌≡◌, ◌∙◌, ◌∷◌, ◌++◌, List, ℕ, refl, sym, ap, arith, Some}
 use Rattle.std.specs.Result.{result_err}
 use Rattle.std.proofs.lemmas.Result.{err_from_is_err_and}
 use Rattle.mld_replay.proofs.LimitLemmas.{end_first, end_more, end_cut, end_none}
-use Rattle.mld_replay.proofs.RunLemmas.{under_way_first, under_way_more, front_first, front_any, whole_of_way, front_of_way, front_of_reply, takes_some, stops_bad_at, stops_large, breaks_off, finishes, ends_waiting_at, on_ok, read_well, wrote_well, err_same, of_line, ends_reading, ends_line, ends_writing, ends_lines, reading_replays, line_replays, writing_replays, end_replays, reads_counted, writes_counted, reads_same, writes_same, not_of_reading, not_of_writing, reading_not_writing, line_not_reading, line_not_writing, writing_not_reading, end_not_reading, end_not_writing}
-use Rattle.schedule_model.specs.Runs.{Stage}
+use Rattle.mld_replay.proofs.RunLemmas.{under_way_first, under_way_more, whole_first, whole_of_way, line_there, none_there, front_of_reply, takes_some, stops_bad_at, stops_large, breaks_off, finishes, ends_waiting_at, on_ok, read_well, wrote_well, err_same, of_line, ends_reading, ends_stopped, ends_writing, ends_lines, reading_replays, line_replays, writing_replays, end_replays, reads_counted, writes_counted, reads_same, writes_same, not_of_reading, not_of_writing, reading_not_writing, line_not_reading, line_not_writing, writing_not_reading, end_not_reading, end_not_writing}
+use Rattle.mld_io.specs.Lines.{lines_of}
+use Rattle.schedule_model.specs.Runs.{Stage, Waiting}
+use Rattle.mld_replay.specs.BanksLeft.{AreLeftAmid}
+use Rattle.mld_replay.specs.Ran.{short_amid}
+use Rattle.mld_replay.specs.Replaying.{says_by}
+use Rattle.mld_replay.proofs.StoppedLemmas.{still_left}
 use Rattle.mld_replay.specs.Stages.{StageStands, EndsWell, banks_of_stage}
 use Rattle.mld_replay.specs.declared.run.RunFault.TheVariants as faults
 use Rattle.mld_replay.proofs.MeterLemmas.{unarmed_later, well_same, well_then, back_same, back_later, back_well}
+use Rattle.mld_replay.proofs.run.replay.Given as given
 use Rattle.mld_replay.proofs.run.replay.Goals as goal
 
 pub loop-reply-init : goal.loop-reply-init
@@ -54,7 +60,8 @@ do_line-requires-clause-unarmed g c =
 pub returns-in_err-lines-clause-ends : goal.returns-in_err-lines-clause-ends
 returns-in_err-lines-clause-ends g c = λ bytes told.
     let p = err_from_is_err_and c.from_residual.result c.from_residual.ensures.1 in
-    rw (p.1, p.2) (front_first (g.K.Sink.held c.args.sink.now) bytes)
+    rw (p.1, p.2)
+    (short_amid (whole_first (AreLeftAmid g.B.Banks.log (banks_of_stage c.args.stage.now)) (g.K.Sink.held c.args.sink.now) bytes (still_left g.B.Banks.log c.args.stage.now Waiting (lines_of bytes) c.requires.waits)))
 
 pub returns-in_err-lines-clause-back : goal.returns-in_err-lines-clause-back
 returns-in_err-lines-clause-back g c =
@@ -77,7 +84,7 @@ pub returns-in_err-line-clause-ends : goal.returns-in_err-line-clause-ends
 returns-in_err-line-clause-ends g c = λ bytes told.
     let p = err_from_is_err_and c.from_residual-in_err-line.result c.from_residual-in_err-line.ensures.1 in
     rw (p.1, p.2)
-    (ends_reading (StageStands g.B.Banks.log c.loop-reply.stage) (StageStands g.B.Banks.log c.loop-reply.stage) c.in_err-line.field-0.0 bytes (g.S.Source.left c.next_line.new.source) (g.K.Sink.held c.args.sink.now) (g.K.Sink.held c.loop-reply.sink)
+    (ends_reading (says_by g.B.Banks.log c.loop-reply.stage) c.in_err-line.field-0.0 bytes (g.S.Source.left c.next_line.new.source) (g.K.Sink.held c.args.sink.now) (g.K.Sink.held c.loop-reply.sink)
     c.in_err-line.ensures.fault
     (λ is. breaks_off g.B.Banks.log (g.S.Source.left c.args.source.now) (g.S.Source.left c.loop-reply.source) (g.S.Source.left c.next_line.new.source) (g.K.Sink.held c.args.sink.now) (g.K.Sink.held c.loop-reply.sink)
     c.loop-reply.lines.taken c.loop-reply.stage c.loop-reply.done c.loop-reply.invariant.way (c.in_err-line.ensures.broken_off (err_same _ _ is))
@@ -87,8 +94,9 @@ returns-in_err-line-clause-ends g c = λ bytes told.
     let b = c.in_err-line.ensures.large at (err_same _ _ is) in
     stops_large g.B.Banks.log (g.S.Source.left c.args.source.now) (g.S.Source.left c.loop-reply.source) (g.K.Sink.held c.args.sink.now) (g.K.Sink.held c.loop-reply.sink)
     c.loop-reply.lines.taken c.loop-reply.stage c.loop-reply.done at c.loop-reply.invariant.way b.0 b.1 bytes told)
-    (front_any _ bytes _ _ (front_of_way g.B.Banks.log (g.S.Source.left c.args.source.now) (g.S.Source.left c.loop-reply.source) (g.K.Sink.held c.args.sink.now) (g.K.Sink.held c.loop-reply.sink)
-    c.loop-reply.lines.taken c.loop-reply.stage c.loop-reply.done c.loop-reply.invariant.way bytes told)))
+    (whole_of_way g.B.Banks.log (AreLeftAmid g.B.Banks.log (banks_of_stage c.loop-reply.stage)) (g.S.Source.left c.args.source.now) (g.S.Source.left c.loop-reply.source) (g.K.Sink.held c.args.sink.now)
+    (g.K.Sink.held c.loop-reply.sink) c.loop-reply.lines.taken c.loop-reply.stage c.loop-reply.done c.loop-reply.invariant.way bytes told
+    (λ rest is. still_left g.B.Banks.log c.loop-reply.stage c.loop-reply.invariant.way.stage (lines_of rest) c.loop-reply.invariant.way.stands)))
 
 pub returns-in_err-line-clause-back : goal.returns-in_err-line-clause-back
 returns-in_err-line-clause-back g c =
@@ -118,21 +126,28 @@ returns-in_err-do_line-clause-begun g c =
     let p = err_from_is_err_and c.from_residual-in_err-do_line.result c.from_residual-in_err-do_line.ensures.1 in
     rw (p.1, p.2) (line_replays c.in_err-do_line.field-0.0 c.in_err-do_line.ensures.other)
 
+-- the lines still to come
+there : (g : given.Over) (c : goal.After-drop-reply-in_err-do_line g) (bytes : List ℕ) → g.S.Source.left c.args.source.now ≡ Some bytes
+    → (others : List (List ℕ)) × (lines_of bytes ≡ c.loop-reply.invariant.way.lines ++ c.as_slice.result.now ∷ others)
+there g c bytes told =
+    line_there g.B.Banks.log (g.S.Source.left c.args.source.now) (g.S.Source.left c.loop-reply.source) (g.S.Source.left c.next_line.new.source) (g.K.Sink.held c.args.sink.now) (g.K.Sink.held c.loop-reply.sink)
+    c.loop-reply.lines.taken c.next_line.new.lines.taken c.loop-reply.stage c.loop-reply.done c.as_slice.result.now c.loop-reply.invariant.way
+    (takes_some (g.S.Source.left c.loop-reply.source) (g.S.Source.left c.next_line.new.source) c.in_ok-line.field-0 c.loop-reply.lines.taken c.next_line.new.lines.taken c.in-Some.line c.as_slice.result.now
+    c.in-Some.is c.as_slice.ensures c.in_ok-line.ensures.line) bytes told
+
 pub returns-in_err-do_line-clause-ends : goal.returns-in_err-do_line-clause-ends
 returns-in_err-do_line-clause-ends g c = λ bytes told.
     let p = err_from_is_err_and c.from_residual-in_err-do_line.result c.from_residual-in_err-do_line.ensures.1 in
     rw (p.1, p.2)
-    (ends_line (StageStands g.B.Banks.log c.do_line.new.stage) (StageStands g.B.Banks.log c.do_line.new.stage) c.in_err-do_line.field-0.0 bytes (g.S.Source.left c.next_line.new.source) (g.K.Sink.held c.args.sink.now) (g.K.Sink.held c.loop-reply.sink)
-    c.in_err-do_line.ensures.other
+    (ends_stopped g.B.Banks.log (g.S.Source.left c.args.source.now) (g.S.Source.left c.loop-reply.source) (g.K.Sink.held c.args.sink.now) (g.K.Sink.held c.loop-reply.sink)
+    c.loop-reply.lines.taken c.loop-reply.stage c.do_line.new.stage c.loop-reply.done c.loop-reply.invariant.way bytes _ (g.S.Source.left c.next_line.new.source) c.in_err-do_line.field-0.0
+    (there g c bytes told).1 c.in_err-do_line.ensures.other
     (λ at is.
     let b = c.in_err-do_line.ensures.bad at (err_same _ _ is) in
     stops_bad_at g.B.Banks.log (g.S.Source.left c.args.source.now) (g.S.Source.left c.loop-reply.source) (g.S.Source.left c.next_line.new.source)
     (g.K.Sink.held c.args.sink.now) (g.K.Sink.held c.loop-reply.sink) c.loop-reply.lines.taken c.next_line.new.lines.taken c.loop-reply.stage c.loop-reply.done c.in_ok-line.field-0 c.in-Some.line c.as_slice.result.now at
     c.loop-reply.invariant.way c.in-Some.is c.as_slice.ensures c.in_ok-line.ensures.line b.0 b.1 c.do_line.new.stage (c.in_err-do_line.ensures.kept at (err_same _ _ is)) bytes told)
-    (whole_of_way g.B.Banks.log (g.S.Source.left c.args.source.now) (g.S.Source.left c.loop-reply.source) (g.K.Sink.held c.args.sink.now) (g.K.Sink.held c.loop-reply.sink)
-    c.loop-reply.lines.taken c.loop-reply.stage c.loop-reply.done c.loop-reply.invariant.way bytes told)
-    (front_any _ bytes _ _ (front_of_way g.B.Banks.log (g.S.Source.left c.args.source.now) (g.S.Source.left c.loop-reply.source) (g.K.Sink.held c.args.sink.now) (g.K.Sink.held c.loop-reply.sink)
-    c.loop-reply.lines.taken c.loop-reply.stage c.loop-reply.done c.loop-reply.invariant.way bytes told)))
+    (c.in_err-do_line.ensures.left (there g c bytes told).0))
 
 pub returns-in_err-do_line-clause-back : goal.returns-in_err-do_line-clause-back
 returns-in_err-do_line-clause-back g c =
@@ -166,7 +181,7 @@ pub returns-in_err-write_reply-clause-ends : goal.returns-in_err-write_reply-cla
 returns-in_err-write_reply-clause-ends g c = λ bytes told.
     let p = err_from_is_err_and c.from_residual-in_err-write_reply.result c.from_residual-in_err-write_reply.ensures.1 in
     rw (p.1, p.2)
-    (ends_writing (StageStands g.B.Banks.log c.do_line.new.stage) (StageStands g.B.Banks.log c.do_line.new.stage) c.in_err-write_reply.field-0.0 bytes (g.S.Source.left c.next_line.new.source) (g.K.Sink.held c.args.sink.now)
+    (ends_writing (says_by g.B.Banks.log c.do_line.new.stage) c.in_err-write_reply.field-0.0 bytes (g.S.Source.left c.next_line.new.source) (g.K.Sink.held c.args.sink.now)
     (g.K.Sink.held c.write_reply.new.sink) c.in_err-write_reply.ensures.fault
     (front_of_reply g.B.Banks.log (g.S.Source.left c.args.source.now) (g.S.Source.left c.loop-reply.source) (g.S.Source.left c.next_line.new.source)
     (g.K.Sink.held c.args.sink.now) (g.K.Sink.held c.loop-reply.sink) (g.K.Sink.held c.write_reply.new.sink) c.loop-reply.lines.taken c.next_line.new.lines.taken
@@ -204,7 +219,12 @@ returns-clause-begun g c = end_replays c.end_lines.result c.end_lines.ensures.ot
 
 pub returns-clause-ends : goal.returns-clause-ends
 returns-clause-ends g c = λ bytes told.
-    ends_lines (StageStands g.B.Banks.log c.end_lines.new.stage) (StageStands g.B.Banks.log c.end_lines.new.stage) c.end_lines.result bytes (g.S.Source.left c.next_line.new.source) (g.K.Sink.held c.args.sink.now) (g.K.Sink.held c.loop-reply.sink)
+    ends_lines g.B.Banks.log (g.S.Source.left c.args.source.now) (g.S.Source.left c.loop-reply.source) (g.K.Sink.held c.args.sink.now) (g.K.Sink.held c.loop-reply.sink)
+    c.loop-reply.lines.taken c.loop-reply.stage c.end_lines.new.stage c.loop-reply.done c.loop-reply.invariant.way bytes (g.S.Source.left c.next_line.new.source) c.end_lines.result
+    (none_there g.B.Banks.log (g.S.Source.left c.args.source.now) (g.S.Source.left c.loop-reply.source) (g.S.Source.left c.next_line.new.source)
+    (g.K.Sink.held c.args.sink.now) (g.K.Sink.held c.loop-reply.sink) c.loop-reply.lines.taken c.loop-reply.stage c.loop-reply.done c.loop-reply.invariant.way
+    (end_none (g.S.Source.left c.args.source.now) (g.S.Source.left c.loop-reply.source) (g.S.Source.left c.next_line.new.source) c.in_ok-line.field-0 c.loop-reply.lines.taken c.next_line.new.lines.taken c.loop-reply.done
+    c.loop-reply.lines.ended c.loop-reply.invariant.ends c.in_default.is c.in_ok-line.ensures.line c.in_ok-line.ensures.at_end) bytes told)
     c.end_lines.ensures.other
     (on_ok c.end_lines.result (λ (ends : (stage : Stage) → StageStands g.B.Banks.log c.loop-reply.stage stage → EndsWell g.B.Banks.log stage c.end_lines.new.stage).
     finishes g.B.Banks.log (g.S.Source.left c.args.source.now) (g.S.Source.left c.loop-reply.source) (g.S.Source.left c.next_line.new.source)
@@ -221,10 +241,7 @@ returns-clause-ends g c = λ bytes told.
     (end_none (g.S.Source.left c.args.source.now) (g.S.Source.left c.loop-reply.source) (g.S.Source.left c.next_line.new.source) c.in_ok-line.field-0 c.loop-reply.lines.taken c.next_line.new.lines.taken c.loop-reply.done
     c.loop-reply.lines.ended c.loop-reply.invariant.ends c.in_default.is c.in_ok-line.ensures.line c.in_ok-line.ensures.at_end)
     b.0 b.1 c.end_lines.new.stage (c.end_lines.ensures.kept at is) bytes told)
-    (whole_of_way g.B.Banks.log (g.S.Source.left c.args.source.now) (g.S.Source.left c.loop-reply.source) (g.K.Sink.held c.args.sink.now) (g.K.Sink.held c.loop-reply.sink)
-    c.loop-reply.lines.taken c.loop-reply.stage c.loop-reply.done c.loop-reply.invariant.way bytes told)
-    (front_any _ bytes _ _ (front_of_way g.B.Banks.log (g.S.Source.left c.args.source.now) (g.S.Source.left c.loop-reply.source) (g.K.Sink.held c.args.sink.now) (g.K.Sink.held c.loop-reply.sink)
-    c.loop-reply.lines.taken c.loop-reply.stage c.loop-reply.done c.loop-reply.invariant.way bytes told))
+    c.end_lines.ensures.left
 
 pub returns-clause-back : goal.returns-clause-back
 returns-clause-back g c =

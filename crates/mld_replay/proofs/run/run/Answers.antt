@@ -1,11 +1,10 @@
 use Rattle.std.proofs.Common.{◌≡◌, ◌≢◌, ap, refl, Some}
 use Rattle.std.specs.Result.{result_err}
 use Rattle.mld_replay.specs.declared.run.RunFault.TheVariants as faults
-use Rattle.mld_replay.specs.Ran.{EndsAs, AreUntouched, LeavesAlone, CountsFaults, Agrees}
-use Rattle.mld_replay.specs.Stages.{StageStands}
-use Rattle.mld_replay.specs.KeptBanks.{BanksKeep}
+use Rattle.mld_replay.specs.Ran.{says_of, AreUntouched, LeavesAlone, CountsFaults, Agrees}
+use Rattle.mld_replay.specs.Replaying.{says_by}
 use Rattle.mld_replay.proofs.MeterLemmas.{well_then, unarmed_later, back_same, back_unarmed}
-use Rattle.mld_replay.proofs.BlankLemmas.{empty_still}
+use Rattle.mld_replay.proofs.BlankLemmas.{empty_still, stay_less, less_later}
 use Rattle.mld_replay.proofs.SummaryLemmas.{ends_by, back_by, said_by, replay_alone, replay_not_usage, replay_not_filled, agrees_so, looking_fault, blanking_fault, bank_ends, left_alone, not_begun, bank_alone, bank_reads, bank_writes, bank_agrees, looking_heeds, empty_heeds, blanking_not_filled, usage_heeds, refused_back, back_told}
 use Rattle.mld_replay.proofs.run.run.Goals as goal
 
@@ -35,8 +34,9 @@ returns-in-Err-clause-untouched g c = rw c.ended-in-Err.ensures.fault (bank_alon
 
 pub returns-in-Err-clause-ends : goal.returns-in-Err-clause-ends
 returns-in-Err-clause-ends g c = λ bytes told.
-    bank_ends c.in-Err.fault (looking_fault g.B.Banks.log c.args.banks.items c.in-Err.fault c.in-Err.ensures.err) (EndsAs g.B.Banks.log c.ended-in-Err.result) (BanksKeep g.B.Banks.log c.ended-in-Err.result.banks.items) c.ended-in-Err.result.fault
+    bank_ends c.in-Err.fault (looking_fault g.B.Banks.log c.args.banks.items c.in-Err.fault c.in-Err.ensures.err) (says_of g.B.Banks.log c.args.banks.items c.ended-in-Err.result) c.ended-in-Err.result.fault
     (g.S.Source.left c.args.source.now) (g.K.Sink.held c.args.sink.now) bytes c.ended-in-Err.ensures.fault told
+    (rw c.ended-in-Err.ensures.banks (stay_less g.B.Banks.log c.args.banks.items c.find_filled.new.banks.items c.find_filled.ensures.logs))
 
 pub returns-in-Err-clause-counts : goal.returns-in-Err-clause-counts
 returns-in-Err-clause-counts g c = record {
@@ -71,8 +71,10 @@ returns-in-Err-blanks_of-clause-untouched g c = rw c.ended-in-Err-blanks_of.ensu
 
 pub returns-in-Err-blanks_of-clause-ends : goal.returns-in-Err-blanks_of-clause-ends
 returns-in-Err-blanks_of-clause-ends g c = λ bytes told.
-    bank_ends c.in-Err-blanks_of.fault (blanking_fault g.B.Banks.meter c.find_filled.new.banks.items c.in-Err-blanks_of.banks.items c.in-Err-blanks_of.fault c.in-Err-blanks_of.ensures.err) (EndsAs g.B.Banks.log c.ended-in-Err-blanks_of.result) (BanksKeep g.B.Banks.log c.ended-in-Err-blanks_of.result.banks.items) c.ended-in-Err-blanks_of.result.fault
+    bank_ends c.in-Err-blanks_of.fault (blanking_fault g.B.Banks.meter c.find_filled.new.banks.items c.in-Err-blanks_of.banks.items c.in-Err-blanks_of.fault c.in-Err-blanks_of.ensures.err) (says_of g.B.Banks.log c.args.banks.items c.ended-in-Err-blanks_of.result) c.ended-in-Err-blanks_of.result.fault
     (g.S.Source.left c.args.source.now) (g.K.Sink.held c.args.sink.now) bytes c.ended-in-Err-blanks_of.ensures.fault told
+    (rw c.ended-in-Err-blanks_of.ensures.banks (less_later g.B.Banks.log c.args.banks.items c.find_filled.new.banks.items c.in-Err-blanks_of.banks.items c.find_filled.ensures.meters.count c.find_filled.ensures.logs
+    c.in-Err-blanks_of.ensures.left))
 
 pub returns-in-Err-blanks_of-clause-counts : goal.returns-in-Err-blanks_of-clause-counts
 returns-in-Err-blanks_of-clause-counts g c = record {
@@ -113,7 +115,7 @@ returns-in-Ok-clause-untouched g c =
 
 pub returns-in-Ok-clause-ends : goal.returns-in-Ok-clause-ends
 returns-in-Ok-clause-ends g c = λ bytes told.
-    ends_by g.B.Banks.log c.err-fault.result c.replay.new.stage c.ended_with.result bytes (g.S.Source.left c.replay.new.source) (g.K.Sink.held c.args.sink.now) (g.K.Sink.held c.replay.new.sink) c.ended_with.ensures.ends
+    ends_by g.B.Banks.log c.err-fault.result c.replay.new.stage c.ended_with.result c.args.banks.items bytes (g.S.Source.left c.replay.new.source) (g.K.Sink.held c.args.sink.now) (g.K.Sink.held c.replay.new.sink) c.ended_with.ensures.ends
     (rw c.err-fault.ensures.value (c.replay.ensures.ends bytes told))
 
 pub returns-in-Ok-clause-filled : goal.returns-in-Ok-clause-filled
@@ -139,5 +141,5 @@ pub returns-in-Ok-clause-exact : goal.returns-in-Ok-clause-exact
 returns-in-Ok-clause-exact g c = λ bytes told outcome verdict words.
     said_by g.B.Banks.log c.err-fault.result c.replay.new.stage c.ended_with.result (λ f. Agrees f outcome) c.ended_with.ensures.ends tt
     (rw c.err-fault.ensures.value
-    (agrees_so (StageStands g.B.Banks.log c.replay.new.stage) (StageStands g.B.Banks.log c.replay.new.stage) (result_err c.replay.result) bytes (g.S.Source.left c.replay.new.source) (g.K.Sink.held c.args.sink.now) (g.K.Sink.held c.replay.new.sink) (c.replay.ensures.ends bytes told)
+    (agrees_so (says_by g.B.Banks.log c.replay.new.stage) (result_err c.replay.result) bytes (g.S.Source.left c.replay.new.source) (g.K.Sink.held c.args.sink.now) (g.K.Sink.held c.replay.new.sink) (c.replay.ensures.ends bytes told)
     (replay_not_usage c.replay.result c.replay.ensures.begun) outcome verdict))

@@ -17,3 +17,11 @@ pub returns-in_err-step-clause-back : goal.returns-in_err-step-clause-back
 returns-in_err-step-clause-back g c =
     let p = err_from_is_err_and c.from_residual.result c.from_residual.ensures.1 in
     rw (p.1, p.2) (world_stops (Unit {0}) g.B.Banks.meter (number_of_clone c.args.command.now) (banks_of c.args.world.now) (banks_of c.step.new.self) c.in_err-step.field-0.0 c.step.ensures.meters c.in_err-step.ensures.faults)
+
+pub returns-clause-settled : goal.returns-clause-settled
+returns-clause-settled g c = c.in_ok-step.ensures.settled
+
+pub returns-in_err-step-clause-left : goal.returns-in_err-step-clause-left
+returns-in_err-step-clause-left g c =
+    let p = err_from_is_err_and c.from_residual.result c.from_residual.ensures.1 in
+    rw p.1 (record { left = c.step.ensures.left; others = c.step.ensures.others })

@@ -1,0 +1,71 @@
+-- What a crash may leave of the banks of a run that stopped in the middle: in a line, at the end of the lines, or before the first line.
+use Rattle.std.specs.Prelude.{◌≡◌, ◌⊎◌, ℕ, List, [], ◌∷◌, Option, Some, slice_get}
+use Rattle.mld_io.specs.Disk.{Log, Sides, MayLeave, LeavesOnly}
+use Rattle.journal_sides.specs.Pairs.{KeepsNone, read_banks}
+use Rattle.mld_model.specs.Clone.{kept_of}
+use Rattle.mld_model.specs.World.{World, clone_at}
+use Rattle.schedule_model.specs.declared.Command.{Command}
+use Rattle.schedule_model.specs.Crashing.{Deed}
+use Rattle.schedule_model.specs.Runs.{Stage, Waiting, SetUp, Running, IsWorldOf}
+use Rattle.schedule_model.specs.Schedule.{Setup, SpellsCommand}
+use Rattle.schedule_model.specs.Step.{number_of_clone}
+use Rattle.schedule_model.specs.Tasks.{command_done}
+use Rattle.crash_laws.specs.CarriedSteps.{owner_at, StandsSome}
+use Rattle.crash_laws.specs.CrashLines.{ImageStands}
+use Rattle.net_world.specs.FoundingLeft.{LeavesFounding}
+use Rattle.net_world.specs.SettledWorlds.{AllImagesStand}
+
+-- whatever a crash may leave of banks is what it might have left of them before
+abbrev pub LeavesLess : {B : Type 0} → (B → Option Log) → B → B → Type 0
+LeavesLess log was now = (before behind : Log) → log was ≡ Some before → log now ≡ Some behind → LeavesOnly behind (MayLeave before)
+
+-- so it is of each of these banks, by number
+abbrev pub LeaveNoMore : {B : Type 0} → (B → Option Log) → List B → List B → Type 0
+LeaveNoMore {B = B} log old new = (number : ℕ) (was now : B) → slice_get old number ≡ Some was → slice_get new number ≡ Some now → LeavesLess log was now
+
+-- it reads to nothing
+abbrev pub AllReadNone : {B : Type 0} → (B → Option Log) → List B → Type 0
+AllReadNone {B = B} log banks = (number : ℕ) (one : B) (l : Log) → slice_get banks number ≡ Some one → log one ≡ Some l → LeavesOnly l (λ image. read_banks image ≡ KeepsNone)
+
+-- no clone is founded at the stage
+abbrev pub IsUnfounded : Stage → Type 0
+IsUnfounded Waiting = Unit {0}
+IsUnfounded (SetUp setup) = Unit {0}
+IsUnfounded (Running world) = ⊥
+
+-- founding is due: the next of the lines to come is a command, or there are none
+abbrev pub IsFoundingDue : Setup → List (List ℕ) → Type 0
+IsFoundingDue setup [] = Unit {0}
+IsFoundingDue setup (line ∷ rest) = (command : Command) × SpellsCommand setup.domain line command
+
+-- so it is, if the stage founds any
+abbrev pub IsDueAt : Stage → List (List ℕ) → Type 0
+IsDueAt Waiting lines = Unit {0}
+IsDueAt (SetUp setup) lines = IsFoundingDue setup lines
+IsDueAt (Running world) lines = Unit {0}
+
+-- sides stand for what the clone of the number keeps in the world, or, where the command is done at that clone, for what it keeps after some
+-- front of the durable steps of the command
+abbrev pub StandsInCommand : World → Command → ℕ → Sides → Type 0
+StandsInCommand world command number image =
+    ImageStands world number image
+    ⊎ ((number ≡ number_of_clone command) × (deed : Deed world (command_done command))
+    × StandsSome (owner_at world number) world.history (kept_of (clone_at world number)) deed.steps image)
+
+-- so do those that a crash may leave of all banks
+abbrev pub AllStandInCommand : {B : Type 0} → (B → Option Log) → World → Command → List B → Type 0
+AllStandInCommand {B = B} log world command banks = (number : ℕ) (one : B) (l : Log) → slice_get banks number ≡ Some one → log one ≡ Some l
+    → LeavesOnly l (StandsInCommand world command number)
+
+-- What a crash may leave of the banks, by the stage that the lines done led to, and the lines still to come: all that the lines done made durable,
+-- and of the next line, or of the founding that comes before it, a front of its durable steps.
+pub data AreLeftAmid {B : Type 0} (log : B → Option Log) (banks : List B) : Stage → List (List ℕ) → Type 0 where
+  -- no clone was founded, and founding hadn't begun
+  left_blank : {stage : Stage} {rest : List (List ℕ)} → IsUnfounded stage → AllReadNone log banks → AreLeftAmid log banks stage rest
+  -- clones were being founded
+  left_founding : {setup : Setup} {rest : List (List ℕ)} (clone : ℕ) → IsFoundingDue setup rest → LeavesFounding log setup clone banks → AreLeftAmid log banks (SetUp setup) rest
+  -- the clones are founded, and nothing of the next line was done
+  left_between : {world : World} {rest : List (List ℕ)} → AllImagesStand log world banks → AreLeftAmid log banks (Running world) rest
+  -- the next line is a command, of which a part was done; where no clone was founded before it, all were
+  left_in_command : {stage : Stage} {line : List ℕ} {rest : List (List ℕ)} (world : World) (command : Command) → IsWorldOf stage world → SpellsCommand world.domain line command
+      → AllStandInCommand log world command banks → AreLeftAmid log banks stage (line ∷ rest)
