@@ -1,0 +1,2 @@
+pub mod TooLarge
+pub mod Taken
