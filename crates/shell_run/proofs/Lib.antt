@@ -1,0 +1,3 @@
+pub mod WayLemmas
+mod StandingLemmas
+mod FaultLemmas

@@ -1,0 +1,26 @@
+use Rattle.std.proofs.Common.{◌≡◌, ◌-◌, ◌≤◌, IsTrue, Some}
+use Rattle.mld_io.specs.Disk.{Log}
+use Rattle.input_lines.specs.TooLarge.{line_limit, input_limit}
+use Rattle.input_lines.specs.Taken.{KnowsEnd}
+use Rattle.shell_session.specs.Sessions.{banks_of, IsStanding}
+use Rattle.shell_session.specs.Lines.{Meters}
+use Rattle.shell_run.specs.UnderWay.{WayTold}
+use Rattle.shell_run.proofs.run.do_lines.Given as goal
+
+abbrev pub invariant-loop-line : goal.invariant-loop-line
+invariant-loop-line g l = record {
+  way : WayTold g.B.Banks.log (g.B.Banks.log l.fn.banks) (g.S.Source.left l.fn.source) (g.S.Source.left l.source) (g.K.Sink.held l.fn.sink) (g.K.Sink.held l.sink) l.lines.taken l.session l.done;
+  standing : IsStanding l.session;
+  meters : Meters (g.B.Banks.meter l.fn.banks) (g.B.Banks.meter (banks_of l.session)) ⊥;
+  ends : (first : Log) → g.B.Banks.log l.fn.banks ≡ Some first → KnowsEnd l.lines.ended (g.S.Source.left l.fn.source) (g.S.Source.left l.source) l.done;
+  good : IsTrue l.lines.good;
+  line : l.lines.line ≡ line_limit;
+  all : l.lines.all ≡ input_limit;
+  few : l.done ≤ l.lines.taken;
+  within : l.lines.taken ≤ l.lines.all;
+  reads : g.S.Source.faults l.source ≡ g.S.Source.faults l.fn.source;
+  writes : g.K.Sink.faults l.sink ≡ g.K.Sink.faults l.fn.sink;
+}
+
+abbrev pub decreases-loop-line : goal.decreases-loop-line
+decreases-loop-line g l = l.lines.all - l.lines.taken
