@@ -1,6 +1,8 @@
 -- The lines of a schedule that is drawn from a seed. Draws come in the order in which what they give is written.
 use Rattle.std.specs.Prelude.{ℕ, zero, suc, ◌+◌, ◌*◌, ◌/◌, ◌%◌, ◌^◌, List, [], ◌∷◌, ◌++◌, codes, nat_le, ◌==◌, if◌then◌else◌}
+use Rattle.std.specs.List.{flat_map}
 use Rattle.std.specs.Fmt.{decimal}
+use Rattle.mld_io.specs.Lines.{line_break}
 
 -- the state behind a draw: a linear congruential generator with the factor and the addend of Knuth's MMIX
 unfoldable pub next_state : ℕ → ℕ
@@ -69,3 +71,7 @@ lines_from number x (suc count) = (drawn_line number x).line ∷ lines_from (num
 -- the lines of a seed and a number: the domain line, and so many command lines, the first of which has the number 1
 abbrev pub generated : ℕ → ℕ → List (List ℕ)
 generated seed count = codes "domain gen.example clones 4" ∷ lines_from 1 seed count
+
+-- the text of lines: each with its LF
+abbrev pub text_of : List (List ℕ) → List ℕ
+text_of lines = flat_map (λ line. line ++ line_break ∷ []) lines

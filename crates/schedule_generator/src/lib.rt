@@ -4,4 +4,4 @@
 mod draws;
 mod lines;
 
-pub use lines::generate;
+pub use lines::{generate, text_of};

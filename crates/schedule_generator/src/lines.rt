@@ -1,7 +1,8 @@
 //! The lines of a generated schedule.
-ghost use Rattle.std.specs.Prelude.{◌≡◌, ◌<◌, ◌+◌, IfOk};
+ghost use Rattle.std.specs.Prelude.{◌≡◌, ◌<◌, ◌+◌, ◌++◌, ◌∷◌, [], IfOk, OnOk};
 ghost use Rattle.std.specs.String.{string_bytes};
-ghost use Rattle.schedule_generator.specs.Generated.{change, delivery, of_clone, of_clone_and, one_of_three, drawn_line, generated};
+ghost use Rattle.mld_io.specs.Lines.{line_break};
+ghost use Rattle.schedule_generator.specs.Generated.{change, delivery, of_clone, of_clone_and, one_of_three, drawn_line, generated, text_of};
 
 use crate::draws::Draws;
 use mld_io::Piece;
@@ -19,6 +20,26 @@ pub fn generate(alloc: Global, seed: u64, n: u32) -> Result<Vec<Piece>, AllocErr
         lines.push(Piece::from_vec(line.into_bytes()))?;
     }
     Ok(lines)
+}
+
+/// The text of lines: each with its LF.
+pub fn text_of(alloc: Global, lines: &[Piece]) -> Result<Vec<u8>, AllocError>
+    ensures text { IfOk result (λ text. text.items ≡ text_of lines.now) }
+{
+    let mut text = Vec::new(alloc);
+    for line in lines {
+        push_line(&mut text, line.as_slice())?;
+    }
+    Ok(text)
+}
+
+/// Adds a line with its LF.
+fn push_line(text: &mut Vec<u8>, line: &[u8]) -> Result<(), AllocError>
+    ensures { OnOk result (text.new.items ≡ text.old.items ++ (line.now ++ line_break ∷ [])) }
+{
+    text.extend_from_slice(line)?;
+    text.push(b'\n')?;
+    Ok(())
 }
 
 /// A command line: a change of a clone's triples at six of ten draws, a delivery at two, a question at one, and else one of three others.
