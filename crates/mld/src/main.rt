@@ -1,4 +1,5 @@
-//! `mld replay` reads a schedule of one shared graph and its clones from standard input, and writes the replies.
+//! `mld replay` reads a schedule of one shared graph and its clones from standard input, and writes the replies. `mld gen SEED N` runs the
+//! schedule that a seed gives, and writes counts of it.
 #![tactic(auto)]
 
 use disk_model::{MemoryBanks, blank_banks};

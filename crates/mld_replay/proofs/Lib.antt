@@ -1,8 +1,11 @@
+pub mod Counting
 pub mod BlankLemmas
 pub mod EndLemmas
+pub mod GeneratedLemmas
 pub mod LimitLemmas
 pub mod MeterLemmas
 pub mod RunLemmas
 pub mod StageLemmas
 pub mod StoppedLemmas
 pub mod SummaryLemmas
+pub mod SpelledLines

@@ -11,3 +11,6 @@ pub mod FaultTexts
 pub mod Filled
 pub mod Looking
 pub mod BankFaults
+pub mod Words
+pub mod Counts
+pub mod GeneratedRuns

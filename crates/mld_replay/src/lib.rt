@@ -3,8 +3,12 @@
 #![tactic(auto)]
 
 mod blanks;
+mod counts;
+mod edges;
 mod endings;
+mod generated;
 mod limits;
 pub mod run;
 mod stages;
 mod stops;
+mod words;

@@ -1,5 +1,5 @@
 //! The run: all that the program does, over the words, the source and the sink that it is handed.
-ghost use Rattle.std.specs.Prelude.{◌≡◌, ◌↔◌, ◌≤◌, ◌<◌, ◌+◌, ◌∷◌, ℕ, List, [], map, take, false, None, vec_len, IsTrue, IfOk, IfErr, OnOk, OnErr, IsErrOf};
+ghost use Rattle.std.specs.Prelude.{◌≡◌, ◌≢◌, ◌↔◌, ◌≤◌, ◌<◌, ◌+◌, ◌∷◌, ℕ, List, [], map, take, false, None, vec_len, IsTrue, IfOk, IfErr, OnOk, OnErr, IsErrOf};
 ghost use Rattle.std.specs.Io.KnownBytes.{Appends};
 ghost use Rattle.std.specs.Result.{result_err};
 ghost use Rattle.std.specs.String.{string_bytes};
@@ -13,14 +13,19 @@ ghost use Rattle.net_world.specs.CrashedWorlds.{AreUnarmed};
 ghost use Rattle.mld_replay.specs.BankFaults.{BringsBack, ReturnsBanks};
 ghost use Rattle.mld_replay.specs.Filled.{HeedsFilled};
 ghost use Rattle.mld_replay.specs.Stages.{StageStands, IsStandingStage, steps_of, banks_of_stage, ActsWell, EndsWell};
+ghost use Rattle.mld_replay.specs.Words.{IsGenerate, AreUnknown};
+ghost use Rattle.mld_replay.specs.GeneratedRuns.{AreGivenLines, EndsGenerated};
+ghost use Rattle.schedule_generator.specs.Generated.{generated};
 ghost use Rattle.mld_replay.specs.Ran.{status_of, tells, IsReplay, EndsSo, says_of, Agrees, LeavesAlone, AreUntouched, CountsFaults};
 ghost use Rattle.mld_replay.specs.Replaying.{EndsBy, says_by, TakesLine, IfSomeLine, IsReadingFault, IsWritingFault, IsReplayFault, IsLineFault, IsEndFault, HasReadCause, HasWriteFaultCause};
 
 use crate::blanks::{blanks_of, find_filled};
 use crate::endings::{End, end_of};
+use crate::generated::run_generated;
 use crate::limits::{INPUT_LIMIT, LINE_LIMIT};
 use crate::stages::{Stage, act, finish};
 use crate::stops::LineStop;
+use crate::words::{Words, read_words};
 use mld_io::{Banks, CrashBanks, LineFault, Lines, Piece, Sink, Source, WriteFault, write_all};
 use std::alloc::{AllocError, Global};
 use std::fmt;
@@ -62,11 +67,12 @@ pub struct Ran<B> {
     pub world: Option<Summary>,
 }
 
-/// Does all that the program does: by the word `replay` it reads a schedule from the source and writes the replies. Each clone lives on
-/// banks of its own, of which there are as many as clones, and none is armed to crash; they come back in their order.
+/// Does all that the program does: by the word `replay` it reads a schedule from the source and writes the replies; by `gen SEED N` it
+/// runs the schedule of a seed, which has N commands (at most 10,000), reads nothing, and writes counts of it at its end. Each clone lives
+/// on banks of its own, of which there are as many as clones, and none is armed to crash; they come back in their order.
 ///
 /// # Statuses
-/// 0: the source was read to its end. 1: the words are not `replay` alone; nothing is read or written. 2: the source
+/// 0: the source was read to its end, or the counts written. 1: the words are none of these; nothing is read or written. 2: the source
 /// failed; the lines whose LF was read are done. 3: the sink failed. 4: a line is outside the grammar, or the input ended
 /// before a `domain` line. 5: no memory. 6: the device of the clone that is named failed. 7: a line is too large. 8: banks are not
 /// empty; nothing is read or written, and they stay as they were. Each line is answered before the next is read. A failure of a device
@@ -81,7 +87,7 @@ pub fn run<R: Threads, S: Source, K: Sink, B: CrashBanks>(
 ) -> Ran<B>
     requires { (vec_len banks ≡ clone_count) × AreUnarmed B.meter banks.items }
     ensures status { result.status ≡ status_of result.fault }
-    ensures usage { (result.fault ≡ Some RunFault.Usage) ↔ (¬ IsReplay (map (λ w. string_bytes w) words.now.items)) }
+    ensures usage { (result.fault ≡ Some RunFault.Usage) ↔ AreUnknown (map (λ w. string_bytes w) words.now.items) }
     // At 1 and 8 nothing is read or written, and at 1 no bank is called.
     ensures untouched { LeavesAlone result.fault (AreUntouched source.old source.new sink.old sink.new) (result.banks ≡ banks) }
     // How the run ended, by its fault. The text that was written is that of a run of the model over the first lines, or a front of it.
@@ -96,7 +102,7 @@ pub fn run<R: Threads, S: Source, K: Sink, B: CrashBanks>(
     // 6: the text is that of the lines before the one under way. Whatever a crash leaves of the banks then has all that these lines made
     // durable, and of the line under way, or of founding, a front of the durable steps; where no line was begun, it is what it might have left
     // before the run. 5: so it is too, or as at 3, or no banks come back.
-    ensures ends { (bytes : List ℕ) → S.left source.old ≡ Some bytes
+    ensures ends { IsReplay (map (λ w. string_bytes w) words.now.items) → (bytes : List ℕ) → S.left source.old ≡ Some bytes
         → EndsSo (says_of B.log banks.items result) result.fault bytes (S.left source.new) (K.held sink.old) (K.held sink.new) }
     // 8 tells of the first banks with a side that has bytes. Where there are such, the run ends by 8 with their number, by 6 with it or a
     // lower one, or by 1 or 5; no line is read, and the log of each bank stays.
@@ -110,13 +116,42 @@ pub fn run<R: Threads, S: Source, K: Sink, B: CrashBanks>(
     // was wanting after a failed read or write, the run ended by 5.
     ensures counts { CountsFaults result.fault (S.faults source.old) (S.faults source.new) (K.faults sink.old) (K.faults sink.new) }
     // Whatever a verdict on the lines is, by whichever choices at its crash lines, the run ends so, unless it ended by 2, 3, 5, 6, 7 or 8:
-    // at its end, or by 4 at that line.
-    ensures exact { (bytes : List ℕ) → S.left source.old ≡ Some bytes → (outcome : Outcome) → Verdict (lines_of bytes) outcome
-        → IsReplay (map (λ w. string_bytes w) words.now.items) → Agrees result.fault outcome }
+    // at its end, or by 4 at that line. The lines are those of the source, or those of the seed.
+    ensures exact { (lines : List (List ℕ)) → AreGivenLines (map (λ w. string_bytes w) words.now.items) (S.left source.old) lines
+        → (outcome : Outcome) → Verdict lines outcome → Agrees result.fault outcome }
+    // By `gen` the source is untouched, whatever the end. 0: the lines of the seed are done, and their counts written; world and banks are
+    // those of that world. 3: a front of the counts was written, and the banks keep that world. 5: so too; or nothing was, and the banks
+    // are as at 5 of a replay of these lines. 6: so too, as at 6. 2, 4 and 7 never come.
+    ensures generated { (seed count : ℕ) → IsGenerate (map (λ w. string_bytes w) words.now.items) seed count → (source.new ≡ source.old)
+        × EndsGenerated (says_of B.log banks.items result) result.fault (generated seed count) (K.held sink.old) (K.held sink.new) }
 {
-    if !is_replay(words) {
-        return ended(Some(RunFault::Usage), banks, None);
+    match read_words(words) {
+        Words::Replay => run_replay(rt, alloc, source, sink, banks),
+        Words::Generate(seed, count) => run_generated(rt, alloc, seed, count, sink, banks),
+        Words::Unknown => ended(Some(RunFault::Usage), banks, None),
     }
+}
+
+/// Does all that the program does by the word `replay`.
+pub fn run_replay<R: Threads, S: Source, K: Sink, B: CrashBanks>(
+    rt: &R,
+    alloc: Global,
+    source: &mut S,
+    sink: &mut K,
+    banks: Vec<B>,
+) -> Ran<B>
+    requires { (vec_len banks ≡ clone_count) × AreUnarmed B.meter banks.items }
+    ensures status { result.status ≡ status_of result.fault }
+    ensures known { result.fault ≢ Some RunFault.Usage }
+    ensures untouched { LeavesAlone result.fault (AreUntouched source.old source.new sink.old sink.new) (result.banks ≡ banks) }
+    ensures ends { (bytes : List ℕ) → S.left source.old ≡ Some bytes
+        → EndsSo (says_of B.log banks.items result) result.fault bytes (S.left source.new) (K.held sink.old) (K.held sink.new) }
+    ensures filled { HeedsFilled B.log banks.items result.banks.items result.fault (AreUntouched source.old source.new sink.old sink.new) }
+    ensures back { ReturnsBanks B.meter banks.items result.banks.items result.fault }
+    ensures silent { ¬ IsTrue (tells result.fault) → result.world ≡ None }
+    ensures counts { CountsFaults result.fault (S.faults source.old) (S.faults source.new) (K.faults sink.old) (K.faults sink.new) }
+    ensures exact { (bytes : List ℕ) → S.left source.old ≡ Some bytes → (outcome : Outcome) → Verdict (lines_of bytes) outcome → Agrees result.fault outcome }
+{
     let mut banks = banks;
     if let Err(fault) = find_filled(&mut banks) {
         return ended(Some(fault), banks, None);
@@ -185,16 +220,6 @@ fn status_of(fault: Option<RunFault>) -> u8
     }
 }
 
-/// The one word is `replay`.
-fn is_replay(words: &Vec<String>) -> bool
-    ensures { IsTrue result ↔ IsReplay (map (λ w. string_bytes w) words.now.items) }
-{
-    match words.as_slice() {
-        [word] => word.as_str() == "replay",
-        _ => false,
-    }
-}
-
 /// Replays the schedule of the source, and leaves the stage that it leads to. Where memory runs out, what is left is not to be used.
 fn replay<R: Threads, S: Source, K: Sink, B: CrashBanks>(
     rt: &R,
@@ -253,7 +278,7 @@ fn next_line<S: Source>(
 }
 
 /// Writes the text of a line's reply as one piece.
-fn write_reply<K: Sink>(sink: &mut K, reply: &[u8]) -> Result<(), RunFault>
+pub fn write_reply<K: Sink>(sink: &mut K, reply: &[u8]) -> Result<(), RunFault>
     ensures ok { OnOk result (Appends (K.held sink.old) (K.held sink.new) reply.now) }
     ensures err { OnErr result ((n : ℕ) × Appends (K.held sink.old) (K.held sink.new) (take n reply.now)) }
     ensures fault { IfErr result IsWritingFault }

@@ -1,8 +1,12 @@
-//! Generated schedules: the lines that a seed gives.
-use mld_io::Piece;
-use schedule_generator::generate;
+//! Generated schedules: the lines that a seed gives, and the counts of a run of them.
+use crate::replays::{Given, Odd, banks, ended, replay, words};
+use mld_io::{MemorySink, MemorySource, Piece};
+use mld_replay::run::run;
+use schedule_generator::{generate, text_of};
 use std::alloc::{AllocError, Global};
 use std::test::Fail;
+use std::thread::Threads;
+use world_summaries::{CloneSummary, Summary};
 
 /// The lines of seed 0, as another program worked them out from `docs/FORMATS.md`.
 const OF_ZERO: &[&str] = &[
@@ -80,6 +84,86 @@ fn a_seed_gives_its_lines(rt: HostRuntime) -> Result<(), Fail> {
     for (seed, commands, texts) in cases {
         let is_so = gives(rt.alloc(), seed, commands, texts)?;
         assert!(rt; is_so, "{seed}");
+    }
+    Ok(())
+}
+
+/// What is written by `gen 0 1`: the one command delivers a message that there isn't.
+const OF_ZERO_AND_ONE: &[u8] = b"lines 2\n\
+    clone 0 ranges 0 tagged 0 known 0\n\
+    clone 1 ranges 0 tagged 0 known 0\n\
+    clone 2 ranges 0 tagged 0 known 0\n\
+    clone 3 ranges 0 tagged 0 known 0\n";
+
+/// A run by these words, of whose source the first read fails, ends well and writes this.
+fn writes<R: Threads>(
+    rt: &R,
+    alloc: Global,
+    words: &[&str],
+    text: &[u8],
+) -> Result<bool, AllocError> {
+    let given = Given {
+        words,
+        reads: &[0],
+        ..replay(b"")
+    };
+    let mut sink = MemorySink::new(alloc, &[])?;
+    let end = ended(rt, alloc, given, &mut sink)?;
+    Ok(end.status == 0 && end.tells && sink.bytes() == text)
+}
+
+#[test]
+fn a_generated_schedule_is_counted(rt: HostRuntime) -> Result<(), Fail> {
+    let is_so = writes(&rt, rt.alloc(), &["gen", "0", "1"], OF_ZERO_AND_ONE)?;
+    assert!(rt; is_so);
+    Ok(())
+}
+
+/// How many dots a clone knows.
+fn known(clone: &CloneSummary) -> u64 {
+    let mut dots = 0u64;
+    for (_, ticks) in &clone.known {
+        dots = dots.saturating_add(u64::from(*ticks));
+    }
+    dots
+}
+
+/// The counts of a schedule of so many lines, by what a replay tells.
+fn counts(alloc: Global, lines: usize, summary: &Summary) -> Result<String, AllocError> {
+    let mut text = format!(in alloc; "lines {lines}\n")?;
+    for (number, clone) in summary.clones.iter().take(4).enumerate() {
+        let ranges = clone.journal.len();
+        let tagged = clone.tagged.len();
+        let known = known(clone);
+        let line = format!(in alloc;
+            "clone {number} ranges {ranges} tagged {tagged} known {known}\n"
+        )?;
+        text.push_str(line.as_str())?;
+    }
+    Ok(text)
+}
+
+/// The counts of a replay of the lines of a seed.
+fn replayed<R: Threads>(rt: &R, alloc: Global, seed: u64, n: u32) -> Result<String, AllocError> {
+    let lines = generate(alloc, seed, n)?;
+    let text = text_of(alloc, &lines)?;
+    let words = words(alloc, &["replay"])?;
+    let mut source = MemorySource::new(alloc, &text, &[])?;
+    let mut sink = MemorySink::new(alloc, &[])?;
+    let banks = banks(alloc, Odd::Nothing)?;
+    let ran = run(rt, alloc, &words, &mut source, &mut sink, banks);
+    match &ran.world {
+        Some(summary) => counts(alloc, lines.len(), summary),
+        None => Ok(String::new(alloc)),
+    }
+}
+
+#[test]
+fn a_generated_schedule_runs_as_its_replay(rt: HostRuntime) -> Result<(), Fail> {
+    let text = replayed(&rt, rt.alloc(), 1, 2000)?;
+    for _ in 0..2 {
+        let is_so = writes(&rt, rt.alloc(), &["gen", "1", "2000"], text.as_bytes())?;
+        assert!(rt; is_so);
     }
     Ok(())
 }

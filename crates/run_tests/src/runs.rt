@@ -206,8 +206,12 @@ fn a_line_and_the_input_have_limits(rt: HostRuntime) -> Result<(), Fail> {
 
 #[test]
 fn other_words_or_banks_end_the_run_at_once(rt: HostRuntime) -> Result<(), Fail> {
-    let cases: [(&[&str], Odd, u8, RunFault); 5] = [
+    let cases: [(&[&str], Odd, u8, RunFault); 9] = [
         (&[], Odd::Nothing, 1, RunFault::Usage),
+        (&["gen", "0"], Odd::Nothing, 1, RunFault::Usage),
+        (&["gen", "00", "1"], Odd::Nothing, 1, RunFault::Usage),
+        (&["gen", "0", "10001"], Odd::Nothing, 1, RunFault::Usage),
+        (&["gen", "0", "1"], Odd::Fails(1, 0), 6, RunFault::Device(1)),
         (&["replay", "x"], Odd::Nothing, 1, RunFault::Usage),
         (&["Replay"], Odd::Nothing, 1, RunFault::Usage),
         (&["replay"], Odd::Fails(1, 0), 6, RunFault::Device(1)),

@@ -1,16 +1,16 @@
 -- The text of a generated schedule has its lines.
-use Rattle.std.proofs.Common.{◌≡◌, ◌≢◌, ◌∙◌, refl, sym, ap, ℕ, zero, suc, ◌+◌, ◌%◌, ◌<◌, ◌≤◌, ◌^◌, List, [], ◌∷◌, ◌++◌, codes, All, Bool, true, false, arith, subst, inl, inr}
+use Rattle.std.proofs.Common.{◌≡◌, ◌≢◌, ◌∙◌, refl, sym, ap, ℕ, zero, suc, ◌+◌, ◌%◌, ◌<◌, ◌≤◌, ◌^◌, List, [], ◌∷◌, ◌++◌, codes, length, length-append, ◌*◌, All, Bool, true, false, arith, subst, inl, inr}
 use Rattle.std.specs.Prelude.{◌==◌, if◌then◌else◌}
 use Rattle.std.specs.Fmt.{decimal}
 use Rattle.std.proofs.lemmas.Bool.{false≢true}
 use Rattle.std.proofs.lemmas.Bool.Decides.{eqb_tells}
-use Rattle.std.proofs.lemmas.Fmt.{decimal_by_steps}
+use Rattle.std.proofs.lemmas.Fmt.{decimal_by_steps, length-decimal-le}
 use Rattle.std.proofs.lemmas.List.{append_assoc}
 use Rattle.std.proofs.lemmas.List.Elements.{All-nil, All-cons, All-append, All-push, All-head, All-tail, All-weaker}
 use Rattle.mld_io.specs.Lines.{line_break, lines_of, onto_first, HasNoEnd}
-use Rattle.schedule_generator.specs.Generated.{lines_from, generated, text_of}
+use Rattle.schedule_generator.specs.Generated.{drawn_line, lines_from, generated, text_of}
 use Rattle.schedule_generator.specs.DrawnCommands.{triple_of, IsDrawn, adds, removes, delivers, asks, compacts, truncates, compares}
-use Rattle.schedule_generator.proofs.DrawnLines.{all_drawn}
+use Rattle.schedule_generator.proofs.DrawnLines.{a_line, all_drawn}
 
 -- a byte is no LF
 abbrev IsInLine : ℕ → Type 0
@@ -86,3 +86,67 @@ pub generated_text : (seed count : ℕ) → count < 2 ^ 32 → lines_of (text_of
 generated_text seed count few =
     lines_of_text (generated seed count) (All-cons HasNoEnd (codes "domain gen.example clones 4") (lines_from 1 seed count) (word_in_line (codes "domain gen.example clones 4") refl)
     (All-weaker IsDrawn HasNoEnd drawn_in_line (lines_from 1 seed count) (all_drawn count 1 seed (omega arith) (omega (arith, few)))))
+
+-- ---- its length
+
+two_digits : (n : ℕ) → n < 100 → length (decimal n) ≤ 2
+two_digits n h = length-decimal-le 2 n (omega arith) (omega (arith, h)) (omega (arith, h))
+
+triple_short : (subject predicate text : ℕ) → subject < 50 → predicate < 5 → text < 20 → length (triple_of subject predicate text) ≤ 60
+triple_short subject predicate text s p t =
+    let first = length-append (decimal subject) (codes "> <http://gen.example/#p" ++ (decimal predicate ++ (codes "> \"" ++ (decimal text ++ codes "\" .")))) in
+    let second = length-append (decimal predicate) (codes "> \"" ++ (decimal text ++ codes "\" .")) in
+    let third = length-append (decimal text) (codes "\" .") in
+    let one = two_digits subject (omega (arith, s)) in
+    let two = two_digits predicate (omega (arith, p)) in
+    let three = two_digits text (omega (arith, t)) in
+    omega (arith, first, second, third, one, two, three)
+
+-- a command line has at most 70 bytes
+drawn_short : (line : List ℕ) → IsDrawn line → length line ≤ 70
+drawn_short line (adds clone subject predicate text c s p t is) =
+    let all = length-append (decimal clone) (codes " " ++ triple_of subject predicate text) in
+    let one = two_digits clone (omega (arith, c)) in
+    let triple = triple_short subject predicate text s p t in
+    rw is (omega (arith, all, one, triple))
+drawn_short line (removes clone subject predicate text c s p t is) =
+    let all = length-append (decimal clone) (codes " " ++ triple_of subject predicate text) in
+    let one = two_digits clone (omega (arith, c)) in
+    let triple = triple_short subject predicate text s p t in
+    rw is (omega (arith, all, one, triple))
+drawn_short line (delivers message clone m c is) =
+    let all = length-append (decimal message) (codes " " ++ decimal clone) in
+    let one : length (decimal message) ≤ 20 = length-decimal-le 20 message (omega arith) (omega (arith, m)) m in
+    let two = two_digits clone (omega (arith, c)) in
+    rw is (omega (arith, all, one, two))
+drawn_short line (asks clone c is) = let one = two_digits clone (omega (arith, c)) in rw is (omega (arith, one))
+drawn_short line (compacts clone c is) = let one = two_digits clone (omega (arith, c)) in rw is (omega (arith, one))
+drawn_short line (truncates clone keep c k is) =
+    let all = length-append (decimal clone) (codes " " ++ decimal keep) in
+    let one = two_digits clone (omega (arith, c)) in
+    let two = two_digits keep (omega (arith, k)) in
+    rw is (omega (arith, all, one, two))
+drawn_short line (compares clone other c o is) =
+    let all = length-append (decimal clone) (codes " " ++ decimal other) in
+    let one = two_digits clone (omega (arith, c)) in
+    let two = two_digits other (omega (arith, o)) in
+    rw is (omega (arith, all, one, two))
+
+-- so many lines have at most 71 bytes each with their LFs
+text_short : (count number x : ℕ) → 0 < number → number + count ≤ 2 ^ 64 → length (text_of (lines_from number x count)) ≤ 71 * count
+text_short zero number x some small = omega arith
+text_short (suc count) number x some small =
+    let line = (drawn_line number x).line in
+    let rest = text_of (lines_from (number + 1) (drawn_line number x).state count) in
+    let all = length-append (line ++ line_break ∷ []) rest in
+    let one = length-append line (line_break ∷ []) in
+    let short = drawn_short line (a_line number x some (omega (arith, small))) in
+    let more = text_short count (number + 1) (drawn_line number x).state (omega arith) (omega (arith, small)) in
+    omega (arith, all, one, short, more)
+
+-- and a generated schedule at most 71 more
+pub generated_short : (seed count : ℕ) → count < 2 ^ 32 → length (text_of (generated seed count)) ≤ 71 * (count + 1)
+generated_short seed count few =
+    let lines = text_short count 1 seed (omega arith) (omega (arith, few)) in
+    let all = length-append (codes "domain gen.example clones 4" ++ line_break ∷ []) (text_of (lines_from 1 seed count)) in
+    omega (arith, all, lines)

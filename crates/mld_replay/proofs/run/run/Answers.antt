@@ -1,145 +1,95 @@
-use Rattle.std.proofs.Common.{◌≡◌, ◌≢◌, ap, refl, Some}
-use Rattle.std.specs.Result.{result_err}
+use Rattle.std.proofs.Common.{refl}
+use Rattle.mld_replay.specs.Ran.{says_of}
+use Rattle.mld_replay.specs.GeneratedRuns.{of_source, of_seed}
 use Rattle.mld_replay.specs.declared.run.RunFault.TheVariants as faults
-use Rattle.mld_replay.specs.Ran.{says_of, AreUntouched, LeavesAlone, CountsFaults, Agrees}
-use Rattle.mld_replay.specs.Replaying.{says_by}
-use Rattle.mld_replay.proofs.MeterLemmas.{well_then, unarmed_later, back_same, back_unarmed}
-use Rattle.mld_replay.proofs.BlankLemmas.{empty_still, stay_less, less_later}
-use Rattle.mld_replay.proofs.SummaryLemmas.{ends_by, back_by, said_by, replay_alone, replay_not_usage, replay_not_filled, agrees_so, looking_fault, blanking_fault, bank_ends, left_alone, not_begun, bank_alone, bank_reads, bank_writes, bank_agrees, looking_heeds, empty_heeds, blanking_not_filled, usage_heeds, refused_back, back_told}
+use Rattle.mld_replay.proofs.MeterLemmas.{back_same}
+use Rattle.mld_replay.proofs.SummaryLemmas.{left_alone, usage_heeds}
+use Rattle.mld_replay.proofs.GeneratedLemmas.{not_both, generated_known, generated_reads, generated_alone, heeds_as, exact_source, exact_seed, ends_of_seed}
 use Rattle.mld_replay.proofs.run.run.Goals as goal
+
+-- ---- a replay
+
+pub returns-in-Replay-clause-usage : goal.returns-in-Replay-clause-usage
+returns-in-Replay-clause-usage g c =
+    let said = rw c.in-Replay.is at c.read_words.ensures in
+    (λ is. absurd (c.run_replay.ensures.known is), λ none. absurd (none.no_replay said))
+
+pub returns-in-Replay-clause-ends : goal.returns-in-Replay-clause-ends
+returns-in-Replay-clause-ends g c = λ words. c.run_replay.ensures.ends
+
+pub returns-in-Replay-clause-exact : goal.returns-in-Replay-clause-exact
+returns-in-Replay-clause-exact g c = λ lines given outcome verdict.
+    let said = rw c.in-Replay.is at c.read_words.ensures in
+    exact_source c.run_replay.result.fault _ (g.S.Source.left c.args.source.now) lines said given outcome verdict c.run_replay.ensures.exact
+
+pub returns-in-Replay-clause-generated : goal.returns-in-Replay-clause-generated
+returns-in-Replay-clause-generated g c = λ seed count words.
+    let said = rw c.in-Replay.is at c.read_words.ensures in
+    absurd (not_both _ seed count said words)
+
+-- ---- a generated schedule
+
+pub run_generated-requires-clause-few : goal.run_generated-requires-clause-few
+run_generated-requires-clause-few g c = let said = rw c.in-Generate.is at c.read_words.ensures in said.few
+
+pub returns-in-Generate-clause-usage : goal.returns-in-Generate-clause-usage
+returns-in-Generate-clause-usage g c =
+    let said = rw c.in-Generate.is at c.read_words.ensures in
+    (λ is. absurd (generated_known _ _ _ _ _ c.run_generated.ensures.ends is), λ none. absurd (none.no_generate _ _ said))
+
+pub returns-in-Generate-clause-untouched : goal.returns-in-Generate-clause-untouched
+returns-in-Generate-clause-untouched g c =
+    generated_alone _ c.run_generated.result.fault _ _ _ c.args.source.now c.args.sink.now c.run_generated.new.sink _ c.run_generated.ensures.ends c.run_generated.ensures.untouched
+
+pub returns-in-Generate-clause-ends : goal.returns-in-Generate-clause-ends
+returns-in-Generate-clause-ends g c = λ words. let said = rw c.in-Generate.is at c.read_words.ensures in absurd (not_both _ _ _ words said)
+
+pub returns-in-Generate-clause-filled : goal.returns-in-Generate-clause-filled
+returns-in-Generate-clause-filled g c =
+    heeds_as g.B.Banks.log c.args.banks.items c.run_generated.result.banks.items c.run_generated.result.fault _ _ (λ same. record { source_is = refl; sink_is = same }) c.run_generated.ensures.filled
+
+pub returns-in-Generate-clause-counts : goal.returns-in-Generate-clause-counts
+returns-in-Generate-clause-counts g c = record { read = generated_reads _ _ _ _ _ _ c.run_generated.ensures.ends; write = c.run_generated.ensures.counts }
+
+pub returns-in-Generate-clause-exact : goal.returns-in-Generate-clause-exact
+returns-in-Generate-clause-exact g c = λ lines given outcome verdict.
+    let said = rw c.in-Generate.is at c.read_words.ensures in
+    exact_seed c.run_generated.result.fault _ (g.S.Source.left c.args.source.now) lines _ _ said given outcome verdict c.run_generated.ensures.exact
+
+pub returns-in-Generate-clause-generated : goal.returns-in-Generate-clause-generated
+returns-in-Generate-clause-generated g c = λ seed count words.
+    let said = rw c.in-Generate.is at c.read_words.ensures in
+    (refl, ends_of_seed (says_of g.B.Banks.log c.args.banks.items c.run_generated.result) c.run_generated.result.fault _ _ _ seed count _ _ said words c.run_generated.ensures.ends)
 
 -- ---- the words are others
 
-pub returns-then-not-is_replay-clause-untouched : goal.returns-then-not-is_replay-clause-untouched
-returns-then-not-is_replay-clause-untouched g c = rw c.ended.ensures.fault (left_alone c.args.source.now c.args.sink.now, c.ended.ensures.banks)
+pub returns-in-Unknown-clause-usage : goal.returns-in-Unknown-clause-usage
+returns-in-Unknown-clause-usage g c = let said = rw c.in-Unknown.is at c.read_words.ensures in (λ _. said, λ _. c.ended.ensures.fault)
 
-pub returns-then-not-is_replay-clause-ends : goal.returns-then-not-is_replay-clause-ends
-returns-then-not-is_replay-clause-ends g c = λ bytes told. rw c.ended.ensures.fault (not_begun _ _ _ told)
+pub returns-in-Unknown-clause-untouched : goal.returns-in-Unknown-clause-untouched
+returns-in-Unknown-clause-untouched g c = rw c.ended.ensures.fault (left_alone c.args.source.now c.args.sink.now, c.ended.ensures.banks)
 
-pub returns-then-not-is_replay-clause-filled : goal.returns-then-not-is_replay-clause-filled
-returns-then-not-is_replay-clause-filled g c =
+pub returns-in-Unknown-clause-ends : goal.returns-in-Unknown-clause-ends
+returns-in-Unknown-clause-ends g c = λ words. let said = rw c.in-Unknown.is at c.read_words.ensures in absurd (said.no_replay words)
+
+pub returns-in-Unknown-clause-filled : goal.returns-in-Unknown-clause-filled
+returns-in-Unknown-clause-filled g c =
     rw (c.ended.ensures.fault, c.ended.ensures.banks) (usage_heeds g.B.Banks.log c.args.banks.items _ (left_alone c.args.source.now c.args.sink.now))
 
-pub returns-then-not-is_replay-clause-counts : goal.returns-then-not-is_replay-clause-counts
-returns-then-not-is_replay-clause-counts g c = rw c.ended.ensures.fault (record { read = refl; write = refl })
+pub returns-in-Unknown-clause-counts : goal.returns-in-Unknown-clause-counts
+returns-in-Unknown-clause-counts g c = rw c.ended.ensures.fault (record { read = refl; write = refl })
 
-pub returns-then-not-is_replay-clause-back : goal.returns-then-not-is_replay-clause-back
-returns-then-not-is_replay-clause-back g c =
+pub returns-in-Unknown-clause-back : goal.returns-in-Unknown-clause-back
+returns-in-Unknown-clause-back g c =
     rw (c.ended.ensures.fault, c.ended.ensures.banks) (back_same g.B.Banks.meter c.args.banks.items faults.Usage (λ clone is. absurd (cc (is))))
 
--- ---- banks have bytes, or could not be looked at
+pub returns-in-Unknown-clause-exact : goal.returns-in-Unknown-clause-exact
+returns-in-Unknown-clause-exact g c = λ lines given outcome verdict.
+    let said = rw c.in-Unknown.is at c.read_words.ensures in
+    absurd (elim given [
+      | of_source bytes words left is ↦ said.no_replay words
+      | of_seed seed count words is ↦ said.no_generate seed count words
+    ])
 
-pub returns-in-Err-clause-untouched : goal.returns-in-Err-clause-untouched
-returns-in-Err-clause-untouched g c = rw c.ended-in-Err.ensures.fault (bank_alone c.in-Err.fault (looking_fault g.B.Banks.log c.args.banks.items c.in-Err.fault c.in-Err.ensures.err) _ _ (left_alone c.args.source.now c.args.sink.now))
-
-pub returns-in-Err-clause-ends : goal.returns-in-Err-clause-ends
-returns-in-Err-clause-ends g c = λ bytes told.
-    bank_ends c.in-Err.fault (looking_fault g.B.Banks.log c.args.banks.items c.in-Err.fault c.in-Err.ensures.err) (says_of g.B.Banks.log c.args.banks.items c.ended-in-Err.result) c.ended-in-Err.result.fault
-    (g.S.Source.left c.args.source.now) (g.K.Sink.held c.args.sink.now) bytes c.ended-in-Err.ensures.fault told
-    (rw c.ended-in-Err.ensures.banks (stay_less g.B.Banks.log c.args.banks.items c.find_filled.new.banks.items c.find_filled.ensures.logs))
-
-pub returns-in-Err-clause-counts : goal.returns-in-Err-clause-counts
-returns-in-Err-clause-counts g c = record {
-  read =
-      rw c.ended-in-Err.ensures.fault (bank_reads c.in-Err.fault (looking_fault g.B.Banks.log c.args.banks.items c.in-Err.fault c.in-Err.ensures.err) (g.S.Source.faults c.args.source.now));
-  write =
-      rw c.ended-in-Err.ensures.fault (bank_writes c.in-Err.fault (looking_fault g.B.Banks.log c.args.banks.items c.in-Err.fault c.in-Err.ensures.err) (g.K.Sink.faults c.args.sink.now));
-}
-
-pub returns-in-Err-clause-exact : goal.returns-in-Err-clause-exact
-returns-in-Err-clause-exact g c = λ bytes told outcome verdict words. rw c.ended-in-Err.ensures.fault (bank_agrees c.in-Err.fault (looking_fault g.B.Banks.log c.args.banks.items c.in-Err.fault c.in-Err.ensures.err) outcome)
-
-pub returns-in-Err-clause-filled : goal.returns-in-Err-clause-filled
-returns-in-Err-clause-filled g c =
-    rw (c.ended-in-Err.ensures.fault, c.ended-in-Err.ensures.banks)
-    (looking_heeds g.B.Banks.log c.args.banks.items c.find_filled.new.banks.items c.in-Err.fault _ c.in-Err.ensures.err c.find_filled.ensures.logs (left_alone c.args.source.now c.args.sink.now))
-
-pub returns-in-Err-clause-back : goal.returns-in-Err-clause-back
-returns-in-Err-clause-back g c =
-    back_unarmed g.B.Banks.meter c.args.banks.items c.ended-in-Err.result.banks.items c.ended-in-Err.result.fault c.requires.1
-    (back_told g.B.Banks.meter c.args.banks.items c.find_filled.new.banks.items c.ended-in-Err.result.banks.items (Some c.in-Err.fault) c.ended-in-Err.result.fault c.ended-in-Err.ensures.fault
-    (ap (λ b. b.items) c.ended-in-Err.ensures.banks) c.in-Err.ensures.back)
-
--- ---- no blanks could be made
-
-pub blanks_of-requires-clause-empty : goal.blanks_of-requires-clause-empty
-blanks_of-requires-clause-empty g c =
-    empty_still g.B.Banks.log c.args.banks.items c.find_filled.new.banks.items c.find_filled.ensures.meters.count c.find_filled.ensures.logs c.in_default.ensures.ok
-
-pub returns-in-Err-blanks_of-clause-untouched : goal.returns-in-Err-blanks_of-clause-untouched
-returns-in-Err-blanks_of-clause-untouched g c = rw c.ended-in-Err-blanks_of.ensures.fault (bank_alone c.in-Err-blanks_of.fault (blanking_fault g.B.Banks.meter c.find_filled.new.banks.items c.in-Err-blanks_of.banks.items c.in-Err-blanks_of.fault c.in-Err-blanks_of.ensures.err) _ _ (left_alone c.args.source.now c.args.sink.now))
-
-pub returns-in-Err-blanks_of-clause-ends : goal.returns-in-Err-blanks_of-clause-ends
-returns-in-Err-blanks_of-clause-ends g c = λ bytes told.
-    bank_ends c.in-Err-blanks_of.fault (blanking_fault g.B.Banks.meter c.find_filled.new.banks.items c.in-Err-blanks_of.banks.items c.in-Err-blanks_of.fault c.in-Err-blanks_of.ensures.err) (says_of g.B.Banks.log c.args.banks.items c.ended-in-Err-blanks_of.result) c.ended-in-Err-blanks_of.result.fault
-    (g.S.Source.left c.args.source.now) (g.K.Sink.held c.args.sink.now) bytes c.ended-in-Err-blanks_of.ensures.fault told
-    (rw c.ended-in-Err-blanks_of.ensures.banks (less_later g.B.Banks.log c.args.banks.items c.find_filled.new.banks.items c.in-Err-blanks_of.banks.items c.find_filled.ensures.meters.count c.find_filled.ensures.logs
-    c.in-Err-blanks_of.ensures.left))
-
-pub returns-in-Err-blanks_of-clause-counts : goal.returns-in-Err-blanks_of-clause-counts
-returns-in-Err-blanks_of-clause-counts g c = record {
-  read =
-      rw c.ended-in-Err-blanks_of.ensures.fault (bank_reads c.in-Err-blanks_of.fault (blanking_fault g.B.Banks.meter c.find_filled.new.banks.items c.in-Err-blanks_of.banks.items c.in-Err-blanks_of.fault c.in-Err-blanks_of.ensures.err) (g.S.Source.faults c.args.source.now));
-  write =
-      rw c.ended-in-Err-blanks_of.ensures.fault (bank_writes c.in-Err-blanks_of.fault (blanking_fault g.B.Banks.meter c.find_filled.new.banks.items c.in-Err-blanks_of.banks.items c.in-Err-blanks_of.fault c.in-Err-blanks_of.ensures.err) (g.K.Sink.faults c.args.sink.now));
-}
-
-pub returns-in-Err-blanks_of-clause-exact : goal.returns-in-Err-blanks_of-clause-exact
-returns-in-Err-blanks_of-clause-exact g c = λ bytes told outcome verdict words. rw c.ended-in-Err-blanks_of.ensures.fault (bank_agrees c.in-Err-blanks_of.fault (blanking_fault g.B.Banks.meter c.find_filled.new.banks.items c.in-Err-blanks_of.banks.items c.in-Err-blanks_of.fault c.in-Err-blanks_of.ensures.err) outcome)
-
-pub returns-in-Err-blanks_of-clause-filled : goal.returns-in-Err-blanks_of-clause-filled
-returns-in-Err-blanks_of-clause-filled g c =
-    rw c.ended-in-Err-blanks_of.ensures.fault
-    (empty_heeds g.B.Banks.log c.args.banks.items c.ended-in-Err-blanks_of.result.banks.items (Some c.in-Err-blanks_of.fault) _ c.in_default.ensures.ok
-    (blanking_not_filled g.B.Banks.meter c.find_filled.new.banks.items c.in-Err-blanks_of.banks.items c.in-Err-blanks_of.fault c.in-Err-blanks_of.ensures.err))
-
-pub returns-in-Err-blanks_of-clause-back : goal.returns-in-Err-blanks_of-clause-back
-returns-in-Err-blanks_of-clause-back g c =
-    back_unarmed g.B.Banks.meter c.args.banks.items c.ended-in-Err-blanks_of.result.banks.items c.ended-in-Err-blanks_of.result.fault c.requires.1
-    (back_told g.B.Banks.meter c.args.banks.items c.in-Err-blanks_of.banks.items c.ended-in-Err-blanks_of.result.banks.items (Some c.in-Err-blanks_of.fault) c.ended-in-Err-blanks_of.result.fault
-    c.ended-in-Err-blanks_of.ensures.fault (ap (λ b. b.items) c.ended-in-Err-blanks_of.ensures.banks)
-    (refused_back g.B.Banks.meter c.args.banks.items c.find_filled.new.banks.items c.in-Err-blanks_of.banks.items c.in-Err-blanks_of.fault c.in_default.ensures.back
-    c.in-Err-blanks_of.ensures.err))
-
--- ---- the replay
-
-pub replay-requires-clause-unarmed : goal.replay-requires-clause-unarmed
-replay-requires-clause-unarmed g c =
-    let well = well_then g.B.Banks.meter c.args.banks.items c.find_filled.new.banks.items c.in-Ok.blanks.items c.in_default.ensures.back c.in-Ok.ensures.well in
-    unarmed_later g.B.Banks.meter c.args.banks.items c.in-Ok.blanks.items well.meters c.requires.1
-
-pub returns-in-Ok-clause-untouched : goal.returns-in-Ok-clause-untouched
-returns-in-Ok-clause-untouched g c =
-    said_by g.B.Banks.log c.err-fault.result c.replay.new.stage c.ended_with.result (λ f. LeavesAlone f (AreUntouched c.args.source.now c.replay.new.source c.args.sink.now c.replay.new.sink) (c.ended_with.result.banks ≡ c.args.banks)) c.ended_with.ensures.ends tt
-    (rw c.err-fault.ensures.value (replay_alone c.replay.result _ _ c.replay.ensures.begun))
-
-pub returns-in-Ok-clause-ends : goal.returns-in-Ok-clause-ends
-returns-in-Ok-clause-ends g c = λ bytes told.
-    ends_by g.B.Banks.log c.err-fault.result c.replay.new.stage c.ended_with.result c.args.banks.items bytes (g.S.Source.left c.replay.new.source) (g.K.Sink.held c.args.sink.now) (g.K.Sink.held c.replay.new.sink) c.ended_with.ensures.ends
-    (rw c.err-fault.ensures.value (c.replay.ensures.ends bytes told))
-
-pub returns-in-Ok-clause-filled : goal.returns-in-Ok-clause-filled
-returns-in-Ok-clause-filled g c =
-    empty_heeds g.B.Banks.log c.args.banks.items c.ended_with.result.banks.items c.ended_with.result.fault _ c.in_default.ensures.ok
-    (λ clone. said_by g.B.Banks.log c.err-fault.result c.replay.new.stage c.ended_with.result (λ f. f ≢ Some (faults.NotEmpty clone)) c.ended_with.ensures.ends (λ is. absurd (cc (is)))
-    (rw c.err-fault.ensures.value (replay_not_filled c.replay.result clone c.replay.ensures.begun)))
-
-pub returns-in-Ok-clause-back : goal.returns-in-Ok-clause-back
-returns-in-Ok-clause-back g c =
-    back_unarmed g.B.Banks.meter c.args.banks.items c.ended_with.result.banks.items c.ended_with.result.fault c.requires.1
-    (back_by g.B.Banks.log c.err-fault.result c.replay.new.stage c.ended_with.result g.B.Banks.meter c.args.banks.items c.in-Ok.blanks.items c.ended_with.ensures.ends
-    (well_then g.B.Banks.meter c.args.banks.items c.find_filled.new.banks.items c.in-Ok.blanks.items c.in_default.ensures.back c.in-Ok.ensures.well)
-    (rw c.err-fault.ensures.value c.replay.ensures.back))
-
-pub returns-in-Ok-clause-counts : goal.returns-in-Ok-clause-counts
-returns-in-Ok-clause-counts g c =
-    said_by g.B.Banks.log c.err-fault.result c.replay.new.stage c.ended_with.result
-    (λ f. CountsFaults f (g.S.Source.faults c.args.source.now) (g.S.Source.faults c.replay.new.source) (g.K.Sink.faults c.args.sink.now) (g.K.Sink.faults c.replay.new.sink)) c.ended_with.ensures.ends
-    (record { read = tt; write = tt }) (rw c.err-fault.ensures.value c.replay.ensures.counts)
-
-pub returns-in-Ok-clause-exact : goal.returns-in-Ok-clause-exact
-returns-in-Ok-clause-exact g c = λ bytes told outcome verdict words.
-    said_by g.B.Banks.log c.err-fault.result c.replay.new.stage c.ended_with.result (λ f. Agrees f outcome) c.ended_with.ensures.ends tt
-    (rw c.err-fault.ensures.value
-    (agrees_so (says_by g.B.Banks.log c.replay.new.stage) (result_err c.replay.result) bytes (g.S.Source.left c.replay.new.source) (g.K.Sink.held c.args.sink.now) (g.K.Sink.held c.replay.new.sink) (c.replay.ensures.ends bytes told)
-    (replay_not_usage c.replay.result c.replay.ensures.begun) outcome verdict))
+pub returns-in-Unknown-clause-generated : goal.returns-in-Unknown-clause-generated
+returns-in-Unknown-clause-generated g c = λ seed count words. let said = rw c.in-Unknown.is at c.read_words.ensures in absurd (said.no_generate seed count words)
