@@ -71,7 +71,7 @@ fn failed_at<R: Threads>(rt: &R, alloc: Global, call: u64) -> Result<Failed, All
 fn is_well(failed: Failed) -> bool {
     match failed.fault {
         Some(ShellFault::Device) => {
-            failed.there == failed.answered || failed.there == failed.answered + 1
+            failed.there == failed.answered || failed.there == failed.answered.saturating_add(1)
         }
         None => failed.created && failed.answered == 3 && failed.there == 3,
         Some(_) => false,
@@ -85,7 +85,7 @@ fn each_call_of_the_banks_may_fail(rt: HostRuntime) -> Result<(), Fail> {
         let failed = failed_at(&rt, rt.alloc(), call)?;
         assert!(rt; is_well(failed), "call {call}");
         if failed.fault.is_some() {
-            faults += 1;
+            faults = faults.saturating_add(1);
         }
     }
     assert!(rt; 30 < faults && faults < MOST_CALLS, "{faults}");
