@@ -8,4 +8,5 @@ mod sessions;
 mod shut;
 
 pub use faults::SessionFault;
+pub use live::do_live;
 pub use sessions::Session;

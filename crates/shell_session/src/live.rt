@@ -28,7 +28,12 @@ use shell_text::ShellCommand;
 use std::alloc::{AllocError, Global};
 use tree_clock::{Dot, Range};
 
-/// Does a command on a live clone that stays live, and adds the text of its reply to the output.
+/// Does a command on a live clone that stays live, and adds the text of its reply to the output once its durable steps stand on the
+/// banks.
+///
+/// # Errors
+///
+/// `Device` where the device failed, and `NoMemory`. The durable steps that were done stand, and the output is as it was.
 pub fn do_live<B: Banks>(
     alloc: Global,
     clone: &mut MldClone<B>,
