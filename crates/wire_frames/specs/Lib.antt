@@ -1,0 +1,6 @@
+pub mod Frames
+pub mod FrameLaws
+pub mod Reading
+pub mod Parts
+pub mod PartLaws
+pub mod Assemblies
