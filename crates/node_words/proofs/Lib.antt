@@ -1,0 +1,5 @@
+mod Finding
+mod Iris
+mod Passing
+mod Reading
+mod Turns

@@ -1,0 +1,10 @@
+//! The words of the node's command line: its options, and the IRIs of its single-valued properties.
+#![tactic(auto)]
+
+mod faults;
+mod given;
+mod node;
+mod spelled;
+
+pub use faults::WordsFault;
+pub use node::{NodeWords, read_words};
