@@ -1,0 +1,12 @@
+//! The connections of a node, and what it sends over them while it handles an event.
+#![tactic(auto)]
+
+mod connections;
+mod exchanges;
+mod lists;
+mod parts;
+mod sending;
+
+pub use connections::{Connection, Role, Sent};
+pub use exchanges::Exchange;
+pub use lists::{place_connection, take_connection};
