@@ -1,0 +1,5 @@
+use Rattle.node_model.proofs.StepLaws as steps
+use Rattle.node_model.proofs.laws.node_steps_lead.Goals as goal
+
+pub returns : goal.returns
+returns c = steps.node_steps_lead
