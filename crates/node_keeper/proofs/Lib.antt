@@ -1,0 +1,4 @@
+pub mod Moments
+pub mod MeterLaws
+pub mod CommandLaws
+pub mod CallLaws

@@ -1,0 +1,56 @@
+-- What a node does on its banks for a request or a message.
+use Rattle.std.specs.Prelude.{◌≡◌, ℕ, List, [], ◌∷◌, Option, None, Some}
+use Rattle.mld_io.specs.Disk.{Log}
+use Rattle.mld_ops.specs.declared.messages.Give.{Give}
+use Rattle.mld_ops.specs.declared.messages.Message.{Message}
+use Rattle.clone_banks.specs.KeptSteps.{KeptStep, Created}
+use Rattle.clone_core.specs.Banked.{head_of}
+use Rattle.clone_core.specs.DurableCalls.{WouldReceive}
+use Rattle.clone_core.specs.Joining.{IsGiveFor}
+use Rattle.shell_text.specs.declared.commands.ShellCommand.{ShellCommand}
+use Rattle.shell_model.specs.Shells.{Found}
+use Rattle.shell_model.specs.ShellStep.{IsDueLive}
+use Rattle.shell_session.specs.Lines.{ImagesFind, LeavesFront}
+use Rattle.node_requests.specs.declared.requests.Request.{Request}
+use Rattle.node_requests.specs.declared.requests.Request.TheVariants.{Command}
+use Rattle.node_requests.specs.RequestLines.{SpellsRequest}
+use Rattle.node_exchange.specs.declared.connections.Connection.{Connection}
+use Rattle.node_exchange.specs.Exchanges.{ExchangeValue}
+use Rattle.node_model.specs.Keepers.{Keeper, Lives, Asks, domain_of, found_of}
+use Rattle.node_model.specs.Requests.{TakesRequest}
+use Rattle.node_model.specs.Messages.{Receives, adopted_clone}
+use Rattle.node_keeper.specs.declared.states.NodeState.{NodeState}
+use Rattle.node_keeper.specs.States.{banks_of, keeper_of}
+
+-- it was done by a rule of the model, which gives durable steps: at each moment since, where the same was found on all that a crash might have left
+-- before, what is found is what a front of them makes of that; and it is found then what all of them make
+pub record DoesBy {B : Type 0} (Rule : List KeptStep → Type 0) (log : B → Option Log) (old next : NodeState B) : Type 0 where
+  pub steps : List KeptStep
+  pub does : Rule steps
+  pub moments : LeavesFront (found_of (keeper_of old)) steps (log (banks_of old)) (log (banks_of next))
+  pub settled : ImagesFind (found_of (keeper_of old)) (log (banks_of old)) → ImagesFind (found_of (keeper_of next)) (log (banks_of next))
+
+-- a request was answered
+abbrev pub AnswersOn : {B : Type 0} → (B → Option Log) → Connection → List ℕ → NodeState B → ExchangeValue → NodeState B → ExchangeValue → Type 0
+AnswersOn log one line old exchange next after =
+    DoesBy (λ steps. TakesRequest (keeper_of old) one line exchange steps (keeper_of next) after) log old next
+
+-- a message was received
+abbrev pub ReceivesOn : {B : Type 0} → (B → Option Log) → Message → NodeState B → ExchangeValue → NodeState B → ExchangeValue → Type 0
+ReceivesOn log message old exchange next after =
+    DoesBy (λ steps. Receives (keeper_of old) message exchange steps (keeper_of next) after) log old next
+
+-- ---- durable steps that are due
+
+-- those that a request has to make
+abbrev pub IsDueByCommand : Keeper → Request → List KeptStep → Type 0
+IsDueByCommand (Lives generation clone) (Command command) steps = IsDueLive generation clone command steps
+IsDueByCommand keeper request steps = ⊥
+
+abbrev pub IsDueByRequest : Keeper → List ℕ → List KeptStep → Type 0
+IsDueByRequest keeper line steps = (request : Request) × SpellsRequest (domain_of keeper) line request × IsDueByCommand keeper request steps
+
+-- those that a message has to make
+abbrev pub IsDueByMessage : Keeper → Message → List KeptStep → Type 0
+IsDueByMessage (Lives generation clone) message steps = WouldReceive clone message steps
+IsDueByMessage (Asks asker) message steps = (give : Give) × IsGiveFor asker message give × (steps ≡ Created (head_of (adopted_clone asker give)) ∷ [])

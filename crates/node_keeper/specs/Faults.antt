@@ -1,0 +1,9 @@
+-- The fault of a node for that of a live clone's command.
+use Rattle.shell_session.specs.declared.faults.SessionFault.{SessionFault}
+use Rattle.shell_session.specs.declared.faults.SessionFault.TheVariants as session
+use Rattle.node_keeper.specs.declared.faults.NodeFault.{NodeFault}
+use Rattle.node_keeper.specs.declared.faults.NodeFault.TheVariants.{Device, NoMemory}
+
+abbrev pub fault_of : SessionFault → NodeFault
+fault_of session.Device = Device
+fault_of session.NoMemory = NoMemory

@@ -1,0 +1,4 @@
+pub mod States
+pub mod Deeds
+pub mod Faults
+pub mod Calls

@@ -1,0 +1,155 @@
+//! Messages of peers.
+ghost use Rattle.std.specs.Prelude.{◌≡◌, ◌↔◌, None, IfOk, IfErr, OnOk, OnErr, IsErrOf};
+ghost use Rattle.journal_store.specs.Closing.{StaysTold};
+ghost use Rattle.mld_ops.specs.Messages.{message_value, IsGoodMessage};
+ghost use Rattle.shell_session.specs.Lines.{Meters, StopsIn};
+ghost use Rattle.shell_session.specs.LiveCalls.{StopsShort};
+ghost use Rattle.node_model.specs.Keepers.{Lives, found_of};
+ghost use Rattle.node_model.specs.Messages.{ReceivesLive};
+ghost use Rattle.node_keeper.specs.States.{IsOpen, banks_of, keeper_of, banks_after, FailsOnDevice};
+ghost use Rattle.node_keeper.specs.Deeds.{ReceivesOn, IsDueByMessage};
+ghost use Rattle.node_keeper.specs.Calls.{GoesBy, MayBeSent, HasSent, MayAnswer, HasAnswered};
+ghost use Rattle.node_keeper.specs.declared.states.NodeState.TheVariants as states;
+
+use crate::adopting::receive_asking;
+use crate::faults::NodeFault;
+use crate::states::NodeState;
+use crate::telling::{tell_kept, tell_want};
+use clone_answers::{Got, ReceiveFault};
+use clone_core::MldClone;
+use mld_io::Banks;
+use mld_ops::Message;
+use node_exchange::Exchange;
+use std::alloc::{AllocError, Global};
+use std::thread::Threads;
+
+/// Receives a message of the peer at hand. A live clone sends what it takes to each other peer, asks for what it lacks where it holds an
+/// entry back, and answers one who asks; one who asks for a leaf lives at the one that is given.
+///
+/// # Errors
+///
+/// `Device` where the device failed, and `NoMemory`. A live clone stops, and the banks are given back: the durable steps that were done
+/// stand on them. The exchange is of no use then.
+pub fn receive_message<R: Threads, B: Banks>(
+    rt: &R,
+    alloc: Global,
+    state: NodeState<B>,
+    message: &Message,
+    exchange: &mut Exchange,
+) -> Result<NodeState<B>, (NodeFault, B)>
+    requires opened { IsOpen state }
+    requires good { IsGoodMessage (message_value message.now) }
+    ensures done { IfOk result (λ next. ReceivesOn B.log message.now state exchange.old next exchange.new) }
+    ensures opened { IfOk result IsOpen }
+    ensures stopped { IfErr result (λ refused. StopsIn (IsDueByMessage (keeper_of state) message.now) B.log (found_of (keeper_of state)) (banks_of state) refused.1) }
+    ensures told { StaysTold (B.log (banks_of state)) (B.log (banks_after result)) }
+    ensures fault { Meters (B.meter (banks_of state)) (B.meter (banks_after result)) (FailsOnDevice result) }
+{
+    match state {
+        NodeState::Live(clone) => receive_live(rt, alloc, clone, message, exchange),
+        NodeState::Asking(asker) => receive_asking(rt, alloc, asker, message, exchange),
+    }
+}
+
+/// Receives one on a live clone.
+fn receive_live<R: Threads, B: Banks>(
+    rt: &R,
+    alloc: Global,
+    mut clone: MldClone<B>,
+    message: &Message,
+    exchange: &mut Exchange,
+) -> Result<NodeState<B>, (NodeFault, B)>
+    requires opened { clone.closed ≡ None }
+    requires good { IsGoodMessage (message_value message.now) }
+    ensures done { IfOk result (λ next. ReceivesOn B.log message.now (states.Live clone) exchange.old next exchange.new) }
+    ensures opened { IfOk result IsOpen }
+    ensures stopped { IfErr result (λ refused. StopsIn (IsDueByMessage (Lives clone.generation clone.local) message.now) B.log (found_of (Lives clone.generation clone.local)) clone.banks refused.1) }
+    ensures told { StaysTold (B.log clone.banks) (B.log (banks_after result)) }
+    ensures fault { Meters (B.meter clone.banks) (B.meter (banks_after result)) (FailsOnDevice result) }
+{
+    match receive_loan(rt, alloc, &mut clone, message, exchange) {
+        Ok(()) => {
+            tell_kept(&clone);
+            Ok(NodeState::Live(clone))
+        }
+        Err(fault) => Err((fault, clone.stop())),
+    }
+}
+
+/// Receives one on the loan of a live clone.
+fn receive_loan<R: Threads, B: Banks>(
+    rt: &R,
+    alloc: Global,
+    clone: &mut MldClone<B>,
+    message: &Message,
+    exchange: &mut Exchange,
+) -> Result<(), NodeFault>
+    requires opened { clone.old.closed ≡ None }
+    requires good { IsGoodMessage (message_value message.now) }
+    ensures done { OnOk result (GoesBy B.log B.meter (λ steps next. ReceivesLive clone.old.generation clone.old.local message.now exchange.old steps next exchange.new) clone.old clone.new) }
+    ensures stopped { OnErr result (StopsShort B.log B.meter (IsDueByMessage (Lives clone.old.generation clone.old.local) message.now) clone.old clone.new.banks) }
+    ensures told { StaysTold (B.log clone.old.banks) (B.log clone.new.banks) }
+    ensures fault { Meters (B.meter clone.old.banks) (B.meter clone.new.banks) (IsErrOf result NodeFault.Device) }
+{
+    let kept = clone.journal().len();
+    let answered = clone.receive(rt, alloc, message);
+    send_for(alloc, clone, kept, &answered, exchange)
+}
+
+/// Sends what is to be sent once a message was received so, where the journal had so many entries before.
+fn send_for<B: Banks>(
+    alloc: Global,
+    clone: &MldClone<B>,
+    kept: usize,
+    answered: &Result<Got, ReceiveFault>,
+    exchange: &mut Exchange,
+) -> Result<(), NodeFault>
+    requires { MayBeSent answered.now kept clone.now.local.entries }
+    ensures done { OnOk result (HasSent answered.now kept clone.now.local exchange.old exchange.new) }
+    ensures device { IsErrOf result NodeFault.Device ↔ IsErrOf answered.now ReceiveFault.Device }
+{
+    match answered {
+        Ok(got) => {
+            send_answer(alloc, clone, kept, got, exchange)?;
+            Ok(())
+        }
+        Err(ReceiveFault::HeldFull) => {
+            tell_want(alloc, clone, exchange)?;
+            Ok(())
+        }
+        Err(ReceiveFault::ForeignTick { .. }) => {
+            exchange.refuse(8)?;
+            Ok(())
+        }
+        Err(ReceiveFault::Deep) => {
+            exchange.refuse(9)?;
+            Ok(())
+        }
+        Err(ReceiveFault::GenerationsSpent) => Ok(()),
+        Err(ReceiveFault::Closed { .. }) => unreachable!(),
+        Err(ReceiveFault::Device) => Err(NodeFault::Device),
+        Err(ReceiveFault::NoMemory) => Err(NodeFault::NoMemory),
+    }
+}
+
+/// Sends what is to be sent for an answer.
+fn send_answer<B: Banks>(
+    alloc: Global,
+    clone: &MldClone<B>,
+    kept: usize,
+    got: &Got,
+    exchange: &mut Exchange,
+) -> Result<(), AllocError>
+    requires { MayAnswer got.now kept clone.now.local.entries }
+    ensures { OnOk result (HasAnswered got.now kept clone.now.local exchange.old exchange.new) }
+{
+    match got {
+        Got::Took(_) => exchange.tell_peers_each(&clone.journal()[kept..]),
+        Got::Merged(_) => exchange.tell_peers_each(clone.journal()),
+        Got::Held => tell_want(alloc, clone, exchange),
+        Got::Answer(messages) => exchange.tell_each(messages.as_slice()),
+        Got::Known => Ok(()),
+        Got::Nothing => Ok(()),
+        Got::Ignored => Ok(()),
+    }
+}
