@@ -1,0 +1,10 @@
+mod Moments
+mod MeterLaws
+mod FrameLaws
+mod HoldLaws
+mod UnderWay
+mod QuietLaws
+mod KindLaws
+mod PieceLaws
+mod HelloLaws
+mod StepLaws

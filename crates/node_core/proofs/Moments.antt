@@ -1,0 +1,71 @@
+-- What is found on what a crash leaves, over durable steps that follow others.
+use Rattle.std.proofs.Common.{◌≡◌, List, [], ◌∷◌, ◌++◌, Option, Some, refl, sym, ◌∙◌, ap, subst, append_assoc}
+use Rattle.mld_io.specs.Disk.{Log, Call, Sides, grown_by, AtEachMoment, LeavesMeanwhile}
+use Rattle.mld_io.proofs.DiskLaws.{AtEachMoment-weaken, LeavesMeanwhile-then}
+use Rattle.clone_banks.specs.KeptSteps.{KeptStep}
+use Rattle.journal_store.specs.Closing.{StaysTold}
+use Rattle.shell_model.specs.Shells.{Found, found_after_step, found_after}
+use Rattle.shell_session.specs.Lines.{ImagesFind, FindsFront, LeavesFront}
+
+-- what comes of some durable steps and then of others
+pub found_both : (first later : List KeptStep) (found : Found) → found_after (first ++ later) found ≡ found_after later (found_after first found)
+found_both [] later found = refl
+found_both (step ∷ first) later found = found_both first later (found_after_step step found)
+
+-- nothing was done yet
+pub no_steps : (found : Found) (old : Option Log) → LeavesFront found [] old old
+no_steps found old log is images = record {
+  added = [];
+  now_is = is;
+  each = λ image left. record { front = []; rest = []; whole = refl; finds = images log is image left };
+}
+
+-- a front of some steps is one of more
+front_longer : (found : Found) (steps more : List KeptStep) (image : Sides) → FindsFront found steps image → FindsFront found (steps ++ more) image
+front_longer found steps more image finds = record {
+  front = finds.front;
+  rest = finds.rest ++ more;
+  whole = sym (append_assoc finds.front finds.rest more) ∙ ap (λ (s : List KeptStep). s ++ more) finds.whole;
+  finds = finds.finds;
+}
+
+-- and a front of more steps, behind all of some, is one of both
+front_behind : (found middle : Found) (steps more : List KeptStep) (image : Sides) → middle ≡ found_after steps found → FindsFront middle more image
+    → FindsFront found (steps ++ more) image
+front_behind found middle steps more image same finds = record {
+  front = steps ++ finds.front;
+  rest = finds.rest;
+  whole = append_assoc steps finds.front finds.rest ∙ ap (λ (s : List KeptStep). steps ++ s) finds.whole;
+  finds = finds.finds ∙ ap (found_after finds.front) same ∙ sym (found_both steps finds.front found);
+}
+
+-- the moments of some steps, and then of more
+pub moments_then : (found middle : Found) (steps more : List KeptStep) (old now after : Option Log) → middle ≡ found_after steps found
+    → LeavesFront found steps old now → (ImagesFind found old → ImagesFind middle now) → LeavesFront middle more now after → LeavesFront found (steps ++ more) old after
+moments_then found middle steps more old now after same first settled second log told images =
+    let one : LeavesMeanwhile log now (λ calls image. FindsFront found steps image) = first log told images in
+    let two : LeavesMeanwhile (grown_by one.added log) after (λ calls image. FindsFront middle more image) =
+    second (grown_by one.added log) one.now_is (settled images) in
+    let P : List Call → Sides → Type 0 = λ calls image. FindsFront found (steps ++ more) image in
+    LeavesMeanwhile-then log one.added P after
+    (AtEachMoment-weaken log one.added (λ calls image. FindsFront found steps image) P (λ calls image finds. front_longer found steps more image finds) one.each)
+    (record {
+      added = two.added;
+      now_is = two.now_is;
+      each = AtEachMoment-weaken (grown_by one.added log) two.added (λ calls image. FindsFront middle more image) (λ calls image. P (calls ++ one.added) image)
+          (λ calls image finds. front_behind found middle steps more image same finds) two.each;
+    })
+
+-- ---- logs that stay told
+
+pub told_same : (old : Option Log) → StaysTold old old
+told_same old = record { told = λ log is. ([], is); untold = λ is. is }
+
+pub told_then : (old mid now : Option Log) → StaysTold old mid → StaysTold mid now → StaysTold old now
+told_then old mid now first second = record {
+  told = λ log is.
+      let one = first.told log is in
+      let two = second.told (grown_by one.0 log) one.1 in
+      (two.0 ++ one.0, two.1 ∙ ap (λ (calls : List Call). Some (record { first = log.first; calls = calls })) (sym (append_assoc two.0 one.0 log.calls)));
+  untold = λ is. second.untold (first.untold is);
+}

@@ -1,0 +1,79 @@
+-- What a node on its banks does with an event.
+use Rattle.std.specs.Prelude.{◌≡◌, ◌⊎◌, ℕ, Bool, false, List, [], ◌∷◌, ◌++◌, Option, None, Some, Ok}
+use Rattle.mld_io.specs.declared.events.Event.{Event}
+use Rattle.mld_io.specs.declared.events.Event.TheVariants.{Opened, Bytes, Shut, End}
+use Rattle.mld_io.specs.Disk.{Log}
+use Rattle.mld_ops.specs.declared.messages.Message.{Message}
+use Rattle.clone_banks.specs.KeptSteps.{KeptStep}
+use Rattle.shell_session.specs.Lines.{ImagesFind, LeavesFront}
+use Rattle.wire_frames.specs.declared.assembling.Assembled.TheVariants.{Whole}
+use Rattle.wire_frames.specs.declared.faults.FrameFault.{FrameFault}
+use Rattle.wire_frames.specs.declared.kinds.Frame.{Frame}
+use Rattle.wire_frames.specs.declared.kinds.Frame.TheVariants.{Request, Part}
+use Rattle.wire_frames.specs.Frames.{FramesValue, Feeds}
+use Rattle.wire_frames.specs.Parts.{AssemblyValue, Assembles}
+use Rattle.node_exchange.specs.declared.connections.Connection.{Connection}
+use Rattle.node_exchange.specs.declared.connections.Role.{Role}
+use Rattle.node_exchange.specs.declared.connections.Role.TheVariants as role
+use Rattle.node_exchange.specs.declared.connections.Sent.{Sent}
+use Rattle.node_exchange.specs.Connections.{connection_of, without}
+use Rattle.node_exchange.specs.Exchanges.{ExchangeValue}
+use Rattle.node_keeper.specs.Deeds.{IsDueByRequest, IsDueByMessage}
+use Rattle.node_model.specs.Keepers.{Keeper, found_of}
+use Rattle.node_model.specs.FrameSteps.{FramesStep}
+use Rattle.node_model.specs.Events.{NodeValue, NodeStep, beginning}
+use Rattle.node_core.specs.Nodes.{BankedNode, node_value, banks_of}
+
+-- an event was done as the model does it, with what is sent: at each moment since, where the same was found on all that a crash might have left before,
+-- what is found is what a front of the durable steps makes of that; and it is found then what all of them make
+pub record DoesEvent {B : Type 0} (log : B → Option Log) (old : BankedNode B) (event : Event) (next : BankedNode B) (sent : List Sent) : Type 0 where
+  pub steps : List KeptStep
+  pub does : NodeStep (node_value old) event sent steps (node_value next)
+  pub moments : LeavesFront (found_of (node_value old).keeper) steps (log (banks_of old)) (log (banks_of next))
+  pub settled : ImagesFind (found_of (node_value old).keeper) (log (banks_of old)) → ImagesFind (found_of (node_value next).keeper) (log (banks_of next))
+
+-- ---- the durable steps that an event has to make
+
+-- those of a frame, by what its connection is
+abbrev pub IsDueByFrame : Keeper → Role → Frame → List KeptStep → Type 0
+IsDueByFrame keeper role.Fresh (Request line) steps = IsDueByRequest keeper line steps
+IsDueByFrame keeper role.Client (Request line) steps = IsDueByRequest keeper line steps
+IsDueByFrame keeper (role.Peer assembly) (Part number index count piece) steps =
+    (message : Message) × (left : AssemblyValue) × Assembles assembly number index count piece (Ok (Whole message)) left × IsDueByMessage keeper message steps
+IsDueByFrame keeper kind frame steps = ⊥
+
+-- those of the first of some frames, which comes on a connection that is still there
+pub record IsDueNext (keeper : Keeper) (exchange : ExchangeValue) (frames : List Frame) (steps : List KeptStep) : Type 0 where
+  pub goes_on : exchange.halted ≡ false
+  pub hand : Connection
+  pub at_hand : exchange.at_hand ≡ Some hand
+  pub frame : Frame
+  pub more : List Frame
+  pub first : frames ≡ frame ∷ more
+  pub is_due : IsDueByFrame keeper hand.role frame steps
+
+-- of some frames the first were taken, and one more was under way: the durable steps are those of the first, and those due by that
+pub record IsDueByFrames (keeper : Keeper) (frames : List Frame) (exchange : ExchangeValue) (steps : List KeptStep) : Type 0 where
+  pub taken : List Frame
+  pub rest : List Frame
+  pub whole : frames ≡ taken ++ rest
+  pub done : List KeptStep
+  pub middle : Keeper
+  pub between : ExchangeValue
+  pub does : FramesStep keeper taken exchange done middle between
+  pub due : List KeptStep
+  pub is_due : (due ≡ []) ⊎ IsDueNext middle between rest due
+  pub all : steps ≡ done ++ due
+
+-- those of the frames that end in a piece
+pub record IsDueByPiece (keeper : Keeper) (one : Connection) (others : List Connection) (piece : List ℕ) (steps : List KeptStep) : Type 0 where
+  pub frames : List Frame
+  pub fault : Option FrameFault
+  pub reader : FramesValue
+  pub reads : Feeds one.frames.rest piece frames fault reader.rest
+  pub due : IsDueByFrames keeper frames (beginning (record one { frames = reader }) others) steps
+
+abbrev pub IsDueByEvent : NodeValue → Event → List KeptStep → Type 0
+IsDueByEvent node (Bytes number piece) steps =
+    (one : Connection) × (connection_of number node.connections ≡ Some one) × IsDueByPiece node.keeper one (without number node.connections) piece steps
+IsDueByEvent node event steps = ⊥

@@ -1,0 +1,287 @@
+//! What a node does with a frame.
+ghost use Rattle.std.specs.Prelude.{◌≡◌, ℕ, false, Some, IfOk, IfErr, OnOk, IsTrue};
+ghost use Rattle.journal_store.specs.Closing.{StaysTold};
+ghost use Rattle.shell_session.specs.Lines.{StopsIn, Meters};
+ghost use Rattle.wire_frames.specs.declared.kinds.Frame.TheVariants as kinds;
+ghost use Rattle.wire_frames.specs.Frames.{FramesValue};
+ghost use Rattle.node_exchange.specs.Connections.{is_peer, as_peer};
+ghost use Rattle.node_exchange.specs.Exchanges.{holding, refusing, telling};
+ghost use Rattle.node_keeper.specs.States.{IsOpen, banks_of, keeper_of, banks_after, FailsOnDevice};
+ghost use Rattle.node_model.specs.Keepers.{found_of, question_of};
+ghost use Rattle.node_core.specs.Nodes.{IsGoodRole};
+ghost use Rattle.node_core.specs.Events.{IsDueByFrame, IsDueByFrames};
+ghost use Rattle.node_core.specs.Steps.{TakesFrame, TakesFrames, MayAddPart, GoesOn, is_fresh};
+
+use crate::greeting::refusal;
+use iri_rules::Text;
+use mld_io::{Banks, Piece};
+use node_exchange::{Connection, Exchange, Role};
+use node_keeper::{NodeFault, NodeState, answer_request, receive_message};
+use std::alloc::{AllocError, Global};
+use std::thread::Threads;
+use uuid::Uuid;
+use wire_frames::{Assembled, Assembly, AssemblyFault, Frame};
+
+/// A connection is refused by this code for a part that may not come.
+const BAD_PART: u8 = 1;
+
+/// A connection is refused by this code for a frame that may not come on it.
+const OUT_OF_PLACE: u8 = 6;
+
+/// Takes frames that came on the connection at hand, one after another. Those behind one by which it was refused, or by which the node is
+/// to end, are dropped.
+///
+/// # Errors
+///
+/// `Device` where the device failed, and `NoMemory`. The banks are given back.
+pub(crate) fn take_frames<R: Threads, B: Banks>(
+    rt: &R,
+    alloc: Global,
+    state: NodeState<B>,
+    frames: Vec<Frame>,
+    exchange: &mut Exchange,
+) -> Result<NodeState<B>, (NodeFault, B)>
+    requires opened { IsOpen state }
+    requires goes_on { (number : ℕ) × (reader : FramesValue) × GoesOn number reader exchange.old }
+    ensures done { IfOk result (λ next. TakesFrames B.log frames.items state exchange.old next exchange.new) }
+    ensures opened { IfOk result IsOpen }
+    ensures stopped { IfErr result (λ refused. StopsIn (IsDueByFrames (keeper_of state) frames.items exchange.old) B.log (found_of (keeper_of state)) (banks_of state) refused.1) }
+    ensures told { StaysTold (B.log (banks_of state)) (B.log (banks_after result)) }
+    ensures fault { Meters (B.meter (banks_of state)) (B.meter (banks_after result)) (FailsOnDevice result) }
+{
+    let mut state = state;
+    for frame in frames {
+        if exchange.is_halted() {
+            return Ok(state);
+        }
+        let Some(one) = exchange.take_at_hand() else {
+            return Ok(state);
+        };
+        state = match take_frame(rt, alloc, state, one, frame, exchange) {
+            Ok(next) => next,
+            Err(refused) => return Err(refused),
+        };
+    }
+    Ok(state)
+}
+
+/// Takes a frame that came on a connection, which is at hand then, if it isn't refused.
+///
+/// # Errors
+///
+/// `Device` where the device failed, and `NoMemory`. The banks are given back.
+fn take_frame<R: Threads, B: Banks>(
+    rt: &R,
+    alloc: Global,
+    state: NodeState<B>,
+    one: Connection,
+    frame: Frame,
+    exchange: &mut Exchange,
+) -> Result<NodeState<B>, (NodeFault, B)>
+    requires opened { IsOpen state }
+    requires good { IsGoodRole one.role }
+    ensures done { IfOk result (λ next. TakesFrame B.log one frame state (holding one exchange.old) next exchange.new) }
+    ensures opened { IfOk result IsOpen }
+    ensures stopped { IfErr result (λ refused. StopsIn (IsDueByFrame (keeper_of state) one.role frame) B.log (found_of (keeper_of state)) (banks_of state) refused.1) }
+    ensures told { StaysTold (B.log (banks_of state)) (B.log (banks_after result)) }
+    ensures fault { Meters (B.meter (banks_of state)) (B.meter (banks_after result)) (FailsOnDevice result) }
+{
+    match frame {
+        Frame::Hello(format, id, domain) => {
+            greet(alloc, state, one, format, &id, &domain, exchange)
+        }
+        Frame::Part(number, index, count, piece) => {
+            take_part(rt, alloc, state, one, number, index, count, piece, exchange)
+        }
+        Frame::Request(line) => take_request(alloc, state, one, line.as_slice(), exchange),
+        Frame::Reply(_, _) => misplace(state, one, exchange),
+        Frame::Refuse(_) => misplace(state, one, exchange),
+    }
+}
+
+/// Takes a Hello. It is the first frame of a connection; its sender is refused, or is a peer and is asked for what is lacked.
+fn greet<B: Banks>(
+    alloc: Global,
+    state: NodeState<B>,
+    one: Connection,
+    format: u8,
+    id: &Uuid,
+    domain: &Text,
+    exchange: &mut Exchange,
+) -> Result<NodeState<B>, (NodeFault, B)>
+    ensures done { IfOk result (λ next. TakesFrame B.log one (kinds.Hello format id.now domain.now) state (holding one exchange.old) next exchange.new) }
+    ensures same { IfOk result (λ next. next ≡ state) }
+    ensures err { IfErr result (λ refused. refused ≡ (NodeFault.NoMemory, banks_of state)) }
+{
+    if !is_fresh(&one.role) {
+        return misplace(state, one, exchange);
+    }
+    if let Some(code) = refusal(&state, format, id, domain) {
+        exchange.hold(one);
+        return refuse(state, code, exchange);
+    }
+    exchange.hold(peer(alloc, one));
+    ask(alloc, state, exchange)
+}
+
+/// Takes a request, of a connection that is no peer's.
+///
+/// # Errors
+///
+/// `Device` where the device failed, and `NoMemory`. The banks are given back.
+fn take_request<B: Banks>(
+    alloc: Global,
+    state: NodeState<B>,
+    one: Connection,
+    line: &[u8],
+    exchange: &mut Exchange,
+) -> Result<NodeState<B>, (NodeFault, B)>
+    requires opened { IsOpen state }
+    ensures done { IfOk result (λ next. TakesFrame B.log one (kinds.Request line.now) state (holding one exchange.old) next exchange.new) }
+    ensures opened { IfOk result IsOpen }
+    ensures stopped { IfErr result (λ refused. StopsIn (IsDueByFrame (keeper_of state) one.role (kinds.Request line.now)) B.log (found_of (keeper_of state)) (banks_of state) refused.1) }
+    ensures told { StaysTold (B.log (banks_of state)) (B.log (banks_after result)) }
+    ensures fault { Meters (B.meter (banks_of state)) (B.meter (banks_after result)) (FailsOnDevice result) }
+{
+    if is_peer(&one.role) {
+        return misplace(state, one, exchange);
+    }
+    exchange.hold(one);
+    answer_request(alloc, state, line, exchange)
+}
+
+/// Takes a part of a message, of a peer. A message that is whole then is received.
+///
+/// # Errors
+///
+/// `Device` where the device failed, and `NoMemory`. The banks are given back.
+fn take_part<R: Threads, B: Banks>(
+    rt: &R,
+    alloc: Global,
+    state: NodeState<B>,
+    mut one: Connection,
+    number: u32,
+    index: u32,
+    count: u32,
+    piece: Piece,
+    exchange: &mut Exchange,
+) -> Result<NodeState<B>, (NodeFault, B)>
+    requires opened { IsOpen state }
+    requires good { IsGoodRole one.role }
+    ensures done { IfOk result (λ next. TakesFrame B.log one (kinds.Part number index count piece) state (holding one exchange.old) next exchange.new) }
+    ensures opened { IfOk result IsOpen }
+    ensures stopped { IfErr result (λ refused. StopsIn (IsDueByFrame (keeper_of state) one.role (kinds.Part number index count piece)) B.log (found_of (keeper_of state)) (banks_of state) refused.1) }
+    ensures told { StaysTold (B.log (banks_of state)) (B.log (banks_after result)) }
+    ensures fault { Meters (B.meter (banks_of state)) (B.meter (banks_after result)) (FailsOnDevice result) }
+{
+    let added = add_part(&mut one, number, index, count, piece);
+    exchange.hold(one);
+    match added {
+        None => refuse(state, OUT_OF_PLACE, exchange),
+        Some(Ok(Assembled::Waiting(_))) => Ok(state),
+        Some(Ok(Assembled::Whole(message))) => {
+            receive_message(rt, alloc, state, &message, exchange)
+        }
+        Some(Err(AssemblyFault::BadPart)) => refuse(state, BAD_PART, exchange),
+        Some(Err(AssemblyFault::NoMemory)) => Err((NodeFault::NoMemory, state.into_banks())),
+    }
+}
+
+/// What the assembly of a peer gives for a part.
+fn add_part(
+    one: &mut Connection,
+    number: u32,
+    index: u32,
+    count: u32,
+    piece: Piece,
+) -> Option<Result<Assembled, AssemblyFault>>
+    requires { IsGoodRole one.old.role }
+    ensures { MayAddPart one.old number index count piece result one.new }
+{
+    match &mut one.role {
+        Role::Peer(assembly) => Some(assembly.add(number, index, count, piece)),
+        Role::Fresh | Role::Client => None,
+    }
+}
+
+/// Refuses a connection on which a frame came that may not come on it.
+fn misplace<B: Banks>(
+    state: NodeState<B>,
+    one: Connection,
+    exchange: &mut Exchange,
+) -> Result<NodeState<B>, (NodeFault, B)>
+    ensures sent { OnOk result (exchange.new ≡ refusing 6 (holding one exchange.old)) }
+    ensures same { IfOk result (λ next. next ≡ state) }
+    ensures err { IfErr result (λ refused. refused ≡ (NodeFault.NoMemory, banks_of state)) }
+{
+    exchange.hold(one);
+    refuse(state, OUT_OF_PLACE, exchange)
+}
+
+/// Refuses the connection at hand by a code.
+fn refuse<B: Banks>(
+    state: NodeState<B>,
+    code: u8,
+    exchange: &mut Exchange,
+) -> Result<NodeState<B>, (NodeFault, B)>
+    ensures sent { OnOk result (exchange.new ≡ refusing code exchange.old) }
+    ensures same { IfOk result (λ next. next ≡ state) }
+    ensures err { IfErr result (λ refused. refused ≡ (NodeFault.NoMemory, banks_of state)) }
+{
+    match exchange.refuse(code) {
+        Ok(()) => Ok(state),
+        Err(AllocError) => Err((NodeFault::NoMemory, state.into_banks())),
+    }
+}
+
+/// Asks the connection at hand for what is lacked.
+fn ask<B: Banks>(
+    alloc: Global,
+    state: NodeState<B>,
+    exchange: &mut Exchange,
+) -> Result<NodeState<B>, (NodeFault, B)>
+    ensures sent { OnOk result (exchange.new ≡ telling (question_of (keeper_of state)) exchange.old) }
+    ensures same { IfOk result (λ next. next ≡ state) }
+    ensures err { IfErr result (λ refused. refused ≡ (NodeFault.NoMemory, banks_of state)) }
+{
+    match tell_question(alloc, &state, exchange) {
+        Ok(()) => Ok(state),
+        Err(AllocError) => Err((NodeFault::NoMemory, state.into_banks())),
+    }
+}
+
+/// Sends what is asked for to the connection at hand.
+fn tell_question<B: Banks>(
+    alloc: Global,
+    state: &NodeState<B>,
+    exchange: &mut Exchange,
+) -> Result<(), AllocError>
+    ensures { OnOk result (exchange.new ≡ telling (question_of (keeper_of state.now)) exchange.old) }
+{
+    let question = state.question(alloc)?;
+    exchange.tell(&question)
+}
+
+/// The connection as a peer's, of whose messages none came yet.
+fn peer(alloc: Global, one: Connection) -> Connection
+    ensures { result ≡ as_peer one }
+{
+    Connection {
+        role: Role::Peer(Assembly::new(alloc)),
+        ..one
+    }
+}
+
+/// Whether no frame came on a connection yet.
+fn is_fresh(role: &Role) -> bool
+    ensures { result ≡ is_fresh role.now }
+{
+    matches!(role, Role::Fresh)
+}
+
+/// Whether a connection is a peer's.
+fn is_peer(role: &Role) -> bool
+    ensures { result ≡ is_peer role.now }
+{
+    matches!(role, Role::Peer(_))
+}
