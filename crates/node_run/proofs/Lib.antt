@@ -1,0 +1,9 @@
+mod Moments
+mod MeterLaws
+mod FrontLaws
+mod LogLaws
+mod CountLaws
+mod TurnLaws
+mod WayLemmas
+mod ServeLaws
+mod BeginLaws

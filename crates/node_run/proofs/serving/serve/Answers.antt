@@ -1,0 +1,21 @@
+use Rattle.std.proofs.Common.{map, refl}
+use Rattle.std.specs.String.{string_bytes}
+use Rattle.node_words.specs.Words.{AreRefused}
+use Rattle.node_run.specs.Begun.{found_on}
+use Rattle.node_run.proofs.ServeLaws.{words_usage, short_ends}
+use Rattle.node_run.proofs.serving.serve.Goals as goal
+
+pub returns-in-Err-clause-usage : goal.returns-in-Err-clause-usage
+returns-in-Err-clause-usage g c =
+    rw (c.ended.ensures.fault, c.words_stop.ensures) (words_usage c.in-Err.fault (AreRefused (map (λ w. string_bytes w) c.args.words.now.items)) c.in-Err.ensures.usage)
+
+pub returns-in-Ok-begin-clause-ends : goal.returns-in-Ok-begin-clause-ends
+returns-in-Ok-begin-clause-ends g c = λ log told.
+    c.take_turns.ensures.ends (map (λ w. string_bytes w) c.args.words.now.items) c.in-Ok.words (found_on log) (g.B.Banks.log c.args.banks) log told c.in-Ok.ensures.ok refl
+    (c.in-Ok-begin.ensures.begun log told)
+
+pub returns-in-Err-begin-clause-ends : goal.returns-in-Err-begin-clause-ends
+returns-in-Err-begin-clause-ends g c = λ log told.
+    rw (c.ended-in-Err-begin.ensures.fault, c.ended-in-Err-begin.ensures.turns, c.ended-in-Err-begin.ensures.banks)
+    (short_ends c.in-Err-begin.stop c.in-Ok.words (found_on log) (map (λ w. string_bytes w) c.args.words.now.items) (g.W.Wire.log c.args.wire.now) (g.B.Banks.log c.args.banks)
+    (g.B.Banks.log c.in-Err-begin.banks) c.in-Ok.ensures.ok (c.in-Err-begin.ensures.short log told))

@@ -1,0 +1,123 @@
+//! The turns of a node: each is an event of its wire, with all that it sends for that.
+ghost use Rattle.std.specs.Prelude.{◌≡◌, ℕ, List, false, IfOk, IfErr, OnOk, OnErr, Option, Some, option_map};
+ghost use Rattle.mld_io.specs.Faults.{HasSinkCause};
+ghost use Rattle.mld_io.specs.Disk.{Log};
+ghost use Rattle.journal_store.specs.Closing.{StaysTold};
+ghost use Rattle.shell_session.specs.Lines.{Meters};
+ghost use Rattle.shell_model.specs.Shells.{Found};
+ghost use Rattle.node_keeper.specs.States.{IsOpen};
+ghost use Rattle.node_keeper.specs.States as states;
+ghost use Rattle.node_core.specs.Nodes.{banks_of};
+ghost use Rattle.node_model.specs.Events.{log_with};
+ghost use Rattle.node_words.specs.Words.{AreWords};
+ghost use Rattle.node_words.specs.declared.node.NodeWords.{NodeWords};
+ghost use Rattle.node_run.specs.Statuses.{status_of, damaged_of, IsOfTurns, CountsWire};
+ghost use Rattle.node_run.specs.Ended.{EndsSo};
+ghost use Rattle.node_run.specs.Begun.{BeginsOn};
+ghost use Rattle.node_run.specs.UnderWay.{Sends, SendsFront, DoesTurn, StopsTurn, banks_after, FailsOnBanks, HasTurnCause};
+
+use crate::stops::{NodeRan, NodeStop, ended, event_stop, wire_stop};
+use mld_io::{Banks, Event, IoFault, Wire};
+use node_core::Node;
+use node_exchange::Sent;
+use node_keeper::NodeState;
+use node_model::node_steps_lead;
+use std::alloc::Global;
+use std::thread::Threads;
+
+/// Takes events from the wire, one after another, until the node has ended, or so many were taken.
+pub fn take_turns<R: Threads, W: Wire, B: Banks>(
+    rt: &R,
+    alloc: Global,
+    wire: &mut W,
+    state: NodeState<B>,
+    turns: u64,
+) -> NodeRan<B>
+    requires opened { IsOpen state }
+    requires taken { W.taken wire.old ≡ 0 }
+    ensures status { result.status ≡ status_of result.fault }
+    ensures damaged { result.damaged ≡ damaged_of result.fault }
+    ensures kind { IsOfTurns result.fault }
+    ensures turns { result.turns ≡ W.taken wire.new }
+    ensures ends { (texts : List (List ℕ)) (words : NodeWords) (found : Found) (old : Option Log) (first : Log) → old ≡ Some first → AreWords texts words → words.turns ≡ turns
+        → BeginsOn B.log words found old state
+        → EndsSo result.fault found (record { texts = texts; turns = result.turns; before = W.log wire.old; after = W.log wire.new; old = old; now = B.log result.banks }) }
+    ensures meter { Meters (B.meter (states.banks_of state)) (B.meter result.banks) (result.fault ≡ Some NodeStop.Device) }
+    ensures wire { CountsWire (W.faults wire.old) (W.faults wire.new) result.fault }
+{
+    node_steps_lead();
+    let mut node = Node::new(alloc, state);
+    let mut taken = 0;
+    loop {
+        if node.halted() {
+            return ended(None, taken, node.stop());
+        }
+        if taken == turns {
+            return ended(Some(NodeStop::OutOfTurns), taken, node.stop());
+        }
+        let event = match wire.next() {
+            Ok(event) => event,
+            Err(fault) => return ended(Some(wire_stop(fault)), taken, node.stop()),
+        };
+        taken += 1;
+        node = match take_event(rt, alloc, wire, node, &event) {
+            Ok(node) => node,
+            Err((stop, banks)) => return ended(Some(stop), taken, banks),
+        };
+    }
+}
+
+/// Does an event, and then sends what is to be sent for it.
+fn take_event<R: Threads, W: Wire, B: Banks>(
+    rt: &R,
+    alloc: Global,
+    wire: &mut W,
+    node: Node<B>,
+    event: &Event,
+) -> Result<Node<B>, (NodeStop, B)>
+    requires opened { IsOpen node.state }
+    requires going { node.halted ≡ false }
+    ensures done { IfOk result (λ next. DoesTurn B.log node event.now (W.log wire.old) next (W.log wire.new)) }
+    ensures opened { IfOk result (λ next. IsOpen next.state) }
+    ensures stopped { IfErr result (λ refused. StopsTurn refused.0 B.log node event.now (W.log wire.old) refused.1 (W.log wire.new)) }
+    ensures told { StaysTold (B.log (banks_of node)) (B.log (banks_after result)) }
+    ensures taken { W.taken wire.new ≡ W.taken wire.old }
+    ensures meter { Meters (B.meter (banks_of node)) (B.meter (banks_after result)) (FailsOnBanks result) }
+    ensures wire { HasTurnCause (W.faults wire.old) (W.faults wire.new) result }
+{
+    let (node, sent) = match node.on_event(rt, alloc, event) {
+        Ok(done) => done,
+        Err((fault, banks)) => return Err((event_stop(fault), banks)),
+    };
+    if let Err(fault) = send_all(wire, sent.as_slice()) {
+        return Err((wire_stop(fault), node.stop()));
+    }
+    Ok(node)
+}
+
+/// Sends what is to be sent, in order.
+fn send_all<W: Wire>(wire: &mut W, sent: &[Sent]) -> Result<(), IoFault>
+    ensures ok { OnOk result (Sends sent.now (W.log wire.old) (W.log wire.new)) }
+    ensures err { OnErr result (SendsFront sent.now (W.log wire.old) (W.log wire.new)) }
+    ensures taken { W.taken wire.new ≡ W.taken wire.old }
+    ensures cause { HasSinkCause (W.faults wire.old) (W.faults wire.new) result }
+{
+    for one in sent {
+        send_one(wire, one)?;
+    }
+    Ok(())
+}
+
+/// Sends bytes on a connection, which is shut behind them where that is said.
+fn send_one<W: Wire>(wire: &mut W, one: &Sent) -> Result<(), IoFault>
+    ensures ok { OnOk result (W.log wire.new ≡ option_map (log_with one.now) (W.log wire.old)) }
+    ensures err { OnErr result (W.log wire.new ≡ W.log wire.old) }
+    ensures taken { W.taken wire.new ≡ W.taken wire.old }
+    ensures cause { HasSinkCause (W.faults wire.old) (W.faults wire.new) result }
+{
+    wire.send(one.conn, one.piece.as_slice())?;
+    if one.shut {
+        wire.shut(one.conn);
+    }
+    Ok(())
+}
