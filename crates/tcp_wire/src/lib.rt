@@ -1,0 +1,14 @@
+//! Connections over TCP, as a wire.
+#![tactic(auto)]
+
+mod connection;
+mod outbox;
+mod peer;
+mod sockets;
+mod table;
+mod wire;
+
+pub use wire::TcpWire;
+
+#[cfg(test)]
+mod tests;

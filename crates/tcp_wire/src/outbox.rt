@@ -1,0 +1,100 @@
+//! Bytes that wait to be sent.
+
+use mio::net::TcpStream;
+use std::alloc::{AllocError, Global};
+use std::collections::VecDeque;
+use std::io::{ErrorKind, Write};
+
+/// How many bytes may wait on a connection behind the piece that is being sent, before one piece
+/// more is too much.
+const BEHIND_LIMIT: usize = 268_435_456;
+
+/// The pieces that wait to be sent on one connection, in order.
+#[derive(Drop)]
+pub(crate) struct Outbox {
+    alloc: Global,
+    pieces: VecDeque<Vec<u8>>,
+    /// How many bytes of the first piece were sent.
+    sent: usize,
+    /// How many bytes wait.
+    len: usize,
+}
+
+/// The connection takes no more bytes.
+#[derive(Clone, Copy, Debug, Drop)]
+pub(crate) struct Broken;
+
+impl Outbox {
+    pub(crate) fn new(alloc: Global) -> Outbox {
+        Outbox {
+            alloc,
+            pieces: VecDeque::new(alloc),
+            sent: 0,
+            len: 0,
+        }
+    }
+
+    pub(crate) fn is_empty(&self) -> bool {
+        self.pieces.is_empty()
+    }
+
+    /// How many bytes wait.
+    pub(crate) fn len(&self) -> usize {
+        self.len
+    }
+
+    /// Whether one piece more is too much.
+    pub(crate) fn is_full(&self) -> bool {
+        let first = self.pieces.front().map_or(0, |piece| piece.len());
+        let all = self.len.saturating_add(self.sent);
+        all.saturating_sub(first) > BEHIND_LIMIT
+    }
+
+    /// Puts a copy of the piece behind what waits.
+    pub(crate) fn push(&mut self, piece: &[u8]) -> Result<(), AllocError> {
+        if piece.is_empty() {
+            return Ok(());
+        }
+        self.pieces.push_back(Vec::from_slice(self.alloc, piece)?)?;
+        self.len = self.len.saturating_add(piece.len());
+        Ok(())
+    }
+
+    /// Drops what waits.
+    pub(crate) fn clear(&mut self) {
+        self.pieces.clear();
+        self.sent = 0;
+        self.len = 0;
+    }
+
+    /// Writes as much as the stream takes at once.
+    pub(crate) fn write_to(&mut self, stream: &mut TcpStream) -> Result<(), Broken> {
+        for _ in 0..self.len.saturating_add(1) {
+            let Some(rest) = self.pieces.front().and_then(|piece| piece.get(self.sent..)) else {
+                return Ok(());
+            };
+            match stream.write(rest) {
+                Ok(0) => return Err(Broken),
+                Ok(count) => self.advance(count),
+                Err(error) if error.kind() == ErrorKind::WouldBlock => return Ok(()),
+                Err(error) if error.kind() == ErrorKind::Interrupted => {}
+                Err(_) => return Err(Broken),
+            }
+        }
+        Ok(())
+    }
+
+    /// Counts bytes of the first piece as sent.
+    fn advance(&mut self, count: usize) {
+        self.sent = self.sent.saturating_add(count);
+        self.len = self.len.saturating_sub(count);
+        if self
+            .pieces
+            .front()
+            .is_none_or(|piece| piece.len() <= self.sent)
+        {
+            self.pieces.pop_front();
+            self.sent = 0;
+        }
+    }
+}
