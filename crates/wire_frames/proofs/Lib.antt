@@ -8,3 +8,4 @@ pub mod Spelled
 pub mod GivenBack
 pub mod CutSteps
 pub mod WrittenFrames
+mod HelloLaws

@@ -1,6 +1,9 @@
 //! Frames, and what a reader of frames gives.
+ghost use Rattle.std.specs.Prelude.{IsTrue};
 ghost use Rattle.std.specs.Str.{IsUtf8};
+ghost use Rattle.iri_rules.specs.Domain.{is_domain};
 ghost use Rattle.op_codec.specs.Stored.{IsId};
+ghost use Rattle.wire_frames.specs.Frames.{IsHello, hello_format};
 
 use crate::faults::FrameFault;
 use iri_rules::Text;
@@ -56,10 +59,11 @@ pub struct Fed {
     pub fault: Option<FrameFault>,
 }
 
-/// An id has 16 bytes, and a text is UTF-8. It does nothing.
+/// An id has 16 bytes, a text is UTF-8, and a Hello of an id and a domain's name fits a frame. It does nothing.
 pub fn are_kept(id: &Uuid, text: &Text)
     ensures id { IsId id.now }
     ensures text { IsUtf8 text.now }
+    ensures hello { IsTrue (is_domain text.now) → IsHello hello_format id.now text.now }
 {
     let _bytes = id.into_bytes();
     let _text = text.as_str();

@@ -1,5 +1,5 @@
 //! The reader of frames.
-ghost use Rattle.std.specs.Prelude.{◌≡◌, ℕ, List, false, IfOk, OnErr, IsTrue, is_none};
+ghost use Rattle.std.specs.Prelude.{◌≡◌, ◌≤◌, ℕ, List, length, drop, false, IfOk, OnErr, IsTrue, is_none};
 ghost use Rattle.wire_frames.specs.Frames.{FramesValue, Feeds};
 ghost use Rattle.wire_frames.specs.Reading.{IsFedOn};
 
@@ -87,8 +87,19 @@ fn feed_on(
 {
     rest.extend_from_slice(piece)?;
     let Cut { frames, end, fault } = cut_frames(alloc, rest.as_slice(), *place)?;
-    let left = Vec::from_slice(alloc, &rest[end..])?;
-    *rest = left;
+    drop_front(alloc, rest, end)?;
     *place = place.saturating_add(end as u64);
     Ok(Fed { frames, fault })
+}
+
+/// Drops the bytes before a place. Where there are none nothing is copied, so a frame in many pieces costs no more than
+/// its bytes.
+fn drop_front(alloc: Global, rest: &mut Vec<u8>, end: usize) -> Result<(), AllocError>
+    requires { end ≤ length rest.old.items }
+    ensures { IfOk result (λ done. rest.new.items ≡ drop end rest.old.items) }
+{
+    if end > 0 {
+        *rest = Vec::from_slice(alloc, &rest[end..])?;
+    }
+    Ok(())
 }
