@@ -6,5 +6,3 @@ mod UnderWay
 mod QuietLaws
 mod KindLaws
 mod PieceLaws
-mod HelloLaws
-mod StepLaws

@@ -197,7 +197,7 @@ frame_leads (role.Peer assembly) (Part number index count piece) keeper one exch
     part_leads keeper one assembly number index count piece exchange steps next after does
 frame_leads kind frame keeper one exchange steps next after does = kept_leads keeper steps next does.nothing
 
-frames_lead : (keeper : Keeper) (frames : List Frame) (exchange : ExchangeValue) (steps : List KeptStep) (next : Keeper) (after : ExchangeValue)
+pub frames_lead : (keeper : Keeper) (frames : List Frame) (exchange : ExchangeValue) (steps : List KeptStep) (next : Keeper) (after : ExchangeValue)
     → FramesStep keeper frames exchange steps next after → Leads keeper steps next
 frames_lead keeper frames exchange steps next after (no_more same_keeper same_exchange) = refl
 frames_lead keeper frames exchange steps next after (are_dropped same_keeper same_frames same_exchange why) = refl

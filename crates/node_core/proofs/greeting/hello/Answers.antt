@@ -1,5 +1,6 @@
-use Rattle.node_core.proofs.HelloLaws.{hello_fits}
+use Rattle.std.proofs.Common.{List, ℕ, IsTrue, subst, sym}
+use Rattle.iri_rules.specs.Domain.{is_domain}
 use Rattle.node_core.proofs.greeting.hello.Goals as goal
 
 pub write_frame-requires : goal.write_frame-requires
-write_frame-requires g c = hello_fits c.id-id.result c.in_ok-domain.domain c.domain.result.now c.are_kept.ensures.id c.are_kept.ensures.text c.domain.ensures.name c.in_ok-domain.ensures
+write_frame-requires g c = c.are_kept.ensures.hello (subst (λ (text : List ℕ). IsTrue (is_domain text)) (sym c.in_ok-domain.ensures) c.domain.ensures.name)
