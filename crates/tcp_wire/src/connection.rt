@@ -3,6 +3,7 @@ ghost use Rattle.std.specs.Prelude.{◌≡◌, ◌≤◌, vec_len, IfOk, IfSome}
 ghost use Rattle.mld_io.specs.Wires.{piece_limit};
 ghost use Rattle.tcp_wire.specs.Wires.{IsSized};
 
+use crate::framing::Framing;
 use crate::outbox::Outbox;
 use mio::net::TcpStream;
 use mld_io::{Event, Piece};
@@ -11,7 +12,7 @@ use std::io::{self, ErrorKind, Read};
 use std::net::Shutdown;
 
 /// The most bytes of a piece that is read.
-const PIECE_LIMIT: usize = 65_536;
+pub(crate) const PIECE_LIMIT: usize = 65_536;
 
 /// How many bytes of a connection that was shut are read and dropped. One that is closed with bytes
 /// unread is reset, and what was sent last on it may then be lost.
@@ -44,6 +45,10 @@ pub(crate) struct Connection {
     stream: TcpStream,
     outbox: Outbox,
     stage: Stage,
+    /// How far the frame is whose bytes are given.
+    framing: Framing,
+    /// Whether nothing is read any more, since too much waits to be sent.
+    is_broken: bool,
     /// Whether the other end sends no more.
     ended: bool,
     /// How many bytes were read and dropped.
@@ -60,6 +65,8 @@ impl Connection {
             stream,
             outbox: Outbox::new(alloc),
             stage: Stage::Open,
+            framing: Framing::new(),
+            is_broken: false,
             ended: false,
             dropped: 0,
             queued: false,
@@ -81,7 +88,8 @@ impl Connection {
         self.outbox.len()
     }
 
-    /// Sends what waits, and reads once.
+    /// Sends what waits, and reads once, no further than to the end of a frame's head or payload: what
+    /// one frame asks for may be much, and others wait meanwhile.
     pub(crate) fn turn(&mut self, alloc: Global) -> Result<Turn, AllocError>
         ensures sized { IfOk result (λ turn. IfSome turn.event IsSized) }
     {
@@ -93,9 +101,23 @@ impl Connection {
                 more: false,
             });
         }
-        let mut bytes = zeros(alloc, PIECE_LIMIT)?;
+        if self.is_broken {
+            return Ok(self.end());
+        }
+        let mut bytes = zeros(alloc, self.wanted())?;
         let count = self.stream.read(&mut bytes);
         Ok(self.after_read(bytes, count))
+    }
+
+    /// How many bytes may be read at once.
+    fn wanted(&self) -> usize
+        ensures { result ≤ piece_limit }
+    {
+        if self.is_open() {
+            self.framing.wanted()
+        } else {
+            PIECE_LIMIT
+        }
     }
 
     /// So many of these bytes were read, or none.
@@ -140,6 +162,7 @@ impl Connection {
     {
         if self.is_open() {
             bytes.truncate(count);
+            self.framing.advance(&bytes);
             let piece = Piece::from_vec(bytes);
             return Turn {
                 event: Some(Event::Bytes(self.number, piece)),
@@ -175,6 +198,7 @@ impl Connection {
     pub(crate) fn send(&mut self, piece: &[u8]) -> Result<(), AllocError> {
         self.flush();
         if self.outbox.is_full() {
+            self.is_broken = true;
             self.break_off();
             return Ok(());
         }
@@ -201,7 +225,7 @@ impl Connection {
         }
     }
 
-    /// Drops what waits. What came before is still read, and then the end.
+    /// Drops what waits to be sent, and sends no more.
     fn break_off(&mut self) {
         self.outbox.clear();
         // Where this fails the connection is broken, which a read tells.

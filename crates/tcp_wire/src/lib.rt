@@ -2,6 +2,7 @@
 #![tactic(auto)]
 
 mod connection;
+mod framing;
 mod outbox;
 mod peer;
 mod sockets;

@@ -48,6 +48,40 @@ fn serves_clients(rt: HostRuntime) -> Result<(), Fail> {
     Ok(())
 }
 
+/// No piece goes behind the end of a frame's head or of its payload, and others have their turn in between.
+#[test]
+fn gives_frames_in_turn(rt: HostRuntime) -> Result<(), Fail> {
+    let address = free_address(&rt)?;
+    let mut wire = TcpWire::new(rt.clone()?, rt.alloc(), address.as_str(), None)?;
+    wire.send(1, b"")?;
+    let mut one = TcpStream::connect(&rt, address.as_str())?;
+    assert!(rt; matches!(wire.next()?, Event::Opened(1)));
+    let mut other = TcpStream::connect(&rt, address.as_str())?;
+    assert!(rt; matches!(wire.next()?, Event::Opened(2)));
+    other.write_all(b"\x03\0\0\0\0")?;
+    one.write_all(b"\x03\0\0\x01\x01")?;
+    one.write_all(&[7u8; 257])?;
+    one.write_all(b"\x03\0\0\0\0\x03")?;
+    let mut came = 0u32;
+    for _ in 0..2 {
+        match wire.next()? {
+            Event::Bytes(conn, piece) => {
+                assert_eq!(rt; piece.len(), 5);
+                came |= conn;
+            }
+            _ => panic!(rt; "no bytes"),
+        }
+    }
+    assert_eq!(rt; came, 3);
+    for size in [257usize, 5, 1] {
+        match wire.next()? {
+            Event::Bytes(1, piece) => assert_eq!(rt; piece.len(), size),
+            _ => panic!(rt; "no bytes"),
+        }
+    }
+    Ok(())
+}
+
 /// A peer is called, and again once its connection ended.
 #[test]
 fn calls_its_peer(rt: HostRuntime) -> Result<(), Fail> {

@@ -1,0 +1,55 @@
+//! Where the frames of a connection end.
+ghost use Rattle.std.specs.Prelude.{◌≤◌};
+ghost use Rattle.mld_io.specs.Wires.{piece_limit};
+
+use crate::connection::PIECE_LIMIT;
+
+/// How many bytes of a frame come before its payload: its kind, and the length of the payload in
+/// four.
+const HEAD: usize = 5;
+
+/// How far the frame is that is under way on a connection.
+#[derive(Clone, Copy, Debug)]
+pub(crate) struct Framing {
+    /// How many bytes of its head came.
+    head: usize,
+    /// What the bytes of its head give as a number, and once they are all there how many bytes of
+    /// its payload are still to come.
+    left: u32,
+}
+
+impl Framing {
+    /// The first frame, of which nothing came.
+    pub(crate) fn new() -> Framing {
+        Framing { head: 0, left: 0 }
+    }
+
+    /// How many bytes may be read: those that its head lacks, or those that its payload lacks, as
+    /// far as a piece goes. So no piece goes behind the end of a frame.
+    pub(crate) fn wanted(&self) -> usize
+        ensures some { 1 ≤ result }
+        ensures few { result ≤ piece_limit }
+    {
+        if self.head < HEAD {
+            return HEAD - self.head;
+        }
+        (self.left as usize).clamp(1, PIECE_LIMIT)
+    }
+
+    /// These bytes of it came, no more than were wanted.
+    pub(crate) fn advance(&mut self, bytes: &[u8]) {
+        if self.head < HEAD {
+            for byte in bytes {
+                // The kind is shifted out by the length.
+                self.left = self.left.wrapping_mul(256) | u32::from(*byte);
+            }
+            self.head = self.head.saturating_add(bytes.len());
+        } else {
+            let count = u32::try_from(bytes.len()).unwrap_or(u32::MAX);
+            self.left = self.left.saturating_sub(count);
+        }
+        if self.head >= HEAD && self.left == 0 {
+            self.head = 0;
+        }
+    }
+}
