@@ -15,7 +15,8 @@ fn is_dots(segment: &str) -> bool
 
 /// The first segment, and what is behind its slash; none where the path is one segment.
 fn cut_segment(path: &str) -> Option<(&str, &str)>
-    ensures first { MatchOption result (segments path.now ≡ path.now ∷ []) (λ parts. segments path.now ≡ parts.0.now ∷ segments parts.1.now) }
+    ensures first { MatchOption result (segments path.now ≡ path.now ∷ [])
+        (λ parts. segments path.now ≡ parts.0.now ∷ segments parts.1.now) }
     ensures shorter { IfSome result (λ parts. length parts.1.now < length path.now) }
 {
     path.split_once('/')

@@ -64,7 +64,8 @@ fn cut_scheme(text: &str) -> (Option<&str>, &str)
 
 /// What stands behind `//`.
 fn behind_slashes(text: &str) -> Option<&str>
-    ensures { MatchOption result (begins_authority text.now ≡ false) (λ rest. (begins_authority text.now ≡ true) × (rest.now ≡ drop 2 text.now)) }
+    ensures { MatchOption result (begins_authority text.now ≡ false)
+        (λ rest. (begins_authority text.now ≡ true) × (rest.now ≡ drop 2 text.now)) }
 {
     text.strip_prefix("//")
 }
@@ -114,7 +115,8 @@ fn add_part(
     part: Option<&str>,
     back: &str,
 ) -> Result<(), AllocError>
-    ensures { OnOk result (string_bytes text.new ≡ string_bytes text.old ++ delimited front.now (option_copied part.entry) back.now) }
+    ensures { OnOk result
+        (string_bytes text.new ≡ string_bytes text.old ++ delimited front.now (option_copied part.entry) back.now) }
 {
     let Some(part) = part else {
         return Ok(());

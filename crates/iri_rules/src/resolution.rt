@@ -52,7 +52,8 @@ fn target_path(
     base: &IriParts<'_>,
     reference: &IriParts<'_>,
 ) -> Result<String, AllocError>
-    ensures { IfOk result (λ text. string_bytes text ≡ (transformed (parts_value base.now) (parts_value reference.now)).path) }
+    ensures { IfOk result
+        (λ text. string_bytes text ≡ (transformed (parts_value base.now) (parts_value reference.now)).path) }
 {
     if reference.scheme.is_some() || reference.authority.is_some() || is_rooted(reference.path) {
         return remove_dot_segments(alloc, reference.path);
@@ -67,7 +68,8 @@ fn target_path(
 /// The target's parts, of which the path is given (RFC 3986, section 5.2.2).
 #[tactic(auto, unfolding(crate::specs::Resolution::transformed))]
 fn target<'a>(base: &IriParts<'a>, reference: &IriParts<'a>, path: &'a str) -> IriParts<'a>
-    ensures { parts_value result ≡ record (transformed (parts_value base.now) (parts_value reference.now)) { path = path.now } }
+    ensures { parts_value result
+        ≡ record (transformed (parts_value base.now) (parts_value reference.now)) { path = path.now } }
 {
     if reference.scheme.is_some() {
         return IriParts { path, ..*reference };
@@ -109,7 +111,8 @@ pub fn resolve(alloc: Global, base: &str, reference: &str) -> Result<Text, IriFa
     requires { IsTrue (is_absolute base.now) }
     ensures ok { IfOk result (λ iri. iri ≡ resolved base.now reference.now) }
     ensures absolute { IfOk result (λ iri. IsTrue (is_absolute iri)) }
-    ensures not_iri { IfErr result (λ fault. fault ≡ iri_faults.NotIri → IsTrue (not (is_absolute (resolved base.now reference.now)))) }
+    ensures not_iri { IfErr result (λ fault. fault ≡ iri_faults.NotIri
+        → IsTrue (not (is_absolute (resolved base.now reference.now)))) }
 {
     let text = target_text(alloc, base, reference)?;
     if !is_absolute(text.as_str()) {
