@@ -22,7 +22,8 @@ pub struct Escape {
 
 /// What a letter behind a backslash stands for, in a lexical form.
 fn letter_value(letter: u8) -> Option<char>
-    ensures { MatchOption result (is_escape_letter letter ≡ false) (λ character. (is_escape_letter letter ≡ true) × (character ≡ letter_value letter)) }
+    ensures { MatchOption result (is_escape_letter letter ≡ false)
+        (λ character. (is_escape_letter letter ≡ true) × (character ≡ letter_value letter)) }
 {
     match letter {
         b't' => Some('\t'),

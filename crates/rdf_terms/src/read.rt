@@ -121,7 +121,8 @@ fn is_tag_character(byte: u8, dashed: bool) -> bool
 
 /// The end of a language tag, where a letter or a digit stands before it.
 fn end_of_tag(full: bool, place: usize) -> Result<usize, TripleFault>
-    ensures { MatchResult result (λ end. (full ≡ true) × (end ≡ place)) (λ fault. (full ≡ false) × (fault ≡ TripleFault.NotTriple place)) }
+    ensures { MatchResult result (λ end. (full ≡ true) × (end ≡ place))
+        (λ fault. (full ≡ false) × (fault ≡ TripleFault.NotTriple place)) }
 {
     if full {
         Ok(place)

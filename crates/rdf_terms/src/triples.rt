@@ -82,7 +82,8 @@ pub fn read_triple(alloc: Global, text: &str) -> Result<Triple, TripleFault>
 /// Reads the text of an IRI alone, of the form `<http://d/a>`, with escapes and with nothing around its angle brackets
 /// (N-Triples 1.1, the rule `IRIREF`): `None` where the text spells no absolute IRI of at most 2,048 bytes.
 pub fn read_iri(alloc: Global, text: &str) -> Result<Option<Iri>, AllocError>
-    ensures { IfOk result (λ found. MatchOption found ((iri : List ℕ) → ¬ IsIriText text.now iri) (IsIriText text.now)) }
+    ensures { IfOk result
+        (λ found. MatchOption found ((iri : List ℕ) → ¬ IsIriText text.now iri) (IsIriText text.now)) }
 {
     match read::read_iri(alloc, text, 0) {
         Ok((iri, next)) if next == text.len() && iri.len() <= IRI_LIMIT => {
