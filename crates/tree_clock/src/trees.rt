@@ -30,7 +30,8 @@ impl Tree {
     // The son at a letter, or the empty tree where there is none.
     fn son<'a>(&'a self, one: bool, empty: &'a Tree) -> &'a Tree
         requires { IsEmpty empty.now }
-        ensures { (path : List ℕ) → ticks_at result.now path ≡ ticks_at self.now ((if one then one_letter else zero_letter) ∷ path) }
+        ensures { (path : List ℕ) → ticks_at result.now path
+            ≡ ticks_at self.now ((if one then one_letter else zero_letter) ∷ path) }
     {
         match self {
             Tree::Leaf(_) => empty,
@@ -91,7 +92,8 @@ impl Tree {
     ) -> bool
         requires empty { IsEmpty empty.now }
         requires depth { depth ≤ length path.now }
-        ensures { MatchBool result (IsWithinBut (drop depth path.now) self.now other.now) (ExceedsBut (drop depth path.now) self.now other.now) }
+        ensures { MatchBool result (IsWithinBut (drop depth path.now) self.now other.now)
+            (ExceedsBut (drop depth path.now) self.now other.now) }
     {
         if depth == path.len() {
             return self.sons_leq(other, empty);
@@ -209,7 +211,8 @@ impl Tree {
     /// Raises the ticks of each path to those of this tree, where they are fewer.
     pub fn raise_in(&self, into: &mut Tree)
         requires { HasNodesOf into.old self.now }
-        ensures raises { (path : List ℕ) → node_at into.new path ≡ raised_node (node_at into.old path) (ticks_at self.now path) }
+        ensures raises { (path : List ℕ) → node_at into.new path
+            ≡ raised_node (node_at into.old path) (ticks_at self.now path) }
         ensures height { height into.new ≡ height into.old }
     {
         into.raise_own(self.own());
