@@ -52,7 +52,8 @@ pub trait Banks: Drop {
     /// `Failed` where the device failed, which counts as a fault.
     fn read_at(&mut self, side: Side, at: u64, out: &mut [u8]) -> Result<(), IoFault>
         requires { (l : Log) → log self.old ≡ Some l → at + length out.old ≤ length (bytes_of side (seen l)) }
-        ensures bytes { (l : Log) → log self.old ≡ Some l → OnOk result (out.new ≡ take (length out.old) (drop at (bytes_of side (seen l)))) }
+        ensures bytes { (l : Log) → log self.old ≡ Some l
+            → OnOk result (out.new ≡ take (length out.old) (drop at (bytes_of side (seen l)))) }
         ensures log { log self.new ≡ log self.old }
         ensures no_memory { IsErrOf result IoFault.NoMemory → ⊥ }
         ensures meter { Metered 0 (meter self.old) (meter self.new) (IsOk result) (IsErrOf result IoFault.Failed) }
@@ -68,8 +69,10 @@ pub trait Banks: Drop {
     fn write_at(&mut self, side: Side, at: u64, piece: &[u8]) -> Result<(), IoFault>
         requires { (l : Log) → log self.old ≡ Some l → at ≤ length (bytes_of side (seen l)) }
         ensures small { OnOk result (at + length piece.now < 2 ^ 64) }
-        ensures done { (l : Log) → log self.old ≡ Some l → OnOk result (log self.new ≡ Some (grown (Wrote side at piece.now) l)) }
-        ensures failed { (l : Log) → log self.old ≡ Some l → IsErrOf result IoFault.Failed → Writes side at piece.now l (log self.new) }
+        ensures done { (l : Log) → log self.old ≡ Some l
+            → OnOk result (log self.new ≡ Some (grown (Wrote side at piece.now) l)) }
+        ensures failed { (l : Log) → log self.old ≡ Some l → IsErrOf result IoFault.Failed
+            → Writes side at piece.now l (log self.new) }
         ensures no_memory { IsErrOf result IoFault.NoMemory → self.new ≡ self.old }
         ensures untold { log self.old ≡ None → log self.new ≡ None }
         ensures meter { Metered 1 (meter self.old) (meter self.new) (IsOk result) (IsErrOf result IoFault.Failed) }

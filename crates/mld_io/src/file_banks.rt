@@ -71,7 +71,8 @@ impl<R: Files<File = File> + Drop> Banks for FileBanks<R> {
 /// Tells what a file answered: its value, or its failure, which is counted.
 fn tell<T: Drop>(answer: io::Result<T>, faults: &mut u64) -> Result<T, IoFault>
     ensures told { TellsAnswer answer faults.old result faults.new }
-    ensures meter { (calls : ℕ) → Metered calls (unarmed faults.old) (unarmed faults.new) (IsOk result) (IsErrOf result IoFault.Failed) }
+    ensures meter { (calls : ℕ) → Metered calls (unarmed faults.old) (unarmed faults.new) (IsOk result)
+        (IsErrOf result IoFault.Failed) }
 {
     match answer {
         Ok(value) => Ok(value),

@@ -117,7 +117,8 @@ fn take_line<S: Source>(
     ensures progress { Progresses result taken.old taken.new all }
     ensures short { IfOk result (λ next. IfSome next (λ piece. length piece ≤ line)) }
     ensures line { (bytes : List ℕ) → S.left source.old ≡ Some bytes
-        → NextLine (record { line = line; all = all; taken = taken.old; good = true; ended = false }) bytes result taken.new ended.new (S.left source.new) }
+        → NextLine (record { line = line; all = all; taken = taken.old; good = true; ended = false })
+        bytes result taken.new ended.new (S.left source.new) }
     ensures end { IfOk result (λ next. next ≡ None → IsTrue ended.new) }
     ensures frugal { (bytes : List ℕ) → S.left source.old ≡ Some bytes
         → TakesAtMost bytes (S.left source.new) ((all - taken.old) + 1) }

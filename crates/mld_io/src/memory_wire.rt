@@ -45,7 +45,8 @@ impl MemoryWire {
         mut events: Vec<Event>,
         fails: &[u64],
     ) -> Result<MemoryWire, AllocError>
-        ensures { IfOk result (λ w. w ≡ record { left = filter is_event events.items; log = []; faults = 0; calls = 0; fails = fails.now }) }
+        ensures { IfOk result (λ w. w
+            ≡ record { left = filter is_event events.items; log = []; faults = 0; calls = 0; fails = fails.now }) }
     {
         let fails = Vec::from_slice(alloc, fails)?;
         events.retain(is_sized);

@@ -44,7 +44,8 @@ impl<R: Read + Drop> Source for StdSource<R> {
     #[inline(always)]
     fn read(&mut self, out: &mut [u8]) -> Result<usize, Failed>
         ensures bound { ReadsAtMost result out.new }
-        ensures bytes { ReadConsumes (reader_left R.remaining self.old) (reader_left R.remaining self.new) result out.new }
+        ensures bytes { ReadConsumes (reader_left R.remaining self.old) (reader_left R.remaining self.new)
+            result out.new }
         ensures cause { HasCause (reader_faults self.old) (reader_faults self.new) result }
         ensures frugal { bytes_ahead self.old ≢ [] → source_reader self.new ≡ source_reader self.old }
     {

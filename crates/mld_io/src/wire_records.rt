@@ -98,7 +98,8 @@ fn is_shut_by(calls: &[WireCall], conn: u32) -> bool
 
 /// Which connections are open once one call more was made.
 fn note(listed: &mut Vec<u32>, call: &WireCall) -> Result<(), AllocError>
-    ensures listed { (conn : ℕ) → OnOk result (list_any (λ c. c == conn) listed.new.items ≡ open_after conn call.now (list_any (λ c. c == conn) listed.old.items)) }
+    ensures listed { (conn : ℕ) → OnOk result (list_any (λ c. c == conn) listed.new.items
+        ≡ open_after conn call.now (list_any (λ c. c == conn) listed.old.items)) }
     ensures few { OnOk result (vec_len listed.new ≤ vec_len listed.old + 1) }
     ensures err { OnErr result (listed.new.items ≡ listed.old.items) }
 {
@@ -113,7 +114,8 @@ fn note(listed: &mut Vec<u32>, call: &WireCall) -> Result<(), AllocError>
 
 /// Takes a connection out of those that are open.
 fn remove(listed: &mut Vec<u32>, on: u32)
-    ensures listed { (conn : ℕ) → list_any (λ c. c == conn) listed.new.items ≡ not (on == conn) && list_any (λ c. c == conn) listed.old.items }
+    ensures listed { (conn : ℕ) → list_any (λ c. c == conn) listed.new.items
+        ≡ not (on == conn) && list_any (λ c. c == conn) listed.old.items }
     ensures few { vec_len listed.new ≤ vec_len listed.old }
     ensures fewer { IsTrue (list_any (λ c. c == on) listed.old.items) → vec_len listed.new < vec_len listed.old }
 {
