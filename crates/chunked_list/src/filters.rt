@@ -13,7 +13,8 @@ pub(crate) fn filtered_in<'a, T: Keyed + Drop, P: Test<T>>(
     chunks: &'a [Chunk<T>],
     test: &P,
 ) -> Result<Vec<&'a T>, AllocError>
-    ensures { IfOk result (λ found. map (λ x. x.now) found.items ≡ filter (P.passes test.now) (joined_chunks chunks.now)) }
+    ensures { IfOk result
+        (λ found. map (λ x. x.now) found.items ≡ filter (P.passes test.now) (joined_chunks chunks.now)) }
 {
     let mut found = Vec::new(alloc);
     for chunk in chunks {

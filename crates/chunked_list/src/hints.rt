@@ -53,7 +53,8 @@ fn lower<T: Keyed>(hints: &mut Hints, elements: &[T], element: &T)
     requires is { IsHinted T.key elements.now hints.old }
     requires room { length elements.now ≤ vec_capacity hints.old.numbers }
     ensures is { IsHinted T.key elements.now hints.new }
-    ensures shared { (x : T) → Has elements.now x → take hints.new.mark (T.key x) ≡ take hints.new.mark (T.key element.now) }
+    ensures shared { (x : T) → Has elements.now x
+        → take hints.new.mark (T.key x) ≡ take hints.new.mark (T.key element.now) }
     ensures room { vec_capacity hints.new.numbers ≡ vec_capacity hints.old.numbers }
 {
     match elements.first() {
@@ -144,7 +145,8 @@ fn shares<T: Keyed, B: Bound<T>>(mark: usize, elements: &[T], bound: &B) -> bool
 // How many elements are before the bound: the hints tell it, but for those that are the bound's.
 fn count_by_halves<T: Keyed, B: Bound<T>>(hints: &Hints, elements: &[T], bound: &B) -> usize
     requires is { IsHinted T.key elements.now hints.now }
-    requires shared { (x : T) → Has elements.now x → take hints.now.mark (T.key x) ≡ take hints.now.mark (B.key bound.now) }
+    requires shared { (x : T) → Has elements.now x
+        → take hints.now.mark (T.key x) ≡ take hints.now.mark (B.key bound.now) }
     ensures bound { result ≤ length elements.now }
     ensures place { IsPartitionedBy (B.before bound.now) elements.now →
         IsPartitionPoint (λ x. B.before bound.now x ≡ true) (λ x. B.before bound.now x ≡ false) elements.now result }
@@ -172,7 +174,8 @@ fn is_before_at<T: Keyed, B: Bound<T>>(
     bound: &B,
 ) -> bool
     requires is { IsHinted T.key elements.now hints.now }
-    requires shared { (x : T) → Has elements.now x → take hints.now.mark (T.key x) ≡ take hints.now.mark (B.key bound.now) }
+    requires shared { (x : T) → Has elements.now x
+        → take hints.now.mark (T.key x) ≡ take hints.now.mark (B.key bound.now) }
     requires place { at < length elements.now }
     requires wanted { wanted ≡ leading 8 (drop hints.now.mark (B.key bound.now)) }
     ensures { (d : T) → result ≡ B.before bound.now (slice_index_or elements.now at d) }

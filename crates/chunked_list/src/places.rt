@@ -45,7 +45,8 @@ pub(crate) fn find<T: Keyed + Drop, B: Bound<T>>(store: &Store<T>, bound: &B) ->
     requires is { IsStore T.key store.now }
     requires parted { IsParted (B.before bound.now) (elements_in store.now) }
     ensures element { IfSome result (λ place. IsElement store.now.chunks.items place.chunk place.at) }
-    ensures divides { IfSome result (λ place. Divides (B.before bound.now) store.now.chunks.items place.chunk place.at) }
+    ensures divides { IfSome result
+        (λ place. Divides (B.before bound.now) store.now.chunks.items place.chunk place.at) }
     ensures none { IfNone result ((x : T) → Has (elements_in store.now) x → B.before bound.now x ≡ true) }
 {
     next_of(&store.chunks, locate(store, bound))
@@ -57,8 +58,10 @@ pub(crate) fn next_of<T: Keyed + Drop>(chunks: &[Chunk<T>], place: Place) -> Opt
     requires chunk { place.chunk < max 1 (length chunks.now) }
     requires at { place.at ≤ length (chunk_at chunks.now place.chunk) }
     ensures element { IfSome result (λ next. IsElement chunks.now next.chunk next.at) }
-    ensures front { IfSome result (λ next. front_of chunks.now next.chunk next.at ≡ front_of chunks.now place.chunk place.at) }
-    ensures back { IfSome result (λ next. back_of chunks.now next.chunk next.at ≡ back_of chunks.now place.chunk place.at) }
+    ensures front { IfSome result
+        (λ next. front_of chunks.now next.chunk next.at ≡ front_of chunks.now place.chunk place.at) }
+    ensures back { IfSome result
+        (λ next. back_of chunks.now next.chunk next.at ≡ back_of chunks.now place.chunk place.at) }
     ensures none { IfNone result (joined_chunks chunks.now ≡ front_of chunks.now place.chunk place.at) }
 {
     if place.chunk < chunks.len() && place.at < chunks[place.chunk].len() {

@@ -50,7 +50,8 @@ pub(crate) fn insert_in<T: Keyed + Drop, O: Order<T>>(store: &mut Store<T>, orde
     requires ascending { IsAscending (O.order order.now) (elements_in store.old) }
     ensures is { IsStore T.key store.new }
     ensures ascending { IsAscending (O.order order.now) (elements_in store.new) }
-    ensures members { (other : T) → Has (elements_in store.new) other ↔ (Has (elements_in store.old) other ⊎ (other ≡ element)) }
+    ensures members { (other : T) → Has (elements_in store.new) other
+        ↔ (Has (elements_in store.old) other ⊎ (other ≡ element)) }
     ensures room { room_in store.old ≤ room_in store.new + 1 }
 {
     let bound = Below {
@@ -94,7 +95,8 @@ pub(crate) fn remove_from<T: Keyed + Drop, O: Order<T>>(
     requires ascending { IsAscending (O.order order.now) (elements_in store.old) }
     ensures is { IsStore T.key store.new }
     ensures ascending { IsAscending (O.order order.now) (elements_in store.new) }
-    ensures members { (other : T) → Has (elements_in store.new) other ↔ (Has (elements_in store.old) other × ¬ (other ≡ element.now)) }
+    ensures members { (other : T) → Has (elements_in store.new) other
+        ↔ (Has (elements_in store.old) other × ¬ (other ≡ element.now)) }
     ensures room { room_in store.old ≤ room_in store.new }
 {
     if let Some(place) = find(store, &Below { order, element }) {
