@@ -29,7 +29,8 @@ pub(crate) fn apply_to(pairs: &mut Chunked<Tagged>, index: &mut DotIndex, cut: C
 pub(crate) fn remove_all(pairs: &mut Chunked<Tagged>, drops: &[Tagged])
     requires { IsAscending tagged_cmp pairs.old.elements }
     ensures ascending { IsAscending tagged_cmp pairs.new.elements }
-    ensures members { (pair : Tagged) → Has pairs.new.elements pair ↔ (Has pairs.old.elements pair × ¬ Has drops.now pair) }
+    ensures members { (pair : Tagged) → Has pairs.new.elements pair
+        ↔ (Has pairs.old.elements pair × ¬ Has drops.now pair) }
     ensures room { pairs.old.room ≤ pairs.new.room }
 {
     for drop in drops {
@@ -46,7 +47,8 @@ pub(crate) fn add_all<T: Keyed + Drop, O: Order<T>>(
     requires room { vec_len adds.old ≤ list.old.room }
     requires ascending { IsAscending (O.order order.now) list.old.elements }
     ensures ascending { IsAscending (O.order order.now) list.new.elements }
-    ensures members { (element : T) → Has list.new.elements element ↔ (Has list.old.elements element ⊎ Has adds.old.items element) }
+    ensures members { (element : T) → Has list.new.elements element
+        ↔ (Has list.old.elements element ⊎ Has adds.old.items element) }
     ensures none { vec_len adds.new ≡ 0 }
 {
     while let Some(element) = adds.pop() {

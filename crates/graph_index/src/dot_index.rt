@@ -62,7 +62,8 @@ pub(crate) fn get_ready(
 fn put_in_order(alloc: Global, pairs: &[Chunk<Tagged>]) -> Result<Chunked<ByDot>, AllocError>
     requires { IsAscending tagged_cmp (joined_chunks pairs.now) }
     ensures ascending { IfOk result (λ list. IsAscending by_dot_cmp list.elements) }
-    ensures members { IfOk result (λ list. (pair : Tagged) → Has list.elements pair ↔ Has (joined_chunks pairs.now) pair) }
+    ensures members { IfOk result (λ list. (pair : Tagged) → Has list.elements pair
+        ↔ Has (joined_chunks pairs.now) pair) }
 {
     let list = sorted_copies(alloc, pairs)?;
     Chunked::from_vec(alloc, list)
@@ -167,7 +168,8 @@ fn change(list: &mut Chunked<ByDot>, drops: Vec<Tagged>, adds: &mut Vec<ByDot>)
 fn take_all(list: &mut Chunked<ByDot>, drops: &mut Vec<Tagged>)
     requires { IsAscending by_dot_cmp list.old.elements }
     ensures ascending { IsAscending by_dot_cmp list.new.elements }
-    ensures members { (pair : Tagged) → Has list.new.elements pair ↔ (Has list.old.elements pair × ¬ Has drops.old.items pair) }
+    ensures members { (pair : Tagged) → Has list.new.elements pair
+        ↔ (Has list.old.elements pair × ¬ Has drops.old.items pair) }
     ensures room { list.old.room ≤ list.new.room }
 {
     while let Some(drop) = drops.pop() {
@@ -179,7 +181,8 @@ fn take_all(list: &mut Chunked<ByDot>, drops: &mut Vec<Tagged>)
 fn take(list: &mut Chunked<ByDot>, pair: Tagged)
     requires { IsAscending by_dot_cmp list.old.elements }
     ensures ascending { IsAscending by_dot_cmp list.new.elements }
-    ensures members { (other : Tagged) → Has list.new.elements other ↔ (Has list.old.elements other × ¬ (other ≡ pair)) }
+    ensures members { (other : Tagged) → Has list.new.elements other
+        ↔ (Has list.old.elements other × ¬ (other ≡ pair)) }
     ensures room { list.old.room ≤ list.new.room }
 {
     let by_dot = ByDot::new(pair);
