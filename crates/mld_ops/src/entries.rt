@@ -46,7 +46,12 @@ impl Entry {
         ensures some { IsSome result
             ↔ IsEntry (record { range = range; time = time.ticks; deletes = deletes.items; inserts = inserts.items }) }
         ensures value { IfSome result
-            (λ entry. entry ≡ record { range = range; time = time.ticks; deletes = deletes.items; inserts = inserts.items }) }
+            (λ entry. entry ≡ record {
+              range = range;
+              time = time.ticks;
+              deletes = deletes.items;
+              inserts = inserts.items;
+            }) }
     {
         if is_entry(&range, &time, &deletes, &inserts) {
             Some(Entry {
@@ -179,7 +184,8 @@ fn all_outside(range: &Range, pairs: &[Tagged]) -> bool
 // Whether each tick is one of the range.
 fn all_inside(range: &Range, inserts: &[(Triple, u32)]) -> bool
     ensures { IsTrue result
-        ↔ AllByRecursion (λ (insert : Triple × ℕ). (range.now.first ≤ insert.1) × (insert.1 ≤ range.now.last)) inserts.now }
+        ↔ AllByRecursion (λ (insert : Triple × ℕ). (range.now.first ≤ insert.1) × (insert.1 ≤ range.now.last))
+        inserts.now }
 {
     for (_, tick) in inserts {
         if *tick < range.first || range.last < *tick {

@@ -31,9 +31,11 @@ pub fn one_meaning()
 /// one more operation of a lawful history is known, it loses the pairs that the operation deletes, and gains those that
 /// it inserts.
 pub fn meaning_of_taken()
-    ensures unknown { (history : List OperationValue) (known : List Range) (operation : OperationValue) (pairs : List Tagged)
+    ensures unknown { (history : List OperationValue) (known : List Range) (operation : OperationValue)
+        (pairs : List Tagged)
         → IsMeaning history known pairs → ¬ Knows known operation.dot → IsMeaning (operation ∷ history) known pairs }
-    ensures taken { (history : List OperationValue) (known : List Range) (operation : OperationValue) (before after : List Tagged)
+    ensures taken { (history : List OperationValue) (known : List Range) (operation : OperationValue)
+        (before after : List Tagged)
         → IsLawful history → IsClosed history known → Has history operation → ¬ Knows known operation.dot
         → IsMeaning history known before → IsAscending tagged_cmp after → IsAfter operation before after
         → IsMeaning history (known ++ range_of operation.dot ∷ []) after }
@@ -50,7 +52,8 @@ pub fn net_of_one()
         → IsNet history range entry → ¬ IsIn range operation.dot → range.first ≤ range.last
         → IsNet (operation ∷ history) range entry }
     ensures alone { (history : List OperationValue) (range : Range) (entry other : EntryValue)
-        → IsNet history range entry → IsNet history range other → IsClock entry.time → IsClock other.time → entry ≡ other }
+        → IsNet history range entry → IsNet history range other → IsClock entry.time → IsClock other.time
+        → entry ≡ other }
 {}
 
 /// What effects are: two lists have one effect, those of the two cases are in order, and the entry of an effect is an entry that
@@ -72,6 +75,7 @@ pub fn made_by_effect()
 pub fn present_triples()
     ensures members { (pairs : List Tagged) (triple : Triple) → Has (present pairs) triple ↔ IsPresent pairs triple }
     ensures ascending { (pairs : List Tagged) → IsAscending tagged_cmp pairs → IsAscending triple_cmp (present pairs) }
-    ensures one { (pairs : List Tagged) (triples : List Triple) → IsAscending tagged_cmp pairs → IsAscending triple_cmp triples
+    ensures one { (pairs : List Tagged) (triples : List Triple) → IsAscending tagged_cmp pairs
+        → IsAscending triple_cmp triples
         → ((triple : Triple) → Has triples triple ↔ IsPresent pairs triple) → triples ≡ present pairs }
 {}

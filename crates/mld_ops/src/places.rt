@@ -13,7 +13,8 @@ pub fn skip_below(others: &[Tagged], place: usize, pair: &Tagged) -> usize
     requires below { AreBelow others.now place pair.now }
     ensures place { result ≤ length others.now }
     ensures below { AreBelow others.now result pair.now }
-    ensures stops { result < length others.now → ¬ (tagged_cmp (slice_index_or others.now result pair.now) pair.now ≡ Less) }
+    ensures stops { result < length others.now
+        → ¬ (tagged_cmp (slice_index_or others.now result pair.now) pair.now ≡ Less) }
 {
     let mut place = place;
     while place < others.len() && others[place].cmp(pair).is_lt() {
@@ -26,7 +27,8 @@ pub fn skip_below(others: &[Tagged], place: usize, pair: &Tagged) -> usize
 pub fn stands_at(others: &[Tagged], place: usize, pair: &Tagged) -> bool
     requires others { IsAscending tagged_cmp others.now }
     requires below { AreBelow others.now place pair.now }
-    requires stops { place < length others.now → ¬ (tagged_cmp (slice_index_or others.now place pair.now) pair.now ≡ Less) }
+    requires stops { place < length others.now
+        → ¬ (tagged_cmp (slice_index_or others.now place pair.now) pair.now ≡ Less) }
     ensures { IsTrue result ↔ Has others.now pair.now }
 {
     place < others.len() && others[place].cmp(pair).is_eq()
