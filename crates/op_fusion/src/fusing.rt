@@ -107,7 +107,8 @@ fn fused_inserts(
     requires { fusion.AreNeighbours first.now.range second.now.range }
     ensures ascending { IfOk result (λ inserts. IsAscending insert_cmp inserts.items) }
     ensures members { IfOk result (λ inserts. (triple : Triple) (tick : ℕ) → Has inserts.items (triple, tick)
-        ↔ (fusion.StaysOfSecond first.now second.now triple tick ⊎ fusion.StaysOfFirst first.now second.now triple tick)) }
+        ↔ (fusion.StaysOfSecond first.now second.now triple tick
+        ⊎ fusion.StaysOfFirst first.now second.now triple tick)) }
 {
     let early = staying_of_first(alloc, first, second)?;
     let late = staying_of_second(alloc, first, second)?;
@@ -119,7 +120,8 @@ fn staying_of_first(alloc: Global, first: &Entry, second: &Entry) -> Result<Vec<
     requires { fusion.AreNeighbours first.now.range second.now.range }
     ensures ascending { IfOk result (λ pairs. IsAscending tagged_cmp pairs.items) }
     ensures members { IfOk result (λ pairs. (pair : Tagged) → Has pairs.items pair
-        ↔ ((pair.dot.path ≡ first.now.range.path) × fusion.StaysOfFirst first.now second.now pair.triple pair.dot.tick)) }
+        ↔ ((pair.dot.path ≡ first.now.range.path)
+        × fusion.StaysOfFirst first.now second.now pair.triple pair.dot.tick)) }
 {
     let before = inserted_within(alloc, first, 0, second.range().first - 1)?;
     sift(alloc, before, second.deletes(), false)
@@ -135,7 +137,8 @@ fn staying_of_second(
     requires { fusion.AreNeighbours first.now.range second.now.range }
     ensures ascending { IfOk result (λ pairs. IsAscending tagged_cmp pairs.items) }
     ensures members { IfOk result (λ pairs. (pair : Tagged) → Has pairs.items pair
-        ↔ ((pair.dot.path ≡ first.now.range.path) × fusion.StaysOfSecond first.now second.now pair.triple pair.dot.tick)) }
+        ↔ ((pair.dot.path ≡ first.now.range.path)
+        × fusion.StaysOfSecond first.now second.now pair.triple pair.dot.tick)) }
 {
     let range = first.range();
     let behind = inserted_within(alloc, second, range.last, second.range().last)?;
@@ -162,7 +165,8 @@ fn inserted_by_both(alloc: Global, first: &Entry, second: &Entry) -> Result<Vec<
 
 // The pairs of one path as inserts.
 fn inserts_of(alloc: Global, pairs: Vec<Tagged>) -> Result<Vec<(Triple, u32)>, AllocError>
-    ensures { IfOk result (λ inserts. inserts.items ≡ map (λ (pair : Tagged). (pair.triple, pair.dot.tick)) pairs.items) }
+    ensures { IfOk result
+        (λ inserts. inserts.items ≡ map (λ (pair : Tagged). (pair.triple, pair.dot.tick)) pairs.items) }
 {
     pairs
         .into_iter()
