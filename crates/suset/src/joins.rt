@@ -54,7 +54,8 @@ fn next_step<'a>(
     requires mine { IsAscending tagged_cmp mine.now }
     requires other { IsAscending tagged_cmp other.now }
     ensures some { IfSome result
-        (λ step. IsJoinStep own.now.ticks mine.now other.now theirs.now.ticks step.pair.now step.stays step.mine.now step.other.now) }
+        (λ step. IsJoinStep own.now.ticks mine.now other.now theirs.now.ticks step.pair.now step.stays step.mine.now
+        step.other.now) }
     ensures none { IfNone result ((mine.now ≡ []) × (other.now ≡ [])) }
     ensures fewer { IfSome result
         (λ step. length step.mine.now + length step.other.now < length mine.now + length other.now) }

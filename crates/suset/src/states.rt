@@ -33,7 +33,8 @@ pub fn join(
 pub fn of_state(alloc: Global, clock: &Clock, list: Vec<Tagged>) -> Result<Snapshot, AllocError>
     requires ascending { IsAscending tagged_cmp list.items }
     requires covered { CoversAll clock.now.ticks list.items }
-    ensures value { IfOk result (λ snapshot. snapshot_value snapshot ≡ record { ticks = clock.now.ticks; pairs = list.items }) }
+    ensures value { IfOk result
+        (λ snapshot. snapshot_value snapshot ≡ record { ticks = clock.now.ticks; pairs = list.items }) }
     ensures good { IfOk result (λ snapshot. IsGoodSnapshot (snapshot_value snapshot)) }
 {
     Ok(Snapshot {
