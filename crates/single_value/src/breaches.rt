@@ -20,7 +20,8 @@ pub fn breaks(
     props: &[Iri],
 ) -> Result<Option<(Iri, Iri)>, AllocError>
     ensures none { IfOk result (λ found. IfNone found (BreaksNone props.now graph.now.pairs effect.now)) }
-    ensures first { IfOk result (λ found. IfSome found (λ place. IsFirstBreach props.now graph.now.pairs effect.now place)) }
+    ensures first { IfOk result
+        (λ found. IfSome found (λ place. IsFirstBreach props.now graph.now.pairs effect.now place)) }
 {
     let mut left = effect.inserts();
     while let Some((triple, rest)) = left.split_first() {
@@ -51,7 +52,8 @@ fn is_breach(
 ) -> Result<bool, AllocError>
     requires { IsAscending triple_cmp (triple.now ∷ rest.now) }
     ensures { IfOk result (λ is. IsTrue is
-        ↔ (Has props.now triple.now.p × (HasOtherValue rest.now triple.now ⊎ SparesOther graph.now.pairs effect.now triple.now))) }
+        ↔ (Has props.now triple.now.p
+        × (HasOtherValue rest.now triple.now ⊎ SparesOther graph.now.pairs effect.now triple.now))) }
 {
     if !is_among(props, &triple.p) {
         return Ok(false);
