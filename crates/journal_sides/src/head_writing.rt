@@ -85,7 +85,8 @@ fn append_own_path(out: &mut Vec<u8>, path: &Path) -> Result<(), AllocError>
 fn append_base(out: &mut Vec<u8>, base: &Clock, tagged: &[Tagged]) -> Result<(), AllocError>
     requires good { IsGoodSnapshot (record { ticks = base.now.ticks; pairs = tagged.now }) }
     requires short { IsShortSnapshot (record { ticks = base.now.ticks; pairs = tagged.now }) }
-    ensures ok { OnOk result (out.new.items ≡ out.old.items ++ snapshot_bytes (record { ticks = base.now.ticks; pairs = tagged.now })) }
+    ensures ok { OnOk result
+        (out.new.items ≡ out.old.items ++ snapshot_bytes (record { ticks = base.now.ticks; pairs = tagged.now })) }
     ensures stored { OnOk result (IsSnapshot (record { ticks = base.now.ticks; pairs = tagged.now })) }
 {
     write_clock(out, base)?;
@@ -95,7 +96,8 @@ fn append_base(out: &mut Vec<u8>, base: &Clock, tagged: &[Tagged]) -> Result<(),
 /// Appends a head with its generation.
 fn append_head(out: &mut Vec<u8>, generation: u64, head: &Head) -> Result<(), AllocError>
     requires { IsGoodHead (head_value head.now) }
-    ensures ok { OnOk result (out.new.items ≡ out.old.items ++ head_bytes (record { generation = generation; head = head_value head.now })) }
+    ensures ok { OnOk result
+        (out.new.items ≡ out.old.items ++ head_bytes (record { generation = generation; head = head_value head.now })) }
     ensures stored { OnOk result (IsStoredHead (head_value head.now)) }
 {
     out.extend_from_slice(HEAD_MARK)?;

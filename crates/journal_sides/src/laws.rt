@@ -10,5 +10,6 @@ ghost use Rattle.journal_sides.specs.StoredVolumes.{IsWrittenSide, IsVolume};
 pub fn one_volume()
     ensures back { (volume : Volume) (gate : ℕ) (junk : List ℕ) → IsVolume volume → gate ≢ open_gate
         → read_side (volume_bytes volume ++ gate ∷ junk) ≡ IsOpen volume }
-    ensures one { (bytes : List ℕ) (volume : Volume) → AreBytes bytes → read_side bytes ≡ IsOpen volume → IsWrittenSide bytes volume }
+    ensures one { (bytes : List ℕ) (volume : Volume) → AreBytes bytes → read_side bytes ≡ IsOpen volume
+        → IsWrittenSide bytes volume }
 {}

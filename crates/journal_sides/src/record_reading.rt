@@ -35,7 +35,8 @@ pub(crate) struct Progress {
 
 /// Raises a clock to the last tick of a range.
 fn raise_to(clock: &mut Clock, range: &Range) -> Result<(), AllocError>
-    ensures { OnOk result ((path : List ℕ) → ticks_of clock.new.ticks path ≡ ticks_of (raised_to clock.old.ticks (last_dot range.now)) path) }
+    ensures { OnOk result ((path : List ℕ) → ticks_of clock.new.ticks path
+        ≡ ticks_of (raised_to clock.old.ticks (last_dot range.now)) path) }
 {
     let last = Dot {
         path: range.path,
@@ -48,8 +49,10 @@ fn raise_to(clock: &mut Clock, range: &Range) -> Result<(), AllocError>
 
 /// Adds an entry that is ready.
 fn add_entry(progress: &mut Progress, entry: Entry) -> Result<(), AllocError>
-    ensures { (head : HeadValue) (records : List RecordValue) → Shows head records progress.old.entries.items progress.old.path progress.old.known.ticks
-        → OnOk result (Shows head (records ++ EntryRecord entry ∷ []) progress.new.entries.items progress.new.path progress.new.known.ticks) }
+    ensures { (head : HeadValue) (records : List RecordValue)
+        → Shows head records progress.old.entries.items progress.old.path progress.old.known.ticks
+        → OnOk result (Shows head (records ++ EntryRecord entry ∷ [])
+        progress.new.entries.items progress.new.path progress.new.known.ticks) }
 {
     raise_to(&mut progress.known, &entry.range())?;
     progress.entries.push(entry)?;
@@ -66,9 +69,11 @@ fn take_entry(
     requires { at ≤ length input.now }
     ensures further { IfOk result (λ next. at ≤ next) }
     ensures within { IfOk result (λ next. next ≤ length input.now) }
-    ensures agrees { (head : HeadValue) (records : List RecordValue) → Shows head records progress.old.entries.items progress.old.path progress.old.known.ticks
+    ensures agrees { (head : HeadValue) (records : List RecordValue)
+        → Shows head records progress.old.entries.items progress.old.path progress.old.known.ticks
         → MatchResult result
-        (TakesRecord head records (read_entry_record head records at (drop at input.now)) input.now progress.new.entries.items progress.new.path progress.new.known.ticks)
+        (TakesRecord head records (read_entry_record head records at (drop at input.now)) input.now
+        progress.new.entries.items progress.new.path progress.new.known.ticks)
         (IsRefused (read_entry_record head records at (drop at input.now))) }
 {
     let (entry, end) = read_entry(alloc, input, at)?;
@@ -89,9 +94,11 @@ fn take_record(
     requires { at ≤ length input.now }
     ensures further { IfOk result (λ next. at ≤ next) }
     ensures within { IfOk result (λ next. next ≤ length input.now) }
-    ensures agrees { (head : HeadValue) (records : List RecordValue) → Shows head records progress.old.entries.items progress.old.path progress.old.known.ticks
+    ensures agrees { (head : HeadValue) (records : List RecordValue)
+        → Shows head records progress.old.entries.items progress.old.path progress.old.known.ticks
         → MatchResult result
-        (TakesRecord head records (read_record head records at (drop at input.now)) input.now progress.new.entries.items progress.new.path progress.new.known.ticks)
+        (TakesRecord head records (read_record head records at (drop at input.now)) input.now
+        progress.new.entries.items progress.new.path progress.new.known.ticks)
         (IsRefused (read_record head records at (drop at input.now))) }
 {
     let (kind, next) = read_u8(input, at)?;
@@ -126,9 +133,12 @@ pub(crate) fn take_records(
 ) -> Result<usize, CodecFault>
     requires { at ≤ length input.now }
     ensures below { IfOk result (λ stop. stop < length input.now) }
-    ensures agrees { (head : HeadValue) (steps : ℕ) → Shows head [] progress.old.entries.items progress.old.path progress.old.known.ticks → length input.now < at + steps
+    ensures agrees { (head : HeadValue) (steps : ℕ)
+        → Shows head [] progress.old.entries.items progress.old.path progress.old.known.ticks
+        → length input.now < at + steps
         → MatchResult result
-        (FindsRecords head (read_records steps head [] at (drop at input.now)) input.now progress.new.entries.items progress.new.path)
+        (FindsRecords head (read_records steps head [] at (drop at input.now)) input.now
+        progress.new.entries.items progress.new.path)
         (IsRefused (read_records steps head [] at (drop at input.now))) }
 {
     let mut place = at;
