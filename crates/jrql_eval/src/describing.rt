@@ -37,7 +37,8 @@ fn add_bound<'a>(
     variable: usize,
     rows: &'a [Row],
 ) -> Result<(), AllocError>
-    ensures { OnOk result (map (λ x. x.now) iris.new.items ≡ map (λ x. x.now) iris.old.items ++ bound_iris variable rows.now) }
+    ensures { OnOk result
+        (map (λ x. x.now) iris.new.items ≡ map (λ x. x.now) iris.old.items ++ bound_iris variable rows.now) }
 {
     for row in rows {
         add_iri(iris, iri_of(value_at(variable, row.as_slice())))?;
@@ -89,7 +90,8 @@ fn add_subject(
     triples: &[&Triple],
     subjects: &mut Vec<Described>,
 ) -> Result<(), AllocError>
-    ensures { OnOk result (subjects.new.items ≡ subjects.old.items ++ described_by iri.now (map (λ x. x.now) triples.now)) }
+    ensures { OnOk result
+        (subjects.new.items ≡ subjects.old.items ++ described_by iri.now (map (λ x. x.now) triples.now)) }
 {
     if triples.is_empty() {
         return Ok(());
@@ -107,7 +109,8 @@ fn add_described(
     iri: &Iri,
     subjects: &mut Vec<Described>,
 ) -> Result<(), AllocError>
-    ensures subjects { OnOk result (subjects.new.items ≡ subjects.old.items ++ described_where (present graph.now.pairs) iri.now) }
+    ensures subjects { OnOk result
+        (subjects.new.items ≡ subjects.old.items ++ described_where (present graph.now.pairs) iri.now) }
     ensures ascending { IsAscending tagged_cmp graph.now.pairs }
 {
     let triples = triples_with(alloc, graph, Some(iri), None, None)?;
@@ -149,7 +152,8 @@ pub fn describe(alloc: Global, graph: &Graph, query: &Query) -> Result<Answer, E
     requires kind { AsksSubjects query.now.what }
     ensures answer { IfOk result (IsAnswer (present graph.now.pairs) query.now) }
     ensures few { IfOk result (λ answer. length (found (present graph.now.pairs) query.now.group) ≤ solution_limit) }
-    ensures too_many { IsErrOf result EvalFault.TooMany → solution_limit < length (found (present graph.now.pairs) query.now.group) }
+    ensures too_many { IsErrOf result EvalFault.TooMany
+        → solution_limit < length (found (present graph.now.pairs) query.now.group) }
 {
     let What::Describe(targets) = &query.what else {
         unreachable!()

@@ -29,7 +29,8 @@ fn put_triples(triples: &mut Vec<Triple>)
 
 // The pairs of triples, one triple after another.
 fn pairs_of(alloc: Global, graph: &Graph, triples: &[Triple]) -> Result<Vec<Tagged>, AllocError>
-    ensures { IfOk result (λ pairs. pairs.items ≡ flat_map (λ triple. filter (is_of triple) graph.now.pairs) triples.now) }
+    ensures { IfOk result
+        (λ pairs. pairs.items ≡ flat_map (λ triple. filter (is_of triple) graph.now.pairs) triples.now) }
 {
     let mut pairs = Vec::new(alloc);
     for triple in triples {

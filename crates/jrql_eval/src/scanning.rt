@@ -72,7 +72,8 @@ pub(crate) fn triples_with<'a>(
     o: Option<&Term>,
 ) -> Result<Vec<&'a Triple>, AllocError>
     ensures triples { IfOk result (λ triples. map (λ x. x.now) triples.items
-        ≡ filter (has_parts (option_copied s.entry) (option_copied p.entry) (option_copied o.entry)) (present graph.now.pairs)) }
+        ≡ filter (has_parts (option_copied s.entry) (option_copied p.entry) (option_copied o.entry))
+        (present graph.now.pairs)) }
     ensures ascending { IsAscending tagged_cmp graph.now.pairs }
 {
     let pairs = pairs_in::<Brand>(alloc, graph, s, p, o, Blank::new(1))?;
@@ -99,7 +100,8 @@ pub(crate) fn triples_for<'a>(
     pattern: &PatternTriple,
     row: &[Option<Term>],
 ) -> Result<Vec<&'a Triple>, AllocError>
-    ensures { IfOk result (λ triples. filter_map (λ triple. agree pattern.now triple row.now) (map (λ x. x.now) triples.items)
+    ensures { IfOk result
+        (λ triples. filter_map (λ triple. agree pattern.now triple row.now) (map (λ x. x.now) triples.items)
         ≡ filter_map (λ triple. agree pattern.now triple row.now) (present graph.now.pairs)) }
 {
     let subject = known_iri(&pattern.s, row);

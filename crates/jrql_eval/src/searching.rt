@@ -35,7 +35,8 @@ fn add_row(
     rows: &mut Vec<Row>,
 ) -> Result<(), EvalFault>
     requires { length rows.old.items ≤ solution_limit }
-    ensures { AddsRows rows.old.items (if all_hold filters.now row.now then row.now ∷ [] else []) result rows.new.items }
+    ensures { AddsRows rows.old.items (if all_hold filters.now row.now then row.now ∷ [] else []) result
+        rows.new.items }
 {
     if !all_hold(filters, row) {
         return Ok(());
@@ -58,7 +59,8 @@ pub(crate) fn search(
 ) -> Result<(), EvalFault>
     requires ready { AreReady stages.now row.now }
     requires few { length rows.old.items ≤ solution_limit }
-    ensures { AddsRows rows.old.items (led_to (present graph.now.pairs) filters.now stages.now row.now) result rows.new.items }
+    ensures { AddsRows rows.old.items (led_to (present graph.now.pairs) filters.now stages.now row.now) result
+        rows.new.items }
 {
     match stages.split_first() {
         None => add_row(alloc, filters, row, rows),
@@ -84,7 +86,8 @@ fn search_each(
     requires ready { AreReady (stage.now ∷ rest.now) row.now }
     requires few { length rows.old.items ≤ solution_limit }
     ensures { AddsRows rows.old.items
-        (flat_map (λ triple. led_from (present graph.now.pairs) filters.now stage.now rest.now (agree stage.now.pattern.now triple row.now))
+        (flat_map (λ triple. led_from (present graph.now.pairs) filters.now stage.now rest.now
+        (agree stage.now.pattern.now triple row.now))
         (map (λ x. x.now) triples.now))
         result rows.new.items }
 {
@@ -108,7 +111,8 @@ fn search_behind(
 ) -> Result<(), EvalFault>
     requires ready { AreReady (stage.now ∷ rest.now) row.now }
     requires few { length rows.old.items ≤ solution_limit }
-    ensures { AddsRows rows.old.items (led_from (present graph.now.pairs) filters.now stage.now rest.now (agree stage.now.pattern.now triple.now row.now))
+    ensures { AddsRows rows.old.items (led_from (present graph.now.pairs) filters.now stage.now rest.now
+        (agree stage.now.pattern.now triple.now row.now))
         result rows.new.items }
 {
     let mut next = copy_row(alloc, row)?;

@@ -60,7 +60,8 @@ pub fn select(alloc: Global, graph: &Graph, query: &Query) -> Result<Answer, Eva
     requires kind { AsksRows query.now.what }
     ensures answer { IfOk result (IsAnswer (present graph.now.pairs) query.now) }
     ensures few { IfOk result (λ answer. length (found (present graph.now.pairs) query.now.group) ≤ solution_limit) }
-    ensures too_many { IsErrOf result EvalFault.TooMany → solution_limit < length (found (present graph.now.pairs) query.now.group) }
+    ensures too_many { IsErrOf result EvalFault.TooMany
+        → solution_limit < length (found (present graph.now.pairs) query.now.group) }
 {
     let What::Select(select) = &query.what else {
         unreachable!()

@@ -35,7 +35,8 @@ fn add_branch(
     requires form { IsGroupInForm group.now }
     requires branch { All (IsPatternWithin (variables_of group.now) 0) branch.now }
     requires few { length rows.old.items ≤ solution_limit }
-    ensures { AddsInAnyOrder rows.old.items (of_branch (present graph.now.pairs) group.now branch.now) result rows.new.items }
+    ensures { AddsInAnyOrder rows.old.items (of_branch (present graph.now.pairs) group.now branch.now) result
+        rows.new.items }
 {
     let variables = variables_of(group);
     let plan = plan_of(alloc, group.patterns.as_slice(), branch, variables)?;
@@ -107,7 +108,8 @@ pub fn solutions(alloc: Global, graph: &Graph, group: &Group) -> Result<Vec<Row>
     requires { IsGroupInForm group.now }
     ensures rows { IfOk result (λ rows. IsSolutions (present graph.now.pairs) group.now rows.items) }
     ensures few { IfOk result (λ rows. length (found (present graph.now.pairs) group.now) ≤ solution_limit) }
-    ensures too_many { IsErrOf result EvalFault.TooMany → solution_limit < length (found (present graph.now.pairs) group.now) }
+    ensures too_many { IsErrOf result EvalFault.TooMany
+        → solution_limit < length (found (present graph.now.pairs) group.now) }
 {
     let columns = columns(alloc, group.names.as_slice(), group.hidden)?;
     let mut rows = find_rows(alloc, graph, group)?;
