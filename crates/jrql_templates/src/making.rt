@@ -115,7 +115,8 @@ pub fn made_triples(
 ) -> Result<Vec<Triple>, AllocError>
     requires name { IsTrue (is_domain domain.now) }
     requires few { length rows.now ≤ solution_limit }
-    ensures { IfOk result (λ triples. triples.items ≡ made_from (fresh_name domain.now dot.now fresh) templates.now 0 rows.now) }
+    ensures { IfOk result
+        (λ triples. triples.items ≡ made_from (fresh_name domain.now dot.now fresh) templates.now 0 rows.now) }
 {
     let mut triples = Vec::new(alloc);
     for (number, row) in rows.iter().enumerate() {
