@@ -43,7 +43,8 @@ pub(crate) fn read_clauses(
     members: &Map<String, Value>,
     so_far: &mut OpenUpdate,
 ) -> Result<(), JsonFault>
-    ensures ok { IfOk result (λ _. read_clauses context.now (members_view members.now.entries) so_far.old ≡ Ok so_far.new) }
+    ensures ok { IfOk result
+        (λ _. read_clauses context.now (members_view members.now.entries) so_far.old ≡ Ok so_far.new) }
     ensures err { IfErr result (IsToldBy (read_clauses context.now (members_view members.now.entries) so_far.old)) }
 {
     for (key, value) in members.iter() {
