@@ -19,7 +19,8 @@ pub fn has_colon(text: &str) -> bool
 /// What stands before the first colon, and what behind it.
 pub fn cut_colon(text: &str) -> Option<(&str, &str)>
     ensures { MatchOption result (has_colon text.now ≡ false)
-        (λ parts. (has_colon text.now ≡ true) × (parts.0.now ≡ before_colon text.now) × (parts.1.now ≡ behind_colon text.now)) }
+        (λ parts. (has_colon text.now ≡ true) × (parts.0.now ≡ before_colon text.now)
+        × (parts.1.now ≡ behind_colon text.now)) }
 {
     text.split_once(':')
 }
