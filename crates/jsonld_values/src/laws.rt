@@ -20,7 +20,8 @@ pub fn meeting_grows()
 /// What keeps to names keeps to them as they grow, and growing goes on.
 pub fn growing_keeps()
     ensures triples { (before after : NamesValue) (fresh more : ℕ) (triples : List PatternTriple)
-        → HasGrown before after → fresh ≤ more → All (IsPatternOf before fresh) triples → All (IsPatternOf after more) triples }
+        → HasGrown before after → fresh ≤ more → All (IsPatternOf before fresh) triples
+        → All (IsPatternOf after more) triples }
     ensures filters { (before after : NamesValue) (filters : List Filter)
         → HasGrown before after → All (IsFilterOf before) filters → All (IsFilterOf after) filters }
     ensures asked { (before after : NamesValue) (what : What)

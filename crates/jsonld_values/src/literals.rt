@@ -134,7 +134,8 @@ pub fn number_object(
     kind: Option<&TermType>,
     value: &Number,
 ) -> Result<Slot, JsonFault>
-    ensures ok { IfOk result (λ slot. number_object key.now (option_copied kind.entry) (number_view value.now) ≡ Ok slot) }
+    ensures ok { IfOk result
+        (λ slot. number_object key.now (option_copied kind.entry) (number_view value.now) ≡ Ok slot) }
     ensures err { IfErr result (IsToldBy (number_object key.now (option_copied kind.entry) (number_view value.now))) }
 {
     let Some(text) = whole_text(alloc, value)? else {

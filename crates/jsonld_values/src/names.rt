@@ -22,7 +22,8 @@ fn place_of(named: &IndexSet<String>, name: &str) -> Option<usize>
         ((list_any (is_same name.now) (map string_bytes named.now.keys) ≡ false)
         × (position_or_len (is_same name.now) (map string_bytes named.now.keys) ≡ length named.now.keys))
         (λ place. (list_any (is_same name.now) (map string_bytes named.now.keys) ≡ true)
-        × (position_or_len (is_same name.now) (map string_bytes named.now.keys) ≡ place) × (place < length named.now.keys)) }
+        × (position_or_len (is_same name.now) (map string_bytes named.now.keys) ≡ place)
+        × (place < length named.now.keys)) }
 {
     named.get_index_of(name)
 }

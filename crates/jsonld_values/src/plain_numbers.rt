@@ -24,7 +24,8 @@ fn has_needless_zero(text: &str) -> bool
 
 /// The number below 2^64 that these digits write, where no sign and no needless zero stands in front.
 fn plain_digits(text: &str) -> Option<u64>
-    ensures { MatchOption result ((number : ℕ) → number < 2 ^ 64 → text.now ≢ decimal number) (λ number. text.now ≡ decimal number) }
+    ensures { MatchOption result ((number : ℕ) → number < 2 ^ 64 → text.now ≢ decimal number)
+        (λ number. text.now ≡ decimal number) }
 {
     if has_plus(text) {
         return None;

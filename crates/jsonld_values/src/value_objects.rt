@@ -100,7 +100,8 @@ fn check_typing(
 /// Whether a text means xsd:double.
 #[tactic(auto, using(crate::proofs::ValueParts::key_read, crate::proofs::ValueParts::not_double))]
 fn means_double(alloc: Global, context: &Context, text: &str) -> Result<bool, AllocError>
-    ensures { IfOk result (λ double. double ≡ is_same (key_meant context.now.vocabulary context.now.terms text.now) xsd_double) }
+    ensures { IfOk result
+        (λ double. double ≡ is_same (key_meant context.now.vocabulary context.now.terms text.now) xsd_double) }
 {
     match context.expand_key(alloc, text) {
         Ok(iri) => Ok(is_double_type(iri.as_str())),
@@ -112,7 +113,8 @@ fn means_double(alloc: Global, context: &Context, text: &str) -> Result<bool, Al
 /// Whether a number beside these members would be of xsd:double.
 #[tactic(auto, using(crate::proofs::KnownTypes::integer_apart))]
 fn is_double(alloc: Global, context: &Context, parts: &Members) -> Result<bool, AllocError>
-    ensures { IfOk result (λ double. double ≡ is_same (datatype_said context.now (members_view parts.now.entries) xsd_integer) xsd_double) }
+    ensures { IfOk result (λ double. double
+        ≡ is_same (datatype_said context.now (members_view parts.now.entries) xsd_integer) xsd_double) }
 {
     match string_at(parts, "@type") {
         Some(text) => means_double(alloc, context, text),
@@ -127,7 +129,8 @@ fn check_number(
     parts: &Members,
     value: &Number,
 ) -> Result<(), JsonFault>
-    ensures { IsReadAs (fault_of_written context.now (members_view parts.now.entries) (number (number_view value.now))) tt result }
+    ensures { IsReadAs (fault_of_written context.now (members_view parts.now.entries)
+        (number (number_view value.now))) tt result }
 {
     if has_member(parts, "@language") {
         return Err(bad_subject(alloc, "@value"));
@@ -191,7 +194,8 @@ fn check_part(
     key: &str,
     value: &Value,
 ) -> Result<(), JsonFault>
-    ensures { IsReadAs (fault_of_value_part context.now (members_view parts.now.entries) key.now (view value.now)) tt result }
+    ensures { IsReadAs (fault_of_value_part context.now (members_view parts.now.entries) key.now
+        (view value.now)) tt result }
 {
     if is_language_key(key) {
         return check_language(alloc, value);
@@ -207,7 +211,8 @@ fn check_part(
 
 /// Looks at the parts of a value object, in the order of their keys.
 fn check_parts(alloc: Global, context: &Context, parts: &Members) -> Result<(), JsonFault>
-    ensures { IsReadAs (first_fault (fault_of_value_part context.now (members_view parts.now.entries)) (members_view parts.now.entries)) tt result }
+    ensures { IsReadAs (first_fault (fault_of_value_part context.now (members_view parts.now.entries))
+        (members_view parts.now.entries)) tt result }
 {
     for (key, value) in parts.iter() {
         check_part(alloc, context, parts, key.as_str(), value)?;
@@ -283,7 +288,8 @@ fn literal_beside(
     requires sound { fault_of_value_object context.now (members_view parts.now.entries) ≡ None }
     requires short { length lexical.now ≤ lexical_limit }
     requires other { IsDatatype other.now }
-    ensures { IfOk result (λ literal. literal ≡ literal_beside context.now (members_view parts.now.entries) lexical.now other.now) }
+    ensures { IfOk result
+        (λ literal. literal ≡ literal_beside context.now (members_view parts.now.entries) lexical.now other.now) }
 {
     if let Some(tag) = string_at(parts, "@language") {
         return tagged_literal(alloc, lexical, tag);
@@ -300,7 +306,8 @@ fn number_literal(
     value: &Number,
 ) -> Result<Literal, AllocError>
     requires { fault_of_value_object context.now (members_view parts.now.entries) ≡ None }
-    ensures { IfOk result (λ literal. literal ≡ literal_said context.now (members_view parts.now.entries) (number (number_view value.now))) }
+    ensures { IfOk result (λ literal. literal
+        ≡ literal_said context.now (members_view parts.now.entries) (number (number_view value.now))) }
 {
     match whole_text(alloc, value)? {
         Some(text) => literal_beside(alloc, context, parts, text.as_str(), integer_type()),

@@ -110,7 +110,8 @@ fn value_of_type(
 
 /// A lexical form with its language tag.
 fn tagged_value(alloc: Global, lexical: &str, tag: &str) -> Result<Value, AllocError>
-    ensures { IfOk result (λ value. view value ≡ two_members (codes "@language") (string tag.now) (codes "@value") (string lexical.now)) }
+    ensures { IfOk result
+        (λ value. view value ≡ two_members (codes "@language") (string tag.now) (codes "@value") (string lexical.now)) }
 {
     json!(in alloc; {"@language": tag, "@value": lexical})
 }
