@@ -42,7 +42,8 @@ pub(crate) fn meet_key(
     text: &str,
     so_far: &mut OpenSubject,
 ) -> Result<Slot, JsonFault>
-    ensures ok { IfOk result (λ slot. property_of context.now text.now so_far.old.found.names ≡ Ok (so_far.new.found.names, slot)) }
+    ensures ok { IfOk result
+        (λ slot. property_of context.now text.now so_far.old.found.names ≡ Ok (so_far.new.found.names, slot)) }
     ensures err { IfErr result (IsToldBy (property_of context.now text.now so_far.old.found.names)) }
     ensures kept { so_far.new ≡ with_names so_far.old so_far.new.found.names }
 {
@@ -60,9 +61,11 @@ fn meet_id(
     text: &str,
     so_far: &mut OpenSubject,
 ) -> Result<Slot, JsonFault>
-    ensures ok { IfOk result (λ slot. slot_of so_far.old.found.names text.now (made_of (expand_id context.now text.now) iri_slot)
+    ensures ok { IfOk result
+        (λ slot. slot_of so_far.old.found.names text.now (made_of (expand_id context.now text.now) iri_slot)
         ≡ Ok (so_far.new.found.names, slot)) }
-    ensures err { IfErr result (IsToldBy (slot_of so_far.old.found.names text.now (made_of (expand_id context.now text.now) iri_slot))) }
+    ensures err { IfErr result
+        (IsToldBy (slot_of so_far.old.found.names text.now (made_of (expand_id context.now text.now) iri_slot))) }
     ensures kept { so_far.new ≡ with_names so_far.old so_far.new.found.names }
 {
     if is_variable(text) {

@@ -94,7 +94,8 @@ fn key_of(alloc: Global, property: &Iri, term: &Term, context: &Context) -> Resu
 
 /// The key of an IRI that is the object of a property.
 fn key_of_iri(alloc: Global, property: &Iri, context: &Context) -> Result<Text, AllocError>
-    ensures { IfOk result (λ key. key ≡ (if is_same property.now rdf_type then codes "@type" else compact_key context.now property.now)) }
+    ensures { IfOk result
+        (λ key. key ≡ (if is_same property.now rdf_type then codes "@type" else compact_key context.now property.now)) }
 {
     if is_type(property) {
         return Text::new(alloc, TYPE_KEY);

@@ -16,14 +16,16 @@ ghost use Rattle.jsonld_subjects.specs.declared.places.Place.{Place};
 
 /// A subject that was written is read as its triples under the same context, wherever no scheme of its IRIs is a prefix of the context.
 pub fn reading_gives_back()
-    ensures { (context : ContextValue) (place : Place) (names : NamesValue) (described : Described) (written : Data) → IsContext context
+    ensures { (context : ContextValue) (place : Place) (names : NamesValue) (described : Described)
+        (written : Data) → IsContext context
         → IsGivenBack context described.id → All (IsTripleGivenBack context described.id) described.triples
         → SaysSubject context described written → GivesBack context place names described written }
 {}
 
 /// A value that may stand alone is read as a value of any key without a type is.
 pub fn object_is_a_value()
-    ensures { (context : ContextValue) (place : Place) (key : List ℕ) (property : Slot) (value : Data) (so_far : OpenSubject)
+    ensures { (context : ContextValue) (place : Place) (key : List ℕ) (property : Slot) (value : Data)
+        (so_far : OpenSubject)
         → stands_alone value ≡ true → read_values context place key value None property so_far
         ≡ made_of (object_alone context place value so_far.found) (put_object so_far property) }
 {}

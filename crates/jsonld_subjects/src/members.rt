@@ -26,8 +26,10 @@ pub(crate) fn read_members(
     members: &Map<String, Value>,
     so_far: &mut OpenSubject,
 ) -> Result<(), JsonFault>
-    ensures ok { IfOk result (λ _. read_members context.now place (members_view members.now.entries) so_far.old ≡ Ok so_far.new) }
-    ensures err { IfErr result (IsToldBy (read_members context.now place (members_view members.now.entries) so_far.old)) }
+    ensures ok { IfOk result
+        (λ _. read_members context.now place (members_view members.now.entries) so_far.old ≡ Ok so_far.new) }
+    ensures err { IfErr result
+        (IsToldBy (read_members context.now place (members_view members.now.entries) so_far.old)) }
 {
     for (key, value) in members.iter() {
         read_member(alloc, context, place, key.as_str(), value, so_far)?;
@@ -82,8 +84,10 @@ fn read_values(
     value: &Value,
     so_far: &mut OpenSubject,
 ) -> Result<(), JsonFault>
-    ensures ok { IfOk result (λ _. read_values context.now place key.now (view value.now) (option_copied kind.entry) property.now so_far.old ≡ Ok so_far.new) }
-    ensures err { IfErr result (IsToldBy (read_values context.now place key.now (view value.now) (option_copied kind.entry) property.now so_far.old)) }
+    ensures ok { IfOk result (λ _. read_values context.now place key.now (view value.now) (option_copied kind.entry)
+        property.now so_far.old ≡ Ok so_far.new) }
+    ensures err { IfErr result (IsToldBy
+        (read_values context.now place key.now (view value.now) (option_copied kind.entry) property.now so_far.old)) }
 {
     match value {
         Value::Array(items) => read_each(alloc, context, place, key, kind, property, items, so_far),
@@ -104,8 +108,11 @@ fn read_each(
     items: &[Value],
     so_far: &mut OpenSubject,
 ) -> Result<(), JsonFault>
-    ensures ok { IfOk result (λ _. read_each context.now place key.now (option_copied kind.entry) property.now (items_view items.now) so_far.old ≡ Ok so_far.new) }
-    ensures err { IfErr result (IsToldBy (read_each context.now place key.now (option_copied kind.entry) property.now (items_view items.now) so_far.old)) }
+    ensures ok { IfOk result (λ _. read_each context.now place key.now (option_copied kind.entry) property.now
+        (items_view items.now) so_far.old ≡ Ok so_far.new) }
+    ensures err { IfErr result
+        (IsToldBy (read_each context.now place key.now (option_copied kind.entry) property.now (items_view items.now)
+        so_far.old)) }
 {
     for value in items {
         read_single(alloc, context, place, key, kind, property, value, so_far)?;
@@ -125,8 +132,10 @@ fn read_single(
     value: &Value,
     so_far: &mut OpenSubject,
 ) -> Result<(), JsonFault>
-    ensures ok { IfOk result (λ _. read_single context.now place key.now (option_copied kind.entry) property.now (view value.now) so_far.old ≡ Ok so_far.new) }
-    ensures err { IfErr result (IsToldBy (read_single context.now place key.now (option_copied kind.entry) property.now (view value.now) so_far.old)) }
+    ensures ok { IfOk result (λ _. read_single context.now place key.now (option_copied kind.entry) property.now
+        (view value.now) so_far.old ≡ Ok so_far.new) }
+    ensures err { IfErr result (IsToldBy
+        (read_single context.now place key.now (option_copied kind.entry) property.now (view value.now) so_far.old)) }
 {
     match value {
         Value::Object(members) => read_object(alloc, context, place, property, members, so_far),
@@ -144,8 +153,10 @@ fn read_object(
     members: &Map<String, Value>,
     so_far: &mut OpenSubject,
 ) -> Result<(), JsonFault>
-    ensures ok { IfOk result (λ _. read_object context.now place property.now (members_view members.now.entries) so_far.old ≡ Ok so_far.new) }
-    ensures err { IfErr result (IsToldBy (read_object context.now place property.now (members_view members.now.entries) so_far.old)) }
+    ensures ok { IfOk result (λ _. read_object context.now place property.now (members_view members.now.entries)
+        so_far.old ≡ Ok so_far.new) }
+    ensures err { IfErr result
+        (IsToldBy (read_object context.now place property.now (members_view members.now.entries) so_far.old)) }
 {
     if has_member(members, "@value") {
         let object = value_object(alloc, context, members)?;

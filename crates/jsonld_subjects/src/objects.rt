@@ -50,7 +50,8 @@ fn string_alone(
     text: &str,
     found: Found,
 ) -> Result<Alone, JsonFault>
-    ensures ok { IfOk result (λ read. made_of (slot_of found.names text.now (string_object context.now [] None text.now)) (object_with found)
+    ensures ok { IfOk result
+        (λ read. made_of (slot_of found.names text.now (string_object context.now [] None text.now)) (object_with found)
         ≡ Ok (record { found = read.0; object = read.1 })) }
     ensures err { IfErr result (IsToldBy (slot_of found.names text.now (string_object context.now [] None text.now))) }
 {

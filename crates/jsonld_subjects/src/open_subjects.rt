@@ -56,7 +56,8 @@ impl OpenSubject {
 
     /// Meets a variable.
     pub(crate) fn meet_variable(&mut self, alloc: Global, name: &str) -> Result<Slot, JsonFault>
-        ensures ok { IfOk result (λ slot. meet_variable self.old.found.names name.now ≡ Ok (self.new.found.names, slot)) }
+        ensures ok { IfOk result
+            (λ slot. meet_variable self.old.found.names name.now ≡ Ok (self.new.found.names, slot)) }
         ensures err { IfErr result (IsToldBy (meet_variable self.old.found.names name.now)) }
         ensures kept { self.new ≡ with_names self.old self.new.found.names }
     {

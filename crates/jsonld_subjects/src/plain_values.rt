@@ -23,9 +23,12 @@ fn meet_string(
     text: &str,
     so_far: &mut OpenSubject,
 ) -> Result<Slot, JsonFault>
-    ensures ok { IfOk result (λ slot. slot_of so_far.old.found.names text.now (string_object context.now key.now (option_copied kind.entry) text.now)
+    ensures ok { IfOk result (λ slot. slot_of so_far.old.found.names text.now
+        (string_object context.now key.now (option_copied kind.entry) text.now)
         ≡ Ok (so_far.new.found.names, slot)) }
-    ensures err { IfErr result (IsToldBy (slot_of so_far.old.found.names text.now (string_object context.now key.now (option_copied kind.entry) text.now))) }
+    ensures err { IfErr result
+        (IsToldBy (slot_of so_far.old.found.names text.now
+        (string_object context.now key.now (option_copied kind.entry) text.now))) }
     ensures kept { so_far.new ≡ with_names so_far.old so_far.new.found.names }
 {
     if is_variable(text) {
@@ -44,8 +47,10 @@ fn read_string(
     text: &str,
     so_far: &mut OpenSubject,
 ) -> Result<(), JsonFault>
-    ensures ok { IfOk result (λ _. read_plain context.now key.now (option_copied kind.entry) property.now (string text.now) so_far.old ≡ Ok so_far.new) }
-    ensures err { IfErr result (IsToldBy (read_plain context.now key.now (option_copied kind.entry) property.now (string text.now) so_far.old)) }
+    ensures ok { IfOk result (λ _. read_plain context.now key.now (option_copied kind.entry) property.now
+        (string text.now) so_far.old ≡ Ok so_far.new) }
+    ensures err { IfErr result (IsToldBy
+        (read_plain context.now key.now (option_copied kind.entry) property.now (string text.now) so_far.old)) }
 {
     let object = meet_string(alloc, context, key, kind, text, so_far)?;
     so_far.put(property.share()?, object)?;
@@ -62,8 +67,10 @@ pub(crate) fn read_plain(
     value: &Value,
     so_far: &mut OpenSubject,
 ) -> Result<(), JsonFault>
-    ensures ok { IfOk result (λ _. read_plain context.now key.now (option_copied kind.entry) property.now (view value.now) so_far.old ≡ Ok so_far.new) }
-    ensures err { IfErr result (IsToldBy (read_plain context.now key.now (option_copied kind.entry) property.now (view value.now) so_far.old)) }
+    ensures ok { IfOk result (λ _. read_plain context.now key.now (option_copied kind.entry) property.now
+        (view value.now) so_far.old ≡ Ok so_far.new) }
+    ensures err { IfErr result (IsToldBy
+        (read_plain context.now key.now (option_copied kind.entry) property.now (view value.now) so_far.old)) }
 {
     match value {
         Value::Null => Ok(()),

@@ -124,7 +124,8 @@ fn put_member(
     key: &str,
     value: Value,
 ) -> Result<(), AllocError>
-    ensures { OnOk result (members_view members.new.entries ≡ put key.now (view value) (members_view members.old.entries)) }
+    ensures { OnOk result
+        (members_view members.new.entries ≡ put key.now (view value) (members_view members.old.entries)) }
 {
     let key = String::from_str(alloc, key)?;
     members.insert(key, value)?;
