@@ -24,7 +24,8 @@ pub fn ask<B: CrashBanks>(
     ensures keeps { KeepsDomain B.meter number parts.old parts.new }
     ensures done { IfOk result (Does B.log parts.old (commands.Ask number) parts.new) }
     ensures faults { HasFaultsOfParts B.meter number parts.old parts.new result }
-    ensures left { LeavesAt B.log B.meter doing_nothing (IsOk result) number parts.old.clones.items parts.new.clones.items }
+    ensures left { LeavesAt B.log B.meter doing_nothing (IsOk result)
+        number parts.old.clones.items parts.new.clones.items }
 {
     match &parts.clones[usize::from(number)] {
         CloneState::Live(clone) => {

@@ -40,7 +40,8 @@ pub fn add<B: CrashBanks>(
     ensures keeps { KeepsDomain B.meter number parts.old parts.new }
     ensures done { IfOk result (Does B.log parts.old (commands.Add number triple.now) parts.new) }
     ensures faults { HasFaultsOfParts B.meter number parts.old parts.new result }
-    ensures left { LeavesAt B.log B.meter (doing_update (insertion_of triple.now)) (IsOk result) number parts.old.clones.items parts.new.clones.items }
+    ensures left { LeavesAt B.log B.meter (doing_update (insertion_of triple.now)) (IsOk result)
+        number parts.old.clones.items parts.new.clones.items }
     ensures unsent { IsSilent result parts.old.messages.items parts.new.messages.items }
 {
     let plan = UpdatePlan::insertion(alloc, triple.share()?)?;
@@ -59,7 +60,8 @@ pub fn remove<B: CrashBanks>(
     ensures keeps { KeepsDomain B.meter number parts.old parts.new }
     ensures done { IfOk result (Does B.log parts.old (commands.Remove number triple.now) parts.new) }
     ensures faults { HasFaultsOfParts B.meter number parts.old parts.new result }
-    ensures left { LeavesAt B.log B.meter (doing_update (deletion_of triple.now)) (IsOk result) number parts.old.clones.items parts.new.clones.items }
+    ensures left { LeavesAt B.log B.meter (doing_update (deletion_of triple.now)) (IsOk result)
+        number parts.old.clones.items parts.new.clones.items }
     ensures unsent { IsSilent result parts.old.messages.items parts.new.messages.items }
 {
     let plan = UpdatePlan::deletion(alloc, triple.share()?)?;
@@ -79,7 +81,8 @@ pub fn update<B: CrashBanks>(
     ensures keeps { KeepsDomain B.meter number parts.old parts.new }
     ensures done { IfOk result (Does B.log parts.old (commands.Update number plan.now) parts.new) }
     ensures faults { HasFaultsOfParts B.meter number parts.old parts.new result }
-    ensures left { LeavesAt B.log B.meter (doing_update plan.now) (IsOk result) number parts.old.clones.items parts.new.clones.items }
+    ensures left { LeavesAt B.log B.meter (doing_update plan.now) (IsOk result)
+        number parts.old.clones.items parts.new.clones.items }
     ensures unsent { IsSilent result parts.old.messages.items parts.new.messages.items }
 {
     match &mut parts.clones[usize::from(number)] {
@@ -102,9 +105,11 @@ fn update_live<B: CrashBanks>(
     ensures opened { OnOk result (StaysOpen clone.old clone.new) }
     ensures meter { MeterGoesOn (B.meter clone.old.banks) (B.meter clone.new.banks) }
     ensures faults { HasFaultsAt number (B.meter clone.old.banks) (B.meter clone.new.banks) result }
-    ensures left { LeavesState B.log B.meter (doing_update plan.now) (IsOk result) (kinds.Live clone.old) (kinds.Live clone.new) }
+    ensures left { LeavesState B.log B.meter (doing_update plan.now) (IsOk result)
+        (kinds.Live clone.old) (kinds.Live clone.new) }
     ensures unsent { IsSilent result messages.old.items messages.new.items }
-    ensures done { IfOk result (UpdatesAsReplied clone.old.local (map message_value messages.old.items) plan.now clone.new.local (map message_value messages.new.items)) }
+    ensures done { IfOk result (UpdatesAsReplied clone.old.local (map message_value messages.old.items)
+        plan.now clone.new.local (map message_value messages.new.items)) }
 {
     match clone.update(alloc, plan) {
         Ok(Done::Nothing) => Ok(Reply::NoOperation),
@@ -120,7 +125,8 @@ fn update_live<B: CrashBanks>(
 
 /// Sends the entry of an operation that was made.
 fn send_entry(messages: &mut Vec<Message>, entry: Entry) -> Result<Reply<'static>, AllocError>
-    ensures { IfOk result (SendsEntry (map message_value messages.old.items) entry (map message_value messages.new.items)) }
+    ensures { IfOk result
+        (SendsEntry (map message_value messages.old.items) entry (map message_value messages.new.items)) }
 {
     let Range { path, last, .. } = entry.range();
     let dot = Dot { path, tick: last };

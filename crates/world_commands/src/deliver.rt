@@ -48,7 +48,8 @@ pub fn deliver<R: Threads, B: CrashBanks>(
     ensures keeps { KeepsDomain B.meter number parts.old parts.new }
     ensures done { IfOk result (Does B.log parts.old (commands.Deliver message number) parts.new) }
     ensures faults { HasFaultsOfParts B.meter number parts.old parts.new result }
-    ensures left { LeavesAt B.log B.meter (doing_deliver parts.old.messages.items message) (IsOk result) number parts.old.clones.items parts.new.clones.items }
+    ensures left { LeavesAt B.log B.meter (doing_deliver parts.old.messages.items message) (IsOk result)
+        number parts.old.clones.items parts.new.clones.items }
     ensures unsent { IsSilent result parts.old.messages.items parts.new.messages.items }
 {
     let Some(message) = message_at(parts.messages.as_slice(), message) else {
@@ -79,11 +80,15 @@ fn receive_at<R: Threads, B: CrashBanks>(
 ) -> Result<Received, WorldFault>
     requires number { number < vec_len clones.old }
     requires fit { IsFitFor clones.old.items number (message_value message.now) }
-    ensures ok { IfOk result (ReceivesAt (map in_memory clones.old.items) (map in_memory clones.new.items) number message.now) }
+    ensures ok { IfOk result
+        (ReceivesAt (map in_memory clones.old.items) (map in_memory clones.new.items) number message.now) }
     ensures carried { OnOk result (IsCarriedAt clones.old.items clones.new.items number) }
-    ensures banks { UsesBanksOf B.meter number (map banks_of_state clones.old.items) (map banks_of_state clones.new.items) }
-    ensures faults { HasFaultsFor number B.meter (map banks_of_state clones.old.items) (map banks_of_state clones.new.items) result }
-    ensures left { LeavesAt B.log B.meter (doing_receive message.now) (IsOk result) number clones.old.items clones.new.items }
+    ensures banks { UsesBanksOf B.meter number
+        (map banks_of_state clones.old.items) (map banks_of_state clones.new.items) }
+    ensures faults { HasFaultsFor number B.meter
+        (map banks_of_state clones.old.items) (map banks_of_state clones.new.items) result }
+    ensures left { LeavesAt B.log B.meter (doing_receive message.now) (IsOk result)
+        number clones.old.items clones.new.items }
 {
     match &mut clones[usize::from(number)] {
         CloneState::Live(clone) => receive_live(rt, alloc, number, clone, message),
@@ -108,7 +113,8 @@ fn receive_live<R: Threads, B: CrashBanks>(
     ensures opened { OnOk result (StaysOpenNext clone.old clone.new) }
     ensures meter { MeterGoesOn (B.meter clone.old.banks) (B.meter clone.new.banks) }
     ensures faults { HasFaultsAt number (B.meter clone.old.banks) (B.meter clone.new.banks) result }
-    ensures left { LeavesState B.log B.meter (doing_receive message.now) (IsOk result) (kinds.Live clone.old) (kinds.Live clone.new) }
+    ensures left { LeavesState B.log B.meter (doing_receive message.now) (IsOk result)
+        (kinds.Live clone.old) (kinds.Live clone.new) }
 {
     match clone.receive(rt, alloc, message) {
         Ok(Got::Took(ranges)) => Ok(Received::Told(Reply::Took(ranges))),
@@ -138,11 +144,15 @@ fn receive_asking<R: Threads, B: CrashBanks>(
 ) -> Result<Received, WorldFault>
     requires asks { (asking : BankedAsker B) × HasState clones.old.items number (kinds.Asking asking) }
     requires good { IsGoodMessage (message_value message.now) }
-    ensures ok { IfOk result (ReceivesAt (map in_memory clones.old.items) (map in_memory clones.new.items) number message.now) }
+    ensures ok { IfOk result
+        (ReceivesAt (map in_memory clones.old.items) (map in_memory clones.new.items) number message.now) }
     ensures carried { OnOk result (IsCarriedAt clones.old.items clones.new.items number) }
-    ensures banks { UsesBanksOf B.meter number (map banks_of_state clones.old.items) (map banks_of_state clones.new.items) }
-    ensures faults { HasFaultsFor number B.meter (map banks_of_state clones.old.items) (map banks_of_state clones.new.items) result }
-    ensures left { LeavesAt B.log B.meter (doing_receive message.now) (IsOk result) number clones.old.items clones.new.items }
+    ensures banks { UsesBanksOf B.meter number
+        (map banks_of_state clones.old.items) (map banks_of_state clones.new.items) }
+    ensures faults { HasFaultsFor number B.meter
+        (map banks_of_state clones.old.items) (map banks_of_state clones.new.items) result }
+    ensures left { LeavesAt B.log B.meter (doing_receive message.now) (IsOk result)
+        number clones.old.items clones.new.items }
 {
     let CloneState::Asking(asker) = take_state(clones, number) else {
         unreachable!()
@@ -182,7 +192,8 @@ fn send_answers(
     messages: &mut Vec<Message>,
     answers: Messages,
 ) -> Result<Reply<'static>, WorldFault>
-    ensures sent { IfOk result (SendsAnswers (map message_value messages.old.items) answers (map message_value messages.new.items)) }
+    ensures sent { IfOk result
+        (SendsAnswers (map message_value messages.old.items) answers (map message_value messages.new.items)) }
     ensures memory { IfErr result (λ fault. fault ≡ NoMemory) }
 {
     let first = messages.len() + 1;

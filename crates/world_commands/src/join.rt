@@ -34,7 +34,8 @@ pub fn join<B: CrashBanks>(
     ensures keeps { KeepsDomain B.meter number parts.old parts.new }
     ensures done { IfOk result (Does B.log parts.old (commands.Join number) parts.new) }
     ensures faults { HasFaultsOfParts B.meter number parts.old parts.new result }
-    ensures left { LeavesAt B.log B.meter doing_nothing (IsOk result) number parts.old.clones.items parts.new.clones.items }
+    ensures left { LeavesAt B.log B.meter doing_nothing (IsOk result)
+        number parts.old.clones.items parts.new.clones.items }
 {
     match &parts.clones[usize::from(number)] {
         CloneState::Asking(asker) => send_question(&mut parts.messages, asker.ask()),
@@ -71,7 +72,8 @@ pub fn send_question(
     messages: &mut Vec<Message>,
     question: Message,
 ) -> Result<Reply<'static>, WorldFault>
-    ensures sent { IfOk result (SendsQuestion (map message_value messages.old.items) question (map message_value messages.new.items)) }
+    ensures sent { IfOk result
+        (SendsQuestion (map message_value messages.old.items) question (map message_value messages.new.items)) }
     ensures memory { IfErr result (λ fault. fault ≡ NoMemory) }
 {
     let message = send(messages, question)?;

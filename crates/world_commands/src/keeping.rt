@@ -40,7 +40,8 @@ pub fn keep<B: CrashBanks>(
     ensures keeps { KeepsDomain B.meter number parts.old parts.new }
     ensures done { IfOk result (Does B.log parts.old (keeping_command number keeping) parts.new) }
     ensures faults { HasFaultsOfParts B.meter number parts.old parts.new result }
-    ensures left { LeavesAt B.log B.meter (doing_keep keeping) (IsOk result) number parts.old.clones.items parts.new.clones.items }
+    ensures left { LeavesAt B.log B.meter (doing_keep keeping) (IsOk result)
+        number parts.old.clones.items parts.new.clones.items }
     ensures unsent { IsSilent result parts.old.messages.items parts.new.messages.items }
 {
     match &mut parts.clones[usize::from(number)] {
@@ -62,7 +63,8 @@ fn keep_live<B: CrashBanks>(
     ensures meter { MeterGoesOn (B.meter clone.old.banks) (B.meter clone.new.banks) }
     ensures faults { HasFaultsAt number (B.meter clone.old.banks) (B.meter clone.new.banks) result }
     ensures done { IfOk result (KeepsAs keeping clone.old clone.new) }
-    ensures left { LeavesState B.log B.meter (doing_keep keeping) (IsOk result) (kinds.Live clone.old) (kinds.Live clone.new) }
+    ensures left { LeavesState B.log B.meter (doing_keep keeping) (IsOk result)
+        (kinds.Live clone.old) (kinds.Live clone.new) }
 {
     match kept(alloc, clone, keeping) {
         Ok(count) => Ok(Reply::Kept(count)),
@@ -81,12 +83,15 @@ fn kept<B: Banks>(
 ) -> Result<u64, KeepFault>
     requires opened { clone.old.closed ≡ None }
     requires left { clone.old.generation ≢ 2 ^ 64 - 1 }
-    ensures done { IfOk result (λ count. KeepsBy keeping clone.old clone.new × (count ≡ length clone.new.local.entries)) }
+    ensures done { IfOk result
+        (λ count. KeepsBy keeping clone.old clone.new × (count ≡ length clone.new.local.entries)) }
     ensures opened { OnOk result (clone.new.closed ≡ None) }
     ensures closed { (why : Why) → ¬ IsErrOf result (KeepFault.Closed why) }
     ensures spent { ¬ IsErrOf result KeepFault.GenerationsSpent }
-    ensures meter { (calls : ℕ) × Metered calls (B.meter clone.old.banks) (B.meter clone.new.banks) (IsOk result) (IsErrOf result KeepFault.Device) }
-    ensures left { LeavesState B.log B.meter (doing_keep keeping) (IsOk result) (kinds.Live clone.old) (kinds.Live clone.new) }
+    ensures meter { (calls : ℕ) × Metered calls (B.meter clone.old.banks) (B.meter clone.new.banks) (IsOk result)
+        (IsErrOf result KeepFault.Device) }
+    ensures left { LeavesState B.log B.meter (doing_keep keeping) (IsOk result)
+        (kinds.Live clone.old) (kinds.Live clone.new) }
 {
     match keeping {
         Keeping::Compacted => clone.compact(alloc),

@@ -36,7 +36,8 @@ pub fn open<R: Threads, B: CrashBanks>(
     ensures keeps { KeepsDomain B.meter number parts.old parts.new }
     ensures done { IfOk result (Does B.log parts.old (commands.Open number) parts.new) }
     ensures faults { HasFaultsOfParts B.meter number parts.old parts.new result }
-    ensures left { LeavesAt B.log B.meter doing_open (IsOk result) number parts.old.clones.items parts.new.clones.items }
+    ensures left { LeavesAt B.log B.meter doing_open (IsOk result)
+        number parts.old.clones.items parts.new.clones.items }
     ensures unsent { IsSilent result parts.old.messages.items parts.new.messages.items }
 {
     match &parts.clones[usize::from(number)] {
@@ -58,9 +59,12 @@ fn open_banks<R: Threads, B: CrashBanks>(
 ) -> Result<Reply<'static>, WorldFault>
     requires name { IsTrue (is_domain named.domain) }
     requires whole { IsWholeAt B.log clones.old.items number }
-    ensures ok { IfOk result (OpensBanks B.log named.domain named.properties.items clones.old.items clones.new.items number) }
-    ensures banks { UsesBanksOf B.meter number (map banks_of_state clones.old.items) (map banks_of_state clones.new.items) }
-    ensures faults { HasFaultsFor number B.meter (map banks_of_state clones.old.items) (map banks_of_state clones.new.items) result }
+    ensures ok { IfOk result
+        (OpensBanks B.log named.domain named.properties.items clones.old.items clones.new.items number) }
+    ensures banks { UsesBanksOf B.meter number
+        (map banks_of_state clones.old.items) (map banks_of_state clones.new.items) }
+    ensures faults { HasFaultsFor number B.meter
+        (map banks_of_state clones.old.items) (map banks_of_state clones.new.items) result }
     ensures left { LeavesAt B.log B.meter doing_open (IsOk result) number clones.old.items clones.new.items }
 {
     let CloneState::Down(banks) = take_state(clones, number) else {

@@ -24,7 +24,8 @@ pub struct Parts<B: Banks> {
 
 /// Sends a message, and gives its number; the first one has number 1.
 pub fn send(messages: &mut Vec<Message>, message: Message) -> Result<usize, AllocError>
-    ensures sent { OnOk result (map message_value messages.new.items ≡ map message_value messages.old.items ++ message_value message ∷ []) }
+    ensures sent { OnOk result
+        (map message_value messages.new.items ≡ map message_value messages.old.items ++ message_value message ∷ []) }
     ensures number { IfOk result (λ number. number ≡ length (map message_value messages.old.items) + 1) }
 {
     messages.push(message)?;

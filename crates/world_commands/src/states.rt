@@ -39,7 +39,8 @@ pub fn live_at<'a, B: Banks>(
     number: u8,
 ) -> Result<&'a MldClone<B>, Reply<'a>>
     requires { number < length clones.now }
-    ensures { MatchResult result (λ clone. HasState clones.now number (kinds.Live clone.now)) (λ reply. IsMissingAt (map in_memory clones.now) number (reply_value reply)) }
+    ensures { MatchResult result (λ clone. HasState clones.now number (kinds.Live clone.now))
+        (λ reply. IsMissingAt (map in_memory clones.now) number (reply_value reply)) }
 {
     match &clones[usize::from(number)] {
         CloneState::Live(clone) => Ok(clone),
@@ -87,7 +88,8 @@ pub fn copy_named(alloc: Global, domain: &Text, properties: &[Iri]) -> Result<Na
 pub fn take_state<B: Banks>(clones: &mut Vec<RunningClone<B>>, number: u8) -> RunningClone<B>
     requires { number < length clones.old.items }
     ensures was { HasState clones.old.items number result }
-    ensures back { (state : BankedState B) → insert clones.new.items number state ≡ slice_set clones.old.items number state }
+    ensures back { (state : BankedState B) → insert clones.new.items number state
+        ≡ slice_set clones.old.items number state }
     ensures len { vec_len clones.new + 1 ≡ vec_len clones.old }
     ensures room { vec_len clones.new < vec_capacity clones.new }
 {

@@ -21,9 +21,11 @@ use schedule_replies::Reply;
 pub fn stop<B: CrashBanks>(parts: &mut Parts<B>, number: u8) -> Reply<'static>
     requires { number < vec_len parts.old.clones }
     ensures keeps { KeepsDomain B.meter number parts.old parts.new }
-    ensures quiet { HadNoFaults B.meter (map banks_of_state parts.old.clones.items) (map banks_of_state parts.new.clones.items) }
+    ensures quiet { HadNoFaults B.meter
+        (map banks_of_state parts.old.clones.items) (map banks_of_state parts.new.clones.items) }
     ensures done { Does B.log parts.old (commands.Stop number) parts.new result }
-    ensures left { LeavesAt B.log B.meter doing_nothing (Unit {0}) number parts.old.clones.items parts.new.clones.items }
+    ensures left { LeavesAt B.log B.meter doing_nothing (Unit {0})
+        number parts.old.clones.items parts.new.clones.items }
 {
     match &parts.clones[usize::from(number)] {
         CloneState::Live(_) => {
