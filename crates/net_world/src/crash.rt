@@ -162,7 +162,8 @@ fn do_task<R: Threads, B: CrashBanks>(
     requires form { IsTaskInForm task.now }
     ensures keeps { KeepsDomain B.meter (number_of_task task.now) parts.old parts.new }
     ensures done { IfOk result (Does B.log parts.old (command_of task.now) parts.new) }
-    ensures left { LeavesAt B.log B.meter (doing_task parts.old.messages.items task.now) (IsOk result) (number_of_task task.now) parts.old.clones.items parts.new.clones.items }
+    ensures left { LeavesAt B.log B.meter (doing_task parts.old.messages.items task.now) (IsOk result)
+        (number_of_task task.now) parts.old.clones.items parts.new.clones.items }
     ensures unsent { IsSilent result parts.old.messages.items parts.new.messages.items }
     ensures faults { HasFaultsOfParts B.meter (number_of_task task.now) parts.old parts.new result }
 {

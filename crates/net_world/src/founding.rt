@@ -90,7 +90,8 @@ fn found_each<R: Threads, B: CrashBanks>(
     ensures ok { OnOk result (AreFoundedTo (setup_of setup.now) setup.now.clones clones.new.items) }
     ensures rest { OnOk result (StayFrom setup.now.clones clones.old.items clones.new.items) }
     ensures meters { MetersGoOn B.meter (map banks_of_state clones.old.items) (map banks_of_state clones.new.items) }
-    ensures faults { HasFaultsBy B.meter (map banks_of_state clones.old.items) (map banks_of_state clones.new.items) result }
+    ensures faults { HasFaultsBy B.meter
+        (map banks_of_state clones.old.items) (map banks_of_state clones.new.items) result }
     ensures left { IfErr result (StopsFoundingBy B.log (setup_of setup.now) clones.new.items) }
 {
     found_first(alloc, setup, clones)?;
@@ -111,7 +112,8 @@ fn found_first<B: CrashBanks>(
     ensures ok { OnOk result (AreFoundedTo (setup_of setup.now) 1 clones.new.items) }
     ensures rest { OnOk result (StayFrom 1 clones.old.items clones.new.items) }
     ensures meters { MetersGoOn B.meter (map banks_of_state clones.old.items) (map banks_of_state clones.new.items) }
-    ensures faults { HasFaultsBy B.meter (map banks_of_state clones.old.items) (map banks_of_state clones.new.items) result }
+    ensures faults { HasFaultsBy B.meter
+        (map banks_of_state clones.old.items) (map banks_of_state clones.new.items) result }
     ensures left { IfErr result (StopsFoundingBy B.log (setup_of setup.now) clones.new.items) }
 {
     let named = copy_named(alloc, &setup.domain, setup.props.as_slice())?;
@@ -126,7 +128,8 @@ fn found_first<B: CrashBanks>(
 fn take_blank<B: CrashBanks>(clones: &mut Vec<RunningClone<B>>, number: u8) -> Blank<B>
     requires { IsAbsentAt clones.old.items number }
     ensures was { HasState clones.old.items number (kinds.Absent result) }
-    ensures back { (state : BankedState B) → insert clones.new.items number state ≡ slice_set clones.old.items number state }
+    ensures back { (state : BankedState B) → insert clones.new.items number state
+        ≡ slice_set clones.old.items number state }
     ensures len { vec_len clones.new + 1 ≡ vec_len clones.old }
     ensures room { vec_len clones.new < vec_capacity clones.new }
 {
@@ -163,7 +166,8 @@ fn found_other<R: Threads, B: CrashBanks>(
     ensures ok { OnOk result (AreFoundedTo (setup_of setup.now) (number + 1) clones.new.items) }
     ensures rest { OnOk result (StayFrom (number + 1) clones.old.items clones.new.items) }
     ensures meters { MetersGoOn B.meter (map banks_of_state clones.old.items) (map banks_of_state clones.new.items) }
-    ensures faults { HasFaultsBy B.meter (map banks_of_state clones.old.items) (map banks_of_state clones.new.items) result }
+    ensures faults { HasFaultsBy B.meter
+        (map banks_of_state clones.old.items) (map banks_of_state clones.new.items) result }
     ensures left { IfErr result (StopsFoundingBy B.log (setup_of setup.now) clones.new.items) }
 {
     let named = copy_named(alloc, &setup.domain, setup.props.as_slice())?;
@@ -247,7 +251,8 @@ fn taken_leaf<R: Threads, B: CrashBanks>(
     answer: &Messages,
 ) -> (RunningClone<B>, Result<(), WorldFault>)
     requires { (leaf : GiveValue) × GivesLeaf answer.now asker.asker leaf }
-    ensures taken { OnOk result.1 ((leaf : GiveValue) → GivesLeaf answer.now asker.asker leaf → LivesAtLeaf asker.asker leaf result.0) }
+    ensures taken { OnOk result.1 ((leaf : GiveValue) → GivesLeaf answer.now asker.asker leaf
+        → LivesAtLeaf asker.asker leaf result.0) }
     ensures meter { MeterGoesOn (B.meter asker.banks) (B.meter (banks_of_state result.0)) }
     ensures faults { HasFaultsAt number (B.meter asker.banks) (B.meter (banks_of_state result.0)) result.1 }
     ensures left { IfErr result.1 (λ fault. (leaf : GiveValue) → GivesLeaf answer.now asker.asker leaf

@@ -118,7 +118,8 @@ impl<B: CrashBanks> World<B> {
     /// The banks of the clones, by number: live ones stop. They stand for the world.
     pub fn into_banks(self, alloc: Global) -> Result<Vec<B>, AllocError>
         ensures banks { IfOk result (λ banks. banks.items ≡ banks_of self) }
-        ensures stand { (world : ModelWorld) → StandsOnBanks B.log self world → IfOk result (λ banks. AllBanksStandFor B.log world banks.items) }
+        ensures stand { (world : ModelWorld) → StandsOnBanks B.log self world
+            → IfOk result (λ banks. AllBanksStandFor B.log world banks.items) }
     {
         let mut banks = Vec::with_capacity(alloc, self.parts.clones.len())?;
         stop_all(self.parts.clones, &mut banks);
@@ -150,7 +151,8 @@ impl<B: CrashBanks> World<B> {
         ensures standing { OnOk result (IsStanding B.log self.new) }
         ensures steps { OnOk result (self.new.steps ≡ self.old.steps + 1) }
         ensures meters { MetersGoOn B.meter (banks_of self.old) (banks_of self.new) }
-        ensures faults { HasFaultsFor (number_of_clone command.now) B.meter (banks_of self.old) (banks_of self.new) result }
+        ensures faults { HasFaultsFor (number_of_clone command.now) B.meter
+            (banks_of self.old) (banks_of self.new) result }
         ensures left { LeavesBanks B.log self.old command.now (banks_of self.new) }
         ensures settled { OnOk result (Settles B.log self.old command.now self.new) }
         ensures others { OthersStay (number_of_clone command.now) (banks_of self.old) (banks_of self.new) }
