@@ -43,8 +43,10 @@ pub fn do_live<B: Banks>(
     requires opened { clone.old.closed ≡ None }
     requires usable { IsUsable command.now }
     requires stays { StaysLive command.now }
-    ensures done { OnOk result (Answers B.log B.meter (LiveStep clone.old.generation clone.old.local command.now) clone.old out.old.items clone.new out.new.items) }
-    ensures stopped { OnErr result (StopsShort B.log B.meter (IsDueLive clone.old.generation clone.old.local command.now) clone.old clone.new.banks) }
+    ensures done { OnOk result (Answers B.log B.meter (LiveStep clone.old.generation clone.old.local command.now)
+        clone.old out.old.items clone.new out.new.items) }
+    ensures stopped { OnErr result (StopsShort B.log B.meter
+        (IsDueLive clone.old.generation clone.old.local command.now) clone.old clone.new.banks) }
     ensures told { StaysTold (B.log clone.old.banks) (B.log clone.new.banks) }
     ensures fault { Meters (B.meter clone.old.banks) (B.meter clone.new.banks) (IsErrOf result SessionFault.Device) }
     ensures out { OnErr result (out.new.items ≡ out.old.items) }
@@ -82,8 +84,10 @@ fn add<B: Banks>(
     out: &mut Vec<u8>,
 ) -> Result<(), SessionFault>
     requires { clone.old.closed ≡ None }
-    ensures done { OnOk result (Answers B.log B.meter (AnswersUpdate clone.old.local (insertion_of triple.now)) clone.old out.old.items clone.new out.new.items) }
-    ensures stopped { OnErr result (StopsShort B.log B.meter (AppendsOperation clone.old.local (insertion_of triple.now)) clone.old clone.new.banks) }
+    ensures done { OnOk result (Answers B.log B.meter (AnswersUpdate clone.old.local (insertion_of triple.now))
+        clone.old out.old.items clone.new out.new.items) }
+    ensures stopped { OnErr result (StopsShort B.log B.meter
+        (AppendsOperation clone.old.local (insertion_of triple.now)) clone.old clone.new.banks) }
     ensures told { StaysTold (B.log clone.old.banks) (B.log clone.new.banks) }
     ensures fault { Meters (B.meter clone.old.banks) (B.meter clone.new.banks) (IsErrOf result SessionFault.Device) }
     ensures out { OnErr result (out.new.items ≡ out.old.items) }
@@ -100,8 +104,10 @@ fn remove<B: Banks>(
     out: &mut Vec<u8>,
 ) -> Result<(), SessionFault>
     requires { clone.old.closed ≡ None }
-    ensures done { OnOk result (Answers B.log B.meter (AnswersUpdate clone.old.local (deletion_of triple.now)) clone.old out.old.items clone.new out.new.items) }
-    ensures stopped { OnErr result (StopsShort B.log B.meter (AppendsOperation clone.old.local (deletion_of triple.now)) clone.old clone.new.banks) }
+    ensures done { OnOk result (Answers B.log B.meter (AnswersUpdate clone.old.local (deletion_of triple.now))
+        clone.old out.old.items clone.new out.new.items) }
+    ensures stopped { OnErr result (StopsShort B.log B.meter
+        (AppendsOperation clone.old.local (deletion_of triple.now)) clone.old clone.new.banks) }
     ensures told { StaysTold (B.log clone.old.banks) (B.log clone.new.banks) }
     ensures fault { Meters (B.meter clone.old.banks) (B.meter clone.new.banks) (IsErrOf result SessionFault.Device) }
     ensures out { OnErr result (out.new.items ≡ out.old.items) }
@@ -119,8 +125,10 @@ fn update<B: Banks>(
 ) -> Result<(), SessionFault>
     requires opened { clone.old.closed ≡ None }
     requires form { IsPlanInForm plan.now }
-    ensures done { OnOk result (Answers B.log B.meter (AnswersUpdate clone.old.local plan.now) clone.old out.old.items clone.new out.new.items) }
-    ensures stopped { OnErr result (StopsShort B.log B.meter (AppendsOperation clone.old.local plan.now) clone.old clone.new.banks) }
+    ensures done { OnOk result (Answers B.log B.meter (AnswersUpdate clone.old.local plan.now)
+        clone.old out.old.items clone.new out.new.items) }
+    ensures stopped { OnErr result
+        (StopsShort B.log B.meter (AppendsOperation clone.old.local plan.now) clone.old clone.new.banks) }
     ensures told { StaysTold (B.log clone.old.banks) (B.log clone.new.banks) }
     ensures fault { Meters (B.meter clone.old.banks) (B.meter clone.new.banks) (IsErrOf result SessionFault.Device) }
     ensures out { OnErr result (out.new.items ≡ out.old.items) }
@@ -137,8 +145,10 @@ fn updated<B: Banks>(
 ) -> Result<ShellReply<'static>, SessionFault>
     requires opened { clone.old.closed ≡ None }
     requires form { IsPlanInForm plan.now }
-    ensures done { IfOk result (λ reply. GoesOn B.log B.meter (AnswersUpdate clone.old.local plan.now) clone.old clone.new (shell_value reply)) }
-    ensures stopped { OnErr result (StopsShort B.log B.meter (AppendsOperation clone.old.local plan.now) clone.old clone.new.banks) }
+    ensures done { IfOk result (λ reply. GoesOn B.log B.meter (AnswersUpdate clone.old.local plan.now)
+        clone.old clone.new (shell_value reply)) }
+    ensures stopped { OnErr result
+        (StopsShort B.log B.meter (AppendsOperation clone.old.local plan.now) clone.old clone.new.banks) }
     ensures told { StaysTold (B.log clone.old.banks) (B.log clone.new.banks) }
     ensures fault { Meters (B.meter clone.old.banks) (B.meter clone.new.banks) (IsErrOf result SessionFault.Device) }
 {
@@ -216,8 +226,10 @@ fn compact<B: Banks>(
     out: &mut Vec<u8>,
 ) -> Result<(), SessionFault>
     requires { clone.old.closed ≡ None }
-    ensures done { OnOk result (Answers B.log B.meter (CompactsAs clone.old.generation clone.old.local) clone.old out.old.items clone.new out.new.items) }
-    ensures stopped { OnErr result (StopsShort B.log B.meter (IsDueCompaction clone.old.generation clone.old.local) clone.old clone.new.banks) }
+    ensures done { OnOk result (Answers B.log B.meter (CompactsAs clone.old.generation clone.old.local)
+        clone.old out.old.items clone.new out.new.items) }
+    ensures stopped { OnErr result
+        (StopsShort B.log B.meter (IsDueCompaction clone.old.generation clone.old.local) clone.old clone.new.banks) }
     ensures told { StaysTold (B.log clone.old.banks) (B.log clone.new.banks) }
     ensures fault { Meters (B.meter clone.old.banks) (B.meter clone.new.banks) (IsErrOf result SessionFault.Device) }
     ensures out { OnErr result (out.new.items ≡ out.old.items) }
@@ -232,8 +244,10 @@ fn compacted<B: Banks>(
     clone: &mut MldClone<B>,
 ) -> Result<ShellReply<'static>, SessionFault>
     requires { clone.old.closed ≡ None }
-    ensures done { IfOk result (λ reply. GoesOn B.log B.meter (CompactsAs clone.old.generation clone.old.local) clone.old clone.new (shell_value reply)) }
-    ensures stopped { OnErr result (StopsShort B.log B.meter (IsDueCompaction clone.old.generation clone.old.local) clone.old clone.new.banks) }
+    ensures done { IfOk result (λ reply. GoesOn B.log B.meter (CompactsAs clone.old.generation clone.old.local)
+        clone.old clone.new (shell_value reply)) }
+    ensures stopped { OnErr result
+        (StopsShort B.log B.meter (IsDueCompaction clone.old.generation clone.old.local) clone.old clone.new.banks) }
     ensures told { StaysTold (B.log clone.old.banks) (B.log clone.new.banks) }
     ensures fault { Meters (B.meter clone.old.banks) (B.meter clone.new.banks) (IsErrOf result SessionFault.Device) }
 {
@@ -254,8 +268,10 @@ fn truncate<B: Banks>(
     out: &mut Vec<u8>,
 ) -> Result<(), SessionFault>
     requires { clone.old.closed ≡ None }
-    ensures done { OnOk result (Answers B.log B.meter (TruncatesAs keep clone.old.generation clone.old.local) clone.old out.old.items clone.new out.new.items) }
-    ensures stopped { OnErr result (StopsShort B.log B.meter (IsDueTruncation keep clone.old.generation clone.old.local) clone.old clone.new.banks) }
+    ensures done { OnOk result (Answers B.log B.meter (TruncatesAs keep clone.old.generation clone.old.local)
+        clone.old out.old.items clone.new out.new.items) }
+    ensures stopped { OnErr result (StopsShort B.log B.meter
+        (IsDueTruncation keep clone.old.generation clone.old.local) clone.old clone.new.banks) }
     ensures told { StaysTold (B.log clone.old.banks) (B.log clone.new.banks) }
     ensures fault { Meters (B.meter clone.old.banks) (B.meter clone.new.banks) (IsErrOf result SessionFault.Device) }
     ensures out { OnErr result (out.new.items ≡ out.old.items) }
@@ -271,8 +287,10 @@ fn truncated<B: Banks>(
     keep: u64,
 ) -> Result<ShellReply<'static>, SessionFault>
     requires { clone.old.closed ≡ None }
-    ensures done { IfOk result (λ reply. GoesOn B.log B.meter (TruncatesAs keep clone.old.generation clone.old.local) clone.old clone.new (shell_value reply)) }
-    ensures stopped { OnErr result (StopsShort B.log B.meter (IsDueTruncation keep clone.old.generation clone.old.local) clone.old clone.new.banks) }
+    ensures done { IfOk result (λ reply. GoesOn B.log B.meter (TruncatesAs keep clone.old.generation clone.old.local)
+        clone.old clone.new (shell_value reply)) }
+    ensures stopped { OnErr result (StopsShort B.log B.meter
+        (IsDueTruncation keep clone.old.generation clone.old.local) clone.old clone.new.banks) }
     ensures told { StaysTold (B.log clone.old.banks) (B.log clone.new.banks) }
     ensures fault { Meters (B.meter clone.old.banks) (B.meter clone.new.banks) (IsErrOf result SessionFault.Device) }
 {

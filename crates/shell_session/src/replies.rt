@@ -77,7 +77,8 @@ fn push_damaged(out: &mut Vec<u8>, side: Side, place: u64) -> Result<(), AllocEr
 
 /// That damage was found on the side of this name, at this place.
 fn push_damage(out: &mut Vec<u8>, side: &str, place: u64) -> Result<(), AllocError>
-    ensures ok { OnOk result (out.new.items ≡ out.old.items ++ (codes "damaged " ++ (side.now ++ (codes " " ++ (decimal place ++ line_end ∷ []))))) }
+    ensures ok { OnOk result (out.new.items
+        ≡ out.old.items ++ (codes "damaged " ++ (side.now ++ (codes " " ++ (decimal place ++ line_end ∷ []))))) }
     ensures err { OnErr result (out.new.items ≡ out.old.items) }
 {
     let alloc = *out.allocator();

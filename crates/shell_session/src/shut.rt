@@ -111,7 +111,8 @@ fn found<B: Banks>(
 ) -> Result<Session<B>, (SessionFault, B)>
     requires { IsTrue (is_domain domain) }
     ensures done { IfOk result (λ next. SessionStands B.log (sessions.Shut blank) (Shut Nothing)
-        → DoesCommand B.log (Shut Nothing) (commands.Create id domain properties) blank out.old.items next out.new.items) }
+        → DoesCommand B.log (Shut Nothing) (commands.Create id domain properties)
+        blank out.old.items next out.new.items) }
     ensures standing { IfOk result IsStanding }
     ensures stopped { IfErr result (λ refused. SessionStands B.log (sessions.Shut blank) (Shut Nothing)
         → StopsCommand B.log (Shut Nothing) (commands.Create id domain properties) blank refused.1) }
