@@ -30,7 +30,8 @@ pub fn read_folder(alloc: Global, words: &Vec<String>) -> Result<Text, WordsFaul
 
 /// The words behind the name of the program.
 fn named_words<'a>(alloc: Global, words: &'a Vec<String>) -> Result<Vec<&'a str>, AllocError>
-    ensures { IfOk result (λ named. map (λ w. w.now) named.items ≡ shell_name ∷ map (λ w. string_bytes w) words.entry.now.items) }
+    ensures { IfOk result
+        (λ named. map (λ w. w.now) named.items ≡ shell_name ∷ map (λ w. string_bytes w) words.entry.now.items) }
 {
     let mut named = Vec::new(alloc);
     named.push(SHELL_NAME)?;
@@ -42,7 +43,8 @@ fn named_words<'a>(alloc: Global, words: &'a Vec<String>) -> Result<Vec<&'a str>
 
 /// What clap gives for DIR.
 fn value_given<'a>(alloc: Global, words: &'a [&'a str]) -> Result<&'a str, Error>
-    ensures ok { IfOk result (λ folder. first_of (codes "DIR") (matches_of folder_app (map (λ w. w.now) words.entry.now)) ≡ Some folder.now) }
+    ensures ok { IfOk result (λ folder. first_of (codes "DIR")
+        (matches_of folder_app (map (λ w. w.now) words.entry.now)) ≡ Some folder.now) }
     ensures kinds { FailsBy (fault_of folder_app (map (λ w. w.now) words.entry.now)) result }
 {
     let folder = Arg::new(alloc, "DIR").required(true).action(ArgAction::Set);
