@@ -32,10 +32,12 @@ pub fn begin<R: Threads, B: Banks>(
     words: NodeWords,
 ) -> Result<NodeState<B>, (NodeStop, B)>
     requires { IsTrue (is_domain words.domain) }
-    ensures begun { IfOk result (λ state. (log : Log) → B.log banks ≡ Some log → BeginsOn B.log words (found_on log) (B.log banks) state) }
+    ensures begun { IfOk result (λ state. (log : Log) → B.log banks ≡ Some log
+        → BeginsOn B.log words (found_on log) (B.log banks) state) }
     ensures opened { IfOk result IsOpen }
     ensures kind { IfErr result (λ refused. IsAtFirst refused.0) }
-    ensures short { IfErr result (λ refused. (log : Log) → B.log banks ≡ Some log → BeginsShort refused.0 words (found_on log) (B.log banks) (B.log refused.1)) }
+    ensures short { IfErr result (λ refused. (log : Log) → B.log banks ≡ Some log
+        → BeginsShort refused.0 words (found_on log) (B.log banks) (B.log refused.1)) }
     ensures meter { Meters (B.meter banks) (B.meter (banks_begun result)) (FailsToBegin result) }
 {
     match MldClone::mount(rt, alloc, banks) {
@@ -70,10 +72,12 @@ fn begin_anew<B: Banks>(
     words: NodeWords,
 ) -> Result<NodeState<B>, (NodeStop, B)>
     requires { IsTrue (is_domain words.domain) }
-    ensures begun { IfOk result (λ state. (log : Log) → B.log blank ≡ Some log → KeepsNothing log → BeginsOn B.log words Nothing (B.log blank) state) }
+    ensures begun { IfOk result (λ state. (log : Log) → B.log blank ≡ Some log → KeepsNothing log
+        → BeginsOn B.log words Nothing (B.log blank) state) }
     ensures opened { IfOk result IsOpen }
     ensures kind { IfErr result (λ refused. IsAtFirst refused.0) }
-    ensures short { IfErr result (λ refused. (log : Log) → B.log blank ≡ Some log → BeginsShort refused.0 words Nothing (B.log blank) (B.log refused.1)) }
+    ensures short { IfErr result (λ refused. (log : Log) → B.log blank ≡ Some log
+        → BeginsShort refused.0 words Nothing (B.log blank) (B.log refused.1)) }
     ensures meter { Meters (B.meter blank) (B.meter (banks_begun result)) (FailsToBegin result) }
 {
     let NodeWords {
@@ -97,7 +101,8 @@ fn begin_anew<B: Banks>(
 
 /// Tells what the banks of an open clone keep.
 fn tell_kept<B: Banks>(clone: &MldClone<B>)
-    ensures { clone.now.closed ≡ None → (log : Log) → B.log clone.now.banks ≡ Some log → KeepsClone clone.now.local clone.now.generation log }
+    ensures { clone.now.closed ≡ None → (log : Log) → B.log clone.now.banks ≡ Some log
+        → KeepsClone clone.now.local clone.now.generation log }
 {
     clone.is_closed();
 }

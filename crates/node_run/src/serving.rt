@@ -49,7 +49,14 @@ pub fn serve<R: Threads, W: Wire, B: Banks>(
     // Where the same was found on all that a crash might have left at first, so it is at each moment of what a front of the run's durable
     // steps makes of that; and in the end of what all steps of the events that were done make, and a front of those of the one under way.
     ensures ends { EndsTold result.fault
-        (record { texts = map (λ w. string_bytes w) words.now.items; turns = result.turns; before = W.log wire.old; after = W.log wire.new; old = B.log banks; now = B.log result.banks }) }
+        (record {
+          texts = map (λ w. string_bytes w) words.now.items;
+          turns = result.turns;
+          before = W.log wire.old;
+          after = W.log wire.new;
+          old = B.log banks;
+          now = B.log result.banks;
+        }) }
     // 6 comes just where the banks had a fault, which was a real one if they aren't armed.
     ensures meter { Meters (B.meter banks) (B.meter result.banks) (result.fault ≡ Some NodeStop.Device) }
     // 9 comes just where the wire had one.

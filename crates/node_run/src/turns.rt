@@ -39,10 +39,19 @@ pub fn take_turns<R: Threads, W: Wire, B: Banks>(
     ensures damaged { result.damaged ≡ damaged_of result.fault }
     ensures kind { IsOfTurns result.fault }
     ensures turns { result.turns ≡ W.taken wire.new }
-    ensures ends { (texts : List (List ℕ)) (words : NodeWords) (found : Found) (old : Option Log) (first : Log) → old ≡ Some first → AreWords texts words → words.turns ≡ turns
+    ensures ends { (texts : List (List ℕ)) (words : NodeWords) (found : Found) (old : Option Log) (first : Log)
+        → old ≡ Some first → AreWords texts words → words.turns ≡ turns
         → BeginsOn B.log words found old state
-        → EndsSo result.fault found (record { texts = texts; turns = result.turns; before = W.log wire.old; after = W.log wire.new; old = old; now = B.log result.banks }) }
-    ensures meter { Meters (B.meter (states.banks_of state)) (B.meter result.banks) (result.fault ≡ Some NodeStop.Device) }
+        → EndsSo result.fault found (record {
+          texts = texts;
+          turns = result.turns;
+          before = W.log wire.old;
+          after = W.log wire.new;
+          old = old;
+          now = B.log result.banks;
+        }) }
+    ensures meter { Meters (B.meter (states.banks_of state)) (B.meter result.banks)
+        (result.fault ≡ Some NodeStop.Device) }
     ensures wire { CountsWire (W.faults wire.old) (W.faults wire.new) result.fault }
 {
     node_steps_lead();
@@ -79,7 +88,8 @@ fn take_event<R: Threads, W: Wire, B: Banks>(
     requires going { node.halted ≡ false }
     ensures done { IfOk result (λ next. DoesTurn B.log node event.now (W.log wire.old) next (W.log wire.new)) }
     ensures opened { IfOk result (λ next. IsOpen next.state) }
-    ensures stopped { IfErr result (λ refused. StopsTurn refused.0 B.log node event.now (W.log wire.old) refused.1 (W.log wire.new)) }
+    ensures stopped { IfErr result
+        (λ refused. StopsTurn refused.0 B.log node event.now (W.log wire.old) refused.1 (W.log wire.new)) }
     ensures told { StaysTold (B.log (banks_of node)) (B.log (banks_after result)) }
     ensures taken { W.taken wire.new ≡ W.taken wire.old }
     ensures meter { Meters (B.meter (banks_of node)) (B.meter (banks_after result)) (FailsOnBanks result) }
