@@ -11,7 +11,8 @@ pub const NODE_NAME: &str = "mld_node";
 
 /// What clap finds in the words, the first of which is the program's name.
 pub fn find_in<'a>(alloc: Global, words: &'a [&'a str]) -> Result<ArgMatches<'a>, Error>
-    ensures ok { IfOk result (λ found. rows_of (found_of found) ≡ matches_of node_app (map (λ w. w.now) words.entry.now)) }
+    ensures ok { IfOk result
+        (λ found. rows_of (found_of found) ≡ matches_of node_app (map (λ w. w.now) words.entry.now)) }
     ensures kinds { FailsBy (fault_of node_app (map (λ w. w.now) words.entry.now)) result }
 {
     node_command(alloc)?.try_get_matches_from(words)
@@ -61,7 +62,8 @@ pub fn text_of<'a>(found: &ArgMatches<'a>, name: &str) -> Option<&'a str>
 
 /// The words of no option, where there are any.
 pub fn iris_of<'f, 'a>(found: &'f ArgMatches<'a>) -> Option<&'f [&'a str]>
-    ensures { option_map (λ texts. map (λ text. text.now) texts.now) result ≡ all_of (codes "IRI") (rows_of (found_of found.now)) }
+    ensures { option_map (λ texts. map (λ text. text.now) texts.now) result
+        ≡ all_of (codes "IRI") (rows_of (found_of found.now)) }
 {
     found.get_strs("IRI")
 }

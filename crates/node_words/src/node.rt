@@ -60,7 +60,8 @@ pub fn read_words(alloc: Global, words: &Vec<String>) -> Result<NodeWords, Words
 
 /// The words behind the name of the program.
 fn named_words<'a>(alloc: Global, words: &'a Vec<String>) -> Result<Vec<&'a str>, AllocError>
-    ensures { IfOk result (λ named. map (λ w. w.now) named.items ≡ node_name ∷ map (λ w. string_bytes w) words.entry.now.items) }
+    ensures { IfOk result
+        (λ named. map (λ w. w.now) named.items ≡ node_name ∷ map (λ w. string_bytes w) words.entry.now.items) }
 {
     let mut named = Vec::new(alloc);
     named.push(NODE_NAME)?;
