@@ -44,7 +44,8 @@ pub(crate) fn tell_at_hand(parts: &mut Parts, message: &Message) -> Result<(), A
 
 /// Sends messages to the connection at hand, one after another.
 pub(crate) fn tell_each_at_hand(parts: &mut Parts, messages: &[Message]) -> Result<(), AllocError>
-    ensures { OnOk result (exchange_of parts.new ≡ telling_each (map message_value messages.now) (exchange_of parts.old)) }
+    ensures { OnOk result
+        (exchange_of parts.new ≡ telling_each (map message_value messages.now) (exchange_of parts.old)) }
 {
     for message in messages {
         tell_at_hand(parts, message)?;
@@ -78,7 +79,8 @@ fn tell_others_entry(parts: &mut Parts, entry: &Entry) -> Result<(), AllocError>
 
 /// Sends entries to each peer but the one at hand, one after another.
 pub(crate) fn tell_others_each(parts: &mut Parts, entries: &[Entry]) -> Result<(), AllocError>
-    ensures { OnOk result (exchange_of parts.new ≡ telling_peers_each (map CarriesEntry entries.now) (exchange_of parts.old)) }
+    ensures { OnOk result
+        (exchange_of parts.new ≡ telling_peers_each (map CarriesEntry entries.now) (exchange_of parts.old)) }
 {
     for entry in entries {
         tell_others_entry(parts, entry)?;
