@@ -233,7 +233,8 @@ fn push_answered(out: &mut Vec<u8>, first: usize, end: usize) -> Result<(), Allo
 
 /// A word, then each range.
 fn push_ranges(out: &mut Vec<u8>, word: &[u8], ranges: &[Range]) -> Result<(), AllocError>
-    ensures ok { OnOk result (out.new.items ≡ out.old.items ++ (word.now ++ (flat_map spaced_range ranges.now ++ line_end ∷ []))) }
+    ensures ok { OnOk result
+        (out.new.items ≡ out.old.items ++ (word.now ++ (flat_map spaced_range ranges.now ++ line_end ∷ []))) }
     ensures err { OnErr result (KeepsStart out.old.items out.new.items) }
 {
     out.extend_from_slice(word)?;
