@@ -16,7 +16,8 @@ use std::alloc::AllocError;
 pub fn reply(out: &mut Vec<u8>, answer: &Answer, read: &ReadQuery) -> Result<(), AllocError>
     requires form { IsQueryInForm read.now.query }
     requires kind { IsAnswerTo read.now.query.what answer.now }
-    ensures ok { OnOk result ((text : List ℕ) × SpellsAnswer read.now.context read.now.query answer.now text × (out.new.items ≡ out.old.items ++ text)) }
+    ensures ok { OnOk result ((text : List ℕ) × SpellsAnswer read.now.context read.now.query answer.now text
+        × (out.new.items ≡ out.old.items ++ text)) }
     ensures err { OnErr result (out.new.items ≡ out.old.items) }
 {
     let before = out.len();
@@ -35,7 +36,8 @@ fn push_answer(
     context: &Context,
 ) -> Result<(), AllocError>
     requires { IsAnswerTo query.now.what answer.now }
-    ensures ok { OnOk result ((text : List ℕ) × SpellsAnswer context.now query.now answer.now text × (out.new.items ≡ out.old.items ++ text)) }
+    ensures ok { OnOk result ((text : List ℕ) × SpellsAnswer context.now query.now answer.now text
+        × (out.new.items ≡ out.old.items ++ text)) }
     ensures err { OnErr result (KeepsStart out.old.items out.new.items) }
 {
     match answer {

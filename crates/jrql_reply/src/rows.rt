@@ -78,7 +78,8 @@ fn put_variable(
     value: &Option<Term>,
     context: &Context,
 ) -> Result<(), AllocError>
-    ensures { OnOk result (members_view members.new.entries ≡ with_variable context.now name.now value.now (members_view members.old.entries)) }
+    ensures { OnOk result (members_view members.new.entries
+        ≡ with_variable context.now name.now value.now (members_view members.old.entries)) }
 {
     match value {
         Some(term) => put_term(alloc, members, name, term, context),
@@ -94,7 +95,8 @@ fn put_term(
     term: &Term,
     context: &Context,
 ) -> Result<(), AllocError>
-    ensures { OnOk result (members_view members.new.entries ≡ put name.now (term_data context.now term.now) (members_view members.old.entries)) }
+    ensures { OnOk result (members_view members.new.entries
+        ≡ put name.now (term_data context.now term.now) (members_view members.old.entries)) }
 {
     let key = String::from_str(alloc, name)?;
     let value = write_term(alloc, term, context)?;
