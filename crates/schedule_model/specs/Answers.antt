@@ -1,4 +1,5 @@
 -- What an answer that tells of a dot promises: the operation of that dot is remembered by its clone.
+-- The laws of `answers_survive` and `Promises` are made of it.
 use Rattle.std.specs.Prelude.{◌≡◌, ℕ, List, ◌∷◌, ◌++◌}
 use Rattle.tree_clock.specs.declared.dots.Dot.{Dot}
 use Rattle.tree_clock.specs.declared.dots.Range.{Range}

@@ -1,4 +1,5 @@
 -- What a crash line does: the device of its clone is armed to crash at a call, and its command is done.
+-- The laws of `crash_lines` and `Step` are made of it.
 use Rattle.std.specs.Prelude.{◌≡◌, ℕ, ◌+◌, ◌<◌, ◌≤◌, List, Bool}
 use Rattle.schedule_model.specs.declared.Command.{Command}
 use Rattle.schedule_model.specs.declared.CrashTask.{CrashTask}

@@ -1,4 +1,4 @@
--- The durable steps of a command, on the device of its clone: of a crash line those that stand.
+-- The durable steps of a command, on the device of its clone: of a crash line those that stand. `durable_steps_lead` cites it.
 use Rattle.std.specs.Prelude.{◌≡◌, ◌≢◌, ℕ, List, length, Bool}
 use Rattle.schedule_model.specs.declared.Command.{Command}
 use Rattle.schedule_model.specs.declared.Command.TheVariants.{Crash}

@@ -1,4 +1,4 @@
--- Texts that lack a byte.
+-- Texts that lack a byte. The readers of the words in a line cite it.
 use Rattle.std.specs.Prelude.{◌≢◌, ℕ, List, [], ◌∷◌}
 
 -- the text has no such byte

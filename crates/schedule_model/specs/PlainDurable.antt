@@ -1,4 +1,4 @@
--- The durable steps of a plain command, on the device of its clone.
+-- The durable steps of a plain command, on the device of its clone. `DurableSteps` is made of it.
 use Rattle.std.specs.Prelude.{◌≡◌, ◌≢◌, ℕ, List, [], ◌∷◌, map, Some, MatchOption}
 use Rattle.tree_clock.specs.declared.dots.Range.{Range}
 use Rattle.mld_ops.specs.History.{Operation}

@@ -1,4 +1,4 @@
--- One step of the world by a plain command: any but a crash line.
+-- One step of the world by a plain command: any but a crash line. The laws of `crash_lines` and `Step` are made of it.
 use Rattle.std.specs.Prelude.{MatchOption}
 use Rattle.schedule_model.specs.declared.Command.{Command}
 use Rattle.schedule_model.specs.declared.Command.TheVariants.{Add, Remove, Update, Deliver, Show, Query, Compare, Join, Ask, Compact, Truncate, Stop, Open, Crash}

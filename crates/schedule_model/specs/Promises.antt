@@ -1,4 +1,5 @@
 -- What is promised of the world that the lines of a schedule lead to.
+-- The law of `promises_kept` is made of it, and what the runs of a schedule promise.
 use Rattle.std.specs.Prelude.{◌≡◌, ◌≢◌, ℕ, List}
 use Rattle.tree_clock.specs.declared.dots.Dot.{Dot}
 use Rattle.tree_clock.specs.declared.dots.Range.{Range}

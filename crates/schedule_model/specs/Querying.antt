@@ -1,4 +1,5 @@
 -- What a clone answers to a query: rows or subjects as JSON, over the triples that are present for it.
+-- `PlainStep` is made of it, and the step of a shell.
 use Rattle.std.specs.Prelude.{◌≡◌, ℕ, ◌<◌, ◌≤◌, List, length}
 use Rattle.rdf_terms.specs.declared.terms.Triple.{Triple}
 use Rattle.mld_ops.specs.declared.tagged.Tagged.{Tagged}

@@ -1,4 +1,4 @@
--- The text of replies: lines that end with LF.
+-- The text of replies: lines that end with LF. `push_reply` cites it, and the other writers of replies.
 use Rattle.std.specs.Prelude.{ℕ, List, [], ◌∷◌, ◌++◌, codes, length}
 use Rattle.std.specs.List.{flat_map}
 use Rattle.std.specs.Fmt.{decimal}

@@ -1,4 +1,4 @@
--- Runs of the model over lines, and the verdict on the lines of a schedule.
+-- Runs of the model over lines, and the verdict on the lines of a schedule. `run_replay` and `run_generated` cite it.
 use Rattle.std.specs.Prelude.{◌≡◌, ℕ, ◌+◌, List, [], ◌∷◌, ◌++◌, Bool, false, length}
 use Rattle.schedule_model.specs.declared.Command.{Command}
 use Rattle.mld_model.specs.World.{World, founded}

@@ -1,4 +1,4 @@
--- The grammar of a schedule's lines, as bytes without their LF.
+-- The grammar of a schedule's lines, as bytes without their LF. `World::found` cites it, and what a line is read as is made of it.
 use Rattle.std.specs.Prelude.{◌≡◌, ℕ, ◌^◌, ◌<◌, ◌≤◌, List, [], ◌∷◌, ◌++◌, length, IsTrue, codes, Ok}
 use Rattle.std.specs.Str.{IsUtf8}
 use Rattle.std.specs.Fmt.{decimal}

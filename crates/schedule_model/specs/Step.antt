@@ -1,4 +1,4 @@
--- One step of the world: a command, its reply, and the world after it.
+-- One step of the world: a command, its reply, and the world after it. `World::step` cites it, and the law of `one_step` is made of it.
 use Rattle.std.specs.Prelude.{ℕ, ◌<◌, List, Bool}
 use Rattle.jrql_ast.specs.InForm.{IsQueryInForm, IsPlanInForm}
 use Rattle.schedule_model.specs.declared.Command.{Command}

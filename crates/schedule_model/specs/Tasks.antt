@@ -1,4 +1,4 @@
--- The command of a crash line.
+-- The command of a crash line. The laws of `crash_lines` and `Step` are made of it.
 use Rattle.std.specs.Prelude.{ℕ}
 use Rattle.schedule_model.specs.declared.Command.{Command}
 use Rattle.schedule_model.specs.declared.Command.TheVariants.{Add, Remove, Update, Deliver, Compact, Truncate, Open, Crash}

@@ -1,5 +1,5 @@
 -- What a clone does that is told to update: by the effect of a plan on the triples that are present for it, at the dot of its next
--- operation (SPARQL 1.1 Update, section 3.1.3).
+-- operation (SPARQL 1.1 Update, section 3.1.3). `PlainStep` is made of it.
 use Rattle.std.specs.Prelude.{◌≡◌, ℕ, List}
 use Rattle.rdf_terms.specs.declared.terms.Triple.{Triple}
 use Rattle.mld_ops.specs.declared.tagged.Tagged.{Tagged}

@@ -1,4 +1,4 @@
--- What a step of a running world has to do with the model.
+-- What a step of a running world has to do with the model. `World::step` cites it.
 use Rattle.std.specs.Prelude.{◌≡◌, ℕ, ◌+◌, List, [], ◌∷◌, ◌++◌, Option, slice_set}
 use Rattle.mld_ops.specs.Entry.{EntryValue}
 use Rattle.mld_ops.specs.Messages.{MessageValue, CarriesEntry}
