@@ -1,5 +1,5 @@
 -- The model of a clone: its path and the dots that it knows, by its base and its journal. It has no content: the
--- history says what the dots mean.
+-- history says what the dots mean. Worlds and their steps are made of it.
 use Rattle.std.specs.Prelude.{◌≡◌, ℕ, ◌-◌, List, [], ◌∷◌, ◌++◌, ◌⊎◌, Option, Some, None, length, take, drop}
 use Rattle.tree_clock.specs.declared.dots.Dot.{Dot}
 use Rattle.tree_clock.specs.declared.dots.Range.{Range}

@@ -1,4 +1,5 @@
 -- What a clone of a world does, and what comes to it: each with its reply and the world after it, whatever line asks for it.
+-- `LocalStep` is made of it, and the step by each line of a schedule.
 use Rattle.std.specs.Prelude.{◌≡◌, ◌≢◌, ℕ, ◌+◌, ◌<◌, ◌≤◌, List, [], ◌∷◌, ◌++◌, ◌↔◌, length, map}
 use Rattle.std.specs.List.{range_with_len}
 use Rattle.tree_clock.specs.Limits.{path_limit}

@@ -1,4 +1,4 @@
--- How two compare that may each be within the other, as sets of dots and clocks are; a reply says it.
+-- How two compare that may each be within the other, as sets of dots and clocks are; a reply says it. `MldClone::compare` cites it.
 use Rattle.std.specs.Prelude.{ℕ, List}
 use Rattle.tree_clock.specs.declared.dots.Dot.{Dot}
 use Rattle.tree_clock.specs.Clock.{Covers}

@@ -1,4 +1,5 @@
 -- What a crash at a call of the device leaves of durable steps, and of the world. Calls that write or sync are counted, from 0; reads aren't.
+-- The step by a crash line is made of it.
 use Rattle.std.specs.Prelude.{ℕ, ◌+◌, ◌-◌, List, [], ◌∷◌, Bool, ◌&&◌, nat_le, if◌then◌else◌, Option, Some, None}
 use Rattle.mld_model.specs.Clone.{Clone, Empty, Down, Stored, kept_of}
 use Rattle.mld_model.specs.World.{World, clone_at, with_clone}

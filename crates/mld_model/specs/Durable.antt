@@ -1,4 +1,5 @@
 -- What a clone keeps on its device, and the durable steps that change it. A crash leaves a front of a list of them (`CrashFronts.antt`).
+-- `FoundingSteps` is made of it, and the durable steps of each line of a schedule.
 use Rattle.std.specs.Prelude.{List, [], ◌∷◌, Option, Some, None}
 use Rattle.tree_clock.specs.declared.dots.Range.{Range}
 use Rattle.mld_ops.specs.History.{Operation}

@@ -1,4 +1,4 @@
--- The durable steps by which the clones of a founded world are made, each at its clone.
+-- The durable steps by which the clones of a founded world are made, each at its clone. `founding_steps_lead` cites it.
 use Rattle.std.specs.Prelude.{◌≡◌, ℕ, zero, suc, ◌-◌, ◌<◌, ◌≤◌, List, [], ◌∷◌, ◌++◌, replicate, nat_eq, if◌then◌else◌, Option, Some, None}
 use Rattle.tree_clock.specs.Path.{zero_letter, one_letter}
 use Rattle.mld_model.specs.Clone.{Stored, kept_of}

@@ -1,4 +1,5 @@
 -- The steps of one clone alone, whatever world it is in, and that each is a step of the model's clone that it stands for.
+-- `local_steps_follow` cites it.
 use Rattle.std.specs.Prelude.{◌≡◌, ◌≢◌, ℕ, ◌+◌, ◌≤◌, List, [], ◌∷◌, ◌++◌, length, map}
 use Rattle.std.specs.List.{AllZip, range_with_len}
 use Rattle.tree_clock.specs.Limits.{path_limit}

@@ -1,4 +1,4 @@
--- The replies of a step.
+-- The replies of a step. The writers of replies cite it, and each step with its reply is made of it.
 use Rattle.std.specs.Prelude.{ℕ, List}
 use Rattle.tree_clock.specs.declared.dots.Dot.{Dot}
 use Rattle.tree_clock.specs.declared.dots.Range.{Range}

@@ -1,4 +1,4 @@
--- What every world that a schedule reaches keeps.
+-- What every world that a schedule reaches keeps. The laws of `sound_worlds` are made of it.
 use Rattle.std.specs.Prelude.{◌≡◌, ◌≢◌, ℕ, ◌<◌, ◌≤◌, List, [], ◌∷◌, ◌++◌, length, slice_get, Some, MatchOption}
 use Rattle.tree_clock.specs.declared.dots.Dot.{Dot}
 use Rattle.tree_clock.specs.declared.dots.Range.{Range}

@@ -1,5 +1,5 @@
 -- What a running world stands for in the model. The running world has content and clocks where the model has sets of
--- dots and one history.
+-- dots and one history. What `World::step` says of the model is made of it.
 use Rattle.std.specs.Prelude.{◌≡◌, ℕ, ◌≤◌, List, [], ◌↔◌, map, nat_lt, if◌then◌else◌, slice_get, Some, length}
 use Rattle.std.specs.Int.{to_be_bytes, w128}
 use Rattle.std.specs.List.{range_with_len}

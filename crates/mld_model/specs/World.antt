@@ -1,4 +1,5 @@
 -- The model of a world: one history, its clones, and every message ever sent.
+-- `World::found`, `World::into_banks`, `run_replay` and `run_generated` cite it.
 use Rattle.std.specs.Prelude.{ℕ, zero, suc, ◌-◌, List, [], ◌∷◌, ◌++◌, Option, None, slice_get, slice_index_or, slice_set, replicate, map, nat_lt, if◌then◌else◌}
 use Rattle.std.specs.List.{range_with_len}
 use Rattle.tree_clock.specs.Path.{zero_letter, one_letter}
