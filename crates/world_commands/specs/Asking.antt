@@ -1,4 +1,4 @@
--- How a clone asks for a leaf.
+-- How a clone asks for a leaf. `send_question` cites it.
 use Rattle.std.specs.Prelude.{◌≡◌, ℕ, ◌+◌, List, [], ◌∷◌, ◌++◌, length}
 use Rattle.mld_ops.specs.Messages.{MessageValue, message_value}
 use Rattle.mld_ops.specs.declared.messages.Message.{Message}

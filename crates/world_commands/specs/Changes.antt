@@ -1,4 +1,4 @@
--- What a live clone does that is told to update, by its reply.
+-- What a live clone does that is told to update, by its reply. The private calls behind `update` cite it.
 use Rattle.std.specs.Prelude.{◌≡◌, ◌+◌, List, [], ◌∷◌, ◌++◌, length}
 use Rattle.jrql_ast.specs.declared.plans.UpdatePlan.{UpdatePlan}
 use Rattle.mld_ops.specs.Entry.{EntryValue}

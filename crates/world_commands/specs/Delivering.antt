@@ -1,4 +1,4 @@
--- What a clone does with a message that comes to it, by what it answers.
+-- What a clone does with a message that comes to it, by what it answers. The private calls behind `deliver` cite it.
 use Rattle.std.specs.Prelude.{◌≡◌, ◌≢◌, ℕ, ◌+◌, ◌-◌, ◌^◌, List, ◌++◌, None, length, map, Result, Ok, Err}
 use Rattle.mld_ops.specs.Messages.{MessageValue, give_value, message_value, IsGoodMessage}
 use Rattle.mld_ops.specs.declared.messages.Give.{Give}

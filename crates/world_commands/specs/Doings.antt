@@ -1,4 +1,4 @@
--- What a clone may do on its banks for each command.
+-- What a clone may do on its banks for each command. The commands cite it, beside `LeftBanks`.
 use Rattle.std.specs.Prelude.{◌≡◌, ◌⊎◌, ℕ, ◌<◌, ◌≤◌, List, [], ◌∷◌, None, Some, length}
 use Rattle.tree_clock.specs.Clock.{RaisesTo}
 use Rattle.jrql_ast.specs.declared.plans.UpdatePlan.{UpdatePlan}

@@ -1,4 +1,4 @@
--- What a live clone keeps of its journal, by the command and the reply.
+-- What a live clone keeps of its journal, by the command and the reply. `keep` cites it.
 use Rattle.std.specs.Prelude.{◌≡◌, ℕ, length}
 use Rattle.schedule_model.specs.declared.Command.{Command}
 use Rattle.schedule_model.specs.declared.Command.TheVariants as commands

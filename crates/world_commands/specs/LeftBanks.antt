@@ -1,5 +1,5 @@
 -- What a command leaves of the banks of its clone, whatever it answers: what a crash leaves of them at each moment, and how far the arm let the
--- calls of their device be done.
+-- calls of their device be done. The commands cite it: `add`, `remove`, `update`, `deliver`, `ask`, `join`, `keep`, `stop` and `open`.
 use Rattle.std.specs.Prelude.{◌≡◌, ℕ, List, [], ◌∷◌, Option, Some, Result, Err}
 use Rattle.mld_io.specs.Arm.{Meter, Caught, LowersAtMost, LowersBy}
 use Rattle.mld_io.specs.Disk.{Log}

@@ -1,4 +1,4 @@
--- What one call of one clone makes of the clones and their banks.
+-- What one call of one clone makes of the clones and their banks. The private calls behind the commands cite it.
 use Rattle.std.specs.Prelude.{◌≡◌, ◌+◌, ◌≤◌, ℕ, List, None, Some, Result, Ok, Err, slice_get, slice_set}
 use Rattle.mld_io.specs.Arm.{Meter}
 use Rattle.mld_model.specs.declared.CloneState.TheVariants as states

@@ -1,4 +1,4 @@
--- How a clone that is down runs again.
+-- How a clone that is down runs again. The private calls behind `open` cite it.
 use Rattle.std.specs.Prelude.{◌≡◌, ◌≢◌, ℕ, List, Option, Some, Result, Ok, Err}
 use Rattle.mld_io.specs.Disk.{Log, seen}
 use Rattle.mld_io.specs.declared.banks.Side.{Side}

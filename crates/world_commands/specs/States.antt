@@ -1,4 +1,4 @@
--- The states of a world's clones.
+-- The states of a world's clones. `take_state` and `new_asker` cite it.
 use Rattle.std.specs.Prelude.{◌≡◌, ℕ, List, slice_get, slice_set, Some}
 use Rattle.mld_model.specs.Reply.{Reply, IsAbsent, IsAsking, IsDown, IsLive}
 use Rattle.mld_model.specs.Local.{LocalAsker}

@@ -1,4 +1,4 @@
--- How a clone stops.
+-- How a clone stops. The private calls behind `stop` cite it.
 use Rattle.std.specs.Prelude.{◌≡◌, ℕ, List, Option, Some, None}
 use Rattle.mld_io.specs.Disk.{Log}
 use Rattle.mld_model.specs.declared.CloneState.TheVariants as states

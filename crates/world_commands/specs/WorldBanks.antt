@@ -1,4 +1,4 @@
--- A running world on banks: what it has in memory, and what the banks of its clones keep.
+-- A running world on banks: what it has in memory, and what the banks of its clones keep. `stop` and `stop_all` cite it, and the calls of `World`.
 use Rattle.std.specs.Prelude.{◌≡◌, ◌≢◌, ◌+◌, ◌≤◌, ◌⊎◌, ℕ, List, [], Option, Some, None, MatchOption, Result, Ok, Err, map, length, slice_get}
 use Rattle.mld_io.specs.Arm.{Meter, Unarmed, Caught}
 use Rattle.mld_io.specs.Disk.{Log}

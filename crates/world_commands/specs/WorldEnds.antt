@@ -1,4 +1,4 @@
--- The end of a world: its clones stop, and their banks keep them.
+-- The end of a world: its clones stop, and their banks keep them. `stop_all` cites it.
 use Rattle.std.specs.Prelude.{◌≡◌, List, Option, Some, None}
 use Rattle.mld_io.specs.Disk.{Log}
 use Rattle.journal_store.specs.Standing.{IsBlankLog}

@@ -1,4 +1,4 @@
--- The faults of a world, after those of the banks of its clones.
+-- The faults of a world, after those of the banks of its clones. `made_fault` cites it.
 use Rattle.std.specs.Prelude.{ℕ}
 use Rattle.journal_store.specs.declared.faults.MakeFault.{MakeFault}
 use Rattle.journal_store.specs.declared.faults.MakeFault.TheVariants as make

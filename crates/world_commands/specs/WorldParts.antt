@@ -1,4 +1,4 @@
--- What a command makes of the parts of a running world.
+-- What a command makes of the parts of a running world. Each command cites it.
 use Rattle.std.specs.Prelude.{◌≡◌, ℕ, ◌+◌, ◌<◌, Result, map, length, Option}
 use Rattle.mld_io.specs.Arm.{Meter}
 use Rattle.mld_io.specs.Disk.{Log}

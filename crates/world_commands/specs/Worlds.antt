@@ -1,4 +1,4 @@
--- What a running world's step has to do with the model.
+-- What a running world's step has to do with the model. `World::found` and `World::step` cite it.
 use Rattle.std.specs.Prelude.{◌≡◌, List, ℕ, ◌++◌, Option}
 use Rattle.mld_io.specs.Disk.{Log}
 use Rattle.mld_model.specs.World.{World}
