@@ -1,4 +1,4 @@
--- What becomes of a session that does a line, and of its banks.
+-- What becomes of a session that does a line, and of its banks. `Session::line` and `do_live` cite it, and the calls of a node.
 use Rattle.std.specs.Prelude.{◌≡◌, ◌≢◌, ◌⊎◌, ℕ, ◌≤◌, List, [], ◌++◌, Option, Some, Result, Ok, Err, IsTrue}
 use Rattle.mld_io.specs.Arm.{Meter, Unarmed}
 use Rattle.mld_io.specs.Disk.{Log, Sides, LeavesOnly, LeavesMeanwhile}

@@ -1,4 +1,4 @@
--- What a live clone does that stays live.
+-- What a live clone does that stays live. `do_live` cites it.
 use Rattle.std.specs.Prelude.{◌≡◌, ◌⊎◌, ℕ, List, [], ◌++◌, Option, None}
 use Rattle.mld_io.specs.Arm.{Meter}
 use Rattle.mld_io.specs.Disk.{Log}

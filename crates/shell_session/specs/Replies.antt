@@ -1,4 +1,4 @@
--- What a reply is in the model.
+-- What a reply is in the model. The private calls that write replies cite it.
 use Rattle.schedule_replies.specs.Replies.{reply_value}
 use Rattle.shell_model.specs.ShellReply as model
 use Rattle.shell_session.specs.declared.replies.ShellReply.{ShellReply}

@@ -1,4 +1,4 @@
--- Which shell of the model a session stands for.
+-- Which shell of the model a session stands for. `Session::line` and `Session::into_banks` cite it.
 use Rattle.std.specs.Prelude.{◌≡◌, ℕ, List, Option, None, Some}
 use Rattle.mld_io.specs.Disk.{Log, seen}
 use Rattle.journal_sides.specs.Pairs.{read_banks}

@@ -1,4 +1,4 @@
--- What becomes of banks that are not mounted.
+-- What becomes of banks that are not mounted. The private calls behind `Session::line` cite it.
 use Rattle.std.specs.Prelude.{◌≡◌, ℕ, List, ◌++◌}
 use Rattle.mld_io.specs.declared.banks.Side.{Side}
 use Rattle.journal_store.specs.declared.faults.MountFault.{MountFault}
