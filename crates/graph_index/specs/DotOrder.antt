@@ -1,4 +1,4 @@
--- The order of pairs by dot, and its laws.
+-- The order of pairs by dot, and its laws. The private calls that keep pairs in this order cite it.
 use Rattle.std.proofs.Common.{◌≡◌, [], ap, sym}
 use Rattle.std.proofs.lemmas.Cmp.{then_total, on_total}
 use Rattle.std.proofs.lemmas.Map.Lookups.{CmpEqualImpliesEq, exact_pairs}

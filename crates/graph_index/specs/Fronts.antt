@@ -1,4 +1,5 @@
 -- How triples stand to the parts of one that are given from its front: a subject, a predicate with it, and an object with both.
+-- The private calls that find the pairs of such parts cite it.
 use Rattle.std.specs.Prelude.{ℕ, List, Option, None, Some}
 use Rattle.std.specs.Ordering.{ordering_then}
 use Rattle.std.specs.declared.cmp.Ordering.{Ordering}

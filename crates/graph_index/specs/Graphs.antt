@@ -1,4 +1,4 @@
--- What contracts see of a graph, and when a cut fits into it.
+-- What contracts see of a graph, and when a cut fits into it. `Graph::prepare` and `Graph::apply` cite it.
 use Rattle.std.specs.Prelude.{ℕ, ◌≤◌, List, vec_len}
 use Rattle.mld_ops.specs.declared.cuts.Cut.{Cut}
 use Rattle.mld_ops.specs.declared.tagged.Tagged.{Tagged}

@@ -1,4 +1,4 @@
--- What a graph keeps: its pairs, and the same pairs by dot.
+-- What a graph keeps: its pairs, and the same pairs by dot. The invariant of `Graph` cites it.
 use Rattle.std.specs.Prelude.{ℕ, ◌≤◌, List, Option, None, Some, ◌↔◌, vec_len}
 use Rattle.tree_clock.specs.Lists.{Has, IsAscending}
 use Rattle.mld_ops.specs.declared.tagged.Tagged.{Tagged}

@@ -1,4 +1,5 @@
 -- Which pairs match, by the parts of their triples, and which have a triple.
+-- `Graph::scan`, `Graph::of_triple`, `Graph::tags_of` and `Graph::has_triple` cite it.
 use Rattle.std.specs.Prelude.{ℕ, List, [], ◌∷◌, ◌↔◌, Bool, true, ◌&&◌, IsTrue, nat_eq, nat_le, Option, None, Some, map}
 use Rattle.std.specs.Cmp.Lexicographic.{pointwise}
 use Rattle.std.specs.List.{filter}

@@ -1,4 +1,5 @@
 -- Where the texts of two subjects differ, with their closing marks, they decide how triples compare, and so pairs.
+-- The private orders of pairs name its laws.
 use Rattle.std.specs.Prelude.{◌≡◌, ℕ, List, Option}
 use Rattle.std.proofs.Common.{sym}
 use Rattle.std.specs.Cmp.Lexicographic.{slice_cmp}
