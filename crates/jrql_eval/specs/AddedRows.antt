@@ -1,4 +1,4 @@
--- What becomes of a list of rows to which those of a list are added, and how many there may be.
+-- What becomes of a list of rows to which those of a list are added, and how many there may be. The private calls behind `solutions` cite it.
 use Rattle.std.specs.Prelude.{◌≡◌, ◌+◌, ◌<◌, ◌≤◌, List, ◌++◌, Option, Result, Ok, Err, Vec, length}
 use Rattle.std.specs.List.{filter}
 use Rattle.std.specs.List.Sorted.{IsPermutation}

@@ -1,4 +1,4 @@
--- What is asked of the rows of a query's group, in whatever order they are.
+-- What is asked of the rows of a query's group, in whatever order they are. `select` and `describe` cite it.
 use Rattle.std.specs.Prelude.{◌≡◌, ℕ, List, [], ◌∷◌, Option, map, drop}
 use Rattle.std.specs.Cmp.Lexicographic.{slice_cmp}
 use Rattle.std.specs.List.{filter, filter_map, flat_map, list_any}

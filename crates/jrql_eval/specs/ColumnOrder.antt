@@ -1,4 +1,4 @@
--- The columns of names and so many hidden variables.
+-- The columns of names and so many hidden variables. A private call behind `solutions` cites it.
 use Rattle.std.specs.Prelude.{◌≡◌, ℕ, List, [], ◌++◌, length}
 use Rattle.std.specs.Cmp.Lexicographic.{slice_cmp}
 use Rattle.std.specs.List.{range_with_len, slice_index_or}

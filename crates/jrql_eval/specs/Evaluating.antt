@@ -1,4 +1,5 @@
 -- How the solutions of a group are found: patterns in the order of a plan, and what is known of their places.
+-- The private calls that match patterns cite it.
 use Rattle.std.specs.Prelude.{◌≡◌, ℕ, List, [], ◌∷◌, ◌++◌, Bool, true, false, ◌&&◌, Option, None, Some, map}
 use Rattle.std.specs.List.{filter, list_all, All}
 use Rattle.rdf_terms.specs.declared.terms.Term.{Term}

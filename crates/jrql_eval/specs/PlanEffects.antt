@@ -1,5 +1,6 @@
 -- The effect of an update (SPARQL 1.1 Update, section 3.1.3, for what DELETE, INSERT and WHERE mean; SU-Set, for which pairs a deleted triple
 -- has): its patterns are matched on the triples that are present before, and each solution makes triples to delete and to insert.
+-- `effect` and `one_effect` cite it.
 use Rattle.std.specs.Prelude.{◌≡◌, ℕ, ◌<◌, ◌≤◌, List, ◌↔◌, Option, length}
 use Rattle.rdf_terms.specs.declared.terms.Term.{Term}
 use Rattle.rdf_terms.specs.declared.terms.Triple.{Triple}

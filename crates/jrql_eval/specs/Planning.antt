@@ -1,4 +1,4 @@
--- Which places are bound behind the patterns of a plan: that doesn't depend on the graph.
+-- Which places are bound behind the patterns of a plan: that doesn't depend on the graph. The private calls that plan the order of patterns cite it.
 use Rattle.std.specs.Borrow.{Bor}
 use Rattle.std.specs.Prelude.{◌≡◌, ℕ, ◌<◌, not, List, [], ◌∷◌, ◌++◌, Bool, true, false, ◌&&◌, None, length, map, replicate, IsTrue}
 use Rattle.std.specs.List.{All, filter, remove, slice_index_or, slice_set}
