@@ -1,4 +1,4 @@
--- What a bank in memory is, and what each call leaves of it.
+-- What a bank in memory is, and what each call leaves of it. The calls of `MemoryBanks` cite it.
 use Rattle.std.specs.Prelude.{◌≡◌, ◌⊎◌, ℕ, List, [], Result, Ok, Err, ⊤}
 use Rattle.mld_io.specs.declared.banks.Side.{Side}
 use Rattle.mld_io.specs.declared.banks.Leave.TheVariants.{Keep}

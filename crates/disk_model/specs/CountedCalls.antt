@@ -1,4 +1,4 @@
--- Which calls of a bank in memory fail.
+-- Which calls of a bank in memory fail. The private calls that count them cite it.
 use Rattle.std.specs.Prelude.{◌≡◌, ◌⊎◌, ℕ, ◌-◌, ◌≤◌, List, Result, Ok, Err, ⊤}
 use Rattle.std.specs.List.{Contains}
 use Rattle.mld_io.specs.declared.banks.Leave.{Leave}

@@ -1,5 +1,5 @@
 -- Writes that aren't synced, as a side keeps them: with what they covered, so that they can be taken back. The lists have the oldest
--- write first.
+-- write first. The private calls that take writes back cite it.
 use Rattle.std.specs.Prelude.{◌≡◌, ℕ, ◌+◌, ◌-◌, ◌≤◌, max, min, List, [], ◌∷◌, length, take, drop, ⊤}
 use Rattle.mld_io.specs.Disk.{written}
 use Rattle.disk_model.specs.SideSteps.{torn_piece}

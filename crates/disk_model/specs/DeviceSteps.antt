@@ -1,4 +1,4 @@
--- What a bank in memory remembers of its calls.
+-- What a bank in memory remembers of its calls. What `MemoryBanks` is for contracts is made of it.
 use Rattle.std.specs.Prelude.{ℕ, List}
 use Rattle.mld_io.specs.declared.banks.Side.{Side}
 use Rattle.mld_io.specs.declared.banks.Leave.{Leave}

@@ -1,4 +1,4 @@
--- How a side keeps its bytes.
+-- How a side keeps its bytes. A private invariant cites it.
 use Rattle.std.specs.Prelude.{◌≤◌, vec_len}
 use Rattle.disk_model.specs.declared.sides.SideBytes.TheInside.{Inside}
 use Rattle.disk_model.specs.Covered.{AreChained}

@@ -1,4 +1,4 @@
--- What the calls of a bank in memory lead to, and what each way to crash leaves.
+-- What the calls of a bank in memory lead to, and what each way to crash leaves. The calls of `MemoryBanks` cite it through `BankSteps`.
 use Rattle.std.specs.Prelude.{ℕ, ◌+◌, ◌-◌, ◌/◌, ◌≤◌, Bool, true, false, not, ◌&&◌, ◌||◌, cond, List, [], ◌∷◌, ◌++◌, length, take, replicate, ⊤}
 use Rattle.mld_io.specs.declared.banks.Side.{Side}
 use Rattle.mld_io.specs.declared.banks.Side.TheVariants.{A, B}

@@ -1,5 +1,5 @@
--- The bytes of each side of a bank in memory.
-use Rattle.std.specs.Prelude.{◌≡◌, ℕ, Bool, List, ◌++◌}
+-- The bytes of each side of a bank in memory. The private calls on a side cite it, and on both.
+use Rattle.std.specs.Prelude.{◌≡◌, ℕ, Bool, false, List, ◌++◌}
 use Rattle.mld_io.specs.declared.banks.Side.{Side}
 use Rattle.mld_io.specs.declared.banks.Side.TheVariants.{A, B}
 use Rattle.mld_io.specs.declared.banks.Leave.{Leave}
@@ -13,6 +13,10 @@ pub record SideValue : Type 0 where
   pub lost : List ℕ
   pub torn : List ℕ
   pub unsynced : Bool
+
+-- a side that has these bytes in each of these ways, since no write on it is left to be synced
+abbrev pub durable : List ℕ → SideValue
+durable bytes = record { seen = bytes; lost = bytes; torn = bytes; unsynced = false }
 
 -- both sides
 pub record SidesValue : Type 0 where

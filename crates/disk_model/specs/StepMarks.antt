@@ -1,4 +1,5 @@
 -- How steps are kept: a mark for each, or one for a write with the sync behind it, the oldest first, and the pieces of all writes behind each other.
+-- Private calls cite it.
 use Rattle.std.specs.Prelude.{ℕ, ◌+◌, List, [], ◌∷◌, take, drop}
 use Rattle.disk_model.specs.DeviceSteps.{DeviceStep}
 use Rattle.disk_model.specs.DeviceSteps as step

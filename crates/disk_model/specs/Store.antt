@@ -1,4 +1,4 @@
--- What a bank in memory keeps.
+-- What a bank in memory keeps. What `MemoryBanks` is for contracts is made of it.
 use Rattle.std.specs.Prelude.{◌∷◌, ◌||◌, if◌then◌else◌, List}
 use Rattle.mld_io.specs.declared.banks.Side.{Side}
 use Rattle.mld_io.specs.declared.banks.Side.TheVariants.{A, B}

@@ -1,4 +1,4 @@
--- How a bank in memory keeps its sides.
+-- How a bank in memory keeps its sides. A private invariant cites it.
 use Rattle.std.specs.Prelude.{◌≡◌, ◌≤◌}
 use Rattle.mld_io.specs.declared.banks.Side.{Side}
 use Rattle.mld_io.specs.declared.banks.Side.TheVariants.{A, B}

@@ -1,4 +1,4 @@
--- How steps are kept.
+-- How steps are kept. A private invariant cites it.
 use Rattle.std.specs.Prelude.{◌≡◌, ◌≤◌, vec_len}
 use Rattle.disk_model.specs.StepMarks.{pieces_size}
 use Rattle.disk_model.specs.declared.steps.Trace.TheInside.{Inside}

@@ -55,7 +55,8 @@ impl MemoryBanks {
     /// Has the call of this number fail, where the first call since making has number 0. A call
     /// that answers want of memory has no number.
     pub fn fail_call(&mut self, call: u64) -> Result<(), AllocError>
-        ensures ok { OnOk result (self.new ≡ record self.old { calls = record self.old.calls { fails = self.old.calls.fails ++ call ∷ [] } }) }
+        ensures ok { OnOk result (self.new
+            ≡ record self.old { calls = record self.old.calls { fails = self.old.calls.fails ++ call ∷ [] } }) }
         ensures err { OnErr result (self.new ≡ self.old) }
     {
         self.calls.fail(call)
@@ -118,10 +119,12 @@ impl Banks for MemoryBanks {
     ghost meter = { λ m. meter_of m.calls };
 
     fn len(&mut self, side: Side) -> Result<u64, IoFault>
-        ensures length { (l : Log) → Some (memory_log self.old) ≡ Some l → IfOk result (λ n. n ≡ length (bytes_of side (seen l))) }
+        ensures length { (l : Log) → Some (memory_log self.old) ≡ Some l
+            → IfOk result (λ n. n ≡ length (bytes_of side (seen l))) }
         ensures log { Some (memory_log self.new) ≡ Some (memory_log self.old) }
         ensures no_memory { IsErrOf result IoFault.NoMemory → self.new ≡ self.old }
-        ensures meter { Metered 0 (meter_of self.old.calls) (meter_of self.new.calls) (IsOk result) (IsErrOf result IoFault.Failed) }
+        ensures meter { Metered 0 (meter_of self.old.calls) (meter_of self.new.calls) (IsOk result)
+            (IsErrOf result IoFault.Failed) }
         ensures stops { (meter_of self.old.calls).arm ≡ Caught → IsErrOf result IoFault.Failed }
         ensures moves { ReadMoves self.old result self.new }
     {
@@ -129,11 +132,14 @@ impl Banks for MemoryBanks {
     }
 
     fn read_at(&mut self, side: Side, at: u64, out: &mut [u8]) -> Result<(), IoFault>
-        requires { (l : Log) → Some (memory_log self.old) ≡ Some l → at + length out.old ≤ length (bytes_of side (seen l)) }
-        ensures bytes { (l : Log) → Some (memory_log self.old) ≡ Some l → OnOk result (out.new ≡ take (length out.old) (drop at (bytes_of side (seen l)))) }
+        requires { (l : Log) → Some (memory_log self.old) ≡ Some l
+            → at + length out.old ≤ length (bytes_of side (seen l)) }
+        ensures bytes { (l : Log) → Some (memory_log self.old) ≡ Some l
+            → OnOk result (out.new ≡ take (length out.old) (drop at (bytes_of side (seen l)))) }
         ensures log { Some (memory_log self.new) ≡ Some (memory_log self.old) }
         ensures no_memory { IsErrOf result IoFault.NoMemory → ⊥ }
-        ensures meter { Metered 0 (meter_of self.old.calls) (meter_of self.new.calls) (IsOk result) (IsErrOf result IoFault.Failed) }
+        ensures meter { Metered 0 (meter_of self.old.calls) (meter_of self.new.calls) (IsOk result)
+            (IsErrOf result IoFault.Failed) }
         ensures stops { (meter_of self.old.calls).arm ≡ Caught → IsErrOf result IoFault.Failed }
         ensures moves { ReadMoves self.old result self.new }
     {
@@ -143,11 +149,14 @@ impl Banks for MemoryBanks {
     fn write_at(&mut self, side: Side, at: u64, piece: &[u8]) -> Result<(), IoFault>
         requires { (l : Log) → Some (memory_log self.old) ≡ Some l → at ≤ length (bytes_of side (seen l)) }
         ensures small { OnOk result (at + length piece.now < 2 ^ 64) }
-        ensures done { (l : Log) → Some (memory_log self.old) ≡ Some l → OnOk result (Some (memory_log self.new) ≡ Some (grown (Wrote side at piece.now) l)) }
-        ensures failed { (l : Log) → Some (memory_log self.old) ≡ Some l → IsErrOf result IoFault.Failed → Writes side at piece.now l (Some (memory_log self.new)) }
+        ensures done { (l : Log) → Some (memory_log self.old) ≡ Some l
+            → OnOk result (Some (memory_log self.new) ≡ Some (grown (Wrote side at piece.now) l)) }
+        ensures failed { (l : Log) → Some (memory_log self.old) ≡ Some l → IsErrOf result IoFault.Failed
+            → Writes side at piece.now l (Some (memory_log self.new)) }
         ensures no_memory { IsErrOf result IoFault.NoMemory → self.new ≡ self.old }
         ensures untold { Some (memory_log self.old) ≡ None → Some (memory_log self.new) ≡ None }
-        ensures meter { Metered 1 (meter_of self.old.calls) (meter_of self.new.calls) (IsOk result) (IsErrOf result IoFault.Failed) }
+        ensures meter { Metered 1 (meter_of self.old.calls) (meter_of self.new.calls) (IsOk result)
+            (IsErrOf result IoFault.Failed) }
         ensures stops { (meter_of self.old.calls).arm ≡ Caught → IsErrOf result IoFault.Failed }
         ensures moves { WriteMoves side at piece.now self.old result self.new }
     {
@@ -155,11 +164,13 @@ impl Banks for MemoryBanks {
     }
 
     fn sync(&mut self, side: Side) -> Result<(), IoFault>
-        ensures done { (l : Log) → Some (memory_log self.old) ≡ Some l → OnOk result (Syncs side l (Some (memory_log self.new))) }
+        ensures done { (l : Log) → Some (memory_log self.old) ≡ Some l
+            → OnOk result (Syncs side l (Some (memory_log self.new))) }
         ensures failed { IsErrOf result IoFault.Failed → Some (memory_log self.new) ≡ Some (memory_log self.old) }
         ensures no_memory { IsErrOf result IoFault.NoMemory → ⊥ }
         ensures untold { Some (memory_log self.old) ≡ None → Some (memory_log self.new) ≡ None }
-        ensures meter { Metered 1 (meter_of self.old.calls) (meter_of self.new.calls) (IsOk result) (IsErrOf result IoFault.Failed) }
+        ensures meter { Metered 1 (meter_of self.old.calls) (meter_of self.new.calls) (IsOk result)
+            (IsErrOf result IoFault.Failed) }
         ensures stops { (meter_of self.old.calls).arm ≡ Caught → IsErrOf result IoFault.Failed }
         ensures moves { SyncMoves side self.old result self.new }
     {
@@ -184,8 +195,12 @@ impl CrashBanks for MemoryBanks {
     fn revive(&mut self)
         ensures cut { (l : Log) → Some (memory_log self.old) ≡ Some l → Revives l (Some (memory_log self.new)) }
         ensures meter { meter_of self.new.calls ≡ revived (meter_of self.old.calls) }
-        ensures leaves { seen (memory_log self.new) ≡ left_by (leave_of self.old.calls.arming) self.old.store.first self.old.store.steps }
-        ensures moves { self.new ≡ record self.old { store = cut (leave_of self.old.calls.arming) self.old.store; calls = revived_calls self.old.calls } }
+        ensures leaves { seen (memory_log self.new)
+            ≡ left_by (leave_of self.old.calls.arming) self.old.store.first self.old.store.steps }
+        ensures moves { self.new ≡ record self.old {
+          store = cut (leave_of self.old.calls.arming) self.old.store;
+          calls = revived_calls self.old.calls;
+        } }
     {
         self.store.cut(self.calls.leave());
         self.calls.revive();

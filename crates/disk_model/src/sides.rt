@@ -1,7 +1,7 @@
 //! The bytes of each side, and the writes on it that aren't synced.
 ghost use Rattle.std.specs.Prelude.{◌≡◌, ℕ, ◌+◌, ◌^◌, ◌<◌, ◌≤◌, true, false, [], not, ◌&&◌, ◌||◌, length, IfOk, OnOk, OnErr};
 ghost use Rattle.mld_io.specs.Disk.{bytes_of, with_bytes};
-ghost use Rattle.disk_model.specs.Sides.{SideValue, SidesValue, bytes_at, sides_at, is_unsynced};
+ghost use Rattle.disk_model.specs.Sides.{SideValue, SidesValue, durable, bytes_at, sides_at, is_unsynced};
 ghost use Rattle.disk_model.specs.SideSteps.{write_left, same_side};
 
 use crate::bytes::{grow, put};
@@ -38,7 +38,7 @@ impl Model for SideBytes {
 impl SideBytes {
     /// A side with no bytes, which takes no memory.
     pub fn blank(alloc: Global) -> SideBytes
-        ensures { result ≡ record { seen = []; lost = []; torn = []; unsynced = false } }
+        ensures { result ≡ durable [] }
     {
         SideBytes {
             alloc,
@@ -51,7 +51,7 @@ impl SideBytes {
 
     /// A side with these bytes, all of them durable.
     pub fn with_bytes(alloc: Global, bytes: &[u8]) -> Result<SideBytes, AllocError>
-        ensures { IfOk result (λ s. s ≡ record { seen = bytes.now; lost = bytes.now; torn = bytes.now; unsynced = false }) }
+        ensures { IfOk result (λ side. side ≡ durable bytes.now) }
     {
         Ok(SideBytes {
             alloc,
@@ -79,7 +79,8 @@ impl SideBytes {
     /// Writes the piece, so that a crash may lose, keep or tear it.
     pub fn write(&mut self, at: usize, piece: &[u8]) -> Result<(), AllocError>
         requires { at ≤ length self.old.seen }
-        ensures ok { OnOk result ((leave : Leave) → bytes_at leave self.new ≡ write_left leave at piece.now (bytes_at leave self.old)) }
+        ensures ok { OnOk result
+            ((leave : Leave) → bytes_at leave self.new ≡ write_left leave at piece.now (bytes_at leave self.old)) }
         ensures unsynced { OnOk result (self.new.unsynced ≡ true) }
         ensures err { OnErr result (self.new ≡ self.old) }
         ensures small { OnOk result (at + length piece.now < 2 ^ 64) }
@@ -99,7 +100,7 @@ impl SideBytes {
 
     /// Makes what reads give durable.
     pub fn sync(&mut self)
-        ensures { self.new ≡ record { seen = self.old.seen; lost = self.old.seen; torn = self.old.seen; unsynced = false } }
+        ensures { self.new ≡ durable self.old.seen }
     {
         self.writes.clear();
         self.unsynced = false;
@@ -107,7 +108,7 @@ impl SideBytes {
 
     /// Loses each unsynced write.
     pub fn lose(&mut self)
-        ensures { self.new ≡ record { seen = self.old.lost; lost = self.old.lost; torn = self.old.lost; unsynced = false } }
+        ensures { self.new ≡ durable self.old.lost }
     {
         self.size = take_back(&mut self.seen, self.size, &self.writes);
         self.writes.clear();
@@ -116,7 +117,7 @@ impl SideBytes {
 
     /// Tears each unsynced write.
     pub fn tear(&mut self)
-        ensures { self.new ≡ record { seen = self.old.torn; lost = self.old.torn; torn = self.old.torn; unsynced = false } }
+        ensures { self.new ≡ durable self.old.torn }
     {
         let _before = take_back(&mut self.seen, self.size, &self.writes);
         tear_again(&mut self.seen, self.size, &self.writes);
@@ -183,8 +184,11 @@ impl BothSides {
     /// Writes the piece on a side.
     pub fn write(&mut self, side: Side, at: usize, piece: &[u8]) -> Result<(), AllocError>
         requires { at ≤ length (bytes_of side (sides_at Leave.Keep self.old)) }
-        ensures ok { OnOk result ((leave : Leave) → sides_at leave self.new ≡ with_bytes side (write_left leave at piece.now (bytes_of side (sides_at leave self.old))) (sides_at leave self.old)) }
-        ensures unsynced { OnOk result ((each : Side) → is_unsynced each self.new ≡ (same_side side each || is_unsynced each self.old)) }
+        ensures ok { OnOk result ((leave : Leave) → sides_at leave self.new
+            ≡ with_bytes side (write_left leave at piece.now (bytes_of side (sides_at leave self.old)))
+            (sides_at leave self.old)) }
+        ensures unsynced { OnOk result
+            ((each : Side) → is_unsynced each self.new ≡ (same_side side each || is_unsynced each self.old)) }
         ensures err { OnErr result (self.new ≡ self.old) }
         ensures small { OnOk result (at + length piece.now < 2 ^ 64) }
     {
@@ -196,8 +200,10 @@ impl BothSides {
 
     /// Makes what reads give of a side durable.
     pub fn sync(&mut self, side: Side)
-        ensures kept { (leave : Leave) → sides_at leave self.new ≡ with_bytes side (bytes_of side (sides_at Leave.Keep self.old)) (sides_at leave self.old) }
-        ensures synced { (each : Side) → is_unsynced each self.new ≡ (not (same_side side each) && is_unsynced each self.old) }
+        ensures kept { (leave : Leave) → sides_at leave self.new
+            ≡ with_bytes side (bytes_of side (sides_at Leave.Keep self.old)) (sides_at leave self.old) }
+        ensures synced { (each : Side) → is_unsynced each self.new
+            ≡ (not (same_side side each) && is_unsynced each self.old) }
     {
         match side {
             Side::A => self.a.sync(),
