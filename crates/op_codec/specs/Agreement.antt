@@ -1,4 +1,4 @@
--- When the program's reading is the grammar's.
+-- When the program's reading is the grammar's. Each public reader cites it.
 use Rattle.std.specs.Prelude.{◌≡◌, ◌≤◌, ℕ, suc, Bool, List, Some, None, Result, Ok, Err, length, drop}
 use Rattle.op_codec.specs.declared.faults.CodecFault.{CodecFault}
 use Rattle.op_codec.specs.declared.faults.CodecFault.TheVariants.{NotInGrammar, NoMemory}

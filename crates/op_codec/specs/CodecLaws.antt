@@ -1,5 +1,5 @@
--- What a spelling and its reading are to each other.
-use Rattle.std.specs.Prelude.{◌≡◌, ℕ, ◌+◌, ◌<◌, List, ◌++◌, length, slice_index}
+-- What a spelling and its reading are to each other. The public readers cite it, and the laws of the crate, as `one_entry`.
+use Rattle.std.specs.Prelude.{◌≡◌, ℕ, ◌+◌, ◌<◌, List, ◌++◌, length, drop, slice_index}
 use Rattle.op_codec.specs.Reading.{Reading, Found, Fault}
 
 -- each is a byte
@@ -17,6 +17,10 @@ pub record IsWritten {X : Type 0} (IsValue : X → Type 0) (bytes_of : X → Lis
   pub value_is : IsValue value
   pub front : bytes ≡ bytes_of value ++ rest
   pub next_is : next ≡ place + length (bytes_of value)
+
+-- what is written for a value of the grammar stands in an input, from the first place up to the next
+abbrev pub IsWrittenIn : {X : Type 0} → (X → Type 0) → (X → List ℕ) → ℕ → List ℕ → X → ℕ → Type 0
+IsWrittenIn IsValue bytes_of place input value next = IsWritten IsValue bytes_of place (drop place input) value next (drop next input)
 
 -- what is read as a value is what is written for it, and nothing else is
 abbrev pub IsOneSpelling : {X : Type 0} → (X → Type 0) → (X → List ℕ) → (ℕ → List ℕ → Reading X) → Type 0

@@ -1,4 +1,5 @@
 -- How bytes are read from a place: a value, the place behind it and the bytes that are left, or the place of a fault.
+-- The grammars of the other files are made of it.
 use Rattle.std.specs.Prelude.{ℕ, ◌+◌, List, [], ◌∷◌, nat_le, length, take, drop, if◌then◌else◌}
 use Rattle.mld_bytes.specs.Bytes.{u32_number}
 

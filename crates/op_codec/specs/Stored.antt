@@ -1,4 +1,4 @@
--- The values that have a spelling in bytes.
+-- The values that have a spelling in bytes. Each public writer cites it.
 use Rattle.std.specs.Prelude.{◌≡◌, ℕ, ◌<◌, ◌≤◌, ◌^◌, List, All, length}
 use Rattle.std.specs.List.{AllByRecursion}
 use Rattle.std.specs.Str.{IsUtf8}

@@ -1,4 +1,4 @@
--- Lists as bytes: how many items, and the items, strictly ascending.
+-- Lists as bytes: how many items, and the items, strictly ascending. The grammars of lists are made of it.
 use Rattle.std.specs.Prelude.{ℕ, zero, suc, ◌-◌, Bool, true, List, [], ◌∷◌, ◌++◌, Option, Some, None, length, if◌then◌else◌}
 use Rattle.std.specs.List.{flat_map, slice_get}
 use Rattle.std.specs.Ordering.{is_lt}

@@ -4,7 +4,7 @@ ghost use Rattle.std.specs.List.{AllByRecursion, slice_get};
 ghost use Rattle.op_codec.specs.Agreement.{IsRead, IsRefused, TakesItem, MissesItem};
 ghost use Rattle.op_codec.specs.Clocks.{tick_bytes, read_any_tick, read_tick, dot_bytes, read_dot, read_ticks, last_path, clock_bytes, read_clock};
 ghost use Rattle.rdf_terms.specs.Kept.{KeepsStart};
-ghost use Rattle.op_codec.specs.CodecLaws.{IsWritten};
+ghost use Rattle.op_codec.specs.CodecLaws.{IsWrittenIn};
 ghost use Rattle.op_codec.specs.StoredLists.{is_above, is_above_one, list_bytes};
 ghost use Rattle.op_codec.specs.Stored.{IsShort, HasShape, HaveShape, IsStoredClock};
 ghost use Rattle.tree_clock.specs.Clock.{entry_cmp, IsClock};
@@ -177,7 +177,7 @@ pub fn read_clock(alloc: Global, input: &[u8], at: usize) -> Result<(Clock, usiz
     ensures agrees { MatchResult result
         (λ read. IsRead (read_clock at (drop at input.now)) input.now (read.0).ticks read.1)
         (IsRefused (read_clock at (drop at input.now))) }
-    ensures written { IfOk result (λ read. IsWritten IsStoredClock clock_bytes at (drop at input.now) (read.0).ticks read.1 (drop read.1 input.now)) }
+    ensures written { IfOk result (λ read. IsWrittenIn IsStoredClock clock_bytes at input.now (read.0).ticks read.1) }
 {
     let (count, mut place) = read_u32(input, at)?;
     let mut clock = Clock::empty(alloc);

@@ -4,7 +4,7 @@ ghost use Rattle.std.specs.List.{AllByRecursion};
 ghost use Rattle.op_codec.specs.Agreement.{IsRead, IsRefused, TakesItem, MissesItem};
 ghost use Rattle.op_codec.specs.Entries.{range_bytes, read_range, insert_bytes, read_insert, inserts_bytes, read_inserts, entry_bytes, read_entry};
 ghost use Rattle.rdf_terms.specs.Kept.{KeepsStart};
-ghost use Rattle.op_codec.specs.CodecLaws.{IsWritten};
+ghost use Rattle.op_codec.specs.CodecLaws.{IsWrittenIn};
 ghost use Rattle.op_codec.specs.StoredLists.{is_above};
 ghost use Rattle.op_codec.specs.Stored.{IsShortTriple, AreShortInserts, IsShortEntry, HasInsertShape, IsRange, IsStoredEntry};
 ghost use Rattle.mld_ops.specs.Tagged.{insert_cmp};
@@ -165,7 +165,7 @@ pub fn read_entry(alloc: Global, input: &[u8], at: usize) -> Result<(Entry, usiz
     ensures agrees { MatchResult result
         (λ read. IsRead (read_entry at (drop at input.now)) input.now read.0 read.1)
         (IsRefused (read_entry at (drop at input.now))) }
-    ensures written { IfOk result (λ read. IsWritten IsStoredEntry entry_bytes at (drop at input.now) read.0 read.1 (drop read.1 input.now)) }
+    ensures written { IfOk result (λ read. IsWrittenIn IsStoredEntry entry_bytes at input.now read.0 read.1) }
 {
     let (range, next) = read_range(input, at)?;
     let (time, next) = read_clock(alloc, input, next)?;

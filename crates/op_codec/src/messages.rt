@@ -2,7 +2,7 @@
 ghost use Rattle.std.specs.Prelude.{◌≡◌, ◌≤◌, ◌++◌, ◌∷◌, length, drop, OnOk, OnErr, IfOk, MatchResult};
 ghost use Rattle.op_codec.specs.Agreement.{IsRead, IsRefused};
 ghost use Rattle.rdf_terms.specs.Kept.{KeepsStart};
-ghost use Rattle.op_codec.specs.CodecLaws.{IsWritten};
+ghost use Rattle.op_codec.specs.CodecLaws.{IsWrittenIn};
 ghost use Rattle.op_codec.specs.MessageBytes.{id_size, snapshot_bytes, read_snapshot, give_bytes, read_give, message_bytes, read_carried, read_message};
 ghost use Rattle.op_codec.specs.Reading.{read_piece};
 ghost use Rattle.op_codec.specs.Stored.{IsShortSnapshot, IsShortMessage, IsMessage};
@@ -196,7 +196,8 @@ pub fn read_message(alloc: Global, input: &[u8], at: usize) -> Result<(Message, 
     ensures agrees { MatchResult result
         (λ read. IsRead (read_message at (drop at input.now)) input.now (message_value read.0) read.1)
         (IsRefused (read_message at (drop at input.now))) }
-    ensures written { IfOk result (λ read. IsWritten IsMessage message_bytes at (drop at input.now) (message_value read.0) read.1 (drop read.1 input.now)) }
+    ensures written { IfOk result
+        (λ read. IsWrittenIn IsMessage message_bytes at input.now (message_value read.0) read.1) }
 {
     let (kind, next) = read_u8(input, at)?;
     read_carried(alloc, input, at, kind, next)

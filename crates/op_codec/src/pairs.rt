@@ -3,7 +3,7 @@ ghost use Rattle.std.specs.Prelude.{◌≡◌, ◌≤◌, ◌++◌, ◌∷◌, [
 ghost use Rattle.std.specs.List.{AllByRecursion};
 ghost use Rattle.op_codec.specs.Agreement.{IsRead, IsRefused, TakesItem, MissesItem};
 ghost use Rattle.rdf_terms.specs.Kept.{KeepsStart};
-ghost use Rattle.op_codec.specs.CodecLaws.{IsWritten};
+ghost use Rattle.op_codec.specs.CodecLaws.{IsWrittenIn};
 ghost use Rattle.op_codec.specs.StoredLists.{is_above};
 ghost use Rattle.op_codec.specs.PairBytes.{cover_of, is_covered, fits_pairs, pair_bytes, read_pair, pairs_bytes, read_pairs};
 ghost use Rattle.op_codec.specs.Stored.{IsShortTriple, AreShortPairs, HasPairShape, ArePairs};
@@ -100,8 +100,10 @@ fn read_next(
 ) -> Result<usize, CodecFault>
     requires { place ≤ length input.now }
     ensures { MatchResult result
-        (TakesItem read_pair (fits_pairs (cover_of (λ clock. clock.now.ticks) cover.entry)) input.now pairs.old.items place pairs.new.items)
-        (MissesItem read_pair (fits_pairs (cover_of (λ clock. clock.now.ticks) cover.entry)) input.now pairs.old.items place) }
+        (TakesItem read_pair (fits_pairs (cover_of (λ clock. clock.now.ticks) cover.entry)) input.now pairs.old.items
+        place pairs.new.items)
+        (MissesItem read_pair (fits_pairs (cover_of (λ clock. clock.now.ticks) cover.entry)) input.now
+        pairs.old.items place) }
 {
     let (pair, next) = read_pair(alloc, input, place)?;
     if !fits_pairs(cover, pairs, &pair) {
@@ -121,7 +123,8 @@ pub(crate) fn read_pairs(
 ) -> Result<(Vec<Tagged>, usize), CodecFault>
     requires { at ≤ length input.now }
     ensures { MatchResult result
-        (λ read. IsRead (read_pairs (cover_of (λ clock. clock.now.ticks) cover.entry) at (drop at input.now)) input.now (read.0).items read.1)
+        (λ read. IsRead (read_pairs (cover_of (λ clock. clock.now.ticks) cover.entry) at (drop at input.now)) input.now
+        (read.0).items read.1)
         (IsRefused (read_pairs (cover_of (λ clock. clock.now.ticks) cover.entry) at (drop at input.now))) }
 {
     let (count, mut place) = read_u32(input, at)?;
@@ -144,7 +147,7 @@ pub fn read_tagged(
     ensures agrees { MatchResult result
         (λ read. IsRead (read_pairs None at (drop at input.now)) input.now (read.0).items read.1)
         (IsRefused (read_pairs None at (drop at input.now))) }
-    ensures written { IfOk result (λ read. IsWritten ArePairs pairs_bytes at (drop at input.now) (read.0).items read.1 (drop read.1 input.now)) }
+    ensures written { IfOk result (λ read. IsWrittenIn ArePairs pairs_bytes at input.now (read.0).items read.1) }
 {
     read_pairs(alloc, input, at, None)
 }

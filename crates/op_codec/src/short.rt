@@ -46,7 +46,8 @@ fn lexical_count(lexical: &[u8]) -> usize
 fn count_without_tag(triple: &Triple, literal: &Literal) -> usize
     requires within { IsTripleWithin triple.now }
     requires lexical { length (lexical_form literal.now) ≤ lexical_limit }
-    ensures count { result ≡ length triple.now.s + length triple.now.p + length (escaped (lexical_form literal.now)) + 11 }
+    ensures count { result
+        ≡ length triple.now.s + length triple.now.p + length (escaped (lexical_form literal.now)) + 11 }
     ensures bounded { result ≤ 2 ^ 32 }
 {
     let iris = triple.s.as_str().len() + triple.p.as_str().len();
