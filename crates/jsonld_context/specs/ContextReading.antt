@@ -153,6 +153,10 @@ fault_of_member vocabulary all key value =
     if is_base_key key || is_vocabulary_key key then fault_of_keyword key value
     else (if is_term_name key then fault_of_value vocabulary all key value else Some (faults.BadContext key))
 
+-- the first fault of all the members of a context, by its vocabulary, or by none where that isn't known
+abbrev pub fault_by_vocabulary : Option (List ℕ) → Members → Option JsonFault
+fault_by_vocabulary vocabulary all = first_fault (fault_of_member vocabulary all) all
+
 -- what a `@vocab` gives, where there is one: the default where there is none, and nothing where it is no string
 abbrev pub vocabulary_given : List ℕ → Option Data → Option (List ℕ)
 vocabulary_given domain None = Some (domain_vocabulary domain)
@@ -166,7 +170,7 @@ known_vocabulary domain all = vocabulary_given domain (get_member (codes "@vocab
 abbrev pub fault_of_members : List ℕ → Members → Option JsonFault
 fault_of_members domain all =
     if is_some (get_member (codes "@context") all) then Some (faults.BadContext (codes "@context"))
-    else first_fault (fault_of_member (known_vocabulary domain all) all) all
+    else fault_by_vocabulary (known_vocabulary domain all) all
 
 -- ---- the context
 

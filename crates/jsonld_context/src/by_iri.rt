@@ -28,7 +28,8 @@ pub(crate) struct FormsByIri {
 
 /// Sets the text of an IRI.
 fn set_text(alloc: Global, texts: &mut TextsByIri, iri: &str, text: Text) -> Result<(), AllocError>
-    ensures { OnOk result ((other : List ℕ) → get_by_text texts.new other ≡ (if is_same iri.now other then Some text else get_by_text texts.old other)) }
+    ensures { OnOk result ((other : List ℕ) → get_by_text texts.new other
+        ≡ (if is_same iri.now other then Some text else get_by_text texts.old other)) }
 {
     let key = String::from_str(alloc, iri)?;
     match texts.insert(key, text) {
@@ -49,7 +50,8 @@ fn is_lesser(texts: &TextsByIri, iri: &str, text: &str) -> bool
 
 /// Notes a term, unless one of its IRI is noted.
 fn note_term(alloc: Global, texts: &mut TextsByIri, term: &Definition) -> Result<(), AllocError>
-    ensures { OnOk result ((iri : List ℕ) → get_by_text texts.new iri ≡ option_or (get_by_text texts.old iri) (name_for iri term.now)) }
+    ensures { OnOk result
+        ((iri : List ℕ) → get_by_text texts.new iri ≡ option_or (get_by_text texts.old iri) (name_for iri term.now)) }
 {
     let iri = term.iri.as_str();
     if term.coercion.is_some() || texts.get(iri).is_some() {
@@ -60,7 +62,8 @@ fn note_term(alloc: Global, texts: &mut TextsByIri, term: &Definition) -> Result
 
 /// Notes a prefix with its colon, unless a lesser one of its IRI is noted.
 fn note_prefix(alloc: Global, texts: &mut TextsByIri, term: &Definition) -> Result<(), AllocError>
-    ensures { OnOk result ((front : List ℕ) → get_by_text texts.new front ≡ least_with (get_by_text texts.old front) (label_for front term.now)) }
+    ensures { OnOk result ((front : List ℕ) → get_by_text texts.new front
+        ≡ least_with (get_by_text texts.old front) (label_for front term.now)) }
 {
     if !term.is_prefix {
         return Ok(());

@@ -85,7 +85,8 @@ fn rest_behind<'a>(front: &str, text: &'a str) -> Option<&'a str>
 fn cut_behind(iri: &str, place: usize) -> Option<(&str, &str)>
     requires { place < length iri.now }
     ensures { MatchOption result (ends_in_delimiter (take (place + 1) iri.now) ≡ false)
-        (λ parts. (ends_in_delimiter (take (place + 1) iri.now) ≡ true) × (parts.0.now ≡ take (place + 1) iri.now) × (parts.1.now ≡ drop (place + 1) iri.now)) }
+        (λ parts. (ends_in_delimiter (take (place + 1) iri.now) ≡ true) × (parts.0.now ≡ take (place + 1) iri.now)
+        × (parts.1.now ≡ drop (place + 1) iri.now)) }
 {
     if is_delimiter(iri.as_bytes()[place]) {
         Some((&iri[..place + 1], &iri[place + 1..]))
@@ -102,7 +103,8 @@ fn compact_behind(
     place: usize,
 ) -> Result<Option<String>, AllocError>
     requires { place < length iri.now }
-    ensures { IfOk result (λ text. option_map string_bytes text ≡ compact_behind (get_by_text prefixes.now) iri.now (place + 1)) }
+    ensures { IfOk result
+        (λ text. option_map string_bytes text ≡ compact_behind (get_by_text prefixes.now) iri.now (place + 1)) }
 {
     let Some((front, rest)) = cut_behind(iri, place) else {
         return Ok(None);
@@ -129,7 +131,8 @@ fn lesser(text: String, other: String) -> String
 
 /// The least of some texts and of one more, each of which may be missing.
 fn least_with(least: Option<String>, text: Option<String>) -> Option<String>
-    ensures { option_map string_bytes result ≡ least_with (option_map string_bytes least) (option_map string_bytes text) }
+    ensures { option_map string_bytes result
+        ≡ least_with (option_map string_bytes least) (option_map string_bytes text) }
 {
     match (least, text) {
         (Some(least), Some(text)) => Some(lesser(least, text)),
@@ -144,7 +147,8 @@ fn least_compact(
     prefixes: &TextsByIri,
     iri: &str,
 ) -> Result<Option<String>, AllocError>
-    ensures { IfOk result (λ text. option_map string_bytes text ≡ least_behind (get_by_text prefixes.now) iri.now (length iri.now)) }
+    ensures { IfOk result
+        (λ text. option_map string_bytes text ≡ least_behind (get_by_text prefixes.now) iri.now (length iri.now)) }
 {
     let mut least = None;
     for place in 0..iri.len() {
@@ -156,7 +160,8 @@ fn least_compact(
 
 /// The least compact IRI, or else the IRI.
 fn compact_or_whole(alloc: Global, prefixes: &TextsByIri, iri: &str) -> Result<Text, AllocError>
-    ensures { IfOk result (λ text. text ≡ unwrap_or (least_behind (get_by_text prefixes.now) iri.now (length iri.now)) iri.now) }
+    ensures { IfOk result
+        (λ text. text ≡ unwrap_or (least_behind (get_by_text prefixes.now) iri.now (length iri.now)) iri.now) }
 {
     match least_compact(alloc, prefixes, iri)? {
         Some(text) => Text::from_string(text),
@@ -196,7 +201,8 @@ pub(crate) fn compact_id(
 ) -> Result<Text, AllocError>
     requires base { IsTrue (is_absolute base.now) }
     requires iri { IsTrue (is_absolute iri.now) }
-    ensures { (terms : List Definition) → AreFormsOf terms forms.now → IfOk result (λ text. text ≡ id_form base.now terms iri.now) }
+    ensures { (terms : List Definition) → AreFormsOf terms forms.now
+        → IfOk result (λ text. text ≡ id_form base.now terms iri.now) }
 {
     match plain_id(alloc, base, iri)? {
         Some(text) => Text::new(alloc, text),

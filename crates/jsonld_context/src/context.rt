@@ -108,7 +108,8 @@ impl Context {
         domain: &str,
     ) -> Result<Context, JsonFault>
         requires { IsTrue (is_domain domain.now) }
-        ensures ok { IfOk result (λ context. read_context domain.now (object (members_view all.now.entries)) ≡ Ok context) }
+        ensures ok { IfOk result
+            (λ context. read_context domain.now (object (members_view all.now.entries)) ≡ Ok context) }
         ensures err { IfErr result (IsToldBy (read_context domain.now (object (members_view all.now.entries)))) }
     {
         if reading::has_context(all) {
@@ -130,7 +131,8 @@ impl Context {
         requires domain { IsTrue (is_domain domain.now) }
         requires context { is_some (get_member (codes "@context") (members_view all.now.entries)) ≡ false }
         requires vocabulary { known_vocabulary domain.now (members_view all.now.entries) ≡ Some vocabulary }
-        ensures ok { IfOk result (λ context. read_context domain.now (object (members_view all.now.entries)) ≡ Ok context) }
+        ensures ok { IfOk result
+            (λ context. read_context domain.now (object (members_view all.now.entries)) ≡ Ok context) }
         ensures err { IfErr result (IsToldBy (read_context domain.now (object (members_view all.now.entries)))) }
     {
         let base = reading::base_of(alloc, all, domain)?;

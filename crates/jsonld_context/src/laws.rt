@@ -19,10 +19,12 @@ pub fn expanding_gives_back()
 /// A plain text is the plain end of what any base resolves it to, so the id of that IRI is found: no other plain text stands for it.
 pub fn plain_id_is_the_end()
     ensures end { (base : List ℕ) (text : List ℕ) → IsTrue (is_plain text) → plain_end (resolved base text) ≡ text }
-    ensures found { (base : List ℕ) (text : List ℕ) → IsTrue (is_plain text) → plain_id base (resolved base text) ≡ Some text }
+    ensures found { (base : List ℕ) (text : List ℕ) → IsTrue (is_plain text)
+        → plain_id base (resolved base text) ≡ Some text }
 {}
 
 /// The test of contexts, `==`, tells whether they are the same.
 pub fn equal_contexts_are_the_same()
-    ensures { (context : ContextValue) (other : ContextValue) → (same_context context other ≡ true) ↔ (context ≡ other) }
+    ensures { (context : ContextValue) (other : ContextValue) → (same_context context other ≡ true)
+        ↔ (context ≡ other) }
 {}

@@ -14,7 +14,7 @@ ghost use Rattle.serde_json.specs.Find.{as_str, get_member};
 ghost use Rattle.serde_json.specs.View.{view, members_view};
 ghost use Rattle.jsonld_context.specs.Prefixes.{prefix_at};
 ghost use Rattle.jsonld_texts.specs.TextForms.{behind_colon, is_term_name};
-ghost use Rattle.jsonld_context.specs.ContextReading.{is_base_key, is_vocabulary_key, is_id_key, is_type_key, domain_base, domain_vocabulary, string_at, is_prefix_string, prefix_among, meant, object_iri, type_meant, definition, definitions, fault_of_object_iri, fault_of_object_type, first_fault, fault_of_iri, fault_of_keyword, is_extended_prefix, fault_of_string, fault_of_id, fault_of_type, fault_of_part, fault_of_value, fault_of_member, known_vocabulary};
+ghost use Rattle.jsonld_context.specs.ContextReading.{is_base_key, is_vocabulary_key, is_id_key, is_type_key, domain_base, domain_vocabulary, string_at, is_prefix_string, prefix_among, meant, object_iri, type_meant, definition, definitions, fault_of_object_iri, fault_of_object_type, first_fault, fault_of_iri, fault_of_keyword, is_extended_prefix, fault_of_string, fault_of_id, fault_of_type, fault_of_part, fault_of_value, fault_of_member, fault_by_vocabulary, known_vocabulary};
 ghost use Rattle.jsonld_context.specs.FormsFound.{IsDelimited};
 ghost use Rattle.jsonld_context.specs.Telling.{IsFaultOf, IsReadAs};
 ghost use Rattle.jsonld_context.specs.declared.faults.JsonFault.TheVariants as faults;
@@ -95,7 +95,8 @@ pub(crate) fn domain_vocabulary(alloc: Global, domain: &str) -> Result<Text, All
 /// The base of a context with these members.
 pub(crate) fn base_of(alloc: Global, all: &Members, domain: &str) -> Result<Text, AllocError>
     requires { IsTrue (is_domain domain.now) }
-    ensures { IfOk result (λ base. base ≡ unwrap_or (string_at (codes "@base") (members_view all.now.entries)) (domain_base domain.now)) }
+    ensures { IfOk result
+        (λ base. base ≡ unwrap_or (string_at (codes "@base") (members_view all.now.entries)) (domain_base domain.now)) }
 {
     match string_at(all, "@base") {
         Some(text) => Text::new(alloc, text),
@@ -180,7 +181,9 @@ fn prefix_among<'a>(all: &'a Members, name: &str) -> Option<&'a str>
 /// The prefix's IRI and the rest of a compact IRI, where a text is one.
 fn compact_parts<'a>(all: &'a Members, text: &'a str) -> Option<(&'a str, &'a str)>
     ensures none { IfNone result (prefix_at (prefix_among (members_view all.now.entries)) text.now ≡ None) }
-    ensures some { IfSome result (λ parts. (prefix_at (prefix_among (members_view all.now.entries)) text.now ≡ Some parts.0.now) × (parts.1.now ≡ behind_colon text.now)) }
+    ensures some { IfSome result (λ parts.
+        (prefix_at (prefix_among (members_view all.now.entries)) text.now ≡ Some parts.0.now)
+        × (parts.1.now ≡ behind_colon text.now)) }
 {
     let (front, rest) = cut_prefix(text)?;
     match prefix_among(all, front) {
@@ -212,7 +215,8 @@ fn iri_of(alloc: Global, iri: &str, written: &str) -> Result<Iri, JsonFault>
 
 /// The IRI that a string stands for.
 fn iri_meant(alloc: Global, all: &Members, text: &str) -> Result<Iri, JsonFault>
-    ensures { IsReadAs (fault_of_iri text.now (meant (members_view all.now.entries) text.now)) (meant (members_view all.now.entries) text.now) result }
+    ensures { IsReadAs (fault_of_iri text.now (meant (members_view all.now.entries) text.now))
+        (meant (members_view all.now.entries) text.now) result }
 {
     let iri = meant(alloc, all, text)?;
     iri_of(alloc, iri.as_str(), text)
@@ -241,7 +245,8 @@ fn is_extended_prefix(all: &Members, text: &str) -> bool
 
 /// The IRI of a term whose value is a string.
 fn read_string(alloc: Global, all: &Members, term: &str, text: &str) -> Result<Iri, JsonFault>
-    ensures { IsReadAs (fault_of_string (members_view all.now.entries) term.now text.now) (meant (members_view all.now.entries) text.now) result }
+    ensures { IsReadAs (fault_of_string (members_view all.now.entries) term.now text.now)
+        (meant (members_view all.now.entries) text.now) result }
 {
     if has_colon(text) && !is_extended_prefix(all, text) {
         iri_meant(alloc, all, text)
@@ -252,7 +257,8 @@ fn read_string(alloc: Global, all: &Members, term: &str, text: &str) -> Result<I
 
 /// The IRI of an `@id` of a term.
 fn read_id(alloc: Global, all: &Members, term: &str, text: &str) -> Result<Iri, JsonFault>
-    ensures { IsReadAs (fault_of_id (members_view all.now.entries) term.now text.now) (meant (members_view all.now.entries) text.now) result }
+    ensures { IsReadAs (fault_of_id (members_view all.now.entries) term.now text.now)
+        (meant (members_view all.now.entries) text.now) result }
 {
     if has_colon(text) {
         iri_meant(alloc, all, text)
@@ -308,7 +314,8 @@ fn check_part(
 
 /// Looks at the parts of a term's object, in the order of their keys.
 fn check_parts(alloc: Global, all: &Members, term: &str, parts: &Members) -> Result<(), JsonFault>
-    ensures { IsReadAs (first_fault (fault_of_part (members_view all.now.entries) term.now) (members_view parts.now.entries)) tt result }
+    ensures { IsReadAs (first_fault (fault_of_part (members_view all.now.entries) term.now)
+        (members_view parts.now.entries)) tt result }
 {
     for (key, value) in parts.iter() {
         check_part(alloc, all, term, key.as_str(), value)?;
@@ -324,7 +331,8 @@ fn object_iri(
     term: &str,
     id: Option<&str>,
 ) -> Result<Iri, JsonFault>
-    ensures { IsReadAs (fault_of_object_iri vocabulary.now (members_view all.now.entries) term.now (option_copied id.entry))
+    ensures { IsReadAs (fault_of_object_iri vocabulary.now (members_view all.now.entries) term.now
+        (option_copied id.entry))
         (object_iri vocabulary.now (members_view all.now.entries) term.now (option_copied id.entry)) result }
 {
     if let Some(text) = id {
@@ -361,8 +369,10 @@ fn read_object(
     term: &str,
     parts: &Members,
 ) -> Result<Definition, JsonFault>
-    ensures { IsReadAs (fault_of_value (Some vocabulary.now) (members_view all.now.entries) term.now (object (members_view parts.now.entries)))
-        (definition vocabulary.now (members_view all.now.entries) term.now (object (members_view parts.now.entries))) result }
+    ensures { IsReadAs (fault_of_value (Some vocabulary.now) (members_view all.now.entries) term.now
+        (object (members_view parts.now.entries)))
+        (definition vocabulary.now (members_view all.now.entries) term.now
+        (object (members_view parts.now.entries))) result }
 {
     check_parts(alloc, all, term, parts)?;
     let iri = object_iri(alloc, vocabulary, all, term, string_at(parts, "@id"))?;
@@ -440,7 +450,7 @@ fn check_member(alloc: Global, all: &Members, key: &str, value: &Value) -> Resul
 
 /// Looks at the members of a context whose vocabulary isn't known, in the order of their keys.
 fn check_members(alloc: Global, all: &Members) -> Result<(), JsonFault>
-    ensures { IsReadAs (first_fault (fault_of_member None (members_view all.now.entries)) (members_view all.now.entries)) tt result }
+    ensures { IsReadAs (fault_by_vocabulary None (members_view all.now.entries)) tt result }
 {
     for (key, value) in all.iter() {
         check_member(alloc, all, key.as_str(), value)?;
@@ -451,7 +461,7 @@ fn check_members(alloc: Global, all: &Members) -> Result<(), JsonFault>
 /// The first fault of members whose `@vocab` is no string.
 pub(crate) fn fault_without_vocabulary(alloc: Global, all: &Members) -> JsonFault
     requires { option_map as_str (get_member (codes "@vocab") (members_view all.now.entries)) ≡ Some None }
-    ensures { IsFaultOf (first_fault (fault_of_member None (members_view all.now.entries)) (members_view all.now.entries)) result }
+    ensures { IsFaultOf (fault_by_vocabulary None (members_view all.now.entries)) result }
 {
     match check_members(alloc, all) {
         Ok(()) => unreachable!(),
@@ -473,12 +483,13 @@ pub(crate) fn read_terms(
     vocabulary: &str,
     all: &Members,
 ) -> Result<Vec<Definition>, JsonFault>
-    ensures ok { IfOk result (λ terms. (first_fault (fault_of_member (Some vocabulary.now) (members_view all.now.entries)) (members_view all.now.entries) ≡ None)
+    ensures ok { IfOk result (λ terms. (fault_by_vocabulary (Some vocabulary.now) (members_view all.now.entries) ≡ None)
         × (terms.items ≡ definitions vocabulary.now (members_view all.now.entries) (members_view all.now.entries))) }
-    ensures err { IfErr result (IsFaultOf (first_fault (fault_of_member (Some vocabulary.now) (members_view all.now.entries)) (members_view all.now.entries))) }
+    ensures err { IfErr result (IsFaultOf (fault_by_vocabulary (Some vocabulary.now) (members_view all.now.entries))) }
     ensures names { IfOk result (λ terms. AllByRecursion (λ term. IsTrue (is_term_name term.name)) terms.items) }
     ensures delimited { IfOk result (λ terms. AllByRecursion IsDelimited terms.items) }
-    ensures ascending { IfOk result (λ terms. IsStrictlySortedBy (slice_cmp nat_cmp) (map (λ term. term.name) terms.items)) }
+    ensures ascending { IfOk result
+        (λ terms. IsStrictlySortedBy (slice_cmp nat_cmp) (map (λ term. term.name) terms.items)) }
 {
     let mut terms = Vec::new(alloc);
     for (key, value) in all.iter() {
