@@ -1,5 +1,5 @@
--- What a line of a schedule was read as.
-use Rattle.std.specs.Prelude.{◌≡◌, ℕ, ◌<◌, ◌^◌, List, ◌∷◌, ◌++◌, Option, None, Some, Ok}
+-- What a line of a schedule was read as. The clauses of `read_setup`, `read_command` and of the readings within a line cite it.
+use Rattle.std.specs.Prelude.{◌≡◌, ◌≢◌, ℕ, ◌<◌, ◌^◌, List, ◌∷◌, ◌++◌, Option, None, Some, Ok, MatchOption}
 use Rattle.std.specs.Str.{IsUtf8}
 use Rattle.std.specs.Fmt.{decimal}
 use Rattle.mld_io.specs.declared.banks.Leave.{Leave}
@@ -34,6 +34,15 @@ SetupIs line None (lines.Setup setup) = SpellsSetup line (setup_of setup)
 SetupIs line (Some setup) (lines.Other so_far) = (so_far ≡ Some setup) × ((property : List ℕ) → ¬ SetsProperty (setup_of setup) line property)
 SetupIs line (Some setup) (lines.Setup next) =
     (property : List ℕ) × SetsProperty (setup_of setup) line property × (setup_of next ≡ with_property (setup_of setup) property)
+
+-- a reading found a value that is such a one, or it found none, and no value is
+abbrev pub Finds : {A : Type 0} → (A → Type 0) → Option A → Type 0
+Finds {A} Is found = MatchOption found ((value : A) → ¬ Is value) Is
+
+-- a reading found the number below the bound that the text writes with no sign and no leading zero, or the text writes no such number
+abbrev pub FindsBelow : ℕ → List ℕ → Option ℕ → Type 0
+FindsBelow bound text found = MatchOption found ((number : ℕ) → number < bound → text ≢ decimal number)
+    (λ number. (number < bound) × (text ≡ decimal number))
 
 -- no domain line has come, and the line is outside the grammar
 abbrev pub IsBadSetup : List ℕ → Option Setup → Type 0

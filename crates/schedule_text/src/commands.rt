@@ -4,7 +4,7 @@ ghost use Rattle.iri_rules.specs.Domain.{is_domain};
 ghost use Rattle.rdf_terms.specs.declared.terms.Triple.{Triple};
 ghost use Rattle.schedule_model.specs.Schedule.{SpellsAnywhere, SpellsPlain, SpellsCommand};
 ghost use Rattle.schedule_model.specs.declared.Command.{Command};
-ghost use Rattle.schedule_text.specs.ReadLines.{CommandIs, IsBadCommand, IsTripleText, IsCloneAndTriple, IsAddRest, IsRemoveRest, IsDeliverRest, IsShowRest, IsCompareRest, IsJoinRest, IsAskRest, IsCompactRest, IsTruncateRest, IsStopRest, IsOpenRest, IsFoundInForm};
+ghost use Rattle.schedule_text.specs.ReadLines.{Finds, CommandIs, IsBadCommand, IsTripleText, IsCloneAndTriple, IsAddRest, IsRemoveRest, IsDeliverRest, IsShowRest, IsCompareRest, IsJoinRest, IsAskRest, IsCompactRest, IsTruncateRest, IsStopRest, IsOpenRest, IsFoundInForm};
 
 use crate::crashes::read_crash_command;
 use crate::numbers::{read_clone, read_number};
@@ -39,7 +39,7 @@ pub fn read_command(
 /// The command of a line, where the line spells one in the domain of this name.
 fn command_in(alloc: Global, line: &[u8], domain: &str) -> Result<Option<Command>, AllocError>
     requires { IsTrue (is_domain domain.now) }
-    ensures found { IfOk result (λ found. MatchOption found ((command : Command) → ¬ SpellsCommand domain.now line.now command) (λ command. SpellsCommand domain.now line.now command)) }
+    ensures found { IfOk result (Finds (SpellsCommand domain.now line.now)) }
     ensures in_form { IfOk result IsFoundInForm }
 {
     if let Some(rest) = behind(line, b"crash ") {
@@ -55,7 +55,7 @@ pub fn plain_command(
     domain: &str,
 ) -> Result<Option<Command>, AllocError>
     requires { IsTrue (is_domain domain.now) }
-    ensures found { IfOk result (λ found. MatchOption found ((command : Command) → ¬ SpellsPlain domain.now line.now command) (λ command. SpellsPlain domain.now line.now command)) }
+    ensures found { IfOk result (Finds (SpellsPlain domain.now line.now)) }
     ensures in_form { IfOk result IsFoundInForm }
 {
     if let Some(rest) = behind(line, b"query ") {
@@ -69,7 +69,7 @@ pub fn plain_command(
 
 /// The command of a line whose command is spelled alike in all domains, where the line spells one.
 fn command_of(alloc: Global, line: &[u8]) -> Result<Option<Command>, AllocError>
-    ensures { IfOk result (λ found. MatchOption found ((command : Command) → ¬ SpellsAnywhere line.now command) (λ command. SpellsAnywhere line.now command)) }
+    ensures { IfOk result (Finds (SpellsAnywhere line.now)) }
 {
     if let Some(rest) = behind(line, b"add ") {
         return read_add(alloc, rest);
@@ -109,7 +109,7 @@ fn command_of(alloc: Global, line: &[u8]) -> Result<Option<Command>, AllocError>
 
 /// What follows `add` and a space: a clone's number, a space, and a triple.
 fn read_add(alloc: Global, rest: &[u8]) -> Result<Option<Command>, AllocError>
-    ensures { IfOk result (λ found. MatchOption found ((command : Command) → ¬ IsAddRest rest.now command) (λ command. IsAddRest rest.now command)) }
+    ensures { IfOk result (Finds (IsAddRest rest.now)) }
 {
     let Some((number, triple)) = read_clone_and_triple(alloc, rest)? else {
         return Ok(None);
@@ -119,7 +119,7 @@ fn read_add(alloc: Global, rest: &[u8]) -> Result<Option<Command>, AllocError>
 
 /// What follows `remove` and a space: a clone's number, a space, and a triple.
 fn read_remove(alloc: Global, rest: &[u8]) -> Result<Option<Command>, AllocError>
-    ensures { IfOk result (λ found. MatchOption found ((command : Command) → ¬ IsRemoveRest rest.now command) (λ command. IsRemoveRest rest.now command)) }
+    ensures { IfOk result (Finds (IsRemoveRest rest.now)) }
 {
     let Some((number, triple)) = read_clone_and_triple(alloc, rest)? else {
         return Ok(None);
@@ -129,7 +129,9 @@ fn read_remove(alloc: Global, rest: &[u8]) -> Result<Option<Command>, AllocError
 
 /// A clone's number, a space, and a triple.
 fn read_clone_and_triple(alloc: Global, rest: &[u8]) -> Result<Option<(u8, Triple)>, AllocError>
-    ensures { IfOk result (λ found. MatchOption found ((number : ℕ) (triple : Triple) → ¬ IsCloneAndTriple rest.now number triple) (λ parts. IsCloneAndTriple rest.now parts.0 parts.1)) }
+    ensures { IfOk result
+        (λ found. MatchOption found ((number : ℕ) (triple : Triple) → ¬ IsCloneAndTriple rest.now number triple)
+        (λ parts. IsCloneAndTriple rest.now parts.0 parts.1)) }
 {
     let Some((number, text)) = split_at_space(rest) else {
         return Ok(None);
@@ -145,7 +147,7 @@ fn read_clone_and_triple(alloc: Global, rest: &[u8]) -> Result<Option<(u8, Tripl
 
 /// The triple of a text, where the text is UTF-8 and spells one within the limits.
 pub fn read_triple_bytes(alloc: Global, text: &[u8]) -> Result<Option<Triple>, AllocError>
-    ensures { IfOk result (λ found. MatchOption found ((triple : Triple) → ¬ IsTripleText text.now triple) (λ triple. IsTripleText text.now triple)) }
+    ensures { IfOk result (Finds (IsTripleText text.now)) }
 {
     let Ok(text) = str::from_utf8(text) else {
         return Ok(None);
@@ -160,7 +162,7 @@ pub fn read_triple_bytes(alloc: Global, text: &[u8]) -> Result<Option<Triple>, A
 
 /// What follows `deliver` and a space: a message's number, a space, and a clone's number.
 fn read_deliver(rest: &[u8]) -> Option<Command>
-    ensures { MatchOption result ((command : Command) → ¬ IsDeliverRest rest.now command) (λ command. IsDeliverRest rest.now command) }
+    ensures { Finds (IsDeliverRest rest.now) result }
 {
     let (message, number) = split_at_space(rest)?;
     let message = read_number(message)?;
@@ -170,35 +172,35 @@ fn read_deliver(rest: &[u8]) -> Option<Command>
 
 /// What follows `show` and a space: a clone's number.
 fn read_show(rest: &[u8]) -> Option<Command>
-    ensures { MatchOption result ((command : Command) → ¬ IsShowRest rest.now command) (λ command. IsShowRest rest.now command) }
+    ensures { Finds (IsShowRest rest.now) result }
 {
     Some(Command::Show(read_clone(rest)?))
 }
 
 /// What follows `join` and a space: a clone's number.
 fn read_join(rest: &[u8]) -> Option<Command>
-    ensures { MatchOption result ((command : Command) → ¬ IsJoinRest rest.now command) (λ command. IsJoinRest rest.now command) }
+    ensures { Finds (IsJoinRest rest.now) result }
 {
     Some(Command::Join(read_clone(rest)?))
 }
 
 /// What follows `ask` and a space: a clone's number.
 fn read_ask(rest: &[u8]) -> Option<Command>
-    ensures { MatchOption result ((command : Command) → ¬ IsAskRest rest.now command) (λ command. IsAskRest rest.now command) }
+    ensures { Finds (IsAskRest rest.now) result }
 {
     Some(Command::Ask(read_clone(rest)?))
 }
 
 /// What follows `compact` and a space: a clone's number.
 fn read_compact(rest: &[u8]) -> Option<Command>
-    ensures { MatchOption result ((command : Command) → ¬ IsCompactRest rest.now command) (λ command. IsCompactRest rest.now command) }
+    ensures { Finds (IsCompactRest rest.now) result }
 {
     Some(Command::Compact(read_clone(rest)?))
 }
 
 /// What follows `truncate` and a space: a clone's number, a space, and how many ranges its journal keeps.
 fn read_truncate(rest: &[u8]) -> Option<Command>
-    ensures { MatchOption result ((command : Command) → ¬ IsTruncateRest rest.now command) (λ command. IsTruncateRest rest.now command) }
+    ensures { Finds (IsTruncateRest rest.now) result }
 {
     let (number, keep) = split_at_space(rest)?;
     let number = read_clone(number)?;
@@ -208,21 +210,21 @@ fn read_truncate(rest: &[u8]) -> Option<Command>
 
 /// What follows `stop` and a space: a clone's number.
 fn read_stop(rest: &[u8]) -> Option<Command>
-    ensures { MatchOption result ((command : Command) → ¬ IsStopRest rest.now command) (λ command. IsStopRest rest.now command) }
+    ensures { Finds (IsStopRest rest.now) result }
 {
     Some(Command::Stop(read_clone(rest)?))
 }
 
 /// What follows `open` and a space: a clone's number.
 fn read_open(rest: &[u8]) -> Option<Command>
-    ensures { MatchOption result ((command : Command) → ¬ IsOpenRest rest.now command) (λ command. IsOpenRest rest.now command) }
+    ensures { Finds (IsOpenRest rest.now) result }
 {
     Some(Command::Open(read_clone(rest)?))
 }
 
 /// What follows `compare` and a space: two clones' numbers with a space between.
 fn read_compare(rest: &[u8]) -> Option<Command>
-    ensures { MatchOption result ((command : Command) → ¬ IsCompareRest rest.now command) (λ command. IsCompareRest rest.now command) }
+    ensures { Finds (IsCompareRest rest.now) result }
 {
     let (number, other) = split_at_space(rest)?;
     let number = read_clone(number)?;

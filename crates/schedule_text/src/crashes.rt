@@ -7,7 +7,7 @@ ghost use Rattle.schedule_model.specs.Step.{IsTaskInForm};
 ghost use Rattle.schedule_model.specs.Tasks.{command_of};
 ghost use Rattle.schedule_model.specs.declared.Command.{Command};
 ghost use Rattle.schedule_model.specs.declared.CrashTask.{CrashTask};
-ghost use Rattle.schedule_text.specs.ReadLines.{IsArming, IsCrashRest, IsFoundInForm};
+ghost use Rattle.schedule_text.specs.ReadLines.{Finds, IsArming, IsCrashRest, IsFoundInForm};
 
 use crate::commands::plain_command;
 use crate::numbers::read_call;
@@ -24,8 +24,7 @@ pub fn read_crash_command(
     domain: &str,
 ) -> Result<Option<Command>, AllocError>
     requires { IsTrue (is_domain domain.now) }
-    ensures found { IfOk result (λ found. MatchOption found ((command : Command) → ¬ IsCrashRest domain.now rest.now command)
-        (λ command. IsCrashRest domain.now rest.now command)) }
+    ensures found { IfOk result (Finds (IsCrashRest domain.now rest.now)) }
     ensures in_form { IfOk result IsFoundInForm }
 {
     let Some((call, leave, text)) = read_arming(rest) else {
@@ -51,7 +50,8 @@ fn read_arming(rest: &[u8]) -> Option<(u32, Leave, &[u8])>
 
 /// What a crash leaves of the writes that aren't synced, by its word: `lose`, `keep` or `torn`.
 fn read_leave(word: &[u8]) -> Option<Leave>
-    ensures { MatchOption result ((leave : Leave) → word.now ≢ leave_word leave) (λ leave. word.now ≡ leave_word leave) }
+    ensures { MatchOption result ((leave : Leave) → word.now ≢ leave_word leave)
+        (λ leave. word.now ≡ leave_word leave) }
 {
     if word == b"lose".as_slice() {
         return Some(Leave::Lose);
@@ -68,7 +68,8 @@ fn read_leave(word: &[u8]) -> Option<Leave>
 /// The command of a crash line, where the text spells one in the domain of this name.
 fn read_task(alloc: Global, text: &[u8], domain: &str) -> Result<Option<CrashTask>, AllocError>
     requires { IsTrue (is_domain domain.now) }
-    ensures found { IfOk result (λ found. MatchOption found ((task : CrashTask) → ¬ SpellsPlain domain.now text.now (command_of task))
+    ensures found { IfOk result
+        (λ found. MatchOption found ((task : CrashTask) → ¬ SpellsPlain domain.now text.now (command_of task))
         (λ task. SpellsPlain domain.now text.now (command_of task))) }
     ensures in_form { IfOk result (λ found. MatchOption found (Unit {0}) IsTaskInForm) }
 {

@@ -2,12 +2,13 @@
 ghost use Rattle.std.specs.Prelude.{◌≡◌, ◌≢◌, ◌<◌, ◌≤◌, ◌^◌, ◌↔◌, ℕ, IsTrue, MatchOption, slice_index, length};
 ghost use Rattle.std.specs.Fmt.{decimal};
 ghost use Rattle.mld_model.specs.World.{clone_count};
+ghost use Rattle.schedule_text.specs.ReadLines.{FindsBelow};
 
 use mld_model::CLONE_COUNT;
 
 /// A number below 2^64 as `decimal` writes it: no sign, no leading zero.
 pub fn read_number(text: &[u8]) -> Option<u64>
-    ensures { MatchOption result ((number : ℕ) → number < 2 ^ 64 → text.now ≢ decimal number) (λ number. (number < 2 ^ 64) × (text.now ≡ decimal number)) }
+    ensures { FindsBelow (2 ^ 64) text.now result }
 {
     if text.is_empty() {
         return None;
@@ -37,7 +38,7 @@ fn has_needless_zero(text: &[u8]) -> bool
 
 /// The number of a clone, below `CLONE_COUNT`.
 pub fn read_clone(text: &[u8]) -> Option<u8>
-    ensures { MatchOption result ((number : ℕ) → number < clone_count → text.now ≢ decimal number) (λ number. (number < clone_count) × (text.now ≡ decimal number)) }
+    ensures { FindsBelow clone_count text.now result }
 {
     let number = read_number(text)?;
     if number >= u64::from(CLONE_COUNT) {
@@ -48,7 +49,8 @@ pub fn read_clone(text: &[u8]) -> Option<u8>
 
 /// How many clones there are, 1 to `CLONE_COUNT`.
 pub fn read_count(text: &[u8]) -> Option<u8>
-    ensures { MatchOption result ((number : ℕ) → 1 ≤ number → number ≤ clone_count → text.now ≢ decimal number) (λ number. (1 ≤ number) × (number ≤ clone_count) × (text.now ≡ decimal number)) }
+    ensures { MatchOption result ((number : ℕ) → 1 ≤ number → number ≤ clone_count → text.now ≢ decimal number)
+        (λ number. (1 ≤ number) × (number ≤ clone_count) × (text.now ≡ decimal number)) }
 {
     let number = read_number(text)?;
     let most = u64::from(CLONE_COUNT);
@@ -60,7 +62,7 @@ pub fn read_count(text: &[u8]) -> Option<u8>
 
 /// The number of a call at which a device crashes, the first of which is 0.
 pub fn read_call(text: &[u8]) -> Option<u32>
-    ensures { MatchOption result ((number : ℕ) → number < 2 ^ 32 → text.now ≢ decimal number) (λ number. (number < 2 ^ 32) × (text.now ≡ decimal number)) }
+    ensures { FindsBelow (2 ^ 32) text.now result }
 {
     let number = read_number(text)?;
     if number > u64::from(u32::MAX) {

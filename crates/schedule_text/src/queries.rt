@@ -1,11 +1,11 @@
 //! Lines that are queries.
-ghost use Rattle.std.specs.Prelude.{◌≢◌, ℕ, IsTrue, IfOk, OnOk, MatchOption};
+ghost use Rattle.std.specs.Prelude.{◌≢◌, IsTrue, IfOk, OnOk, MatchOption};
 ghost use Rattle.iri_rules.specs.Domain.{is_domain};
 ghost use Rattle.jrql_ast.specs.InForm.{IsQueryInForm};
 ghost use Rattle.jrql_patterns.specs.declared.queries.ReadQuery.{ReadQuery};
 ghost use Rattle.jsonld_context.specs.declared.faults.JsonFault.TheVariants as faults;
 ghost use Rattle.schedule_model.specs.declared.Command.{Command};
-ghost use Rattle.schedule_text.specs.ReadLines.{IsQueryText, IsCloneAndQuery, IsQueryRest, IsFoundInForm};
+ghost use Rattle.schedule_text.specs.ReadLines.{Finds, IsQueryText, IsQueryRest, IsFoundInForm};
 
 use crate::numbers::read_clone;
 use crate::words::split_at_space;
@@ -21,7 +21,7 @@ pub fn read_query_command(
     domain: &str,
 ) -> Result<Option<Command>, AllocError>
     requires { IsTrue (is_domain domain.now) }
-    ensures found { IfOk result (λ found. MatchOption found ((command : Command) → ¬ IsQueryRest domain.now rest.now command) (λ command. IsQueryRest domain.now rest.now command)) }
+    ensures found { IfOk result (Finds (IsQueryRest domain.now rest.now)) }
     ensures in_form { IfOk result IsFoundInForm }
 {
     let Some((number, text)) = split_at_space(rest) else {
@@ -43,7 +43,7 @@ pub fn read_query_text(
     domain: &str,
 ) -> Result<Option<ReadQuery>, AllocError>
     requires { IsTrue (is_domain domain.now) }
-    ensures found { IfOk result (λ found. MatchOption found ((read : ReadQuery) → ¬ IsQueryText domain.now text.now read) (λ read. IsQueryText domain.now text.now read)) }
+    ensures found { IfOk result (Finds (IsQueryText domain.now text.now)) }
     ensures in_form { IfOk result (λ found. MatchOption found (Unit {0}) (λ read. IsQueryInForm read.query)) }
 {
     match read_query(alloc, text, domain) {

@@ -1,8 +1,8 @@
 //! The domain line, which sets up.
-ghost use Rattle.std.specs.Prelude.{◌≡◌, ℕ, List, Some, IsTrue, IfOk, IfErr, IsErrOf, MatchOption};
+ghost use Rattle.std.specs.Prelude.{◌≡◌, Some, IsTrue, IfOk, IfErr, IsErrOf, MatchOption};
 ghost use Rattle.iri_rules.specs.Domain.{is_domain};
 ghost use Rattle.schedule_model.specs.Schedule.{Setup as ModelSetup, SpellsSetup, SpellsSingle, with_property};
-ghost use Rattle.schedule_text.specs.ReadLines.{setup_of, SetupIs, IsBadSetup};
+ghost use Rattle.schedule_text.specs.ReadLines.{Finds, setup_of, SetupIs, IsBadSetup};
 
 use crate::numbers::read_count;
 use crate::refusals::LineRefusal;
@@ -91,7 +91,7 @@ fn with_property(mut setup: Setup, property: Iri) -> Result<Setup, AllocError>
 
 /// `single <IRI>`, where the line spells it: the IRI.
 fn single_line(alloc: Global, line: &[u8]) -> Result<Option<Iri>, AllocError>
-    ensures { IfOk result (λ found. MatchOption found ((property : List ℕ) → ¬ SpellsSingle line.now property) (λ property. SpellsSingle line.now property)) }
+    ensures { IfOk result (Finds (SpellsSingle line.now)) }
 {
     let Some(rest) = behind(line, b"single ") else {
         return Ok(None);
@@ -104,7 +104,8 @@ fn single_line(alloc: Global, line: &[u8]) -> Result<Option<Iri>, AllocError>
 
 /// `domain D clones N`, where the line spells it.
 fn domain_line(alloc: Global, line: &[u8]) -> Result<Option<Setup>, AllocError>
-    ensures { IfOk result (λ found. MatchOption found ((setup : ModelSetup) → ¬ SpellsSetup line.now setup) (λ setup. SpellsSetup line.now (setup_of setup))) }
+    ensures { IfOk result (λ found. MatchOption found ((setup : ModelSetup) → ¬ SpellsSetup line.now setup)
+        (λ setup. SpellsSetup line.now (setup_of setup))) }
 {
     let Some(rest) = behind(line, b"domain ") else {
         return Ok(None);
@@ -130,7 +131,8 @@ fn domain_line(alloc: Global, line: &[u8]) -> Result<Option<Setup>, AllocError>
 
 /// The name of a domain.
 pub fn read_domain(alloc: Global, text: &[u8]) -> Result<Option<Text>, AllocError>
-    ensures { IfOk result (λ found. MatchOption found (¬ IsTrue (is_domain text.now)) (λ domain. IsTrue (is_domain text.now) × (domain ≡ text.now))) }
+    ensures { IfOk result (λ found. MatchOption found (¬ IsTrue (is_domain text.now))
+        (λ domain. IsTrue (is_domain text.now) × (domain ≡ text.now))) }
 {
     let Ok(text) = str::from_utf8(text) else {
         return Ok(None);

@@ -4,7 +4,7 @@ ghost use Rattle.iri_rules.specs.Domain.{is_domain};
 ghost use Rattle.jrql_ast.specs.InForm.{IsPlanInForm};
 ghost use Rattle.jrql_ast.specs.declared.plans.UpdatePlan.{UpdatePlan};
 ghost use Rattle.schedule_model.specs.declared.Command.{Command};
-ghost use Rattle.schedule_text.specs.ReadLines.{IsUpdateText, IsUpdateRest, IsFoundInForm};
+ghost use Rattle.schedule_text.specs.ReadLines.{Finds, IsUpdateText, IsUpdateRest, IsFoundInForm};
 
 use crate::numbers::read_clone;
 use crate::queries::text_fault;
@@ -21,7 +21,7 @@ pub fn read_update_command(
     domain: &str,
 ) -> Result<Option<Command>, AllocError>
     requires { IsTrue (is_domain domain.now) }
-    ensures found { IfOk result (λ found. MatchOption found ((command : Command) → ¬ IsUpdateRest domain.now rest.now command) (λ command. IsUpdateRest domain.now rest.now command)) }
+    ensures found { IfOk result (Finds (IsUpdateRest domain.now rest.now)) }
     ensures in_form { IfOk result IsFoundInForm }
 {
     let Some((number, text)) = split_at_space(rest) else {
@@ -43,7 +43,7 @@ pub fn read_update_text(
     domain: &str,
 ) -> Result<Option<UpdatePlan>, AllocError>
     requires { IsTrue (is_domain domain.now) }
-    ensures found { IfOk result (λ found. MatchOption found ((plan : UpdatePlan) → ¬ IsUpdateText domain.now text.now plan) (λ plan. IsUpdateText domain.now text.now plan)) }
+    ensures found { IfOk result (Finds (IsUpdateText domain.now text.now)) }
     ensures in_form { IfOk result (λ found. MatchOption found (Unit {0}) IsPlanInForm) }
 {
     match read_update(alloc, text, domain) {
