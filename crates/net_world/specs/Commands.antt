@@ -1,4 +1,4 @@
--- A command is done and its reply told.
+-- A command is done and its reply told. The private calls behind `World::step` cite it.
 use Rattle.std.specs.Prelude.{◌≡◌, ℕ, ◌+◌, List, ◌++◌, Option, Result, Ok, Err}
 use Rattle.mld_io.specs.Disk.{Log}
 use Rattle.mld_model.specs.Reply as model

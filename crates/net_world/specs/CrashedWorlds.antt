@@ -1,4 +1,4 @@
--- A crash line on a running world: its clone's device is armed, its command is done, and the power is cut.
+-- A crash line on a running world: its clone's device is armed, its command is done, and the power is cut. `World::step` cites it.
 use Rattle.std.specs.Prelude.{◌≡◌, ◌↔◌, ◌⊎◌, ℕ, ◌+◌, List, Option, Some, Result, Ok, Err, slice_get}
 use Rattle.mld_io.specs.Arm.{Meter, Unarmed, Caught, armed, revived}
 use Rattle.mld_io.specs.Disk.{Log, Revives}

@@ -1,4 +1,4 @@
--- How a world is founded: the first clone forks its leaf for the others, one after another.
+-- How a world is founded: the first clone forks its leaf for the others, one after another. `World::found` cites it.
 use Rattle.std.specs.Prelude.{◌≡◌, ◌≢◌, ◌<◌, ◌≤◌, ℕ, List, [], ◌∷◌, None, Result, Ok, Err, OnOk, IfErr, IsTrue, Option, map, length, slice_get}
 use Rattle.std.specs.List.{range_with_len}
 use Rattle.mld_io.specs.Arm.{Meter}

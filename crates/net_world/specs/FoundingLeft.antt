@@ -1,5 +1,5 @@
 -- What is left of the banks where founding is refused. Of its durable steps all before the one that was under way stand in whatever a crash
--- leaves, that one may, and no later one does.
+-- leaves, that one may, and no later one does. `World::found` cites it.
 use Rattle.std.specs.Prelude.{◌≡◌, ◌⊎◌, ℕ, List, [], ◌∷◌, ◌++◌, Option, Some, None, slice_get}
 use Rattle.mld_io.specs.Arm.{Meter}
 use Rattle.mld_io.specs.Disk.{Log, Sides, LeavesOnly}

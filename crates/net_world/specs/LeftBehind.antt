@@ -1,4 +1,4 @@
--- What a step leaves of the banks of its clone, whatever it answers.
+-- What a step leaves of the banks of its clone, whatever it answers. `World::step` cites it.
 use Rattle.std.specs.Prelude.{◌≡◌, ◌⊎◌, ℕ, List, Option, Some, slice_get, map}
 use Rattle.mld_io.specs.Disk.{Log, Sides, MayLeave, LeavesOnly}
 use Rattle.mld_model.specs.Clone.{kept_of}

@@ -1,4 +1,4 @@
--- Banks between two commands: whatever a crash leaves of them stands for what their clones keep.
+-- Banks between two commands: whatever a crash leaves of them stands for what their clones keep. `World::found` and `World::step` cite it.
 use Rattle.std.specs.Prelude.{◌≡◌, ℕ, List, Option, Some, slice_get}
 use Rattle.mld_io.specs.Disk.{Log, LeavesOnly}
 use Rattle.journal_store.specs.Standing.{IsBlankLog}

@@ -1,4 +1,4 @@
--- What became of the banks of a node that was to begin.
+-- What became of the banks of a node that was to begin. The private calls behind `serve` cite it.
 use Rattle.std.specs.Prelude.{◌≡◌, ◌⊎◌, ℕ, List, [], Option, Some, Result, Ok, Err}
 use Rattle.mld_io.specs.Disk.{Log, seen}
 use Rattle.journal_sides.specs.Pairs.{read_banks}

@@ -1,4 +1,4 @@
--- How a run of the node ends over banks that tell their log: the events that it took, what it sent, and what its banks keep.
+-- How a run of the node ends over banks that tell their log: the events that it took, what it sent, and what its banks keep. `serve` cites it.
 use Rattle.std.specs.Prelude.{◌≡◌, ◌⊎◌, ℕ, ◌+◌, ◌<◌, ◌≤◌, Bool, true, false, List, [], ◌∷◌, ◌++◌, length, Option, None, Some, option_map, unwrap_or}
 use Rattle.mld_io.specs.declared.banks.Side.{Side}
 use Rattle.mld_io.specs.declared.events.Event.{Event}

@@ -1,4 +1,4 @@
--- How a run of the node ends, by its fault: the status, what stays as it was, and what is counted.
+-- How a run of the node ends, by its fault: the status, what stays as it was, and what is counted. `serve` cites it.
 use Rattle.std.specs.Prelude.{◌≡◌, ℕ, Option, None, Some}
 use Rattle.mld_io.specs.Faults.{Rose}
 use Rattle.mld_io.specs.declared.banks.Side.{Side}

@@ -1,4 +1,5 @@
 -- A run of the node that is under way: the events done so far, what was sent for them, and what its banks keep.
+-- The private calls behind `serve` cite it.
 use Rattle.std.specs.Prelude.{◌≡◌, ◌≢◌, ◌⊎◌, ℕ, List, [], ◌∷◌, ◌++◌, length, Option, Some, Result, Ok, Err, IfErr, OnOk, option_map, unwrap_or}
 use Rattle.mld_io.specs.declared.events.Event.{Event}
 use Rattle.mld_io.specs.Disk.{Log}
