@@ -2,7 +2,7 @@ pub mod FaultLemmas
 pub mod FoundingLemmas
 pub mod EndLemmas
 pub mod StepLemmas
-pub mod SummaryLemmas
+pub mod Summarizing
 pub mod CutLemmas
 pub mod DeedLemmas
 pub mod CaughtLemmas

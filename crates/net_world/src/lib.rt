@@ -5,7 +5,7 @@ mod commands;
 mod crash;
 mod founding;
 mod settling;
-mod summaries;
+mod summarizing;
 mod worlds;
 
 pub use schedule_model::Command;

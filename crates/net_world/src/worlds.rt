@@ -3,7 +3,7 @@
 use crate::commands::answer;
 use crate::founding::found_clones;
 use crate::settling::{ask_live, number_of};
-use crate::summaries::summarize;
+use crate::summarizing::summarize;
 use journal_store::Blank;
 use mld_io::{Banks, CrashBanks};
 use mld_model::CloneState;

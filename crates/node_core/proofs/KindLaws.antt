@@ -29,7 +29,7 @@ use Rattle.node_model.specs.Requests.{TakesRequest}
 use Rattle.node_model.specs.FrameSteps.{KeepsAll, Greets, of_other_format, of_other_domain, of_own_id, of_peer, TakesPart, waits, is_whole, is_bad, with_parts, IsOutOfPlace, FrameStepAs, FrameStep}
 use Rattle.node_core.specs.Events.{IsDueByFrame}
 use Rattle.node_core.specs.Steps.{is_fresh, IsJudged, AddsPart, IsNoPeer, TakesFrame}
-use Rattle.node_core.proofs.Moments.{no_steps}
+use Rattle.node_core.proofs.EventMoments.{no_steps}
 
 -- a step with no durable step
 module _ {B : Type 0} (log : B → Option Log) (one : Connection) (frame : Frame) (old next : NodeState B) (exchange after : ExchangeValue) where

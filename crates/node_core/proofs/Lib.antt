@@ -1,5 +1,5 @@
-mod Moments
-mod MeterLaws
+mod EventMoments
+mod EventMeters
 mod FrameLaws
 mod HoldLaws
 mod UnderWay

@@ -29,7 +29,7 @@ use Rattle.node_core.specs.declared.pieces.Taken.{Taken}
 use Rattle.node_core.specs.Nodes.{BankedNode, node_value, IsGood, AreWell}
 use Rattle.node_core.specs.Events.{DoesEvent, IsDueByFrames, IsDueByPiece, IsDueByEvent}
 use Rattle.node_core.specs.Steps.{TakesFrames, GoesOn, IsHeld, MayEnd, EndsBy, MayPutBack, TakesFed, TakesPieceOn, node_with, taken_node, GreetsOn}
-use Rattle.node_core.proofs.Moments.{no_steps}
+use Rattle.node_core.proofs.EventMoments.{no_steps}
 use Rattle.node_core.proofs.KindLaws.{stops_as}
 use Rattle.node_core.proofs.UnderWay.{stops_behind}
 use Rattle.node_core.proofs.HoldLaws.{frames_well, refusing_well, good_placed, good_without, numbered_without, without_none, number_of_found}

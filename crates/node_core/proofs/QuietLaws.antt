@@ -11,8 +11,8 @@ use Rattle.node_keeper.specs.declared.faults.NodeFault.TheVariants.{Device, NoMe
 use Rattle.node_keeper.specs.declared.states.NodeState.{NodeState}
 use Rattle.node_keeper.specs.States.{IsOpen, banks_of, banks_after, FailsOnDevice}
 use Rattle.node_core.specs.Nodes.{banks_left, IsDeviceFault}
-use Rattle.node_core.proofs.Moments.{no_steps, told_same}
-use Rattle.node_core.proofs.MeterLaws.{meters_none}
+use Rattle.node_core.proofs.EventMoments.{no_steps, told_same}
+use Rattle.node_core.proofs.EventMeters.{meters_none}
 
 not_device : ¬ (◌≡◌ {A = NodeFault} NoMemory Device)
 not_device h = cc

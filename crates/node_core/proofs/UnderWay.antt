@@ -16,8 +16,8 @@ use Rattle.node_model.specs.FrameSteps.{FrameStep, FramesStep, no_more}
 use Rattle.node_core.specs.Events.{IsDueByFrame, IsDueNext, IsDueByFrames}
 use Rattle.node_core.specs.Nodes.{IsGoodRole}
 use Rattle.node_core.specs.Steps.{TakesFrame, TakesFrames, IsHeld, GoesOn}
-use Rattle.node_core.proofs.Moments.{no_steps, moments_then, told_same, told_then}
-use Rattle.node_core.proofs.MeterLaws.{meters_none, meters_then}
+use Rattle.node_core.proofs.EventMoments.{no_steps, moments_then, told_same, told_then}
+use Rattle.node_core.proofs.EventMeters.{meters_none, meters_then}
 use Rattle.node_model.proofs.StepLaws.{frames_lead}
 use Rattle.node_core.proofs.FrameLaws.{frames_more, frames_end}
 use Rattle.node_core.proofs.HoldLaws.{frame_well}

@@ -2,6 +2,6 @@
 //! carries a law as its contract.
 #![tactic(auto)]
 
-mod laws;
+mod run_laws;
 
-pub use laws::node_steps_lead;
+pub use run_laws::node_steps_lead;

@@ -1,8 +1,8 @@
 //! Requests that a node is given, read as their grammar says.
 #![tactic(auto)]
 
-mod laws;
+mod request_laws;
 mod requests;
 
-pub use laws::one_request;
+pub use request_laws::one_request;
 pub use requests::{Request, read_request};

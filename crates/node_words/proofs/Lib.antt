@@ -2,4 +2,4 @@ mod Finding
 mod Iris
 mod Passing
 mod Reading
-mod Turns
+mod TurnNumerals

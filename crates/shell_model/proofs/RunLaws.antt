@@ -11,7 +11,7 @@ use Rattle.jrql_ast.specs.Templates.{insertion_of, deletion_of}
 use Rattle.shell_text.specs.declared.commands.ShellCommand.{ShellCommand}
 use Rattle.shell_text.specs.declared.commands.ShellCommand.TheVariants as shell
 use Rattle.shell_model.specs.Laws.{StepsLead}
-use Rattle.shell_model.specs.ShellLines.{ShellLine, ShellRuns, Commands, says_nothing, is_bad, commands}
+use Rattle.shell_model.specs.ShellRuns.{ShellLine, ShellRuns, Commands, says_nothing, is_bad, commands}
 use Rattle.shell_model.specs.ShellReply.{ShellReply, IsClosed, FoundNothing, FoundDamage, NotEmpty}
 use Rattle.shell_model.specs.ShellStep.{AnswersUpdate, no_tick_is_left, is_too_large, changes_nothing, breaks_single, makes_operation, KeepsJournal, is_kept_so, no_generation_is_left, swaps_journal, OnlyReplies, LiveStep, Stays, RunsFrom, Reopens, OpensShut, first_clone, Founds, FoundsShut, ShutStep, Stops, StaysLive, ShellStep}
 use Rattle.shell_model.specs.Shells.{Found, Nothing, Stored, Damage, Shell, Shut, Live, found_of, found_after_step, found_after, generation_after}

@@ -2,7 +2,7 @@
 use Rattle.std.specs.Prelude.{◌≡◌, ℕ, List}
 use Rattle.clone_banks.specs.KeptSteps.{KeptStep}
 use Rattle.shell_model.specs.Shells.{Shell, found_of, found_after}
-use Rattle.shell_model.specs.ShellLines.{ShellRuns}
+use Rattle.shell_model.specs.ShellRuns.{ShellRuns}
 
 -- what is found on the banks after a run is what its durable steps make of what was found there before
 abbrev pub StepsLead : Type 0

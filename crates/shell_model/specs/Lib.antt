@@ -1,5 +1,5 @@
 pub mod Laws
-pub mod ShellLines
+pub mod ShellRuns
 pub mod ShellReply
 pub mod Shells
 pub mod ShellStep

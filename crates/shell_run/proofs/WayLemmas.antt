@@ -13,7 +13,7 @@ use Rattle.input_lines.specs.TooLarge.{left_after, BreaksLimits, IsTooLargeLine}
 use Rattle.input_lines.specs.Taken.{TakesLine, IsLeft, KnowsEnd, ReadsLines}
 use Rattle.input_lines.proofs.TakenLemmas.{left_first, taken_left, taken_fit, all_fit, large_next}
 use Rattle.shell_model.specs.Shells.{Shell, Shut, Live, Found, found_in, found_of, found_after}
-use Rattle.shell_model.specs.ShellLines.{ShellLine, ShellRuns, IsDueByLine}
+use Rattle.shell_model.specs.ShellRuns.{ShellLine, ShellRuns, IsDueByLine}
 use Rattle.shell_model.proofs.RunLaws.{steps_lead, found_both}
 use Rattle.shell_session.specs.declared.sessions.Session.{Session}
 use Rattle.shell_session.specs.declared.sessions.Session.TheVariants as sessions

@@ -5,7 +5,7 @@ use Rattle.mld_io.specs.Disk.{Log, seen, LeavesOnly}
 use Rattle.journal_sides.specs.Pairs.{read_banks}
 use Rattle.clone_banks.specs.KeptSteps.{KeptStep}
 use Rattle.shell_model.specs.Shells.{Shell, Shut, Found, found_in, found_of, found_after}
-use Rattle.shell_model.specs.ShellLines.{ShellLine, ShellRuns, IsDueByLine}
+use Rattle.shell_model.specs.ShellRuns.{ShellLine, ShellRuns, IsDueByLine}
 use Rattle.shell_session.specs.Sessions.{HasFound}
 use Rattle.shell_session.specs.Lines.{ImagesFind, FindsFront, LeavesFront}
 use Rattle.shell_run.specs.Inputs.{AreFirst, AreAll, AreRead, AreBefore, AreUpTo, IfTold}

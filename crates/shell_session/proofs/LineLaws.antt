@@ -13,7 +13,7 @@ use Rattle.shell_text.specs.declared.commands.ShellCommand.TheVariants as shell
 use Rattle.shell_text.specs.ReadShell.{IsBadShell, IsShellInForm}
 use Rattle.shell_text.specs.ShellLines.{SpellsShell}
 use Rattle.shell_model.specs.Shells.{Found, Shell, Shut, Live, domain_of, found_of, generation_after}
-use Rattle.shell_model.specs.ShellLines.{ShellLine, says_nothing, is_bad, commands, IsDueByLine}
+use Rattle.shell_model.specs.ShellRuns.{ShellLine, says_nothing, is_bad, commands, IsDueByLine}
 use Rattle.shell_model.specs.ShellReply.{ShellReply, Says, BadLine, shell_text}
 use Rattle.shell_model.specs.ShellStep.{LiveStep, StaysLive, ShellStep, IsDue, IsDueLive}
 use Rattle.shell_session.specs.declared.sessions.Session.{Session}

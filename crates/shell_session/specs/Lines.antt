@@ -12,7 +12,7 @@ use Rattle.shell_text.specs.ReadShell.{IsShellInForm}
 use Rattle.shell_model.specs.Shells.{Found, found_in, found_after, Shell, found_of}
 use Rattle.shell_model.specs.ShellReply.{ShellReply, shell_text}
 use Rattle.shell_model.specs.ShellStep.{ShellStep, IsDue}
-use Rattle.shell_model.specs.ShellLines.{ShellLine, IsDueByLine}
+use Rattle.shell_model.specs.ShellRuns.{ShellLine, IsDueByLine}
 use Rattle.shell_session.specs.declared.faults.SessionFault.{SessionFault}
 use Rattle.shell_session.specs.declared.faults.SessionFault.TheVariants.{Device}
 use Rattle.shell_session.specs.declared.sessions.Session.{Session}

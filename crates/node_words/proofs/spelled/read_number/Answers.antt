@@ -1,5 +1,5 @@
 use Rattle.std.proofs.Common.{rules, ◌≡◌, ◌<◌, ◌∙◌, ℕ, List, get_or, length, ap, arith}
-use Rattle.node_words.proofs.Turns.{not_empty, not_low, read_so, unread}
+use Rattle.node_words.proofs.TurnNumerals.{not_empty, not_low, read_so, unread}
 use Rattle.node_words.proofs.spelled.read_number.Goals as goal
 
 pub returns-then-is_empty : goal.returns-then-is_empty

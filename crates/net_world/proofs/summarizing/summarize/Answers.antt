@@ -1,5 +1,5 @@
-use Rattle.net_world.proofs.SummaryLemmas.{summarizes_more}
-use Rattle.net_world.proofs.summaries.summarize.Goals as goal
+use Rattle.net_world.proofs.Summarizing.{summarizes_more}
+use Rattle.net_world.proofs.summarizing.summarize.Goals as goal
 
 pub loop-clone-preserved : goal.loop-clone-preserved
 loop-clone-preserved g c =
