@@ -92,7 +92,7 @@ impl<T: Keyed + Drop> Chunked<T> {
     }
 
     /// The elements that pass the test, wherever they stand, in order.
-    pub fn filtered<P: Test<T>>(&self, alloc: Global, test: &P) -> Result<Vec<&T>, AllocError>
+    pub fn find_all<P: Test<T>>(&self, alloc: Global, test: &P) -> Result<Vec<&T>, AllocError>
         ensures { IfOk result (λ found. map (λ x. x.now) found.items ≡ filter (P.passes test.now) self.now.elements) }
     {
         filtered_in(alloc, &self.store.chunks, test)

@@ -6,7 +6,7 @@ use Rattle.mld_io.specs.Disk.{Log}
 use Rattle.mld_ops.specs.Entry.{EntryValue}
 use Rattle.mld_ops.specs.Ready.{last_dot}
 use Rattle.op_codec.specs.Stored.{IsShortEntry}
-use Rattle.journal_sides.specs.Records.{raised_to}
+use Rattle.journal_sides.specs.RecordBytes.{raised_to}
 use Rattle.journal_sides.specs.StoredVolumes.{AreGoodEntries}
 use Rattle.journal_store.specs.Closing.{LeavesRefused, LeavesSwap}
 use Rattle.journal_store.specs.Settling.{swap_fault}

@@ -9,7 +9,7 @@ use Rattle.rdf_terms.specs.Order.{iri_cmp}
 use Rattle.tree_clock.specs.Lists.{IsAscending}
 use Rattle.journal_sides.specs.Heads.{HeadValue}
 use Rattle.journal_sides.specs.Pairs.{Kept}
-use Rattle.journal_sides.specs.Records.{known_after}
+use Rattle.journal_sides.specs.RecordBytes.{known_after}
 use Rattle.journal_store.specs.Calls.{MayFork}
 use Rattle.journal_store.specs.Standing.{JournalValue, KeepsJust}
 use Rattle.clone_plans.specs.Replays.{AreReadyEntries}

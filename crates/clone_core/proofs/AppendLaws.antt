@@ -11,7 +11,7 @@ use Rattle.op_fusion.proofs.Applied.{applied}
 use Rattle.journal_sides.proofs.Ready.{ready_same}
 use Rattle.journal_sides.specs.Heads.{HeadValue}
 use Rattle.journal_sides.specs.Pairs.{Kept, with_fork}
-use Rattle.journal_sides.specs.Records.{known_after}
+use Rattle.journal_sides.specs.RecordBytes.{known_after}
 use Rattle.journal_store.specs.Calls.{KeptBy, swapped}
 use Rattle.journal_store.specs.Closing.{StaysTold, GoesOn, IsSwapped, LeavesRefused, LeavesSwap}
 use Rattle.journal_store.specs.Standing.{JournalValue, KeepsJust, KeepsNow}

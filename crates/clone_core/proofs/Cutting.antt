@@ -5,7 +5,7 @@ use Rattle.mld_ops.specs.declared.tagged.Tagged.{Tagged}
 use Rattle.mld_ops.specs.Entry.{EntryValue}
 use Rattle.mld_ops.specs.Ready.{last_dot}
 use Rattle.suset.specs.SnapshotJoin.{CoversAll}
-use Rattle.journal_sides.specs.Records.{raised_to}
+use Rattle.journal_sides.specs.RecordBytes.{raised_to}
 use Rattle.mld_model.specs.Local.{LocalClone, IsLocal, LeadsTo, LocallyTruncates}
 use Rattle.mld_model.proofs.TruncatedStands.{truncated_local}
 use Rattle.clone_plans.specs.Replays.{AreReadyEntries}

@@ -5,7 +5,7 @@ use clone_banks::swap_kept;
 use journal_store::Head;
 use mld_io::Banks;
 use mld_ops::{Tagged, copy_pairs, copy_properties};
-use op_fusion::{compacted, has_neighbours};
+use op_fusion::{compact_entries, has_neighbours};
 use std::alloc::{AllocError, Global};
 use tree_clock::Clock;
 
@@ -64,7 +64,7 @@ impl<B: Banks> MldClone<B> {
         ensures durable { (steps : List KeptStep) × KeepSteps (HasNeighbours self.old.local.entries) (LocallyCompacts self.old.local) self.new.local result steps
             × Changes B.log B.meter steps self.old self.new.banks (IsOk result) (IsErrOf result KeepFault.Device) }
     {
-        let entries = compacted(alloc, &self.entries)?;
+        let entries = compact_entries(alloc, &self.entries)?;
         let base = self.base.copy_in(alloc)?;
         let pairs = copy_pairs(alloc, &self.base_pairs)?;
         let head = self.head_over(alloc, base, pairs)?;

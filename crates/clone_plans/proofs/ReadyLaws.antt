@@ -12,7 +12,7 @@ use Rattle.tree_clock.specs.Clock.{ticks_of, RaisesTo}
 use Rattle.tree_clock.specs.declared.dots.Dot.{Dot}
 use Rattle.tree_clock.proofs.ClockLaws.{same_test, apart_test}
 use Rattle.journal_sides.proofs.Ready.{ready_same}
-use Rattle.journal_sides.specs.Records.{raised_to, known_after}
+use Rattle.journal_sides.specs.RecordBytes.{raised_to, known_after}
 use Rattle.journal_sides.specs.StoredVolumes.{AreGoodEntries}
 use Rattle.clone_plans.specs.Replays.{AreReadyEntries}
 

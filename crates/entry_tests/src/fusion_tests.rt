@@ -1,7 +1,7 @@
 //! Entries that are fused, compacted and cut.
 use crate::entries::{Row, clock, entries, entry, pair, pairs};
 use mld_ops::{Cut, Entry, Tagged, Tags};
-use op_fusion::{FuseFault, compacted, cut, fuse, has_neighbours};
+use op_fusion::{FuseFault, compact_entries, cut, fuse, has_neighbours};
 use rdf_terms::Triple;
 use std::alloc::{AllocError, Global};
 use std::test::Fail;
@@ -108,7 +108,7 @@ fn compact_to(
     first: &Entry,
     second: &Entry,
 ) -> Result<bool, AllocError> {
-    let runs = compacted(alloc, entries)?;
+    let runs = compact_entries(alloc, entries)?;
     Ok(match runs.as_slice() {
         [run, alone] => {
             has_neighbours(entries)

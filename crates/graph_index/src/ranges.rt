@@ -41,7 +41,7 @@ pub(crate) fn found_among_all(
     requires { IsAscending tagged_cmp pairs.now.elements }
     ensures { IfOk result (λ found. IsOfRange range.now pairs.now.elements found.items) }
 {
-    let found = pairs.filtered(alloc, &OfRange { range })?;
+    let found = pairs.find_all(alloc, &OfRange { range })?;
     copy_found(alloc, &found)
 }
 

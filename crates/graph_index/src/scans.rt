@@ -27,7 +27,7 @@ pub(crate) fn matching_in<'a>(
 {
     match s {
         Some(subject) => matching_subject(alloc, pairs, subject, p, o),
-        None => pairs.filtered(alloc, &Matching { s, p, o }),
+        None => pairs.find_all(alloc, &Matching { s, p, o }),
     }
 }
 

@@ -134,7 +134,7 @@ fn chunks_split_and_go_at_their_borders(rt: HostRuntime) -> Result<(), Fail> {
     assert!(rt; list.len() == 0 && splits(alloc, &mut list) && list.len() == 96);
     assert!(rt; splits_the_last(alloc, &mut list) && list.len() == 96);
     assert!(rt; loses_a_chunk(alloc, &mut list) && is_found(alloc, &list)?);
-    assert!(rt; list.filtered(alloc, &Under { number: 66 })?.len() == 34);
+    assert!(rt; list.find_all(alloc, &Under { number: 66 })?.len() == 34);
     cut_out(&mut list, 0, 96);
     assert!(rt; list.len() == 0 && list.chunks().is_empty());
     Ok(())

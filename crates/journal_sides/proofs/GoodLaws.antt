@@ -12,7 +12,7 @@ use Rattle.journal_sides.specs.declared.side_reading.Found.{Found}
 use Rattle.journal_sides.specs.FoundVolumes.{IsFoundOn, MayBeWritten}
 use Rattle.journal_sides.specs.Heads.{HeadValue}
 use Rattle.journal_sides.specs.Pairs.{Kept, kept_on}
-use Rattle.journal_sides.specs.Records.{RecordValue, EntryRecord, ForkRecord, entries_in, raised_to, known_after}
+use Rattle.journal_sides.specs.RecordBytes.{RecordValue, EntryRecord, ForkRecord, entries_in, raised_to, known_after}
 use Rattle.journal_sides.specs.StoredVolumes.{IsGoodHead, AreGoodEntries, IsStoredHead, AreStoredRecords}
 use Rattle.journal_sides.proofs.RecordReading.{entries_more, entries_forked, known_more}
 

@@ -11,7 +11,7 @@ use Rattle.tree_clock.proofs.ClockLaws.{same_test, apart_test, ticks_of-below}
 use Rattle.tree_clock.specs.Dot.{IsIn}
 use Rattle.tree_clock.specs.Lists.{IsAscending}
 use Rattle.tree_clock.specs.declared.dots.Dot.{Dot}
-use Rattle.journal_sides.specs.Records.{is_known_elsewhere, is_ready_entry}
+use Rattle.journal_sides.specs.RecordBytes.{is_known_elsewhere, is_ready_entry}
 
 -- ---- the other paths of a time
 

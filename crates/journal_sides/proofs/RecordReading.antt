@@ -19,7 +19,7 @@ use Rattle.tree_clock.specs.declared.dots.Dot.{Dot}
 use Rattle.journal_sides.specs.RecordsRead.{Shows, TakesRecord, HasGate, HasNoGate, FindsRecords}
 use Rattle.journal_sides.specs.Format.{entry_record_kind, fork_kind}
 use Rattle.journal_sides.specs.Heads.{HeadValue}
-use Rattle.journal_sides.specs.Records.{RecordValue, EntryRecord, ForkRecord, entries_in, path_after, raised_to, known_after, is_ready_entry, next_entry, read_entry_record, read_record_body, read_record, read_records}
+use Rattle.journal_sides.specs.RecordBytes.{RecordValue, EntryRecord, ForkRecord, entries_in, path_after, raised_to, known_after, is_ready_entry, next_entry, read_entry_record, read_record_body, read_record, read_records}
 use Rattle.journal_sides.proofs.Ready.{ready_tested, test_ready, ready_same}
 
 -- ---- one record more

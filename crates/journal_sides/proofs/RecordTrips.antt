@@ -12,7 +12,7 @@ use Rattle.op_codec.proofs.Sequences.{Splits, splits, bytes_left, same_parts, fa
 use Rattle.tree_clock.specs.Limits.{path_limit}
 use Rattle.journal_sides.specs.Format.{open_gate, entry_record_kind, fork_kind}
 use Rattle.journal_sides.specs.Heads.{HeadValue}
-use Rattle.journal_sides.specs.Records.{RecordValue, EntryRecord, ForkRecord, record_bytes, blocks, entries_in, path_after, known_after, is_ready_entry, next_entry, read_entry_record, read_record_body, read_record, read_records}
+use Rattle.journal_sides.specs.RecordBytes.{RecordValue, EntryRecord, ForkRecord, record_bytes, blocks, entries_in, path_after, known_after, is_ready_entry, next_entry, read_entry_record, read_record_body, read_record, read_records}
 use Rattle.journal_sides.specs.StoredVolumes.{IsStoredRecord, AreStoredRecords}
 use Rattle.journal_sides.proofs.Ready.{ready_tested, test_ready}
 

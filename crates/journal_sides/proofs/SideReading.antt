@@ -15,7 +15,7 @@ use Rattle.journal_sides.specs.Format.{open_gate}
 use Rattle.journal_sides.specs.FoundVolumes.{BeginsOpen, TellsVolume}
 use Rattle.journal_sides.specs.Heads.{Opening, read_head}
 use Rattle.journal_sides.specs.Pairs.{kept_on}
-use Rattle.journal_sides.specs.Records.{RecordValue, read_records}
+use Rattle.journal_sides.specs.RecordBytes.{RecordValue, read_records}
 use Rattle.journal_sides.specs.SideReadings.{IsClosed, IsOpen, Volume, side_of, read_volume, read_side}
 use Rattle.journal_sides.specs.StoredVolumes.{EndsAt, IsVolume}
 use Rattle.journal_sides.proofs.HeadTrips.{head_one}

@@ -7,7 +7,7 @@ use Rattle.op_codec.specs.Reading.{Reading, Found, Fault, chain}
 use Rattle.op_codec.proofs.Sequences.{splits, bytes_left, same_parts}
 use Rattle.journal_sides.specs.Format.{open_gate}
 use Rattle.journal_sides.specs.Heads.{Opening, head_bytes, read_head}
-use Rattle.journal_sides.specs.Records.{RecordValue, record_bytes, blocks, read_records}
+use Rattle.journal_sides.specs.RecordBytes.{RecordValue, record_bytes, blocks, read_records}
 use Rattle.journal_sides.specs.SideReadings.{IsClosed, IsOpen, Volume, side_of, volume_bytes, read_volume, read_side}
 use Rattle.journal_sides.specs.StoredVolumes.{EndsAt, IsWrittenSide, IsVolume, AreStoredRecords}
 use Rattle.journal_sides.proofs.HeadTrips.{head_back, head_one}

@@ -16,7 +16,7 @@ use Rattle.op_codec.specs.Stored.{IsShortEntry, IsShortSnapshot, HasPairShape, I
 use Rattle.op_codec.proofs.Appending.{appended_both}
 use Rattle.journal_sides.specs.Format.{open_gate, closed_gate}
 use Rattle.journal_sides.specs.Heads.{HeadValue, head_bytes}
-use Rattle.journal_sides.specs.Records.{RecordValue, EntryRecord, record_bytes, blocks, entries_in, path_after, raised_to, known_after}
+use Rattle.journal_sides.specs.RecordBytes.{RecordValue, EntryRecord, record_bytes, blocks, entries_in, path_after, raised_to, known_after}
 use Rattle.journal_sides.specs.SideReadings.{Volume, volume_bytes}
 use Rattle.journal_sides.specs.StoredVolumes.{AreGoodEntries, IsStoredHead, IsStoredRecord, AreStoredRecords, IsVolume}
 use Rattle.journal_sides.specs.WrittenRecords.{entry_records, volume_of, with_record}

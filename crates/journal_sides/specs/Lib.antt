@@ -1,6 +1,6 @@
 pub mod Format
 pub mod Heads
-pub mod Records
+pub mod RecordBytes
 pub mod Openings
 pub mod SideReadings
 pub mod Pairs

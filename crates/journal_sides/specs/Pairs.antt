@@ -7,7 +7,7 @@ use Rattle.mld_ops.specs.Entry.{EntryValue}
 use Rattle.tree_clock.specs.Path.{zero_letter}
 use Rattle.journal_sides.specs.Format.{generation_place}
 use Rattle.journal_sides.specs.Heads.{HeadValue}
-use Rattle.journal_sides.specs.Records.{entries_in, path_after}
+use Rattle.journal_sides.specs.RecordBytes.{entries_in, path_after}
 use Rattle.journal_sides.specs.SideReadings.{SideReading, IsClosed, IsOpen, IsDamaged, Volume, read_side}
 
 -- What is kept: the side that counts, its generation, the head, whose path is that of the clone, so it has one letter `0` more for

@@ -8,7 +8,7 @@ use Rattle.op_codec.specs.Reading.{Reading}
 use Rattle.tree_clock.specs.Clock.{ticks_of}
 use Rattle.journal_sides.specs.Format.{open_gate}
 use Rattle.journal_sides.specs.Heads.{HeadValue, text_at, read_text}
-use Rattle.journal_sides.specs.Records.{RecordValue, entries_in, path_after, known_after}
+use Rattle.journal_sides.specs.RecordBytes.{RecordValue, entries_in, path_after, known_after}
 
 -- a piece of the input
 abbrev pub piece_at : List ℕ → ℕ → ℕ → List ℕ

@@ -3,7 +3,7 @@ use Rattle.std.specs.Prelude.{ℕ, suc, ◌==◌, List, [], ◌∷◌, ◌++◌,
 use Rattle.op_codec.specs.Reading.{Reading, Found, Fault, chain}
 use Rattle.journal_sides.specs.Format.{open_gate}
 use Rattle.journal_sides.specs.Heads.{Opening, head_bytes, read_head}
-use Rattle.journal_sides.specs.Records.{RecordValue, blocks, read_records}
+use Rattle.journal_sides.specs.RecordBytes.{RecordValue, blocks, read_records}
 
 -- what stands on an open side
 pub record Volume : Type 0 where

@@ -12,7 +12,7 @@ use Rattle.tree_clock.specs.Limits.{path_limit}
 use Rattle.tree_clock.specs.Lists.{IsAscending}
 use Rattle.journal_sides.specs.Format.{open_gate}
 use Rattle.journal_sides.specs.Heads.{HeadValue, Opening}
-use Rattle.journal_sides.specs.Records.{RecordValue, EntryRecord, ForkRecord, entries_in, path_after, raised_to, known_after}
+use Rattle.journal_sides.specs.RecordBytes.{RecordValue, EntryRecord, ForkRecord, entries_in, path_after, raised_to, known_after}
 use Rattle.journal_sides.specs.SideReadings.{Volume, volume_bytes}
 
 -- ---- what a caller has to see to

@@ -2,7 +2,7 @@
 use Rattle.std.specs.Prelude.{ℕ, List, [], ◌∷◌, ◌++◌, map}
 use Rattle.mld_ops.specs.Entry.{EntryValue}
 use Rattle.journal_sides.specs.Heads.{HeadValue}
-use Rattle.journal_sides.specs.Records.{RecordValue, EntryRecord}
+use Rattle.journal_sides.specs.RecordBytes.{RecordValue, EntryRecord}
 use Rattle.journal_sides.specs.SideReadings.{Volume}
 
 -- the records of entries

@@ -10,7 +10,7 @@ ghost use Rattle.op_codec.specs.Paths.{path_bytes};
 ghost use Rattle.op_codec.specs.Stored.{IsShort, IsShortEntry, IsShortSnapshot, IsId, IsPath, IsSnapshot, IsStoredEntry};
 ghost use Rattle.journal_sides.specs.Format.{open_gate, closed_gate};
 ghost use Rattle.journal_sides.specs.Heads.{head_value, props_bytes, head_bytes};
-ghost use Rattle.journal_sides.specs.Records.{EntryRecord, record_bytes, blocks};
+ghost use Rattle.journal_sides.specs.RecordBytes.{EntryRecord, record_bytes, blocks};
 ghost use Rattle.journal_sides.specs.SideReadings.{volume_bytes};
 ghost use Rattle.journal_sides.specs.StoredVolumes.{IsGoodHead, AreGoodEntries, IsText, IsStoredHead, IsVolume};
 ghost use Rattle.journal_sides.specs.WrittenRecords.{entry_records, volume_of};
@@ -110,7 +110,7 @@ fn append_head(out: &mut Vec<u8>, generation: u64, head: &Head) -> Result<(), Al
 }
 
 /// Appends the record of an entry.
-#[tactic(auto, unfolding(crate::specs::Records::record_bytes))]
+#[tactic(auto, unfolding(crate::specs::RecordBytes::record_bytes))]
 fn append_record(out: &mut Vec<u8>, entry: &Entry) -> Result<(), AllocError>
     requires { IsShortEntry entry.now }
     ensures ok { OnOk result (out.new.items ≡ out.old.items ++ record_bytes (EntryRecord entry.now)) }

@@ -5,7 +5,7 @@ ghost use Rattle.mld_ops.specs.Ready.{last_dot};
 ghost use Rattle.tree_clock.specs.Clock.{ticks_of};
 ghost use Rattle.journal_sides.specs.RecordsRead.{Shows, TakesRecord, HasGate, HasNoGate, FindsRecords};
 ghost use Rattle.journal_sides.specs.Heads.{HeadValue};
-ghost use Rattle.journal_sides.specs.Records.{RecordValue, EntryRecord, raised_to, read_entry_record, read_record, read_records};
+ghost use Rattle.journal_sides.specs.RecordBytes.{RecordValue, EntryRecord, raised_to, read_entry_record, read_record, read_records};
 
 use causal_buffer::is_ready;
 use mld_ops::Entry;

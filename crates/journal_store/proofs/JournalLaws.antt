@@ -10,7 +10,7 @@ use Rattle.mld_io.specs.declared.banks.Side.TheVariants.{A, B}
 use Rattle.mld_ops.specs.Entry.{EntryValue}
 use Rattle.journal_sides.specs.Heads.{HeadValue}
 use Rattle.journal_sides.specs.Pairs.{Kept, PairReading, KeepsNone, Keeps, Damages, kept_on, greater_of, pair_of, read_banks, with_entry, with_fork}
-use Rattle.journal_sides.specs.Records.{RecordValue, EntryRecord, ForkRecord}
+use Rattle.journal_sides.specs.RecordBytes.{RecordValue, EntryRecord, ForkRecord}
 use Rattle.journal_sides.specs.SideReadings.{SideReading, IsClosed, IsOpen, IsDamaged, Volume, read_side}
 use Rattle.journal_sides.specs.StoredVolumes.{EndsAt, IsVolume, IsStoredRecord}
 use Rattle.journal_sides.specs.WrittenRecords.{volume_of, with_record}

@@ -7,7 +7,7 @@ use Rattle.mld_io.specs.Disk.{Call, Log, Sides, bytes_of, other_side, written, s
 use Rattle.mld_io.proofs.DiskLaws.{bytes_of-with_bytes, bytes_of-with_bytes_other}
 use Rattle.mld_io.specs.declared.banks.Side.{Side}
 use Rattle.journal_sides.specs.Format.{open_gate, closed_gate}
-use Rattle.journal_sides.specs.Records.{RecordValue, record_bytes}
+use Rattle.journal_sides.specs.RecordBytes.{RecordValue, record_bytes}
 use Rattle.journal_sides.specs.SideReadings.{IsClosed, IsOpen, Volume, volume_bytes, read_side}
 use Rattle.journal_sides.specs.StoredVolumes.{EndsAt, IsVolume}
 use Rattle.journal_sides.specs.WrittenRecords.{with_record}

@@ -7,7 +7,7 @@ use Rattle.mld_ops.specs.Ready.{IsReadyEntry}
 use Rattle.tree_clock.specs.Limits.{path_limit}
 use Rattle.journal_sides.specs.Heads.{HeadValue}
 use Rattle.journal_sides.specs.Pairs.{Kept, Keeps, read_banks}
-use Rattle.journal_sides.specs.Records.{known_after}
+use Rattle.journal_sides.specs.RecordBytes.{known_after}
 use Rattle.journal_store.specs.declared.faults.MakeFault.{MakeFault}
 use Rattle.journal_store.specs.declared.faults.MakeFault.TheVariants as make
 use Rattle.journal_store.specs.declared.faults.Why.{Why}

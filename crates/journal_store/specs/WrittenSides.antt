@@ -3,7 +3,7 @@ use Rattle.std.specs.Prelude.{◌≡◌, ◌⊎◌, ℕ, List, Option, Some}
 use Rattle.mld_io.specs.Arm.{Arm}
 use Rattle.mld_io.specs.Disk.{Call, Log, Sides, bytes_of, other_side, seen, IsSettled}
 use Rattle.mld_io.specs.declared.banks.Side.{Side}
-use Rattle.journal_sides.specs.Records.{RecordValue}
+use Rattle.journal_sides.specs.RecordBytes.{RecordValue}
 use Rattle.journal_sides.specs.SideReadings.{IsClosed, IsOpen, Volume, read_side}
 use Rattle.journal_sides.specs.StoredVolumes.{EndsAt}
 use Rattle.journal_sides.specs.WrittenRecords.{with_record}

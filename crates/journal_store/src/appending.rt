@@ -4,7 +4,7 @@ ghost use Rattle.mld_io.specs.Arm.{Metered};
 ghost use Rattle.mld_io.specs.Disk.{Log, LeavesMeanwhile, IsSettled, bytes_of, seen};
 ghost use Rattle.journal_sides.specs.Format.{closed_gate};
 ghost use Rattle.journal_sides.specs.Heads.{head_value};
-ghost use Rattle.journal_sides.specs.Records.{RecordValue, record_bytes};
+ghost use Rattle.journal_sides.specs.RecordBytes.{RecordValue, record_bytes};
 ghost use Rattle.journal_sides.specs.SideReadings.{Volume};
 ghost use Rattle.journal_sides.specs.StoredVolumes.{EndsAt, IsGoodHead, AreGoodEntries, IsVolume};
 ghost use Rattle.journal_sides.specs.WrittenRecords.{with_record, volume_of};

@@ -22,7 +22,7 @@ pub fn has_neighbours(entries: &[Entry]) -> bool
 
 /// The entries with each run of neighbours fused to one. A run is as long as it can be, and is fused by halves: so a run of
 /// n entries of a tick each takes in the order of n log n steps.
-pub fn compacted(alloc: Global, entries: &[Entry]) -> Result<Vec<Entry>, AllocError>
+pub fn compact_entries(alloc: Global, entries: &[Entry]) -> Result<Vec<Entry>, AllocError>
     ensures fused { IfOk result (λ runs. AreFusedRuns entries.now runs.items) }
     ensures entries { OnOk result ((entry : EntryValue) → Has entries.now entry → IsEntry entry) }
 {

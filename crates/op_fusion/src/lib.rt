@@ -8,7 +8,7 @@ mod fusing;
 mod laws;
 mod pairs;
 
-pub use compacting::{compacted, has_neighbours};
+pub use compacting::{compact_entries, has_neighbours};
 pub use cutting::cut;
 pub use faults::FuseFault;
 pub use fusing::fuse;

@@ -13,13 +13,13 @@ use Rattle.mld_model.specs.Reply.{Reply, Tells, TooMany}
 use Rattle.mld_model.specs.World.{World}
 use Rattle.mld_model.proofs.StateLaws.{AreSame, once_if_live}
 use Rattle.schedule_model.specs.Laws.{SamePairs, SameAnswers}
-use Rattle.schedule_model.specs.Querying.{TellsAnswer, AnswersQuery, Queries}
+use Rattle.schedule_model.specs.Querying.{AnswersByText, AnswersQuery, Queries}
 use Rattle.schedule_model.specs.Step.{Step}
 use Rattle.jrql_ast.proofs.OneAnswer.{one_answer}
 use Rattle.jrql_reply.proofs.OneText.{one_text}
 
 -- an answer has one text, and a query one answer
-one_telling : (graph : List Triple) (read : ReadQuery) (text other : List ℕ) → TellsAnswer graph read text → TellsAnswer graph read other → text ≡ other
+one_telling : (graph : List Triple) (read : ReadQuery) (text other : List ℕ) → AnswersByText graph read text → AnswersByText graph read other → text ≡ other
 one_telling graph read text other p q =
     let same : p.answer ≡ q.answer = one_answer graph read.query p.answer q.answer p.answers q.answers in
     one_text read.context read.query q.answer text other (subst (λ (answer : Answer). SpellsAnswer read.context read.query answer text) same p.spells) q.spells

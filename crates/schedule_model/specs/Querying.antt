@@ -15,7 +15,7 @@ use Rattle.mld_model.specs.Reply.{Reply, Tells, TooMany}
 use Rattle.mld_model.specs.World.{World}
 
 -- a query has no more solutions over the triples than it may have, and the text is that of its answer
-pub record TellsAnswer (graph : List Triple) (read : ReadQuery) (text : List ℕ) : Type 0 where
+pub record AnswersByText (graph : List Triple) (read : ReadQuery) (text : List ℕ) : Type 0 where
   pub few : length (found graph read.query.group) ≤ solution_limit
   pub answer : Answer
   pub answers : IsAnswer graph read.query answer
@@ -23,7 +23,7 @@ pub record TellsAnswer (graph : List Triple) (read : ReadQuery) (text : List ℕ
 
 -- the reply to a query over triples: the text of its answer, or that it has more solutions than it may have
 abbrev pub AnswersQuery : List Triple → ReadQuery → Reply → Type 0
-AnswersQuery graph read (Tells text) = TellsAnswer graph read text
+AnswersQuery graph read (Tells text) = AnswersByText graph read text
 AnswersQuery graph read TooMany = solution_limit < length (found graph read.query.group)
 AnswersQuery graph read reply = ⊥
 

@@ -1,7 +1,7 @@
 use Rattle.std.proofs.Common.{◌≡◌, ◌++◌, take}
 use Rattle.op_codec.specs.Stored.{IsStoredEntry}
 use Rattle.op_codec.proofs.Shapes.{EachBelow}
-use Rattle.journal_sides.specs.Records.{blocks}
+use Rattle.journal_sides.specs.RecordBytes.{blocks}
 use Rattle.journal_sides.specs.WrittenRecords.{entry_records}
 use Rattle.journal_sides.proofs.head_writing.append_blocks.Given as goal
 

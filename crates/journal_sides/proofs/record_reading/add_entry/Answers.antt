@@ -2,7 +2,7 @@ use Rattle.std.proofs.Common.{ap, ◌∙◌}
 use Rattle.mld_ops.specs.Ready.{last_dot}
 use Rattle.tree_clock.specs.Clock.{ticks_of}
 use Rattle.tree_clock.specs.declared.dots.Range.{Range}
-use Rattle.journal_sides.specs.Records.{raised_to}
+use Rattle.journal_sides.specs.RecordBytes.{raised_to}
 use Rattle.journal_sides.proofs.RecordReading.{shows_entry}
 use Rattle.journal_sides.proofs.record_reading.add_entry.Goals as goal
 

@@ -4,7 +4,7 @@ use Rattle.std.proofs.lemmas.Result.{err_from_is_err_and}
 use Rattle.op_codec.specs.Agreement.{IsRead, IsRefused}
 use Rattle.op_codec.specs.Reading.{Reading, read_u8}
 use Rattle.journal_sides.specs.RecordsRead.{TakesRecord}
-use Rattle.journal_sides.specs.Records.{RecordValue}
+use Rattle.journal_sides.specs.RecordBytes.{RecordValue}
 use Rattle.journal_sides.proofs.RecordReading.{fork_taken, record_unknown, record_of_entry, record_refused}
 use Rattle.journal_sides.proofs.record_reading.take_record.Goals as goal
 

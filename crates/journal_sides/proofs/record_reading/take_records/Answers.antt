@@ -1,6 +1,6 @@
 use Rattle.std.proofs.Common.{[], drop}
 use Rattle.std.proofs.lemmas.Result.{err_from_is_err_and}
-use Rattle.journal_sides.specs.Records.{read_records}
+use Rattle.journal_sides.specs.RecordBytes.{read_records}
 use Rattle.journal_sides.proofs.RecordReading.{reading_more, reading_missed, reading_done, reading_ended}
 use Rattle.journal_sides.proofs.record_reading.take_records.Goals as goal
 

@@ -1,7 +1,7 @@
 use Rattle.std.proofs.Common.{ℕ, ◌+◌, ◌-◌, ◌<◌, ◌≤◌, [], length, drop}
 use Rattle.journal_sides.specs.RecordsRead.{Shows}
 use Rattle.journal_sides.specs.Heads.{HeadValue}
-use Rattle.journal_sides.specs.Records.{read_records}
+use Rattle.journal_sides.specs.RecordBytes.{read_records}
 use Rattle.journal_sides.proofs.RecordReading.{IsReading}
 use Rattle.journal_sides.proofs.record_reading.take_records.Given as goal
 

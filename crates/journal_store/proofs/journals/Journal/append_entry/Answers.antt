@@ -2,7 +2,7 @@
 use Rattle.std.proofs.Common.{◌≡◌, ◌∙◌, ◌++◌, ◌∷◌, [], ap, sym, subst, Some}
 use Rattle.journal_sides.specs.Format.{closed_gate}
 use Rattle.journal_sides.specs.Pairs.{Keeps, kept_on, with_entry}
-use Rattle.journal_sides.specs.Records.{EntryRecord, record_bytes}
+use Rattle.journal_sides.specs.RecordBytes.{EntryRecord, record_bytes}
 use Rattle.journal_sides.proofs.WrittenLaws.{volume_more}
 use Rattle.journal_store.specs.Crashes.{LeavesEither, gate_behind}
 use Rattle.journal_store.specs.Standing.{JournalValue}

@@ -2,7 +2,7 @@
 use Rattle.std.proofs.Common.{◌≡◌, ◌∙◌, ◌++◌, ◌∷◌, [], refl, ap, sym, subst, Some}
 use Rattle.journal_sides.specs.Format.{closed_gate}
 use Rattle.journal_sides.specs.Pairs.{Keeps, kept_on, with_fork}
-use Rattle.journal_sides.specs.Records.{ForkRecord, record_bytes}
+use Rattle.journal_sides.specs.RecordBytes.{ForkRecord, record_bytes}
 use Rattle.journal_sides.proofs.WrittenLaws.{volume_more}
 use Rattle.journal_store.specs.Crashes.{LeavesEither, gate_behind}
 use Rattle.journal_store.specs.Standing.{JournalValue}

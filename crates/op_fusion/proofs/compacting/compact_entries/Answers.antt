@@ -1,7 +1,7 @@
 use Rattle.std.proofs.Common.{rules, List, sym, subst}
 use Rattle.mld_ops.specs.Entry.{EntryValue}
 use Rattle.op_fusion.proofs.Rows.{AreCompacting, one_more_run, all_compacted}
-use Rattle.op_fusion.proofs.compacting.compacted.Goals as goal
+use Rattle.op_fusion.proofs.compacting.compact_entries.Goals as goal
 
 pub loop-rest-preserved : goal.loop-rest-preserved
 loop-rest-preserved c =

@@ -1,6 +1,6 @@
 use Rattle.std.proofs.Common.{length}
 use Rattle.op_fusion.proofs.Rows.{AreCompacting}
-use Rattle.op_fusion.proofs.compacting.compacted.Given as goal
+use Rattle.op_fusion.proofs.compacting.compact_entries.Given as goal
 
 abbrev pub invariant-loop-rest : goal.invariant-loop-rest
 invariant-loop-rest l = AreCompacting l.initial.rest l.rest l.runs.items
