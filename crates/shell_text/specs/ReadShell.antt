@@ -1,4 +1,4 @@
--- What a line of the shell was read as.
+-- What a line of the shell was read as. `read_shell` cites it.
 use Rattle.std.specs.Prelude.{◌≡◌, ℕ, List, [], ◌∷◌, ◌++◌, codes, Option, None, Some}
 use Rattle.jrql_ast.specs.InForm.{IsPlanInForm, IsQueryInForm}
 use Rattle.schedule_model.specs.Characters.{space}

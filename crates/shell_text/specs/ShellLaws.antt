@@ -1,4 +1,4 @@
--- The laws of the shell's lines.
+-- The laws of the shell's lines. `one_shell_command` cites it.
 use Rattle.std.specs.Prelude.{◌≡◌, ℕ, List, Option}
 use Rattle.schedule_model.specs.Schedule.{IsNothing}
 use Rattle.shell_text.specs.declared.commands.ShellCommand.{ShellCommand}

@@ -37,8 +37,10 @@ pub fn read_creation(alloc: Global, text: &[u8]) -> Result<Option<ShellCommand>,
 /// IRIs up to the end of the line, with a space between each two, where these are not too many.
 fn read_iris(alloc: Global, rest: Option<&[u8]>) -> Result<Option<Vec<Iri>>, AllocError>
     ensures { IfOk result (λ found. MatchOption found
-        ((iris : List (List ℕ)) → length iris ≤ property_limit → ¬ SpellsIris (tail_of (option_map (λ text. text.now) rest.entry)) iris)
-        (λ iris. SpellsIris (tail_of (option_map (λ text. text.now) rest.entry)) iris.items × (length iris.items ≤ property_limit))) }
+        ((iris : List (List ℕ)) → length iris ≤ property_limit
+        → ¬ SpellsIris (tail_of (option_map (λ text. text.now) rest.entry)) iris)
+        (λ iris. SpellsIris (tail_of (option_map (λ text. text.now) rest.entry)) iris.items
+        × (length iris.items ≤ property_limit))) }
 {
     let mut iris = Vec::new(alloc);
     let mut left = rest;

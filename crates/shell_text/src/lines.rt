@@ -1,9 +1,9 @@
 //! Lines that are commands, each in its form.
-ghost use Rattle.std.specs.Prelude.{ℕ, List, IsTrue, IfOk, IsErrOf, MatchOption, option_map};
+ghost use Rattle.std.specs.Prelude.{IsTrue, IfOk, IsErrOf, MatchOption, option_map};
 ghost use Rattle.iri_rules.specs.Domain.{is_domain};
+ghost use Rattle.schedule_text.specs.ReadLines.{Finds};
 ghost use Rattle.shell_text.specs.ReadShell.{ShellIs, IsBadShell, IsReadInForm, SpellsBare};
 ghost use Rattle.shell_text.specs.ShellLines.{SpellsShell, SpellsLive, SpellsDown, SpellsAlike};
-ghost use Rattle.shell_text.specs.declared.commands.ShellCommand.{ShellCommand as ModelCommand};
 
 use crate::commands::ShellCommand;
 use crate::creations::read_creation;
@@ -26,7 +26,8 @@ pub fn read_shell(
 ) -> Result<Option<ShellCommand>, LineRefusal>
     requires { MatchOption domain (Unit {0}) (λ name. IsTrue (is_domain name.now)) }
     ensures ok { IfOk result (ShellIs (option_map (λ name. name.now) domain.entry) line.now) }
-    ensures bad { IsErrOf result LineRefusal.BadLine → IsBadShell (option_map (λ name. name.now) domain.entry) line.now }
+    ensures bad { IsErrOf result LineRefusal.BadLine
+        → IsBadShell (option_map (λ name. name.now) domain.entry) line.now }
     ensures in_form { IfOk result IsReadInForm }
 {
     if is_nothing(line) {
@@ -45,9 +46,7 @@ fn command_in(
     domain: Option<&str>,
 ) -> Result<Option<ShellCommand>, AllocError>
     requires { MatchOption domain (Unit {0}) (λ name. IsTrue (is_domain name.now)) }
-    ensures found { IfOk result (λ found. MatchOption found
-        ((command : ModelCommand) → ¬ SpellsShell (option_map (λ name. name.now) domain.entry) line.now command)
-        (λ command. SpellsShell (option_map (λ name. name.now) domain.entry) line.now command)) }
+    ensures found { IfOk result (Finds (SpellsShell (option_map (λ name. name.now) domain.entry) line.now)) }
     ensures in_form { IfOk result IsReadInForm }
 {
     match domain {
@@ -63,9 +62,7 @@ fn live_command(
     domain: &str,
 ) -> Result<Option<ShellCommand>, AllocError>
     requires { IsTrue (is_domain domain.now) }
-    ensures found { IfOk result (λ found. MatchOption found
-        ((command : ModelCommand) → ¬ SpellsLive domain.now line.now command)
-        (λ command. SpellsLive domain.now line.now command)) }
+    ensures found { IfOk result (Finds (SpellsLive domain.now line.now)) }
     ensures in_form { IfOk result IsReadInForm }
 {
     if let Some(text) = behind(line, b"add ") {
@@ -97,9 +94,7 @@ fn live_command(
 
 /// The command of a line while no clone is live, where the line spells one.
 fn down_command(alloc: Global, line: &[u8]) -> Result<Option<ShellCommand>, AllocError>
-    ensures found { IfOk result (λ found. MatchOption found
-        ((command : ModelCommand) → ¬ SpellsDown line.now command)
-        (λ command. SpellsDown line.now command)) }
+    ensures found { IfOk result (Finds (SpellsDown line.now)) }
     ensures in_form { IfOk result IsReadInForm }
 {
     if asks_for_clone(line) {
@@ -110,9 +105,7 @@ fn down_command(alloc: Global, line: &[u8]) -> Result<Option<ShellCommand>, Allo
 
 /// The command of a line that is spelled alike whether a clone is live or not, where the line spells one.
 fn alike_command(alloc: Global, line: &[u8]) -> Result<Option<ShellCommand>, AllocError>
-    ensures { IfOk result (λ found. MatchOption found
-        ((command : ModelCommand) → ¬ SpellsAlike line.now command)
-        (λ command. SpellsAlike line.now command)) }
+    ensures { IfOk result (Finds (SpellsAlike line.now)) }
 {
     if let Some(text) = behind(line, b"create ") {
         return read_creation(alloc, text);
@@ -128,7 +121,7 @@ fn alike_command(alloc: Global, line: &[u8]) -> Result<Option<ShellCommand>, All
 
 /// The command of a line that is one word.
 fn bare_command(line: &[u8]) -> Option<ShellCommand>
-    ensures { MatchOption result ((command : ModelCommand) → ¬ SpellsBare line.now command) (λ command. SpellsBare line.now command) }
+    ensures { Finds (SpellsBare line.now) result }
 {
     if line == b"open".as_slice() {
         return Some(ShellCommand::Open);

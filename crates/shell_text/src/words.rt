@@ -1,7 +1,8 @@
 //! Words of the shell's lines.
-ghost use Rattle.std.specs.Prelude.{ℕ, List, IsTrue, IfOk, MatchOption, ◌↔◌, option_map};
+ghost use Rattle.std.specs.Prelude.{IsTrue, IfOk, MatchOption, ◌↔◌, option_map};
 ghost use Rattle.schedule_model.specs.Characters.{space};
 ghost use Rattle.schedule_model.specs.Lacking.{Lacks};
+ghost use Rattle.schedule_text.specs.ReadLines.{Finds};
 ghost use Rattle.shell_text.specs.ReadShell.{IsFirstWord};
 ghost use Rattle.shell_text.specs.ShellLines.{IsIdWord, IsIriWord, HasFirstWord, AsksForClone};
 
@@ -23,7 +24,7 @@ pub fn first_word(text: &[u8]) -> (&[u8], Option<&[u8]>)
 /// The id of a word that is a UUID.
 pub fn read_id(word: &[u8]) -> Option<Uuid>
     requires { Lacks space word.now }
-    ensures { MatchOption result ((id : List ℕ) → ¬ IsIdWord word.now id) (λ id. IsIdWord word.now id) }
+    ensures { Finds (IsIdWord word.now) result }
 {
     match Uuid::try_parse_ascii(word) {
         Ok(id) => Some(id),
@@ -34,7 +35,7 @@ pub fn read_id(word: &[u8]) -> Option<Uuid>
 /// The IRI of a word that spells one.
 pub fn read_iri_word(alloc: Global, word: &[u8]) -> Result<Option<Iri>, AllocError>
     requires { Lacks space word.now }
-    ensures { IfOk result (λ found. MatchOption found ((iri : List ℕ) → ¬ IsIriWord word.now iri) (λ iri. IsIriWord word.now iri)) }
+    ensures { IfOk result (Finds (IsIriWord word.now)) }
 {
     let Ok(text) = str::from_utf8(word) else {
         return Ok(None);
