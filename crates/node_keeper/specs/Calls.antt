@@ -1,4 +1,4 @@
--- What a node's calls on a loan of a live clone do.
+-- What a node's calls on a loan of a live clone do. The private calls behind `answer_request` and `receive_message` cite it.
 use Rattle.std.specs.Prelude.{◌≡◌, ℕ, ◌≤◌, if◌then◌else◌, Bool, true, false, List, [], Option, None, Result, Ok, Err, length, drop, map}
 use Rattle.mld_io.specs.Arm.{Meter}
 use Rattle.mld_io.specs.Disk.{Log}

@@ -1,4 +1,4 @@
--- What a node does on its banks for a request or a message.
+-- What a node does on its banks for a request or a message: done, or stopped short. The clauses of `answer_request` and `receive_message` cite it.
 use Rattle.std.specs.Prelude.{◌≡◌, ℕ, List, [], ◌∷◌, Option, None, Some}
 use Rattle.mld_io.specs.Disk.{Log}
 use Rattle.mld_ops.specs.declared.messages.Give.{Give}
@@ -10,7 +10,7 @@ use Rattle.clone_core.specs.Joining.{IsGiveFor}
 use Rattle.shell_text.specs.declared.commands.ShellCommand.{ShellCommand}
 use Rattle.shell_model.specs.Shells.{Found}
 use Rattle.shell_model.specs.ShellStep.{IsDueLive}
-use Rattle.shell_session.specs.Lines.{ImagesFind, LeavesFront}
+use Rattle.shell_session.specs.Lines.{ImagesFind, LeavesFront, StopsIn}
 use Rattle.node_requests.specs.declared.requests.Request.{Request}
 use Rattle.node_requests.specs.declared.requests.Request.TheVariants.{Command}
 use Rattle.node_requests.specs.RequestLines.{SpellsRequest}
@@ -54,3 +54,13 @@ IsDueByRequest keeper line steps = (request : Request) × SpellsRequest (domain_
 abbrev pub IsDueByMessage : Keeper → Message → List KeptStep → Type 0
 IsDueByMessage (Lives generation clone) message steps = WouldReceive clone message steps
 IsDueByMessage (Asks asker) message steps = (give : Give) × IsGiveFor asker message give × (steps ≡ Created (head_of (adopted_clone asker give)) ∷ [])
+
+-- ---- a node that stopped short, and what is left on its banks
+
+-- it stopped short of the durable steps of a request
+abbrev pub StopsRequest : {B : Type 0} → (B → Option Log) → List ℕ → NodeState B → B → Type 0
+StopsRequest log line old left = StopsIn (IsDueByRequest (keeper_of old) line) log (found_of (keeper_of old)) (banks_of old) left
+
+-- it stopped short of the durable steps of a message
+abbrev pub StopsMessage : {B : Type 0} → (B → Option Log) → Message → NodeState B → B → Type 0
+StopsMessage log message old left = StopsIn (IsDueByMessage (keeper_of old) message) log (found_of (keeper_of old)) (banks_of old) left

@@ -1,4 +1,4 @@
--- The fault of a node for that of a live clone's command.
+-- The fault of a node for that of a live clone's command. The conversion of the one into the other cites it.
 use Rattle.shell_session.specs.declared.faults.SessionFault.{SessionFault}
 use Rattle.shell_session.specs.declared.faults.SessionFault.TheVariants as session
 use Rattle.node_keeper.specs.declared.faults.NodeFault.{NodeFault}

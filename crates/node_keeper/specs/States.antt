@@ -1,4 +1,4 @@
--- What a node has on its banks, and what it is in the model.
+-- What a node has on its banks, and what it is in the model. `answer_request` and `receive_message` cite it, and the calls of `NodeState`.
 use Rattle.std.specs.Prelude.{◌≡◌, Option, None, Some, Result, Ok, Err}
 use Rattle.mld_io.specs.Disk.{Log, seen}
 use Rattle.journal_sides.specs.Pairs.{read_banks}
@@ -19,6 +19,10 @@ banks_of (states.Asking asker) = asker.banks
 abbrev pub keeper_of : {B : Type 0} → NodeState B → Keeper
 keeper_of (states.Live clone) = Lives clone.generation clone.local
 keeper_of (states.Asking asker) = Asks asker.asker
+
+-- what a live clone on its banks is in the model
+abbrev pub living : {B : Type 0} → BankedClone B → Keeper
+living clone = Lives clone.generation clone.local
 
 -- a live clone is open
 abbrev pub IsOpen : {B : Type 0} → NodeState B → Type 0

@@ -4,11 +4,10 @@ ghost use Rattle.mld_io.specs.Disk.{Log};
 ghost use Rattle.journal_store.specs.Closing.{StaysTold};
 ghost use Rattle.mld_ops.specs.Messages.{CarriesWant, message_value, IsGoodMessage};
 ghost use Rattle.clone_core.specs.Banked.{KeepsClone};
-ghost use Rattle.shell_session.specs.Lines.{Meters, StopsIn};
+ghost use Rattle.shell_session.specs.Lines.{Meters};
 ghost use Rattle.node_exchange.specs.Exchanges.{telling};
-ghost use Rattle.node_model.specs.Keepers.{Asks, found_of};
 ghost use Rattle.node_keeper.specs.States.{IsOpen, banks_after, FailsOnDevice};
-ghost use Rattle.node_keeper.specs.Deeds.{ReceivesOn, IsDueByMessage};
+ghost use Rattle.node_keeper.specs.Deeds.{ReceivesOn, StopsMessage};
 ghost use Rattle.node_keeper.specs.declared.states.NodeState.TheVariants as states;
 
 use crate::faults::NodeFault;
@@ -31,9 +30,10 @@ pub(crate) fn receive_asking<R: Threads, B: Banks>(
     exchange: &mut Exchange,
 ) -> Result<NodeState<B>, (NodeFault, B)>
     requires { IsGoodMessage (message_value message.now) }
-    ensures done { IfOk result (λ next. ReceivesOn B.log message.now (states.Asking asker) exchange.old next exchange.new) }
+    ensures done { IfOk result
+        (λ next. ReceivesOn B.log message.now (states.Asking asker) exchange.old next exchange.new) }
     ensures opened { IfOk result IsOpen }
-    ensures stopped { IfErr result (λ refused. StopsIn (IsDueByMessage (Asks asker.asker) message.now) B.log (found_of (Asks asker.asker)) asker.banks refused.1) }
+    ensures stopped { IfErr result (λ refused. StopsMessage B.log message.now (states.Asking asker) refused.1) }
     ensures told { StaysTold (B.log asker.banks) (B.log (banks_after result)) }
     ensures fault { Meters (B.meter asker.banks) (B.meter (banks_after result)) (FailsOnDevice result) }
 {

@@ -8,10 +8,10 @@ ghost use Rattle.node_requests.specs.RequestLines.{IsNodeCommand, IsRequestInFor
 ghost use Rattle.node_requests.specs.declared.requests.Request.TheVariants as requests;
 ghost use Rattle.node_exchange.specs.declared.connections.Connection.{Connection};
 ghost use Rattle.node_exchange.specs.Exchanges.{telling_peers_each};
-ghost use Rattle.node_model.specs.Keepers.{Lives};
 ghost use Rattle.node_model.specs.Requests.{TakesRequest};
 ghost use Rattle.node_keeper.specs.Calls.{GoesBy, Replies, IsNoCommand, is_update, IsBehind, told_by};
 ghost use Rattle.node_keeper.specs.Deeds.{IsDueByCommand, IsDueByRequest};
+ghost use Rattle.node_keeper.specs.States.{living};
 
 use crate::faults::NodeFault;
 use crate::telling::{greet_client, say_reply};
@@ -33,8 +33,11 @@ pub(crate) fn answer_loan<B: Banks>(
     requires opened { clone.old.closed ≡ None }
     requires at_hand { (one : Connection) × (exchange.old.at_hand ≡ Some one) }
     ensures done { OnOk result ((one : Connection) → exchange.old.at_hand ≡ Some one
-        → GoesBy B.log B.meter (λ steps next. TakesRequest (Lives clone.old.generation clone.old.local) one line.now exchange.old steps next exchange.new) clone.old clone.new) }
-    ensures stopped { OnErr result (StopsShort B.log B.meter (IsDueByRequest (Lives clone.old.generation clone.old.local) line.now) clone.old clone.new.banks) }
+        → GoesBy B.log B.meter
+        (λ steps next. TakesRequest (living clone.old) one line.now exchange.old steps next exchange.new)
+        clone.old clone.new) }
+    ensures stopped { OnErr result
+        (StopsShort B.log B.meter (IsDueByRequest (living clone.old) line.now) clone.old clone.new.banks) }
     ensures told { StaysTold (B.log clone.old.banks) (B.log clone.new.banks) }
     ensures fault { Meters (B.meter clone.old.banks) (B.meter clone.new.banks) (IsErrOf result NodeFault.Device) }
 {
@@ -53,8 +56,11 @@ fn do_request<B: Banks>(
 ) -> Result<(), NodeFault>
     requires opened { clone.old.closed ≡ None }
     requires form { IsRequestInForm request.now }
-    ensures done { OnOk result (GoesBy B.log B.meter (λ steps next. Replies (Lives clone.old.generation clone.old.local) request.now number exchange.old steps next exchange.new) clone.old clone.new) }
-    ensures stopped { OnErr result (StopsShort B.log B.meter (IsDueByCommand (Lives clone.old.generation clone.old.local) request.now) clone.old clone.new.banks) }
+    ensures done { OnOk result (GoesBy B.log B.meter
+        (λ steps next. Replies (living clone.old) request.now number exchange.old steps next exchange.new)
+        clone.old clone.new) }
+    ensures stopped { OnErr result
+        (StopsShort B.log B.meter (IsDueByCommand (living clone.old) request.now) clone.old clone.new.banks) }
     ensures told { StaysTold (B.log clone.old.banks) (B.log clone.new.banks) }
     ensures fault { Meters (B.meter clone.old.banks) (B.meter clone.new.banks) (IsErrOf result NodeFault.Device) }
 {
@@ -78,8 +84,11 @@ fn do_command<B: Banks>(
     requires opened { clone.old.closed ≡ None }
     requires does { IsNodeCommand command.now }
     requires form { IsShellInForm command.now }
-    ensures done { OnOk result (GoesBy B.log B.meter (λ steps next. Replies (Lives clone.old.generation clone.old.local) (requests.Command command.now) number exchange.old steps next exchange.new) clone.old clone.new) }
-    ensures stopped { OnErr result (StopsShort B.log B.meter (IsDueByCommand (Lives clone.old.generation clone.old.local) (requests.Command command.now)) clone.old clone.new.banks) }
+    ensures done { OnOk result (GoesBy B.log B.meter
+        (λ steps next. Replies (living clone.old) (requests.Command command.now) number exchange.old
+        steps next exchange.new) clone.old clone.new) }
+    ensures stopped { OnErr result (StopsShort B.log B.meter
+        (IsDueByCommand (living clone.old) (requests.Command command.now)) clone.old clone.new.banks) }
     ensures told { StaysTold (B.log clone.old.banks) (B.log clone.new.banks) }
     ensures fault { Meters (B.meter clone.old.banks) (B.meter clone.new.banks) (IsErrOf result NodeFault.Device) }
 {
@@ -99,7 +108,8 @@ fn tell_made<B: Banks>(
     exchange: &mut Exchange,
 ) -> Result<(), AllocError>
     requires { IsBehind command.now kept clone.now.local.entries }
-    ensures { OnOk result (exchange.new ≡ telling_peers_each (told_by command.now kept clone.now.local.entries) exchange.old) }
+    ensures { OnOk result
+        (exchange.new ≡ telling_peers_each (told_by command.now kept clone.now.local.entries) exchange.old) }
 {
     if is_update(command) {
         return exchange.tell_peers_each(&clone.journal()[kept..]);
@@ -128,7 +138,8 @@ fn only_reply<B: Banks>(
     exchange: &mut Exchange,
 ) -> Result<(), AllocError>
     requires { IsNoCommand request.now }
-    ensures { OnOk result (Replies (Lives clone.now.generation clone.now.local) request.now number exchange.old [] (Lives clone.now.generation clone.now.local) exchange.new) }
+    ensures { OnOk result
+        (Replies (living clone.now) request.now number exchange.old [] (living clone.now) exchange.new) }
 {
     match request {
         Request::Command(_) => unreachable!(),

@@ -2,12 +2,11 @@
 ghost use Rattle.std.specs.Prelude.{◌≡◌, ◌↔◌, None, IfOk, IfErr, OnOk, OnErr, IsErrOf};
 ghost use Rattle.journal_store.specs.Closing.{StaysTold};
 ghost use Rattle.mld_ops.specs.Messages.{message_value, IsGoodMessage};
-ghost use Rattle.shell_session.specs.Lines.{Meters, StopsIn};
+ghost use Rattle.shell_session.specs.Lines.{Meters};
 ghost use Rattle.shell_session.specs.LiveCalls.{StopsShort};
-ghost use Rattle.node_model.specs.Keepers.{Lives, found_of};
 ghost use Rattle.node_model.specs.Messages.{ReceivesLive};
-ghost use Rattle.node_keeper.specs.States.{IsOpen, banks_of, keeper_of, banks_after, FailsOnDevice};
-ghost use Rattle.node_keeper.specs.Deeds.{ReceivesOn, IsDueByMessage};
+ghost use Rattle.node_keeper.specs.States.{IsOpen, banks_of, living, banks_after, FailsOnDevice};
+ghost use Rattle.node_keeper.specs.Deeds.{ReceivesOn, StopsMessage, IsDueByMessage};
 ghost use Rattle.node_keeper.specs.Calls.{GoesBy, MayBeSent, HasSent, MayAnswer, HasAnswered};
 ghost use Rattle.node_keeper.specs.declared.states.NodeState.TheVariants as states;
 
@@ -41,7 +40,7 @@ pub fn receive_message<R: Threads, B: Banks>(
     requires good { IsGoodMessage (message_value message.now) }
     ensures done { IfOk result (λ next. ReceivesOn B.log message.now state exchange.old next exchange.new) }
     ensures opened { IfOk result IsOpen }
-    ensures stopped { IfErr result (λ refused. StopsIn (IsDueByMessage (keeper_of state) message.now) B.log (found_of (keeper_of state)) (banks_of state) refused.1) }
+    ensures stopped { IfErr result (λ refused. StopsMessage B.log message.now state refused.1) }
     ensures told { StaysTold (B.log (banks_of state)) (B.log (banks_after result)) }
     ensures fault { Meters (B.meter (banks_of state)) (B.meter (banks_after result)) (FailsOnDevice result) }
 {
@@ -61,9 +60,10 @@ fn receive_live<R: Threads, B: Banks>(
 ) -> Result<NodeState<B>, (NodeFault, B)>
     requires opened { clone.closed ≡ None }
     requires good { IsGoodMessage (message_value message.now) }
-    ensures done { IfOk result (λ next. ReceivesOn B.log message.now (states.Live clone) exchange.old next exchange.new) }
+    ensures done { IfOk result
+        (λ next. ReceivesOn B.log message.now (states.Live clone) exchange.old next exchange.new) }
     ensures opened { IfOk result IsOpen }
-    ensures stopped { IfErr result (λ refused. StopsIn (IsDueByMessage (Lives clone.generation clone.local) message.now) B.log (found_of (Lives clone.generation clone.local)) clone.banks refused.1) }
+    ensures stopped { IfErr result (λ refused. StopsMessage B.log message.now (states.Live clone) refused.1) }
     ensures told { StaysTold (B.log clone.banks) (B.log (banks_after result)) }
     ensures fault { Meters (B.meter clone.banks) (B.meter (banks_after result)) (FailsOnDevice result) }
 {
@@ -86,8 +86,11 @@ fn receive_loan<R: Threads, B: Banks>(
 ) -> Result<(), NodeFault>
     requires opened { clone.old.closed ≡ None }
     requires good { IsGoodMessage (message_value message.now) }
-    ensures done { OnOk result (GoesBy B.log B.meter (λ steps next. ReceivesLive clone.old.generation clone.old.local message.now exchange.old steps next exchange.new) clone.old clone.new) }
-    ensures stopped { OnErr result (StopsShort B.log B.meter (IsDueByMessage (Lives clone.old.generation clone.old.local) message.now) clone.old clone.new.banks) }
+    ensures done { OnOk result (GoesBy B.log B.meter
+        (λ steps next. ReceivesLive clone.old.generation clone.old.local message.now exchange.old
+        steps next exchange.new) clone.old clone.new) }
+    ensures stopped { OnErr result
+        (StopsShort B.log B.meter (IsDueByMessage (living clone.old) message.now) clone.old clone.new.banks) }
     ensures told { StaysTold (B.log clone.old.banks) (B.log clone.new.banks) }
     ensures fault { Meters (B.meter clone.old.banks) (B.meter clone.new.banks) (IsErrOf result NodeFault.Device) }
 {

@@ -1,13 +1,13 @@
 //! Requests of clients.
 ghost use Rattle.std.specs.Prelude.{◌≡◌, [], None, Some, IfOk, IfErr, OnOk};
 ghost use Rattle.journal_store.specs.Closing.{StaysTold};
-ghost use Rattle.shell_session.specs.Lines.{Meters, StopsIn};
+ghost use Rattle.shell_session.specs.Lines.{Meters};
 ghost use Rattle.node_exchange.specs.declared.connections.Connection.{Connection};
 ghost use Rattle.mld_model.specs.Local.{LocalAsker};
-ghost use Rattle.node_model.specs.Keepers.{Lives, Asks, found_of};
+ghost use Rattle.node_model.specs.Keepers.{Asks};
 ghost use Rattle.node_model.specs.Requests.{TakesRequest};
-ghost use Rattle.node_keeper.specs.States.{IsOpen, banks_of, keeper_of, banks_after, FailsOnDevice};
-ghost use Rattle.node_keeper.specs.Deeds.{AnswersOn, IsDueByRequest};
+ghost use Rattle.node_keeper.specs.States.{IsOpen, banks_of, banks_after, FailsOnDevice};
+ghost use Rattle.node_keeper.specs.Deeds.{AnswersOn, StopsRequest};
 ghost use Rattle.node_keeper.specs.Calls.{Replies};
 ghost use Rattle.node_keeper.specs.declared.states.NodeState.TheVariants as states;
 
@@ -39,7 +39,7 @@ pub fn answer_request<B: Banks>(
     ensures done { IfOk result (λ next. (one : Connection) → exchange.old.at_hand ≡ Some one
         → AnswersOn B.log one line.now state exchange.old next exchange.new) }
     ensures opened { IfOk result IsOpen }
-    ensures stopped { IfErr result (λ refused. StopsIn (IsDueByRequest (keeper_of state) line.now) B.log (found_of (keeper_of state)) (banks_of state) refused.1) }
+    ensures stopped { IfErr result (λ refused. StopsRequest B.log line.now state refused.1) }
     ensures told { StaysTold (B.log (banks_of state)) (B.log (banks_after result)) }
     ensures fault { Meters (B.meter (banks_of state)) (B.meter (banks_after result)) (FailsOnDevice result) }
 {
@@ -61,7 +61,7 @@ fn answer_live<B: Banks>(
     ensures done { IfOk result (λ next. (one : Connection) → exchange.old.at_hand ≡ Some one
         → AnswersOn B.log one line.now (states.Live clone) exchange.old next exchange.new) }
     ensures opened { IfOk result IsOpen }
-    ensures stopped { IfErr result (λ refused. StopsIn (IsDueByRequest (Lives clone.generation clone.local) line.now) B.log (found_of (Lives clone.generation clone.local)) clone.banks refused.1) }
+    ensures stopped { IfErr result (λ refused. StopsRequest B.log line.now (states.Live clone) refused.1) }
     ensures told { StaysTold (B.log clone.banks) (B.log (banks_after result)) }
     ensures fault { Meters (B.meter clone.banks) (B.meter (banks_after result)) (FailsOnDevice result) }
 {
@@ -85,7 +85,7 @@ fn answer_asking<B: Banks>(
     ensures done { IfOk result (λ next. (one : Connection) → exchange.old.at_hand ≡ Some one
         → AnswersOn B.log one line.now (states.Asking asker) exchange.old next exchange.new) }
     ensures opened { IfOk result IsOpen }
-    ensures stopped { IfErr result (λ refused. StopsIn (IsDueByRequest (Asks asker.asker) line.now) B.log (found_of (Asks asker.asker)) asker.banks refused.1) }
+    ensures stopped { IfErr result (λ refused. StopsRequest B.log line.now (states.Asking asker) refused.1) }
     ensures told { StaysTold (B.log asker.banks) (B.log (banks_after result)) }
     ensures fault { Meters (B.meter asker.banks) (B.meter (banks_after result)) (FailsOnDevice result) }
 {
@@ -118,7 +118,8 @@ fn wait(
     number: u32,
     exchange: &mut Exchange,
 ) -> Result<(), AllocError>
-    ensures { OnOk result ((asker : LocalAsker) → Replies (Asks asker) request.now number exchange.old [] (Asks asker) exchange.new) }
+    ensures { OnOk result
+        ((asker : LocalAsker) → Replies (Asks asker) request.now number exchange.old [] (Asks asker) exchange.new) }
 {
     match request {
         Request::Command(_) => say_reply(alloc, exchange, number, b"asking\n"),

@@ -76,7 +76,8 @@ pub(crate) fn tell_want<B: Banks>(
 
 /// Tells what the banks of an open clone keep.
 pub(crate) fn tell_kept<B: Banks>(clone: &MldClone<B>)
-    ensures { clone.now.closed ≡ None → (log : Log) → B.log clone.now.banks ≡ Some log → KeepsClone clone.now.local clone.now.generation log }
+    ensures { clone.now.closed ≡ None → (log : Log) → B.log clone.now.banks ≡ Some log
+        → KeepsClone clone.now.local clone.now.generation log }
 {
     clone.is_closed();
 }
