@@ -1,11 +1,11 @@
--- What a node on its banks does with an event.
+-- What a node on its banks does with an event: done, or stopped short. The clauses of `Node::on_event` cite it.
 use Rattle.std.specs.Prelude.{◌≡◌, ◌⊎◌, ℕ, Bool, false, List, [], ◌∷◌, ◌++◌, Option, None, Some, Ok}
 use Rattle.mld_io.specs.declared.events.Event.{Event}
 use Rattle.mld_io.specs.declared.events.Event.TheVariants.{Opened, Bytes, Shut, End}
 use Rattle.mld_io.specs.Disk.{Log}
 use Rattle.mld_ops.specs.declared.messages.Message.{Message}
 use Rattle.clone_banks.specs.KeptSteps.{KeptStep}
-use Rattle.shell_session.specs.Lines.{ImagesFind, LeavesFront}
+use Rattle.shell_session.specs.Lines.{ImagesFind, LeavesFront, StopsIn}
 use Rattle.wire_frames.specs.declared.assembling.Assembled.TheVariants.{Whole}
 use Rattle.wire_frames.specs.declared.faults.FrameFault.{FrameFault}
 use Rattle.wire_frames.specs.declared.kinds.Frame.{Frame}
@@ -19,6 +19,9 @@ use Rattle.node_exchange.specs.declared.connections.Sent.{Sent}
 use Rattle.node_exchange.specs.Connections.{connection_of, without}
 use Rattle.node_exchange.specs.Exchanges.{ExchangeValue}
 use Rattle.node_keeper.specs.Deeds.{IsDueByRequest, IsDueByMessage}
+use Rattle.node_keeper.specs.States.{keeper_of}
+use Rattle.node_keeper.specs.States as states
+use Rattle.node_keeper.specs.declared.states.NodeState.{NodeState}
 use Rattle.node_model.specs.Keepers.{Keeper, found_of}
 use Rattle.node_model.specs.FrameSteps.{FramesStep}
 use Rattle.node_model.specs.Events.{NodeValue, NodeStep, beginning}
@@ -77,3 +80,23 @@ abbrev pub IsDueByEvent : NodeValue → Event → List KeptStep → Type 0
 IsDueByEvent node (Bytes number piece) steps =
     (one : Connection) × (connection_of number node.connections ≡ Some one) × IsDueByPiece node.keeper one (without number node.connections) piece steps
 IsDueByEvent node event steps = ⊥
+
+-- ---- a node that stopped short, and what is left on its banks
+
+-- it stopped short of the durable steps of a frame, on a connection of this kind
+abbrev pub StopsFrame : {B : Type 0} → (B → Option Log) → Role → Frame → NodeState B → B → Type 0
+StopsFrame log kind frame old left = StopsIn (IsDueByFrame (keeper_of old) kind frame) log (found_of (keeper_of old)) (states.banks_of old) left
+
+-- it stopped short of the durable steps of frames that come one after another
+abbrev pub StopsFrames : {B : Type 0} → (B → Option Log) → List Frame → NodeState B → ExchangeValue → B → Type 0
+StopsFrames log frames old exchange left =
+    StopsIn (IsDueByFrames (keeper_of old) frames exchange) log (found_of (keeper_of old)) (states.banks_of old) left
+
+-- it stopped short of the durable steps of a piece, on a connection beside these others
+abbrev pub StopsPiece : {B : Type 0} → (B → Option Log) → Connection → List Connection → List ℕ → NodeState B → B → Type 0
+StopsPiece log one others piece old left =
+    StopsIn (IsDueByPiece (keeper_of old) one others piece) log (found_of (keeper_of old)) (states.banks_of old) left
+
+-- it stopped short of the durable steps of an event
+abbrev pub StopsEvent : {B : Type 0} → (B → Option Log) → BankedNode B → Event → B → Type 0
+StopsEvent log old event left = StopsIn (IsDueByEvent (node_value old) event) log (found_of (keeper_of old.state)) (banks_of old) left

@@ -1,4 +1,4 @@
--- A node on its banks, and what it is in the model.
+-- A node on its banks, and what it is in the model. `Node::on_event` and `Node::stop` cite it.
 use Rattle.std.specs.Prelude.{◌≡◌, Bool, List, IsTrue, Result, Ok, Err}
 use Rattle.std.specs.List.{AllByRecursion}
 use Rattle.node_exchange.specs.declared.connections.Connection.{Connection}

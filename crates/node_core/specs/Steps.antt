@@ -1,4 +1,4 @@
--- What the functions of a node answer for frames, one or more, and for a piece.
+-- What the functions of a node answer for frames, one or more, and for a piece. The private calls behind `Node::on_event` cite it.
 use Rattle.std.specs.Prelude.{◌≡◌, ◌≢◌, ◌⊎◌, ℕ, Bool, true, false, List, [], ◌∷◌, Option, None, Some, Result, IsTrue}
 use Rattle.std.specs.List.{AllByRecursion}
 use Rattle.mld_io.specs.Disk.{Log}

@@ -1,15 +1,15 @@
 //! What a node does with a frame.
 ghost use Rattle.std.specs.Prelude.{◌≡◌, ℕ, false, Some, IfOk, IfErr, OnOk, IsTrue};
 ghost use Rattle.journal_store.specs.Closing.{StaysTold};
-ghost use Rattle.shell_session.specs.Lines.{StopsIn, Meters};
+ghost use Rattle.shell_session.specs.Lines.{Meters};
 ghost use Rattle.wire_frames.specs.declared.kinds.Frame.TheVariants as kinds;
 ghost use Rattle.wire_frames.specs.Frames.{FramesValue};
 ghost use Rattle.node_exchange.specs.Connections.{is_peer, as_peer};
 ghost use Rattle.node_exchange.specs.Exchanges.{holding, refusing, telling};
 ghost use Rattle.node_keeper.specs.States.{IsOpen, banks_of, keeper_of, banks_after, FailsOnDevice};
-ghost use Rattle.node_model.specs.Keepers.{found_of, question_of};
+ghost use Rattle.node_model.specs.Keepers.{question_of};
 ghost use Rattle.node_core.specs.Nodes.{IsGoodRole};
-ghost use Rattle.node_core.specs.Events.{IsDueByFrame, IsDueByFrames};
+ghost use Rattle.node_core.specs.Events.{StopsFrame, StopsFrames};
 ghost use Rattle.node_core.specs.Steps.{TakesFrame, TakesFrames, MayAddPart, GoesOn, is_fresh};
 
 use crate::greeting::refusal;
@@ -45,7 +45,7 @@ pub(crate) fn take_frames<R: Threads, B: Banks>(
     requires goes_on { (number : ℕ) × (reader : FramesValue) × GoesOn number reader exchange.old }
     ensures done { IfOk result (λ next. TakesFrames B.log frames.items state exchange.old next exchange.new) }
     ensures opened { IfOk result IsOpen }
-    ensures stopped { IfErr result (λ refused. StopsIn (IsDueByFrames (keeper_of state) frames.items exchange.old) B.log (found_of (keeper_of state)) (banks_of state) refused.1) }
+    ensures stopped { IfErr result (λ refused. StopsFrames B.log frames.items state exchange.old refused.1) }
     ensures told { StaysTold (B.log (banks_of state)) (B.log (banks_after result)) }
     ensures fault { Meters (B.meter (banks_of state)) (B.meter (banks_after result)) (FailsOnDevice result) }
 {
@@ -82,7 +82,7 @@ fn take_frame<R: Threads, B: Banks>(
     requires good { IsGoodRole one.role }
     ensures done { IfOk result (λ next. TakesFrame B.log one frame state (holding one exchange.old) next exchange.new) }
     ensures opened { IfOk result IsOpen }
-    ensures stopped { IfErr result (λ refused. StopsIn (IsDueByFrame (keeper_of state) one.role frame) B.log (found_of (keeper_of state)) (banks_of state) refused.1) }
+    ensures stopped { IfErr result (λ refused. StopsFrame B.log one.role frame state refused.1) }
     ensures told { StaysTold (B.log (banks_of state)) (B.log (banks_after result)) }
     ensures fault { Meters (B.meter (banks_of state)) (B.meter (banks_after result)) (FailsOnDevice result) }
 {
@@ -109,7 +109,8 @@ fn greet<B: Banks>(
     domain: &Text,
     exchange: &mut Exchange,
 ) -> Result<NodeState<B>, (NodeFault, B)>
-    ensures done { IfOk result (λ next. TakesFrame B.log one (kinds.Hello format id.now domain.now) state (holding one exchange.old) next exchange.new) }
+    ensures done { IfOk result (λ next. TakesFrame B.log one (kinds.Hello format id.now domain.now) state
+        (holding one exchange.old) next exchange.new) }
     ensures same { IfOk result (λ next. next ≡ state) }
     ensures err { IfErr result (λ refused. refused ≡ (NodeFault.NoMemory, banks_of state)) }
 {
@@ -137,9 +138,10 @@ fn take_request<B: Banks>(
     exchange: &mut Exchange,
 ) -> Result<NodeState<B>, (NodeFault, B)>
     requires opened { IsOpen state }
-    ensures done { IfOk result (λ next. TakesFrame B.log one (kinds.Request line.now) state (holding one exchange.old) next exchange.new) }
+    ensures done { IfOk result
+        (λ next. TakesFrame B.log one (kinds.Request line.now) state (holding one exchange.old) next exchange.new) }
     ensures opened { IfOk result IsOpen }
-    ensures stopped { IfErr result (λ refused. StopsIn (IsDueByFrame (keeper_of state) one.role (kinds.Request line.now)) B.log (found_of (keeper_of state)) (banks_of state) refused.1) }
+    ensures stopped { IfErr result (λ refused. StopsFrame B.log one.role (kinds.Request line.now) state refused.1) }
     ensures told { StaysTold (B.log (banks_of state)) (B.log (banks_after result)) }
     ensures fault { Meters (B.meter (banks_of state)) (B.meter (banks_after result)) (FailsOnDevice result) }
 {
@@ -168,9 +170,11 @@ fn take_part<R: Threads, B: Banks>(
 ) -> Result<NodeState<B>, (NodeFault, B)>
     requires opened { IsOpen state }
     requires good { IsGoodRole one.role }
-    ensures done { IfOk result (λ next. TakesFrame B.log one (kinds.Part number index count piece) state (holding one exchange.old) next exchange.new) }
+    ensures done { IfOk result (λ next. TakesFrame B.log one (kinds.Part number index count piece) state
+        (holding one exchange.old) next exchange.new) }
     ensures opened { IfOk result IsOpen }
-    ensures stopped { IfErr result (λ refused. StopsIn (IsDueByFrame (keeper_of state) one.role (kinds.Part number index count piece)) B.log (found_of (keeper_of state)) (banks_of state) refused.1) }
+    ensures stopped { IfErr result
+        (λ refused. StopsFrame B.log one.role (kinds.Part number index count piece) state refused.1) }
     ensures told { StaysTold (B.log (banks_of state)) (B.log (banks_after result)) }
     ensures fault { Meters (B.meter (banks_of state)) (B.meter (banks_after result)) (FailsOnDevice result) }
 {

@@ -27,7 +27,8 @@ const OWN_ID: u8 = 5;
 
 /// The frame by which a node tells who it is.
 pub(crate) fn hello<B: Banks>(alloc: Global, state: &NodeState<B>) -> Result<Piece, AllocError>
-    ensures { IfOk result (λ piece. piece ≡ frame_bytes (Hello hello_format (id_of (keeper_of state.now)) (domain_of (keeper_of state.now)))) }
+    ensures { IfOk result (λ piece. piece
+        ≡ frame_bytes (Hello hello_format (id_of (keeper_of state.now)) (domain_of (keeper_of state.now)))) }
 {
     let id = state.id();
     let domain = Text::new(alloc, state.domain())?;

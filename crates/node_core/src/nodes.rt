@@ -1,14 +1,14 @@
 //! The node.
 ghost use Rattle.std.specs.Prelude.{◌≡◌, [], None, false, IfOk, IfErr};
 ghost use Rattle.journal_store.specs.Closing.{StaysTold};
-ghost use Rattle.shell_session.specs.Lines.{StopsIn, Meters};
+ghost use Rattle.shell_session.specs.Lines.{Meters};
 ghost use Rattle.node_exchange.specs.Connections.{opened, without};
 ghost use Rattle.mld_io.specs.declared.events.Event.TheVariants as events;
 ghost use Rattle.node_keeper.specs.States.{FindsNow, IsOpen, keeper_of};
 ghost use Rattle.node_keeper.specs.States as states;
 ghost use Rattle.node_model.specs.Keepers.{found_of};
 ghost use Rattle.node_core.specs.Nodes.{AreWell, node_value, banks_of, banks_left, IsDeviceFault};
-ghost use Rattle.node_core.specs.Events.{DoesEvent, IsDueByEvent};
+ghost use Rattle.node_core.specs.Events.{DoesEvent, StopsEvent};
 ghost use Rattle.node_core.specs.Steps.{node_with, taken_node, GreetsOn};
 
 use crate::greeting::hello;
@@ -65,9 +65,10 @@ impl<B: Banks> Node<B> {
         requires going { self.halted ≡ false }
         ensures done { IfOk result (λ done. DoesEvent B.log self event.now done.0 done.1.items) }
         ensures opened { IfOk result (λ done. IsOpen done.0.state) }
-        ensures stopped { IfErr result (λ refused. StopsIn (IsDueByEvent (node_value self) event.now) B.log (found_of (keeper_of self.state)) (banks_of self) refused.1) }
+        ensures stopped { IfErr result (λ refused. StopsEvent B.log self event.now refused.1) }
         ensures told { StaysTold (B.log (banks_of self)) (B.log (banks_left (λ done. banks_of done.0) result)) }
-        ensures fault { Meters (B.meter (banks_of self)) (B.meter (banks_left (λ done. banks_of done.0) result)) (IsDeviceFault result) }
+        ensures fault { Meters (B.meter (banks_of self)) (B.meter (banks_left (λ done. banks_of done.0) result))
+            (IsDeviceFault result) }
     {
         let Node {
             state,
@@ -132,12 +133,16 @@ fn do_event<R: Threads, B: Banks>(
 ) -> Result<Taken<B>, (NodeFault, B)>
     requires opened { IsOpen state }
     requires well { AreWell connections.items }
-    ensures done { IfOk result (λ taken. DoesEvent B.log (node_with state connections.items) event.now (taken_node taken) taken.rest.sent.items) }
+    ensures done { IfOk result (λ taken. DoesEvent B.log (node_with state connections.items) event.now
+        (taken_node taken) taken.rest.sent.items) }
     ensures well { IfOk result (λ taken. AreWell taken.rest.connections.items) }
     ensures opened { IfOk result (λ taken. IsOpen taken.state) }
-    ensures stopped { IfErr result (λ refused. StopsIn (IsDueByEvent (node_value (node_with state connections.items)) event.now) B.log (found_of (keeper_of state)) (states.banks_of state) refused.1) }
-    ensures told { StaysTold (B.log (states.banks_of state)) (B.log (banks_left (λ taken. states.banks_of taken.state) result)) }
-    ensures fault { Meters (B.meter (states.banks_of state)) (B.meter (banks_left (λ taken. states.banks_of taken.state) result)) (IsDeviceFault result) }
+    ensures stopped { IfErr result
+        (λ refused. StopsEvent B.log (node_with state connections.items) event.now refused.1) }
+    ensures told { StaysTold (B.log (states.banks_of state))
+        (B.log (banks_left (λ taken. states.banks_of taken.state) result)) }
+    ensures fault { Meters (B.meter (states.banks_of state))
+        (B.meter (banks_left (λ taken. states.banks_of taken.state) result)) (IsDeviceFault result) }
 {
     match event {
         Event::Opened(number) => open(alloc, state, connections, *number),
@@ -222,12 +227,16 @@ fn read<R: Threads, B: Banks>(
 ) -> Result<Taken<B>, (NodeFault, B)>
     requires opened { IsOpen state }
     requires well { AreWell connections.items }
-    ensures done { IfOk result (λ taken. DoesEvent B.log (node_with state connections.items) (events.Bytes number piece.now) (taken_node taken) taken.rest.sent.items) }
+    ensures done { IfOk result (λ taken. DoesEvent B.log (node_with state connections.items)
+        (events.Bytes number piece.now) (taken_node taken) taken.rest.sent.items) }
     ensures well { IfOk result (λ taken. AreWell taken.rest.connections.items) }
     ensures opened { IfOk result (λ taken. IsOpen taken.state) }
-    ensures stopped { IfErr result (λ refused. StopsIn (IsDueByEvent (node_value (node_with state connections.items)) (events.Bytes number piece.now)) B.log (found_of (keeper_of state)) (states.banks_of state) refused.1) }
-    ensures told { StaysTold (B.log (states.banks_of state)) (B.log (banks_left (λ taken. states.banks_of taken.state) result)) }
-    ensures fault { Meters (B.meter (states.banks_of state)) (B.meter (banks_left (λ taken. states.banks_of taken.state) result)) (IsDeviceFault result) }
+    ensures stopped { IfErr result
+        (λ refused. StopsEvent B.log (node_with state connections.items) (events.Bytes number piece.now) refused.1) }
+    ensures told { StaysTold (B.log (states.banks_of state))
+        (B.log (banks_left (λ taken. states.banks_of taken.state) result)) }
+    ensures fault { Meters (B.meter (states.banks_of state))
+        (B.meter (banks_left (λ taken. states.banks_of taken.state) result)) (IsDeviceFault result) }
 {
     match take_connection(&mut connections, number) {
         Some(one) => take_piece(rt, alloc, state, one, connections, piece),
@@ -244,7 +253,8 @@ fn forget<B: Banks>(
 ) -> Taken<B>
     requires { AreWell connections.items }
     ensures sent { result.rest.sent.items ≡ [] }
-    ensures node { taken_node result ≡ record { state = state; connections = without number connections.items; halted = false } }
+    ensures node { taken_node result
+        ≡ record { state = state; connections = without number connections.items; halted = false } }
     ensures well { AreWell result.rest.connections.items }
 {
     take_connection(&mut connections, number);

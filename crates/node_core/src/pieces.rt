@@ -1,14 +1,13 @@
 //! What a node does with a piece of a connection.
 ghost use Rattle.std.specs.Prelude.{◌≡◌, None, IfOk, IfErr, OnOk};
 ghost use Rattle.journal_store.specs.Closing.{StaysTold};
-ghost use Rattle.shell_session.specs.Lines.{StopsIn, Meters};
+ghost use Rattle.shell_session.specs.Lines.{Meters};
 ghost use Rattle.node_exchange.specs.Connections.{AreNumbered, connection_of};
-ghost use Rattle.node_keeper.specs.States.{IsOpen, banks_of, keeper_of};
-ghost use Rattle.node_model.specs.Keepers.{found_of};
+ghost use Rattle.node_keeper.specs.States.{IsOpen, banks_of};
 ghost use Rattle.node_model.specs.FrameSteps.{code_of, faulting};
 ghost use Rattle.node_core.specs.Nodes.{IsGood, AreWell, banks_left, IsDeviceFault};
 ghost use Rattle.node_model.specs.Events.{put_back};
-ghost use Rattle.node_core.specs.Events.{IsDueByFrames, IsDueByPiece};
+ghost use Rattle.node_core.specs.Events.{StopsFrames, StopsPiece};
 ghost use Rattle.node_core.specs.Steps.{MayEnd, EndsBy, MayPutBack, TakesFed, TakesPieceOn};
 
 use crate::frames::take_frames;
@@ -60,9 +59,10 @@ pub(crate) fn take_piece<R: Threads, B: Banks>(
     ensures done { IfOk result (TakesPieceOn B.log state one others.items piece.now) }
     ensures well { IfOk result (λ taken. AreWell taken.rest.connections.items) }
     ensures opened { IfOk result (λ taken. IsOpen taken.state) }
-    ensures stopped { IfErr result (λ refused. StopsIn (IsDueByPiece (keeper_of state) one others.items piece.now) B.log (found_of (keeper_of state)) (banks_of state) refused.1) }
+    ensures stopped { IfErr result (λ refused. StopsPiece B.log one others.items piece.now state refused.1) }
     ensures told { StaysTold (B.log (banks_of state)) (B.log (banks_left (λ taken. banks_of taken.state) result)) }
-    ensures fault { Meters (B.meter (banks_of state)) (B.meter (banks_left (λ taken. banks_of taken.state) result)) (IsDeviceFault result) }
+    ensures fault { Meters (B.meter (banks_of state)) (B.meter (banks_left (λ taken. banks_of taken.state) result))
+        (IsDeviceFault result) }
 {
     match one.frames.feed(piece) {
         Ok(fed) => take_fed(rt, alloc, state, Exchange::new(alloc, one, others), fed),
@@ -87,9 +87,10 @@ fn take_fed<R: Threads, B: Banks>(
     ensures done { IfOk result (TakesFed B.log state exchange fed) }
     ensures well { IfOk result (λ taken. AreWell taken.rest.connections.items) }
     ensures opened { IfOk result (λ taken. IsOpen taken.state) }
-    ensures stopped { IfErr result (λ refused. StopsIn (IsDueByFrames (keeper_of state) fed.frames.items exchange) B.log (found_of (keeper_of state)) (banks_of state) refused.1) }
+    ensures stopped { IfErr result (λ refused. StopsFrames B.log fed.frames.items state exchange refused.1) }
     ensures told { StaysTold (B.log (banks_of state)) (B.log (banks_left (λ taken. banks_of taken.state) result)) }
-    ensures fault { Meters (B.meter (banks_of state)) (B.meter (banks_left (λ taken. banks_of taken.state) result)) (IsDeviceFault result) }
+    ensures fault { Meters (B.meter (banks_of state)) (B.meter (banks_left (λ taken. banks_of taken.state) result))
+        (IsDeviceFault result) }
 {
     let Fed { frames, fault } = fed;
     match take_frames(rt, alloc, state, frames, &mut exchange) {
