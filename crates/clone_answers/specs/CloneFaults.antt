@@ -1,8 +1,6 @@
--- The faults of a clone, after those of what it holds and of its banks.
+-- The faults of a clone, after those of what it holds and of its banks. The `From` of each fault cites it.
 use Rattle.causal_buffer.specs.declared.faults.HeldFault.{HeldFault}
 use Rattle.causal_buffer.specs.declared.faults.HeldFault.TheVariants as held
-use Rattle.journal_store.specs.declared.faults.SwapFault.{SwapFault}
-use Rattle.journal_store.specs.declared.faults.SwapFault.TheVariants as swap
 use Rattle.journal_store.specs.declared.faults.Why.{Why}
 use Rattle.journal_store.specs.declared.faults.Why.TheVariants as why
 use Rattle.clone_answers.specs.declared.faults.KeepFault.{KeepFault}
@@ -26,24 +24,15 @@ abbrev pub update_fault_of : Why → UpdateFault
 update_fault_of why.Device = update.Device
 update_fault_of why.NoMemory = update.NoMemory
 
--- why a message is refused whose append was not done
+-- why a message is refused whose append or swap was not done
 abbrev pub receive_fault_of : Why → ReceiveFault
 receive_fault_of why.Device = fault.Device
 receive_fault_of why.NoMemory = fault.NoMemory
 
--- why a snapshot is refused whose swap was not done
-abbrev pub receive_fault_of_swap : SwapFault → ReceiveFault
-receive_fault_of_swap (swap.Closed reason) = fault.Closed reason
-receive_fault_of_swap swap.GenerationsSpent = fault.GenerationsSpent
-receive_fault_of_swap swap.Device = fault.Device
-receive_fault_of_swap swap.NoMemory = fault.NoMemory
-
 -- why a journal was not compacted or truncated whose swap was not done
-abbrev pub keep_fault_of : SwapFault → KeepFault
-keep_fault_of (swap.Closed reason) = keep.Closed reason
-keep_fault_of swap.GenerationsSpent = keep.GenerationsSpent
-keep_fault_of swap.Device = keep.Device
-keep_fault_of swap.NoMemory = keep.NoMemory
+abbrev pub keep_fault_of : Why → KeepFault
+keep_fault_of why.Device = keep.Device
+keep_fault_of why.NoMemory = keep.NoMemory
 
 -- why a query isn't answered whose solutions aren't given
 abbrev pub query_fault_of : EvalFault → QueryFault

@@ -1,6 +1,6 @@
 //! Why a clone refuses.
 use causal_buffer::HeldFault;
-use journal_store::{SwapFault, Why};
+use journal_store::Why;
 use jrql_eval::EvalFault;
 use rdf_terms::Iri;
 use std::alloc::AllocError;
@@ -142,34 +142,16 @@ impl From<AllocError> for KeepFault {
     }
 }
 
-impl From<SwapFault> for KeepFault {
+impl From<Why> for KeepFault {
     ghost use Rattle.clone_answers.specs.CloneFaults.{keep_fault_of};
     ghost use Rattle.std.specs.Prelude.{◌≡◌};
 
-    ghost from_gives = { λ swap fault. fault ≡ keep_fault_of swap };
+    ghost from_gives = { λ why fault. fault ≡ keep_fault_of why };
 
-    fn from(fault: SwapFault) -> KeepFault {
-        match fault {
-            SwapFault::Closed { why } => KeepFault::Closed { why },
-            SwapFault::GenerationsSpent => KeepFault::GenerationsSpent,
-            SwapFault::Device => KeepFault::Device,
-            SwapFault::NoMemory => KeepFault::NoMemory,
-        }
-    }
-}
-
-impl From<SwapFault> for ReceiveFault {
-    ghost use Rattle.clone_answers.specs.CloneFaults.{receive_fault_of_swap};
-    ghost use Rattle.std.specs.Prelude.{◌≡◌};
-
-    ghost from_gives = { λ swap fault. fault ≡ receive_fault_of_swap swap };
-
-    fn from(fault: SwapFault) -> ReceiveFault {
-        match fault {
-            SwapFault::Closed { why } => ReceiveFault::Closed { why },
-            SwapFault::GenerationsSpent => ReceiveFault::GenerationsSpent,
-            SwapFault::Device => ReceiveFault::Device,
-            SwapFault::NoMemory => ReceiveFault::NoMemory,
+    fn from(why: Why) -> KeepFault {
+        match why {
+            Why::Device => KeepFault::Device,
+            Why::NoMemory => KeepFault::NoMemory,
         }
     }
 }

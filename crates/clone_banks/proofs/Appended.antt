@@ -10,13 +10,13 @@ use Rattle.op_codec.specs.Stored.{IsShortEntry}
 use Rattle.journal_sides.proofs.RecordReading.{known_more}
 use Rattle.journal_sides.specs.Pairs.{Kept, PairReading, Keeps, with_entry}
 use Rattle.journal_store.specs.Calls.{KeptBy}
-use Rattle.journal_store.specs.Closing.{StaysTold, GoesOn, IsAppended}
+use Rattle.journal_store.specs.Closing.{StaysTold, JournalStaysOpen, IsAppended}
 use Rattle.journal_store.specs.Standing.{JournalValue, KeepsJust, KeepsNow}
 use Rattle.journal_store.specs.declared.faults.Why.{Why}
 use Rattle.journal_store.proofs.ClosingLaws.{told_same, told_then}
 use Rattle.clone_plans.specs.Replays.{AreReadyEntries}
 use Rattle.clone_banks.specs.Appending.{with_entries, KeepsSome, MayAppendAll}
-use Rattle.clone_banks.specs.Beginning.{IsBegun}
+use Rattle.clone_banks.specs.Beginning.{ChangeBegan}
 use Rattle.clone_banks.specs.KeptSteps.{KeptStep, Appended, after_steps, calls_of_all, appends, LeavesSome}
 use Rattle.clone_banks.proofs.MeterLaws.{Metered-none, append_done}
 use Rattle.clone_banks.proofs.RefusedLaws.{begun_more}
@@ -77,11 +77,11 @@ pub record IsSoFar (all rest : List EntryValue) (old : Log) (kept : Kept) (now :
 module _ {B : Type 0} (log : B → Option Log) (meter : B → Meter) (all : List EntryValue) (initial : JournalValue B) (done : Bool) where
   -- what the loop has done so far
   pub record IsAppendingAll (i : ℕ) (journal : JournalValue B) (begun : Bool) : Type 0 where
-    pub goes_on : GoesOn initial journal
+    pub goes_on : JournalStaysOpen initial journal
     pub follow : MayAppendAll log journal (drop i all)
     pub so_far : (l : Log) (kept : Kept) → log initial.banks ≡ Some l → KeptBy (log initial.banks) initial.closed kept → IsSoFar all (drop i all) l kept (log journal.banks) (meter initial.banks).arm (meter journal.banks).arm i
     pub short : AllByRecursion IsShortEntry (drop i all)
-    pub begins : (first : JournalValue B) (swaps : Bool) → IsBegun log meter swaps done first initial → IsBegun log meter swaps begun first journal
+    pub begins : (first : JournalValue B) (swaps : Bool) → ChangeBegan log meter swaps done first initial → ChangeBegan log meter swaps begun first journal
     pub told : StaysTold (log initial.banks) (log journal.banks)
     pub metered : Metered (4 * i) (meter initial.banks) (meter journal.banks) (Unit {0}) ⊥
 

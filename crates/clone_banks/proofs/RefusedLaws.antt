@@ -1,16 +1,13 @@
--- Laws of what a refused append leaves of a change that began before, and of the fault that it tells.
-use Rattle.std.proofs.Common.{◌≡◌, ◌∙◌, ℕ, Option, None, Some, Bool, true, false, Result, Ok, Err, IsOk, IsErrOf, refl, sym, ap, subst, inl, inr}
-use Rattle.mld_io.specs.Arm.{Meter, Metered}
+-- Laws of what a refused append leaves of a change that began before.
+use Rattle.std.proofs.Common.{◌≡◌, ◌∙◌, Option, None, Some, Bool, true, false, Result, Ok, Err, refl, sym, ap, subst, inl, inr}
+use Rattle.mld_io.specs.Arm.{Meter}
 use Rattle.mld_io.specs.Disk.{Log}
-use Rattle.journal_store.specs.Closing.{WasCalled, MayTurn, GoesOn, ClosesFor, LeavesRefused, LeavesAppend}
+use Rattle.journal_store.specs.Closing.{WasCalled, MayTurn, JournalStaysOpen, ClosesFor, LeavesRefused}
 use Rattle.journal_store.specs.Standing.{JournalValue}
-use Rattle.journal_store.specs.declared.faults.AppendFault.{AppendFault}
-use Rattle.journal_store.specs.declared.faults.AppendFault.TheVariants as append
 use Rattle.journal_store.specs.declared.faults.Why.{Why}
 use Rattle.journal_store.specs.declared.faults.Why.TheVariants as why
 use Rattle.journal_store.proofs.ClosingLaws.{called_trans}
-use Rattle.journal_store.proofs.Reading.{metered_as}
-use Rattle.clone_banks.specs.Beginning.{IsBegun, IsRefusedBy}
+use Rattle.clone_banks.specs.Beginning.{ChangeBegan}
 
 pub none_some : {X : Type 0} {x : X} → ¬ (◌≡◌ {A = Option X} None (Some x))
 none_some e = cc
@@ -23,10 +20,10 @@ turned_on true first old new (inr t) side generation = inr (side ∙ t.0, genera
 
 module _ {B : Type 0} (log : B → Option Log) (meter : B → Meter) (swaps : Bool) (first : JournalValue B) where
   -- a change that nothing was done for, and one behind an append that was done
-  pub begun_now : first.closed ≡ None → MayTurn swaps first first → IsBegun log meter swaps false first first
+  pub begun_now : first.closed ≡ None → MayTurn swaps first first → ChangeBegan log meter swaps false first first
   begun_now is_open turned = record { was = is_open; turned = turned; fresh = λ e. refl; called = λ e. absurd (let c : false ≡ true = e in cc) }
 
-  pub begun_more : (begun : Bool) (old new : JournalValue B) → IsBegun log meter swaps begun first old → GoesOn old new → WasCalled log meter old.banks new.banks → IsBegun log meter swaps true first new
+  pub begun_more : (begun : Bool) (old new : JournalValue B) → ChangeBegan log meter swaps begun first old → JournalStaysOpen old new → WasCalled log meter old.banks new.banks → ChangeBegan log meter swaps true first new
   begun_more begun old new is on called = record {
     was = is.was;
     turned = turned_on swaps first old new is.turned on.side on.generation;
@@ -37,7 +34,7 @@ module _ {B : Type 0} (log : B → Option Log) (meter : B → Meter) (swaps : Bo
     by true fresh called' = called_trans log meter first.banks old.banks new.banks (called' refl) called
     by false fresh called' = subst (λ (j : JournalValue B). WasCalled log meter j.banks new.banks) (fresh refl) called
 
-  module _ (done : Bool) (old mid new : JournalValue B) (begun : IsBegun log meter swaps done first old) (is_open : old.closed ≡ None) (told : Why)
+  module _ (done : Bool) (old mid new : JournalValue B) (begun : ChangeBegan log meter swaps done first old) (is_open : old.closed ≡ None) (told : Why)
       (fresh : done ≡ false → new ≡ mid) (shut : (reason : Why) → mid.closed ≡ Some reason → new ≡ mid)
       (closes : done ≡ true → mid.closed ≡ None → new ≡ record mid { closed = Some told }) where
     -- an append closed the journal
@@ -69,31 +66,12 @@ module _ {B : Type 0} (log : B → Option Log) (meter : B → Meter) (swaps : Bo
           }))
 
     -- what a refused append leaves of the change
-    pub refused_leaves : (fault : AppendFault) → LeavesAppend log meter old mid fault → IsRefusedBy fault told → LeavesRefused log meter swaps first new told
-    refused_leaves (append.Closed reason) left is = absurd (none_some (sym is_open ∙ left.0))
-    refused_leaves append.Device left is = subst (LeavesRefused log meter swaps first new) (sym is) (closed_by why.Device (sym is) left)
-    refused_leaves append.NoMemory (inl same) is = subst (LeavesRefused log meter swaps first new) (sym is) (left_by (sym is) same)
-    refused_leaves append.NoMemory (inr c) is = subst (LeavesRefused log meter swaps first new) (sym is) (inr (closed_by why.NoMemory (sym is) c))
-
--- the cause that is told is the device's just where the fault is
-refused_device : (fault : AppendFault) (told : Why) → IsRefusedBy fault told → ((reason : Why) → ¬ (fault ≡ append.Closed reason)) → told ≡ why.Device → fault ≡ append.Device
-refused_device (append.Closed reason) told is not_closed e = absurd (not_closed reason refl)
-refused_device append.Device told is not_closed e = refl
-refused_device append.NoMemory told is not_closed e = absurd (let f : why.NoMemory ≡ why.Device = sym is ∙ e in cc)
-
-refused_failed : (fault : AppendFault) (told : Why) → IsRefusedBy fault told → fault ≡ append.Device → told ≡ why.Device
-refused_failed (append.Closed reason) told is e = absurd cc
-refused_failed append.Device told is e = is
-refused_failed append.NoMemory told is e = absurd cc
-
-err_same : {T E : Type 0} {a b : E} → ◌≡◌ {A = Result T E} (Err a) (Err b) → a ≡ b
-err_same e = cc
+    pub refused_leaves : LeavesRefused log meter false old mid told → LeavesRefused log meter swaps first new told
+    refused_leaves left = by told refl left where
+      by : (reason : Why) → reason ≡ told → LeavesRefused log meter false old mid reason → LeavesRefused log meter swaps first new reason
+      by why.Device is closes' = closed_by why.Device is closes'
+      by why.NoMemory is (inl same) = left_by is same
+      by why.NoMemory is (inr closes') = inr (closed_by why.NoMemory is closes')
 
 pub ok_err : {T E : Type 0} {x : T} {e : E} → ¬ (◌≡◌ {A = Result T E} (Ok x) (Err e))
 ok_err e = cc
-
--- the calls of an append that was refused
-pub refused_metered : {T U : Type 0} (n : ℕ) (before now : Meter) (fault : AppendFault) (told : Why) → IsRefusedBy fault told → ((reason : Why) → ¬ (fault ≡ append.Closed reason))
-    → Metered n before now (IsOk {T = T} {E = AppendFault} (Err fault)) (IsErrOf {T = T} (Err fault) append.Device) → Metered n before now (IsOk {T = U} {E = Why} (Err told)) (IsErrOf {T = U} (Err told) why.Device)
-refused_metered n before now fault told is not_closed m =
-    metered_as n before now (λ e. absurd cc) (λ e. ap Err (refused_device fault told is not_closed (err_same e))) (λ e. ap Err (refused_failed fault told is (err_same e))) m

@@ -1,4 +1,5 @@
--- Appends to the journal on a clone's banks, and heads of which one is made.
+-- Appends to the journal on a clone's banks, and heads of which one is made. `append_entries`, `append_fork`, `create`, `swap_kept` and
+-- `swap_and_append` cite it.
 use Rattle.std.specs.Prelude.{◌≡◌, List, ◌++◌, Option, None, Some, IsTrue}
 use Rattle.iri_rules.specs.Domain.{is_domain}
 use Rattle.mld_io.specs.Disk.{Log}

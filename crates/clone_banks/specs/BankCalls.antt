@@ -1,4 +1,4 @@
--- How many calls of the device that write or sync are made.
+-- How many calls of the device that write or sync are made. `meter` of each call of this crate cites it.
 use Rattle.std.specs.Prelude.{ℕ}
 
 -- an append makes four, a create and a swap six

@@ -1,4 +1,5 @@
--- The changes that calls make of what banks keep, and what a crash leaves in the middle of several.
+-- The changes that calls make of what banks keep, and what a crash leaves in the middle of several. `moments` of each call of this crate cites it,
+-- and `durable` of each call of a clone.
 use Rattle.std.specs.Prelude.{◌≡◌, ℕ, ◌+◌, ◌-◌, ◌<◌, List, [], ◌∷◌, ◌++◌, map, Option, Some}
 use Rattle.mld_io.specs.Arm.{Arm, Unarmed, Armed, Caught, Meter}
 use Rattle.mld_io.specs.Disk.{Log, Sides, LeavesOnly, LeavesMeanwhile}

@@ -6,15 +6,15 @@ ghost use Rattle.op_codec.specs.Stored.{IsShortEntry};
 ghost use Rattle.journal_sides.specs.Heads.{head_value};
 ghost use Rattle.journal_sides.specs.Pairs.{Kept, with_entry, with_fork};
 ghost use Rattle.journal_store.specs.Calls.{KeptBy, made_banks, FailsToMake};
-ghost use Rattle.journal_store.specs.Closing.{StaysTold, GoesOn, IsAppended, IsMade, LeavesRefused, LeavesUnmade};
+ghost use Rattle.journal_store.specs.Closing.{StaysTold, JournalStaysOpen, IsAppended, IsMade, LeavesRefused, LeavesUnmade};
 ghost use Rattle.journal_store.specs.Standing.{JournalValue, KeepsNow};
 ghost use Rattle.journal_store.specs.declared.faults.Why.{Why};
 ghost use Rattle.clone_banks.specs.Appending.{with_entries, MayAppendAll, MayForkNow, IsHeadInOrder, AreShortParts};
 ghost use Rattle.clone_banks.specs.BankCalls.{append_calls, create_calls};
-ghost use Rattle.clone_banks.specs.Beginning.{IsBegun, IsRefusedBy};
+ghost use Rattle.clone_banks.specs.Beginning.{ChangeBegan};
 ghost use Rattle.clone_banks.specs.KeptSteps.{Appended, Forked, LeavesSteps, LeavesMade, appends};
 
-use journal_store::{AppendFault, Blank, Head, Journal, MakeFault, Why};
+use journal_store::{Blank, Head, Journal, MakeFault, Why};
 use mld_io::Banks;
 use mld_ops::Entry;
 use op_codec::{is_short_clock, is_short_entry, is_short_list};
@@ -31,10 +31,12 @@ pub fn append_entries<B: Banks>(journal: &mut Journal<B>, entries: &[Entry]) -> 
     ensures kept { (kept : Kept) → KeptBy (B.log journal.old.banks) journal.old.closed kept
         → OnOk result (KeepsNow (with_entries entries.now kept) (B.log journal.new.banks)) }
     ensures moments { LeavesSteps B.log B.meter journal.old journal.new (appends entries.now) }
-    ensures ok { OnOk result (GoesOn journal.old journal.new) }
+    ensures ok { OnOk result (JournalStaysOpen journal.old journal.new) }
     ensures err { IfErr result (LeavesRefused B.log B.meter false journal.old journal.new) }
     ensures told { StaysTold (B.log journal.old.banks) (B.log journal.new.banks) }
-    ensures meter { Metered (append_calls * length entries.now) (B.meter journal.old.banks) (B.meter journal.new.banks) (IsOk result) (IsErrOf result Why.Device) }
+    ensures meter { Metered (append_calls * length entries.now) (B.meter journal.old.banks)
+        (B.meter journal.new.banks)
+        (IsOk result) (IsErrOf result Why.Device) }
 {
     if !are_short(entries) {
         return Err(Why::NoMemory);
@@ -53,11 +55,13 @@ pub(crate) fn append_short<B: Banks>(
     ensures kept { (kept : Kept) → KeptBy (B.log journal.old.banks) journal.old.closed kept
         → OnOk result (KeepsNow (with_entries entries.now kept) (B.log journal.new.banks)) }
     ensures moments { LeavesSteps B.log B.meter journal.old journal.new (appends entries.now) }
-    ensures ok { OnOk result (GoesOn journal.old journal.new) }
-    ensures err { (first : JournalValue B) (swaps : Bool) → IsBegun B.log B.meter swaps done first journal.old
+    ensures ok { OnOk result (JournalStaysOpen journal.old journal.new) }
+    ensures err { (first : JournalValue B) (swaps : Bool) → ChangeBegan B.log B.meter swaps done first journal.old
         → IfErr result (LeavesRefused B.log B.meter swaps first journal.new) }
     ensures told { StaysTold (B.log journal.old.banks) (B.log journal.new.banks) }
-    ensures meter { Metered (append_calls * length entries.now) (B.meter journal.old.banks) (B.meter journal.new.banks) (IsOk result) (IsErrOf result Why.Device) }
+    ensures meter { Metered (append_calls * length entries.now) (B.meter journal.old.banks)
+        (B.meter journal.new.banks)
+        (IsOk result) (IsErrOf result Why.Device) }
 {
     let mut begun = done;
     for entry in entries {
@@ -75,45 +79,36 @@ fn append_one<B: Banks>(journal: &mut Journal<B>, done: bool, entry: &Entry) -> 
         → OnOk result (KeepsNow (with_entry entry.now kept) (B.log journal.new.banks)) }
     ensures moments { LeavesSteps B.log B.meter journal.old journal.new (Appended entry.now ∷ []) }
     ensures ok { OnOk result (IsAppended B.log B.meter journal.old journal.new) }
-    ensures err { (first : JournalValue B) (swaps : Bool) → IsBegun B.log B.meter swaps done first journal.old
+    ensures err { (first : JournalValue B) (swaps : Bool) → ChangeBegan B.log B.meter swaps done first journal.old
         → IfErr result (LeavesRefused B.log B.meter swaps first journal.new) }
     ensures told { StaysTold (B.log journal.old.banks) (B.log journal.new.banks) }
-    ensures meter { Metered append_calls (B.meter journal.old.banks) (B.meter journal.new.banks) (IsOk result) (IsErrOf result Why.Device) }
+    ensures meter { Metered append_calls (B.meter journal.old.banks) (B.meter journal.new.banks)
+        (IsOk result) (IsErrOf result Why.Device) }
 {
-    match journal.append_entry(entry) {
+    match journal.append_entry_open(entry) {
         Ok(()) => Ok(()),
-        Err(fault) => Err(refused(journal, done, fault)),
+        Err(why) => {
+            close_begun(journal, done, why);
+            Err(why)
+        }
     }
 }
 
-/// Why an append was refused. It closes a journal that is open where calls of the device were done before for the same change.
-fn refused<B: Banks>(journal: &mut Journal<B>, done: bool, fault: AppendFault) -> Why
-    ensures why { IsRefusedBy fault result }
+/// Closes a journal that is open where calls of the device were done before for a change that is refused for this.
+fn close_begun<B: Banks>(journal: &mut Journal<B>, done: bool, why: Why)
     ensures banks { journal.new.banks ≡ journal.old.banks }
     ensures fresh { done ≡ false → journal.new ≡ journal.old }
-    ensures closed { (why : Why) → journal.old.closed ≡ Some why → journal.new ≡ journal.old }
-    ensures shut { done ≡ true → journal.old.closed ≡ None → journal.new ≡ record journal.old { closed = Some result } }
+    ensures closed { (earlier : Why) → journal.old.closed ≡ Some earlier → journal.new ≡ journal.old }
+    ensures shut { done ≡ true → journal.old.closed ≡ None
+        → journal.new ≡ record journal.old { closed = Some why } }
 {
-    let why = reason(fault);
     if !done {
-        return why;
+        return;
     }
     if journal.is_closed().is_some() {
-        return why;
+        return;
     }
     journal.close(why);
-    why
-}
-
-/// Why an append was refused.
-fn reason(fault: AppendFault) -> Why
-    ensures { IsRefusedBy fault result }
-{
-    match fault {
-        AppendFault::Closed { why } => why,
-        AppendFault::Device => Why::Device,
-        AppendFault::NoMemory => Why::NoMemory,
-    }
 }
 
 /// Whether the lists of each entry have counts of four bytes.
@@ -138,15 +133,13 @@ pub fn append_fork<B: Banks>(journal: &mut Journal<B>) -> Result<(), Why>
     ensures kept { (kept : Kept) → KeptBy (B.log journal.old.banks) journal.old.closed kept
         → OnOk result (KeepsNow (with_fork kept) (B.log journal.new.banks)) }
     ensures moments { LeavesSteps B.log B.meter journal.old journal.new (Forked ∷ []) }
-    ensures ok { OnOk result (GoesOn journal.old journal.new) }
+    ensures ok { OnOk result (JournalStaysOpen journal.old journal.new) }
     ensures err { IfErr result (LeavesRefused B.log B.meter false journal.old journal.new) }
     ensures told { StaysTold (B.log journal.old.banks) (B.log journal.new.banks) }
-    ensures meter { Metered append_calls (B.meter journal.old.banks) (B.meter journal.new.banks) (IsOk result) (IsErrOf result Why.Device) }
+    ensures meter { Metered append_calls (B.meter journal.old.banks) (B.meter journal.new.banks)
+        (IsOk result) (IsErrOf result Why.Device) }
 {
-    match journal.append_fork() {
-        Ok(()) => Ok(()),
-        Err(fault) => Err(reason(fault)),
-    }
+    journal.append_fork_open()
 }
 
 /// Makes the journal of a head that is in order, in six calls of the device.
@@ -164,7 +157,8 @@ pub fn create<B: Banks>(
     ensures moments { LeavesMade B.log B.meter (head_value head.now) blank (made_banks result) }
     ensures err { IfErr result (LeavesUnmade B.log B.meter (head_value head.now) blank) }
     ensures told { StaysTold (B.log blank) (B.log (made_banks result)) }
-    ensures meter { Metered create_calls (B.meter blank) (B.meter (made_banks result)) (IsOk result) (FailsToMake result) }
+    ensures meter { Metered create_calls (B.meter blank) (B.meter (made_banks result))
+        (IsOk result) (FailsToMake result) }
 {
     if !is_short_head(head) {
         return Err((MakeFault::NoMemory, blank.into_banks()));

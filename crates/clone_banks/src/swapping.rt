@@ -1,12 +1,12 @@
 //! Swaps of what a clone's banks keep, and appends behind a swap.
-ghost use Rattle.std.specs.Prelude.{◌≡◌, ◌+◌, ◌*◌, ◌-◌, ◌^◌, ◌↔◌, ◌∷◌, [], true, false, None, Some, IfErr, IsOk, IsErrOf, IsTrue, OnOk, length};
+ghost use Rattle.std.specs.Prelude.{◌≡◌, ◌≢◌, ◌+◌, ◌*◌, ◌-◌, ◌^◌, ◌∷◌, [], true, false, None, Some, IfErr, IsOk, IsErrOf, IsTrue, OnOk, length};
 ghost use Rattle.std.specs.List.{AllByRecursion};
 ghost use Rattle.mld_io.specs.Arm.{Metered};
 ghost use Rattle.op_codec.specs.Stored.{IsShortEntry};
 ghost use Rattle.journal_sides.specs.Heads.{head_value};
 ghost use Rattle.journal_sides.specs.Pairs.{Kept};
 ghost use Rattle.journal_store.specs.Calls.{KeptBy, swapped};
-ghost use Rattle.journal_store.specs.Closing.{StaysTold, IsSwapped, LeavesSwap};
+ghost use Rattle.journal_store.specs.Closing.{StaysTold, IsSwapped, LeavesRefused};
 ghost use Rattle.journal_store.specs.Standing.{KeepsNow};
 ghost use Rattle.clone_banks.specs.Appending.{KeepsSome, IsHeadInOrder, AreShortParts};
 ghost use Rattle.clone_banks.specs.BankCalls.{append_calls, swap_calls};
@@ -14,44 +14,46 @@ ghost use Rattle.clone_banks.specs.KeptSteps.{Swapped, LeavesSteps, appends};
 ghost use Rattle.clone_plans.specs.Replays.{AreReadyEntries};
 
 use crate::appending::{append_short, are_short, is_short_head};
-use journal_store::{Head, Journal, SwapFault};
+use journal_store::{Head, Journal, Why};
 use mld_io::Banks;
 use mld_ops::Entry;
 use std::alloc::Global;
 
-/// Swaps what an open journal keeps for a head that is in order, and entries that are ready one after another behind its
-/// base, in six calls of the device.
+/// Swaps what a journal keeps, which is open and has a generation left, for a head that is in order, and entries that are
+/// ready one after another behind its base, in six calls of the device.
 ///
 /// # Errors
 ///
-/// `GenerationsSpent` where the generation is 2^64 - 1; nothing changes then. `Device` where the device failed, which closes
-/// the journal. `NoMemory` closes it where a call of the device was done, and leaves it as it was else. Never `Closed`.
+/// `Device` where the device failed, which closes the journal. `NoMemory` closes it where a call of the device was done, and
+/// leaves it as it was else.
 pub fn swap_kept<B: Banks>(
     alloc: Global,
     journal: &mut Journal<B>,
     head: &Head,
     entries: &[Entry],
-) -> Result<(), SwapFault>
+) -> Result<(), Why>
     requires opened { journal.old.closed ≡ None }
+    requires left { journal.old.generation ≢ 2 ^ 64 - 1 }
     requires head { IsHeadInOrder (head_value head.now) }
     requires ready { AreReadyEntries head.now.base.ticks entries.now }
     ensures kept { (kept : Kept) → KeptBy (B.log journal.old.banks) journal.old.closed kept
         → OnOk result (KeepsNow (swapped (head_value head.now) entries.now kept) (B.log journal.new.banks)) }
-    ensures moments { LeavesSteps B.log B.meter journal.old journal.new (Swapped (head_value head.now) entries.now ∷ []) }
+    ensures moments { LeavesSteps B.log B.meter journal.old journal.new
+        (Swapped (head_value head.now) entries.now ∷ []) }
     ensures ok { OnOk result (IsSwapped B.log B.meter journal.old journal.new) }
-    ensures spent { IsErrOf result SwapFault.GenerationsSpent ↔ ((journal.old.generation ≡ 2 ^ 64 - 1) × ¬ IsErrOf result SwapFault.NoMemory) }
-    ensures err { IfErr result (LeavesSwap B.log B.meter false journal.old journal.new) }
+    ensures err { IfErr result (LeavesRefused B.log B.meter false journal.old journal.new) }
     ensures told { StaysTold (B.log journal.old.banks) (B.log journal.new.banks) }
-    ensures meter { Metered swap_calls (B.meter journal.old.banks) (B.meter journal.new.banks) (IsOk result) (IsErrOf result SwapFault.Device) }
+    ensures meter { Metered swap_calls (B.meter journal.old.banks) (B.meter journal.new.banks)
+        (IsOk result) (IsErrOf result Why.Device) }
 {
     if !are_short_parts(head, entries) {
-        return Err(SwapFault::NoMemory);
+        return Err(Why::NoMemory);
     }
-    journal.swap(alloc, head, entries)
+    journal.swap_open(alloc, head, entries)
 }
 
-/// Swaps what an open journal keeps for a head that is in order, with no entries, in six calls of the device, and appends
-/// entries behind it that are ready one after another behind its base, each in four.
+/// Swaps what a journal keeps, which is open and has a generation left, for a head that is in order, with no entries, in six
+/// calls of the device, and appends entries behind it that are ready one after another behind its base, each in four.
 ///
 /// # Errors
 ///
@@ -61,23 +63,26 @@ pub fn swap_and_append<B: Banks>(
     journal: &mut Journal<B>,
     head: &Head,
     entries: &[Entry],
-) -> Result<(), SwapFault>
+) -> Result<(), Why>
     requires keeps { KeepsSome B.log journal.old }
+    requires left { journal.old.generation ≢ 2 ^ 64 - 1 }
     requires head { IsHeadInOrder (head_value head.now) }
     requires ready { AreReadyEntries head.now.base.ticks entries.now }
     ensures kept { (kept : Kept) → KeptBy (B.log journal.old.banks) journal.old.closed kept
         → OnOk result (KeepsNow (swapped (head_value head.now) entries.now kept) (B.log journal.new.banks)) }
-    ensures moments { LeavesSteps B.log B.meter journal.old journal.new (Swapped (head_value head.now) [] ∷ appends entries.now) }
+    ensures moments { LeavesSteps B.log B.meter journal.old journal.new
+        (Swapped (head_value head.now) [] ∷ appends entries.now) }
     ensures ok { OnOk result (IsSwapped B.log B.meter journal.old journal.new) }
-    ensures spent { IsErrOf result SwapFault.GenerationsSpent ↔ ((journal.old.generation ≡ 2 ^ 64 - 1) × ¬ IsErrOf result SwapFault.NoMemory) }
-    ensures err { IfErr result (LeavesSwap B.log B.meter true journal.old journal.new) }
+    ensures err { IfErr result (LeavesRefused B.log B.meter true journal.old journal.new) }
     ensures told { StaysTold (B.log journal.old.banks) (B.log journal.new.banks) }
-    ensures meter { Metered (swap_calls + append_calls * length entries.now) (B.meter journal.old.banks) (B.meter journal.new.banks) (IsOk result) (IsErrOf result SwapFault.Device) }
+    ensures meter { Metered (swap_calls + append_calls * length entries.now) (B.meter journal.old.banks)
+        (B.meter journal.new.banks)
+        (IsOk result) (IsErrOf result Why.Device) }
 {
     if !are_short_parts(head, entries) {
-        return Err(SwapFault::NoMemory);
+        return Err(Why::NoMemory);
     }
-    journal.swap(alloc, head, &[])?;
+    journal.swap_open(alloc, head, &[])?;
     append_short(journal, true, entries)?;
     Ok(())
 }

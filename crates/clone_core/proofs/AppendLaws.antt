@@ -13,10 +13,8 @@ use Rattle.journal_sides.specs.Heads.{HeadValue}
 use Rattle.journal_sides.specs.Pairs.{Kept, with_fork}
 use Rattle.journal_sides.specs.RecordBytes.{known_after}
 use Rattle.journal_store.specs.Calls.{KeptBy, swapped}
-use Rattle.journal_store.specs.Closing.{StaysTold, GoesOn, IsSwapped, LeavesRefused, LeavesSwap}
+use Rattle.journal_store.specs.Closing.{StaysTold, JournalStaysOpen, IsSwapped, LeavesRefused}
 use Rattle.journal_store.specs.Standing.{JournalValue, KeepsJust, KeepsNow}
-use Rattle.journal_store.specs.declared.faults.SwapFault.{SwapFault}
-use Rattle.journal_store.specs.declared.faults.SwapFault.TheVariants as swap
 use Rattle.journal_store.specs.declared.faults.Why.{Why}
 use Rattle.journal_store.specs.declared.faults.Why.TheVariants as why
 use Rattle.clone_plans.specs.Making.{IsNextEntry}
@@ -93,7 +91,7 @@ module _ {B : Type 0} (log : B → Option Log) (was now : JournalValue B) (old :
 
   -- entries were appended
   pub taken_on_banks : (entries : List EntryValue) (new : LocalClone) → StaysTold (log was.banks) (log now.banks)
-      → ((kept : Kept) → KeptBy (log was.banks) was.closed kept → KeepsNow (with_entries entries kept) (log now.banks)) → GoesOn was now
+      → ((kept : Kept) → KeptBy (log was.banks) was.closed kept → KeepsNow (with_entries entries kept) (log now.banks)) → JournalStaysOpen was now
       → head_of new ≡ head_of old → new.entries ≡ old.entries ++ entries → OnJournal log now new
   taken_on_banks entries new told keeps goes head is =
       changed_on_banks (with_entries entries) new told keeps
@@ -101,7 +99,7 @@ module _ {B : Type 0} (log : B → Option Log) (was now : JournalValue B) (old :
 
   -- a fork was
   pub forked_on_banks : (left : List ℕ) → left ≡ old.path ++ zero_letter ∷ [] → StaysTold (log was.banks) (log now.banks)
-      → ((kept : Kept) → KeptBy (log was.banks) was.closed kept → KeepsNow (with_fork kept) (log now.banks)) → GoesOn was now
+      → ((kept : Kept) → KeptBy (log was.banks) was.closed kept → KeepsNow (with_fork kept) (log now.banks)) → JournalStaysOpen was now
       → OnJournal log now (record old { path = left })
   forked_on_banks left is told keeps goes =
       changed_on_banks with_fork (record old { path = left }) told keeps
@@ -122,16 +120,8 @@ module _ {B : Type 0} (log : B → Option Log) (was now : JournalValue B) (old :
   shut_on_banks : (reason : Why) → now.closed ≡ Some reason → OnJournal log now old
   shut_on_banks reason shut = record { keeps = λ open_now. absurd (none_some (sym open_now ∙ shut)) }
 
-  -- appends were refused
+  -- appends or a swap were refused
   pub refused_on_banks : (meter : B → Meter) (swaps : Bool) (told : Why) → LeavesRefused log meter swaps was now told → OnJournal log now old
   refused_on_banks meter swaps why.Device h = shut_on_banks why.Device h.now
   refused_on_banks meter swaps why.NoMemory (inl same) = same_on_banks same
   refused_on_banks meter swaps why.NoMemory (inr h) = shut_on_banks why.NoMemory h.now
-
-  -- and a swap
-  pub unswapped_on_banks : (meter : B → Meter) (swaps : Bool) (told : SwapFault) → LeavesSwap log meter swaps was now told → OnJournal log now old
-  unswapped_on_banks meter swaps (swap.Closed reason) h = same_on_banks h.1
-  unswapped_on_banks meter swaps swap.GenerationsSpent h = same_on_banks h
-  unswapped_on_banks meter swaps swap.Device h = shut_on_banks why.Device h.closes.now
-  unswapped_on_banks meter swaps swap.NoMemory (inl same) = same_on_banks same
-  unswapped_on_banks meter swaps swap.NoMemory (inr h) = shut_on_banks why.NoMemory h.closes.now

@@ -5,10 +5,8 @@ use Rattle.mld_io.specs.Disk.{Log}
 use Rattle.mld_ops.specs.Entry.{EntryValue}
 use Rattle.journal_sides.specs.Pairs.{Kept, Keeps, KeepsNone}
 use Rattle.journal_store.specs.Calls.{KeptBy}
-use Rattle.journal_store.specs.Closing.{StaysTold, LeavesSwap}
+use Rattle.journal_store.specs.Closing.{StaysTold}
 use Rattle.journal_store.specs.Standing.{JournalValue, IsBlankLog}
-use Rattle.journal_store.specs.declared.faults.SwapFault.{SwapFault}
-use Rattle.journal_store.specs.declared.faults.SwapFault.TheVariants as swap
 use Rattle.journal_store.specs.declared.faults.Why.{Why}
 use Rattle.journal_store.specs.declared.faults.Why.TheVariants as why
 use Rattle.journal_store.proofs.ClosingLaws.{told_same}
@@ -21,7 +19,7 @@ use Rattle.clone_banks.proofs.StepLaws.{some_none}
 use Rattle.mld_io.proofs.ArmLaws.{Metered-refused}
 use Rattle.journal_sides.specs.Heads.{HeadValue}
 use Rattle.clone_banks.proofs.MeterLaws.{Metered-none}
-use Rattle.clone_banks.proofs.RefusedLaws.{none_some, ok_err}
+use Rattle.clone_banks.proofs.RefusedLaws.{ok_err}
 use Rattle.clone_core.specs.Banked.{BankedClone, kept_as}
 use Rattle.clone_core.specs.CloneClosing.{update_stop, receive_stop}
 use Rattle.causal_buffer.specs.declared.faults.HeldFault.{HeldFault}
@@ -30,7 +28,7 @@ use Rattle.mld_ops.specs.declared.messages.Message.TheVariants as message
 use Rattle.clone_answers.specs.declared.answers.Got.{Got}
 use Rattle.jrql_eval.specs.declared.faults.EvalFault.{EvalFault}
 use Rattle.jrql_eval.specs.declared.faults.EvalFault.TheVariants as eval
-use Rattle.clone_answers.specs.CloneFaults.{fault_of_held, update_fault_of, update_fault_of_effect, receive_fault_of, receive_fault_of_swap, keep_fault_of}
+use Rattle.clone_answers.specs.CloneFaults.{fault_of_held, update_fault_of, update_fault_of_effect, receive_fault_of, keep_fault_of}
 use Rattle.mld_ops.specs.Effects.{EffectValue}
 use Rattle.clone_plans.specs.Making.{IsEntryOf}
 use Rattle.jrql_ast.specs.declared.plans.UpdatePlan.{UpdatePlan}
@@ -114,17 +112,9 @@ pub update_tells : (told : Why) → (update_fault_of told ≡ update.Device) ↔
 update_tells why.Device = (λ e. refl, λ e. refl)
 update_tells why.NoMemory = (λ e. absurd cc, λ e. absurd cc)
 
-pub merge_tells : (told : SwapFault) → (receive_fault_of_swap told ≡ receive.Device) ↔ (told ≡ swap.Device)
-merge_tells swap.Device = (λ e. refl, λ e. refl)
-merge_tells swap.NoMemory = (λ e. absurd cc, λ e. absurd cc)
-merge_tells swap.GenerationsSpent = (λ e. absurd cc, λ e. absurd cc)
-merge_tells (swap.Closed reason) = (λ e. absurd cc, λ e. absurd cc)
-
-pub keep_tells : (told : SwapFault) → (keep_fault_of told ≡ keep.Device) ↔ (told ≡ swap.Device)
-keep_tells swap.Device = (λ e. refl, λ e. refl)
-keep_tells swap.NoMemory = (λ e. absurd cc, λ e. absurd cc)
-keep_tells swap.GenerationsSpent = (λ e. absurd cc, λ e. absurd cc)
-keep_tells (swap.Closed reason) = (λ e. absurd cc, λ e. absurd cc)
+pub keep_tells : (told : Why) → (keep_fault_of told ≡ keep.Device) ↔ (told ≡ why.Device)
+keep_tells why.Device = (λ e. refl, λ e. refl)
+keep_tells why.NoMemory = (λ e. absurd cc, λ e. absurd cc)
 
 -- what was refused by the device or memory may have made the changes that it was to make
 pub receive_would : (Would : List KeptStep → Type 0) (told : Why) (steps : List KeptStep) → Would steps → RefusedSteps Would (receive_stop (receive_fault_of told)) steps
@@ -146,34 +136,21 @@ module _ {B : Type 0} (U T : Type 0) (log : B → Option Log) (meter : B → Met
   calls = calls_of_all (step ∷ steps)
 
   -- where a swap was
-  module _ (swaps : Bool) (Stop : Type 0) (device : Stop) (fault_of : SwapFault → Stop) (stop_of : Stop → Option Why)
-      (tells : (fault : SwapFault) → (fault_of fault ≡ device) ↔ (fault ≡ swap.Device))
-      (spent : stop_of (fault_of swap.GenerationsSpent) ≡ None) (failed : stop_of (fault_of swap.Device) ≡ Some why.Device)
-      (memory : stop_of (fault_of swap.NoMemory) ≡ Some why.NoMemory) where
-    abbrev Ends : SwapFault → Type 0
-    Ends fault = (made : List KeptStep) × RefusedSteps Would (stop_of (fault_of fault)) made
-        × Changes log meter made old now.banks (IsOk {T = T} {E = Stop} (Err (fault_of fault))) (IsErrOf {T = T} {E = Stop} (Err (fault_of fault)) device)
+  module _ (Stop : Type 0) (device : Stop) (fault_of : Why → Stop) (stop_of : Stop → Option Why) (tells : (reason : Why) → (fault_of reason ≡ device) ↔ (reason ≡ why.Device))
+      (failed : stop_of (fault_of why.Device) ≡ Some why.Device) (memory : stop_of (fault_of why.NoMemory) ≡ Some why.NoMemory) where
+    would_be : (reason : Why) → RefusedSteps Would (stop_of (fault_of reason)) (step ∷ steps)
+    would_be why.Device = subst (λ (stop : Option Why). RefusedSteps Would stop (step ∷ steps)) (sym failed) would
+    would_be why.NoMemory = subst (λ (stop : Option Why). RefusedSteps Would stop (step ∷ steps)) (sym memory) (inr would)
 
-    some_made : (fault : SwapFault) → Metered calls (meter was.banks) (meter now.banks) (IsOk {T = U} {E = SwapFault} (Err fault)) (IsErrOf {T = U} {E = SwapFault} (Err fault) swap.Device)
-        → Changes log meter (step ∷ steps) old now.banks (IsOk {T = T} {E = Stop} (Err (fault_of fault))) (IsErrOf {T = T} {E = Stop} (Err (fault_of fault)) device)
-    some_made fault m =
-        changes_made log meter was now local old same banks is_open told step steps moments
-        (stopped_metered {U = U} {E = SwapFault} {T = T} {F = Stop} calls (meter was.banks) (meter now.banks) swap.Device device fault (fault_of fault) (tells fault) m)
-
-    pub swap_refused : (fault : SwapFault) → LeavesSwap log meter swaps was now fault
-        → Metered calls (meter was.banks) (meter now.banks) (IsOk {T = U} {E = SwapFault} (Err fault)) (IsErrOf {T = U} {E = SwapFault} (Err fault) swap.Device) → Ends fault
-    swap_refused (swap.Closed reason) h m = absurd (none_some (sym is_open ∙ h.0))
-    swap_refused swap.GenerationsSpent h m = (
-      [],
-      subst (λ (stop : Option Why). RefusedSteps Would stop []) (sym spent) refl,
-      changes_none log meter old now.banks (ap (λ (j : JournalValue B). j.banks) h ∙ ap (λ (clone : BankedClone B). clone.banks) same)
-          (λ f. no_device ((tells swap.GenerationsSpent).0 (err_same f))),
+    pub swap_refused : (reason : Why) → Metered calls (meter was.banks) (meter now.banks) (IsOk {T = U} {E = Why} (Err reason)) (IsErrOf {T = U} {E = Why} (Err reason) why.Device)
+        → (made : List KeptStep) × RefusedSteps Would (stop_of (fault_of reason)) made
+        × Changes log meter made old now.banks (IsOk {T = T} {E = Stop} (Err (fault_of reason))) (IsErrOf {T = T} {E = Stop} (Err (fault_of reason)) device)
+    swap_refused reason m = (
+      step ∷ steps,
+      would_be reason,
+      changes_made log meter was now local old same banks is_open told step steps moments
+          (stopped_metered {U = U} {E = Why} {T = T} {F = Stop} calls (meter was.banks) (meter now.banks) why.Device device reason (fault_of reason) (tells reason) m),
     )
-      where
-        no_device : ¬ (swap.GenerationsSpent ≡ swap.Device)
-        no_device e = cc
-    swap_refused swap.Device h m = (step ∷ steps, subst (λ (stop : Option Why). RefusedSteps Would stop (step ∷ steps)) (sym failed) would, some_made swap.Device m)
-    swap_refused swap.NoMemory h m = (step ∷ steps, subst (λ (stop : Option Why). RefusedSteps Would stop (step ∷ steps)) (sym memory) (inr would), some_made swap.NoMemory m)
 
 -- ---- an update
 

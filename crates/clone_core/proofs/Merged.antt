@@ -3,8 +3,8 @@ use Rattle.std.proofs.Common.{◌≡◌, ◌∙◌, ℕ, ◌-◌, ◌^◌, List,
 use Rattle.tree_clock.specs.declared.dots.Range.{Range}
 use Rattle.mld_ops.specs.Entry.{EntryValue}
 use Rattle.mld_ops.specs.Messages.{SnapshotValue}
-use Rattle.journal_store.specs.declared.faults.SwapFault.{SwapFault}
-use Rattle.journal_store.specs.declared.faults.SwapFault.TheVariants as swap
+use Rattle.journal_store.specs.declared.faults.Why.{Why}
+use Rattle.journal_store.specs.declared.faults.Why.TheVariants as why
 use Rattle.mld_model.specs.Local.{LocalClone, IsLocal, LocallyReleases, LocallyMerges, KnowsSnapshot}
 use Rattle.mld_model.proofs.MergedStands.{merged_local}
 use Rattle.clone_plans.specs.Merges.{IsMergeOf}
@@ -16,7 +16,7 @@ use Rattle.journal_sides.specs.Heads.{HeadValue}
 use Rattle.clone_banks.specs.KeptSteps.{Swapped, appends}
 use Rattle.clone_core.specs.Banked.{head_over}
 use Rattle.clone_core.specs.DurableCalls.{merged_steps}
-use Rattle.clone_answers.specs.CloneFaults.{receive_fault_of_swap}
+use Rattle.clone_answers.specs.CloneFaults.{receive_fault_of}
 use Rattle.clone_answers.specs.declared.faults.ReceiveFault.TheVariants as fault
 use Rattle.clone_core.proofs.DurableLaws.{err_same}
 use Rattle.clone_core.proofs.Taking.{releases_shorter}
@@ -72,23 +72,7 @@ module _ (old : LocalClone) (snapshot : SnapshotValue) (merge : Merge) (of : IsM
 
 -- ---- what a refusal tells
 
--- it tells of generations what the swap tells
-spent_of : (told : SwapFault) → receive_fault_of_swap told ≡ fault.GenerationsSpent → told ≡ swap.GenerationsSpent
-spent_of (swap.Closed reason) e = absurd cc
-spent_of swap.GenerationsSpent e = refl
-spent_of swap.Device e = absurd cc
-spent_of swap.NoMemory e = absurd cc
-
-memory_of : (told : SwapFault) → receive_fault_of_swap told ≡ fault.NoMemory → told ≡ swap.NoMemory
-memory_of (swap.Closed reason) e = absurd cc
-memory_of swap.GenerationsSpent e = absurd cc
-memory_of swap.Device e = absurd cc
-memory_of swap.NoMemory e = refl
-
-pub spent_as : {T U : Type 0} (told : SwapFault) (had generation : ℕ) → had ≡ generation
-    → IsErrOf {T = T} (Err told) swap.GenerationsSpent ↔ ((had ≡ 2 ^ 64 - 1) × ¬ IsErrOf {T = T} (Err told) swap.NoMemory)
-    → IsErrOf {T = U} (Err (receive_fault_of_swap told)) fault.GenerationsSpent ↔ ((generation ≡ 2 ^ 64 - 1) × ¬ IsErrOf {T = U} (Err (receive_fault_of_swap told)) fault.NoMemory)
-spent_as told had generation same spent = (
-  λ e. let has = spent.0 (ap Err (spent_of told (err_same e))) in (sym same ∙ has.0, λ n. has.1 (ap Err (memory_of told (err_same n)))),
-  λ has. ap Err (ap receive_fault_of_swap (err_same (spent.1 (same ∙ has.0, λ n. has.1 (ap Err (ap receive_fault_of_swap (err_same n))))))),
-)
+-- it tells nothing of generations
+pub never_spent : (told : Why) → ¬ (receive_fault_of told ≡ fault.GenerationsSpent)
+never_spent why.Device e = cc
+never_spent why.NoMemory e = cc

@@ -1,20 +1,16 @@
 -- Laws of what a clone's calls leave that were refused.
-use Rattle.std.proofs.Common.{◌≡◌, ◌≢◌, ◌∙◌, ◌+◌, ◌-◌, ◌^◌, ◌⊎◌, Bool, true, false, Option, None, Some, inl, inr, refl, sym, ap, subst}
+use Rattle.std.proofs.Common.{◌≡◌, ◌∙◌, ◌+◌, ◌⊎◌, Bool, true, false, Option, None, Some, inl, inr, refl, sym, ap, subst}
 use Rattle.mld_io.specs.Arm.{Meter}
 use Rattle.mld_io.specs.Disk.{Log}
-use Rattle.journal_store.specs.Closing.{ClosesFor, ClosesSwap, MayTurn, LeavesRefused, LeavesSwap}
+use Rattle.journal_store.specs.Closing.{ClosesFor, MayTurn, LeavesRefused}
 use Rattle.journal_store.specs.Standing.{JournalValue}
-use Rattle.journal_store.specs.declared.faults.SwapFault.{SwapFault}
-use Rattle.journal_store.specs.declared.faults.SwapFault.TheVariants as swap
 use Rattle.journal_store.specs.declared.faults.Why.{Why}
 use Rattle.journal_store.specs.declared.faults.Why.TheVariants as why
 use Rattle.mld_model.specs.Local.{LocalClone}
 use Rattle.clone_core.specs.Banked.{BankedClone}
-use Rattle.clone_answers.specs.CloneFaults.{update_fault_of, receive_fault_of, receive_fault_of_swap, keep_fault_of}
-use Rattle.clone_core.specs.CloneClosing.{Shuts, LeavesClone, update_stop, receive_stop}
-use Rattle.clone_core.specs.Due.{IsDueSwap}
-use Rattle.clone_core.specs.CallParts.{StopsClone, StopsMerge, StopsKeep}
-use Rattle.clone_banks.proofs.RefusedLaws.{none_some}
+use Rattle.clone_answers.specs.CloneFaults.{update_fault_of, receive_fault_of, keep_fault_of}
+use Rattle.clone_core.specs.CloneClosing.{ShutsClone, LeavesClone, update_stop, receive_stop, keep_stop}
+use Rattle.clone_core.specs.CallParts.{StopsClone}
 
 -- a clone on its journal
 abbrev pub banked : {B : Type 0} → LocalClone → JournalValue B → BankedClone B
@@ -29,9 +25,9 @@ turned true before behind may (inr h) = inr (may refl, h.1)
 
 module _ {B : Type 0} (log : B → Option Log) (meter : B → Meter) {Due Swaps : Type 0} (due : Due) (swaps : Bool) (may : swaps ≡ true → Swaps) (before behind : JournalValue B)
     (local : LocalClone) (old : BankedClone B) (same : banked local before ≡ old) where
-  shuts : (reason : Why) → ClosesFor log meter swaps reason before behind → Shuts log meter Due Swaps old reason (banked local behind)
+  shuts : (reason : Why) → ClosesFor log meter swaps reason before behind → ShutsClone log meter Due Swaps old reason (banked local behind)
   shuts reason h =
-      subst (λ (clone : BankedClone B). Shuts log meter Due Swaps clone reason (banked local behind)) same
+      subst (λ (clone : BankedClone B). ShutsClone log meter Due Swaps clone reason (banked local behind)) same
       (record { was = h.was; due = due; now = h.now; called = h.called; local = refl; generation = turned swaps before behind may h.turned })
 
   stays : behind ≡ before → banked local behind ≡ old
@@ -52,36 +48,9 @@ module _ {B : Type 0} (log : B → Option Log) (meter : B → Meter) {Due Swaps 
   update_stops why.Device h = refused_leaves why.Device h
   update_stops why.NoMemory h = refused_leaves why.NoMemory h
 
-  closed_no : (reason : Why) → old.closed ≡ None → before.closed ≡ Some reason → ⊥
-  closed_no reason is_open shut = none_some (sym is_open ∙ (sym (ap (λ (clone : BankedClone B). clone.closed) same) ∙ shut))
-
--- a swap with appends behind it was refused
-module _ {B : Type 0} (log : B → Option Log) (meter : B → Meter) {Due : Type 0} (due : Due) (before behind : JournalValue B) (local : LocalClone) (old : BankedClone B)
-    (same : banked local before ≡ old) (is_open : old.closed ≡ None) where
-  -- what it says of the generation
-  closes_due : (reason : Why) (swaps : Bool) → ClosesSwap log meter swaps reason before behind → IsDueSwap Due old
-  closes_due reason swaps h = record { due = due; left = subst (λ (clone : BankedClone B). clone.generation ≢ 2 ^ 64 - 1) same h.left }
-
-  swap_shuts : {Swaps : Type 0} (reason : Why) (swaps : Bool) → (swaps ≡ true → Swaps) → ClosesSwap log meter swaps reason before behind
-      → Shuts log meter (IsDueSwap Due old) Swaps old reason (banked local behind)
-  swap_shuts {Swaps = Swaps} reason swaps may h = shuts log meter {Swaps = Swaps} (closes_due reason swaps h) swaps may before behind local old same reason h.closes
-
-  pub unmerged_stops : (told : SwapFault) → LeavesSwap log meter true before behind told
-      → StopsMerge log meter (IsDueSwap Due old) old (banked local behind) (receive_fault_of_swap told)
-  unmerged_stops (swap.Closed reason) h = absurd (closed_no log meter {Due = Due} {Swaps = Unit {0}} due true (λ e. tt) before behind local old same reason is_open h.0)
-  unmerged_stops swap.GenerationsSpent h = ap (banked local) h ∙ same
-  unmerged_stops swap.Device h = swap_shuts why.Device true (λ e. tt) h
-  unmerged_stops swap.NoMemory (inl j) = inl (ap (banked local) j ∙ same)
-  unmerged_stops swap.NoMemory (inr h) = inr (swap_shuts why.NoMemory true (λ e. tt) h)
-
-  -- and a swap alone
-  pub unswapped_stops : (told : SwapFault) → LeavesSwap log meter false before behind told
-      → StopsKeep log meter (IsDueSwap Due old) old (banked local behind) (keep_fault_of told)
-  unswapped_stops (swap.Closed reason) h = absurd (closed_no log meter {Due = Due} {Swaps = ⊥} due false (λ e. absurd cc) before behind local old same reason is_open h.0)
-  unswapped_stops swap.GenerationsSpent h = ap (banked local) h ∙ same
-  unswapped_stops swap.Device h = swap_shuts why.Device false (λ e. absurd cc) h
-  unswapped_stops swap.NoMemory (inl j) = inl (ap (banked local) j ∙ same)
-  unswapped_stops swap.NoMemory (inr h) = inr (swap_shuts why.NoMemory false (λ e. absurd cc) h)
+  pub keep_stops : (told : Why) → LeavesRefused log meter swaps before behind told → StopsClone log meter Due Swaps old (banked local behind) (keep_stop (keep_fault_of told))
+  keep_stops why.Device h = refused_leaves why.Device h
+  keep_stops why.NoMemory h = refused_leaves why.NoMemory h
 
 -- ---- what a part of a call leaves, where there is something to do
 pub stops_due : {B : Type 0} (log : B → Option Log) (meter : B → Meter) (Due : Type 0) (old new : BankedClone B) (stop : Option Why) → Due

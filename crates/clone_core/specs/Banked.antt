@@ -1,4 +1,5 @@
--- Clones on banks: what contracts see of them, and what their banks keep.
+-- Clones on banks: what contracts see of them, and what their banks keep. It is the view and the invariant of `MldClone` and `Asker`; `is_closed`
+-- and `stop` have `KeepsClone`.
 use Rattle.std.specs.Prelude.{◌≡◌, ℕ, List, Option, Some, None}
 use Rattle.mld_ops.specs.declared.tagged.Tagged.{Tagged}
 use Rattle.mld_io.specs.Disk.{Log}

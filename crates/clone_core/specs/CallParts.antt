@@ -1,4 +1,5 @@
--- What the private parts of a clone's calls do.
+-- What the parts of a clone's calls do, which are private: `make`, `give`, `accept`, `hold`, `merge`, `answer_want`, `swap_compacted`,
+-- `swap_truncated` and `beginning` cite it.
 use Rattle.std.specs.Prelude.{◌≡◌, ◌++◌, ◌∷◌, [], List, Option, None, Some, Result, Ok, Err}
 use Rattle.mld_io.specs.Arm.{Meter}
 use Rattle.mld_io.specs.Disk.{Log}
@@ -11,12 +12,10 @@ use Rattle.causal_buffer.specs.declared.faults.HeldFault.TheVariants as held
 use Rattle.mld_model.specs.Local.{LocalClone, IsSameClone, IsFullFor, next_dot}
 use Rattle.clone_core.specs.Banked.{BankedClone}
 use Rattle.clone_banks.specs.KeptSteps.{KeptStep, Appended}
-use Rattle.clone_core.specs.CloneClosing.{LeavesClone, update_stop, receive_stop, keep_stop}
+use Rattle.clone_core.specs.CloneClosing.{LeavesClone, update_stop, receive_stop}
 use Rattle.clone_core.specs.DurableCalls.{RefusedSteps}
 use Rattle.clone_answers.specs.declared.answers.Done.{Done}
 use Rattle.clone_answers.specs.declared.answers.Done.TheVariants as done
-use Rattle.clone_answers.specs.declared.faults.KeepFault.{KeepFault}
-use Rattle.clone_answers.specs.declared.faults.KeepFault.TheVariants as keep
 use Rattle.clone_answers.specs.declared.faults.ReceiveFault.{ReceiveFault}
 use Rattle.clone_answers.specs.declared.faults.ReceiveFault.TheVariants as receive
 use Rattle.clone_answers.specs.declared.faults.UpdateFault.{UpdateFault}
@@ -54,19 +53,9 @@ IsFullAt clone entry held.Full = IsFullFor clone entry
 IsFullAt clone entry held.NoMemory = Unit {0}
 
 -- an open clone that refuses a message isn't said to be closed
-abbrev pub StopsOpen : {B : Type 0} → (B → Option Log) → (B → Meter) → (Due Swaps : Type 0) → BankedClone B → BankedClone B → ReceiveFault → Type 0
-StopsOpen log meter Due Swaps old new (receive.Closed reason) = ⊥
-StopsOpen log meter Due Swaps old new other = LeavesClone log meter Due Swaps old new (receive_stop other)
-
--- a snapshot that is due is refused by the last generation, by the device, or by memory alone
-abbrev pub StopsMerge : {B : Type 0} → (B → Option Log) → (B → Meter) → (Due : Type 0) → BankedClone B → BankedClone B → ReceiveFault → Type 0
-StopsMerge log meter Due old new receive.GenerationsSpent = new ≡ old
-StopsMerge log meter Due old new other = StopsClone log meter Due (Unit {0}) old new (receive_stop other)
-
--- and so is a journal of an open clone that isn't compacted or truncated
-abbrev pub StopsKeep : {B : Type 0} → (B → Option Log) → (B → Meter) → (Due : Type 0) → BankedClone B → BankedClone B → KeepFault → Type 0
-StopsKeep log meter Due old new (keep.Closed reason) = ⊥
-StopsKeep log meter Due old new other = LeavesClone log meter Due ⊥ old new (keep_stop other)
+abbrev pub StopsReceiving : {B : Type 0} → (B → Option Log) → (B → Meter) → (Due Swaps : Type 0) → BankedClone B → BankedClone B → ReceiveFault → Type 0
+StopsReceiving log meter Due Swaps old new (receive.Closed reason) = ⊥
+StopsReceiving log meter Due Swaps old new other = LeavesClone log meter Due Swaps old new (receive_stop other)
 
 -- a journal that was just made of a head is open, and its banks keep the head alone
 pub record BeginsJournal {B : Type 0} (head : HeadValue) (journal : JournalValue B) (now : Option Log) : Type 0 where

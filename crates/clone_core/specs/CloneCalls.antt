@@ -1,4 +1,4 @@
--- What a clone answers to a message, and to a comparison with another clone.
+-- What a clone answers to a message, and to a comparison with another clone. `MldClone::receive`, `compare` and `entry_of` cite it.
 use Rattle.std.specs.Prelude.{◌≡◌, ◌≢◌, ℕ, List}
 use Rattle.tree_clock.specs.declared.dots.Dot.{Dot}
 use Rattle.tree_clock.specs.declared.dots.Range.{Range}

@@ -1,4 +1,4 @@
--- What a refused call leaves of a clone.
+-- What a refused call leaves of a clone. `left` of `MldClone::update`, `receive`, `compact` and `truncate` cites it, and `err` of `genesis`.
 use Rattle.std.specs.Prelude.{◌≡◌, ◌⊎◌, ◌+◌, Option, None, Some, Result, Ok, Err}
 use Rattle.mld_io.specs.Arm.{Meter}
 use Rattle.mld_io.specs.Disk.{Log}
@@ -18,7 +18,7 @@ use Rattle.clone_answers.specs.declared.faults.UpdateFault.TheVariants as update
 -- A clone that was open is closed for this reason. There was something to do on its banks (`Due`), and want of memory closes it only where
 -- a call of the device was done. It has in memory what it had; what its banks keep is of the same generation, or of the next one where a
 -- swap may have been done before (`Swaps`).
-pub record Shuts {B : Type 0} (log : B → Option Log) (meter : B → Meter) (Due Swaps : Type 0) (old : BankedClone B) (reason : Why) (new : BankedClone B) : Type 0 where
+pub record ShutsClone {B : Type 0} (log : B → Option Log) (meter : B → Meter) (Due Swaps : Type 0) (old : BankedClone B) (reason : Why) (new : BankedClone B) : Type 0 where
   pub was : old.closed ≡ None
   pub due : Due
   pub now : new.closed ≡ Some reason
@@ -30,8 +30,8 @@ pub record Shuts {B : Type 0} (log : B → Option Log) (meter : B → Meter) (Du
 -- leaves it as it was
 abbrev pub LeavesClone : {B : Type 0} → (B → Option Log) → (B → Meter) → (Due Swaps : Type 0) → BankedClone B → BankedClone B → Option Why → Type 0
 LeavesClone log meter Due Swaps old new None = new ≡ old
-LeavesClone log meter Due Swaps old new (Some why.Device) = Shuts log meter Due Swaps old why.Device new
-LeavesClone log meter Due Swaps old new (Some why.NoMemory) = (new ≡ old) ⊎ Shuts log meter Due Swaps old why.NoMemory new
+LeavesClone log meter Due Swaps old new (Some why.Device) = ShutsClone log meter Due Swaps old why.Device new
+LeavesClone log meter Due Swaps old new (Some why.NoMemory) = (new ≡ old) ⊎ ShutsClone log meter Due Swaps old why.NoMemory new
 
 -- what stopped a call, where it was the device or memory
 abbrev pub update_stop : UpdateFault → Option Why

@@ -1,4 +1,5 @@
--- What a call has to do on the banks of a clone. Where it has nothing, it calls no device, and closes no clone.
+-- What a call has to do on the banks of a clone. Where it has nothing, it calls no device, and closes no clone. `left` and `spent` of
+-- `MldClone::receive`, `compact` and `truncate` cite it.
 use Rattle.std.specs.Prelude.{◌≡◌, ◌≢◌, ◌<◌, ◌-◌, ◌^◌, ℕ, List, [], None, length, Bool, true, false}
 use Rattle.tree_clock.specs.Limits.{path_limit}
 use Rattle.mld_ops.specs.declared.messages.Message.{Message}

@@ -1,5 +1,5 @@
 -- What a clone's calls change of what its banks keep: the changes of each call, how many calls of the device they are, and what a crash
--- leaves in the middle of them.
+-- leaves in the middle of them. `durable` of each call of `MldClone` and of `Asker::receive` cites it.
 use Rattle.std.specs.Prelude.{◌≡◌, ◌⊎◌, List, [], ◌∷◌, ◌++◌, Option, Some, None, Result, Ok, Err}
 use Rattle.tree_clock.specs.declared.dots.Range.{Range}
 use Rattle.mld_io.specs.Arm.{Meter, Metered}

@@ -1,4 +1,4 @@
--- The clone of a head and of what the entries behind it lead to.
+-- The clone of a head and of what the entries behind it lead to. `beginning` and `found` cite it, which are private.
 use Rattle.std.specs.Prelude.{ℕ, List, []}
 use Rattle.journal_sides.specs.Heads.{HeadValue}
 use Rattle.mld_model.specs.Local.{LocalClone}

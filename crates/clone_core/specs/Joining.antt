@@ -1,4 +1,4 @@
--- Joining: what a clone gives to who asks, and what becomes of who asked.
+-- Joining: what a clone gives to who asks, and what becomes of who asked. `Asker::receive` cites it, and `MldClone::receive` for an ask.
 use Rattle.std.specs.Prelude.{◌≡◌, ◌≢◌, ℕ, List, [], ◌∷◌, length, Option, None}
 use Rattle.mld_io.specs.Arm.{Meter}
 use Rattle.mld_io.specs.Disk.{Log}

@@ -1,4 +1,4 @@
--- Keeping a journal compacted or truncated: what it makes of a clone and of what its banks keep.
+-- Keeping a journal compacted or truncated: what it makes of a clone and of what its banks keep. `MldClone::compact` and `truncate` cite it.
 use Rattle.std.specs.Prelude.{◌≡◌, ◌<◌, ◌≤◌, ℕ, ◌+◌, None, length}
 use Rattle.op_fusion.specs.Compacting.{AreFusedRuns, HasNeighbours}
 use Rattle.mld_model.specs.Local.{LocallyCompacts, LocallyTruncates}

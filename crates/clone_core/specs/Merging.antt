@@ -1,4 +1,4 @@
--- Merging a snapshot: what becomes of it.
+-- Merging a snapshot: what becomes of it. `MldClone::receive` cites it for a snapshot.
 use Rattle.std.specs.Prelude.{◌≡◌}
 use Rattle.tree_clock.specs.Clock.{ticks_of}
 use Rattle.mld_ops.specs.Messages.{SnapshotValue}

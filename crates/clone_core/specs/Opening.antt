@@ -1,4 +1,4 @@
--- What is found on banks where a clone is to run again.
+-- What is found on banks where a clone is to run again. `MldClone::mount` cites it.
 use Rattle.std.specs.Prelude.{◌≡◌, ℕ, [], None}
 use Rattle.mld_io.specs.declared.banks.Side.{Side}
 use Rattle.journal_sides.specs.Pairs.{PairReading, KeepsNone, Keeps, Damages}

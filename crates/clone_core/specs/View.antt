@@ -1,4 +1,4 @@
--- The clone that the fields of a running one stand for.
+-- The clone that the fields of a running one stand for. The view and the invariant of `MldClone` cite it.
 use Rattle.mld_model.specs.Local.{LocalClone}
 use Rattle.clone_core.specs.declared.clones.MldClone.TheInside.{Inside}
 

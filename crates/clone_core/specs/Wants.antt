@@ -1,4 +1,4 @@
--- Wants: what a clone answers to one who says which dots it knows.
+-- Wants: what a clone answers to one who says which dots it knows. `MldClone::receive` cites it for a want.
 use Rattle.std.specs.Prelude.{◌≡◌, ◌≢◌, ℕ, List, [], ◌∷◌}
 use Rattle.mld_ops.specs.declared.messages.Message.{Message}
 use Rattle.mld_ops.specs.declared.messages.Message.TheVariants as message

@@ -126,9 +126,11 @@ impl<B: Banks> Asker<B> {
         requires { IsGoodMessage (message_value message.now) }
         ensures adopts { LocallyAdopts self message.now result }
         ensures durable { (give : Give) → IsGiveFor self.asker message.now give
-            → Creates B.log B.meter (head_of (joined_clone self.asker (give_value give))) self.banks (banks_of_adopted result) (AdoptsWhole result) (FailsToAdopt result) }
+            → Creates B.log B.meter (head_of (joined_clone self.asker (give_value give))) self.banks
+                (banks_of_adopted result) (AdoptsWhole result) (FailsToAdopt result) }
         ensures back { GivesBackAdopted B.log B.meter self.banks result }
-        ensures meter { Metered (adopting_calls result) (B.meter self.banks) (B.meter (banks_of_adopted result)) (AdoptsWhole result) (FailsToAdopt result) }
+        ensures meter { Metered (adopting_calls result) (B.meter self.banks) (B.meter (banks_of_adopted result))
+            (AdoptsWhole result) (FailsToAdopt result) }
     {
         match self.given(message) {
             Some(give) => self.adopt(alloc, give),
@@ -140,7 +142,8 @@ impl<B: Banks> Asker<B> {
     fn adopt(self, alloc: Global, give: &Give) -> Adopted<B>
         requires { IsGoodSnapshot (snapshot_value give.now.snapshot) }
         ensures adopts { TakesGive self give.now result }
-        ensures durable { Creates B.log B.meter (head_of (joined_clone self.asker (give_value give.now))) self.banks (banks_of_adopted result) (AdoptsWhole result) (FailsToAdopt result) }
+        ensures durable { Creates B.log B.meter (head_of (joined_clone self.asker (give_value give.now))) self.banks
+            (banks_of_adopted result) (AdoptsWhole result) (FailsToAdopt result) }
         ensures back { GivesBackAdopted B.log B.meter self.banks result }
     {
         let Ok((base, clock, pairs)) = begun_with(alloc, &give.snapshot) else {
@@ -171,7 +174,8 @@ impl<B: Banks> Asker<B> {
 
     // The leaf that the message gives to this one, with its snapshot.
     fn given<'a>(&self, message: &'a Message) -> Option<&'a Give>
-        ensures { MatchOption result (GivesNone self.now.asker message.now) (λ give. IsGiveFor self.now.asker message.now give.now) }
+        ensures { MatchOption result (GivesNone self.now.asker message.now) (λ give.
+            IsGiveFor self.now.asker message.now give.now) }
     {
         match message {
             Message::JoinGive(give) if give.id == self.id => Some(give),

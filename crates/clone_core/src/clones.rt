@@ -50,7 +50,7 @@ impl<B: Banks> Model for MldClone<B> {
 }
 
 impl<B: Banks> MldClone<B> {
-    ghost use Rattle.std.specs.Prelude.{◌≡◌, ◌≢◌, ◌<◌, ◌↔◌, ◌∷◌, [], ℕ, List, true, false, length, None, Some, IsTrue, IfOk, IfErr, IsOk, OnOk, OnErr, IsErrOf, MatchOption};
+    ghost use Rattle.std.specs.Prelude.{◌≡◌, ◌≢◌, ◌<◌, ◌↔◌, ◌-◌, ◌^◌, ◌∷◌, [], ℕ, List, true, false, length, None, Some, IsTrue, IfOk, IfErr, IsOk, OnOk, OnErr, IsErrOf, MatchOption};
     ghost use Rattle.mld_io.specs.Disk.{Log};
     ghost use Rattle.journal_sides.specs.Heads.{head_value};
     ghost use Rattle.journal_store.specs.declared.faults.Why.{Why};
@@ -67,7 +67,7 @@ impl<B: Banks> MldClone<B> {
     ghost use Rattle.mld_ops.specs.Messages.{snapshot_value, message_value, IsGoodSnapshot, IsGoodMessage};
     ghost use Rattle.mld_ops.specs.Properties.{AreKept};
     ghost use Rattle.clone_core.specs.CloneCalls.{LocallyReceives, ReceivesEntry, RefusesEntry, ReceivesAsk, Refuses, covering_reply, HasRange, LacksRange};
-    ghost use Rattle.clone_core.specs.CallParts.{StopsClone, StopsOpen, IsFullAt, BeginsJournal};
+    ghost use Rattle.clone_core.specs.CallParts.{StopsClone, StopsReceiving, IsFullAt, BeginsJournal};
     ghost use Rattle.clone_core.specs.Merging.{StaysOpenBy};
     ghost use Rattle.mld_model.specs.Comparing.{ClocksCompare};
     ghost use Rattle.mld_model.specs.Local.{IsLocal, IsNamed, blank_clone, snapshot_of, LocallyHolds, IsForeign};
@@ -94,7 +94,8 @@ impl<B: Banks> MldClone<B> {
         ensures opened { IfOk result (λ clone. clone.closed ≡ None) }
         ensures generation { IfOk result (λ clone. clone.generation ≡ 1) }
         ensures durable { (kept : List (List ℕ)) × AreKept properties.items kept
-            × Creates B.log B.meter (head_of (blank_clone id domain kept [])) blank (banks_of_made result) (IsOk result) (FailsToFound result) }
+            × Creates B.log B.meter (head_of (blank_clone id domain kept [])) blank (banks_of_made result)
+                (IsOk result) (FailsToFound result) }
         ensures err { IfErr result (GivesBanksBack B.log B.meter blank) }
     {
         let head = Head {
@@ -134,7 +135,8 @@ impl<B: Banks> MldClone<B> {
         requires clock { clock.ticks ≡ head.base.ticks }
         requires pairs { pairs.pairs ≡ head.tagged.items }
         requires begins { BeginsJournal (head_value head) journal (B.log journal.banks) }
-        ensures { result ≡ record { local = begun_clone (head_value head); generation = 1; closed = None; banks = journal.banks } }
+        ensures { result
+            ≡ record { local = begun_clone (head_value head); generation = 1; closed = None; banks = journal.banks } }
     {
         let replayed = Replayed {
             clock,
@@ -154,8 +156,10 @@ impl<B: Banks> MldClone<B> {
     ) -> MldClone<B>
         requires local { IsLocal (found_clone (head_value head) leaf replayed) }
         requires opened { journal.closed ≡ None }
-        requires banks { IsOnBanks (B.log journal.banks) None journal.side journal.generation (found_clone (head_value head) leaf replayed) }
-        ensures { result ≡ record { local = found_clone (head_value head) leaf replayed; generation = journal.generation; closed = None; banks = journal.banks } }
+        requires banks { IsOnBanks (B.log journal.banks) None journal.side journal.generation
+            (found_clone (head_value head) leaf replayed) }
+        ensures { result ≡ record { local = found_clone (head_value head) leaf replayed;
+            generation = journal.generation; closed = None; banks = journal.banks } }
     {
         let Head {
             id,
@@ -263,7 +267,8 @@ impl<B: Banks> MldClone<B> {
 
     /// The entry of the journal that has this very range.
     pub fn entry_of(&self, range: &Range) -> Option<&Entry>
-        ensures { MatchOption result (LacksRange self.now.local.entries range.now) (λ entry. HasRange self.now.local.entries range.now entry.now) }
+        ensures { MatchOption result (LacksRange self.now.local.entries range.now) (λ entry.
+            HasRange self.now.local.entries range.now entry.now) }
     {
         entry_in(self.journal(), range)
     }
@@ -272,7 +277,8 @@ impl<B: Banks> MldClone<B> {
     /// did, its banks keep it, whatever a crash leaves of them.
     pub fn is_closed(&self) -> Option<Why>
         ensures closed { result ≡ self.now.closed }
-        ensures kept { self.now.closed ≡ None → (log : Log) → B.log self.now.banks ≡ Some log → KeepsClone self.now.local self.now.generation log }
+        ensures kept { self.now.closed ≡ None → (log : Log) → B.log self.now.banks ≡ Some log
+            → KeepsClone self.now.local self.now.generation log }
     {
         self.journal.is_closed()
     }
@@ -280,9 +286,17 @@ impl<B: Banks> MldClone<B> {
     /// The banks of the clone, which stops. What it holds back is forgotten. It takes no memory.
     pub fn stop(self) -> B
         ensures banks { result ≡ self.banks }
-        ensures kept { self.closed ≡ None → (log : Log) → B.log result ≡ Some log → KeepsClone self.local self.generation log }
+        ensures kept { self.closed ≡ None → (log : Log) → B.log result ≡ Some log
+            → KeepsClone self.local self.generation log }
     {
         self.journal.into_banks()
+    }
+
+    // Whether the generation of what the banks keep is the last one, so that nothing can be swapped.
+    pub(crate) fn is_last_generation(&self) -> bool
+        ensures { IsTrue result ↔ (self.now.generation ≡ 2 ^ 64 - 1) }
+    {
+        self.journal.is_last_generation()
     }
 
     /// How the dots that this clone knows compare with those of another.
@@ -321,10 +335,13 @@ impl<B: Banks> MldClone<B> {
         ensures opened { IfOk result (StaysOpenBy self.old self.new) }
         ensures closed { (why : Why) → IsErrOf result (ReceiveFault.Closed why) ↔ (self.old.closed ≡ Some why) }
         ensures err { IfErr result (Refuses self.old.local message.now) }
-        ensures spent { IsErrOf result ReceiveFault.GenerationsSpent ↔ (IsMessageSpent self.old message.now × ¬ IsErrOf result ReceiveFault.NoMemory) }
+        ensures spent { IsErrOf result ReceiveFault.GenerationsSpent
+            ↔ (IsMessageSpent self.old message.now × ¬ IsErrOf result ReceiveFault.NoMemory) }
         ensures left { IfErr result (λ fault.
-            LeavesClone B.log B.meter (IsDueMessage self.old message.now) (IsSwapDue message.now) self.old self.new (receive_stop fault)) }
-        ensures durable { (steps : List KeptStep) × MessageSteps self.old.local message.now self.new.local result steps
+            LeavesClone B.log B.meter (IsDueMessage self.old message.now) (IsSwapDue message.now) self.old self.new
+                (receive_stop fault)) }
+        ensures durable { (steps : List KeptStep)
+            × MessageSteps self.old.local message.now self.new.local result steps
             × Changes B.log B.meter steps self.old self.new.banks (IsOk result) (IsErrOf result ReceiveFault.Device) }
     {
         if let Some(why) = self.is_closed() {
@@ -346,8 +363,9 @@ impl<B: Banks> MldClone<B> {
         ensures good { IfOk result AnswersGood }
         ensures opened { OnOk result (StaysOpen self.old self.new) }
         ensures err { IfErr result (RefusesAsk self.old.local id.now) }
-        ensures left { IfErr result (StopsOpen B.log B.meter (IsDueAsk self.old.local id.now) ⊥ self.old self.new) }
-        ensures durable { (steps : List KeptStep) × MessageSteps self.old.local (kinds.JoinAsk id.now) self.new.local result steps
+        ensures left { IfErr result (StopsReceiving B.log B.meter (IsDueAsk self.old.local id.now) ⊥ self.old self.new) }
+        ensures durable { (steps : List KeptStep)
+            × MessageSteps self.old.local (kinds.JoinAsk id.now) self.new.local result steps
             × Changes B.log B.meter steps self.old self.new.banks (IsOk result) (IsErrOf result ReceiveFault.Device) }
     {
         if *id == self.id {
@@ -367,8 +385,10 @@ impl<B: Banks> MldClone<B> {
         ensures ok { IfOk result (λ got. ReceivesAsk self.old.local id.now got self.new.local) }
         ensures good { IfOk result AnswersGood }
         ensures opened { OnOk result (StaysOpen self.old self.new) }
-        ensures err { IfErr result (λ fault. StopsClone B.log B.meter (IsDueAsk self.old.local id.now) ⊥ self.old self.new (receive_stop fault)) }
-        ensures durable { (steps : List KeptStep) × MessageSteps self.old.local (kinds.JoinAsk id.now) self.new.local result steps
+        ensures err { IfErr result (λ fault.
+            StopsClone B.log B.meter (IsDueAsk self.old.local id.now) ⊥ self.old self.new (receive_stop fault)) }
+        ensures durable { (steps : List KeptStep)
+            × MessageSteps self.old.local (kinds.JoinAsk id.now) self.new.local result steps
             × Changes B.log B.meter steps self.old self.new.banks (IsOk result) (IsErrOf result ReceiveFault.Device) }
     {
         let snapshot = self.snapshot(alloc)?;
@@ -397,12 +417,15 @@ impl<B: Banks> MldClone<B> {
     // Takes an entry, or holds it back.
     fn receive_entry(&mut self, alloc: Global, entry: &Entry) -> Result<Got, ReceiveFault>
         requires { self.old.closed ≡ None }
-        ensures ok { IfOk result (λ got. ¬ IsForeign self.old.local entry.now × ReceivesEntry self.old.local entry.now got self.new.local) }
+        ensures ok { IfOk result (λ got.
+            ¬ IsForeign self.old.local entry.now × ReceivesEntry self.old.local entry.now got self.new.local) }
         ensures good { IfOk result AnswersGood }
         ensures opened { OnOk result (StaysOpen self.old self.new) }
         ensures err { IfErr result (RefusesEntry self.old.local entry.now) }
-        ensures left { IfErr result (StopsOpen B.log B.meter (IsDueEntry self.old.local entry.now) ⊥ self.old self.new) }
-        ensures durable { (steps : List KeptStep) × MessageSteps self.old.local (kinds.Range entry.now) self.new.local result steps
+        ensures left { IfErr result
+            (StopsReceiving B.log B.meter (IsDueEntry self.old.local entry.now) ⊥ self.old self.new) }
+        ensures durable { (steps : List KeptStep)
+            × MessageSteps self.old.local (kinds.Range entry.now) self.new.local result steps
             × Changes B.log B.meter steps self.old self.new.banks (IsOk result) (IsErrOf result ReceiveFault.Device) }
     {
         let path = self.path();
@@ -440,8 +463,10 @@ impl<B: Banks> MldClone<B> {
         ensures ok { IfOk result (λ got. ReceivesEntry self.old.local entry.now got self.new.local) }
         ensures good { IfOk result AnswersGood }
         ensures opened { OnOk result (StaysOpen self.old self.new) }
-        ensures err { IfErr result (λ fault. StopsClone B.log B.meter (IsDueEntry self.old.local entry.now) ⊥ self.old self.new (receive_stop fault)) }
-        ensures durable { (steps : List KeptStep) × MessageSteps self.old.local (kinds.Range entry.now) self.new.local result steps
+        ensures err { IfErr result (λ fault.
+            StopsClone B.log B.meter (IsDueEntry self.old.local entry.now) ⊥ self.old self.new (receive_stop fault)) }
+        ensures durable { (steps : List KeptStep)
+            × MessageSteps self.old.local (kinds.Range entry.now) self.new.local result steps
             × Changes B.log B.meter steps self.old self.new.banks (IsOk result) (IsErrOf result ReceiveFault.Device) }
     {
         let plan = prepare_plan(
@@ -478,7 +503,8 @@ impl<B: CrashBanks> MldClone<B> {
 
 // The first entry of a range.
 fn entry_in<'a>(entries: &'a [Entry], range: &Range) -> Option<&'a Entry>
-    ensures { MatchOption result (LacksRange entries.now range.now) (λ entry. HasRange entries.now range.now entry.now) }
+    ensures { MatchOption result (LacksRange entries.now range.now) (λ entry.
+        HasRange entries.now range.now entry.now) }
 {
     for entry in entries {
         if entry.range() == *range {

@@ -21,7 +21,7 @@ impl<B: Banks> MldClone<B> {
     ghost use Rattle.clone_core.specs.DurableCalls.{Changes, KeepSteps};
     ghost use Rattle.clone_core.specs.Due.{IsDueSwap, IsSpent};
     ghost use Rattle.clone_core.specs.Keeping.{KeepsCompacted, StaysUnclosed};
-    ghost use Rattle.clone_core.specs.CallParts.{StopsKeep};
+    ghost use Rattle.clone_core.specs.CallParts.{StopsClone};
 
     /// Compacts the journal: the entries of each run of neighbouring ranges are fused into one, and what the banks keep is swapped for
     /// that, by one swap. Where no two neighbours stand side by side, nothing changes and no device is called. Gives the number of
@@ -33,14 +33,18 @@ impl<B: Banks> MldClone<B> {
     /// the device failed, which closes the clone. `NoMemory` leaves it as it was, or closes it where a call of the device was done. After
     /// the others it is as it was.
     pub fn compact(&mut self, alloc: Global) -> Result<u64, KeepFault>
-        ensures ok { IfOk result (λ count. KeepsCompacted self.old self.new × (count ≡ length self.new.local.entries)) }
+        ensures ok { IfOk result (λ count.
+            KeepsCompacted self.old self.new × (count ≡ length self.new.local.entries)) }
         ensures opened { OnOk result (StaysUnclosed self.old self.new) }
         ensures closed { (why : Why) → IsErrOf result (KeepFault.Closed why) ↔ (self.old.closed ≡ Some why) }
         ensures spent { IsErrOf result KeepFault.GenerationsSpent
             ↔ (IsSpent (HasNeighbours self.old.local.entries) self.old × ¬ IsErrOf result KeepFault.NoMemory) }
         ensures left { IfErr result (λ fault.
-            LeavesClone B.log B.meter (IsDueSwap (HasNeighbours self.old.local.entries) self.old) ⊥ self.old self.new (keep_stop fault)) }
-        ensures durable { (steps : List KeptStep) × KeepSteps (HasNeighbours self.old.local.entries) (LocallyCompacts self.old.local) self.new.local result steps
+            LeavesClone B.log B.meter (IsDueSwap (HasNeighbours self.old.local.entries) self.old) ⊥ self.old self.new
+                (keep_stop fault)) }
+        ensures durable { (steps : List KeptStep)
+            × KeepSteps (HasNeighbours self.old.local.entries)
+                (LocallyCompacts self.old.local) self.new.local result steps
             × Changes B.log B.meter steps self.old self.new.banks (IsOk result) (IsErrOf result KeepFault.Device) }
     {
         if let Some(why) = self.is_closed() {
@@ -49,6 +53,9 @@ impl<B: Banks> MldClone<B> {
         if !has_neighbours(self.journal()) {
             return Ok(self.journal().len() as u64);
         }
+        if self.is_last_generation() {
+            return Err(KeepFault::GenerationsSpent);
+        }
         self.swap_compacted(alloc)?;
         Ok(self.journal().len() as u64)
     }
@@ -56,12 +63,15 @@ impl<B: Banks> MldClone<B> {
     // Swaps what the banks keep for the compacted journal, and then the entries.
     fn swap_compacted(&mut self, alloc: Global) -> Result<(), KeepFault>
         requires opened { self.old.closed ≡ None }
-        requires due { HasNeighbours self.old.local.entries }
+        requires due { IsDueSwap (HasNeighbours self.old.local.entries) self.old }
         ensures ok { OnOk result (LocallyCompacts self.old.local self.new.local) }
         ensures opened { OnOk result (IsSwappedOpen self.old self.new) }
-        ensures spent { IsErrOf result KeepFault.GenerationsSpent ↔ ((self.old.generation ≡ 2 ^ 64 - 1) × ¬ IsErrOf result KeepFault.NoMemory) }
-        ensures left { IfErr result (StopsKeep B.log B.meter (IsDueSwap (HasNeighbours self.old.local.entries) self.old) self.old self.new) }
-        ensures durable { (steps : List KeptStep) × KeepSteps (HasNeighbours self.old.local.entries) (LocallyCompacts self.old.local) self.new.local result steps
+        ensures left { IfErr result (λ fault.
+            StopsClone B.log B.meter (IsDueSwap (HasNeighbours self.old.local.entries) self.old) ⊥ self.old self.new
+                (keep_stop fault)) }
+        ensures durable { (steps : List KeptStep)
+            × KeepSteps (HasNeighbours self.old.local.entries)
+                (LocallyCompacts self.old.local) self.new.local result steps
             × Changes B.log B.meter steps self.old self.new.banks (IsOk result) (IsErrOf result KeepFault.Device) }
     {
         let entries = compact_entries(alloc, &self.entries)?;

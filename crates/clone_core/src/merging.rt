@@ -15,9 +15,10 @@ impl<B: Banks> MldClone<B> {
     ghost use Rattle.mld_model.specs.Local.{IsForeignSnapshot};
     ghost use Rattle.clone_core.specs.DurableCalls.{Changes, MessageSteps};
     ghost use Rattle.clone_core.specs.Due.{IsDueSnapshot, IsDueSwap, IsSpent};
+    ghost use Rattle.clone_core.specs.CloneClosing.{receive_stop};
     ghost use Rattle.clone_core.specs.Joining.{AnswersGood};
     ghost use Rattle.clone_core.specs.Merging.{ReceivesSnapshot, RefusesSnapshot, StaysOpenBy};
-    ghost use Rattle.clone_core.specs.CallParts.{StopsOpen, StopsMerge};
+    ghost use Rattle.clone_core.specs.CallParts.{StopsReceiving, StopsClone};
 
     /// Merges a snapshot that has dots which the clone lacks.
     pub(crate) fn receive_snapshot(
@@ -33,10 +34,13 @@ impl<B: Banks> MldClone<B> {
         ensures opened { IfOk result (StaysOpenBy self.old self.new) }
         ensures err { IfErr result (RefusesSnapshot self.old.local (snapshot_value snapshot.now)) }
         ensures spent { IsErrOf result ReceiveFault.GenerationsSpent
-            ↔ (IsSpent (IsDueSnapshot self.old.local (snapshot_value snapshot.now)) self.old × ¬ IsErrOf result ReceiveFault.NoMemory) }
-        ensures left { IfErr result (StopsOpen B.log B.meter (IsDueSwap (IsDueSnapshot self.old.local (snapshot_value snapshot.now)) self.old)
+            ↔ (IsSpent (IsDueSnapshot self.old.local (snapshot_value snapshot.now)) self.old
+                × ¬ IsErrOf result ReceiveFault.NoMemory) }
+        ensures left { IfErr result
+            (StopsReceiving B.log B.meter (IsDueSwap (IsDueSnapshot self.old.local (snapshot_value snapshot.now)) self.old)
             (Unit {0}) self.old self.new) }
-        ensures durable { (steps : List KeptStep) × MessageSteps self.old.local (kinds.Snapshot snapshot.now) self.new.local result steps
+        ensures durable { (steps : List KeptStep)
+            × MessageSteps self.old.local (kinds.Snapshot snapshot.now) self.new.local result steps
             × Changes B.log B.meter steps self.old self.new.banks (IsOk result) (IsErrOf result ReceiveFault.Device) }
     {
         let path = self.path();
@@ -48,6 +52,9 @@ impl<B: Banks> MldClone<B> {
         if snapshot.clock.leq(self.known()) {
             return Ok(Got::Known);
         }
+        if self.is_last_generation() {
+            return Err(ReceiveFault::GenerationsSpent);
+        }
         self.merge(alloc, snapshot)
     }
 
@@ -56,14 +63,17 @@ impl<B: Banks> MldClone<B> {
     fn merge(&mut self, alloc: Global, snapshot: &Snapshot) -> Result<Got, ReceiveFault>
         requires opened { self.old.closed ≡ None }
         requires good { IsGoodSnapshot (snapshot_value snapshot.now) }
-        requires due { IsDueSnapshot self.old.local (snapshot_value snapshot.now) }
-        ensures ok { IfOk result (λ got. ReceivesSnapshot self.old.local (snapshot_value snapshot.now) got self.new.local) }
+        requires due { IsDueSwap (IsDueSnapshot self.old.local (snapshot_value snapshot.now)) self.old }
+        ensures ok { IfOk result (λ got.
+            ReceivesSnapshot self.old.local (snapshot_value snapshot.now) got self.new.local) }
         ensures good { IfOk result AnswersGood }
         ensures opened { IfOk result (StaysOpenBy self.old self.new) }
-        ensures spent { IsErrOf result ReceiveFault.GenerationsSpent ↔ ((self.old.generation ≡ 2 ^ 64 - 1) × ¬ IsErrOf result ReceiveFault.NoMemory) }
-        ensures left { IfErr result (StopsMerge B.log B.meter (IsDueSwap (IsDueSnapshot self.old.local (snapshot_value snapshot.now)) self.old)
-            self.old self.new) }
-        ensures durable { (steps : List KeptStep) × MessageSteps self.old.local (kinds.Snapshot snapshot.now) self.new.local result steps
+        ensures unspent { ¬ IsErrOf result ReceiveFault.GenerationsSpent }
+        ensures left { IfErr result (λ fault.
+            StopsClone B.log B.meter (IsDueSwap (IsDueSnapshot self.old.local (snapshot_value snapshot.now)) self.old)
+                (Unit {0}) self.old self.new (receive_stop fault)) }
+        ensures durable { (steps : List KeptStep)
+            × MessageSteps self.old.local (kinds.Snapshot snapshot.now) self.new.local result steps
             × Changes B.log B.meter steps self.old self.new.banks (IsOk result) (IsErrOf result ReceiveFault.Device) }
     {
         let Merge {

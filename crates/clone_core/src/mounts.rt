@@ -4,7 +4,7 @@ ghost use Rattle.mld_io.specs.Arm.{Metered};
 ghost use Rattle.mld_io.specs.Disk.{Log, seen};
 ghost use Rattle.journal_sides.specs.Pairs.{read_banks};
 ghost use Rattle.journal_store.specs.Closing.{StaysTold};
-ghost use Rattle.journal_store.specs.Crashes.{LeavesNoMore};
+ghost use Rattle.journal_store.specs.Crashes.{LeavesNothingNew};
 ghost use Rattle.journal_store.specs.Mounting.{IsSynced};
 ghost use Rattle.clone_core.specs.Opening.{mount_calls, TellsClone, OpensClone, banks_of_mounted, SyncsBoth, FailsToOpen};
 
@@ -37,10 +37,12 @@ impl<B: Banks> MldClone<B> {
     pub fn mount<R: Threads>(_rt: &R, alloc: Global, banks: B) -> Mounted<B>
         ensures tells { (l : Log) → B.log banks ≡ Some l → TellsClone result (read_banks (seen l)) }
         ensures opened { OpensClone result }
-        ensures synced { (l : Log) → B.log banks ≡ Some l → IsSynced (SyncsBoth result) l (B.log (banks_of_mounted result)) }
-        ensures moments { (l : Log) → B.log banks ≡ Some l → LeavesNoMore l (B.log (banks_of_mounted result)) }
+        ensures synced { (l : Log) → B.log banks ≡ Some l
+            → IsSynced (SyncsBoth result) l (B.log (banks_of_mounted result)) }
+        ensures moments { (l : Log) → B.log banks ≡ Some l → LeavesNothingNew l (B.log (banks_of_mounted result)) }
         ensures told { StaysTold (B.log banks) (B.log (banks_of_mounted result)) }
-        ensures meter { Metered mount_calls (B.meter banks) (B.meter (banks_of_mounted result)) (SyncsBoth result) (FailsToOpen result) }
+        ensures meter { Metered mount_calls (B.meter banks) (B.meter (banks_of_mounted result)) (SyncsBoth result)
+            (FailsToOpen result) }
     {
         match Journal::mount(alloc, banks) {
             JournalMounted::Found(journal, head, entries) => {

@@ -24,9 +24,11 @@ impl<B: Banks> MldClone<B> {
         requires { IsQueryInForm query.now }
         ensures answer { IfOk result (IsAnswer (present self.now.local.pairs) query.now) }
         ensures kind { IfOk result (IsAnswerTo query.now.what) }
-        ensures few { IfOk result (λ answer. length (found (present self.now.local.pairs) query.now.group) ≤ solution_limit) }
+        ensures few { IfOk result (λ answer.
+            length (found (present self.now.local.pairs) query.now.group) ≤ solution_limit) }
         ensures closed { (why : Why) → IsErrOf result (QueryFault.Closed why) ↔ (self.now.closed ≡ Some why) }
-        ensures too_many { IsErrOf result QueryFault.TooMany → solution_limit < length (found (present self.now.local.pairs) query.now.group) }
+        ensures too_many { IsErrOf result QueryFault.TooMany
+            → solution_limit < length (found (present self.now.local.pairs) query.now.group) }
     {
         if let Some(why) = self.is_closed() {
             return Err(QueryFault::Closed { why });

@@ -15,7 +15,7 @@ impl<B: Banks> MldClone<B> {
     ghost use Rattle.clone_core.specs.DurableCalls.{Changes, KeepSteps};
     ghost use Rattle.clone_core.specs.Due.{IsDueSwap, IsSpent};
     ghost use Rattle.clone_core.specs.Keeping.{KeepsTruncated, StaysUnclosed};
-    ghost use Rattle.clone_core.specs.CallParts.{StopsKeep};
+    ghost use Rattle.clone_core.specs.CallParts.{StopsClone};
 
     /// Truncates the journal: its last `keep` entries stay, or all where it has fewer, and the clone's base is what the others led to. What
     /// the banks keep is swapped for that, by one swap. Where the journal has no more entries than that, nothing changes and no device is
@@ -27,14 +27,18 @@ impl<B: Banks> MldClone<B> {
     /// the device failed, which closes the clone. `NoMemory` leaves it as it was, or closes it where a call of the device was done. After
     /// the others it is as it was.
     pub fn truncate(&mut self, alloc: Global, keep: u64) -> Result<u64, KeepFault>
-        ensures ok { IfOk result (λ count. KeepsTruncated self.old keep self.new × (count ≡ length self.new.local.entries)) }
+        ensures ok { IfOk result (λ count.
+            KeepsTruncated self.old keep self.new × (count ≡ length self.new.local.entries)) }
         ensures opened { OnOk result (StaysUnclosed self.old self.new) }
         ensures closed { (why : Why) → IsErrOf result (KeepFault.Closed why) ↔ (self.old.closed ≡ Some why) }
         ensures spent { IsErrOf result KeepFault.GenerationsSpent
             ↔ (IsSpent (keep < length self.old.local.entries) self.old × ¬ IsErrOf result KeepFault.NoMemory) }
         ensures left { IfErr result (λ fault.
-            LeavesClone B.log B.meter (IsDueSwap (keep < length self.old.local.entries) self.old) ⊥ self.old self.new (keep_stop fault)) }
-        ensures durable { (steps : List KeptStep) × KeepSteps (keep < length self.old.local.entries) (LocallyTruncates self.old.local keep) self.new.local result steps
+            LeavesClone B.log B.meter (IsDueSwap (keep < length self.old.local.entries) self.old) ⊥ self.old self.new
+                (keep_stop fault)) }
+        ensures durable { (steps : List KeptStep)
+            × KeepSteps (keep < length self.old.local.entries)
+                (LocallyTruncates self.old.local keep) self.new.local result steps
             × Changes B.log B.meter steps self.old self.new.banks (IsOk result) (IsErrOf result KeepFault.Device) }
     {
         if let Some(why) = self.is_closed() {
@@ -44,6 +48,9 @@ impl<B: Banks> MldClone<B> {
         if count as u64 <= keep {
             return Ok(count as u64);
         }
+        if self.is_last_generation() {
+            return Err(KeepFault::GenerationsSpent);
+        }
         self.swap_truncated(alloc, keep as usize)?;
         Ok(keep)
     }
@@ -51,12 +58,15 @@ impl<B: Banks> MldClone<B> {
     // Swaps what the banks keep for a journal of the last entries, of which there are more, over what the others led to.
     fn swap_truncated(&mut self, alloc: Global, keep: usize) -> Result<(), KeepFault>
         requires opened { self.old.closed ≡ None }
-        requires more { keep < length self.old.local.entries }
+        requires due { IsDueSwap (keep < length self.old.local.entries) self.old }
         ensures ok { OnOk result (LocallyTruncates self.old.local keep self.new.local) }
         ensures opened { OnOk result (IsSwappedOpen self.old self.new) }
-        ensures spent { IsErrOf result KeepFault.GenerationsSpent ↔ ((self.old.generation ≡ 2 ^ 64 - 1) × ¬ IsErrOf result KeepFault.NoMemory) }
-        ensures left { IfErr result (StopsKeep B.log B.meter (IsDueSwap (keep < length self.old.local.entries) self.old) self.old self.new) }
-        ensures durable { (steps : List KeptStep) × KeepSteps (keep < length self.old.local.entries) (LocallyTruncates self.old.local keep) self.new.local result steps
+        ensures left { IfErr result (λ fault.
+            StopsClone B.log B.meter (IsDueSwap (keep < length self.old.local.entries) self.old) ⊥ self.old self.new
+                (keep_stop fault)) }
+        ensures durable { (steps : List KeptStep)
+            × KeepSteps (keep < length self.old.local.entries)
+                (LocallyTruncates self.old.local keep) self.new.local result steps
             × Changes B.log B.meter steps self.old self.new.banks (IsOk result) (IsErrOf result KeepFault.Device) }
     {
         let cut = self.entries.len() - keep;

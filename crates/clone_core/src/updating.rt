@@ -93,7 +93,8 @@ impl<B: Banks> MldClone<B> {
         requires next { IsNextEntry self.old.local.ticks dot.now entry }
         ensures ok { IfOk result (MakesDone self.old.local entry self.new.local) }
         ensures opened { OnOk result (StaysOpen self.old self.new) }
-        ensures err { IfErr result (λ fault. StopsClone B.log B.meter (Unit {0}) ⊥ self.old self.new (update_stop fault)) }
+        ensures err { IfErr result (λ fault.
+            StopsClone B.log B.meter (Unit {0}) ⊥ self.old self.new (update_stop fault)) }
         ensures durable { (steps : List KeptStep) × MakeSteps entry result steps
             × Changes B.log B.meter steps self.old self.new.banks (IsOk result) (IsErrOf result UpdateFault.Device) }
     {

@@ -13,7 +13,7 @@ impl<B: Banks> MldClone<B> {
     ghost use Rattle.mld_ops.specs.Messages.{CarriesWant, IsGoodMessage, message_value};
     ghost use Rattle.clone_core.specs.CloneClosing.{StaysOpen};
     ghost use Rattle.clone_core.specs.Joining.{AnswersGood};
-    ghost use Rattle.clone_core.specs.CallParts.{StopsOpen};
+    ghost use Rattle.clone_core.specs.CallParts.{StopsReceiving};
     ghost use Rattle.clone_core.specs.Wants.{AnswersWant, RefusesWant, SendsWhole};
 
     /// A question for what the clone lacks: it tells the dots that the clone knows.
@@ -32,8 +32,9 @@ impl<B: Banks> MldClone<B> {
         ensures good { IfOk result AnswersGood }
         ensures opened { OnOk result (StaysOpen self.now self.now) }
         ensures err { IfErr result RefusesWant }
-        ensures left { IfErr result (StopsOpen B.log B.meter ⊥ ⊥ self.now self.now) }
-        ensures durable { Changes B.log B.meter [] self.now self.now.banks (IsOk result) (IsErrOf result ReceiveFault.Device) }
+        ensures left { IfErr result (StopsReceiving B.log B.meter ⊥ ⊥ self.now self.now) }
+        ensures durable { Changes B.log B.meter [] self.now self.now.banks (IsOk result)
+            (IsErrOf result ReceiveFault.Device) }
     {
         if !self.base().leq(known) {
             return self.answer_behind(alloc);

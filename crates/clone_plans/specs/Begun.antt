@@ -1,4 +1,4 @@
--- What one begins with who joins by a snapshot.
+-- What one begins with who joins by a snapshot. `begun_with` cites it.
 use Rattle.std.specs.Prelude.{◌≡◌}
 use Rattle.graph_index.specs.Graphs.{GraphValue}
 use Rattle.tree_clock.specs.Clock.{ClockValue, IsClock}

@@ -1,4 +1,4 @@
--- Entries that messages carry.
+-- Entries that messages carry. `unknown_by` cites it.
 use Rattle.std.specs.Prelude.{◌≡◌, ℕ, List, map}
 use Rattle.mld_ops.specs.declared.messages.Message.{Message}
 use Rattle.mld_ops.specs.Entry.{EntryValue}

@@ -1,4 +1,4 @@
--- The entry of an operation of the clone's own.
+-- The entry of an operation of the clone's own. `entry_of_effect` cites it, and `make` of `clone_core`, which is private.
 use Rattle.std.specs.Prelude.{◌≡◌, ℕ, ◌+◌, List}
 use Rattle.tree_clock.specs.declared.dots.Dot.{Dot}
 use Rattle.tree_clock.specs.Clock.{ticks_of, RaisesTo}

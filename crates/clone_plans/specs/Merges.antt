@@ -1,4 +1,4 @@
--- What a clone has that merges a snapshot, and then takes those of the entries held back that this releases.
+-- What a clone has that merges a snapshot, and then takes those of the entries held back that this releases. `prepare_merge` cites it.
 use Rattle.std.specs.Prelude.{◌≡◌, ℕ, List}
 use Rattle.std.specs.List.{AllByRecursion}
 use Rattle.tree_clock.specs.Clock.{IsClock}

@@ -1,4 +1,4 @@
--- The plan of a delivery: which entries are taken, in which order, and what taking all of them does to the pairs.
+-- The plan of a delivery: which entries are taken, in which order, and what taking all of them does to the pairs. `prepare_plan` cites it.
 use Rattle.std.specs.Prelude.{◌≡◌, ℕ, List, [], ◌∷◌, ◌++◌, Option, None, Some}
 use Rattle.std.specs.List.{AllByRecursion}
 use Rattle.tree_clock.specs.declared.dots.Range.{Range}

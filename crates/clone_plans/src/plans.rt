@@ -52,7 +52,9 @@ pub fn prepare_own(
     entry: &Entry,
 ) -> Result<Cut, AllocError>
     ensures entry { IsEntry entry.now }
-    ensures cut { IfOk result (λ cut. AreCuts entry.now (ticks_of clock.old.ticks entry.now.range.path) pairs.old.pairs cut.drops.items cut.adds.items) }
+    ensures cut { IfOk result (λ cut.
+        AreCuts entry.now
+            (ticks_of clock.old.ticks entry.now.range.path) pairs.old.pairs cut.drops.items cut.adds.items) }
     ensures ticks { clock.new.ticks ≡ clock.old.ticks }
     ensures entries { entries.new.items ≡ entries.old.items }
     ensures pairs { pairs.new.pairs ≡ pairs.old.pairs }
@@ -82,7 +84,8 @@ pub fn prepare_plan(
     ensures plan { IfOk result (λ plan. IsPlanOf clock.now.ticks pairs.old.pairs held.now entry.now plan) }
     ensures entries { entries.new.items ≡ entries.old.items }
     ensures pairs { pairs.new.pairs ≡ pairs.old.pairs }
-    ensures entries_room { IfOk result (λ plan. vec_len entries.new + vec_len plan.entries ≤ vec_capacity entries.new) }
+    ensures entries_room { IfOk result (λ plan.
+        vec_len entries.new + vec_len plan.entries ≤ vec_capacity entries.new) }
     ensures pairs_room { IfOk result (λ plan. Fits plan.cut pairs.new) }
 {
     let plan = plan_of(alloc, clock, held, pairs, entry)?;
@@ -236,7 +239,9 @@ fn put_behind(
     pairs: &Graph,
     entry: &Entry,
 ) -> Result<(), AllocError>
-    ensures { OnOk result (AreCutsBehind entry.now (ticks_of clock.now.ticks entry.now.range.path) pairs.now.pairs drops.old adds.old drops.new adds.new) }
+    ensures { OnOk result
+        (AreCutsBehind entry.now (ticks_of clock.now.ticks entry.now.range.path) pairs.now.pairs drops.old adds.old
+            drops.new adds.new) }
 {
     let base = cut(alloc, entry, clock, pairs)?;
     let own = cut(alloc, entry, clock, adds)?;

@@ -33,7 +33,8 @@ pub fn replay(alloc: Global, head: &Head, entries: Vec<Entry>) -> Result<Replaye
     requires entries { AreGoodEntries head.now.base.ticks entries.items }
     ensures clock { IfOk result (λ _. IsClock head.now.base.ticks) }
     ensures entries { IfOk result (λ replayed. replayed.entries.items ≡ entries.items) }
-    ensures leads { IfOk result (λ replayed. LeadsTo head.now.base.ticks head.now.tagged.items entries.items replayed.clock.ticks replayed.pairs.pairs) }
+    ensures leads { IfOk result (λ replayed.
+        LeadsTo head.now.base.ticks head.now.tagged.items entries.items replayed.clock.ticks replayed.pairs.pairs) }
     ensures covered { IfOk result (λ replayed. CoversAll replayed.clock.ticks replayed.pairs.pairs) }
 {
     let mut clock = head.base.copy_in(alloc)?;
@@ -87,7 +88,8 @@ fn take_all(
 ) -> Result<(), AllocError>
     requires ready { AreReadyEntries clock.old.ticks entries.now }
     requires covered { CoversAll clock.old.ticks pairs.old.pairs }
-    ensures leads { OnOk result (LeadsTo clock.old.ticks pairs.old.pairs entries.now clock.new.ticks pairs.new.pairs) }
+    ensures leads { OnOk result
+        (LeadsTo clock.old.ticks pairs.old.pairs entries.now clock.new.ticks pairs.new.pairs) }
     ensures covered { OnOk result (CoversAll clock.new.ticks pairs.new.pairs) }
 {
     for entry in entries {

@@ -16,7 +16,7 @@ use Rattle.schedule_model.specs.Crashing.{IsArmed}
 use Rattle.schedule_model.specs.Tasks.{command_of, number_of_task}
 use Rattle.clone_banks.specs.KeptSteps.{KeptStep, Created, calls_of_all, ReadsCaught, LeavesSome}
 use Rattle.clone_core.specs.Banked.{BankedClone, kept_as}
-use Rattle.journal_store.specs.Crashes.{LeavesNoMore}
+use Rattle.journal_store.specs.Crashes.{LeavesNothingNew}
 use Rattle.clone_core.specs.DurableCalls.{Changes, Creates}
 use Rattle.clone_core.specs.Opening.{mount_calls}
 use Rattle.crash_laws.specs.CarriedSteps.{IsUpTo}
@@ -74,7 +74,7 @@ last_left : (old : Log) (added : List Call) (image : Sides) → AtEachMoment old
 last_left old [] image each left = left
 last_left old (call ∷ added) image each left = each.1 image left
 
-now_left : (old l : Log) (now : Option Log) (image : Sides) → LeavesNoMore old now → now ≡ Some l → MayLeave l image → MayLeave old image
+now_left : (old l : Log) (now : Option Log) (image : Sides) → LeavesNothingNew old now → now ≡ Some l → MayLeave l image → MayLeave old image
 now_left old l now image leaves is left =
     let same : grown_by leaves.added old ≡ l = one (grown_by leaves.added old) l (sym leaves.now_is ∙ is) in
     last_left old leaves.added image leaves.each (subst (λ (log : Log). MayLeave log image) (sym same) left)
@@ -86,7 +86,7 @@ now_left old l now image leaves is left =
 pub mounts_crash : {B : Type 0} (log : B → Option Log) (meter : B → Meter) (call : ℕ) (leave : Leave) (world : World) (number : ℕ) (image : Sides) (was now : B) (old l : Log)
     (Whole Failed : Type 0) → CloneStandsFor world number (states.Down tt) (clone_at world number)
     → (meter was).arm ≡ Armed call leave → log now ≡ Some l → (meter now).arm ≡ Caught → MayLeave l image
-    → Metered mount_calls (meter was) (meter now) Whole Failed → LeavesNoMore old (log now) → IsSettled old → ImageStands world number (seen old)
+    → Metered mount_calls (meter was) (meter now) Whole Failed → LeavesNothingNew old (log now) → IsSettled old → ImageStands world number (seen old)
     → CrashesTo call world (tasks.Open number) Crashed image
 mounts_crash log meter call leave world number image was now old l Whole Failed down arm told caught left metered leaves settled stands =
     let opening = opening_of world number (clone_at world number) down in

@@ -11,7 +11,7 @@ use Rattle.journal_store.specs.declared.device.Stop.{Stop}
 use Rattle.journal_store.specs.declared.device.Stop.TheVariants.{Before, Within}
 use Rattle.journal_store.specs.declared.faults.MakeFault.TheVariants as make
 use Rattle.journal_store.specs.declared.faults.Why.TheVariants as why
-use Rattle.journal_store.specs.Settling.{IsCalled, make_fault}
+use Rattle.journal_store.specs.CallEnds.{EndsBehindFirst, make_fault}
 use Rattle.journal_store.specs.Closing.{IsLower, HasMore, WasCalled, StaysTold}
 
 -- ---- arms
@@ -140,7 +140,7 @@ module _ {B : Type 0} (log : B → Option Log) (meter : B → Meter) where
   }
 
   -- a journal that wasn't made for want of memory
-  pub unmade_called : (old new : B) (stop : Stop) → (stop ≡ Before → new ≡ old) → (IsCalled {U = ℕ} (Err stop) → WasCalled log meter old new) → make_fault stop ≡ make.NoMemory → (new ≡ old) ⊎ WasCalled log meter old new
+  pub unmade_called : (old new : B) (stop : Stop) → (stop ≡ Before → new ≡ old) → (EndsBehindFirst {U = ℕ} (Err stop) → WasCalled log meter old new) → make_fault stop ≡ make.NoMemory → (new ≡ old) ⊎ WasCalled log meter old new
   unmade_called old new Before before called e = inl (before refl)
   unmade_called old new (Within why.Device) before called e = absurd (let f : make.Device ≡ make.NoMemory = e in cc)
   unmade_called old new (Within why.NoMemory) before called e = inr (called tt)

@@ -4,5 +4,5 @@ pub mod Choosing
 pub mod DeviceLaws
 pub mod ReadLaws
 pub mod JournalLaws
-pub mod SettlingLaws
+pub mod CallEndLaws
 pub mod ClosingLaws

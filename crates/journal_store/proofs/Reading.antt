@@ -10,7 +10,7 @@ use Rattle.std.specs.Prelude.{IsOk, IsErrOf}
 use Rattle.journal_sides.specs.FoundVolumes.{BeginsOpen}
 use Rattle.journal_sides.specs.declared.side_reading.Found.{Found}
 use Rattle.journal_sides.proofs.SideReading.{closed_side}
-use Rattle.journal_store.specs.Crashes.{LeavesNoMore}
+use Rattle.journal_store.specs.Crashes.{LeavesNothingNew}
 use Rattle.journal_store.specs.Found.{ReadsSame, TellsSide, IsQuiet, IsFailed}
 use Rattle.journal_store.specs.Mounting.{IsSynced}
 use Rattle.journal_store.specs.declared.faults.MountFault.{MountFault}
@@ -30,17 +30,17 @@ metered_as n before now is_done is_told is_failed m = record {
 }
 
 -- a sync leaves no more than a crash might have left before
-pub sync_leaves : (old : Log) (before now : Option Log) (side : Side) → LeavesNoMore old before → ((log : Log) → before ≡ Some log → Syncs side log now) → LeavesNoMore old now
+pub sync_leaves : (old : Log) (before now : Option Log) (side : Side) → LeavesNothingNew old before → ((log : Log) → before ≡ Some log → Syncs side log now) → LeavesNothingNew old now
 sync_leaves old before now side leaves syncs =
     LeavesMeanwhile-sync old leaves.added (λ calls image. MayLeave old image) side now leaves.each (syncs (grown_by leaves.added old) leaves.now_is)
     (λ image left same. AtEachMoment-last old leaves.added (λ calls image. MayLeave old image) leaves.each image left)
 
 -- no call leaves no more
-pub no_call_leaves : (old : Log) (now : Option Log) → now ≡ Some old → LeavesNoMore old now
+pub no_call_leaves : (old : Log) (now : Option Log) → now ≡ Some old → LeavesNothingNew old now
 no_call_leaves old now e = record { added = []; now_is = e; each = λ image left. left }
 
 -- nor does one that changed nothing
-pub kept_leaves : (old : Log) (before now : Option Log) → LeavesNoMore old before → now ≡ before → LeavesNoMore old now
+pub kept_leaves : (old : Log) (before now : Option Log) → LeavesNothingNew old before → now ≡ before → LeavesNothingNew old now
 kept_leaves old before now leaves e = record { added = leaves.added; now_is = e ∙ leaves.now_is; each = leaves.each }
 
 -- what was synced stays so while banks are read

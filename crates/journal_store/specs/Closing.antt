@@ -1,4 +1,5 @@
--- What a call leaves of a journal: it goes on, or it was refused, and when a refusal closes it.
+-- What a call leaves of a journal, at each moment, where it is done and where it is refused, and when a refusal closes it. Each call that writes
+-- cites it, `mount` has `StaysTold`, and so have the calls of `clone_banks` and `clone_core`.
 use Rattle.std.specs.Prelude.{◌≡◌, ◌≢◌, ◌⊎◌, ◌+◌, ◌-◌, ◌^◌, ◌<◌, List, ◌∷◌, Bool, true, false, Option, Some, None}
 use Rattle.mld_io.specs.Arm.{Arm, Unarmed, Armed, Caught, Meter}
 use Rattle.mld_io.specs.Disk.{Call, Log, grown_by, other_side}
@@ -58,14 +59,14 @@ LeavesMaking log meter head old new = (l : Log) → log old ≡ Some l → Leave
 -- ---- calls that were done
 
 -- the journal is open, and has the side and the generation that it had
-pub record GoesOn {B : Type 0} (old new : JournalValue B) : Type 0 where
+pub record JournalStaysOpen {B : Type 0} (old new : JournalValue B) : Type 0 where
   pub opened : new.closed ≡ None
   pub side : new.side ≡ old.side
   pub generation : new.generation ≡ old.generation
 
 -- an append was done
 pub record IsAppended {B : Type 0} (log : B → Option Log) (meter : B → Meter) (old new : JournalValue B) : Type 0 where
-  pub goes_on : GoesOn old new
+  pub goes_on : JournalStaysOpen old new
   pub called : WasCalled log meter old.banks new.banks
 
 -- a swap was done: the other side counts, of the next generation

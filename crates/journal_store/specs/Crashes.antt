@@ -1,4 +1,4 @@
--- What a crash at some moment of a call may leave.
+-- What a crash at some moment of a call may leave. `create`, the appends and the swaps cite it by `Closing.antt`, and `mount` has `LeavesNothingNew`.
 use Rattle.std.specs.Prelude.{◌≡◌, ◌⊎◌, ℕ, ◌≤◌, List, [], ◌∷◌, Option, length}
 use Rattle.mld_io.specs.Arm.{Arm, Unarmed, Armed, Caught}
 use Rattle.mld_io.specs.Disk.{Call, Log, Sides, bytes_of, seen, MayLeave, LeavesMeanwhile}
@@ -64,5 +64,5 @@ abbrev pub LeavesEither : Log → Option Log → PairReading → PairReading →
 LeavesEither old now before after arm gate = LeavesMeanwhile old now (ReadsEither before after arm gate)
 
 -- at each moment since a crash leaves no pair of sides that it might not have left at first
-abbrev pub LeavesNoMore : Log → Option Log → Type 0
-LeavesNoMore old now = LeavesMeanwhile old now (λ calls image. MayLeave old image)
+abbrev pub LeavesNothingNew : Log → Option Log → Type 0
+LeavesNothingNew old now = LeavesMeanwhile old now (λ calls image. MayLeave old image)

@@ -1,5 +1,5 @@
 -- What writing on a device leaves at each moment: the bytes in front of a gate stay, and a gate is opened only by the write
--- that is to open it.
+-- that is to open it. `append_body` and `fill_side` cite it, which are private.
 use Rattle.std.specs.Prelude.{◌≡◌, ◌≢◌, ◌⊎◌, ℕ, ◌+◌, List, [], ◌∷◌, ◌++◌, length, take, drop, slice_get, Option, Some}
 use Rattle.mld_io.specs.declared.banks.Side.{Side}
 use Rattle.mld_io.specs.Disk.{Call, Log, Sides, bytes_of, other_side, with_bytes, written, seen, IsSettled}

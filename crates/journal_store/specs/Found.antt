@@ -1,4 +1,5 @@
--- When what the program finds on a side of banks, and on both, tells what the bytes say; and the faults of a device.
+-- When what is found on a side of banks, and on both, tells what the bytes say; and the faults of a device. `find`, `find_on`, `choose` and the
+-- reading of a side cite it, which are private.
 use Rattle.std.specs.Prelude.{◌≡◌, ◌⊎◌, ℕ, List, Option, Some, None, Result, Ok, Err}
 use Rattle.mld_io.specs.Disk.{Sides, bytes_of, other_side}
 use Rattle.mld_io.specs.declared.banks.Side.{Side}

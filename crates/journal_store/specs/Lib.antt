@@ -6,4 +6,4 @@ pub mod Closing
 pub mod Mounting
 pub mod Device
 pub mod WrittenSides
-pub mod Settling
+pub mod CallEnds

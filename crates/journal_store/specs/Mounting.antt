@@ -1,4 +1,4 @@
--- What a mount tells.
+-- What a mount tells. `Journal::mount` cites it, and `MldClone::mount` has `IsSynced`.
 use Rattle.std.specs.Prelude.{◌≡◌, Option, None, Some}
 use Rattle.mld_io.specs.Disk.{Log, seen, IsSettled}
 use Rattle.journal_sides.specs.Heads.{head_value}

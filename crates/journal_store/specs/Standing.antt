@@ -1,4 +1,5 @@
--- What a journal that isn't closed, and banks that keep nothing, have on their device.
+-- What a journal that isn't closed, and banks that keep nothing, have on their device. It is the view and the invariant of `Journal` and `Blank`;
+-- the calls that write and those of the crates above have `KeepsNow`, `KeepsJust` and `IsBlankLog`.
 use Rattle.std.specs.Prelude.{◌≡◌, ℕ, ◌+◌, ◌^◌, ◌<◌, Option, Some, None}
 use Rattle.mld_io.specs.Disk.{Log, bytes_of, other_side, seen, IsSettled}
 use Rattle.mld_io.specs.declared.banks.Side.{Side}

@@ -1,13 +1,24 @@
--- What the calls that write put on a side.
-use Rattle.std.specs.Prelude.{◌≡◌, ◌⊎◌, ℕ, List, Option, Some}
+-- What the calls that write put on a side. `put_record`, `write_side`, `append_at` and `swap_at` cite it, which are private.
+use Rattle.std.specs.Prelude.{◌≡◌, ◌⊎◌, ℕ, List, [], ◌∷◌, ◌++◌, Option, Some}
 use Rattle.mld_io.specs.Arm.{Arm}
 use Rattle.mld_io.specs.Disk.{Call, Log, Sides, bytes_of, other_side, seen, IsSettled}
 use Rattle.mld_io.specs.declared.banks.Side.{Side}
-use Rattle.journal_sides.specs.RecordBytes.{RecordValue}
+use Rattle.journal_sides.specs.Format.{closed_gate}
+use Rattle.journal_sides.specs.Records.{RecordValue, record_bytes}
 use Rattle.journal_sides.specs.SideReadings.{IsClosed, IsOpen, Volume, read_side}
 use Rattle.journal_sides.specs.StoredVolumes.{EndsAt}
 use Rattle.journal_sides.specs.WrittenRecords.{with_record}
 use Rattle.journal_store.specs.Crashes.{IsIssued, append_gate, first_gate}
+
+-- what stands behind a gate once a record does: its bytes, with the closed gate behind them
+abbrev pub record_body : RecordValue → List ℕ
+record_body next = record_bytes next ++ closed_gate ∷ []
+
+-- banks tell this log, a crash now leaves what reads give, and the records of a side end at this place, where its closed gate is
+pub record HasEndAt (side : Side) (volume : Volume) (stop : ℕ) (log : Log) (now : Option Log) : Type 0 where
+  pub now_is : now ≡ Some log
+  pub settled : IsSettled log
+  pub ends : EndsAt volume stop (bytes_of side (seen log))
 
 -- a side has a volume that ends at this place, and the other is as it was; a crash now leaves just that
 pub record HasVolume (side : Side) (volume : Volume) (stop : ℕ) (old : Log) (now : Option Log) : Type 0 where

@@ -8,9 +8,9 @@ ghost use Rattle.journal_sides.specs.RecordBytes.{RecordValue, record_bytes};
 ghost use Rattle.journal_sides.specs.SideReadings.{Volume};
 ghost use Rattle.journal_sides.specs.StoredVolumes.{EndsAt, IsGoodHead, AreGoodEntries, IsVolume};
 ghost use Rattle.journal_sides.specs.WrittenRecords.{with_record, volume_of};
-ghost use Rattle.journal_store.specs.Settling.{Settles, Closes, IsCalled};
+ghost use Rattle.journal_store.specs.CallEnds.{KeepsEnd, ClosesOrKeeps, EndsBehindFirst};
 ghost use Rattle.journal_store.specs.Closing.{WasCalled, StaysTold};
-ghost use Rattle.journal_store.specs.WrittenSides.{HasVolume, IsAppendingTo, IsWritingTo};
+ghost use Rattle.journal_store.specs.WrittenSides.{HasEndAt, HasVolume, IsAppendingTo, IsWritingTo, record_body};
 
 use crate::device::{Stop, append_body, fill_side};
 use crate::faults::Why;
@@ -30,16 +30,18 @@ pub(crate) fn put_record<B: Banks>(
     requires room { stop + 1 < 2 ^ 64 }
     requires gate { (l : Log) → B.log banks.old ≡ Some l → stop < length (bytes_of side (seen l)) }
     ensures room { IfOk result (λ end. end + 1 < 2 ^ 64) }
-    ensures done { (l : Log) (volume : Volume) (next : RecordValue) → B.log banks.old ≡ Some l → IsSettled l → EndsAt volume stop (bytes_of side (seen l))
-        → body.now ≡ record_bytes next ++ closed_gate ∷ []
+    ensures done { (l : Log) (volume : Volume) (next : RecordValue)
+        → HasEndAt side volume stop l (B.log banks.old) → body.now ≡ record_body next
         → IfOk result (λ end. HasVolume side (with_record next volume) end l (B.log banks.new)) }
-    ensures moments { (l : Log) (volume : Volume) (next : RecordValue) → B.log banks.old ≡ Some l → IsSettled l → EndsAt volume stop (bytes_of side (seen l))
-        → body.now ≡ record_bytes next ++ closed_gate ∷ [] → IsVolume volume → IsVolume (with_record next volume)
+    ensures moments { (l : Log) (volume : Volume) (next : RecordValue)
+        → HasEndAt side volume stop l (B.log banks.old) → body.now ≡ record_body next
+        → IsVolume volume → IsVolume (with_record next volume)
         → LeavesMeanwhile l (B.log banks.new) (IsAppendingTo (B.meter banks.old).arm side stop volume next (seen l)) }
     ensures before { IsErrOf result Stop.Before → banks.new ≡ banks.old }
-    ensures called { IsCalled result → WasCalled B.log B.meter banks.old banks.new }
+    ensures called { EndsBehindFirst result → WasCalled B.log B.meter banks.old banks.new }
     ensures told { StaysTold (B.log banks.old) (B.log banks.new) }
-    ensures meter { Metered 4 (B.meter banks.old) (B.meter banks.new) (IsOk result) (IsErrOf result (Stop.Within Why.Device)) }
+    ensures meter { Metered 4 (B.meter banks.old) (B.meter banks.new)
+        (IsOk result) (IsErrOf result (Stop.Within Why.Device)) }
 {
     append_body(banks, side, stop, body)?;
     Ok(stop + body.len() as u64)
@@ -59,13 +61,17 @@ pub(crate) fn write_side<B: Banks>(
     ensures room { IfOk result (λ end. end + 1 < 2 ^ 64) }
     ensures stored { OnOk result (IsVolume (volume_of generation (head_value head.now) entries.now)) }
     ensures done { (l : Log) → B.log banks.old ≡ Some l → IsSettled l
-        → IfOk result (λ end. HasVolume side (volume_of generation (head_value head.now) entries.now) end l (B.log banks.new)) }
+        → IfOk result (λ end.
+            HasVolume side (volume_of generation (head_value head.now) entries.now) end l (B.log banks.new)) }
     ensures moments { (l : Log) → B.log banks.old ≡ Some l → IsSettled l
-        → LeavesMeanwhile l (B.log banks.new) (IsWritingTo (B.meter banks.old).arm side (volume_of generation (head_value head.now) entries.now) (seen l)) }
+        → LeavesMeanwhile l (B.log banks.new)
+            (IsWritingTo (B.meter banks.old).arm side (volume_of generation (head_value head.now) entries.now)
+                (seen l)) }
     ensures before { IsErrOf result Stop.Before → banks.new ≡ banks.old }
-    ensures called { IsCalled result → WasCalled B.log B.meter banks.old banks.new }
+    ensures called { EndsBehindFirst result → WasCalled B.log B.meter banks.old banks.new }
     ensures told { StaysTold (B.log banks.old) (B.log banks.new) }
-    ensures meter { Metered 6 (B.meter banks.old) (B.meter banks.new) (IsOk result) (IsErrOf result (Stop.Within Why.Device)) }
+    ensures meter { Metered 6 (B.meter banks.old) (B.meter banks.new)
+        (IsOk result) (IsErrOf result (Stop.Within Why.Device)) }
 {
     let body = side_body(alloc, generation, head, entries)?;
     fill_side(banks, side, &body)?;
@@ -74,8 +80,8 @@ pub(crate) fn write_side<B: Banks>(
 
 /// Keeps what calls on a device left: the place of the closed gate behind what they wrote, or why they stopped, which closes a
 /// journal where some of them were done.
-fn settle(stop: &mut u64, closed: &mut Option<Why>, put: Result<u64, Stop>) -> Result<(), Why>
-    ensures { Settles stop.old closed.old put stop.new closed.new result }
+fn keep_end(stop: &mut u64, closed: &mut Option<Why>, put: Result<u64, Stop>) -> Result<(), Why>
+    ensures { KeepsEnd stop.old closed.old put stop.new closed.new result }
 {
     match put {
         Ok(end) => {
@@ -105,18 +111,20 @@ pub(crate) fn append_at<B: Banks>(
     ensures room { stop.new + 1 < 2 ^ 64 }
     ensures opened { OnOk result (closed.new ≡ None) }
     ensures called { OnOk result (WasCalled B.log B.meter banks.old banks.new) }
-    ensures refused { IfErr result (Closes B.log B.meter banks.old banks.new stop.old stop.new closed.new) }
-    ensures done { (l : Log) (volume : Volume) (next : RecordValue) → B.log banks.old ≡ Some l → IsSettled l → EndsAt volume stop.old (bytes_of side (seen l))
-        → body.now ≡ record_bytes next ++ closed_gate ∷ []
+    ensures refused { IfErr result (ClosesOrKeeps B.log B.meter banks.old banks.new stop.old stop.new closed.new) }
+    ensures done { (l : Log) (volume : Volume) (next : RecordValue)
+        → HasEndAt side volume stop.old l (B.log banks.old) → body.now ≡ record_body next
         → OnOk result (HasVolume side (with_record next volume) stop.new l (B.log banks.new)) }
-    ensures moments { (l : Log) (volume : Volume) (next : RecordValue) → B.log banks.old ≡ Some l → IsSettled l → EndsAt volume stop.old (bytes_of side (seen l))
-        → body.now ≡ record_bytes next ++ closed_gate ∷ [] → IsVolume volume → IsVolume (with_record next volume)
-        → LeavesMeanwhile l (B.log banks.new) (IsAppendingTo (B.meter banks.old).arm side stop.old volume next (seen l)) }
+    ensures moments { (l : Log) (volume : Volume) (next : RecordValue)
+        → HasEndAt side volume stop.old l (B.log banks.old) → body.now ≡ record_body next
+        → IsVolume volume → IsVolume (with_record next volume)
+        → LeavesMeanwhile l (B.log banks.new)
+            (IsAppendingTo (B.meter banks.old).arm side stop.old volume next (seen l)) }
     ensures told { StaysTold (B.log banks.old) (B.log banks.new) }
     ensures meter { Metered 4 (B.meter banks.old) (B.meter banks.new) (IsOk result) (IsErrOf result Why.Device) }
 {
     let put = put_record(banks, side, *stop, body);
-    settle(stop, closed, put)
+    keep_end(stop, closed, put)
 }
 
 /// Writes a side anew, as `write_side` does. A call that was begun and not done closes the journal.
@@ -137,15 +145,18 @@ pub(crate) fn swap_at<B: Banks>(
     ensures room { stop.new + 1 < 2 ^ 64 }
     ensures opened { OnOk result (closed.new ≡ None) }
     ensures called { OnOk result (WasCalled B.log B.meter banks.old banks.new) }
-    ensures refused { IfErr result (Closes B.log B.meter banks.old banks.new stop.old stop.new closed.new) }
+    ensures refused { IfErr result (ClosesOrKeeps B.log B.meter banks.old banks.new stop.old stop.new closed.new) }
     ensures stored { OnOk result (IsVolume (volume_of generation (head_value head.now) entries.now)) }
     ensures done { (l : Log) → B.log banks.old ≡ Some l → IsSettled l
-        → OnOk result (HasVolume side (volume_of generation (head_value head.now) entries.now) stop.new l (B.log banks.new)) }
+        → OnOk result
+            (HasVolume side (volume_of generation (head_value head.now) entries.now) stop.new l (B.log banks.new)) }
     ensures moments { (l : Log) → B.log banks.old ≡ Some l → IsSettled l
-        → LeavesMeanwhile l (B.log banks.new) (IsWritingTo (B.meter banks.old).arm side (volume_of generation (head_value head.now) entries.now) (seen l)) }
+        → LeavesMeanwhile l (B.log banks.new)
+            (IsWritingTo (B.meter banks.old).arm side (volume_of generation (head_value head.now) entries.now)
+                (seen l)) }
     ensures told { StaysTold (B.log banks.old) (B.log banks.new) }
     ensures meter { Metered 6 (B.meter banks.old) (B.meter banks.new) (IsOk result) (IsErrOf result Why.Device) }
 {
     let put = write_side(alloc, banks, side, generation, head, entries);
-    settle(stop, closed, put)
+    keep_end(stop, closed, put)
 }

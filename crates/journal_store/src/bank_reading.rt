@@ -4,7 +4,7 @@ ghost use Rattle.mld_io.specs.Arm.{Metered};
 ghost use Rattle.mld_io.specs.Disk.{Log, Sides, bytes_of, seen};
 ghost use Rattle.journal_sides.specs.FoundVolumes.{HasPlaceBehind, MayBeWritten};
 ghost use Rattle.journal_store.specs.Closing.{StaysTold};
-ghost use Rattle.journal_store.specs.Crashes.{LeavesNoMore};
+ghost use Rattle.journal_store.specs.Crashes.{LeavesNothingNew};
 ghost use Rattle.journal_store.specs.Found.{ReadsSame, TellsSide, TellsBoth, IsQuiet, IsFailed, fault_on};
 ghost use Rattle.journal_store.specs.Mounting.{IsSynced};
 
@@ -28,9 +28,12 @@ fn read_piece<B: Banks>(
     count: usize,
 ) -> Result<(), IoFault>
     requires count { count ≤ PIECE }
-    requires within { (l : Log) → B.log banks.old ≡ Some l → length bytes.old.items + count ≤ length (bytes_of side (seen l)) }
+    requires within { (l : Log) → B.log banks.old ≡ Some l
+        → length bytes.old.items + count ≤ length (bytes_of side (seen l)) }
     ensures bytes { (l : Log) → B.log banks.old ≡ Some l
-        → OnOk result (bytes.new.items ≡ bytes.old.items ++ take count (drop (length bytes.old.items) (bytes_of side (seen l)))) }
+        → OnOk result
+            (bytes.new.items ≡ bytes.old.items ++ take count
+                (drop (length bytes.old.items) (bytes_of side (seen l)))) }
     ensures size { OnOk result (length bytes.new.items ≡ length bytes.old.items + count) }
     ensures log { B.log banks.new ≡ B.log banks.old }
     ensures meter { Metered 0 (B.meter banks.old) (B.meter banks.new) (IsOk result) (IsErrOf result IoFault.Failed) }
@@ -50,7 +53,8 @@ fn read_rest<B: Banks>(
     size: usize,
 ) -> Result<(), IoFault>
     requires size { (l : Log) → B.log banks.old ≡ Some l → size ≡ length (bytes_of side (seen l)) }
-    requires begun { (l : Log) → B.log banks.old ≡ Some l → bytes.old.items ≡ take (length bytes.old.items) (bytes_of side (seen l)) }
+    requires begun { (l : Log) → B.log banks.old ≡ Some l
+        → bytes.old.items ≡ take (length bytes.old.items) (bytes_of side (seen l)) }
     ensures bytes { (l : Log) → B.log banks.old ≡ Some l → OnOk result (bytes.new.items ≡ bytes_of side (seen l)) }
     ensures log { B.log banks.new ≡ B.log banks.old }
     ensures meter { Metered 0 (B.meter banks.old) (B.meter banks.new) (IsOk result) (IsErrOf result IoFault.Failed) }
@@ -64,7 +68,8 @@ fn read_rest<B: Banks>(
 
 /// Reads a side: its first byte, and the rest where that is an open gate.
 fn read_bytes<B: Banks>(alloc: Global, banks: &mut B, side: Side) -> Result<Vec<u8>, IoFault>
-    ensures bytes { (l : Log) → B.log banks.old ≡ Some l → IfOk result (λ bytes. ReadsSame bytes.items (bytes_of side (seen l))) }
+    ensures bytes { (l : Log) → B.log banks.old ≡ Some l
+        → IfOk result (λ bytes. ReadsSame bytes.items (bytes_of side (seen l))) }
     ensures log { B.log banks.new ≡ B.log banks.old }
     ensures meter { Metered 0 (B.meter banks.old) (B.meter banks.new) (IsOk result) (IsErrOf result IoFault.Failed) }
 {
@@ -126,7 +131,7 @@ fn find_on<B: Banks>(alloc: Global, banks: &mut B, side: Side) -> Result<Option<
 fn sync_both<B: Banks>(banks: &mut B) -> Result<(), MountFault>
     ensures refusals { IfErr result (λ fault. fault ≡ MountFault.Device) }
     ensures synced { (l : Log) → B.log banks.old ≡ Some l → IsSynced (IsOk result) l (B.log banks.new) }
-    ensures moments { (l : Log) → B.log banks.old ≡ Some l → LeavesNoMore l (B.log banks.new) }
+    ensures moments { (l : Log) → B.log banks.old ≡ Some l → LeavesNothingNew l (B.log banks.new) }
     ensures told { StaysTold (B.log banks.old) (B.log banks.new) }
     ensures meter { Metered 2 (B.meter banks.old) (B.meter banks.new) (IsQuiet result) (IsFailed result) }
 {
@@ -137,7 +142,8 @@ fn sync_both<B: Banks>(banks: &mut B) -> Result<(), MountFault>
 
 /// The one that counts of what was found on side A and on side B.
 fn choose(a: Option<Found>, b: Option<Found>) -> Result<Option<Found>, MountFault>
-    ensures tells { (sides : Sides) → TellsSide Side.A sides.a (Ok a) → TellsSide Side.B sides.b (Ok b) → TellsBoth sides result }
+    ensures tells { (sides : Sides) → TellsSide Side.A sides.a (Ok a)
+        → TellsSide Side.B sides.b (Ok b) → TellsBoth sides result }
     ensures quiet { IsQuiet result }
     ensures room { HasPlaceBehind a → HasPlaceBehind b → IfOk result HasPlaceBehind }
     ensures good { MayBeWritten a → MayBeWritten b → IfOk result MayBeWritten }
@@ -166,7 +172,7 @@ pub(crate) fn find<B: Banks>(alloc: Global, banks: &mut B) -> Result<Option<Foun
     ensures room { IfOk result HasPlaceBehind }
     ensures good { IfOk result MayBeWritten }
     ensures synced { (l : Log) → B.log banks.old ≡ Some l → IsSynced (IsQuiet result) l (B.log banks.new) }
-    ensures moments { (l : Log) → B.log banks.old ≡ Some l → LeavesNoMore l (B.log banks.new) }
+    ensures moments { (l : Log) → B.log banks.old ≡ Some l → LeavesNothingNew l (B.log banks.new) }
     ensures told { StaysTold (B.log banks.old) (B.log banks.new) }
     ensures meter { Metered 2 (B.meter banks.old) (B.meter banks.new) (IsQuiet result) (IsFailed result) }
 {

@@ -4,7 +4,7 @@ ghost use Rattle.std.specs.Prelude.{◌≡◌, ◌↔◌, ◌+◌, ◌^◌, ◌<
 ghost use Rattle.mld_io.specs.Arm.{Metered};
 ghost use Rattle.mld_io.specs.Disk.{Log, Writes, Syncs, LeavesMeanwhile, IsSettled, Wrote, bytes_of, grown, seen};
 ghost use Rattle.journal_store.specs.Closing.{WasCalled, StaysTold};
-ghost use Rattle.journal_store.specs.Settling.{IsCalled};
+ghost use Rattle.journal_store.specs.CallEnds.{EndsBehindFirst};
 ghost use Rattle.journal_store.specs.Device.{IsAppending, IsFilling, HasBytes, appended, filled};
 
 use crate::faults::Why;
@@ -34,8 +34,10 @@ impl From<AllocError> for Stop {
 fn write_body<B: Banks>(banks: &mut B, side: Side, at: u64, piece: &[u8]) -> Result<(), IoFault>
     requires { (l : Log) → B.log banks.old ≡ Some l → at ≤ length (bytes_of side (seen l)) }
     ensures small { OnOk result (at + length piece.now < 2 ^ 64) }
-    ensures done { (l : Log) → B.log banks.old ≡ Some l → OnOk result (Syncs side (grown (Wrote side at piece.now) l) (B.log banks.new)) }
-    ensures failed { (l : Log) → B.log banks.old ≡ Some l → IsErrOf result IoFault.Failed → Writes side at piece.now l (B.log banks.new) }
+    ensures done { (l : Log) → B.log banks.old ≡ Some l
+        → OnOk result (Syncs side (grown (Wrote side at piece.now) l) (B.log banks.new)) }
+    ensures failed { (l : Log) → B.log banks.old ≡ Some l
+        → IsErrOf result IoFault.Failed → Writes side at piece.now l (B.log banks.new) }
     ensures no_memory { IsErrOf result IoFault.NoMemory → banks.new ≡ banks.old }
     ensures untold { B.log banks.old ≡ None → B.log banks.new ≡ None }
     ensures meter { Metered 2 (B.meter banks.old) (B.meter banks.new) (IsOk result) (IsErrOf result IoFault.Failed) }
@@ -47,8 +49,10 @@ fn write_body<B: Banks>(banks: &mut B, side: Side, at: u64, piece: &[u8]) -> Res
 /// Opens the gate at a place of a side.
 fn open_gate<B: Banks>(banks: &mut B, side: Side, gate: u64) -> Result<(), IoFault>
     requires { (l : Log) → B.log banks.old ≡ Some l → gate ≤ length (bytes_of side (seen l)) }
-    ensures done { (l : Log) → B.log banks.old ≡ Some l → OnOk result (Syncs side (grown (Wrote side gate (1 ∷ [])) l) (B.log banks.new)) }
-    ensures failed { (l : Log) → B.log banks.old ≡ Some l → IsErrOf result IoFault.Failed → Writes side gate (1 ∷ []) l (B.log banks.new) }
+    ensures done { (l : Log) → B.log banks.old ≡ Some l
+        → OnOk result (Syncs side (grown (Wrote side gate (1 ∷ [])) l) (B.log banks.new)) }
+    ensures failed { (l : Log) → B.log banks.old ≡ Some l
+        → IsErrOf result IoFault.Failed → Writes side gate (1 ∷ []) l (B.log banks.new) }
     ensures no_memory { IsErrOf result IoFault.NoMemory → banks.new ≡ banks.old }
     ensures untold { B.log banks.old ≡ None → B.log banks.new ≡ None }
     ensures meter { Metered 2 (B.meter banks.old) (B.meter banks.new) (IsOk result) (IsErrOf result IoFault.Failed) }
@@ -58,8 +62,10 @@ fn open_gate<B: Banks>(banks: &mut B, side: Side, gate: u64) -> Result<(), IoFau
 
 /// Shuts the first gate of a side.
 fn shut_gate<B: Banks>(banks: &mut B, side: Side) -> Result<(), IoFault>
-    ensures done { (l : Log) → B.log banks.old ≡ Some l → OnOk result (Syncs side (grown (Wrote side 0 (0 ∷ [])) l) (B.log banks.new)) }
-    ensures failed { (l : Log) → B.log banks.old ≡ Some l → IsErrOf result IoFault.Failed → Writes side 0 (0 ∷ []) l (B.log banks.new) }
+    ensures done { (l : Log) → B.log banks.old ≡ Some l
+        → OnOk result (Syncs side (grown (Wrote side 0 (0 ∷ [])) l) (B.log banks.new)) }
+    ensures failed { (l : Log) → B.log banks.old ≡ Some l
+        → IsErrOf result IoFault.Failed → Writes side 0 (0 ∷ []) l (B.log banks.new) }
     ensures no_memory { IsErrOf result IoFault.NoMemory → banks.new ≡ banks.old }
     ensures untold { B.log banks.old ≡ None → B.log banks.new ≡ None }
     ensures meter { Metered 2 (B.meter banks.old) (B.meter banks.new) (IsOk result) (IsErrOf result IoFault.Failed) }
@@ -77,12 +83,15 @@ pub(crate) fn append_body<B: Banks>(
     requires room { gate + 1 < 2 ^ 64 }
     requires gate { (l : Log) → B.log banks.old ≡ Some l → gate < length (bytes_of side (seen l)) }
     ensures small { OnOk result (gate + 1 + length body.now < 2 ^ 64) }
-    ensures done { (l : Log) → B.log banks.old ≡ Some l → IsSettled l → OnOk result (HasBytes side (appended gate body.now (bytes_of side (seen l))) l (B.log banks.new)) }
-    ensures moments { (l : Log) → B.log banks.old ≡ Some l → IsSettled l → LeavesMeanwhile l (B.log banks.new) (IsAppending (B.meter banks.old).arm side gate body.now (seen l)) }
+    ensures done { (l : Log) → B.log banks.old ≡ Some l → IsSettled l
+        → OnOk result (HasBytes side (appended gate body.now (bytes_of side (seen l))) l (B.log banks.new)) }
+    ensures moments { (l : Log) → B.log banks.old ≡ Some l → IsSettled l
+        → LeavesMeanwhile l (B.log banks.new) (IsAppending (B.meter banks.old).arm side gate body.now (seen l)) }
     ensures before { IsErrOf result Stop.Before → banks.new ≡ banks.old }
-    ensures called { IsCalled result → WasCalled B.log B.meter banks.old banks.new }
+    ensures called { EndsBehindFirst result → WasCalled B.log B.meter banks.old banks.new }
     ensures told { StaysTold (B.log banks.old) (B.log banks.new) }
-    ensures meter { Metered 4 (B.meter banks.old) (B.meter banks.new) (IsOk result) (IsErrOf result (Stop.Within Why.Device)) }
+    ensures meter { Metered 4 (B.meter banks.old) (B.meter banks.new)
+        (IsOk result) (IsErrOf result (Stop.Within Why.Device)) }
 {
     match write_body(banks, side, gate + 1, body) {
         Ok(()) => {}
@@ -108,12 +117,15 @@ fn within(last: Result<(), IoFault>) -> Result<(), Stop>
 /// Writes a side anew: shuts its first gate, puts a body behind it, and opens it. The body has its own last gate.
 pub(crate) fn fill_side<B: Banks>(banks: &mut B, side: Side, body: &[u8]) -> Result<(), Stop>
     ensures small { OnOk result (1 + length body.now < 2 ^ 64) }
-    ensures done { (l : Log) → B.log banks.old ≡ Some l → IsSettled l → OnOk result (HasBytes side (filled body.now (bytes_of side (seen l))) l (B.log banks.new)) }
-    ensures moments { (l : Log) → B.log banks.old ≡ Some l → IsSettled l → LeavesMeanwhile l (B.log banks.new) (IsFilling (B.meter banks.old).arm side body.now (seen l)) }
+    ensures done { (l : Log) → B.log banks.old ≡ Some l → IsSettled l
+        → OnOk result (HasBytes side (filled body.now (bytes_of side (seen l))) l (B.log banks.new)) }
+    ensures moments { (l : Log) → B.log banks.old ≡ Some l → IsSettled l
+        → LeavesMeanwhile l (B.log banks.new) (IsFilling (B.meter banks.old).arm side body.now (seen l)) }
     ensures before { IsErrOf result Stop.Before → banks.new ≡ banks.old }
-    ensures called { IsCalled result → WasCalled B.log B.meter banks.old banks.new }
+    ensures called { EndsBehindFirst result → WasCalled B.log B.meter banks.old banks.new }
     ensures told { StaysTold (B.log banks.old) (B.log banks.new) }
-    ensures meter { Metered 6 (B.meter banks.old) (B.meter banks.new) (IsOk result) (IsErrOf result (Stop.Within Why.Device)) }
+    ensures meter { Metered 6 (B.meter banks.old) (B.meter banks.new)
+        (IsOk result) (IsErrOf result (Stop.Within Why.Device)) }
 {
     match shut_gate(banks, side) {
         Ok(()) => {}

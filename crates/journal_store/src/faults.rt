@@ -6,7 +6,7 @@ use mld_io::{IoFault, Side};
 use std::alloc::AllocError;
 use thiserror::Error;
 
-/// Why a journal is closed: what an earlier call on it was refused for.
+/// What stops a call on a journal that is open, and what an earlier call closed a journal for.
 #[derive(Clone, Copy, Debug, PartialEq, Eq)]
 pub enum Why {
     /// The device failed.
@@ -96,18 +96,18 @@ impl From<IoFault> for MountFault {
     }
 }
 
-impl From<AllocError> for AppendFault {
-    ghost use Rattle.journal_store.specs.declared.faults.AppendFault.TheVariants.{NoMemory};
+impl From<AllocError> for Why {
+    ghost use Rattle.journal_store.specs.declared.faults.Why.TheVariants.{NoMemory};
 
-    ghost from_gives = { λ _ e. e ≡ NoMemory };
+    ghost from_gives = { λ _ why. why ≡ NoMemory };
 
-    fn from(_fault: AllocError) -> AppendFault {
-        AppendFault::NoMemory
+    fn from(_fault: AllocError) -> Why {
+        Why::NoMemory
     }
 }
 
 impl From<Why> for AppendFault {
-    ghost use Rattle.journal_store.specs.Settling.{append_fault};
+    ghost use Rattle.journal_store.specs.CallEnds.{append_fault};
 
     ghost from_gives = { λ why e. e ≡ append_fault why };
 
@@ -120,7 +120,7 @@ impl From<Why> for AppendFault {
 }
 
 impl From<Why> for SwapFault {
-    ghost use Rattle.journal_store.specs.Settling.{swap_fault};
+    ghost use Rattle.journal_store.specs.CallEnds.{swap_fault};
 
     ghost from_gives = { λ why e. e ≡ swap_fault why };
 
@@ -133,7 +133,7 @@ impl From<Why> for SwapFault {
 }
 
 impl From<Stop> for MakeFault {
-    ghost use Rattle.journal_store.specs.Settling.{make_fault};
+    ghost use Rattle.journal_store.specs.CallEnds.{make_fault};
 
     ghost from_gives = { λ stop e. e ≡ make_fault stop };
 

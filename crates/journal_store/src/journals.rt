@@ -83,7 +83,7 @@ impl<B: Banks> Model for Journal<B> {
 }
 
 impl<B: Banks> Journal<B> {
-    ghost use Rattle.std.specs.Prelude.{◌≡◌, None, Some};
+    ghost use Rattle.std.specs.Prelude.{◌≡◌, ◌↔◌, ◌-◌, ◌^◌, None, Some, IsTrue};
     ghost use Rattle.journal_store.specs.Standing.{IsJournal};
 
     /// An open journal on banks, whose records end at this place.
@@ -106,6 +106,13 @@ impl<B: Banks> Journal<B> {
         ensures { result ≡ self.now.closed }
     {
         self.closed
+    }
+
+    /// Whether the generation is the last one, so that nothing can be swapped.
+    pub fn is_last_generation(&self) -> bool
+        ensures { IsTrue result ↔ (self.now.generation ≡ 2 ^ 64 - 1) }
+    {
+        self.generation == u64::MAX
     }
 
     /// Closes a journal that is open, as for a call that ended behind appends that were done. It calls no device and takes

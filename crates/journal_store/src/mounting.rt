@@ -4,7 +4,7 @@ ghost use Rattle.mld_io.specs.Arm.{Metered};
 ghost use Rattle.mld_io.specs.Disk.{Log, seen};
 ghost use Rattle.journal_sides.specs.Pairs.{read_banks};
 ghost use Rattle.journal_store.specs.Closing.{StaysTold};
-ghost use Rattle.journal_store.specs.Crashes.{LeavesNoMore};
+ghost use Rattle.journal_store.specs.Crashes.{LeavesNothingNew};
 ghost use Rattle.journal_store.specs.Mounting.{mounted_banks, TellsPair, IsOpened, FindsGood, BothSynced, FailsToMount, IsSynced};
 
 use crate::bank_reading::find;
@@ -32,10 +32,12 @@ impl<B: Banks> Journal<B> {
         ensures tells { (l : Log) → B.log banks ≡ Some l → TellsPair result (read_banks (seen l)) }
         ensures opened { IsOpened result }
         ensures good { FindsGood result }
-        ensures synced { (l : Log) → B.log banks ≡ Some l → IsSynced (BothSynced result) l (B.log (mounted_banks result)) }
-        ensures moments { (l : Log) → B.log banks ≡ Some l → LeavesNoMore l (B.log (mounted_banks result)) }
+        ensures synced { (l : Log) → B.log banks ≡ Some l
+            → IsSynced (BothSynced result) l (B.log (mounted_banks result)) }
+        ensures moments { (l : Log) → B.log banks ≡ Some l → LeavesNothingNew l (B.log (mounted_banks result)) }
         ensures told { StaysTold (B.log banks) (B.log (mounted_banks result)) }
-        ensures meter { Metered 2 (B.meter banks) (B.meter (mounted_banks result)) (BothSynced result) (FailsToMount result) }
+        ensures meter { Metered 2 (B.meter banks) (B.meter (mounted_banks result))
+            (BothSynced result) (FailsToMount result) }
     {
         let mut banks = banks;
         match find(alloc, &mut banks) {

@@ -9,7 +9,7 @@ use Rattle.mld_io.specs.Disk.{Log, Sides, seen, MayLeave}
 use Rattle.journal_sides.specs.Pairs.{PairReading, KeepsNone, Keeps, Damages, read_banks}
 use Rattle.journal_sides.specs.SideReadings.{read_side}
 use Rattle.journal_store.specs.declared.faults.MountFault.TheVariants.{Damaged, Device, NoMemory}
-use Rattle.journal_store.specs.Crashes.{LeavesNoMore}
+use Rattle.journal_store.specs.Crashes.{LeavesNothingNew}
 use Rattle.journal_store.specs.Mounting.{IsSynced}
 use Rattle.journal_store.specs.Standing.{KeepsNothing, IsBlankLog}
 use Rattle.clone_core.specs.Opening.{TellsClone}
@@ -271,7 +271,7 @@ less_later log old middle new count logs second number was now was_at now_at bef
     second number there.0 now there.1 now_at before behind (logs number was there.0 was_at there.1 ∙ told) is image left
 
 -- a mount leaves no more, and makes blanks of banks without a byte
-pub mounted_less : {B : Type 0} (log : B → Option Log) (was now : B) → ((l : Log) → log was ≡ Some l → LeavesNoMore l (log now)) → LeavesLess log was now
+pub mounted_less : {B : Type 0} (log : B → Option Log) (was now : B) → ((l : Log) → log was ≡ Some l → LeavesNothingNew l (log now)) → LeavesLess log was now
 mounted_less log was now moments before behind told is image left = now_left before behind (log now) image (moments before told) is left
 
 pub mounted_blank : {B : Type 0} (log : B → Option Log) (tells : (banks : B) → IsSome (log banks)) (was now : B) → ((l : Log) → log was ≡ Some l → read_banks (seen l) ≡ KeepsNone)

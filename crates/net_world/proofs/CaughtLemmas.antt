@@ -7,7 +7,7 @@ use Rattle.mld_io.proofs.DiskLaws.{AtEachMoment-last}
 use Rattle.mld_io.specs.declared.banks.Leave.{Leave}
 use Rattle.mld_io.specs.declared.banks.Side.TheVariants as sides
 use Rattle.journal_sides.specs.Pairs.{PairReading, KeepsNone, Keeps, read_banks}
-use Rattle.journal_store.specs.Crashes.{LeavesNoMore}
+use Rattle.journal_store.specs.Crashes.{LeavesNothingNew}
 use Rattle.mld_ops.specs.Messages.{message_value}
 use Rattle.mld_ops.specs.declared.messages.Message.{Message}
 use Rattle.mld_model.specs.Clone.{Clone}
@@ -72,7 +72,7 @@ uncaught number leave is = cc
 
 -- ---- a crash behind calls that leave no more than before
 
-pub now_left : (old l : Log) (now : Option Log) (image : Sides) → LeavesNoMore old now → now ≡ Some l → MayLeave l image → MayLeave old image
+pub now_left : (old l : Log) (now : Option Log) (image : Sides) → LeavesNothingNew old now → now ≡ Some l → MayLeave l image → MayLeave old image
 now_left old l now image leaves is left =
     let same : grown_by leaves.added old ≡ l = one (grown_by leaves.added old) l (sym leaves.now_is ∙ is) in
     AtEachMoment-last old leaves.added (λ calls one. MayLeave old one) leaves.each image (subst (λ (log : Log). MayLeave log image) (sym same) left)

@@ -8,7 +8,7 @@ use Rattle.mld_ops.specs.Properties.{AreKept}
 use Rattle.mld_ops.proofs.AscendingLaws.{same_ascending}
 use Rattle.mld_ops.proofs.PropertiesLaws.{iri_total, iri_exact}
 use Rattle.journal_sides.specs.Pairs.{KeepsNone, Damages, read_banks}
-use Rattle.journal_store.specs.Crashes.{LeavesNoMore}
+use Rattle.journal_store.specs.Crashes.{LeavesNothingNew}
 use Rattle.journal_store.specs.Mounting.{IsSynced}
 use Rattle.journal_store.specs.Standing.{KeepsNothing}
 use Rattle.journal_store.specs.declared.faults.MakeFault.{MakeFault}
@@ -42,7 +42,7 @@ use Rattle.node_run.proofs.FrontLaws.{leaves_first}
 
 -- ---- banks that were mounted
 
-module _ {B : Type 0} (log : B → Option Log) (words : NodeWords) (banks mid : B) (mounts : (l : Log) → log banks ≡ Some l → LeavesNoMore l (log mid)) (first : Log)
+module _ {B : Type 0} (log : B → Option Log) (words : NodeWords) (banks mid : B) (mounts : (l : Log) → log banks ≡ Some l → LeavesNothingNew l (log mid)) (first : Log)
     (told : log banks ≡ Some first) where
   -- what was found is found
   still : (found : Found) → found_on first ≡ found → IsSynced (Unit {0}) first (log mid) → HasFound found (log mid)
@@ -131,7 +131,7 @@ module _ {B : Type 0} (log : B → Option Log) (words : NodeWords) (banks : B) w
   -- over banks that keep a clone
   pub found_begins : (clone : BankedClone B) (result : Result (NodeState B) (NodeStop × B)) → IfOk result (RunsAsFound words clone)
       → ((l : Log) → log banks ≡ Some l → IsFoundAs clone (read_banks (seen l))) → RunsAgain clone
-      → ((l : Log) → log banks ≡ Some l → IsSynced (Unit {0}) l (log clone.banks)) → ((l : Log) → log banks ≡ Some l → LeavesNoMore l (log clone.banks))
+      → ((l : Log) → log banks ≡ Some l → IsSynced (Unit {0}) l (log clone.banks)) → ((l : Log) → log banks ≡ Some l → LeavesNothingNew l (log clone.banks))
       → IfOk result (λ state. (l : Log) → log banks ≡ Some l → BeginsOn log words (found_on l) (log banks) state)
   found_begins clone (Err refused) runs tells again synced mounts = tt
   found_begins clone (Ok state) runs tells again synced mounts = λ l told.
@@ -140,7 +140,7 @@ module _ {B : Type 0} (log : B → Option Log) (words : NodeWords) (banks : B) w
 
   pub found_short : (clone : BankedClone B) (result : Result (NodeState B) (NodeStop × B)) → IfErr result (RefusesOther words clone)
       → ((l : Log) → log banks ≡ Some l → IsFoundAs clone (read_banks (seen l)))
-      → ((l : Log) → log banks ≡ Some l → IsSynced (Unit {0}) l (log clone.banks)) → ((l : Log) → log banks ≡ Some l → LeavesNoMore l (log clone.banks))
+      → ((l : Log) → log banks ≡ Some l → IsSynced (Unit {0}) l (log clone.banks)) → ((l : Log) → log banks ≡ Some l → LeavesNothingNew l (log clone.banks))
       → IfErr result (λ refused. (l : Log) → log banks ≡ Some l → BeginsShort refused.0 words (found_on l) (log banks) (log refused.1))
   found_short clone (Ok state) refuses tells synced mounts = tt
   found_short clone (Err refused) refuses tells synced mounts = λ l told.
@@ -152,7 +152,7 @@ module _ {B : Type 0} (log : B → Option Log) (words : NodeWords) (banks : B) w
   pub anew_begins : (blank : B) (result : Result (NodeState B) (NodeStop × B))
       → IfOk result (λ state. (l : Log) → log blank ≡ Some l → KeepsNothing l → BeginsOn log words Nothing (log blank) state)
       → ((l : Log) → log banks ≡ Some l → read_banks (seen l) ≡ KeepsNone)
-      → ((l : Log) → log banks ≡ Some l → IsSynced (Unit {0}) l (log blank)) → ((l : Log) → log banks ≡ Some l → LeavesNoMore l (log blank))
+      → ((l : Log) → log banks ≡ Some l → IsSynced (Unit {0}) l (log blank)) → ((l : Log) → log banks ≡ Some l → LeavesNothingNew l (log blank))
       → IfOk result (λ state. (l : Log) → log banks ≡ Some l → BeginsOn log words (found_on l) (log banks) state)
   anew_begins blank (Err refused) begun tells synced mounts = tt
   anew_begins blank (Ok state) begun tells synced mounts = λ l told.
@@ -163,7 +163,7 @@ module _ {B : Type 0} (log : B → Option Log) (words : NodeWords) (banks : B) w
   pub anew_short : (blank : B) (result : Result (NodeState B) (NodeStop × B))
       → IfErr result (λ refused. (l : Log) → log blank ≡ Some l → BeginsShort refused.0 words Nothing (log blank) (log refused.1))
       → ((l : Log) → log banks ≡ Some l → read_banks (seen l) ≡ KeepsNone)
-      → ((l : Log) → log banks ≡ Some l → IsSynced (Unit {0}) l (log blank)) → ((l : Log) → log banks ≡ Some l → LeavesNoMore l (log blank))
+      → ((l : Log) → log banks ≡ Some l → IsSynced (Unit {0}) l (log blank)) → ((l : Log) → log banks ≡ Some l → LeavesNothingNew l (log blank))
       → IfErr result (λ refused. (l : Log) → log banks ≡ Some l → BeginsShort refused.0 words (found_on l) (log banks) (log refused.1))
   anew_short blank (Ok state) short tells synced mounts = tt
   anew_short blank (Err refused) short tells synced mounts = λ l told.
@@ -172,7 +172,7 @@ module _ {B : Type 0} (log : B → Option Log) (words : NodeWords) (banks : B) w
 
   -- banks that were not mounted
   pub refused_short : (mid : B) (fault : MountFault) → ((l : Log) → log banks ≡ Some l → TellsClone (Refused fault mid) (read_banks (seen l)))
-      → ((l : Log) → log banks ≡ Some l → IsSynced (SyncsBoth (Refused fault mid)) l (log mid)) → ((l : Log) → log banks ≡ Some l → LeavesNoMore l (log mid))
+      → ((l : Log) → log banks ≡ Some l → IsSynced (SyncsBoth (Refused fault mid)) l (log mid)) → ((l : Log) → log banks ≡ Some l → LeavesNothingNew l (log mid))
       → (l : Log) → log banks ≡ Some l → BeginsShort (stop_of_mount fault) words (found_on l) (log banks) (log mid)
   refused_short mid fault tells synced mounts l told = not_mounted log words banks mid mounts l told fault (tells l told) (synced l told)
 

@@ -4,7 +4,7 @@ use Rattle.mld_io.specs.Arm.{Arm, Meter}
 use Rattle.mld_io.specs.Disk.{Log, Sides, seen, grown_by, MayLeave, LeavesOnly, LeavesMeanwhile}
 use Rattle.mld_io.proofs.DiskLaws.{AtEachMoment-last, AtEachMoment-weaken, LeavesMeanwhile-then}
 use Rattle.journal_sides.specs.Pairs.{PairReading, KeepsNone, Keeps, Damages, read_banks}
-use Rattle.journal_store.specs.Crashes.{LeavesNoMore}
+use Rattle.journal_store.specs.Crashes.{LeavesNothingNew}
 use Rattle.journal_store.proofs.DeviceLaws.{weaken_moments, no_moments}
 use Rattle.mld_model.specs.Local.{LocalClone}
 use Rattle.clone_banks.specs.KeptSteps.{KeptStep, Created, Appended, Forked, Swapped, after_step, after_steps, ReadsSome, LeavesSome}
@@ -45,7 +45,7 @@ module _ (found : Found) (steps : List KeptStep) where
       (λ image left. record { front = []; rest = steps; whole = refl; finds = alike log is image left })
 
   -- nothing was written
-  pub no_more_front : (old now : Option Log) → ((log : Log) → old ≡ Some log → LeavesNoMore log now) → LeavesFront found steps old now
+  pub no_more_front : (old now : Option Log) → ((log : Log) → old ≡ Some log → LeavesNothingNew log now) → LeavesFront found steps old now
   no_more_front old now moments log is alike =
       weaken_moments log now (λ calls image. MayLeave log image) (λ calls image. FindsFront found steps image)
       (λ calls image left. record { front = []; rest = steps; whole = refl; finds = alike log is image left }) (moments log is)
@@ -63,7 +63,7 @@ module _ (found : Found) (steps : List KeptStep) where
       }) some.moments
 
   -- nothing was written, and then some of the steps were made
-  pub later_front : (old mid now : Option Log) → ((log : Log) → old ≡ Some log → LeavesNoMore log mid) → (ImagesFind found old → ImagesFind found mid)
+  pub later_front : (old mid now : Option Log) → ((log : Log) → old ≡ Some log → LeavesNothingNew log mid) → (ImagesFind found old → ImagesFind found mid)
       → LeavesFront found steps mid now → LeavesFront found steps old now
   later_front old mid now first settled second log is alike =
       let early : LeavesMeanwhile log mid (λ calls image. MayLeave log image) = first log is in
@@ -73,7 +73,7 @@ module _ (found : Found) (steps : List KeptStep) where
       (second (grown_by early.added log) early.now_is (settled alike))
 
 -- what a crash now may leave it might have left before, where nothing was written
-pub images_later : (found : Found) (old mid : Option Log) (log : Log) → old ≡ Some log → LeavesNoMore log mid → ImagesFind found old → ImagesFind found mid
+pub images_later : (found : Found) (old mid : Option Log) (log : Log) → old ≡ Some log → LeavesNothingNew log mid → ImagesFind found old → ImagesFind found mid
 images_later found old mid log is moments alike later told image left =
     let same : later ≡ grown_by moments.added log = cc (told, moments.now_is) in
     let last : LeavesOnly (grown_by moments.added log) (λ other. MayLeave log other) =

@@ -13,7 +13,7 @@ use Rattle.mld_ops.proofs.PropertiesLaws.{iri_total, iri_exact}
 use Rattle.journal_sides.specs.Pairs.{KeepsNone, read_banks}
 use Rattle.journal_store.specs.Closing.{StaysTold}
 use Rattle.journal_store.proofs.ClosingLaws.{told_same}
-use Rattle.journal_store.specs.Crashes.{LeavesNoMore}
+use Rattle.journal_store.specs.Crashes.{LeavesNothingNew}
 use Rattle.journal_store.specs.Mounting.{IsSynced}
 use Rattle.journal_store.specs.declared.faults.MountFault.{MountFault}
 use Rattle.clone_core.specs.Opening.{TellsClone, SyncsBoth}
@@ -54,11 +54,11 @@ given_back P (Err refused) banks back holds = subst P (sym back.1) holds
 
 module _ {B : Type 0} (log : B → Option Log) (banks : B) where
   -- what holds while no clone is live, after a mount that was stopped
-  pub mount_refuses : (mid : B) (command : ShellCommand) → ((l : Log) → log banks ≡ Some l → LeavesNoMore l (log mid))
+  pub mount_refuses : (mid : B) (command : ShellCommand) → ((l : Log) → log banks ≡ Some l → LeavesNothingNew l (log mid))
       → (it : Shell) → SessionStands log (sessions.Shut banks) it → StopsCommand log it command banks mid
   mount_refuses mid command mounts it stands = mount_stops log banks mid it (found_of it) command mounts
 
-  module _ (fault : MountFault) (mid : B) (mounts : (l : Log) → log banks ≡ Some l → LeavesNoMore l (log mid)) where
+  module _ (fault : MountFault) (mid : B) (mounts : (l : Log) → log banks ≡ Some l → LeavesNothingNew l (log mid)) where
     -- banks that were not mounted were given back
     pub refused_stops : {S : Type 0} (command : ShellCommand) (result : Result S (SessionFault × B)) → IfErr result (GivesBack fault mid)
         → IfErr result (λ refused. (it : Shell) → SessionStands log (sessions.Shut banks) it → StopsCommand log it command banks refused.1)
@@ -83,7 +83,7 @@ module _ {B : Type 0} (log : B → Option Log) (banks : B) where
         (does damage.side damage.place) damage.written)
 
   -- a clone was made behind a mount that found nothing
-  module _ (blank : B) (mounts : (l : Log) → log banks ≡ Some l → LeavesNoMore l (log blank)) (synced : (l : Log) → log banks ≡ Some l → IsSynced (Unit {0}) l (log blank))
+  module _ (blank : B) (mounts : (l : Log) → log banks ≡ Some l → LeavesNothingNew l (log blank)) (synced : (l : Log) → log banks ≡ Some l → IsSynced (Unit {0}) l (log blank))
       (tells : (l : Log) → log banks ≡ Some l → read_banks (seen l) ≡ KeepsNone) (command : ShellCommand) where
     pub created_does : {E : Type 0} (before after : List ℕ) (result : Result (Session B) E)
         → IfOk result (λ next. SessionStands log (sessions.Shut blank) (Shut Nothing) → DoesCommand log (Shut Nothing) command blank before next after)

@@ -4,7 +4,7 @@ use Rattle.mld_io.specs.Arm.{Meter}
 use Rattle.mld_io.specs.Disk.{Log, Sides, seen}
 use Rattle.mld_io.specs.declared.banks.Side.{Side}
 use Rattle.journal_sides.specs.Pairs.{PairReading, KeepsNone, Keeps, Damages, read_banks}
-use Rattle.journal_store.specs.Crashes.{LeavesNoMore}
+use Rattle.journal_store.specs.Crashes.{LeavesNothingNew}
 use Rattle.journal_store.specs.Mounting.{IsSynced}
 use Rattle.mld_model.specs.Local.{LocalClone}
 use Rattle.mld_model.specs.Reply.{Opened}
@@ -32,7 +32,7 @@ shut_shell log banks P all (Live generation local) stands = absurd stands
 module _ {B : Type 0} (log : B → Option Log) (banks mid : B) where
   -- what a mount tells of what a crash leaves
   abbrev pub Mounts : Type 0
-  Mounts = (l : Log) → log banks ≡ Some l → LeavesNoMore l (log mid)
+  Mounts = (l : Log) → log banks ≡ Some l → LeavesNothingNew l (log mid)
 
   -- and of what reads give
   abbrev Synced : Type 0
@@ -102,7 +102,7 @@ nothing_found log banks tells P all found has =
 module _ {B : Type 0} (log : B → Option Log) (banks : B) where
   -- the banks keep a clone, which runs again
   reopened : (clone : BankedClone B) (before after : List ℕ) → ((l : Log) → log banks ≡ Some l → IsFoundAs clone (read_banks (seen l))) → RunsAgain clone
-      → ((l : Log) → log banks ≡ Some l → IsSynced (Unit {0}) l (log clone.banks)) → ((l : Log) → log banks ≡ Some l → LeavesNoMore l (log clone.banks))
+      → ((l : Log) → log banks ≡ Some l → IsSynced (Unit {0}) l (log clone.banks)) → ((l : Log) → log banks ≡ Some l → LeavesNothingNew l (log clone.banks))
       → after ≡ before ++ shell_text (Says Opened)
       → HasFound (found_with clone.generation clone.local) (log banks)
       → DoesCommand log (Shut (found_with clone.generation clone.local)) shell.Open banks before (sessions.Live clone) after
@@ -138,7 +138,7 @@ module _ {B : Type 0} (log : B → Option Log) (banks : B) where
 
   -- whatever was found then
   pub open_live : (clone : BankedClone B) (before after : List ℕ) → ((l : Log) → log banks ≡ Some l → IsFoundAs clone (read_banks (seen l))) → RunsAgain clone
-      → ((l : Log) → log banks ≡ Some l → IsSynced (Unit {0}) l (log clone.banks)) → ((l : Log) → log banks ≡ Some l → LeavesNoMore l (log clone.banks))
+      → ((l : Log) → log banks ≡ Some l → IsSynced (Unit {0}) l (log clone.banks)) → ((l : Log) → log banks ≡ Some l → LeavesNothingNew l (log clone.banks))
       → after ≡ before ++ shell_text (Says Opened) → (it : Shell) → SessionStands log (sessions.Shut banks) it
       → DoesCommand log it shell.Open banks before (sessions.Live clone) after
   open_live clone before after tells runs synced mounts written =
@@ -149,7 +149,7 @@ module _ {B : Type 0} (log : B → Option Log) (banks : B) where
       subst (λ (f : Found). HasFound f (log banks) → DoesCommand log (Shut f) shell.Open banks before (sessions.Live clone) after) same
       (reopened clone before after tells runs synced mounts written) has)
 
-  module _ (mid : B) (mounts : (l : Log) → log banks ≡ Some l → LeavesNoMore l (log mid)) (synced : (l : Log) → log banks ≡ Some l → IsSynced (Unit {0}) l (log mid))
+  module _ (mid : B) (mounts : (l : Log) → log banks ≡ Some l → LeavesNothingNew l (log mid)) (synced : (l : Log) → log banks ≡ Some l → IsSynced (Unit {0}) l (log mid))
       (before after : List ℕ) where
     -- a mount that finds this ends with a reply alone
     finds_so : (reading : PairReading) (command : ShellCommand) (reply : ShellReply) → ((l : Log) → log banks ≡ Some l → read_banks (seen l) ≡ reading)

@@ -3,7 +3,7 @@ use Rattle.std.proofs.Common.{◌≡◌, ◌≢◌, ◌⊎◌, ℕ, zero, suc, �
 use Rattle.std.specs.Prelude.{slice_get}
 use Rattle.mld_io.specs.Arm.{Meter, Metered}
 use Rattle.mld_io.specs.Disk.{Log}
-use Rattle.journal_store.specs.Crashes.{LeavesNoMore}
+use Rattle.journal_store.specs.Crashes.{LeavesNothingNew}
 use Rattle.journal_store.specs.declared.faults.MountFault.TheVariants as mount
 use Rattle.journal_store.specs.declared.faults.Why.{Why}
 use Rattle.journal_store.specs.declared.faults.Why.TheVariants as why
@@ -399,14 +399,14 @@ module _ {B : Type 0} (log : B → Option Log) (meter : B → Meter) where
   pub opened_left : (domain : List ℕ) (properties : List (List ℕ)) (old new : List (BankedState B)) (number : ℕ) (banks : B) (what : Mounted B)
       (told : BankedState B × Result Reply WorldFault) → IsOpenedAs domain properties number what told
       → Metered mount_calls (meter banks) (meter (banks_of_mounted what)) (SyncsBoth what) (FailsToOpen what)
-      → ((l : Log) → log banks ≡ Some l → LeavesNoMore l (log (banks_of_mounted what)))
+      → ((l : Log) → log banks ≡ Some l → LeavesNothingNew l (log (banks_of_mounted what)))
       → LeavesState log meter doing_open (IsOk told.1) (states.Down banks) told.0
   opened_left domain properties old new number banks what told is metered left =
       let same : banks_of_mounted what ≡ banks_of_state told.0 = sym (opened_banks log meter domain properties old new number banks what told is) in
       leaves_opened
       (subst (λ (b : B). Went meter mount_calls (IsOk told.1) banks b) same
       (went_as meter mount_calls (SyncsBoth what) (FailsToOpen what) (IsOk told.1) banks (banks_of_mounted what) metered (synced_both domain properties number what told is)))
-      (subst (λ (b : B). (l : Log) → log banks ≡ Some l → LeavesNoMore l (log b)) same left)
+      (subst (λ (b : B). (l : Log) → log banks ≡ Some l → LeavesNothingNew l (log b)) same left)
 
   -- of a clone that stops, and of one that begins to ask
   pub stop_left : (Whole : Type 0) (old new : List (BankedState B)) (number : ℕ) → StopsOnBanks log old new number → LeavesAt log meter doing_nothing Whole number old new

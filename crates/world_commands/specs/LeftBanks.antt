@@ -4,7 +4,7 @@ use Rattle.std.specs.Prelude.{◌≡◌, ℕ, List, [], ◌∷◌, Option, Some,
 use Rattle.mld_io.specs.Arm.{Meter, Caught, LowersAtMost, LowersBy}
 use Rattle.mld_io.specs.Disk.{Log}
 use Rattle.mld_ops.specs.Messages.{GiveValue}
-use Rattle.journal_store.specs.Crashes.{LeavesNoMore}
+use Rattle.journal_store.specs.Crashes.{LeavesNothingNew}
 use Rattle.mld_model.specs.Local.{LocalAsker, LocalClone, joined_clone}
 use Rattle.mld_model.specs.StandsFor.{RunningClone}
 use Rattle.mld_model.specs.declared.CloneState.TheVariants as states
@@ -46,7 +46,7 @@ pub data LeavesState {B : Type 0} (log : B → Option Log) (meter : B → Meter)
       → LeavesState log meter doing Whole (states.Asking old) new
   -- a clone that is down was opened, or was not: a crash leaves nothing that it might not have left before
   leaves_opened : {old : B} {new : BankedState B} → Went meter mount_calls Whole old (banks_of_state new)
-      → ((l : Log) → log old ≡ Some l → LeavesNoMore l (log (banks_of_state new))) → LeavesState log meter doing Whole (states.Down old) new
+      → ((l : Log) → log old ≡ Some l → LeavesNothingNew l (log (banks_of_state new))) → LeavesState log meter doing Whole (states.Down old) new
 
 -- the clone of the number was left so, and the others are as they were
 pub record LeavesAt {B : Type 0} (log : B → Option Log) (meter : B → Meter) (doing : Doing) (Whole : Type 0) (number : ℕ) (old new : List (BankedState B)) : Type 0 where

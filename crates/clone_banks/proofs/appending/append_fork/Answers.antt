@@ -6,12 +6,7 @@ use Rattle.clone_banks.specs.KeptSteps.{Forked}
 use Rattle.clone_banks.proofs.StepLaws.{some_one}
 use Rattle.clone_banks.proofs.appending.append_fork.Goals as goal
 
-pub returns-in-Ok-clause-moments : goal.returns-in-Ok-clause-moments
-returns-in-Ok-clause-moments g c l kept e k =
-    some_one l (g.B.Banks.log c.append_fork.new.self.banks) (Keeps kept) Forked (g.B.Banks.meter c.args.journal.now.banks).arm (g.B.Banks.meter c.append_fork.new.self.banks).arm
-    (gate_behind c.args.journal.now.side l) refl (c.append_fork.ensures.moments l kept e k) c.append_fork.ensures.meter.lowered
-
-pub returns-in-Err-clause-moments : goal.returns-in-Err-clause-moments
-returns-in-Err-clause-moments g c l kept e k =
-    some_one l (g.B.Banks.log c.append_fork.new.self.banks) (Keeps kept) Forked (g.B.Banks.meter c.args.journal.now.banks).arm (g.B.Banks.meter c.append_fork.new.self.banks).arm
-    (gate_behind c.args.journal.now.side l) refl (c.append_fork.ensures.moments l kept e k) c.append_fork.ensures.meter.lowered
+pub returns-clause-moments : goal.returns-clause-moments
+returns-clause-moments g c l kept e k =
+    some_one l (g.B.Banks.log c.append_fork_open.new.self.banks) (Keeps kept) Forked (g.B.Banks.meter c.args.journal.now.banks).arm (g.B.Banks.meter c.append_fork_open.new.self.banks).arm
+    (gate_behind c.args.journal.now.side l) refl (c.append_fork_open.ensures.moments l kept e k) c.append_fork_open.ensures.meter.lowered

@@ -9,19 +9,19 @@ use Rattle.journal_store.proofs.ReadLaws.{appending_reads, appended_ends, volume
 use Rattle.journal_store.proofs.appending.put_record.Goals as goal
 
 pub returns-in_err-append_body-clause-moments : goal.returns-in_err-append_body-clause-moments
-returns-in_err-append_body-clause-moments g c l volume next e settled ends body_is is more =
+returns-in_err-append_body-clause-moments g c l volume next at body_is is more =
     weaken_moments l (g.B.Banks.log c.append_body.new.banks) (IsAppending (g.B.Banks.meter c.args.banks.now).arm c.args.side c.args.stop c.args.body.now (seen l)) (IsAppendingTo (g.B.Banks.meter c.args.banks.now).arm c.args.side c.args.stop volume next (seen l))
-    (λ calls image at. appending_reads (g.B.Banks.meter c.args.banks.now).arm c.args.side volume next c.args.stop c.args.body.now (seen l) calls image is more ends body_is at)
-    (c.append_body.ensures.moments l e settled)
+    (λ calls image left. appending_reads (g.B.Banks.meter c.args.banks.now).arm c.args.side volume next c.args.stop c.args.body.now (seen l) calls image is more at.ends body_is left)
+    (c.append_body.ensures.moments l at.now_is at.settled)
 
 pub returns-clause-moments : goal.returns-clause-moments
-returns-clause-moments g c l volume next e settled ends body_is is more =
+returns-clause-moments g c l volume next at body_is is more =
     weaken_moments l (g.B.Banks.log c.append_body.new.banks) (IsAppending (g.B.Banks.meter c.args.banks.now).arm c.args.side c.args.stop c.args.body.now (seen l)) (IsAppendingTo (g.B.Banks.meter c.args.banks.now).arm c.args.side c.args.stop volume next (seen l))
-    (λ calls image at. appending_reads (g.B.Banks.meter c.args.banks.now).arm c.args.side volume next c.args.stop c.args.body.now (seen l) calls image is more ends body_is at)
-    (c.append_body.ensures.moments l e settled)
+    (λ calls image left. appending_reads (g.B.Banks.meter c.args.banks.now).arm c.args.side volume next c.args.stop c.args.body.now (seen l) calls image is more at.ends body_is left)
+    (c.append_body.ensures.moments l at.now_is at.settled)
 
 pub returns-clause-done : goal.returns-clause-done
-returns-clause-done g c l volume next e settled ends body_is =
+returns-clause-done g c l volume next at body_is =
     volume_from_bytes c.args.side (with_record next volume) (c.args.stop + length c.args.body.now) (appended c.args.stop c.args.body.now (bytes_of c.args.side (seen l))) l (g.B.Banks.log c.append_body.new.banks)
-    (c.in_ok-append_body.ensures.done l e settled)
-    (appended_ends volume next c.args.stop c.args.body.now (bytes_of c.args.side (seen l)) ends body_is)
+    (c.in_ok-append_body.ensures.done l at.now_is at.settled)
+    (appended_ends volume next c.args.stop c.args.body.now (bytes_of c.args.side (seen l)) at.ends body_is)

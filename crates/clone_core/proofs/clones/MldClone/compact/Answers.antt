@@ -28,3 +28,6 @@ returns-then-not-has_neighbours-clause-durable g c = (
   ),
   changes_none g.B.Banks.log g.B.Banks.meter c.args.self.now c.args.self.now.banks refl (λ f. absurd cc),
 )
+
+pub returns-then-is_last_generation-clause-durable : goal.returns-then-is_last_generation-clause-durable
+returns-then-is_last_generation-clause-durable g c = ([], refl, changes_none g.B.Banks.log g.B.Banks.meter c.args.self.now c.args.self.now.banks refl (λ f. absurd cc))

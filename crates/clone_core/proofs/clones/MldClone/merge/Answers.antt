@@ -9,14 +9,14 @@ use Rattle.journal_sides.specs.Heads.{HeadValue, head_value}
 use Rattle.journal_sides.specs.Pairs.{Kept}
 use Rattle.journal_store.specs.Calls.{KeptBy, swapped}
 use Rattle.journal_store.specs.Standing.{KeepsNow}
-use Rattle.journal_store.specs.declared.faults.SwapFault.{SwapFault}
-use Rattle.journal_store.specs.declared.faults.SwapFault.TheVariants as swap
+use Rattle.journal_store.specs.declared.faults.Why.{Why}
+use Rattle.journal_store.specs.declared.faults.Why.TheVariants as why
 use Rattle.clone_plans.specs.Replays.{AreReadyEntries}
 use Rattle.clone_banks.specs.BankCalls.{append_calls, swap_calls}
 use Rattle.clone_banks.specs.KeptSteps.{Swapped, appends}
 use Rattle.clone_banks.proofs.Appended.{appends_calls}
 use Rattle.clone_core.specs.Banked.{BankedClone, head_over}
-use Rattle.clone_answers.specs.CloneFaults.{receive_fault_of_swap}
+use Rattle.clone_answers.specs.CloneFaults.{receive_fault_of}
 use Rattle.clone_core.specs.CloneClosing.{receive_stop}
 use Rattle.clone_core.specs.DurableCalls.{WouldReceive}
 use Rattle.clone_core.specs.View.{local_of}
@@ -24,10 +24,10 @@ use Rattle.clone_answers.specs.declared.answers.Got.{Got}
 use Rattle.clone_answers.specs.declared.answers.Got.TheVariants as got
 use Rattle.clone_answers.specs.declared.faults.ReceiveFault.{ReceiveFault}
 use Rattle.clone_answers.specs.declared.faults.ReceiveFault.TheVariants as receive
-use Rattle.clone_core.proofs.AppendLaws.{keeps_some, swapped_on_banks, unswapped_on_banks}
-use Rattle.clone_core.proofs.DurableLaws.{changes_none, changes_made, done_metered, merge_tells, swap_refused}
-use Rattle.clone_core.proofs.Merged.{released_ready, merged_clone, merged_is_local, merged_step, spent_as}
-use Rattle.clone_core.proofs.StopLaws.{unmerged_stops}
+use Rattle.clone_core.proofs.AppendLaws.{keeps_some, swapped_on_banks, refused_on_banks}
+use Rattle.clone_core.proofs.DurableLaws.{changes_none, changes_made, done_metered, err_same, receive_tells, swap_refused}
+use Rattle.clone_core.proofs.Merged.{released_ready, merged_clone, merged_is_local, merged_step, never_spent}
+use Rattle.clone_core.proofs.StopLaws.{receive_stops}
 use Rattle.clone_core.proofs.clones.MldClone.merge.Goals as goal
 
 pub returns-in_err-base-clause-durable : goal.returns-in_err-base-clause-durable
@@ -44,6 +44,9 @@ pub swap_and_append-requires-clause-keeps : goal.swap_and_append-requires-clause
 swap_and_append-requires-clause-keeps g c =
     keeps_some g.B.Banks.log c.self.inside.journal (local_of c.self.inside) c.self.invariant.1 (ap (λ v. v.closed) c.self.view_is ∙ c.requires.opened)
 
+pub swap_and_append-requires-clause-left : goal.swap_and_append-requires-clause-left
+swap_and_append-requires-clause-left g c = λ last. c.requires.due.left (sym (ap (λ v. v.generation) c.self.view_is) ∙ last)
+
 pub swap_and_append-requires-clause-ready : goal.swap_and_append-requires-clause-ready
 swap_and_append-requires-clause-ready g c =
     let merge = c.in_ok-base.field-0 in
@@ -52,19 +55,18 @@ swap_and_append-requires-clause-ready g c =
     (subst (λ (es : List EntryValue). AreReadyEntries merge.base.ticks es) (sym c.deref.ensures.value)
     (released_ready (local_of c.self.inside) (snapshot_value c.args.snapshot.now) merge c.in_ok-base.ensures))
 
-pub returns-in_err-swap_and_append-clause-spent : goal.returns-in_err-swap_and_append-clause-spent
-returns-in_err-swap_and_append-clause-spent g c =
+pub returns-in_err-swap_and_append-clause-unspent : goal.returns-in_err-swap_and_append-clause-unspent
+returns-in_err-swap_and_append-clause-unspent g c =
+    let told = c.in_err-swap_and_append.field-0.0 in
     let p = err_from_is_err_and c.from_residual-in_err-swap_and_append.result c.from_residual-in_err-swap_and_append.ensures.1 in
-    rw (p.1, p.2)
-    (spent_as {T = Unit {0}} c.in_err-swap_and_append.field-0.0 c.self.inside.journal.generation c.args.self.now.generation (ap (λ v. v.generation) c.self.view_is)
-    c.in_err-swap_and_append.ensures.spent)
+    rw (p.1, p.2) (λ e. never_spent told (err_same e))
 
 pub returns-in_err-swap_and_append-clause-left : goal.returns-in_err-swap_and_append-clause-left
 returns-in_err-swap_and_append-clause-left g c =
     let told = c.in_err-swap_and_append.field-0.0 in
     let p = err_from_is_err_and c.from_residual-in_err-swap_and_append.result c.from_residual-in_err-swap_and_append.ensures.1 in
     rw (p.1, p.2)
-    (unmerged_stops g.B.Banks.log g.B.Banks.meter c.requires.due c.self.inside.journal c.swap_and_append.new.journal (local_of c.self.inside) c.args.self.now c.self.view_is c.requires.opened told
+    (receive_stops g.B.Banks.log g.B.Banks.meter {Swaps = Unit {0}} c.requires.due true (λ e. tt) c.self.inside.journal c.swap_and_append.new.journal (local_of c.self.inside) c.args.self.now c.self.view_is told
     c.in_err-swap_and_append.ensures.err)
 
 pub returns-in_err-swap_and_append-clause-durable : goal.returns-in_err-swap_and_append-clause-durable
@@ -78,22 +80,22 @@ returns-in_err-swap_and_append-clause-durable g c =
     let snapshot = snapshot_value c.args.snapshot.now in
     let head = head_value c.in_ok-head.head in
     let entries = c.deref.result.now in
-    let lacks = subst (λ (clone : BankedClone _). ¬ KnowsSnapshot clone.local snapshot) (sym c.self.view_is) c.requires.due.lacks in
+    let lacks = subst (λ (clone : BankedClone _). ¬ KnowsSnapshot clone.local snapshot) (sym c.self.view_is) c.requires.due.due.lacks in
     let head_is : head ≡ head_over old merge.base.ticks merge.base_pairs.items =
     c.in_ok-head.ensures ∙ sym (ap (λ (v : BankedClone _). head_over v.local merge.base.ticks merge.base_pairs.items) c.self.view_is) in
     let step = merged_step old snapshot merge c.in_ok-base.ensures lacks head head_is entries c.deref.ensures.value in
     let would = subst (λ (clone : BankedClone _). WouldReceive clone.local (message.Snapshot c.args.snapshot.now) (Swapped head [] ∷ appends entries)) c.self.view_is step in
-    let metered = subst (λ (n : ℕ). Metered (swap_calls + n) (g.B.Banks.meter was.banks) (g.B.Banks.meter now.banks) (IsOk {T = Unit {0}} {E = SwapFault} (Err told)) (IsErrOf {T = Unit {0}} {E = SwapFault} (Err told) swap.Device)) (sym (appends_calls entries)) c.in_err-swap_and_append.ensures.meter in
+    let metered = subst (λ (n : ℕ). Metered (swap_calls + n) (g.B.Banks.meter was.banks) (g.B.Banks.meter now.banks) (IsOk {T = Unit {0}} {E = Why} (Err told)) (IsErrOf {T = Unit {0}} {E = Why} (Err told) why.Device)) (sym (appends_calls entries)) c.in_err-swap_and_append.ensures.meter in
     rw (p.1, p.2)
     (swap_refused (Unit {0}) Got g.B.Banks.log g.B.Banks.meter was now old c.args.self.now c.self.view_is c.self.invariant.1 (ap (λ v. v.closed) c.self.view_is ∙ c.requires.opened)
-    c.swap_and_append.ensures.told (WouldReceive c.args.self.now.local (message.Snapshot c.args.snapshot.now)) (Swapped head []) (appends entries) would c.swap_and_append.ensures.moments true ReceiveFault receive.Device
-    receive_fault_of_swap receive_stop merge_tells refl refl refl told c.in_err-swap_and_append.ensures.err metered)
+    c.swap_and_append.ensures.told (WouldReceive c.args.self.now.local (message.Snapshot c.args.snapshot.now)) (Swapped head []) (appends entries) would c.swap_and_append.ensures.moments ReceiveFault receive.Device
+    receive_fault_of receive_stop receive_tells refl refl told metered)
 
 pub invariant_of-self : goal.invariant_of-self
 invariant_of-self g c =
     let old = local_of c.self.inside in (
       c.self.invariant.0,
-      unswapped_on_banks g.B.Banks.log c.self.inside.journal c.swap_and_append.new.journal old c.self.invariant.1 (ap (λ v. v.closed) c.self.view_is ∙ c.requires.opened) g.B.Banks.meter true
+      refused_on_banks g.B.Banks.log c.self.inside.journal c.swap_and_append.new.journal old c.self.invariant.1 (ap (λ v. v.closed) c.self.view_is ∙ c.requires.opened) g.B.Banks.meter true
           c.in_err-swap_and_append.field-0.0 c.in_err-swap_and_append.ensures.err,
     )
 
@@ -106,7 +108,7 @@ invariant_of-self-2 g c =
     let snapshot = snapshot_value c.args.snapshot.now in
     let held = c.replace_held.new.held in
     let head = head_value c.in_ok-head.head in
-    let lacks = subst (λ (clone : BankedClone _). ¬ KnowsSnapshot clone.local snapshot) (sym c.self.view_is) c.requires.due.lacks in
+    let lacks = subst (λ (clone : BankedClone _). ¬ KnowsSnapshot clone.local snapshot) (sym c.self.view_is) c.requires.due.due.lacks in
     let local = merged_is_local old snapshot merge c.in_ok-base.ensures held c.replace_held.ensures c.self.invariant.0 lacks in
     let merged = merged_clone old snapshot merge c.in_ok-base.ensures held c.replace_held.ensures in
     let new = record merged { base = c.replace_base.new.base.ticks; base_pairs = c.replace_base.new.pairs.items } in
@@ -136,11 +138,11 @@ returns-clause-durable g c =
     let head_is : head ≡ head_over old c.replace_base.new.base.ticks c.replace_base.new.pairs.items =
     c.in_ok-head.ensures ∙ sym (ap (λ (v : BankedClone _). head_over v.local merge.base.ticks merge.base_pairs.items) c.self.view_is)
     ∙ (λ i. head_over old (sym base_is i) (sym pairs_are i)) in
-    let metered = subst (λ (n : ℕ). Metered (swap_calls + n) (g.B.Banks.meter was.banks) (g.B.Banks.meter now.banks) (IsOk {T = Unit {0}} {E = SwapFault} (Ok tt)) (IsErrOf {T = Unit {0}} {E = SwapFault} (Ok tt) swap.Device)) (sym (appends_calls entries)) c.in_ok-swap_and_append.ensures.meter in (
+    let metered = subst (λ (n : ℕ). Metered (swap_calls + n) (g.B.Banks.meter was.banks) (g.B.Banks.meter now.banks) (IsOk {T = Unit {0}} {E = Why} (Ok tt)) (IsErrOf {T = Unit {0}} {E = Why} (Ok tt) why.Device)) (sym (appends_calls entries)) c.in_ok-swap_and_append.ensures.meter in (
       Swapped head [] ∷ appends entries,
       λ i. Swapped (head_is i) [] ∷ appends (c.deref.ensures.value i),
       changes_made g.B.Banks.log g.B.Banks.meter was now old c.args.self.now c.self.view_is c.self.invariant.1 (ap (λ v. v.closed) c.self.view_is ∙ c.requires.opened)
           c.swap_and_append.ensures.told (Swapped head []) (appends entries) c.swap_and_append.ensures.moments
-          (done_metered {U = Unit {0}} {E = SwapFault} {T = Got} {F = ReceiveFault} _ (g.B.Banks.meter was.banks) (g.B.Banks.meter now.banks) tt (got.Merged merge.after.ranges) swap.Device
+          (done_metered {U = Unit {0}} {E = Why} {T = Got} {F = ReceiveFault} _ (g.B.Banks.meter was.banks) (g.B.Banks.meter now.banks) tt (got.Merged merge.after.ranges) why.Device
           receive.Device metered),
     )

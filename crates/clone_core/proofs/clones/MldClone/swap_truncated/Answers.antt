@@ -5,8 +5,8 @@ use Rattle.journal_sides.specs.Heads.{HeadValue, head_value}
 use Rattle.journal_sides.specs.Pairs.{Kept}
 use Rattle.journal_store.specs.Calls.{KeptBy, swapped}
 use Rattle.journal_store.specs.Standing.{KeepsNow}
-use Rattle.journal_store.specs.declared.faults.SwapFault.{SwapFault}
-use Rattle.journal_store.specs.declared.faults.SwapFault.TheVariants as swap
+use Rattle.journal_store.specs.declared.faults.Why.{Why}
+use Rattle.journal_store.specs.declared.faults.Why.TheVariants as why
 use Rattle.clone_plans.specs.Replays.{AreReadyEntries}
 use Rattle.clone_banks.specs.BankCalls.{swap_calls}
 use Rattle.clone_banks.specs.KeptSteps.{KeptStep, Swapped}
@@ -16,9 +16,9 @@ use Rattle.clone_core.specs.DurableCalls.{SwapsTo}
 use Rattle.clone_core.specs.View.{local_of}
 use Rattle.clone_answers.specs.declared.faults.KeepFault.{KeepFault}
 use Rattle.clone_answers.specs.declared.faults.KeepFault.TheVariants as keep
-use Rattle.clone_core.proofs.AppendLaws.{swapped_on_banks, unswapped_on_banks}
+use Rattle.clone_core.proofs.AppendLaws.{swapped_on_banks, refused_on_banks}
 use Rattle.clone_core.proofs.DurableLaws.{changes_none, changes_made, done_metered, keep_tells, swap_refused}
-use Rattle.clone_core.proofs.StopLaws.{unswapped_stops}
+use Rattle.clone_core.proofs.StopLaws.{keep_stops}
 use Rattle.mld_ops.specs.declared.tagged.Tagged.{Tagged}
 use Rattle.mld_ops.specs.Entry.{EntryValue}
 use Rattle.mld_model.specs.Local.{LocalClone, IsLocal, LeadsTo, LocallyTruncates}
@@ -31,6 +31,9 @@ led_to-requires-clause-ready g c =
     let old = local_of c.self.inside in
     let cut = c.len.result - c.args.keep in
     subst (λ (es : List EntryValue). AreReadyEntries old.base (take cut es)) (sym c.deref-2.ensures.value) (front_ready old cut c.self.invariant.0)
+
+pub swap_kept-requires-clause-left : goal.swap_kept-requires-clause-left
+swap_kept-requires-clause-left g c = λ last. c.requires.due.left (sym (ap (λ v. v.generation) c.self.view_is) ∙ last)
 
 pub swap_kept-requires-clause-ready : goal.swap_kept-requires-clause-ready
 swap_kept-requires-clause-ready g c =
@@ -63,7 +66,7 @@ pub invariant_of-self : goal.invariant_of-self
 invariant_of-self g c =
     let old = local_of c.self.inside in (
       c.self.invariant.0,
-      unswapped_on_banks g.B.Banks.log c.self.inside.journal c.swap_kept.new.journal old c.self.invariant.1 (ap (λ v. v.closed) c.self.view_is ∙ c.requires.opened) g.B.Banks.meter false
+      refused_on_banks g.B.Banks.log c.self.inside.journal c.swap_kept.new.journal old c.self.invariant.1 (ap (λ v. v.closed) c.self.view_is ∙ c.requires.opened) g.B.Banks.meter false
           c.in_err-swap_kept.field-0.0 c.in_err-swap_kept.ensures.err,
     )
 
@@ -72,7 +75,7 @@ returns-in_err-swap_kept-clause-left g c =
     let told = c.in_err-swap_kept.field-0.0 in
     let p = err_from_is_err_and c.from_residual-in_err-swap_kept.result c.from_residual-in_err-swap_kept.ensures.1 in
     rw (p.1, p.2)
-    (unswapped_stops g.B.Banks.log g.B.Banks.meter c.requires.more c.self.inside.journal c.swap_kept.new.journal (local_of c.self.inside) c.args.self.now c.self.view_is c.requires.opened told
+    (keep_stops g.B.Banks.log g.B.Banks.meter {Swaps = ⊥} c.requires.due false (λ e. absurd cc) c.self.inside.journal c.swap_kept.new.journal (local_of c.self.inside) c.args.self.now c.self.view_is told
     c.in_err-swap_kept.ensures.err)
 
 module _ {B : Type 0} where
@@ -103,8 +106,8 @@ returns-in_err-swap_kept-clause-durable g c =
     (cut_clone old keep_count base pairs leads, cut_truncates old keep_count base pairs leads, λ i. Swapped (head_is i) (rest i) ∷ []) in
     rw (p.1, p.2)
     (swap_refused (Unit {0}) (Unit {0}) g.B.Banks.log g.B.Banks.meter was now old c.args.self.now c.self.view_is c.self.invariant.1 (ap (λ v. v.closed) c.self.view_is ∙ c.requires.opened)
-    c.swap_kept.ensures.told (Truncates keep_count c.args.self.now) step [] would c.swap_kept.ensures.moments false KeepFault keep.Device keep_fault_of keep_stop keep_tells refl refl refl told
-    c.in_err-swap_kept.ensures.err c.in_err-swap_kept.ensures.meter)
+    c.swap_kept.ensures.told (Truncates keep_count c.args.self.now) step [] would c.swap_kept.ensures.moments KeepFault keep.Device keep_fault_of keep_stop keep_tells refl refl told
+    c.in_err-swap_kept.ensures.meter)
 
 pub returns-clause-durable : goal.returns-clause-durable
 returns-clause-durable g c =
@@ -130,10 +133,10 @@ returns-clause-durable g c =
     let left = rest ∙ sym dropped in
     let step = Swapped head entries in (
       step ∷ [],
-      inr (c.requires.more, λ i. Swapped (head_is i) (left i) ∷ []),
+      inr (c.requires.due.due, λ i. Swapped (head_is i) (left i) ∷ []),
       changes_made g.B.Banks.log g.B.Banks.meter was now old c.args.self.now c.self.view_is c.self.invariant.1 (ap (λ v. v.closed) c.self.view_is ∙ c.requires.opened)
           c.swap_kept.ensures.told step [] c.swap_kept.ensures.moments
-          (done_metered {U = Unit {0}} {E = SwapFault} {T = Unit {0}} {F = KeepFault} swap_calls (g.B.Banks.meter was.banks) (g.B.Banks.meter now.banks) tt tt swap.Device keep.Device
+          (done_metered {U = Unit {0}} {E = Why} {T = Unit {0}} {F = KeepFault} swap_calls (g.B.Banks.meter was.banks) (g.B.Banks.meter now.banks) tt tt why.Device keep.Device
           c.in_ok-swap_kept.ensures.meter),
     )
 

@@ -15,3 +15,6 @@ returns-then-count-keep-clause-durable g c =
       inl (none, refl),
       changes_none g.B.Banks.log g.B.Banks.meter c.args.self.now c.args.self.now.banks refl (λ f. absurd cc),
     )
+
+pub returns-then-is_last_generation-clause-durable : goal.returns-then-is_last_generation-clause-durable
+returns-then-is_last_generation-clause-durable g c = ([], refl, changes_none g.B.Banks.log g.B.Banks.meter c.args.self.now c.args.self.now.banks refl (λ f. absurd cc))

@@ -11,18 +11,12 @@ use Rattle.journal_store.specs.Crashes.{LeavesEither, first_gate}
 use Rattle.journal_store.specs.Standing.{IsJournal, JournalValue}
 use Rattle.journal_store.specs.WrittenSides.{HasVolume, IsWritingTo}
 use Rattle.journal_store.proofs.JournalLaws.{journal_swapped, keeps_swapped, either_swapped, nothing_moves, kept_at, swapped_is}
-use Rattle.journal_store.proofs.journals.Journal.swap.Goals as goal
-
-pub returns-then-self-clause-moments : goal.returns-then-self-clause-moments
-returns-then-self-clause-moments g c l kept e k =
-    let told : g.B.Banks.log c.self.inside.banks ≡ Some l = ap (λ v. g.B.Banks.log v.banks) c.self.view_is ∙ e in
-    let stands = c.self.invariant.stands l told c.in_default.is in
-    nothing_moves l (g.B.Banks.log c.args.self.now.banks) (Keeps kept) (Keeps (swapped (head_value c.args.head.now) c.args.entries.now kept)) (g.B.Banks.meter c.args.self.now.banks).arm (first_gate (other_side c.args.self.now.side)) e stands.settled (kept_at _ _ kept k l e)
+use Rattle.journal_store.proofs.journals.Journal.swap_open.Goals as goal
 
 pub returns-in_err-swap_at-clause-moments : goal.returns-in_err-swap_at-clause-moments
 returns-in_err-swap_at-clause-moments g c l kept e k =
     let told : g.B.Banks.log c.self.inside.banks ≡ Some l = ap (λ v. g.B.Banks.log v.banks) c.self.view_is ∙ e in
-    let stands = c.self.invariant.stands l told c.in_default.is in
+    let stands = c.self.invariant.stands l told (ap (λ v. v.closed) c.self.view_is ∙ c.requires.opened) in
     let volume : Volume = volume_of (c.self.inside.generation + 1) (head_value c.args.head.now) c.args.entries.now in
     let reads = kept_at _ _ kept k l e in
     subst (λ (v : JournalValue g.row.B.Denot). LeavesEither l (g.B.Banks.log c.swap_at.new.banks) (Keeps kept) (Keeps (swapped (head_value c.args.head.now) c.args.entries.now kept)) (g.B.Banks.meter v.banks).arm (first_gate (other_side v.side))) c.self.view_is
@@ -37,14 +31,14 @@ invariant_of-self-2 g c =
     let volume : Volume = volume_of (c.self.inside.generation + 1) (head_value c.args.head.now) c.args.entries.now in
     subst (λ (s : Side). IsJournal (g.B.Banks.log c.swap_at.new.banks) s (c.self.inside.generation + 1) c.swap_at.new.stop c.swap_at.new.closed) (sym c.other_side-side.ensures)
     (journal_swapped c.self.inside.side c.self.inside.generation c.self.inside.stop c.swap_at.new.stop volume (g.B.Banks.log c.self.inside.banks) (g.B.Banks.log c.swap_at.new.banks) c.swap_at.new.closed
-    (λ l told. c.self.invariant.stands l told c.in_default.is) refl c.in_ok-swap_at.ensures.stored
+    (λ l told. c.self.invariant.stands l told (ap (λ v. v.closed) c.self.view_is ∙ c.requires.opened)) refl c.in_ok-swap_at.ensures.stored
     (λ l told settled. subst (λ (s : Side). HasVolume s volume c.swap_at.new.stop l (g.B.Banks.log c.swap_at.new.banks)) c.other_side-side.ensures (c.in_ok-swap_at.ensures.done l told settled))
     c.in_ok-swap_at.ensures.told.untold c.in_ok-swap_at.ensures.room)
 
 pub returns-clause-kept : goal.returns-clause-kept
 returns-clause-kept g c kept k =
     let told : g.B.Banks.log c.self.inside.banks ≡ Some k.log = ap (λ v. g.B.Banks.log v.banks) c.self.view_is ∙ k.now_is in
-    let stands = c.self.invariant.stands k.log told c.in_default.is in
+    let stands = c.self.invariant.stands k.log told (ap (λ v. v.closed) c.self.view_is ∙ c.requires.opened) in
     let volume : Volume = volume_of (c.self.inside.generation + 1) (head_value c.args.head.now) c.args.entries.now in
     keeps_swapped c.self.inside.side c.self.inside.generation c.self.inside.stop c.swap_at.new.stop volume k.log (g.B.Banks.log c.swap_at.new.banks) (swapped (head_value c.args.head.now) c.args.entries.now kept) stands refl
     c.in_ok-swap_at.ensures.stored
@@ -54,7 +48,7 @@ returns-clause-kept g c kept k =
 pub returns-clause-moments : goal.returns-clause-moments
 returns-clause-moments g c l kept e k =
     let told : g.B.Banks.log c.self.inside.banks ≡ Some l = ap (λ v. g.B.Banks.log v.banks) c.self.view_is ∙ e in
-    let stands = c.self.invariant.stands l told c.in_default.is in
+    let stands = c.self.invariant.stands l told (ap (λ v. v.closed) c.self.view_is ∙ c.requires.opened) in
     let volume : Volume = volume_of (c.self.inside.generation + 1) (head_value c.args.head.now) c.args.entries.now in
     let reads = kept_at _ _ kept k l e in
     subst (λ (v : JournalValue g.row.B.Denot). LeavesEither l (g.B.Banks.log c.swap_at.new.banks) (Keeps kept) (Keeps (swapped (head_value c.args.head.now) c.args.entries.now kept)) (g.B.Banks.meter v.banks).arm (first_gate (other_side v.side))) c.self.view_is
