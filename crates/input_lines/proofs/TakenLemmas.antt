@@ -6,8 +6,10 @@ use Rattle.mld_io.specs.declared.faults.LineFault.{LineFault}
 use Rattle.mld_io.specs.declared.faults.LineFault.TheVariants as line_faults
 use Rattle.mld_io.specs.Lines.{LinesValue, NextLine, IsTooLarge, IsCutShort, HasNoEnd, line_break, ended_lines, lines_of, first_line, after_line, line_size}
 use Rattle.mld_io.proofs.LinesLaws.{first_of_lines_lem, first_line_ends, after_line_none, ended_lines-append, ended_lines_none, HasNoEnd-first_line}
-use Rattle.input_lines.specs.TooLarge.{left_after, size_of_lines, BreaksLimits, IsTooLargeLine, line_limit, input_limit}
-use Rattle.input_lines.specs.Taken.{TakesLine, IfSomeLine, ReadsLines, IsLeft, KnowsEnd}
+use Rattle.input_lines.specs.TooLarge.{left_after, size_of_lines, BreaksLimits, IsTooLargeLine, IsUnderLimits, line_limit, input_limit}
+use Rattle.input_lines.specs.Taken.{WhereTold, TakesLine, TellsEnd, Advances, ReadsLines, IsLeft, KnowsEnd}
+use Rattle.input_lines.specs.InputFaults.{HasReadCause}
+use Rattle.input_lines.specs.declared.faults.InputFault.{InputFault}
 
 -- one more line
 
@@ -76,11 +78,11 @@ taken_left given left size grown done lines line rest left_of takes bytes is =
     }
 
 -- what a call for the next line says of a line
-pub takes_line : (lines : LinesValue) (bytes : List ℕ) (line : Option (List ℕ)) (taken : ℕ) (ended : Bool) (left : Option (List ℕ)) → lines.line ≡ line_limit → lines.all ≡ input_limit
+pub takes_line : (lines : LinesValue) (bytes : List ℕ) (line : Option (List ℕ)) (taken : ℕ) (ended : Bool) (left : Option (List ℕ)) → IsUnderLimits lines
     → NextLine lines bytes (Ok line) taken ended left → TakesLine lines.taken bytes left taken line
-takes_line lines bytes None taken ended left in_line in_all next = next.none_left ∙ ap (λ (b : List ℕ). Some b) (sym next.empty)
-takes_line lines bytes (Some piece) taken ended left in_line in_all next =
-    (next.some, next.piece_is, next.left_is, next.taken_is, λ large. large.too_large (omega (arith, in_line, next.fits.in_line), omega (arith, in_all, next.fits.in_all)))
+takes_line lines bytes None taken ended left under next = next.none_left ∙ ap (λ (b : List ℕ). Some b) (sym next.empty)
+takes_line lines bytes (Some piece) taken ended left under next =
+    (next.some, next.piece_is, next.left_is, next.taken_is, λ large. large.too_large (omega (arith, under.in_line, next.fits.in_line), omega (arith, under.in_all, next.fits.in_all)))
 
 -- the source has told its end, or not
 pub by_ended : {R : Type 0} (ended : Bool) → (ended ≡ true → R) → (ended ≡ false → R) → R
@@ -106,23 +108,23 @@ none_empty lines bytes (Some piece) taken ended left next none = absurd (cc (non
 
 -- a line ended the input just where it lacked its LF
 pub line_ended : (lines : LinesValue) (bytes : List ℕ) (line : Option (List ℕ)) (taken : ℕ) (ended : Bool) (left : Option (List ℕ)) → NextLine lines bytes (Ok line) taken ended left
-    → IfSomeLine (λ _. IsTrue ended ↔ HasNoEnd bytes) line
+    → TellsEnd ended bytes line
 line_ended lines bytes None taken ended left next = tt
 line_ended lines bytes (Some piece) taken ended left next = next.ended_is
 
-pub line_ended_none : (line : Option (List ℕ)) (P : List ℕ → Type 0) → line ≡ None → IfSomeLine P line
-line_ended_none None P none = tt
-line_ended_none (Some piece) P none = absurd (cc (none))
+pub line_ended_none : (line : Option (List ℕ)) (ended : Bool) (bytes : List ℕ) → line ≡ None → TellsEnd ended bytes line
+line_ended_none None ended bytes none = tt
+line_ended_none (Some piece) ended bytes none = absurd (cc (none))
 
 -- and of one that is too large
-pub breaks_limits : (lines : LinesValue) (bytes : List ℕ) (fault : LineFault) (taken : ℕ) (ended : Bool) (left : Option (List ℕ)) → lines.line ≡ line_limit → lines.all ≡ input_limit
+pub breaks_limits : (lines : LinesValue) (bytes : List ℕ) (fault : LineFault) (taken : ℕ) (ended : Bool) (left : Option (List ℕ)) → IsUnderLimits lines
     → fault ≡ line_faults.TooLarge → NextLine lines bytes (Err fault) taken ended left → BreaksLimits lines.taken bytes
-breaks_limits lines bytes fault taken ended left in_line in_all is next =
+breaks_limits lines bytes fault taken ended left under is next =
     let P : LineFault → Type 0 = λ f. NextLine lines bytes (Err f) taken ended left in
     let large : IsTooLarge lines bytes = subst P is next in
     record {
       some = large.some;
-      too_large = λ fits. large.too_large (record { in_line = omega (arith, in_line, fits.0); in_all = omega (arith, in_all, fits.1) });
+      too_large = λ fits. large.too_large (record { in_line = omega (arith, under.in_line, fits.0); in_all = omega (arith, under.in_all, fits.1) });
     }
 
 -- and of one in which reading failed
@@ -223,6 +225,19 @@ takes_some left rest line size grown piece text is same takes bytes told =
     let Q : List ℕ → Type 0 = λ t. TakesLine size bytes rest grown (Some t) in
     subst Q (sym same) (subst P is (takes bytes told))
 
--- what holds of a line that was there
-pub of_line : (P : List ℕ → Type 0) (taken : Option (List ℕ)) (line : List ℕ) → taken ≡ Some line → IfSomeLine P taken → P line
-of_line P taken line is h = let Q : Option (List ℕ) → Type 0 = λ o. IfSomeLine P o in subst Q is h
+-- what is known of the end, of a line that was there
+pub end_of_line : (ended : Bool) (bytes : List ℕ) (taken : Option (List ℕ)) (line : List ℕ) → taken ≡ Some line → TellsEnd ended bytes taken → IsTrue ended ↔ HasNoEnd bytes
+end_of_line ended bytes taken line is h = let Q : Option (List ℕ) → Type 0 = λ o. TellsEnd ended bytes o in subst Q is h
+
+-- and how far it went
+pub advanced : (old new : ℕ) (taken : Option (List ℕ)) (line : List ℕ) → taken ≡ Some line → Advances old new taken → (old < new) × (new ≤ input_limit)
+advanced old new taken line is h = let Q : Option (List ℕ) → Type 0 = λ o. Advances old new o in subst Q is h
+
+-- ---- faults
+
+pub err_same : {T : Type 0} (fault other : InputFault) → fault ≡ other → ◌≡◌ {A = Result T InputFault} (Err fault) (Err other)
+err_same fault other same = ap (λ (f : InputFault). Err f) same
+
+-- the count of the source's faults is what it was where a line was taken
+pub read_well : {T : Type 0} (before now : ℕ) (value : T) → HasReadCause {T = T} before now (Ok value) → now ≡ before
+read_well before now value cause = cause.quiet (λ same. absurd (cc (same)))

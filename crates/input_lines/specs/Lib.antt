@@ -1,2 +1,4 @@
 pub mod TooLarge
 pub mod Taken
+pub mod InputFaults
+pub mod Untouched

@@ -1,6 +1,6 @@
--- Which line of an input is too large.
-use Rattle.std.specs.Prelude.{◌≢◌, ℕ, zero, suc, ◌+◌, ◌≤◌, List, [], length}
-use Rattle.mld_io.specs.Lines.{first_line, after_line, line_size}
+-- Which line of an input is too large. `next_line` cites `IsUnderLimits` and `BreaksLimits`, and the ends of runs say `IsTooLargeLine`.
+use Rattle.std.specs.Prelude.{◌≡◌, ◌≢◌, ℕ, zero, suc, ◌+◌, ◌≤◌, List, [], length}
+use Rattle.mld_io.specs.Lines.{LinesValue, first_line, after_line, line_size}
 
 -- how many bytes a line has at most, without its LF
 abbrev pub line_limit : ℕ
@@ -9,6 +9,11 @@ line_limit = 1048576
 -- how many bytes the input has at most, each LF counted
 abbrev pub input_limit : ℕ
 input_limit = 16777216
+
+-- a reader of lines keeps both limits
+pub record IsUnderLimits (lines : LinesValue) : Type 0 where
+  pub in_line : lines.line ≡ line_limit
+  pub in_all : lines.all ≡ input_limit
 
 -- the bytes behind so many lines
 abbrev pub left_after : ℕ → List ℕ → List ℕ

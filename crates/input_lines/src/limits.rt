@@ -1,4 +1,4 @@
-//! The limits of an input, each of which stands here once. Definitions cite them by the words of `specs/TooLarge.antt`.
+//! The limits of an input, each of which stands here once. The words of `specs/TooLarge.antt` are the same numbers.
 
 /// How many bytes a line has at most, without its LF.
 pub const LINE_LIMIT: usize = 1_048_576;

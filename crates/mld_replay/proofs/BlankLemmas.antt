@@ -22,7 +22,7 @@ use Rattle.world_commands.proofs.StopLemmas.{told_log}
 use Rattle.net_world.specs.SettledWorlds.{AreBlank}
 use Rattle.net_world.proofs.CaughtLemmas.{now_left}
 use Rattle.mld_replay.specs.BanksLeft.{LeavesLess, LeaveNoMore}
-use Rattle.mld_replay.specs.BankFaults.{AreWell, HaveFailed, all_left, BringsBack}
+use Rattle.mld_replay.specs.BankFaults.{ComeBackWell, HaveFailed, all_left, BringsBack}
 use Rattle.mld_replay.specs.declared.run.RunFault.{RunFault}
 use Rattle.mld_replay.specs.declared.run.RunFault.TheVariants as faults
 use Rattle.mld_replay.proofs.MeterLemmas.{goes_on_same, meters_same, meters_then, quiet_same, quiet_then, failed_later}
@@ -208,7 +208,7 @@ looked_stops log meter old middle number was now fault looked at stops = absurd 
 
 -- and no others had a fault
 looked_well : {B : Type 0} (log : B → Option Log) (meter : B → Meter) (old middle : List B) (number : ℕ) (was now : B) → HasLooked log meter old middle number
-    → slice_get middle number ≡ Some was → MeterGoesOn (meter was) (meter now) → HadNoFault (meter was) (meter now) → AreWell meter old (slice_set middle number now)
+    → slice_get middle number ≡ Some was → MeterGoesOn (meter was) (meter now) → HadNoFault (meter was) (meter now) → ComeBackWell meter old (slice_set middle number now)
 looked_well log meter old middle number was now looked at goes quiet = record {
   meters = looked_meters log meter old middle number was now looked at goes;
   quiet = quiet_then meter old middle (slice_set middle number now) looked.meters looked.quiet (quiet_set meter middle number was now at quiet);

@@ -11,7 +11,7 @@ use Rattle.schedule_model.specs.Runs.{Stage, Running}
 use Rattle.world_commands.specs.WorldBanks.{BankedWorld, StandsOnBanks, AllBanksStandFor, KeepsNoneNow}
 use Rattle.world_summaries.specs.declared.summaries.Summary.{Summary}
 use Rattle.mld_replay.specs.RunSummaries.{TellsOf}
-use Rattle.mld_replay.specs.Replaying.{EndsBy}
+use Rattle.mld_replay.specs.Replaying.{EndsByFault}
 use Rattle.mld_replay.specs.Ran.{tells}
 use Rattle.mld_replay.specs.Stages.{StageStands, banks_of_stage}
 use Rattle.mld_replay.specs.KeptBanks.{AllKeepNone, BanksKeep}
@@ -54,7 +54,7 @@ pub ends_whole : {B : Type 0} (log : B → Option Log) (result : Result (End B) 
     → (IsTrue told → (model : Stage) → StageStands log running model → IfOk result (λ end. TellsOf end.world model))
     → (¬ IsTrue told → IfOk result (λ end. end.world ≡ None)) → IfOk result (λ end. end.banks.items ≡ banks_of_stage running)
     → ((model : Stage) → StageStands log running model → IfOk result (λ end. BanksKeep log end.banks.items model))
-    → ran.fault ≡ fault → ran.banks ≡ end.banks → ran.world ≡ end.world → EndsBy log fault running ran
+    → ran.fault ≡ fault → ran.banks ≡ end.banks → ran.world ≡ end.world → EndsByFault log fault running ran
 ends_whole {B = B} log result end told fault running ran is told_is tells_of silent banks kept fault_is banks_is world_is =
     let R : Result (End B) AllocError = Ok end in
     inl (record {

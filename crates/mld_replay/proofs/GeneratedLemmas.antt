@@ -12,15 +12,16 @@ use Rattle.mld_model.specs.World.{World}
 use Rattle.schedule_model.specs.Promises.{KeepsPromises}
 use Rattle.schedule_model.specs.Runs.{Stage, Running, Outcome, Finished, BadLine, Verdict}
 use Rattle.world_summaries.specs.declared.summaries.Summary.{Summary}
-use Rattle.mld_replay.specs.BankFaults.{AreWell, all_left, ReturnsBanks}
+use Rattle.mld_replay.specs.BankFaults.{ComeBackWell, all_left, ReturnsBanks}
 use Rattle.mld_replay.specs.Counts.{counts_text}
-use Rattle.mld_replay.specs.Filled.{IsFirstFilled, EndsBefore, LogsStay, HeedsFilled}
+use Rattle.mld_replay.specs.Filled.{IsFirstFilled, EndsBefore, LogsStay, RefusesFilledBanks}
 use Rattle.mld_replay.specs.GeneratedRuns.{AreGivenLines, of_source, of_seed, HasCounts, WritesCounts, WritesSomeCounts, as_replay, at_counts, EndsGenerated, IsFaultWithin, EndedWell, IsCountFault, failed, no_memory, ReportsCounts, not_due, reported, refused}
 use Rattle.mld_replay.specs.KeptBanks.{BanksKeep}
-use Rattle.mld_replay.specs.Ran.{tells, IsReplay, Finishes, Saying, short_before, says_of, EndsSo, EndsAs, Agrees, LeavesAlone, AreUntouched, CountsReads, CountsWrites, CountsFaults}
+use Rattle.mld_replay.specs.Ran.{tells, IsReplay, Finishes, Saying, short_before, says_of, ReplayEnds, EndsAs, Agrees, LeavesAlone, CountsReads, CountsWrites, CountsFaults}
 use Rattle.mld_replay.specs.RunSummaries.{TellsOf}
-use Rattle.mld_replay.specs.TooLarge.{left_after, size_of_lines, IsTooLargeLine}
-use Rattle.mld_replay.specs.Words.{IsGenerate, command_limit}
+use Rattle.input_lines.specs.TooLarge.{left_after, size_of_lines, IsTooLargeLine}
+use Rattle.input_lines.specs.Untouched.{AreUntouched}
+use Rattle.mld_replay.specs.ReplayWords.{IsGenerate, command_limit}
 use Rattle.mld_replay.proofs.BlankLemmas.{stay_less}
 use Rattle.mld_replay.proofs.SpelledLines.{never_bad}
 use Rattle.mld_replay.specs.declared.run.Ran.{Ran}
@@ -42,11 +43,11 @@ within_of (Some (faults.TooLarge line)) known counts = tt
 within_of (Some (faults.NotEmpty clone)) known counts = tt
 
 -- what banks that have bytes make of a run, by another word for what is untouched
-pub heeds_as : {B : Type 0} (log : B → Option Log) (old new : List B) (fault : Option RunFault) (U V : Type 0) → (U → V) → HeedsFilled log old new fault U → HeedsFilled log old new fault V
+pub heeds_as : {B : Type 0} (log : B → Option Log) (old new : List B) (fault : Option RunFault) (U V : Type 0) → (U → V) → RefusesFilledBanks log old new fault U → RefusesFilledBanks log old new fault V
 heeds_as log old new fault U V holds heeds = record { names = heeds.names; ends = heeds.ends; untouched = λ clone first. holds (heeds.untouched clone first); logs = heeds.logs }
 
 -- memory ran out before banks were looked at
-pub memory_heeds : {B : Type 0} (log : B → Option Log) (banks : List B) (Untouched : Type 0) → Untouched → HeedsFilled log banks banks (Some faults.NoMemory) Untouched
+pub memory_heeds : {B : Type 0} (log : B → Option Log) (banks : List B) (Untouched : Type 0) → Untouched → RefusesFilledBanks log banks banks (Some faults.NoMemory) Untouched
 memory_heeds {B = B} log banks Untouched untouched = record {
   names = λ clone is. absurd (cc (is));
   ends = λ clone first. tt;
@@ -98,7 +99,7 @@ never_large bytes short before large =
 
 -- the counts were not due
 quiet_end : {B : Type 0} (log : B → Option Log) (old : List B) (ran : Ran B) (given : List (List ℕ)) → NeverStops given → (left before after : Option (List ℕ)) (fault : Option RunFault) → IfSome fault IsFaultWithin → ran.fault ≡ fault
-    → EndsSo (says_of log old ran) fault (text_of given) left None None → ((summary : Summary) → ¬ EndedWell ran summary) → after ≡ before
+    → ReplayEnds (says_of log old ran) fault (text_of given) left None None → ((summary : Summary) → ¬ EndedWell ran summary) → after ≡ before
     → EndsGenerated (says_of log old ran) fault given before after
 quiet_end log old ran given never left before after None within is ends due same =
     let told = told_some ran.world ends.world ends.holds.told in
@@ -149,14 +150,14 @@ module _ {B : Type 0} (ran next : Ran B) (lines : ℕ) (Untouched : Type 0) (bef
   report_as P (refused summary well fault cause is banks none size written) holds otherwise = otherwise summary fault well cause is banks none
 
   pub report_ends : (log : B → Option Log) (old : List B) (given : List (List ℕ)) → NeverStops given → lines ≡ length given → IfSome ran.fault IsFaultWithin
-      → ((left : Option (List ℕ)) × EndsSo (says_of log old ran) ran.fault (text_of given) left None None) → (Untouched → after ≡ before)
+      → ((left : Option (List ℕ)) × ReplayEnds (says_of log old ran) ran.fault (text_of given) left None None) → (Untouched → after ≡ before)
       → ReportsCounts ran next lines Untouched before after count now → EndsGenerated (says_of log old next) next.fault given before after
   report_ends log old given never counted within ends held (not_due due same untouched) =
       subst (λ (r : Ran B). EndsGenerated (says_of log old r) r.fault given before after) (sym same)
       (quiet_end log old ran given never ends.0 before after ran.fault within refl ends.1 due (held untouched))
   report_ends log old given never counted within ends held (reported summary well same written quiet) =
       let done : Finishes (EndsAs log ran) (text_of given) ends.0 None None =
-      subst (λ (f : Option RunFault). EndsSo (says_of log old ran) f (text_of given) ends.0 None None) well.no_fault ends.1 in
+      subst (λ (f : Option RunFault). ReplayEnds (says_of log old ran) f (text_of given) ends.0 None None) well.no_fault ends.1 in
       let whole : WritesCounts (EndsAs log ran) given before after = record {
         counts = counts_text lines summary.clones.items;
         has = has_counts log ran (EndsAs log ran) (λ stage holds. holds) given ends.0 lines summary never.own counted well.told done;
@@ -166,7 +167,7 @@ module _ {B : Type 0} (ran next : Ran B) (lines : ℕ) (Untouched : Type 0) (bef
       (subst (λ (f : Option RunFault). EndsGenerated (says_of log old ran) f given before after) (sym well.no_fault) whole)
   report_ends log old given never counted within ends held (refused summary well fault cause is banks none size written) =
       let done : Finishes (EndsAs log ran) (text_of given) ends.0 None None =
-      subst (λ (f : Option RunFault). EndsSo (says_of log old ran) f (text_of given) ends.0 None None) well.no_fault ends.1 in
+      subst (λ (f : Option RunFault). ReplayEnds (says_of log old ran) f (text_of given) ends.0 None None) well.no_fault ends.1 in
       let kept : (stage : Stage) → EndsAs log ran stage → BanksKeep log next.banks.items stage =
       λ stage holds. subst (λ (bs : List B). BanksKeep log bs stage) (sym (ap (λ b. b.items) banks)) holds.kept in
       let front : WritesSomeCounts (BanksKeep log next.banks.items) given before after = record {
@@ -178,10 +179,10 @@ module _ {B : Type 0} (ran next : Ran B) (lines : ℕ) (Untouched : Type 0) (bef
       subst (λ (f : Option RunFault). EndsGenerated (says_of log old next) f given before after) (sym is)
       (count_fault_is count now fault (λ f. EndsGenerated (says_of log old next) (Some f) given before after) cause front (at_counts front))
 
-  pub report_filled : (log : B → Option Log) (old : List B) → HeedsFilled log old ran.banks.items ran.fault (Unit {0}) → ReportsCounts ran next lines Untouched before after count now
-      → HeedsFilled log old next.banks.items next.fault Untouched
+  pub report_filled : (log : B → Option Log) (old : List B) → RefusesFilledBanks log old ran.banks.items ran.fault (Unit {0}) → ReportsCounts ran next lines Untouched before after count now
+      → RefusesFilledBanks log old next.banks.items next.fault Untouched
   report_filled log old heeds (not_due due same untouched) =
-      subst (λ (r : Ran B). HeedsFilled log old r.banks.items r.fault Untouched) (sym same) (heeds_as log old ran.banks.items ran.fault (Unit {0}) Untouched (λ _. untouched) heeds)
+      subst (λ (r : Ran B). RefusesFilledBanks log old r.banks.items r.fault Untouched) (sym same) (heeds_as log old ran.banks.items ran.fault (Unit {0}) Untouched (λ _. untouched) heeds)
   report_filled log old heeds (reported summary well same written quiet) =
       let none_first : (clone : ℕ) → ¬ IsFirstFilled log old clone = λ clone first. subst (λ (f : Option RunFault). EndsBefore f clone) well.no_fault (heeds.ends clone first) in
       let no_fault : next.fault ≡ None = ap (λ (r : Ran B). r.fault) same ∙ well.no_fault in record {
@@ -206,8 +207,8 @@ module _ {B : Type 0} (ran next : Ran B) (lines : ℕ) (Untouched : Type 0) (bef
   pub report_back : (meter : B → Meter) (old : List B) → ReturnsBanks meter old ran.banks.items ran.fault → ReportsCounts ran next lines Untouched before after count now
       → ReturnsBanks meter old next.banks.items next.fault
   report_back meter old back reports = report_as (λ (r : Ran B). ReturnsBanks meter old r.banks.items r.fault) reports back (λ summary fault well cause is banks none.
-      let all : AreWell meter old ran.banks.items = subst (λ (f : Option RunFault). ReturnsBanks meter old ran.banks.items f) well.no_fault back in
-      let here : AreWell meter old next.banks.items = subst (λ (bs : List B). AreWell meter old bs) (sym (ap (λ b. b.items) banks)) all in
+      let all : ComeBackWell meter old ran.banks.items = subst (λ (f : Option RunFault). ReturnsBanks meter old ran.banks.items f) well.no_fault back in
+      let here : ComeBackWell meter old next.banks.items = subst (λ (bs : List B). ComeBackWell meter old bs) (sym (ap (λ b. b.items) banks)) all in
       subst (λ (f : Option RunFault). ReturnsBanks meter old next.banks.items f) (sym is)
       (count_fault_is count now fault (λ f. ReturnsBanks meter old next.banks.items (Some f)) cause here (all_left here)))
 

@@ -2,7 +2,6 @@ pub mod Counting
 pub mod BlankLemmas
 pub mod EndLemmas
 pub mod GeneratedLemmas
-pub mod LimitLemmas
 pub mod MeterLemmas
 pub mod RunLemmas
 pub mod StageLemmas

@@ -10,8 +10,8 @@ use Rattle.world_commands.specs.declared.faults.WorldFault.TheVariants as worlds
 use Rattle.net_world.proofs.FaultLemmas.{goes_then, fault_later}
 use Rattle.schedule_text.specs.declared.refusals.LineRefusal.{LineRefusal}
 use Rattle.schedule_text.specs.declared.refusals.LineRefusal.TheVariants as refusals
-use Rattle.mld_replay.specs.BankFaults.{AreWell, HaveFailed, HadRealFault, AreLeft, none_left, all_left, BringsBack, ReturnsBanks}
-use Rattle.mld_replay.specs.Stops.{StopsWith, stop_of, stop_of_world, fault_of}
+use Rattle.mld_replay.specs.BankFaults.{ComeBackWell, HaveFailed, HadRealFault, AreLeft, none_left, all_left, BringsBack, ReturnsBanks}
+use Rattle.mld_replay.specs.Stops.{StopBringsBack, stop_of, stop_of_world, fault_at_line}
 use Rattle.mld_replay.specs.declared.stops.LineStop.{LineStop}
 use Rattle.mld_replay.specs.declared.stops.LineStop.TheVariants as stops
 use Rattle.mld_replay.specs.declared.run.RunFault.{RunFault}
@@ -59,14 +59,14 @@ quiet_then meter old middle new goes one two number was now was_at now_at =
     let there = there_later old middle number was goes.count was_at in
     two number there.0 now there.1 now_at ∙ one number was there.0 was_at there.1
 
-pub well_same : {B : Type 0} (meter : B → Meter) (banks : List B) → AreWell meter banks banks
+pub well_same : {B : Type 0} (meter : B → Meter) (banks : List B) → ComeBackWell meter banks banks
 well_same meter banks = record { meters = meters_same meter banks; quiet = quiet_same meter banks }
 
-pub well_then : {B : Type 0} (meter : B → Meter) (old middle new : List B) → AreWell meter old middle → AreWell meter middle new → AreWell meter old new
+pub well_then : {B : Type 0} (meter : B → Meter) (old middle new : List B) → ComeBackWell meter old middle → ComeBackWell meter middle new → ComeBackWell meter old new
 well_then meter old middle new one two = record { meters = meters_then meter old middle new one.meters two.meters; quiet = quiet_then meter old middle new one.meters one.quiet two.quiet }
 
 -- a fault since a later time is one since an earlier one
-pub failed_later : {B : Type 0} (meter : B → Meter) (clone : ℕ) (old middle new : List B) → AreWell meter old middle → HasFailed meter clone middle new → HasFailed meter clone old new
+pub failed_later : {B : Type 0} (meter : B → Meter) (clone : ℕ) (old middle new : List B) → ComeBackWell meter old middle → HasFailed meter clone middle new → HasFailed meter clone old new
 failed_later meter clone old middle new well fails =
     let there = there_later middle old clone fails.was (sym well.meters.count) fails.before in
     record {
@@ -80,27 +80,27 @@ failed_later meter clone old middle new well fails =
           fails.others other between.0 two differs between.1 two_at ∙ well.quiet other one between.0 one_at between.1;
     }
 
-pub have_failed_later : {B : Type 0} (meter : B → Meter) (clone : ℕ) (old middle new : List B) → AreWell meter old middle → HaveFailed meter clone middle new → HaveFailed meter clone old new
+pub have_failed_later : {B : Type 0} (meter : B → Meter) (clone : ℕ) (old middle new : List B) → ComeBackWell meter old middle → HaveFailed meter clone middle new → HaveFailed meter clone old new
 have_failed_later meter clone old middle new well fails =
     record { meters = meters_then meter old middle new well.meters fails.meters; failed = failed_later meter clone old middle new well fails.failed }
 
-left_later : {B : Type 0} (meter : B → Meter) (old middle new : List B) → AreWell meter old middle → AreLeft meter middle new → AreLeft meter old new
+left_later : {B : Type 0} (meter : B → Meter) (old middle new : List B) → ComeBackWell meter old middle → AreLeft meter middle new → AreLeft meter old new
 left_later meter old middle new well (none_left none) = none_left none
 left_later meter old middle new well (all_left then) = all_left (well_then meter old middle new well then)
 
 -- so it is of what a line and a run bring back
-pub stop_later : {B : Type 0} (meter : B → Meter) (old middle new : List B) (stop : LineStop) → AreWell meter old middle → StopsWith meter middle new stop → StopsWith meter old new stop
+pub stop_later : {B : Type 0} (meter : B → Meter) (old middle new : List B) (stop : LineStop) → ComeBackWell meter old middle → StopBringsBack meter middle new stop → StopBringsBack meter old new stop
 stop_later meter old middle new (stops.Device clone) well back = have_failed_later meter clone old middle new well back
 stop_later meter old middle new stops.NoMemory well back = left_later meter old middle new well back
 stop_later meter old middle new stop well back = well_then meter old middle new well back
 
-pub back_later : {B : Type 0} (meter : B → Meter) (old middle new : List B) (fault : Option RunFault) → AreWell meter old middle → BringsBack meter middle new fault → BringsBack meter old new fault
+pub back_later : {B : Type 0} (meter : B → Meter) (old middle new : List B) (fault : Option RunFault) → ComeBackWell meter old middle → BringsBack meter middle new fault → BringsBack meter old new fault
 back_later meter old middle new (Some (faults.Device clone)) well back = have_failed_later meter clone old middle new well back
 back_later meter old middle new (Some faults.NoMemory) well back = left_later meter old middle new well back
 back_later meter old middle new fault well back = well_then meter old middle new well back
 
 -- no call had a fault, and none is told
-pub back_well : {B : Type 0} (meter : B → Meter) (old new : List B) (fault : RunFault) → ((clone : ℕ) → fault ≢ faults.Device clone) → AreWell meter old new → BringsBack meter old new (Some fault)
+pub back_well : {B : Type 0} (meter : B → Meter) (old new : List B) (fault : RunFault) → ((clone : ℕ) → fault ≢ faults.Device clone) → ComeBackWell meter old new → BringsBack meter old new (Some fault)
 back_well meter old new (faults.Device clone) differs well = absurd (differs clone refl)
 back_well meter old new faults.NoMemory differs well = all_left well
 back_well meter old new fault differs well = well
@@ -110,22 +110,22 @@ back_same meter banks fault differs = back_well meter banks banks fault differs 
 
 -- what a world refuses, a line does
 pub world_stops : {B : Type 0} (T : Type 0) (meter : B → Meter) (number : ℕ) (old new : List B) (fault : WorldFault) → MetersGoOn meter old new → HasFaultsFor {T = T} number meter old new (Err fault)
-    → StopsWith meter old new (stop_of_world fault)
+    → StopBringsBack meter old new (stop_of_world fault)
 world_stops {B = B} T meter number old new (worlds.Device clone) goes fails = record { meters = goes; failed = subst (λ (k : ℕ). HasFailed meter k old new) (sym fails.0) fails.1 }
 world_stops T meter number old new worlds.NoMemory goes quiet = all_left (record { meters = goes; quiet = quiet })
 
 -- and what founding refuses
-pub founding_stops : {B : Type 0} (meter : B → Meter) (blanks back : List B) (fault : WorldFault) → RefusesFounding meter blanks fault back → StopsWith meter blanks back (stop_of_world fault)
+pub founding_stops : {B : Type 0} (meter : B → Meter) (blanks back : List B) (fault : WorldFault) → RefusesFounding meter blanks fault back → StopBringsBack meter blanks back (stop_of_world fault)
 founding_stops meter blanks back worlds.NoMemory refuses = none_left refuses
 founding_stops meter blanks back (worlds.Device clone) refuses = record { meters = refuses.0; failed = refuses.1 }
 
 -- a line that was not read called nothing
-pub unread_stops : {B : Type 0} (meter : B → Meter) (banks : List B) (refusal : LineRefusal) → StopsWith meter banks banks (stop_of refusal)
+pub unread_stops : {B : Type 0} (meter : B → Meter) (banks : List B) (refusal : LineRefusal) → StopBringsBack meter banks banks (stop_of refusal)
 unread_stops meter banks refusals.BadLine = well_same meter banks
 unread_stops meter banks refusals.NoMemory = all_left (well_same meter banks)
 
 -- and what ends a line, ends the run
-pub run_of_stop : {B : Type 0} (meter : B → Meter) (old new : List B) (stop : LineStop) (number : ℕ) → StopsWith meter old new stop → BringsBack meter old new (Some (fault_of stop number))
+pub run_of_stop : {B : Type 0} (meter : B → Meter) (old new : List B) (stop : LineStop) (number : ℕ) → StopBringsBack meter old new stop → BringsBack meter old new (Some (fault_at_line stop number))
 run_of_stop meter old new stops.BadLine number back = back
 run_of_stop meter old new (stops.Device clone) number back = back
 run_of_stop meter old new stops.NoMemory number back = back

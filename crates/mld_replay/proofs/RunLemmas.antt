@@ -2,7 +2,9 @@
 use Rattle.std.proofs.Common.{◌≡◌, ◌≢◌, ℕ, ◌+◌, ◌≤◌, ◌<◌, List, [], ◌∷◌, ◌++◌, ◌↔◌, refl, sym, ◌∙◌, ap, arith, subst, length, Option, None, Some, append_assoc, append-nil, length-append, get_or, map, take, drop, Bool, Err, Result, Ok, inl, inr}
 use Rattle.std.specs.Prelude.{IsTrue, nat_eq, OnOk, IfErr}
 use Rattle.std.specs.Result.{result_err}
-use Rattle.mld_io.specs.Faults.{Rose}
+use Rattle.mld_io.specs.Faults.{Rose, HasWriteCause}
+use Rattle.mld_io.specs.declared.faults.WriteFault.{WriteFault}
+use Rattle.mld_io.specs.declared.faults.WriteFault.TheVariants as writes
 use Rattle.std.proofs.lemmas.List.{take-append-drop}
 use Rattle.std.specs.Cmp.Lexicographic.{pointwise}
 use Rattle.tree_clock.specs.DotLaws.{path_eq-Decides}
@@ -11,10 +13,10 @@ use Rattle.mld_io.specs.Disk.{Log}
 use Rattle.mld_io.specs.Lines.{lines_of, after_line, IsCutShort}
 use Rattle.mld_io.proofs.LinesLaws.{first_of_lines_lem}
 use Rattle.schedule_model.specs.Runs.{Stage, Waiting, Acts, Runs, bad_line, no_domain, IsBad, RunsBefore, Verdict}
-use Rattle.mld_replay.specs.Ran.{Saying, Finishes, StopsAtBad, StopsAtLarge, BreaksOff, ReadsLines, WritesFront, WritesWhole, fails_amid, short_amid, short_writing, short_of_banks, EndsSo, CountsReads, CountsWrites}
+use Rattle.mld_replay.specs.Ran.{Saying, Finishes, StopsAtBad, StopsAtLarge, BreaksOff, WritesFront, WritesWhole, fails_amid, short_amid, short_writing, short_of_banks, ReplayEnds, CountsReads, CountsWrites}
 use Rattle.mld_replay.specs.BanksLeft.{AreLeftAmid}
-use Rattle.mld_replay.specs.Replaying.{says_by, TakesLine, IfSomeLine, IsReadingFault, IsWritingFault, IsReplayFault, IsLineFault, IsEndFault, HasReadCause, HasWriteFaultCause}
-use Rattle.mld_replay.specs.Stages.{StageStands, IsStandingStage, ActsWell, EndsWell, steps_of, banks_of_stage}
+use Rattle.mld_replay.specs.Replaying.{says_by, run_fault_of_input, run_fault_of_write, IsReplayFault, IsLineFault}
+use Rattle.mld_replay.specs.Stages.{StageStands, IsStandingStage, ActsWell, EndsWell, steps_of_stage, banks_of_stage}
 use Rattle.mld_replay.specs.declared.stages.Stage.{Stage as RunningStage}
 use Rattle.mld_replay.specs.declared.stages.Stage.TheVariants as stages
 use Rattle.schedule_model.proofs.PromisesLaws.{promises_kept}
@@ -22,10 +24,14 @@ use Rattle.mld_replay.specs.declared.run.RunFault.{RunFault}
 use Rattle.mld_replay.specs.declared.run.RunFault.TheVariants as faults
 use Rattle.mld_replay.specs.declared.stops.LineStop.{LineStop}
 use Rattle.mld_replay.specs.declared.stops.LineStop.TheVariants as stops
-use Rattle.mld_replay.specs.Stops.{fault_of, EndsAmid}
-use Rattle.mld_replay.specs.UnderWay.{IsLeft, IsUnderWay}
-use Rattle.mld_replay.specs.TooLarge.{BreaksLimits, IsTooLargeLine}
-use Rattle.mld_replay.proofs.LimitLemmas.{left_first, taken_left, taken_fit, all_fit, large_next}
+use Rattle.mld_replay.specs.Stops.{fault_at_line, FaultLeaves}
+use Rattle.mld_replay.specs.ReplayUnderWay.{IsReplayUnderWay}
+use Rattle.input_lines.specs.TooLarge.{BreaksLimits, IsTooLargeLine}
+use Rattle.input_lines.specs.Taken.{TakesLine, IsLeft, ReadsLines}
+use Rattle.input_lines.specs.InputFaults.{HasReadCause}
+use Rattle.input_lines.specs.declared.faults.InputFault.{InputFault}
+use Rattle.input_lines.specs.declared.faults.InputFault.TheVariants as inputs
+use Rattle.input_lines.proofs.TakenLemmas.{left_first, taken_left, taken_fit, all_fit, large_next, takes_some}
 
 -- a run goes on by one line
 runs_more : (stage middle next : Stage) (lines : List (List ℕ)) (text line more : List ℕ) → Runs stage lines text middle → Acts middle line more next
@@ -48,7 +54,7 @@ appends_nothing None = tt
 appends_nothing (Some xs) = sym (append-nil xs)
 
 -- no step is made while no domain line has come
-waiting_steps : {B : Type 0} (log : B → Option Log) (running : RunningStage B) → StageStands log running Waiting → steps_of running ≡ 0
+waiting_steps : {B : Type 0} (log : B → Option Log) (running : RunningStage B) → StageStands log running Waiting → steps_of_stage running ≡ 0
 waiting_steps log (stages.Waiting blanks) stands = refl
 waiting_steps log (stages.SetUp setup blanks) stands = absurd stands
 waiting_steps log (stages.Running world) stands = absurd stands
@@ -56,7 +62,7 @@ waiting_steps log (stages.Over banks) stands = absurd stands
 
 -- nothing is done yet
 pub under_way_first : {B : Type 0} (log : B → Option Log) (given before : Option (List ℕ)) (size : ℕ) (running : RunningStage B) → size ≡ 0 → StageStands log running Waiting
-    → IsUnderWay log given given before before size running 0
+    → IsReplayUnderWay log given given before before size running 0
 under_way_first log given before size running nothing stands = record {
   lines = [];
   text = [];
@@ -68,14 +74,6 @@ under_way_first log given before size running nothing stands = record {
   left_of = left_first given size nothing;
   written = appends_nothing before;
 }
-
--- a line was taken, said of an equal line
-pub takes_some : (left rest line : Option (List ℕ)) (size grown : ℕ) (piece text : List ℕ) → line ≡ Some piece → text ≡ piece
-    → ((bytes : List ℕ) → left ≡ Some bytes → TakesLine size bytes rest grown line) → (bytes : List ℕ) → left ≡ Some bytes → TakesLine size bytes rest grown (Some text)
-takes_some left rest line size grown piece text is same takes bytes told =
-    let P : Option (List ℕ) → Type 0 = λ o. TakesLine size bytes rest grown o in
-    let Q : List ℕ → Type 0 = λ t. TakesLine size bytes rest grown (Some t) in
-    subst Q (sym same) (subst P is (takes bytes told))
 
 -- the one word of a list is the text, or the list is another
 pub one_word : {X : Type 0} (f : X → List ℕ) (words : List X) (word : X) (spelled text : List ℕ) (same : Bool) → 1 ≤ length words → length words < 2
@@ -91,10 +89,10 @@ one_word f (first ∷ second ∷ words) word spelled text same some few is spell
 
 -- one more line is done
 pub under_way_more : {B : Type 0} (log : B → Option Log) (given left rest before now after : Option (List ℕ)) (size grown : ℕ) (running next : RunningStage B) (done : ℕ) (line text : List ℕ)
-    → IsUnderWay log given left before now size running done
+    → IsReplayUnderWay log given left before now size running done
     → ((bytes : List ℕ) → left ≡ Some bytes → TakesLine size bytes rest grown (Some line))
-    → ((stage : Stage) → StageStands log running stage → ActsWell log stage line text next) → steps_of next ≤ steps_of running + 1
-    → Appends now after text → IsUnderWay log given rest before after grown next (done + 1)
+    → ((stage : Stage) → StageStands log running stage → ActsWell log stage line text next) → steps_of_stage next ≤ steps_of_stage running + 1
+    → Appends now after text → IsReplayUnderWay log given rest before after grown next (done + 1)
 under_way_more log given left rest before now after size grown running next done line text way takes acts few writes =
     let act : ActsWell log way.stage line text next = acts way.stage way.stands in
     record {
@@ -115,7 +113,7 @@ pub whole_first : (P : Stage → List (List ℕ) → Type 0) (before : Option (L
 whole_first P before bytes holds = record { lines = []; rest = lines_of bytes; whole = refl; text = []; stage = Waiting; runs = (refl, refl); written = appends_nothing before; holds = holds }
 
 pub whole_of_way : {B : Type 0} (log : B → Option Log) (P : Stage → List (List ℕ) → Type 0) (given left before now : Option (List ℕ)) (size : ℕ) (running : RunningStage B) (done : ℕ)
-    → (way : IsUnderWay log given left before now size running done) → (bytes : List ℕ) → given ≡ Some bytes
+    → (way : IsReplayUnderWay log given left before now size running done) → (bytes : List ℕ) → given ≡ Some bytes
     → ((rest : List ℕ) → left ≡ Some rest → P way.stage (lines_of rest)) → WritesWhole P bytes before now
 whole_of_way log P given left before now size running done way bytes is holds =
     let at : IsLeft bytes left size done way.lines = way.left_of bytes is in
@@ -123,7 +121,7 @@ whole_of_way log P given left before now size running done way bytes is holds =
 
 -- the lines still to come, where the next line was taken
 pub line_there : {B : Type 0} (log : B → Option Log) (given left rest before now : Option (List ℕ)) (size grown : ℕ) (running : RunningStage B) (done : ℕ) (line : List ℕ)
-    → (way : IsUnderWay log given left before now size running done) → ((bytes : List ℕ) → left ≡ Some bytes → TakesLine size bytes rest grown (Some line))
+    → (way : IsReplayUnderWay log given left before now size running done) → ((bytes : List ℕ) → left ≡ Some bytes → TakesLine size bytes rest grown (Some line))
     → (bytes : List ℕ) → given ≡ Some bytes → (others : List (List ℕ)) × (lines_of bytes ≡ way.lines ++ line ∷ others)
 line_there log given left rest before now size grown running done line way takes bytes is =
     let at : IsLeft bytes left size done way.lines = way.left_of bytes is in
@@ -133,7 +131,7 @@ line_there log given left rest before now size grown running done line way takes
 
 -- and where there was none
 pub none_there : {B : Type 0} (log : B → Option Log) (given left rest before now : Option (List ℕ)) (size : ℕ) (running : RunningStage B) (done : ℕ)
-    → (way : IsUnderWay log given left before now size running done)
+    → (way : IsReplayUnderWay log given left before now size running done)
     → ((bytes : List ℕ) → given ≡ Some bytes → (behind : List ℕ) → left ≡ Some behind → (behind ≡ []) × (rest ≡ Some []))
     → (bytes : List ℕ) → given ≡ Some bytes → lines_of bytes ≡ way.lines ++ []
 none_there log given left rest before now size running done way none bytes is =
@@ -141,7 +139,7 @@ none_there log given left rest before now size running done way none bytes is =
     at.whole ∙ ap (λ b. way.lines ++ lines_of b) (none bytes is at.rest at.is).0
 
 pub whole_with : {B : Type 0} (log : B → Option Log) (P : Stage → List (List ℕ) → Type 0) (given left before now : Option (List ℕ)) (size : ℕ) (running : RunningStage B) (done : ℕ)
-    → (way : IsUnderWay log given left before now size running done) → (bytes : List ℕ) (rest : List (List ℕ)) → lines_of bytes ≡ way.lines ++ rest → P way.stage rest → WritesWhole P bytes before now
+    → (way : IsReplayUnderWay log given left before now size running done) → (bytes : List ℕ) (rest : List (List ℕ)) → lines_of bytes ≡ way.lines ++ rest → P way.stage rest → WritesWhole P bytes before now
 whole_with log P given left before now size running done way bytes rest whole holds =
     record { lines = way.lines; rest = rest; whole = whole; text = way.text; stage = way.stage; runs = way.runs; written = way.written; holds = holds }
 
@@ -166,7 +164,7 @@ whole_any P bytes before now whole = whole_as P (λ stage rest. Unit {0}) bytes 
 -- ---- the reply to a line was cut short
 
 pub front_of_reply : {B : Type 0} (log : B → Option Log) (given left rest before now after : Option (List ℕ)) (size grown : ℕ) (running next : RunningStage B) (done : ℕ) (line text : List ℕ)
-    → IsUnderWay log given left before now size running done
+    → IsReplayUnderWay log given left before now size running done
     → ((bytes : List ℕ) → left ≡ Some bytes → TakesLine size bytes rest grown (Some line))
     → ((stage : Stage) → StageStands log running stage → ActsWell log stage line text next)
     → (n : ℕ) → Appends now after (take n text) → (bytes : List ℕ) → given ≡ Some bytes → WritesFront (StageStands log next) bytes before after
@@ -212,11 +210,11 @@ front_as P Q bytes before now holds front = record {
 }
 
 -- the state stands for some stage
-pub standing_from : {B : Type 0} (log : B → Option Log) (given left before now : Option (List ℕ)) (size : ℕ) (running : RunningStage B) (done : ℕ) → IsUnderWay log given left before now size running done → IsStandingStage log running
+pub standing_from : {B : Type 0} (log : B → Option Log) (given left before now : Option (List ℕ)) (size : ℕ) (running : RunningStage B) (done : ℕ) → IsReplayUnderWay log given left before now size running done → IsStandingStage log running
 standing_from log given left before now size running done way = record { stage = way.stage; stands = way.stands }
 
 -- the source is at its end, and the clones are founded
-pub finishes : {B : Type 0} (log : B → Option Log) (given left rest before now : Option (List ℕ)) (size : ℕ) (running next : RunningStage B) (done : ℕ) → IsUnderWay log given left before now size running done
+pub finishes : {B : Type 0} (log : B → Option Log) (given left rest before now : Option (List ℕ)) (size : ℕ) (running next : RunningStage B) (done : ℕ) → IsReplayUnderWay log given left before now size running done
     → ((bytes : List ℕ) → given ≡ Some bytes → (behind : List ℕ) → left ≡ Some behind → (behind ≡ []) × (rest ≡ Some []))
     → ((stage : Stage) → StageStands log running stage → EndsWell log stage next) → (bytes : List ℕ) → given ≡ Some bytes → Finishes (StageStands log next) bytes rest before now
 unfolding Verdict
@@ -239,7 +237,7 @@ finishes log given left rest before now size running next done way none ends byt
     }
 
 -- the source is at its end, and no line was a domain line
-pub ends_waiting : {B : Type 0} (log : B → Option Log) (given left rest before now : Option (List ℕ)) (size : ℕ) (running : RunningStage B) (done : ℕ) → IsUnderWay log given left before now size running done
+pub ends_waiting : {B : Type 0} (log : B → Option Log) (given left rest before now : Option (List ℕ)) (size : ℕ) (running : RunningStage B) (done : ℕ) → IsReplayUnderWay log given left before now size running done
     → ((bytes : List ℕ) → given ≡ Some bytes → (behind : List ℕ) → left ≡ Some behind → (behind ≡ []) × (rest ≡ Some []))
     → ((stage : Stage) → StageStands log running stage → stage ≡ Waiting) → (bytes : List ℕ) → given ≡ Some bytes → StopsAtBad (StageStands log running) bytes (done + 1) before now
 unfolding Verdict
@@ -259,7 +257,7 @@ ends_waiting log given left rest before now size running done way none waits byt
     }
 
 -- the lines before a line that was taken
-before_line : {B : Type 0} (log : B → Option Log) (given left rest before now : Option (List ℕ)) (size grown : ℕ) (running : RunningStage B) (done : ℕ) (line : List ℕ) → (way : IsUnderWay log given left before now size running done)
+before_line : {B : Type 0} (log : B → Option Log) (given left rest before now : Option (List ℕ)) (size grown : ℕ) (running : RunningStage B) (done : ℕ) (line : List ℕ) → (way : IsReplayUnderWay log given left before now size running done)
     → ((bytes : List ℕ) → left ≡ Some bytes → TakesLine size bytes rest grown (Some line)) → (bytes : List ℕ) → given ≡ Some bytes
     → (b : RunsBefore (lines_of bytes) (done + 1) way.text way.stage) × ((others : List (List ℕ)) × (b.rest ≡ line ∷ others))
     × ((before : ℕ) → before < done + 1 → ¬ IsTooLargeLine bytes before)
@@ -272,7 +270,7 @@ before_line log given left rest before now size grown running done line way take
     )
 
 -- a line that was taken is bad
-pub stops_bad : {B : Type 0} (log : B → Option Log) (given left rest before now : Option (List ℕ)) (size grown : ℕ) (running : RunningStage B) (done : ℕ) (line : List ℕ) → IsUnderWay log given left before now size running done
+pub stops_bad : {B : Type 0} (log : B → Option Log) (given left rest before now : Option (List ℕ)) (size grown : ℕ) (running : RunningStage B) (done : ℕ) (line : List ℕ) → IsReplayUnderWay log given left before now size running done
     → ((bytes : List ℕ) → left ≡ Some bytes → TakesLine size bytes rest grown (Some line)) → ((stage : Stage) → StageStands log running stage → IsBad stage line)
     → (bytes : List ℕ) → given ≡ Some bytes → StopsAtBad (StageStands log running) bytes (done + 1) before now
 unfolding Verdict
@@ -281,7 +279,7 @@ stops_bad log given left rest before now size grown running done line way takes 
     record { text = way.text; stage = way.stage; verdict = record { before = b.0; bad = bad_line line b.1 (bad way.stage way.stands) }; fits = b.2; written = way.written; holds = way.stands }
 
 -- the line of the number is too large
-pub stops_large : {B : Type 0} (log : B → Option Log) (given left before now : Option (List ℕ)) (size : ℕ) (running : RunningStage B) (done number : ℕ) → IsUnderWay log given left before now size running done → number ≡ done + 1
+pub stops_large : {B : Type 0} (log : B → Option Log) (given left before now : Option (List ℕ)) (size : ℕ) (running : RunningStage B) (done number : ℕ) → IsReplayUnderWay log given left before now size running done → number ≡ done + 1
     → ((bytes : List ℕ) → left ≡ Some bytes → BreaksLimits size bytes) → (bytes : List ℕ) → given ≡ Some bytes → StopsAtLarge (StageStands log running) bytes number before now
 stops_large log given left before now size running done number way counts breaks bytes is =
     let at : IsLeft bytes left size done way.lines = way.left_of bytes is in
@@ -299,7 +297,7 @@ stops_large log given left before now size running done number way counts breaks
     }
 
 -- reading failed in the line behind those done
-pub breaks_off : {B : Type 0} (log : B → Option Log) (given left rest before now : Option (List ℕ)) (size : ℕ) (running : RunningStage B) (done : ℕ) → IsUnderWay log given left before now size running done
+pub breaks_off : {B : Type 0} (log : B → Option Log) (given left rest before now : Option (List ℕ)) (size : ℕ) (running : RunningStage B) (done : ℕ) → IsReplayUnderWay log given left before now size running done
     → ((bytes : List ℕ) → left ≡ Some bytes → IsCutShort bytes rest) → ((bytes : List ℕ) → given ≡ Some bytes → ReadsLines bytes rest done)
     → (bytes : List ℕ) → given ≡ Some bytes → BreaksOff (StageStands log running) bytes rest before now
 breaks_off log given left rest before now size running done way cut reads bytes is =
@@ -320,19 +318,18 @@ breaks_off log given left rest before now size running done way cut reads bytes 
 -- ---- the run ends so
 
 -- where a line could not be read
-pub ends_reading : (says : Saying) (fault : RunFault) (bytes : List ℕ) (left before after : Option (List ℕ)) → IsReadingFault fault
-    → (fault ≡ faults.ReadFault → BreaksOff says.told bytes left before after) → ((at : ℕ) → fault ≡ faults.TooLarge at → StopsAtLarge says.told bytes at before after)
-    → WritesWhole says.left bytes before after → EndsSo says (Some fault) bytes left before after
-ends_reading says faults.ReadFault bytes left before after reading breaks large whole = breaks refl
-ends_reading says (faults.TooLarge at) bytes left before after reading breaks large whole = large at refl
-ends_reading says faults.NoMemory bytes left before after reading breaks large whole = short_amid whole
-ends_reading says fault bytes left before after reading breaks large whole = absurd reading
+pub ends_reading : (says : Saying) (fault : InputFault) (bytes : List ℕ) (left before after : Option (List ℕ))
+    → (fault ≡ inputs.ReadFault → BreaksOff says.told bytes left before after) → ((at : ℕ) → fault ≡ inputs.TooLarge at → StopsAtLarge says.told bytes at before after)
+    → WritesWhole says.left bytes before after → ReplayEnds says (Some (run_fault_of_input fault)) bytes left before after
+ends_reading says inputs.ReadFault bytes left before after breaks large whole = breaks refl
+ends_reading says (inputs.TooLarge at) bytes left before after breaks large whole = large at refl
+ends_reading says inputs.NoMemory bytes left before after breaks large whole = short_amid whole
 
 -- where the next line was not done, or the lines not ended: these lines were to come, and this is left of the banks
 pub ends_stopped : {B : Type 0} (log : B → Option Log) (given left before now : Option (List ℕ)) (size : ℕ) (running next : RunningStage B) (done : ℕ)
-    → (way : IsUnderWay log given left before now size running done) → (bytes : List ℕ) (lines : List (List ℕ)) (rest : Option (List ℕ)) (fault : RunFault) → lines_of bytes ≡ way.lines ++ lines
-    → IsLineFault fault → ((at : ℕ) → fault ≡ faults.BadLine at → StopsAtBad (StageStands log next) bytes at before now) → EndsAmid log running (banks_of_stage next) lines fault
-    → EndsSo (says_by log next) (Some fault) bytes rest before now
+    → (way : IsReplayUnderWay log given left before now size running done) → (bytes : List ℕ) (lines : List (List ℕ)) (rest : Option (List ℕ)) (fault : RunFault) → lines_of bytes ≡ way.lines ++ lines
+    → IsLineFault fault → ((at : ℕ) → fault ≡ faults.BadLine at → StopsAtBad (StageStands log next) bytes at before now) → FaultLeaves log running (banks_of_stage next) lines fault
+    → ReplayEnds (says_by log next) (Some fault) bytes rest before now
 ends_stopped log given left before now size running next done way bytes lines rest (faults.BadLine at) whole doing bad amid = bad at refl
 ends_stopped log given left before now size running next done way bytes lines rest (faults.Device clone) whole doing bad amid =
     fails_amid (whole_with log (AreLeftAmid log (banks_of_stage next)) given left before now size running done way bytes lines whole (amid way.stage way.stands))
@@ -343,35 +340,27 @@ ends_stopped log given left before now size running next done way bytes lines re
 ends_stopped log given left before now size running next done way bytes lines rest fault whole doing bad amid = absurd doing
 
 -- where its reply could not be written
-pub ends_writing : (says : Saying) (fault : RunFault) (bytes : List ℕ) (left before after : Option (List ℕ)) → IsWritingFault fault → WritesFront says.kept bytes before after
-    → EndsSo says (Some fault) bytes left before after
-ends_writing says faults.WriteFault bytes left before after writing front = front
-ends_writing says faults.NoMemory bytes left before after writing front = short_writing front
-ends_writing says fault bytes left before after writing front = absurd writing
+pub ends_writing : (says : Saying) (fault : WriteFault) (bytes : List ℕ) (left before after : Option (List ℕ)) → WritesFront says.kept bytes before after
+    → ReplayEnds says (Some (run_fault_of_write fault)) bytes left before after
+ends_writing says writes.Failed bytes left before after front = front
+ends_writing says writes.NoMemory bytes left before after front = short_writing front
 
 -- where there were no more lines
 pub ends_lines : {B : Type 0} (log : B → Option Log) (given left before now : Option (List ℕ)) (size : ℕ) (running next : RunningStage B) (done : ℕ)
-    → (way : IsUnderWay log given left before now size running done) → (bytes : List ℕ) (rest : Option (List ℕ)) (result : Result (Unit {0}) RunFault) → lines_of bytes ≡ way.lines ++ []
-    → IfErr result IsEndFault → OnOk result (Finishes (StageStands log next) bytes rest before now)
-    → ((at : ℕ) → result ≡ Err (faults.BadLine at) → StopsAtBad (StageStands log next) bytes at before now) → IfErr result (EndsAmid log running (banks_of_stage next) [])
-    → EndsSo (says_by log next) (result_err result) bytes rest before now
+    → (way : IsReplayUnderWay log given left before now size running done) → (bytes : List ℕ) (rest : Option (List ℕ)) (result : Result (Unit {0}) RunFault) → lines_of bytes ≡ way.lines ++ []
+    → IfErr result IsLineFault → OnOk result (Finishes (StageStands log next) bytes rest before now)
+    → ((at : ℕ) → result ≡ Err (faults.BadLine at) → StopsAtBad (StageStands log next) bytes at before now) → IfErr result (FaultLeaves log running (banks_of_stage next) [])
+    → ReplayEnds (says_by log next) (result_err result) bytes rest before now
 ends_lines log given left before now size running next done way bytes rest (Ok value) whole ending finished bad amid = finished
 ends_lines log given left before now size running next done way bytes rest (Err fault) whole ending finished bad amid =
-    ends_stopped log given left before now size running next done way bytes [] rest fault whole (line_of_end fault ending) (λ at is. bad at (ap (λ (f : RunFault). Err f) is)) amid
-  where
-    line_of_end : (f : RunFault) → IsEndFault f → IsLineFault f
-    line_of_end (faults.Device clone) ending = tt
-    line_of_end (faults.BadLine line) ending = tt
-    line_of_end faults.NoMemory ending = tt
-    line_of_end f ending = absurd ending
+    ends_stopped log given left before now size running next done way bytes [] rest fault whole ending (λ at is. bad at (ap (λ (f : RunFault). Err f) is)) amid
 
 -- ---- the faults of its parts are faults of the replay
 
-pub reading_replays : (fault : RunFault) → IsReadingFault fault → IsReplayFault fault
-reading_replays faults.ReadFault reading = tt
-reading_replays faults.NoMemory reading = tt
-reading_replays (faults.TooLarge line) reading = tt
-reading_replays fault reading = absurd reading
+pub reading_replays : (fault : InputFault) → IsReplayFault (run_fault_of_input fault)
+reading_replays inputs.ReadFault = tt
+reading_replays (inputs.TooLarge line) = tt
+reading_replays inputs.NoMemory = tt
 
 pub line_replays : (fault : RunFault) → IsLineFault fault → IsReplayFault fault
 line_replays (faults.Device clone) doing = tt
@@ -379,28 +368,29 @@ line_replays (faults.BadLine line) doing = tt
 line_replays faults.NoMemory doing = tt
 line_replays fault doing = absurd doing
 
-pub writing_replays : (fault : RunFault) → IsWritingFault fault → IsReplayFault fault
-writing_replays faults.WriteFault writing = tt
-writing_replays faults.NoMemory writing = tt
-writing_replays fault writing = absurd writing
+pub writing_replays : (fault : WriteFault) → IsReplayFault (run_fault_of_write fault)
+writing_replays writes.Failed = tt
+writing_replays writes.NoMemory = tt
 
-pub end_replays : (result : Result (Unit {0}) RunFault) → IfErr result IsEndFault → IfErr result IsReplayFault
+pub end_replays : (result : Result (Unit {0}) RunFault) → IfErr result IsLineFault → IfErr result IsReplayFault
 end_replays (Ok done) ending = tt
-end_replays (Err (faults.Device clone)) ending = tt
-end_replays (Err (faults.BadLine line)) ending = tt
-end_replays (Err faults.NoMemory) ending = tt
-end_replays (Err fault) ending = absurd ending
+end_replays (Err fault) ending = line_replays fault ending
 
 -- no part tells of another's failure
 
-pub not_of_reading : (fault : RunFault) → IsReadingFault fault → (clone : ℕ) → fault ≢ faults.Device clone
-not_of_reading fault reading clone is = subst IsReadingFault is reading
+pub not_of_reading : (fault : InputFault) (clone : ℕ) → run_fault_of_input fault ≢ faults.Device clone
+not_of_reading inputs.ReadFault clone is = absurd (cc (is))
+not_of_reading (inputs.TooLarge line) clone is = absurd (cc (is))
+not_of_reading inputs.NoMemory clone is = absurd (cc (is))
 
-pub not_of_writing : (fault : RunFault) → IsWritingFault fault → (clone : ℕ) → fault ≢ faults.Device clone
-not_of_writing fault writing clone is = subst IsWritingFault is writing
+pub not_of_writing : (fault : WriteFault) (clone : ℕ) → run_fault_of_write fault ≢ faults.Device clone
+not_of_writing writes.Failed clone is = absurd (cc (is))
+not_of_writing writes.NoMemory clone is = absurd (cc (is))
 
-pub reading_not_writing : (fault : RunFault) → IsReadingFault fault → Some fault ≢ Some faults.WriteFault
-reading_not_writing fault reading is = let same : fault ≡ faults.WriteFault = cc (is) in subst IsReadingFault same reading
+pub reading_not_writing : (fault : InputFault) → Some (run_fault_of_input fault) ≢ Some faults.WriteFault
+reading_not_writing inputs.ReadFault is = absurd (cc (is))
+reading_not_writing (inputs.TooLarge line) is = absurd (cc (is))
+reading_not_writing inputs.NoMemory is = absurd (cc (is))
 
 pub line_not_reading : (fault : RunFault) → IsLineFault fault → Some fault ≢ Some faults.ReadFault
 line_not_reading fault doing is = let same : fault ≡ faults.ReadFault = cc (is) in subst IsLineFault same doing
@@ -408,40 +398,30 @@ line_not_reading fault doing is = let same : fault ≡ faults.ReadFault = cc (is
 pub line_not_writing : (fault : RunFault) → IsLineFault fault → Some fault ≢ Some faults.WriteFault
 line_not_writing fault doing is = let same : fault ≡ faults.WriteFault = cc (is) in subst IsLineFault same doing
 
-pub writing_not_reading : (fault : RunFault) → IsWritingFault fault → Some fault ≢ Some faults.ReadFault
-writing_not_reading fault writing is = let same : fault ≡ faults.ReadFault = cc (is) in subst IsWritingFault same writing
+pub writing_not_reading : (fault : WriteFault) → Some (run_fault_of_write fault) ≢ Some faults.ReadFault
+writing_not_reading writes.Failed is = absurd (cc (is))
+writing_not_reading writes.NoMemory is = absurd (cc (is))
 
-pub end_not_reading : (result : Result (Unit {0}) RunFault) → IfErr result IsEndFault → result_err result ≢ Some faults.ReadFault
+pub end_not_reading : (result : Result (Unit {0}) RunFault) → IfErr result IsLineFault → result_err result ≢ Some faults.ReadFault
 end_not_reading (Ok done) ending is = absurd (cc (is))
-end_not_reading (Err fault) ending is = let same : fault ≡ faults.ReadFault = cc (is) in subst IsEndFault same ending
+end_not_reading (Err fault) ending is = let same : fault ≡ faults.ReadFault = cc (is) in subst IsLineFault same ending
 
-pub end_not_writing : (result : Result (Unit {0}) RunFault) → IfErr result IsEndFault → result_err result ≢ Some faults.WriteFault
+pub end_not_writing : (result : Result (Unit {0}) RunFault) → IfErr result IsLineFault → result_err result ≢ Some faults.WriteFault
 end_not_writing (Ok done) ending is = absurd (cc (is))
-end_not_writing (Err fault) ending is = let same : fault ≡ faults.WriteFault = cc (is) in subst IsEndFault same ending
+end_not_writing (Err fault) ending is = let same : fault ≡ faults.WriteFault = cc (is) in subst IsLineFault same ending
 
 -- ---- the counts of faults
 
 -- no other part than the reading of a line calls the source, and none but the writing of a reply the sink
 
-pub reads_counted : {T : Type 0} (first before now : ℕ) (fault : RunFault) → HasReadCause {T = T} before now (Err fault) → before ≡ first → CountsReads first now (Some fault)
-reads_counted first before now faults.ReadFault cause same = subst (λ (n : ℕ). Rose n now) same (cause.failed refl)
-reads_counted first before now faults.NoMemory cause same = tt
-reads_counted first before now faults.Usage cause same = cause.quiet (λ is. absurd (cc (is))) ∙ same
-reads_counted first before now faults.WriteFault cause same = cause.quiet (λ is. absurd (cc (is))) ∙ same
-reads_counted first before now (faults.BadLine line) cause same = cause.quiet (λ is. absurd (cc (is))) ∙ same
-reads_counted first before now (faults.Device clone) cause same = cause.quiet (λ is. absurd (cc (is))) ∙ same
-reads_counted first before now (faults.TooLarge line) cause same = cause.quiet (λ is. absurd (cc (is))) ∙ same
-reads_counted first before now (faults.NotEmpty clone) cause same = cause.quiet (λ is. absurd (cc (is))) ∙ same
+pub reads_counted : {T : Type 0} (first before now : ℕ) (fault : InputFault) → HasReadCause {T = T} before now (Err fault) → before ≡ first → CountsReads first now (Some (run_fault_of_input fault))
+reads_counted first before now inputs.ReadFault cause same = subst (λ (n : ℕ). Rose n now) same (cause.failed refl)
+reads_counted first before now (inputs.TooLarge line) cause same = cause.quiet (λ is. absurd (cc (is))) ∙ same
+reads_counted first before now inputs.NoMemory cause same = tt
 
-pub writes_counted : {T : Type 0} (first before now : ℕ) (fault : RunFault) → HasWriteFaultCause {T = T} before now (Err fault) → before ≡ first → CountsWrites first now (Some fault)
-writes_counted first before now faults.WriteFault cause same = subst (λ (n : ℕ). Rose n now) same (cause.failed refl)
-writes_counted first before now faults.NoMemory cause same = tt
-writes_counted first before now faults.Usage cause same = cause.quiet (λ is. absurd (cc (is))) ∙ same
-writes_counted first before now faults.ReadFault cause same = cause.quiet (λ is. absurd (cc (is))) ∙ same
-writes_counted first before now (faults.BadLine line) cause same = cause.quiet (λ is. absurd (cc (is))) ∙ same
-writes_counted first before now (faults.Device clone) cause same = cause.quiet (λ is. absurd (cc (is))) ∙ same
-writes_counted first before now (faults.TooLarge line) cause same = cause.quiet (λ is. absurd (cc (is))) ∙ same
-writes_counted first before now (faults.NotEmpty clone) cause same = cause.quiet (λ is. absurd (cc (is))) ∙ same
+pub writes_counted : {T : Type 0} (first before now : ℕ) (fault : WriteFault) → HasWriteCause {T = T} before now (Err fault) → before ≡ first → CountsWrites first now (Some (run_fault_of_write fault))
+writes_counted first before now writes.Failed cause same = subst (λ (n : ℕ). Rose n now) same (cause.failed refl)
+writes_counted first before now writes.NoMemory cause same = tt
 
 -- the count is what it was, and no other fault is told
 
@@ -458,7 +438,7 @@ writes_same before now fault differs same = same
 -- a line that was taken and not done, said of equal values
 
 pub stops_bad_at : {B : Type 0} (log : B → Option Log) (given left rest before now : Option (List ℕ)) (size grown : ℕ) (running : RunningStage B) (done : ℕ) (taken : Option (List ℕ)) (piece line : List ℕ) (at : ℕ)
-    → IsUnderWay log given left before now size running done → taken ≡ Some piece → line ≡ piece → ((bytes : List ℕ) → left ≡ Some bytes → TakesLine size bytes rest grown taken)
+    → IsReplayUnderWay log given left before now size running done → taken ≡ Some piece → line ≡ piece → ((bytes : List ℕ) → left ≡ Some bytes → TakesLine size bytes rest grown taken)
     → at ≡ done + 1 → ((stage : Stage) → StageStands log running stage → IsBad stage line) → (next : RunningStage B) → next ≡ running
     → (bytes : List ℕ) → given ≡ Some bytes → StopsAtBad (StageStands log next) bytes at before now
 stops_bad_at {B = B} log given left rest before now size grown running done taken piece line at way is same takes counts bad next kept bytes told =
@@ -469,7 +449,7 @@ stops_bad_at {B = B} log given left rest before now size grown running done take
 -- the end of the source while no domain line has come, said of an equal state and number
 
 pub ends_waiting_at : {B : Type 0} (log : B → Option Log) (given left rest before now : Option (List ℕ)) (size : ℕ) (running : RunningStage B) (done at : ℕ)
-    → IsUnderWay log given left before now size running done → ((bytes : List ℕ) → given ≡ Some bytes → (behind : List ℕ) → left ≡ Some behind → (behind ≡ []) × (rest ≡ Some []))
+    → IsReplayUnderWay log given left before now size running done → ((bytes : List ℕ) → given ≡ Some bytes → (behind : List ℕ) → left ≡ Some behind → (behind ≡ []) × (rest ≡ Some []))
     → at ≡ done + 1 → ((stage : Stage) → StageStands log running stage → stage ≡ Waiting) → (next : RunningStage B) → next ≡ running
     → (bytes : List ℕ) → given ≡ Some bytes → StopsAtBad (StageStands log next) bytes at before now
 ends_waiting_at {B = B} log given left rest before now size running done at way none counts waits next kept bytes told =
@@ -477,37 +457,18 @@ ends_waiting_at {B = B} log given left rest before now size running done at way 
     let Q : RunningStage B → Type 0 = λ w. StopsAtBad (StageStands log w) bytes at before now in
     subst Q (sym kept) (subst P (sym counts) (ends_waiting log given left rest before now size running done way none waits bytes told))
 
--- the fault of a line that is too large names the line
-pub large_number : (number at : ℕ) → ◌≡◌ {A = Result (Option (List ℕ)) RunFault} (Err (faults.TooLarge number)) (Err (faults.TooLarge at)) → at ≡ number
-large_number number at same = cc
-
--- the counts of faults are what they were where a line was taken, and where a reply was written
-pub read_well : {T : Type 0} (before now : ℕ) (value : T) → HasReadCause {T = T} before now (Ok value) → now ≡ before
-read_well before now value cause = cause.quiet (λ same. absurd (cc (same)))
-
-pub wrote_well : {T : Type 0} (before now : ℕ) (value : T) → HasWriteFaultCause {T = T} before now (Ok value) → now ≡ before
-wrote_well before now value cause = cause.quiet (λ same. absurd (cc (same)))
-
 -- the fault of a bad line came from a stop at a bad line
-pub bad_fault : {T U : Type 0} (stop : LineStop) (number at : ℕ) (fault : RunFault) → fault ≡ fault_of stop number → ◌≡◌ {A = Result T RunFault} (Err fault) (Err (faults.BadLine at))
+pub bad_fault : {T U : Type 0} (stop : LineStop) (number at : ℕ) (fault : RunFault) → fault ≡ fault_at_line stop number → ◌≡◌ {A = Result T RunFault} (Err fault) (Err (faults.BadLine at))
     → (◌≡◌ {A = Result U LineStop} (Err stop) (Err stops.BadLine)) × (at ≡ number)
 bad_fault {U = U} stop number at fault is same = let fault_is : fault ≡ faults.BadLine at = cc in bad_stop stop number at (sym is ∙ fault_is)
   where
-    bad_stop : (stop : LineStop) (number at : ℕ) → fault_of stop number ≡ faults.BadLine at → (◌≡◌ {A = Result U LineStop} (Err stop) (Err stops.BadLine)) × (at ≡ number)
+    bad_stop : (stop : LineStop) (number at : ℕ) → fault_at_line stop number ≡ faults.BadLine at → (◌≡◌ {A = Result U LineStop} (Err stop) (Err stops.BadLine)) × (at ≡ number)
     bad_stop stops.BadLine number at same = (refl, cc)
     bad_stop (stops.Device clone) number at same = absurd (cc)
     bad_stop stops.NoMemory number at same = absurd (cc)
 
--- what holds of a line that was there
-pub of_line : (P : List ℕ → Type 0) (taken : Option (List ℕ)) (line : List ℕ) → taken ≡ Some line → IfSomeLine P taken → P line
-of_line P taken line is h = let Q : Option (List ℕ) → Type 0 = λ o. IfSomeLine P o in subst Q is h
-
 pub err_same : {T : Type 0} (fault other : RunFault) → fault ≡ other → ◌≡◌ {A = Result T RunFault} (Err fault) (Err other)
 err_same fault other same = ap (λ (f : RunFault). Err f) same
-
--- a result that is an error with a fault, and with another
-pub same_fault : {T : Type 0} (result : Result T RunFault) (passed fault other : RunFault) → result ≡ Err passed → passed ≡ fault → result ≡ Err other → fault ≡ other
-same_fault result passed fault other is from same = let e : passed ≡ other = cc (is, same) in sym from ∙ e
 
 -- what a good end gives, it gives on
 pub on_ok : {A B : Type 0} (result : Result (Unit {0}) RunFault) → (A → B) → OnOk result A → OnOk result B

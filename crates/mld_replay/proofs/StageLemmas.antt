@@ -19,12 +19,12 @@ use Rattle.schedule_text.specs.ReadLines.{setup_of, SetupIs, CommandIs, IsBadCom
 use Rattle.net_world.specs.Founding.{StandsFounded}
 use Rattle.net_world.specs.SettledWorlds.{AllImagesStand, AreBlank, Settles, SettlesFounded}
 use Rattle.world_commands.specs.WorldBanks.{BankedWorld, StandsOnBanks, banks_of}
-use Rattle.mld_replay.specs.BankFaults.{AreWell, all_left}
-use Rattle.mld_replay.specs.Stops.{StopsWith}
+use Rattle.mld_replay.specs.BankFaults.{ComeBackWell, all_left}
+use Rattle.mld_replay.specs.Stops.{StopBringsBack}
 use Rattle.mld_replay.specs.declared.stops.LineStop.TheVariants as stops
 use Rattle.mld_replay.proofs.MeterLemmas.{well_same, well_then, stop_later}
 use Rattle.world_commands.specs.Worlds.{Stepped, FollowsOnBanks}
-use Rattle.mld_replay.specs.Stages.{StageStands, SpellsAt, steps_of, GetsProperty, GetsNone, IsStandingStage, ActsWell, EndsWell}
+use Rattle.mld_replay.specs.Stages.{StageStands, SpellsAt, steps_of_stage, GetsProperty, GetsNone, IsStandingStage, ActsWell, EndsWell}
 use Rattle.mld_replay.specs.declared.stops.LineStop.{LineStop}
 use Rattle.mld_replay.specs.declared.stages.Stage.{Stage as RunningStage}
 use Rattle.mld_replay.specs.declared.stages.Stage.TheVariants as stages
@@ -264,7 +264,7 @@ property_set log line text (stages.Running running) new gets writes = absurd get
 property_set log line text (stages.Over banks) new gets writes = absurd gets
 
 -- no step was made
-pub property_steps : {B : Type 0} (line : List ℕ) (old new : RunningStage B) → GetsProperty line old new → steps_of new ≡ 0
+pub property_steps : {B : Type 0} (line : List ℕ) (old new : RunningStage B) → GetsProperty line old new → steps_of_stage new ≡ 0
 property_steps line (stages.SetUp setup blanks) (stages.SetUp next others) gets = refl
 property_steps line (stages.SetUp setup blanks) (stages.Waiting others) gets = absurd gets
 property_steps line (stages.SetUp setup blanks) (stages.Running running) gets = absurd gets
@@ -308,28 +308,28 @@ founded_end log setup running blanks stands settles blank =
 
 -- ---- what becomes of the banks, where the clones were founded before
 
-pub well_after : {B T : Type 0} (meter : B → Meter) (old middle new : List B) (result : Result T LineStop) → AreWell meter old middle → OnOk result (AreWell meter middle new)
-    → OnOk result (AreWell meter old new)
+pub well_after : {B T : Type 0} (meter : B → Meter) (old middle new : List B) (result : Result T LineStop) → ComeBackWell meter old middle → OnOk result (ComeBackWell meter middle new)
+    → OnOk result (ComeBackWell meter old new)
 well_after meter old middle new (Ok value) well after = well_then meter old middle new well after
 well_after meter old middle new (Err stop) well after = tt
 
-pub stops_after : {B T : Type 0} (meter : B → Meter) (old middle new : List B) (result : Result T LineStop) → AreWell meter old middle → IfErr result (StopsWith meter middle new)
-    → IfErr result (StopsWith meter old new)
+pub stops_after : {B T : Type 0} (meter : B → Meter) (old middle new : List B) (result : Result T LineStop) → ComeBackWell meter old middle → IfErr result (StopBringsBack meter middle new)
+    → IfErr result (StopBringsBack meter old new)
 stops_after meter old middle new (Ok value) well after = tt
 stops_after meter old middle new (Err stop) well after = stop_later meter old middle new stop well after
 
 -- where no device was called
 
-pub well_kept : {B T : Type 0} (meter : B → Meter) (old new : List B) (result : Result T LineStop) → new ≡ old → OnOk result (AreWell meter old new)
-well_kept {B = B} meter old new (Ok value) same = subst (λ (l : List B). AreWell meter old l) (sym same) (well_same meter old)
+pub well_kept : {B T : Type 0} (meter : B → Meter) (old new : List B) (result : Result T LineStop) → new ≡ old → OnOk result (ComeBackWell meter old new)
+well_kept {B = B} meter old new (Ok value) same = subst (λ (l : List B). ComeBackWell meter old l) (sym same) (well_same meter old)
 well_kept meter old new (Err stop) same = tt
 
 pub stops_kept : {B T : Type 0} (meter : B → Meter) (old new : List B) (result : Result T LineStop) → new ≡ old → ((clone : ℕ) → ¬ IsErrOf result (stops.Device clone))
-    → IfErr result (StopsWith meter old new)
+    → IfErr result (StopBringsBack meter old new)
 stops_kept meter old new (Ok value) same none = tt
-stops_kept {B = B} meter old new (Err stop) same none = subst (λ (l : List B). StopsWith meter old l stop) (sym same) (at stop (λ clone is. none clone (ap (λ (s : LineStop). Err s) is)))
+stops_kept {B = B} meter old new (Err stop) same none = subst (λ (l : List B). StopBringsBack meter old l stop) (sym same) (at stop (λ clone is. none clone (ap (λ (s : LineStop). Err s) is)))
   where
-    at : (stop : LineStop) → ((clone : ℕ) → stop ≢ stops.Device clone) → StopsWith meter old old stop
+    at : (stop : LineStop) → ((clone : ℕ) → stop ≢ stops.Device clone) → StopBringsBack meter old old stop
     at (stops.Device clone) differs = absurd (differs clone refl)
     at stops.NoMemory differs = all_left (well_same meter old)
     at stop differs = well_same meter old

@@ -23,8 +23,8 @@ use Rattle.net_world.specs.SettledWorlds.{AllImagesStand, AreBlank}
 use Rattle.net_world.proofs.SettledBanks.{nothing_left}
 use Rattle.net_world.proofs.SettledSteps.{number_within}
 use Rattle.mld_replay.specs.BanksLeft.{AllReadNone, IsDueAt, StandsInCommand, AllStandInCommand, AreLeftAmid, left_blank, left_founding, left_between, left_in_command}
-use Rattle.mld_replay.specs.Stages.{StageStands, SpellsAt, StopsCommand, EndsWell, banks_of_stage}
-use Rattle.mld_replay.specs.Stops.{fault_of, stop_of_world, LeavesStopped, StopsAmid, LeavesEnded}
+use Rattle.mld_replay.specs.Stages.{StageStands, SpellsAt, LeavesRefusedCommand, EndsWell, banks_of_stage}
+use Rattle.mld_replay.specs.Stops.{fault_at_line, stop_of_world, LeavesAtStop, StopLeaves, LeavesAtFault}
 use Rattle.mld_replay.specs.declared.stages.Stage.{Stage as RunningStage}
 use Rattle.mld_replay.specs.declared.stages.Stage.TheVariants as stages
 use Rattle.mld_replay.specs.declared.stops.LineStop.{LineStop}
@@ -51,25 +51,25 @@ module _ {B : Type 0} (log : B → Option Log) where
   still_left (stages.Over banks) stage lines stands = absurd stands
 
   -- what is left is so for each stop
-  stopped_by : (stop : LineStop) (banks : List B) (stage : Stage) (lines : List (List ℕ)) → AreLeftAmid log banks stage lines → LeavesStopped log banks stage lines stop
+  stopped_by : (stop : LineStop) (banks : List B) (stage : Stage) (lines : List (List ℕ)) → AreLeftAmid log banks stage lines → LeavesAtStop log banks stage lines stop
   stopped_by stops.BadLine banks stage lines left = tt
   stopped_by (stops.Device clone) banks stage lines left = left
   stopped_by stops.NoMemory banks stage lines left = inr left
 
-  pub stops_still : (old : RunningStage B) (banks : List B) (lines : List (List ℕ)) (stop : LineStop) → banks ≡ banks_of_stage old → StopsAmid log old banks lines stop
+  pub stops_still : (old : RunningStage B) (banks : List B) (lines : List (List ℕ)) (stop : LineStop) → banks ≡ banks_of_stage old → StopLeaves log old banks lines stop
   stops_still old banks lines stop same stage stands =
       stopped_by stop banks stage lines (subst (λ (l : List B). AreLeftAmid log l stage lines) (sym same) (still_left old stage lines stands))
 
   -- so it is where a refused call left the state as it was
   pub stops_kept : {T : Type 0} (result : Result T LineStop) (old new : RunningStage B) (line : List ℕ) → OnErr result (new ≡ old)
-      → IfErr result (λ stop. (rest : List (List ℕ)) → StopsAmid log old (banks_of_stage new) (line ∷ rest) stop)
+      → IfErr result (λ stop. (rest : List (List ℕ)) → StopLeaves log old (banks_of_stage new) (line ∷ rest) stop)
   stops_kept (Ok value) old new line kept = tt
   stops_kept (Err stop) old new line kept = λ rest. stops_still old (banks_of_stage new) (line ∷ rest) stop (ap (λ (s : RunningStage B). banks_of_stage s) kept)
 
   -- ---- a command was refused
 
   in_command : (tells : (banks : B) → IsSome (log banks)) (old : BankedWorld B) (command : Command) (new : List B) (world : World) → HasCloneNumbers command → StandsOnBanks log old world → IsSound world
-      → AllImagesStand log world (banks_of old) → StopsCommand log old command new → AllStandInCommand log world command new
+      → AllImagesStand log world (banks_of old) → LeavesRefusedCommand log old command new → AllStandInCommand log world command new
   in_command tells old command new world numbers stands sound images stops number one l at told image crash = elim (cases_eq number (number_of_clone command)) [
     | inl same ↦
         let own : ℕ = number_of_clone command in
@@ -87,12 +87,12 @@ module _ {B : Type 0} (log : B → Option Log) where
   ]
 
   pub commanded_left : {T : Type 0} (tells : (banks : B) → IsSome (log banks)) (result : Result T LineStop) (domain line : List ℕ) (command : Command) (old new : BankedWorld B)
-      → domain ≡ old.domain → SpellsCommand domain line command → OnErr result (StopsCommand log old command (banks_of new))
-      → IfErr result (λ stop. (rest : List (List ℕ)) → StopsAmid log (stages.Running old) (banks_of new) (line ∷ rest) stop)
+      → domain ≡ old.domain → SpellsCommand domain line command → OnErr result (LeavesRefusedCommand log old command (banks_of new))
+      → IfErr result (λ stop. (rest : List (List ℕ)) → StopLeaves log (stages.Running old) (banks_of new) (line ∷ rest) stop)
   commanded_left tells (Ok value) domain line command old new same spells left = tt
   commanded_left tells (Err stop) domain line command old new same spells left = λ rest. at rest
     where
-      at : (rest : List (List ℕ)) (stage : Stage) → StageStands log (stages.Running old) stage → LeavesStopped log (banks_of new) stage (line ∷ rest) stop
+      at : (rest : List (List ℕ)) (stage : Stage) → StageStands log (stages.Running old) stage → LeavesAtStop log (banks_of new) stage (line ∷ rest) stop
       at rest Waiting stands = absurd stands
       at rest (SetUp model) stands = absurd stands
       at rest (Running model) stands =
@@ -102,9 +102,9 @@ module _ {B : Type 0} (log : B → Option Log) where
 
   -- the first one
   pub started_left : {T : Type 0} (tells : (banks : B) → IsSome (log banks)) (result : Result T LineStop) (state : RunningStage B) (command : Command) (old new : BankedWorld B) → HasCloneNumbers command
-      → ((stage : Stage) → StageStands log state stage → EndsWell log stage (stages.Running old)) → OnErr result (StopsCommand log old command (banks_of new))
+      → ((stage : Stage) → StageStands log state stage → EndsWell log stage (stages.Running old)) → OnErr result (LeavesRefusedCommand log old command (banks_of new))
       → IfErr result (λ stop. (line : List ℕ) (rest : List (List ℕ)) (stage : Stage) → StageStands log state stage → SpellsAt stage line command
-      → LeavesStopped log (banks_of new) stage (line ∷ rest) stop)
+      → LeavesAtStop log (banks_of new) stage (line ∷ rest) stop)
   started_left tells (Ok value) state command old new numbers founded left = tt
   started_left tells (Err stop) state command old new numbers founded left = λ line rest stage stands spells.
       let ended : EndsWell log stage (stages.Running old) = founded stage stands in
@@ -116,8 +116,8 @@ module _ {B : Type 0} (log : B → Option Log) where
   pub stopped_here : {T : Type 0} (result : Result T LineStop) (state : RunningStage B) (setup : Setup) (blanks : Vec B Global) (domain line : List ℕ) (read : Option Command) (command : Command) (banks : List B)
       → state ≡ stages.SetUp setup blanks → domain ≡ setup.domain → read ≡ Some command → CommandIs domain line read
       → IfErr result (λ stop. (line : List ℕ) (rest : List (List ℕ)) (stage : Stage) → StageStands log (stages.SetUp setup blanks) stage → SpellsAt stage line command
-      → LeavesStopped log banks stage (line ∷ rest) stop)
-      → IfErr result (λ stop. (rest : List (List ℕ)) → StopsAmid log state banks (line ∷ rest) stop)
+      → LeavesAtStop log banks stage (line ∷ rest) stop)
+      → IfErr result (λ stop. (rest : List (List ℕ)) → StopLeaves log state banks (line ∷ rest) stop)
   stopped_here (Ok value) state setup blanks domain line read command banks is same said reads left = tt
   stopped_here (Err stop) state setup blanks domain line read command banks is same said reads left = λ rest stage stands.
       left line rest stage (subst (λ (s : RunningStage B). StageStands log s stage) is stands)
@@ -125,13 +125,13 @@ module _ {B : Type 0} (log : B → Option Log) where
 
   -- said of a state that is the same
   pub stopped_same : {T : Type 0} (result : Result T LineStop) (old same : RunningStage B) (banks : List B) (line : List ℕ) → same ≡ old
-      → IfErr result (λ stop. (rest : List (List ℕ)) → StopsAmid log same banks (line ∷ rest) stop) → IfErr result (λ stop. (rest : List (List ℕ)) → StopsAmid log old banks (line ∷ rest) stop)
-  stopped_same result old same banks line is = subst (λ (s : RunningStage B). IfErr result (λ stop. (rest : List (List ℕ)) → StopsAmid log s banks (line ∷ rest) stop)) is
+      → IfErr result (λ stop. (rest : List (List ℕ)) → StopLeaves log same banks (line ∷ rest) stop) → IfErr result (λ stop. (rest : List (List ℕ)) → StopLeaves log old banks (line ∷ rest) stop)
+  stopped_same result old same banks line is = subst (λ (s : RunningStage B). IfErr result (λ stop. (rest : List (List ℕ)) → StopLeaves log s banks (line ∷ rest) stop)) is
 
   -- ---- founding was refused
 
   pub founding_left : (setup : Setup) (banks : List B) (fault : WorldFault) (lines : List (List ℕ)) → LeavesFounded log (setup_of setup) fault banks → IsDueAt (SetUp (setup_of setup)) lines
-      → LeavesStopped log banks (SetUp (setup_of setup)) lines (stop_of_world fault)
+      → LeavesAtStop log banks (SetUp (setup_of setup)) lines (stop_of_world fault)
   founding_left setup banks (worlds.Device clone) lines left due = left_founding clone due left
   founding_left setup banks worlds.NoMemory lines left due = inl left
 
@@ -148,8 +148,8 @@ due_at_end (Running world) = tt
 
 -- ---- and by the fault by which the run ends
 
-pub ended_by : {B : Type 0} (log : B → Option Log) (banks : List B) (stage : Stage) (lines : List (List ℕ)) (stop : LineStop) (number : ℕ) → LeavesStopped log banks stage lines stop
-    → LeavesEnded log banks stage lines (fault_of stop number)
+pub ended_by : {B : Type 0} (log : B → Option Log) (banks : List B) (stage : Stage) (lines : List (List ℕ)) (stop : LineStop) (number : ℕ) → LeavesAtStop log banks stage lines stop
+    → LeavesAtFault log banks stage lines (fault_at_line stop number)
 ended_by log banks stage lines stops.BadLine number left = tt
 ended_by log banks stage lines (stops.Device clone) number left = left
 ended_by log banks stage lines stops.NoMemory number left = left

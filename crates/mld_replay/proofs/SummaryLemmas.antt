@@ -11,12 +11,13 @@ use Rattle.mld_model.specs.World.{World}
 use Rattle.schedule_model.specs.Runs.{Stage, Running, RunsBefore, Outcome, Finished, BadLine, Verdict}
 use Rattle.schedule_model.specs.Laws.{AreOfOneKind}
 use Rattle.schedule_model.proofs.RunsLaws.{one_kind_of_verdict}
-use Rattle.mld_replay.specs.BankFaults.{AreWell, none_left, BringsBack}
-use Rattle.mld_replay.specs.Filled.{IsFirstFilled, EndsBefore, LogsStay, HeedsFilled}
+use Rattle.mld_replay.specs.BankFaults.{ComeBackWell, none_left, BringsBack}
+use Rattle.mld_replay.specs.Filled.{IsFirstFilled, EndsBefore, LogsStay, RefusesFilledBanks}
 use Rattle.mld_replay.specs.Looking.{AreEmpty, StopsLooking, StopsBlanking}
-use Rattle.mld_replay.specs.Ran.{Finishes, StopsAtBad, StopsAtLarge, BreaksOff, WritesSome, Saying, FailsSo, fails_before, fails_amid, RunsShort, short_before, short_amid, short_writing, short_of_banks, EndsSo, says_of, Agrees, LeavesAlone, AreUntouched, HasNotBegun, CountsReads, CountsWrites, tells}
+use Rattle.mld_replay.specs.Ran.{Finishes, StopsAtBad, StopsAtLarge, BreaksOff, WritesSome, Saying, FailsSo, fails_before, fails_amid, RunsShort, short_before, short_amid, short_writing, short_of_banks, ReplayEnds, says_of, Agrees, LeavesAlone, CountsReads, CountsWrites, tells}
+use Rattle.input_lines.specs.Untouched.{AreUntouched, HasNotBegun}
 use Rattle.mld_replay.specs.BanksLeft.{AreLeftAmid}
-use Rattle.mld_replay.specs.Replaying.{EndsBy, says_by, IsReplayFault}
+use Rattle.mld_replay.specs.Replaying.{EndsByFault, says_by, IsReplayFault}
 use Rattle.mld_replay.specs.Stages.{StageStands, banks_of_stage}
 use Rattle.mld_replay.specs.declared.stages.Stage.{Stage as RunningStage}
 use Rattle.mld_replay.specs.declared.run.Ran.{Ran}
@@ -87,8 +88,8 @@ module _ {B : Type 0} (log : B → Option Log) (running : RunningStage B) (says 
   short_as (short_writing front) = short_writing (front_as (StageStands log running) says.kept bytes before now kept front)
   short_as (short_of_banks gone some) = short_of_banks (none gone) some
 
-  ends_as : (fault : Option RunFault) → (IsTrue (tells fault) → (stage : Stage) → StageStands log running stage → says.told stage) → EndsSo (says_by log running) fault bytes left before now
-      → EndsSo says fault bytes left before now
+  ends_as : (fault : Option RunFault) → (IsTrue (tells fault) → (stage : Stage) → StageStands log running stage → says.told stage) → ReplayEnds (says_by log running) fault bytes left before now
+      → ReplayEnds says fault bytes left before now
   ends_as None told ends = finishes_as (StageStands log running) says.told bytes left before now (told refl) ends
   ends_as (Some faults.Usage) told ends = ends
   ends_as (Some faults.ReadFault) told ends = breaks_as (StageStands log running) says.told bytes left before now (told refl) ends
@@ -135,7 +136,7 @@ some_short says bytes left before now (short_amid whole) = inl (whole_any says.l
 some_short says bytes left before now (short_writing front) = inr (front_as says.kept (λ stage. Unit {0}) bytes before now (λ stage holds. tt) front)
 some_short says bytes left before now (short_of_banks none some) = some
 
-some_of_end : (says : Saying) (fault : Option RunFault) (bytes : List ℕ) (left before now : Option (List ℕ)) → EndsSo says fault bytes left before now → WritesSome bytes before now
+some_of_end : (says : Saying) (fault : Option RunFault) (bytes : List ℕ) (left before now : Option (List ℕ)) → ReplayEnds says fault bytes left before now → WritesSome bytes before now
 some_of_end says None bytes left before now ends = some_all bytes ends.text ends.world before now ends.verdict ends.written
 some_of_end says (Some faults.Usage) bytes left before now ends = some_none bytes before now ends.none_written
 some_of_end says (Some faults.ReadFault) bytes left before now ends = some_before bytes (ends.lines + 1) ends.text ends.stage before now ends.done ends.written
@@ -149,18 +150,18 @@ some_of_end says (Some (faults.NotEmpty clone)) bytes left before now ends = som
 -- ---- the clauses of the run, where it came to the replay
 
 module _ {B : Type 0} (log : B → Option Log) (fault : Option RunFault) (running : RunningStage B) (ran : Ran B) where
-  pub ends_by : (given : List B) (bytes : List ℕ) (left before now : Option (List ℕ)) → EndsBy log fault running ran → EndsSo (says_by log running) fault bytes left before now
-      → EndsSo (says_of log given ran) ran.fault bytes left before now
+  pub ends_by : (given : List B) (bytes : List ℕ) (left before now : Option (List ℕ)) → EndsByFault log fault running ran → ReplayEnds (says_by log running) fault bytes left before now
+      → ReplayEnds (says_of log given ran) ran.fault bytes left before now
   ends_by given bytes left before now (inl whole) ends =
-      subst (λ (f : Option RunFault). EndsSo (says_of log given ran) f bytes left before now) (sym whole.fault_is)
+      subst (λ (f : Option RunFault). ReplayEnds (says_of log given ran) f bytes left before now) (sym whole.fault_is)
       (ends_as log running (says_of log given ran) whole.kept (λ stage rest amid. subst (λ (l : List B). AreLeftAmid log l stage rest) (sym whole.banks_are) amid) (λ none. whole.banks_are ∙ none)
       bytes left before now fault (λ has stage stands. record { told = whole.told has stage stands; kept = whole.kept stage stands }) ends)
   ends_by given bytes left before now (inr short) ends =
-      subst (λ (f : Option RunFault). EndsSo (says_of log given ran) f bytes left before now) (sym short.fault_is)
+      subst (λ (f : Option RunFault). ReplayEnds (says_of log given ran) f bytes left before now) (sym short.fault_is)
       (short_of_banks short.banks_are (some_of_end (says_by log running) fault bytes left before now ends))
 
   -- the meters of the banks go on
-  pub back_by : (meter : B → Meter) (banks blanks : List B) → EndsBy log fault running ran → AreWell meter banks blanks → BringsBack meter blanks (banks_of_stage running) fault
+  pub back_by : (meter : B → Meter) (banks blanks : List B) → EndsByFault log fault running ran → ComeBackWell meter banks blanks → BringsBack meter blanks (banks_of_stage running) fault
       → BringsBack meter banks ran.banks.items ran.fault
   back_by meter banks blanks (inl whole) well back =
       subst (λ (f : Option RunFault). BringsBack meter banks ran.banks.items f) (sym whole.fault_is)
@@ -168,7 +169,7 @@ module _ {B : Type 0} (log : B → Option Log) (fault : Option RunFault) (runnin
   back_by meter banks blanks (inr short) well back = subst (λ (f : Option RunFault). BringsBack meter banks ran.banks.items f) (sym short.fault_is) (none_left short.banks_are)
 
   -- what want of memory at the end leaves open is left open
-  pub said_by : (P : Option RunFault → Type 0) → EndsBy log fault running ran → P (Some faults.NoMemory) → P fault → P ran.fault
+  pub said_by : (P : Option RunFault → Type 0) → EndsByFault log fault running ran → P (Some faults.NoMemory) → P fault → P ran.fault
   said_by P (inl whole) memory holds = subst P (sym whole.fault_is) holds
   said_by P (inr short) memory holds = subst P (sym short.fault_is) memory
 
@@ -204,7 +205,7 @@ agrees_at_bad line text stage (Finished other world) alike = absurd alike
 agrees_at_bad line text stage (BadLine number other second) alike = alike
 
 -- the run agrees with each verdict, by whichever choices
-pub agrees_so : (says : Saying) (fault : Option RunFault) (bytes : List ℕ) (left before now : Option (List ℕ)) → EndsSo says fault bytes left before now
+pub agrees_so : (says : Saying) (fault : Option RunFault) (bytes : List ℕ) (left before now : Option (List ℕ)) → ReplayEnds says fault bytes left before now
     → fault ≢ Some faults.Usage → (outcome : Outcome) → Verdict (lines_of bytes) outcome → Agrees fault outcome
 agrees_so says None bytes left before now ends usage outcome verdict =
     agrees_at_end ends.text ends.world outcome (one_kind_of_verdict (lines_of bytes) (Finished ends.text ends.world) outcome ends.verdict verdict)
@@ -223,7 +224,7 @@ agrees_so says (Some (faults.NotEmpty clone)) bytes left before now ends usage o
 pub left_alone : {S K : Type 0} (source : S) (sink : K) → AreUntouched source source sink sink
 left_alone source sink = record { source_is = refl; sink_is = refl }
 
-pub not_begun : (bytes : List ℕ) (given before : Option (List ℕ)) → given ≡ Some bytes → HasNotBegun bytes given before before
+pub not_begun : (bytes : List ℕ) (given before : Option (List ℕ)) → given ≡ Some bytes → HasNotBegun (Some bytes) given before before
 not_begun bytes given before told = record { all_left = told; none_written = refl }
 
 -- the faults of banks before the first line
@@ -246,10 +247,10 @@ blanking_fault meter banks back fault stops = absurd stops
 
 module _ (fault : RunFault) (banks : IsBankFault fault) where
   pub bank_ends : (says : Saying) (of : Option RunFault) (given before : Option (List ℕ)) (bytes : List ℕ) → of ≡ Some fault → given ≡ Some bytes → says.same
-      → EndsSo says of bytes given before before
-  bank_ends says of given before bytes is told same = subst (λ (f : Option RunFault). EndsSo says f bytes given before before) (sym is) (at fault banks)
+      → ReplayEnds says of bytes given before before
+  bank_ends says of given before bytes is told same = subst (λ (f : Option RunFault). ReplayEnds says f bytes given before before) (sym is) (at fault banks)
     where
-      at : (fault : RunFault) → IsBankFault fault → EndsSo says (Some fault) bytes given before before
+      at : (fault : RunFault) → IsBankFault fault → ReplayEnds says (Some fault) bytes given before before
       at (faults.NotEmpty clone) banks = not_begun bytes given before told
       at (faults.Device clone) banks = fails_before (not_begun bytes given before told) same
       at faults.NoMemory banks = short_before (not_begun bytes given before told) same
@@ -318,7 +319,7 @@ looking_names : {B : Type 0} (log : B → Option Log) (banks : List B) (fault : 
 looking_names log banks fault clone stops is = let same : fault ≡ faults.NotEmpty clone = cc (is) in subst (λ (f : RunFault). StopsLooking log banks f) same stops
 
 pub looking_heeds : {B : Type 0} (log : B → Option Log) (old new : List B) (fault : RunFault) (Untouched : Type 0) → StopsLooking log old fault → LogsStay log old new → Untouched
-    → HeedsFilled log old new (Some fault) Untouched
+    → RefusesFilledBanks log old new (Some fault) Untouched
 looking_heeds log old new fault Untouched stops logs untouched = record {
   names = λ clone is. looking_names log old fault clone stops is;
   ends = λ clone first. ends_before log old fault clone stops first;
@@ -328,7 +329,7 @@ looking_heeds log old new fault Untouched stops logs untouched = record {
 
 -- no banks have bytes
 pub empty_heeds : {B : Type 0} (log : B → Option Log) (old new : List B) (fault : Option RunFault) (Untouched : Type 0) → AreEmpty log old → ((clone : ℕ) → fault ≢ Some (faults.NotEmpty clone))
-    → HeedsFilled log old new fault Untouched
+    → RefusesFilledBanks log old new fault Untouched
 empty_heeds log old new fault Untouched empty differs = record {
   names = λ clone is. absurd (differs clone is);
   ends = λ clone first. absurd (empty clone first.one first.at first.filled);
@@ -340,7 +341,7 @@ pub blanking_not_filled : {B : Type 0} (meter : B → Meter) (banks back : List 
 blanking_not_filled meter banks back fault stops clone is = let same : fault ≡ faults.NotEmpty clone = cc (is) in absurd (subst (λ (f : RunFault). StopsBlanking meter banks f back) same stops)
 
 -- the words are others, and nothing was called
-pub usage_heeds : {B : Type 0} (log : B → Option Log) (banks : List B) (Untouched : Type 0) → Untouched → HeedsFilled log banks banks (Some faults.Usage) Untouched
+pub usage_heeds : {B : Type 0} (log : B → Option Log) (banks : List B) (Untouched : Type 0) → Untouched → RefusesFilledBanks log banks banks (Some faults.Usage) Untouched
 usage_heeds {B = B} log banks Untouched untouched = record {
   names = λ clone is. absurd (cc (is));
   ends = λ clone first. tt;
@@ -357,7 +358,7 @@ blanking_back meter banks back faults.NoMemory stops = none_left stops
 blanking_back meter banks back (faults.Device clone) stops = stops
 blanking_back meter banks back fault stops = absurd stops
 
-pub refused_back : {B : Type 0} (meter : B → Meter) (banks looked back : List B) (fault : RunFault) → AreWell meter banks looked → StopsBlanking meter looked fault back
+pub refused_back : {B : Type 0} (meter : B → Meter) (banks looked back : List B) (fault : RunFault) → ComeBackWell meter banks looked → StopsBlanking meter looked fault back
     → BringsBack meter banks back (Some fault)
 refused_back meter banks looked back fault well stops = back_later meter banks looked back (Some fault) well (blanking_back meter looked back fault stops)
 

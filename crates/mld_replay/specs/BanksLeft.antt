@@ -1,4 +1,5 @@
 -- What a crash may leave of the banks of a run that stopped in the middle: in a line, at the end of the lines, or before the first line.
+-- `says_of` and the words of `Stops.antt` say it for `run`, `act` and `finish`; `blanks_of` cites `LeaveNoMore`.
 use Rattle.std.specs.Prelude.{◌≡◌, ◌⊎◌, ℕ, List, [], ◌∷◌, Option, Some, slice_get}
 use Rattle.mld_io.specs.Disk.{Log, Sides, MayLeave, LeavesOnly}
 use Rattle.journal_sides.specs.Pairs.{KeepsNone, read_banks}

@@ -1,4 +1,4 @@
--- The text of a fault, as it stands on standard error.
+-- The text of a fault, as it stands on standard error: the `output` of the `Display` of `RunFault`.
 use Rattle.std.specs.Prelude.{ℕ, List, ◌++◌, codes}
 use Rattle.std.specs.Fmt.{decimal}
 use Rattle.mld_replay.specs.declared.run.RunFault.{RunFault}

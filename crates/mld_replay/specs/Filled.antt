@@ -1,4 +1,4 @@
--- Banks that have bytes before a run begins.
+-- Banks that have bytes before a run begins. `run`, `run_replay` and `run_generated` cite `RefusesFilledBanks`; `find_filled` and what it calls the others.
 use Rattle.std.specs.Prelude.{◌≡◌, ◌<◌, ◌≤◌, ◌⊎◌, ℕ, List, Option, Some, length, slice_get}
 use Rattle.mld_io.specs.Disk.{Log, Sides, seen}
 use Rattle.mld_replay.specs.declared.run.RunFault.{RunFault}
@@ -35,7 +35,7 @@ abbrev pub LogsStay : {B : Type 0} → (B → Option Log) → List B → List B 
 LogsStay {B = B} log old new = (number : ℕ) (was now : B) → slice_get old number ≡ Some was → slice_get new number ≡ Some now → log now ≡ log was
 
 -- What banks that have bytes make of a run. `Untouched` says that nothing was read or written.
-pub record HeedsFilled {B : Type 0} (log : B → Option Log) (old new : List B) (fault : Option RunFault) (Untouched : Type 0) : Type 0 where
+pub record RefusesFilledBanks {B : Type 0} (log : B → Option Log) (old new : List B) (fault : Option RunFault) (Untouched : Type 0) : Type 0 where
   -- it tells of the first of them, and only where there are such
   pub names : (clone : ℕ) → fault ≡ Some (faults.NotEmpty clone) → IsFirstFilled log old clone
   -- where there are, it ends before its first line, and changes no bank

@@ -1,4 +1,5 @@
--- How a run of the schedule of a seed ends, and what it has written then: counts alone.
+-- How a run of the schedule of a seed ends, and what it has written then: counts alone. `run` cites `AreGivenLines` and `EndsGenerated`, as does
+-- `run_generated`; its parts (`run_text`, `report`, `write_counts`) the others.
 use Rattle.std.specs.Prelude.{◌≡◌, ℕ, List, Option, None, Some, length, take}
 use Rattle.std.specs.Io.KnownBytes.{Appends}
 use Rattle.mld_io.specs.Faults.{Rose}
@@ -9,9 +10,9 @@ use Rattle.schedule_model.specs.Promises.{KeepsPromises}
 use Rattle.schedule_generator.specs.Generated.{generated, text_of}
 use Rattle.world_summaries.specs.declared.summaries.Summary.{Summary}
 use Rattle.mld_replay.specs.Counts.{counts_text}
-use Rattle.mld_replay.specs.Ran.{IsReplay, Saying, EndsSo}
+use Rattle.mld_replay.specs.Ran.{IsReplay, Saying, ReplayEnds}
 use Rattle.mld_replay.specs.RunSummaries.{TellsOf}
-use Rattle.mld_replay.specs.Words.{IsGenerate}
+use Rattle.mld_replay.specs.ReplayWords.{IsGenerate}
 use Rattle.mld_replay.specs.declared.run.Ran.{Ran}
 use Rattle.mld_replay.specs.declared.run.RunFault.{RunFault}
 use Rattle.mld_replay.specs.declared.run.RunFault.TheVariants as faults
@@ -49,7 +50,7 @@ pub record WritesSomeCounts (P : Stage → Type 0) (lines : List (List ℕ)) (be
 pub record EndsAsReplay (says : Saying) (fault : RunFault) (lines : List (List ℕ)) (before after : Option (List ℕ)) : Type 0 where
   pub none_written : after ≡ before
   pub left : Option (List ℕ)
-  pub ends : EndsSo says (Some fault) (text_of lines) left None None
+  pub ends : ReplayEnds says (Some fault) (text_of lines) left None None
 
 -- where memory ran out: so for want of memory; or the counts were due, and a front of them was written
 pub data RunsOut (says : Saying) (lines : List (List ℕ)) (before after : Option (List ℕ)) : Type 0 where

@@ -1,4 +1,4 @@
--- What the banks keep of the stage that a schedule has come to.
+-- What the banks keep of the stage that a schedule has come to: `says_of` says it for `run`, and `end_of` and `give_back` cite it.
 use Rattle.std.specs.Prelude.{◌≡◌, ℕ, List, Option, Some, slice_get}
 use Rattle.mld_io.specs.Disk.{Log}
 use Rattle.schedule_model.specs.Runs.{Stage, Waiting, SetUp, Running}

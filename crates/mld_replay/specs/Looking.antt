@@ -1,4 +1,4 @@
--- The look at the banks that a run begins with, and what is made of them.
+-- The look at the banks that a run begins with, and what is made of them: `find_filled`, `blanks_of` and what they call cite these.
 use Rattle.std.specs.Prelude.{◌≡◌, ◌<◌, ℕ, List, [], Option, Some, slice_get}
 use Rattle.mld_io.specs.Arm.{Meter}
 use Rattle.mld_io.specs.Disk.{Log}

@@ -1,9 +1,12 @@
--- How a run ends, and what it has written then.
+-- How a run ends, and what it has written then: its status, text, counts and banks, by its fault. `run` and `run_replay` cite `replay_status`,
+-- `IsReplay`, `ReplayEnds` with `says_of`, `LeavesAlone`, `tells`, `CountsFaults` and `Agrees`; `replay` cites them too, and `run_generated` some.
 use Rattle.std.specs.Prelude.{◌≡◌, ◌⊎◌, ℕ, ◌+◌, ◌<◌, List, [], ◌∷◌, ◌++◌, Bool, true, false, Option, None, Some, codes}
 use Rattle.std.specs.Io.KnownBytes.{Appends}
 use Rattle.mld_io.specs.Faults.{Rose}
-use Rattle.mld_io.specs.Lines.{lines_of, ended_lines, IsCutShort}
-use Rattle.mld_replay.specs.TooLarge.{left_after, IsTooLargeLine}
+use Rattle.mld_io.specs.Lines.{lines_of, IsCutShort}
+use Rattle.input_lines.specs.TooLarge.{left_after, IsTooLargeLine}
+use Rattle.input_lines.specs.Taken.{ReadsLines}
+use Rattle.input_lines.specs.Untouched.{HasNotBegun}
 use Rattle.mld_model.specs.World.{World}
 use Rattle.schedule_model.specs.Runs.{Stage, Waiting, Running, Acts, Runs, RunsBefore, Outcome, Finished, BadLine, Verdict}
 use Rattle.schedule_model.specs.Promises.{KeepsPromises}
@@ -16,16 +19,16 @@ use Rattle.mld_replay.specs.declared.run.RunFault.{RunFault}
 use Rattle.mld_replay.specs.declared.run.RunFault.TheVariants as faults
 
 -- the status of the program
-abbrev pub status_of : Option RunFault → ℕ
-status_of None = 0
-status_of (Some faults.Usage) = 1
-status_of (Some faults.ReadFault) = 2
-status_of (Some faults.WriteFault) = 3
-status_of (Some (faults.BadLine line)) = 4
-status_of (Some faults.NoMemory) = 5
-status_of (Some (faults.Device clone)) = 6
-status_of (Some (faults.TooLarge line)) = 7
-status_of (Some (faults.NotEmpty clone)) = 8
+abbrev pub replay_status : Option RunFault → ℕ
+replay_status None = 0
+replay_status (Some faults.Usage) = 1
+replay_status (Some faults.ReadFault) = 2
+replay_status (Some faults.WriteFault) = 3
+replay_status (Some (faults.BadLine line)) = 4
+replay_status (Some faults.NoMemory) = 5
+replay_status (Some (faults.Device clone)) = 6
+replay_status (Some (faults.TooLarge line)) = 7
+replay_status (Some (faults.NotEmpty clone)) = 8
 
 -- the one word is `replay`
 abbrev pub IsReplay : List (List ℕ) → Type 0
@@ -63,14 +66,6 @@ pub record StopsAtLarge (P : Stage → Type 0) (bytes : List ℕ) (number : ℕ)
   pub large : (lines : ℕ) → number ≡ lines + 1 → IsTooLargeLine bytes lines
   pub written : Appends before after text
   pub holds : P stage
-
--- so many lines end within the bytes that were read; the others are left
-pub record ReadsLines (bytes : List ℕ) (left : Option (List ℕ)) (lines : ℕ) : Type 0 where
-  pub read : List ℕ
-  pub rest : List ℕ
-  pub whole : bytes ≡ read ++ rest
-  pub ends : ended_lines read ≡ lines
-  pub left_is : left ≡ Some rest
 
 -- the lines done are those whose LF was read, none of them is too large, and their text was written; of the bytes behind them
 -- a part of one line was read; and this holds of the stage that they led to
@@ -120,11 +115,6 @@ pub record WritesWhole (P : Stage → List (List ℕ) → Type 0) (bytes : List 
 abbrev pub WritesSome : List ℕ → Option (List ℕ) → Option (List ℕ) → Type 0
 WritesSome bytes before after = WritesWhole (λ stage rest. Unit {0}) bytes before after ⊎ WritesFront (λ stage. Unit {0}) bytes before after
 
--- none of these bytes was read, and nothing was written
-pub record HasNotBegun (bytes : List ℕ) (left before after : Option (List ℕ)) : Type 0 where
-  pub all_left : left ≡ Some bytes
-  pub none_written : after ≡ before
-
 -- what is said of the world and the banks at the end of a run, by how far it came
 pub record Saying : Type 1 where
   -- of the stage that it came to, where it tells of its world
@@ -140,27 +130,27 @@ pub record Saying : Type 1 where
 
 -- a device failed: before the first line, or in the middle of a line or of the end
 pub data FailsSo (says : Saying) (bytes : List ℕ) (left before after : Option (List ℕ)) : Type 0 where
-  fails_before : HasNotBegun bytes left before after → says.same → FailsSo says bytes left before after
+  fails_before : HasNotBegun (Some bytes) left before after → says.same → FailsSo says bytes left before after
   fails_amid : WritesWhole says.left bytes before after → FailsSo says bytes left before after
 
 -- memory ran out: so too, or while a reply was written; or no banks come back
 pub data RunsShort (says : Saying) (bytes : List ℕ) (left before after : Option (List ℕ)) : Type 0 where
-  short_before : HasNotBegun bytes left before after → says.same → RunsShort says bytes left before after
+  short_before : HasNotBegun (Some bytes) left before after → says.same → RunsShort says bytes left before after
   short_amid : WritesWhole says.left bytes before after → RunsShort says bytes left before after
   short_writing : WritesFront says.kept bytes before after → RunsShort says bytes left before after
   short_of_banks : says.none → WritesSome bytes before after → RunsShort says bytes left before after
 
 -- How a run over these bytes ended, by its fault: what it did, what it left of them, what it wrote, and what is said then.
-abbrev pub EndsSo : Saying → Option RunFault → List ℕ → Option (List ℕ) → Option (List ℕ) → Option (List ℕ) → Type 0
-EndsSo says None bytes left before after = Finishes says.told bytes left before after
-EndsSo says (Some faults.Usage) bytes left before after = HasNotBegun bytes left before after
-EndsSo says (Some faults.ReadFault) bytes left before after = BreaksOff says.told bytes left before after
-EndsSo says (Some faults.WriteFault) bytes left before after = WritesFront says.kept bytes before after
-EndsSo says (Some (faults.BadLine line)) bytes left before after = StopsAtBad says.told bytes line before after
-EndsSo says (Some faults.NoMemory) bytes left before after = RunsShort says bytes left before after
-EndsSo says (Some (faults.Device clone)) bytes left before after = FailsSo says bytes left before after
-EndsSo says (Some (faults.TooLarge line)) bytes left before after = StopsAtLarge says.told bytes line before after
-EndsSo says (Some (faults.NotEmpty clone)) bytes left before after = HasNotBegun bytes left before after
+abbrev pub ReplayEnds : Saying → Option RunFault → List ℕ → Option (List ℕ) → Option (List ℕ) → Option (List ℕ) → Type 0
+ReplayEnds says None bytes left before after = Finishes says.told bytes left before after
+ReplayEnds says (Some faults.Usage) bytes left before after = HasNotBegun (Some bytes) left before after
+ReplayEnds says (Some faults.ReadFault) bytes left before after = BreaksOff says.told bytes left before after
+ReplayEnds says (Some faults.WriteFault) bytes left before after = WritesFront says.kept bytes before after
+ReplayEnds says (Some (faults.BadLine line)) bytes left before after = StopsAtBad says.told bytes line before after
+ReplayEnds says (Some faults.NoMemory) bytes left before after = RunsShort says bytes left before after
+ReplayEnds says (Some (faults.Device clone)) bytes left before after = FailsSo says bytes left before after
+ReplayEnds says (Some (faults.TooLarge line)) bytes left before after = StopsAtLarge says.told bytes line before after
+ReplayEnds says (Some (faults.NotEmpty clone)) bytes left before after = HasNotBegun (Some bytes) left before after
 
 -- what a run leaves as it was, by its fault: source, sink and banks where its words are none that it knows, and source and sink where
 -- banks are not empty
@@ -168,11 +158,6 @@ abbrev pub LeavesAlone : Option RunFault → (Untouched SameBanks : Type 0) → 
 LeavesAlone (Some faults.Usage) Untouched SameBanks = Untouched × SameBanks
 LeavesAlone (Some (faults.NotEmpty clone)) Untouched SameBanks = Untouched
 LeavesAlone fault Untouched SameBanks = Unit {0}
-
--- source and sink are as they were
-pub record AreUntouched {S K : Type 0} (source left : S) (sink held : K) : Type 0 where
-  pub source_is : left ≡ source
-  pub sink_is : held ≡ sink
 
 -- the count of the source's faults, by how a run ended: it rose where that is told, and else it is what it was, unless memory ran out
 abbrev pub CountsReads : ℕ → ℕ → Option RunFault → Type 0

@@ -1,4 +1,4 @@
--- What a run tells of the world that it ends with.
+-- What a run tells of the world that it ends with: `says_of` says it for `run`, and `end_of` and `summary_of` cite it.
 use Rattle.std.specs.Prelude.{Option, None, Some}
 use Rattle.schedule_model.specs.Runs.{Stage, Waiting, SetUp, Running}
 use Rattle.world_summaries.specs.declared.summaries.Summary.{Summary}

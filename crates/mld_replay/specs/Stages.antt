@@ -1,10 +1,11 @@
--- What the state of a schedule has to do with the stage of the model.
+-- What the state of a schedule has to do with the stage of the model, and what a line and the end of the lines make of it. `act`, `finish` and the
+-- functions that they call cite these, and so do `do_line` and `end_lines`.
 use Rattle.std.specs.Prelude.{◌≡◌, ℕ, List, Option, Some, length}
 use Rattle.mld_io.specs.Disk.{Log}
 use Rattle.mld_model.specs.World.{World, clone_count}
 use Rattle.mld_model.specs.Sound.{IsSound}
 use Rattle.schedule_model.specs.declared.Command.{Command}
-use Rattle.schedule_model.specs.Runs.{Stage, Waiting, SetUp, Running, IsWorldOf, Acts}
+use Rattle.schedule_model.specs.Runs.{Stage, Waiting, SetUp, Running, IsWorldOf, Acts, IsBad}
 use Rattle.schedule_model.specs.Schedule.{IsSetup, SetsProperty, SpellsCommand}
 use Rattle.schedule_text.specs.ReadLines.{setup_of, SetupIs}
 use Rattle.schedule_text.specs.declared.setups.SetupLine.TheVariants as lines
@@ -33,15 +34,15 @@ SpellsAt (SetUp setup) line command = SpellsCommand setup.domain line command
 SpellsAt (Running world) line command = SpellsCommand world.domain line command
 
 -- the steps made so far
-abbrev pub steps_of : {B : Type 0} → RunningStage B → ℕ
-steps_of (stages.Waiting blanks) = 0
-steps_of (stages.SetUp setup blanks) = 0
-steps_of (stages.Running running) = running.steps
-steps_of (stages.Over banks) = 0
+abbrev pub steps_of_stage : {B : Type 0} → RunningStage B → ℕ
+steps_of_stage (stages.Waiting blanks) = 0
+steps_of_stage (stages.SetUp setup blanks) = 0
+steps_of_stage (stages.Running running) = running.steps
+steps_of_stage (stages.Over banks) = 0
 
 -- a command that was refused: of the banks of its clone a crash leaves what it might have left before, or a front of the command's durable steps,
 -- and those of the others are as they were
-pub record StopsCommand {B : Type 0} (log : B → Option Log) (old : BankedWorld B) (command : Command) (new : List B) : Type 0 where
+pub record LeavesRefusedCommand {B : Type 0} (log : B → Option Log) (old : BankedWorld B) (command : Command) (new : List B) : Type 0 where
   pub left : LeavesBanks log old command new
   pub others : OthersStay (number_of_clone command) (banks_of old) new
 
@@ -89,3 +90,21 @@ pub record EndsWell {B : Type 0} (log : B → Option Log) (stage : Stage) (runni
   pub world : World
   pub founds : IsWorldOf stage world
   pub stands : StageStands log running (Running world)
+
+-- ---- whatever stage of the model the state stands for
+
+-- the line was done
+abbrev pub ActsFrom : {B : Type 0} → (B → Option Log) → RunningStage B → List ℕ → List ℕ → RunningStage B → Type 0
+ActsFrom log old line text new = (stage : Stage) → StageStands log old stage → ActsWell log stage line text new
+
+-- the lines ended
+abbrev pub EndsFrom : {B : Type 0} → (B → Option Log) → RunningStage B → RunningStage B → Type 0
+EndsFrom log old new = (stage : Stage) → StageStands log old stage → EndsWell log stage new
+
+-- the line is bad
+abbrev pub IsBadFrom : {B : Type 0} → (B → Option Log) → RunningStage B → List ℕ → Type 0
+IsBadFrom log old line = (stage : Stage) → StageStands log old stage → IsBad stage line
+
+-- no domain line has come
+abbrev pub OnlyWaits : {B : Type 0} → (B → Option Log) → RunningStage B → Type 0
+OnlyWaits log old = (stage : Stage) → StageStands log old stage → stage ≡ Waiting

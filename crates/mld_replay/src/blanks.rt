@@ -7,7 +7,7 @@ ghost use Rattle.world_commands.specs.WorldBanks.{MeterGoesOn, MetersGoOn, HadNo
 ghost use Rattle.journal_store.specs.Standing.{IsBlankLog};
 ghost use Rattle.net_world.specs.SettledWorlds.{AreBlank};
 ghost use Rattle.mld_replay.specs.BanksLeft.{LeavesLess, LeaveNoMore};
-ghost use Rattle.mld_replay.specs.BankFaults.{AreWell, BringsBack};
+ghost use Rattle.mld_replay.specs.BankFaults.{ComeBackWell, BringsBack};
 ghost use Rattle.mld_replay.specs.Filled.{IsFilled, LogsStay};
 ghost use Rattle.mld_replay.specs.Looking.{AreEmpty, StopsLookingAt, StopsLooking, StopsBlanking};
 
@@ -53,7 +53,8 @@ fn look_at<B: CrashBanks>(banks: &mut B, number: u8) -> Result<(), RunFault>
 /// Whether a side of the banks of a number has bytes.
 fn has_bytes<B: CrashBanks>(banks: &mut B, side: Side, number: u8) -> Result<bool, RunFault>
     ensures log { B.log banks.new ≡ B.log banks.old }
-    ensures bytes { (l : Log) → B.log banks.old ≡ Some l → IfOk result (λ has. IsTrue has ↔ (0 < length (bytes_of side (seen l)))) }
+    ensures bytes { (l : Log) → B.log banks.old ≡ Some l
+        → IfOk result (λ has. IsTrue has ↔ (0 < length (bytes_of side (seen l)))) }
     ensures meter { MeterGoesOn (B.meter banks.old) (B.meter banks.new) }
     ensures quiet { OnOk result (HadNoFault (B.meter banks.old) (B.meter banks.new)) }
     ensures err { IfErr result (StopsLookingAt number (B.log banks.old) (B.meter banks.old) (B.meter banks.new)) }
@@ -76,7 +77,7 @@ pub fn blanks_of<R: Threads, B: CrashBanks>(
     requires count { vec_len banks ≡ clone_count }
     ensures count { IfOk result (λ blanks. length blanks.items ≡ clone_count) }
     ensures blank { IfOk result (λ blanks. AreBlank B.log blanks.items) }
-    ensures well { IfOk result (λ blanks. AreWell B.meter banks.items blanks.items) }
+    ensures well { IfOk result (λ blanks. ComeBackWell B.meter banks.items blanks.items) }
     ensures left { IfErr result (λ refused. LeaveNoMore B.log banks.items refused.1.items) }
     ensures err { IfErr result (λ refused. StopsBlanking B.meter banks.items refused.0 refused.1.items) }
 {

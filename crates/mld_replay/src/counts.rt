@@ -1,6 +1,6 @@
 //! What is told of a generated schedule: how many lines it has, and counts of the clones that its domain line founds.
 ghost use Rattle.std.specs.Prelude.{◌≡◌, ◌++◌, ◌≤◌, ◌*◌, ◌^◌, length, IfOk, OnOk};
-ghost use Rattle.mld_replay.specs.Counts.{dots_of, clone_line, clone_lines, counts_text};
+ghost use Rattle.mld_replay.specs.Counts.{count_of_dots, clone_line, clone_lines, counts_text};
 
 use std::alloc::{AllocError, Global};
 use tree_clock::Path;
@@ -43,14 +43,14 @@ fn push_clone(
 {
     let ranges = clone.journal.len();
     let tagged = clone.tagged.len();
-    let known = dots_of(&clone.known);
+    let known = count_of_dots(&clone.known);
     let line = format!(in alloc; "clone {number} ranges {ranges} tagged {tagged} known {known}\n")?;
     text.extend_from_slice(line.as_bytes())
 }
 
 /// How many dots a clock has.
-fn dots_of(known: &[(Path, u32)]) -> u128
-    ensures { result ≡ dots_of known.now }
+fn count_of_dots(known: &[(Path, u32)]) -> u128
+    ensures { result ≡ count_of_dots known.now }
 {
     let mut dots = 0;
     for (_, ticks) in known {

@@ -30,10 +30,12 @@ pub fn end_of<B: CrashBanks>(
     told: bool,
     stage: Stage<B>,
 ) -> Result<End<B>, AllocError>
-    ensures tells { IsTrue told → (model : ModelStage) → StageStands B.log stage model → IfOk result (λ end. TellsOf end.world model) }
+    ensures tells { IsTrue told → (model : ModelStage) → StageStands B.log stage model
+        → IfOk result (λ end. TellsOf end.world model) }
     ensures silent { ¬ IsTrue told → IfOk result (λ end. end.world ≡ None) }
     ensures banks { IfOk result (λ end. end.banks.items ≡ banks_of_stage stage) }
-    ensures kept { (model : ModelStage) → StageStands B.log stage model → IfOk result (λ end. BanksKeep B.log end.banks.items model) }
+    ensures kept { (model : ModelStage) → StageStands B.log stage model
+        → IfOk result (λ end. BanksKeep B.log end.banks.items model) }
 {
     match stage {
         Stage::Waiting(blanks) => end_of_blanks(alloc, blanks),
@@ -71,10 +73,12 @@ fn end_of_world<B: CrashBanks>(
     told: bool,
     world: World<B>,
 ) -> Result<End<B>, AllocError>
-    ensures tells { IsTrue told → (model : ModelWorld) → StandsOnBanks B.log world model → IsSound model → IfOk result (λ end. TellsOf end.world (Running model)) }
+    ensures tells { IsTrue told → (model : ModelWorld) → StandsOnBanks B.log world model → IsSound model
+        → IfOk result (λ end. TellsOf end.world (Running model)) }
     ensures silent { ¬ IsTrue told → IfOk result (λ end. end.world ≡ None) }
     ensures banks { IfOk result (λ end. end.banks.items ≡ banks_of world) }
-    ensures kept { (model : ModelWorld) → StandsOnBanks B.log world model → IfOk result (λ end. AllBanksStandFor B.log model end.banks.items) }
+    ensures kept { (model : ModelWorld) → StandsOnBanks B.log world model
+        → IfOk result (λ end. AllBanksStandFor B.log model end.banks.items) }
 {
     let summary = summary_of(alloc, told, &world)?;
     Ok(End {
@@ -89,7 +93,8 @@ fn summary_of<B: CrashBanks>(
     told: bool,
     world: &World<B>,
 ) -> Result<Option<Summary>, AllocError>
-    ensures tells { IsTrue told → (model : ModelWorld) → StandsOnBanks B.log world.now model → IsSound model → IfOk result (λ summary. TellsOf summary (Running model)) }
+    ensures tells { IsTrue told → (model : ModelWorld) → StandsOnBanks B.log world.now model → IsSound model
+        → IfOk result (λ summary. TellsOf summary (Running model)) }
     ensures silent { ¬ IsTrue told → IfOk result (λ summary. summary ≡ None) }
 {
     if told {

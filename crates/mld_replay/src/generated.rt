@@ -8,15 +8,15 @@ ghost use Rattle.schedule_generator.specs.Generated.{generated, text_of};
 ghost use Rattle.schedule_model.specs.Runs.{Outcome, Verdict};
 ghost use Rattle.mld_replay.specs.BankFaults.{ReturnsBanks};
 ghost use Rattle.mld_replay.specs.Counts.{counts_text};
-ghost use Rattle.mld_replay.specs.Filled.{HeedsFilled};
+ghost use Rattle.mld_replay.specs.Filled.{RefusesFilledBanks};
 ghost use Rattle.mld_replay.specs.GeneratedRuns.{EndsGenerated, IsFaultWithin, IsCountFault, ReportsCounts};
-ghost use Rattle.mld_replay.specs.Ran.{status_of, tells, EndsSo, says_of, Agrees, CountsWrites};
-ghost use Rattle.mld_replay.specs.Words.{command_limit};
+ghost use Rattle.mld_replay.specs.Ran.{replay_status, tells, ReplayEnds, says_of, Agrees, CountsWrites};
+ghost use Rattle.mld_replay.specs.ReplayWords.{command_limit};
 
 use crate::counts::counts_text;
 use crate::edges::{NoSink, TextSource};
-use crate::run::{Ran, RunFault, ended, run_replay, write_reply};
-use mld_io::{CrashBanks, Sink};
+use crate::run::{Ran, RunFault, end_run, run_replay};
+use mld_io::{CrashBanks, Sink, write_all};
 use schedule_generator::{generate, text_of};
 use std::alloc::{AllocError, Global};
 use std::thread::Threads;
@@ -33,9 +33,10 @@ pub fn run_generated<R: Threads, K: Sink, B: CrashBanks>(
 ) -> Ran<B>
     requires banks { (vec_len banks ≡ clone_count) × AreUnarmed B.meter banks.items }
     requires few { count ≤ command_limit }
-    ensures status { result.status ≡ status_of result.fault }
-    ensures ends { EndsGenerated (says_of B.log banks.items result) result.fault (generated seed count) (K.held sink.old) (K.held sink.new) }
-    ensures filled { HeedsFilled B.log banks.items result.banks.items result.fault (sink.new ≡ sink.old) }
+    ensures status { result.status ≡ replay_status result.fault }
+    ensures ends { EndsGenerated (says_of B.log banks.items result) result.fault (generated seed count)
+        (K.held sink.old) (K.held sink.new) }
+    ensures filled { RefusesFilledBanks B.log banks.items result.banks.items result.fault (sink.new ≡ sink.old) }
     ensures untouched { (clone : ℕ) → result.fault ≡ Some (RunFault.NotEmpty clone) → sink.new ≡ sink.old }
     ensures back { ReturnsBanks B.meter banks.items result.banks.items result.fault }
     ensures silent { ¬ IsTrue (tells result.fault) → result.world ≡ None }
@@ -47,7 +48,7 @@ pub fn run_generated<R: Threads, K: Sink, B: CrashBanks>(
             let ran = run_text(rt, alloc, text, banks);
             report(alloc, u64::from(count) + 1, sink, ran)
         }
-        Err(AllocError) => ended(Some(RunFault::NoMemory), banks, None),
+        Err(AllocError) => end_run(Some(RunFault::NoMemory), banks, None),
     }
 }
 
@@ -67,10 +68,11 @@ fn run_text<R: Threads, B: CrashBanks>(
     banks: Vec<B>,
 ) -> Ran<B>
     requires { (vec_len banks ≡ clone_count) × AreUnarmed B.meter banks.items }
-    ensures status { result.status ≡ status_of result.fault }
+    ensures status { result.status ≡ replay_status result.fault }
     ensures within { IfSome result.fault IsFaultWithin }
-    ensures ends { (left : Option (List ℕ)) × EndsSo (says_of B.log banks.items result) result.fault text.items left None None }
-    ensures filled { HeedsFilled B.log banks.items result.banks.items result.fault (Unit {0}) }
+    ensures ends { (left : Option (List ℕ))
+        × ReplayEnds (says_of B.log banks.items result) result.fault text.items left None None }
+    ensures filled { RefusesFilledBanks B.log banks.items result.banks.items result.fault (Unit {0}) }
     ensures back { ReturnsBanks B.meter banks.items result.banks.items result.fault }
     ensures silent { ¬ IsTrue (tells result.fault) → result.world ≡ None }
     ensures exact { (outcome : Outcome) → Verdict (lines_of text.items) outcome → Agrees result.fault outcome }
@@ -82,8 +84,9 @@ fn run_text<R: Threads, B: CrashBanks>(
 
 /// A run of so many lines, whose counts are written where it ended well. Where they aren't, it ended by that.
 fn report<K: Sink, B>(alloc: Global, lines: u64, sink: &mut K, ran: Ran<B>) -> Ran<B>
-    ensures status { ran.status ≡ status_of ran.fault → result.status ≡ status_of result.fault }
-    ensures reports { ReportsCounts ran result lines (sink.new ≡ sink.old) (K.held sink.old) (K.held sink.new) (K.faults sink.old) (K.faults sink.new) }
+    ensures status { ran.status ≡ replay_status ran.fault → result.status ≡ replay_status result.fault }
+    ensures reports { ReportsCounts ran result lines (sink.new ≡ sink.old)
+        (K.held sink.old) (K.held sink.new) (K.faults sink.old) (K.faults sink.new) }
 {
     let written = match (ran.fault, &ran.world) {
         (None, Some(summary)) => write_counts(alloc, lines, sink, &summary.clones),
@@ -93,7 +96,7 @@ fn report<K: Sink, B>(alloc: Global, lines: u64, sink: &mut K, ran: Ran<B>) -> R
         Ok(()) => ran,
         Err(fault) => {
             let Ran { banks, .. } = ran;
-            ended(Some(fault), banks, None)
+            end_run(Some(fault), banks, None)
         }
     }
 }
@@ -106,10 +109,12 @@ fn write_counts<K: Sink>(
     clones: &[CloneSummary],
 ) -> Result<(), RunFault>
     ensures ok { OnOk result (Appends (K.held sink.old) (K.held sink.new) (counts_text lines clones.now)) }
-    ensures err { OnErr result ((size : ℕ) × Appends (K.held sink.old) (K.held sink.new) (take size (counts_text lines clones.now))) }
+    ensures err { OnErr result ((size : ℕ)
+        × Appends (K.held sink.old) (K.held sink.new) (take size (counts_text lines clones.now))) }
     ensures fault { IfErr result (IsCountFault (K.faults sink.old) (K.faults sink.new)) }
     ensures quiet { OnOk result (K.faults sink.new ≡ K.faults sink.old) }
 {
     let text = counts_text(alloc, lines, clones)?;
-    write_reply(sink, &text)
+    write_all(sink, &text)?;
+    Ok(())
 }

@@ -7,7 +7,6 @@ mod counts;
 mod edges;
 mod endings;
 mod generated;
-mod limits;
 pub mod run;
 mod stages;
 mod stops;

@@ -1,32 +1,31 @@
 //! The run: all that the program does, over the words, the source and the sink that it is handed.
-ghost use Rattle.std.specs.Prelude.{◌≡◌, ◌≢◌, ◌↔◌, ◌≤◌, ◌<◌, ◌+◌, ◌∷◌, ℕ, List, [], map, take, false, None, vec_len, IsTrue, IfOk, IfErr, OnOk, OnErr, IsErrOf};
-ghost use Rattle.std.specs.Io.KnownBytes.{Appends};
+ghost use Rattle.std.specs.Prelude.{◌≡◌, ◌≢◌, ◌↔◌, ◌≤◌, ◌<◌, ◌+◌, ◌∷◌, ℕ, List, [], None, vec_len, IsTrue, IfErr, OnOk, IsErrOf};
 ghost use Rattle.std.specs.Result.{result_err};
-ghost use Rattle.std.specs.String.{string_bytes};
-ghost use Rattle.mld_io.specs.Lines.{lines_of, HasNoEnd, IsCutShort};
-ghost use Rattle.schedule_model.specs.Runs.{Stage as ModelStage, Waiting, Outcome, Verdict, IsBad};
-ghost use Rattle.schedule_model.specs.WorldStep.{step_limit};
-ghost use Rattle.mld_replay.specs.Stops.{fault_of, EndsAmid};
-ghost use Rattle.mld_replay.specs.TooLarge.{BreaksLimits, line_limit, input_limit};
+ghost use Rattle.mld_io.specs.Lines.{lines_of};
+ghost use Rattle.input_lines.specs.Taken.{WhereTold};
+ghost use Rattle.input_lines.specs.Untouched.{AreUntouched};
 ghost use Rattle.mld_model.specs.World.{clone_count};
+ghost use Rattle.schedule_generator.specs.Generated.{generated};
+ghost use Rattle.schedule_model.specs.Runs.{Waiting, Outcome, Verdict};
+ghost use Rattle.schedule_model.specs.WorldStep.{step_limit};
 ghost use Rattle.net_world.specs.CrashedWorlds.{AreUnarmed};
 ghost use Rattle.mld_replay.specs.BankFaults.{BringsBack, ReturnsBanks};
-ghost use Rattle.mld_replay.specs.Filled.{HeedsFilled};
-ghost use Rattle.mld_replay.specs.Stages.{StageStands, IsStandingStage, steps_of, banks_of_stage, ActsWell, EndsWell};
-ghost use Rattle.mld_replay.specs.Words.{IsGenerate, AreUnknown};
+ghost use Rattle.mld_replay.specs.Filled.{RefusesFilledBanks};
 ghost use Rattle.mld_replay.specs.GeneratedRuns.{AreGivenLines, EndsGenerated};
-ghost use Rattle.schedule_generator.specs.Generated.{generated};
-ghost use Rattle.mld_replay.specs.Ran.{status_of, tells, IsReplay, EndsSo, says_of, Agrees, LeavesAlone, AreUntouched, CountsFaults};
-ghost use Rattle.mld_replay.specs.Replaying.{EndsBy, says_by, TakesLine, IfSomeLine, IsReadingFault, IsWritingFault, IsReplayFault, IsLineFault, IsEndFault, HasReadCause, HasWriteFaultCause};
+ghost use Rattle.mld_replay.specs.Ran.{replay_status, tells, IsReplay, ReplayEnds, says_of, Agrees, LeavesAlone, CountsFaults};
+ghost use Rattle.mld_replay.specs.ReplayWords.{texts_of, IsGenerate, AreUnknown};
+ghost use Rattle.mld_replay.specs.Replaying.{EndsByFault, says_by, IsReplayFault, IsLineFault};
+ghost use Rattle.mld_replay.specs.Stages.{StageStands, IsStandingStage, steps_of_stage, banks_of_stage, ActsFrom, EndsFrom, IsBadFrom, OnlyWaits};
+ghost use Rattle.mld_replay.specs.Stops.{fault_at_line, FaultLeaves, FaultLeavesAtLine};
 
 use crate::blanks::{blanks_of, find_filled};
 use crate::endings::{End, end_of};
 use crate::generated::run_generated;
-use crate::limits::{INPUT_LIMIT, LINE_LIMIT};
 use crate::stages::{Stage, act, finish};
 use crate::stops::LineStop;
 use crate::words::{Words, read_words};
-use mld_io::{Banks, CrashBanks, LineFault, Lines, Piece, Sink, Source, WriteFault, write_all};
+use input_lines::{INPUT_LIMIT, InputFault, LINE_LIMIT, next_line};
+use mld_io::{Banks, CrashBanks, Lines, Sink, Source, WriteFault, write_all};
 use std::alloc::{AllocError, Global};
 use std::fmt;
 use std::thread::Threads;
@@ -86,10 +85,11 @@ pub fn run<R: Threads, S: Source, K: Sink, B: CrashBanks>(
     banks: Vec<B>,
 ) -> Ran<B>
     requires { (vec_len banks ≡ clone_count) × AreUnarmed B.meter banks.items }
-    ensures status { result.status ≡ status_of result.fault }
-    ensures usage { (result.fault ≡ Some RunFault.Usage) ↔ AreUnknown (map (λ w. string_bytes w) words.now.items) }
+    ensures status { result.status ≡ replay_status result.fault }
+    ensures usage { (result.fault ≡ Some RunFault.Usage) ↔ AreUnknown (texts_of words.now.items) }
     // At 1 and 8 nothing is read or written, and at 1 no bank is called.
-    ensures untouched { LeavesAlone result.fault (AreUntouched source.old source.new sink.old sink.new) (result.banks ≡ banks) }
+    ensures untouched { LeavesAlone result.fault
+        (AreUntouched source.old source.new sink.old sink.new) (result.banks ≡ banks) }
     // How the run ended, by its fault. The text that was written is that of a run of the model over the first lines, or a front of it.
     //
     // 0: the source is read to its end, and none of its lines is too large. The world that they lead to has the meaning of what each
@@ -102,11 +102,13 @@ pub fn run<R: Threads, S: Source, K: Sink, B: CrashBanks>(
     // 6: the text is that of the lines before the one under way. Whatever a crash leaves of the banks then has all that these lines made
     // durable, and of the line under way, or of founding, a front of the durable steps; where no line was begun, it is what it might have left
     // before the run. 5: so it is too, or as at 3, or no banks come back.
-    ensures ends { IsReplay (map (λ w. string_bytes w) words.now.items) → (bytes : List ℕ) → S.left source.old ≡ Some bytes
-        → EndsSo (says_of B.log banks.items result) result.fault bytes (S.left source.new) (K.held sink.old) (K.held sink.new) }
+    ensures ends { IsReplay (texts_of words.now.items) → WhereTold (S.left source.old) (λ bytes.
+        ReplayEnds (says_of B.log banks.items result) result.fault bytes
+        (S.left source.new) (K.held sink.old) (K.held sink.new)) }
     // 8 tells of the first banks with a side that has bytes. Where there are such, the run ends by 8 with their number, by 6 with it or a
     // lower one, or by 1 or 5; no line is read, and the log of each bank stays.
-    ensures filled { HeedsFilled B.log banks.items result.banks.items result.fault (AreUntouched source.old source.new sink.old sink.new) }
+    ensures filled { RefusesFilledBanks B.log banks.items result.banks.items result.fault
+        (AreUntouched source.old source.new sink.old sink.new) }
     // Unless memory ran out all banks come back, in order, and at 5 all or none. At 6 those of that clone had one real fault, and no
     // others had any; at any other status none that comes back had one.
     ensures back { ReturnsBanks B.meter banks.items result.banks.items result.fault }
@@ -114,21 +116,23 @@ pub fn run<R: Threads, S: Source, K: Sink, B: CrashBanks>(
     ensures silent { ¬ IsTrue (tells result.fault) → result.world ≡ None }
     // 2 comes just where the source's count of faults rose, and 3 where the sink's did; but where memory for the summary or the banks
     // was wanting after a failed read or write, the run ended by 5.
-    ensures counts { CountsFaults result.fault (S.faults source.old) (S.faults source.new) (K.faults sink.old) (K.faults sink.new) }
+    ensures counts { CountsFaults result.fault
+        (S.faults source.old) (S.faults source.new) (K.faults sink.old) (K.faults sink.new) }
     // Whatever a verdict on the lines is, by whichever choices at its crash lines, the run ends so, unless it ended by 2, 3, 5, 6, 7 or 8:
     // at its end, or by 4 at that line. The lines are those of the source, or those of the seed.
-    ensures exact { (lines : List (List ℕ)) → AreGivenLines (map (λ w. string_bytes w) words.now.items) (S.left source.old) lines
+    ensures exact { (lines : List (List ℕ)) → AreGivenLines (texts_of words.now.items) (S.left source.old) lines
         → (outcome : Outcome) → Verdict lines outcome → Agrees result.fault outcome }
     // By `gen` the source is untouched, whatever the end. 0: the lines of the seed are done, and their counts written; world and banks are
     // those of that world. 3: a front of the counts was written, and the banks keep that world. 5: so too; or nothing was, and the banks
     // are as at 5 of a replay of these lines. 6: so too, as at 6. 2, 4 and 7 never come.
-    ensures generated { (seed count : ℕ) → IsGenerate (map (λ w. string_bytes w) words.now.items) seed count → (source.new ≡ source.old)
-        × EndsGenerated (says_of B.log banks.items result) result.fault (generated seed count) (K.held sink.old) (K.held sink.new) }
+    ensures generated { (seed count : ℕ) → IsGenerate (texts_of words.now.items) seed count
+        → (source.new ≡ source.old) × EndsGenerated (says_of B.log banks.items result) result.fault
+        (generated seed count) (K.held sink.old) (K.held sink.new) }
 {
     match read_words(words) {
         Words::Replay => run_replay(rt, alloc, source, sink, banks),
         Words::Generate(seed, count) => run_generated(rt, alloc, seed, count, sink, banks),
-        Words::Unknown => ended(Some(RunFault::Usage), banks, None),
+        Words::Unknown => end_run(Some(RunFault::Usage), banks, None),
     }
 }
 
@@ -141,47 +145,52 @@ pub fn run_replay<R: Threads, S: Source, K: Sink, B: CrashBanks>(
     banks: Vec<B>,
 ) -> Ran<B>
     requires { (vec_len banks ≡ clone_count) × AreUnarmed B.meter banks.items }
-    ensures status { result.status ≡ status_of result.fault }
+    ensures status { result.status ≡ replay_status result.fault }
     ensures known { result.fault ≢ Some RunFault.Usage }
-    ensures untouched { LeavesAlone result.fault (AreUntouched source.old source.new sink.old sink.new) (result.banks ≡ banks) }
-    ensures ends { (bytes : List ℕ) → S.left source.old ≡ Some bytes
-        → EndsSo (says_of B.log banks.items result) result.fault bytes (S.left source.new) (K.held sink.old) (K.held sink.new) }
-    ensures filled { HeedsFilled B.log banks.items result.banks.items result.fault (AreUntouched source.old source.new sink.old sink.new) }
+    ensures untouched { LeavesAlone result.fault
+        (AreUntouched source.old source.new sink.old sink.new) (result.banks ≡ banks) }
+    ensures ends { WhereTold (S.left source.old) (λ bytes.
+        ReplayEnds (says_of B.log banks.items result) result.fault bytes
+        (S.left source.new) (K.held sink.old) (K.held sink.new)) }
+    ensures filled { RefusesFilledBanks B.log banks.items result.banks.items result.fault
+        (AreUntouched source.old source.new sink.old sink.new) }
     ensures back { ReturnsBanks B.meter banks.items result.banks.items result.fault }
     ensures silent { ¬ IsTrue (tells result.fault) → result.world ≡ None }
-    ensures counts { CountsFaults result.fault (S.faults source.old) (S.faults source.new) (K.faults sink.old) (K.faults sink.new) }
-    ensures exact { (bytes : List ℕ) → S.left source.old ≡ Some bytes → (outcome : Outcome) → Verdict (lines_of bytes) outcome → Agrees result.fault outcome }
+    ensures counts { CountsFaults result.fault
+        (S.faults source.old) (S.faults source.new) (K.faults sink.old) (K.faults sink.new) }
+    ensures exact { WhereTold (S.left source.old) (λ bytes.
+        (outcome : Outcome) → Verdict (lines_of bytes) outcome → Agrees result.fault outcome) }
 {
     let mut banks = banks;
     if let Err(fault) = find_filled(&mut banks) {
-        return ended(Some(fault), banks, None);
+        return end_run(Some(fault), banks, None);
     }
     match blanks_of(rt, alloc, banks) {
         Ok(blanks) => {
             let mut stage = Stage::Waiting(blanks);
             let fault = replay(rt, alloc, source, sink, &mut stage).err();
-            ended_with(alloc, fault, stage)
+            end_at_stage(alloc, fault, stage)
         }
-        Err((fault, banks)) => ended(Some(fault), banks, None),
+        Err((fault, banks)) => end_run(Some(fault), banks, None),
     }
 }
 
-/// A run that ended so, with its banks, and with what it tells of its world where it has to. Where there is no memory for that, it
-/// ended by want of memory.
-fn ended_with<B: CrashBanks>(alloc: Global, fault: Option<RunFault>, stage: Stage<B>) -> Ran<B>
-    ensures status { result.status ≡ status_of result.fault }
-    ensures ends { EndsBy B.log fault stage result }
+/// Ends a run at the stage that it came to: it gives back the banks, and tells of its world where it has to. Where there is no memory
+/// for that, it ends by want of memory.
+fn end_at_stage<B: CrashBanks>(alloc: Global, fault: Option<RunFault>, stage: Stage<B>) -> Ran<B>
+    ensures status { result.status ≡ replay_status result.fault }
+    ensures ends { EndsByFault B.log fault stage result }
 {
     match end_of(alloc, tells(fault), stage) {
-        Ok(End { world, banks }) => ended(fault, banks, world),
-        Err(AllocError) => ended(Some(RunFault::NoMemory), Vec::new(alloc), None),
+        Ok(End { world, banks }) => end_run(fault, banks, world),
+        Err(AllocError) => end_run(Some(RunFault::NoMemory), Vec::new(alloc), None),
     }
 }
 
-/// A run that ended so, with these banks, and tells this of its world.
-pub fn ended<B>(fault: Option<RunFault>, banks: Vec<B>, world: Option<Summary>) -> Ran<B>
+/// Ends a run by this fault, or well: it gives back these banks, and tells this of its world.
+pub fn end_run<B>(fault: Option<RunFault>, banks: Vec<B>, world: Option<Summary>) -> Ran<B>
     ensures fault { result.fault ≡ fault }
-    ensures status { result.status ≡ status_of fault }
+    ensures status { result.status ≡ replay_status fault }
     ensures banks { result.banks ≡ banks }
     ensures world { result.world ≡ world }
 {
@@ -205,7 +214,7 @@ fn tells(fault: Option<RunFault>) -> bool
 
 /// The status of the program for the way in which a run ended.
 fn status_of(fault: Option<RunFault>) -> u8
-    ensures { result ≡ status_of fault }
+    ensures { result ≡ replay_status fault }
 {
     match fault {
         None => 0,
@@ -231,10 +240,12 @@ fn replay<R: Threads, S: Source, K: Sink, B: CrashBanks>(
     requires waits { StageStands B.log stage.old Waiting }
     requires unarmed { AreUnarmed B.meter (banks_of_stage stage.old) }
     ensures begun { IfErr result IsReplayFault }
-    ensures ends { (bytes : List ℕ) → S.left source.old ≡ Some bytes
-        → EndsSo (says_by B.log stage.new) (result_err result) bytes (S.left source.new) (K.held sink.old) (K.held sink.new) }
+    ensures ends { WhereTold (S.left source.old) (λ bytes.
+        ReplayEnds (says_by B.log stage.new) (result_err result) bytes
+        (S.left source.new) (K.held sink.old) (K.held sink.new)) }
     ensures back { BringsBack B.meter (banks_of_stage stage.old) (banks_of_stage stage.new) (result_err result) }
-    ensures counts { CountsFaults (result_err result) (S.faults source.old) (S.faults source.new) (K.faults sink.old) (K.faults sink.new) }
+    ensures counts { CountsFaults (result_err result)
+        (S.faults source.old) (S.faults source.new) (K.faults sink.old) (K.faults sink.new) }
 {
     let mut lines = Lines::new(alloc, LINE_LIMIT, INPUT_LIMIT)?;
     let mut reply = Vec::new(alloc);
@@ -242,52 +253,9 @@ fn replay<R: Threads, S: Source, K: Sink, B: CrashBanks>(
     while let Some(line) = next_line(&mut lines, source, done + 1)? {
         done += 1;
         do_line(rt, alloc, stage, line.as_slice(), done, &mut reply)?;
-        write_reply(sink, reply.as_slice())?;
+        write_all(sink, reply.as_slice())?;
     }
     end_lines(rt, alloc, stage, done + 1)
-}
-
-/// The next line, where line `number` is due.
-fn next_line<S: Source>(
-    lines: &mut Lines,
-    source: &mut S,
-    number: u64,
-) -> Result<Option<Piece>, RunFault>
-    requires good { IsTrue lines.old.good }
-    requires line { lines.old.line ≡ line_limit }
-    requires all { lines.old.all ≡ input_limit }
-    ensures line { (bytes : List ℕ) → S.left source.old ≡ Some bytes → IfOk result (TakesLine lines.old.taken bytes (S.left source.new) lines.new.taken) }
-    ensures at_end { lines.old.ended ≡ false → (bytes : List ℕ) → S.left source.old ≡ Some bytes → IfOk result (λ line. line ≡ None → bytes ≡ []) }
-    ensures ended { (bytes : List ℕ) → S.left source.old ≡ Some bytes → IfOk result (IfSomeLine (λ _. IsTrue lines.new.ended ↔ HasNoEnd bytes)) }
-    ensures failed { OnErr result (lines.old.ended ≡ false) }
-    ensures large { (at : ℕ) → IsErrOf result (RunFault.TooLarge at) → (at ≡ number) × ((bytes : List ℕ) → S.left source.old ≡ Some bytes → BreaksLimits lines.old.taken bytes) }
-    ensures broken_off { IsErrOf result RunFault.ReadFault → (bytes : List ℕ) → S.left source.old ≡ Some bytes → IsCutShort bytes (S.left source.new) }
-    ensures good { OnOk result (IsTrue lines.new.good) }
-    ensures limits { (lines.new.line ≡ lines.old.line) × (lines.new.all ≡ lines.old.all) }
-    ensures progress { IfOk result (IfSomeLine (λ _. (lines.old.taken < lines.new.taken) × (lines.new.taken ≤ lines.old.all))) }
-    ensures end { IfOk result (λ line. line ≡ None → lines.new.taken ≡ lines.old.taken) }
-    ensures fault { IfErr result IsReadingFault }
-    ensures cause { HasReadCause (S.faults source.old) (S.faults source.new) result }
-{
-    match lines.next(source) {
-        Ok(line) => Ok(line),
-        Err(LineFault::ReadFault) => Err(RunFault::ReadFault),
-        Err(LineFault::TooLarge) => Err(RunFault::TooLarge(number)),
-        Err(LineFault::NoMemory) => Err(RunFault::NoMemory),
-    }
-}
-
-/// Writes the text of a line's reply as one piece.
-pub fn write_reply<K: Sink>(sink: &mut K, reply: &[u8]) -> Result<(), RunFault>
-    ensures ok { OnOk result (Appends (K.held sink.old) (K.held sink.new) reply.now) }
-    ensures err { OnErr result ((n : ℕ) × Appends (K.held sink.old) (K.held sink.new) (take n reply.now)) }
-    ensures fault { IfErr result IsWritingFault }
-    ensures cause { HasWriteFaultCause (K.faults sink.old) (K.faults sink.new) result }
-{
-    write_all(sink, reply).map_err(|fault| match fault {
-        WriteFault::Failed => RunFault::WriteFault,
-        WriteFault::NoMemory => RunFault::NoMemory,
-    })
 }
 
 /// Does line `number`, and makes the text of its reply in place of what `reply` had.
@@ -299,20 +267,20 @@ fn do_line<R: Threads, B: CrashBanks>(
     number: u64,
     reply: &mut Vec<u8>,
 ) -> Result<(), RunFault>
-    requires few { steps_of stage.old < step_limit }
+    requires few { steps_of_stage stage.old < step_limit }
     requires standing { IsStandingStage B.log stage.old }
     requires unarmed { AreUnarmed B.meter (banks_of_stage stage.old) }
-    ensures ok { OnOk result ((model : ModelStage) → StageStands B.log stage.old model → ActsWell B.log model line.now reply.new.items stage.new) }
-    ensures steps { OnOk result (steps_of stage.new ≤ steps_of stage.old + 1) }
-    ensures bad { (at : ℕ) → IsErrOf result (RunFault.BadLine at) → (at ≡ number) × ((model : ModelStage) → StageStands B.log stage.old model → IsBad model line.now) }
+    ensures ok { OnOk result (ActsFrom B.log stage.old line.now reply.new.items stage.new) }
+    ensures steps { OnOk result (steps_of_stage stage.new ≤ steps_of_stage stage.old + 1) }
+    ensures bad { (at : ℕ) → IsErrOf result (RunFault.BadLine at) → (at ≡ number) × IsBadFrom B.log stage.old line.now }
     ensures kept { (at : ℕ) → IsErrOf result (RunFault.BadLine at) → stage.new ≡ stage.old }
     ensures back { BringsBack B.meter (banks_of_stage stage.old) (banks_of_stage stage.new) (result_err result) }
-    ensures left { IfErr result (λ fault. (rest : List (List ℕ)) → EndsAmid B.log stage.old (banks_of_stage stage.new) (line.now ∷ rest) fault) }
+    ensures left { IfErr result (FaultLeavesAtLine B.log stage.old (banks_of_stage stage.new) line.now) }
     ensures other { IfErr result IsLineFault }
 {
     match act(rt, alloc, stage, line, reply) {
         Ok(()) => Ok(()),
-        Err(stop) => Err(fault_of(stop, number)),
+        Err(stop) => Err(fault_at_line(stop, number)),
     }
 }
 
@@ -324,22 +292,22 @@ fn end_lines<R: Threads, B: CrashBanks>(
     number: u64,
 ) -> Result<(), RunFault>
     requires { IsStandingStage B.log stage.old }
-    ensures ok { OnOk result ((model : ModelStage) → StageStands B.log stage.old model → EndsWell B.log model stage.new) }
-    ensures bad { (at : ℕ) → IsErrOf result (RunFault.BadLine at) → (at ≡ number) × ((model : ModelStage) → StageStands B.log stage.old model → model ≡ Waiting) }
+    ensures ok { OnOk result (EndsFrom B.log stage.old stage.new) }
+    ensures bad { (at : ℕ) → IsErrOf result (RunFault.BadLine at) → (at ≡ number) × OnlyWaits B.log stage.old }
     ensures kept { (at : ℕ) → IsErrOf result (RunFault.BadLine at) → stage.new ≡ stage.old }
     ensures back { BringsBack B.meter (banks_of_stage stage.old) (banks_of_stage stage.new) (result_err result) }
-    ensures left { IfErr result (EndsAmid B.log stage.old (banks_of_stage stage.new) []) }
-    ensures other { IfErr result IsEndFault }
+    ensures left { IfErr result (FaultLeaves B.log stage.old (banks_of_stage stage.new) []) }
+    ensures other { IfErr result IsLineFault }
 {
     match finish(rt, alloc, stage) {
         Ok(()) => Ok(()),
-        Err(stop) => Err(fault_of(stop, number)),
+        Err(stop) => Err(fault_at_line(stop, number)),
     }
 }
 
 /// Why the run ends at line `number`.
-fn fault_of(stop: LineStop, number: u64) -> RunFault
-    ensures { result ≡ fault_of stop number }
+fn fault_at_line(stop: LineStop, number: u64) -> RunFault
+    ensures { result ≡ fault_at_line stop number }
 {
     match stop {
         LineStop::BadLine => RunFault::BadLine(number),
@@ -377,5 +345,36 @@ impl From<AllocError> for RunFault {
 
     fn from(_error: AllocError) -> RunFault {
         RunFault::NoMemory
+    }
+}
+
+// Why a run ends where there is no next line.
+impl From<InputFault> for RunFault {
+    ghost use Rattle.std.specs.Prelude.{◌≡◌};
+    ghost use Rattle.mld_replay.specs.Replaying.{run_fault_of_input};
+
+    ghost from_gives = { λ fault ends. ends ≡ run_fault_of_input fault };
+
+    fn from(fault: InputFault) -> RunFault {
+        match fault {
+            InputFault::ReadFault => RunFault::ReadFault,
+            InputFault::TooLarge(line) => RunFault::TooLarge(line),
+            InputFault::NoMemory => RunFault::NoMemory,
+        }
+    }
+}
+
+// Why it ends where what it writes isn't written whole.
+impl From<WriteFault> for RunFault {
+    ghost use Rattle.std.specs.Prelude.{◌≡◌};
+    ghost use Rattle.mld_replay.specs.Replaying.{run_fault_of_write};
+
+    ghost from_gives = { λ fault ends. ends ≡ run_fault_of_write fault };
+
+    fn from(fault: WriteFault) -> RunFault {
+        match fault {
+            WriteFault::Failed => RunFault::WriteFault,
+            WriteFault::NoMemory => RunFault::NoMemory,
+        }
     }
 }

@@ -7,11 +7,11 @@ ghost use Rattle.schedule_model.specs.Runs.{Stage as ModelStage, Waiting, Runnin
 ghost use Rattle.schedule_model.specs.Step.{HasCloneNumbers, IsCommandInForm};
 ghost use Rattle.world_commands.specs.Worlds.{IsStanding, Stepped};
 ghost use Rattle.schedule_model.specs.WorldStep.{step_limit};
-ghost use Rattle.mld_replay.specs.BankFaults.{AreWell};
+ghost use Rattle.mld_replay.specs.BankFaults.{ComeBackWell};
 ghost use Rattle.mld_replay.specs.BanksLeft.{IsDueAt};
-ghost use Rattle.mld_replay.specs.Stops.{StopsWith, StopsAmid, LeavesStopped};
+ghost use Rattle.mld_replay.specs.Stops.{StopBringsBack, StopLeaves, StopLeavesAtLine, LeavesAtStop};
 ghost use Rattle.net_world.specs.SettledWorlds.{Settles};
-ghost use Rattle.mld_replay.specs.Stages.{StageStands, SpellsAt, IsStandingStage, IsSetUpState, GetsProperty, GetsNone, IsWorldStop, StopsCommand, steps_of, banks_of_stage, ActsWell, EndsWell};
+ghost use Rattle.mld_replay.specs.Stages.{StageStands, SpellsAt, IsStandingStage, IsSetUpState, GetsProperty, GetsNone, IsWorldStop, LeavesRefusedCommand, steps_of_stage, banks_of_stage, ActsWell, EndsWell, ActsFrom, EndsFrom, IsBadFrom, OnlyWaits};
 ghost use Rattle.mld_replay.specs.declared.stages.Stage.TheVariants as stages;
 
 use crate::stops::LineStop;
@@ -45,16 +45,16 @@ pub fn act<R: Threads, B: CrashBanks>(
     line: &[u8],
     reply: &mut Vec<u8>,
 ) -> Result<(), LineStop>
-    requires few { steps_of stage.old < step_limit }
+    requires few { steps_of_stage stage.old < step_limit }
     requires standing { IsStandingStage B.log stage.old }
     requires unarmed { AreUnarmed B.meter (banks_of_stage stage.old) }
-    ensures ok { OnOk result ((model : ModelStage) → StageStands B.log stage.old model → ActsWell B.log model line.now reply.new.items stage.new) }
-    ensures steps { OnOk result (steps_of stage.new ≤ steps_of stage.old + 1) }
-    ensures bad { IsErrOf result LineStop.BadLine → (model : ModelStage) → StageStands B.log stage.old model → IsBad model line.now }
+    ensures ok { OnOk result (ActsFrom B.log stage.old line.now reply.new.items stage.new) }
+    ensures steps { OnOk result (steps_of_stage stage.new ≤ steps_of_stage stage.old + 1) }
+    ensures bad { IsErrOf result LineStop.BadLine → IsBadFrom B.log stage.old line.now }
     ensures kept { IsErrOf result LineStop.BadLine → stage.new ≡ stage.old }
-    ensures well { OnOk result (AreWell B.meter (banks_of_stage stage.old) (banks_of_stage stage.new)) }
-    ensures back { IfErr result (StopsWith B.meter (banks_of_stage stage.old) (banks_of_stage stage.new)) }
-    ensures left { IfErr result (λ stop. (rest : List (List ℕ)) → StopsAmid B.log stage.old (banks_of_stage stage.new) (line.now ∷ rest) stop) }
+    ensures well { OnOk result (ComeBackWell B.meter (banks_of_stage stage.old) (banks_of_stage stage.new)) }
+    ensures back { IfErr result (StopBringsBack B.meter (banks_of_stage stage.old) (banks_of_stage stage.new)) }
+    ensures left { IfErr result (StopLeavesAtLine B.log stage.old (banks_of_stage stage.new) line.now) }
 {
     reply.clear();
     match stage {
@@ -75,7 +75,7 @@ fn set_up<B: CrashBanks>(
     requires stands { StageStands B.log stage.old Waiting }
     requires empty { reply.old.items ≡ [] }
     ensures ok { OnOk result (ActsWell B.log Waiting line.now reply.new.items stage.new) }
-    ensures steps { OnOk result (steps_of stage.new ≡ 0) }
+    ensures steps { OnOk result (steps_of_stage stage.new ≡ 0) }
     ensures bad { IsErrOf result LineStop.BadLine → IsBad Waiting line.now }
     ensures kept { OnErr result (stage.new ≡ stage.old) }
     ensures banks { banks_of_stage stage.new ≡ banks_of_stage stage.old }
@@ -116,13 +116,13 @@ fn set_or_start<R: Threads, B: CrashBanks>(
     requires unarmed { AreUnarmed B.meter (banks_of_stage stage.old) }
     requires set_up { IsSetUpState stage.old }
     requires empty { reply.old.items ≡ [] }
-    ensures ok { OnOk result ((model : ModelStage) → StageStands B.log stage.old model → ActsWell B.log model line.now reply.new.items stage.new) }
-    ensures steps { OnOk result (steps_of stage.new ≤ 1) }
-    ensures bad { IsErrOf result LineStop.BadLine → (model : ModelStage) → StageStands B.log stage.old model → IsBad model line.now }
+    ensures ok { OnOk result (ActsFrom B.log stage.old line.now reply.new.items stage.new) }
+    ensures steps { OnOk result (steps_of_stage stage.new ≤ 1) }
+    ensures bad { IsErrOf result LineStop.BadLine → IsBadFrom B.log stage.old line.now }
     ensures kept { IsErrOf result LineStop.BadLine → stage.new ≡ stage.old }
-    ensures well { OnOk result (AreWell B.meter (banks_of_stage stage.old) (banks_of_stage stage.new)) }
-    ensures back { IfErr result (StopsWith B.meter (banks_of_stage stage.old) (banks_of_stage stage.new)) }
-    ensures left { IfErr result (λ stop. (rest : List (List ℕ)) → StopsAmid B.log stage.old (banks_of_stage stage.new) (line.now ∷ rest) stop) }
+    ensures well { OnOk result (ComeBackWell B.meter (banks_of_stage stage.old) (banks_of_stage stage.new)) }
+    ensures back { IfErr result (StopBringsBack B.meter (banks_of_stage stage.old) (banks_of_stage stage.new)) }
+    ensures left { IfErr result (StopLeavesAtLine B.log stage.old (banks_of_stage stage.new) line.now) }
 {
     let is_set = set_property(alloc, stage, line)?;
     if is_set {
@@ -176,13 +176,13 @@ fn first<R: Threads, B: CrashBanks>(
     requires unarmed { AreUnarmed B.meter (banks_of_stage stage.old) }
     requires none { GetsNone line.now stage.old }
     requires empty { reply.old.items ≡ [] }
-    ensures ok { OnOk result ((model : ModelStage) → StageStands B.log stage.old model → ActsWell B.log model line.now reply.new.items stage.new) }
-    ensures steps { OnOk result (steps_of stage.new ≤ 1) }
-    ensures bad { IsErrOf result LineStop.BadLine → (model : ModelStage) → StageStands B.log stage.old model → IsBad model line.now }
+    ensures ok { OnOk result (ActsFrom B.log stage.old line.now reply.new.items stage.new) }
+    ensures steps { OnOk result (steps_of_stage stage.new ≤ 1) }
+    ensures bad { IsErrOf result LineStop.BadLine → IsBadFrom B.log stage.old line.now }
     ensures kept { IsErrOf result LineStop.BadLine → stage.new ≡ stage.old }
-    ensures well { OnOk result (AreWell B.meter (banks_of_stage stage.old) (banks_of_stage stage.new)) }
-    ensures back { IfErr result (StopsWith B.meter (banks_of_stage stage.old) (banks_of_stage stage.new)) }
-    ensures left { IfErr result (λ stop. (rest : List (List ℕ)) → StopsAmid B.log stage.old (banks_of_stage stage.new) (line.now ∷ rest) stop) }
+    ensures well { OnOk result (ComeBackWell B.meter (banks_of_stage stage.old) (banks_of_stage stage.new)) }
+    ensures back { IfErr result (StopBringsBack B.meter (banks_of_stage stage.old) (banks_of_stage stage.new)) }
+    ensures left { IfErr result (StopLeavesAtLine B.log stage.old (banks_of_stage stage.new) line.now) }
 {
     match stage {
         Stage::SetUp(setup, _) => match read_command(alloc, line, setup.domain.as_str())? {
@@ -207,13 +207,14 @@ fn start<R: Threads, B: CrashBanks>(
     requires numbers { HasCloneNumbers command.now }
     requires form { IsCommandInForm command.now }
     requires empty { reply.old.items ≡ [] }
-    ensures ok { OnOk result ((model : ModelStage) (line : List ℕ) → StageStands B.log stage.old model → SpellsAt model line command.now
-        → ActsWell B.log model line reply.new.items stage.new) }
-    ensures steps { OnOk result (steps_of stage.new ≡ 1) }
-    ensures well { OnOk result (AreWell B.meter (banks_of_stage stage.old) (banks_of_stage stage.new)) }
-    ensures back { IfErr result (StopsWith B.meter (banks_of_stage stage.old) (banks_of_stage stage.new)) }
-    ensures left { IfErr result (λ stop. (line : List ℕ) (rest : List (List ℕ)) (model : ModelStage) → StageStands B.log stage.old model → SpellsAt model line command.now
-        → LeavesStopped B.log (banks_of_stage stage.new) model (line ∷ rest) stop) }
+    ensures ok { OnOk result ((model : ModelStage) (line : List ℕ) → StageStands B.log stage.old model
+        → SpellsAt model line command.now → ActsWell B.log model line reply.new.items stage.new) }
+    ensures steps { OnOk result (steps_of_stage stage.new ≡ 1) }
+    ensures well { OnOk result (ComeBackWell B.meter (banks_of_stage stage.old) (banks_of_stage stage.new)) }
+    ensures back { IfErr result (StopBringsBack B.meter (banks_of_stage stage.old) (banks_of_stage stage.new)) }
+    ensures left { IfErr result (λ stop. (line : List ℕ) (rest : List (List ℕ)) (model : ModelStage)
+        → StageStands B.log stage.old model → SpellsAt model line command.now
+        → LeavesAtStop B.log (banks_of_stage stage.new) model (line ∷ rest) stop) }
     ensures other { IfErr result IsWorldStop }
 {
     let mut world = found(rt, alloc, stage)?;
@@ -230,13 +231,14 @@ fn found<R: Threads, B: CrashBanks>(
 ) -> Result<World<B>, LineStop>
     requires standing { IsStandingStage B.log stage.old }
     requires set_up { IsSetUpState stage.old }
-    ensures ok { IfOk result (λ world. (model : ModelStage) → StageStands B.log stage.old model → EndsWell B.log model (stages.Running world)) }
+    ensures ok { IfOk result (λ world. EndsFrom B.log stage.old (stages.Running world)) }
     ensures standing { IfOk result (IsStanding B.log) }
     ensures steps { IfOk result (λ world. world.steps ≡ 0) }
-    ensures well { IfOk result (λ world. AreWell B.meter (banks_of_stage stage.old) (banks_of world)) }
-    ensures back { IfErr result (StopsWith B.meter (banks_of_stage stage.old) (banks_of_stage stage.new)) }
-    ensures left { IfErr result (λ stop. (lines : List (List ℕ)) (model : ModelStage) → StageStands B.log stage.old model → IsDueAt model lines
-        → LeavesStopped B.log (banks_of_stage stage.new) model lines stop) }
+    ensures well { IfOk result (λ world. ComeBackWell B.meter (banks_of_stage stage.old) (banks_of world)) }
+    ensures back { IfErr result (StopBringsBack B.meter (banks_of_stage stage.old) (banks_of_stage stage.new)) }
+    ensures left { IfErr result (λ stop. (lines : List (List ℕ)) (model : ModelStage)
+        → StageStands B.log stage.old model → IsDueAt model lines
+        → LeavesAtStop B.log (banks_of_stage stage.new) model lines stop) }
     ensures other { IfErr result IsWorldStop }
 {
     let (setup, blanks) = take_set_up(alloc, stage);
@@ -275,11 +277,12 @@ fn command<R: Threads, B: CrashBanks>(
     ensures ok { OnOk result ((model : ModelWorld) → StageStands B.log (stages.Running world.old) (Running model)
         → ActsWell B.log (Running model) line.now reply.new.items (stages.Running world.new)) }
     ensures steps { OnOk result (world.new.steps ≤ world.old.steps + 1) }
-    ensures bad { IsErrOf result LineStop.BadLine → (model : ModelWorld) → StandsOnBanks B.log world.old model → IsBad (Running model) line.now }
+    ensures bad { IsErrOf result LineStop.BadLine → (model : ModelWorld) → StandsOnBanks B.log world.old model
+        → IsBad (Running model) line.now }
     ensures kept { IsErrOf result LineStop.BadLine → world.new ≡ world.old }
-    ensures well { OnOk result (AreWell B.meter (banks_of world.old) (banks_of world.new)) }
-    ensures back { IfErr result (StopsWith B.meter (banks_of world.old) (banks_of world.new)) }
-    ensures left { IfErr result (λ stop. (rest : List (List ℕ)) → StopsAmid B.log (stages.Running world.old) (banks_of world.new) (line.now ∷ rest) stop) }
+    ensures well { OnOk result (ComeBackWell B.meter (banks_of world.old) (banks_of world.new)) }
+    ensures back { IfErr result (StopBringsBack B.meter (banks_of world.old) (banks_of world.new)) }
+    ensures left { IfErr result (StopLeavesAtLine B.log (stages.Running world.old) (banks_of world.new) line.now) }
 {
     match read_command(alloc, line, world.domain())? {
         None => Ok(()),
@@ -303,10 +306,10 @@ fn step<R: Threads, B: CrashBanks>(
     requires empty { reply.old.items ≡ [] }
     ensures ok { OnOk result (Stepped B.log world.old command.now world.new [] reply.new.items) }
     ensures steps { OnOk result (world.new.steps ≡ world.old.steps + 1) }
-    ensures well { OnOk result (AreWell B.meter (banks_of world.old) (banks_of world.new)) }
-    ensures back { IfErr result (StopsWith B.meter (banks_of world.old) (banks_of world.new)) }
+    ensures well { OnOk result (ComeBackWell B.meter (banks_of world.old) (banks_of world.new)) }
+    ensures back { IfErr result (StopBringsBack B.meter (banks_of world.old) (banks_of world.new)) }
     ensures settled { OnOk result (Settles B.log world.old command.now world.new) }
-    ensures left { OnErr result (StopsCommand B.log world.old command.now (banks_of world.new)) }
+    ensures left { OnErr result (LeavesRefusedCommand B.log world.old command.now (banks_of world.new)) }
     ensures other { IfErr result IsWorldStop }
 {
     world.step(rt, alloc, command, reply)?;
@@ -320,12 +323,12 @@ pub fn finish<R: Threads, B: CrashBanks>(
     stage: &mut Stage<B>,
 ) -> Result<(), LineStop>
     requires { IsStandingStage B.log stage.old }
-    ensures ok { OnOk result ((model : ModelStage) → StageStands B.log stage.old model → EndsWell B.log model stage.new) }
-    ensures bad { IsErrOf result LineStop.BadLine → (model : ModelStage) → StageStands B.log stage.old model → model ≡ Waiting }
+    ensures ok { OnOk result (EndsFrom B.log stage.old stage.new) }
+    ensures bad { IsErrOf result LineStop.BadLine → OnlyWaits B.log stage.old }
     ensures kept { IsErrOf result LineStop.BadLine → stage.new ≡ stage.old }
-    ensures well { OnOk result (AreWell B.meter (banks_of_stage stage.old) (banks_of_stage stage.new)) }
-    ensures back { IfErr result (StopsWith B.meter (banks_of_stage stage.old) (banks_of_stage stage.new)) }
-    ensures left { IfErr result (StopsAmid B.log stage.old (banks_of_stage stage.new) []) }
+    ensures well { OnOk result (ComeBackWell B.meter (banks_of_stage stage.old) (banks_of_stage stage.new)) }
+    ensures back { IfErr result (StopBringsBack B.meter (banks_of_stage stage.old) (banks_of_stage stage.new)) }
+    ensures left { IfErr result (StopLeaves B.log stage.old (banks_of_stage stage.new) []) }
 {
     match stage {
         Stage::Waiting(_) => Err(LineStop::BadLine),

@@ -2,7 +2,7 @@
 ghost use Rattle.std.specs.Prelude.{◌≡◌, ◌≢◌, ◌≤◌, ◌∷◌, [], ℕ, MatchOption, map};
 ghost use Rattle.std.specs.Fmt.{decimal};
 ghost use Rattle.std.specs.String.{string_bytes};
-ghost use Rattle.mld_replay.specs.Words.{AreSaid, command_limit};
+ghost use Rattle.mld_replay.specs.ReplayWords.{AreSaid, command_limit};
 
 use schedule_text::read_number;
 
@@ -60,7 +60,8 @@ fn three_words(word: &str, seed: &str, count: &str) -> Words
 
 /// How many commands there are to be.
 fn read_count(text: &[u8]) -> Option<u32>
-    ensures { MatchOption result ((number : ℕ) → number ≤ command_limit → text.now ≢ decimal number) (λ number. (number ≤ command_limit) × (text.now ≡ decimal number)) }
+    ensures { MatchOption result ((number : ℕ) → number ≤ command_limit → text.now ≢ decimal number)
+        (λ number. (number ≤ command_limit) × (text.now ≡ decimal number)) }
 {
     let number = read_number(text)?;
     if number > COMMAND_LIMIT {

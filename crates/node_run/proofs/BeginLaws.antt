@@ -33,9 +33,9 @@ use Rattle.node_keeper.specs.States.{banks_of, keeper_of, IsOpen}
 use Rattle.node_model.specs.Keepers.{Keeper, Lives, Asks}
 use Rattle.node_run.specs.declared.stops.NodeStop.{NodeStop}
 use Rattle.node_run.specs.declared.stops.NodeStop.TheVariants as stops
-use Rattle.node_run.specs.Statuses.{stop_of_make, stop_of_mount, IsAtFirst}
+use Rattle.node_run.specs.ServiceStatuses.{stop_of_make, stop_of_mount, IsAtFirst}
 use Rattle.node_run.specs.Start.{Begins, founds, asks, runs_again, IsDueAtFirst, IsOther}
-use Rattle.node_run.specs.Ended.{LeavesDone}
+use Rattle.shell_session.specs.RunEnds.{LeavesDone}
 use Rattle.node_run.specs.Begun.{BeginsOn, FallsShort, StaysFound, BeginsShort, IsOfWords, RunsAsFound, RefusesOther, found_on, banks_begun, FailsToBegin}
 use Rattle.node_run.proofs.MeterLaws.{meters_of, meters_as}
 use Rattle.node_run.proofs.FrontLaws.{leaves_first}
@@ -266,14 +266,14 @@ module _ {B : Type 0} (words : NodeWords) (clone : BankedClone B) (result : Resu
           (meters_as before (meter clone.banks) (λ device. absurd (cc (device, refuses.told))) (λ none. absurd none) meters)
 
 -- a mount had the fault that is told
-pub meters_mounted : {Done : Type 0} (fault : MountFault) (before now : Meter) → Metered mount_calls before now Done (fault ≡ mount.Device)
+pub meters_mounted : {EventsDone : Type 0} (fault : MountFault) (before now : Meter) → Metered mount_calls before now EventsDone (fault ≡ mount.Device)
     → Meters before now (stop_of_mount fault ≡ stops.Device)
 meters_mounted (mount.Damaged side place) before now metered = meters_of mount_calls before now (λ same. absurd (cc (same))) (λ same. absurd (cc (same))) metered
 meters_mounted mount.Device before now metered = meters_of mount_calls before now (λ same. refl) (λ same. refl) metered
 meters_mounted mount.NoMemory before now metered = meters_of mount_calls before now (λ same. absurd (cc (same))) (λ same. absurd (cc (same))) metered
 
 -- so had a creation
-pub meters_made : {Done : Type 0} (calls : ℕ) (fault : MakeFault) (before now : Meter) → Metered calls before now Done (fault ≡ make.Device)
+pub meters_made : {EventsDone : Type 0} (calls : ℕ) (fault : MakeFault) (before now : Meter) → Metered calls before now EventsDone (fault ≡ make.Device)
     → Meters before now (stop_of_make fault ≡ stops.Device)
 meters_made calls make.Device before now metered = meters_of calls before now (λ same. refl) (λ same. refl) metered
 meters_made calls make.NoMemory before now metered = meters_of calls before now (λ same. absurd (cc (same))) (λ same. absurd (cc (same))) metered

@@ -5,8 +5,8 @@ use Rattle.mld_io.specs.declared.faults.IoFault.{IoFault}
 use Rattle.mld_io.specs.declared.faults.IoFault.TheVariants as io
 use Rattle.node_run.specs.declared.stops.NodeStop.{NodeStop}
 use Rattle.node_run.specs.declared.stops.NodeStop.TheVariants as stops
-use Rattle.node_run.specs.Statuses.{stop_of_wire, CountsWire}
-use Rattle.node_run.specs.UnderWay.{HasTurnCause}
+use Rattle.node_run.specs.ServiceStatuses.{stop_of_wire, CountsWire}
+use Rattle.node_run.specs.ServiceUnderWay.{HasTurnCause}
 
 -- where no event was given
 pub counts_next : {T : Type 0} (fault : IoFault) (before now : ℕ) → HasSinkCause {T = T} before now (Err fault) → CountsWire before now (Some (stop_of_wire fault))

@@ -6,7 +6,7 @@ use Rattle.clone_banks.specs.KeptSteps.{KeptStep}
 use Rattle.shell_model.specs.Shells.{Found, found_after}
 use Rattle.shell_model.proofs.RunLaws.{found_both}
 use Rattle.shell_session.specs.Lines.{ImagesFind, FindsFront, LeavesFront}
-use Rattle.node_run.specs.Ended.{LeavesDone}
+use Rattle.shell_session.specs.RunEnds.{LeavesDone}
 
 -- a front of some steps is one of more
 front_longer : (found : Found) (steps more : List KeptStep) (image : Sides) → FindsFront found steps image → FindsFront found (steps ++ more) image

@@ -6,7 +6,7 @@ use Rattle.mld_io.specs.declared.events.WireCall.TheVariants as call
 use Rattle.mld_io.specs.Wires.{WireLog, after_shut}
 use Rattle.node_exchange.specs.declared.connections.Sent.{Sent}
 use Rattle.node_model.specs.Events.{log_with, log_after}
-use Rattle.node_run.specs.UnderWay.{Sends, SendsFront}
+use Rattle.node_run.specs.ServiceUnderWay.{Sends, SendsFront}
 
 -- what is told where a log was told, and nothing where none was
 pub told_map : (f : WireLog → WireLog) (old now : Option WireLog) → ((l : WireLog) → old ≡ Some l → now ≡ Some (f l)) → (old ≡ None → now ≡ None)

@@ -19,7 +19,7 @@ own_fault calls before now lowers is (inl caught) =
 own_fault calls before now lowers is (inr real) = real
 
 -- the calls of a device, of which one failed where the line tells it, and only there
-pub meters_of : {Done Failed Told : Type 0} (calls : ℕ) (before now : Meter) → (Told → Failed) → (Failed → Told) → Metered calls before now Done Failed
+pub meters_of : {EventsDone Failed Told : Type 0} (calls : ℕ) (before now : Meter) → (Told → Failed) → (Failed → Told) → Metered calls before now EventsDone Failed
     → Meters before now Told
 meters_of calls before now failed told metered = record {
   later = metered.later;

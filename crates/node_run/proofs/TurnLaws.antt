@@ -15,8 +15,8 @@ use Rattle.node_core.specs.Nodes.{BankedNode, node_value, banks_of}
 use Rattle.node_core.specs.Events.{IsDueByEvent}
 use Rattle.node_run.specs.declared.stops.NodeStop.{NodeStop}
 use Rattle.node_run.specs.declared.stops.NodeStop.TheVariants as stops
-use Rattle.node_run.specs.Statuses.{stop_of_event, stop_of_wire}
-use Rattle.node_run.specs.UnderWay.{StopsTurn, StopsSendingTurn}
+use Rattle.node_run.specs.ServiceStatuses.{stop_of_event, stop_of_wire}
+use Rattle.node_run.specs.ServiceUnderWay.{StopsTurn, StopsSendingTurn}
 
 module _ {B : Type 0} (log : B → Option Log) (node : BankedNode B) (event : Event) (before : Option WireLog) where
   -- the event was not done

@@ -25,9 +25,9 @@ use Rattle.node_run.specs.declared.stops.NodeStop.{NodeStop}
 use Rattle.node_run.specs.declared.stops.NodeStop.TheVariants as stops
 use Rattle.node_run.specs.Start.{Begins, founds, asks, runs_again, fresh_node}
 use Rattle.node_run.specs.Begun.{BeginsOn}
-use Rattle.node_run.specs.Ended.{Done, Ends, steps_of, StopsBetween, StopsWithin, StopsSending, StopsAnywhere, StopsOnBanks, StopsOnWire, Waits, between, sending, within, at_first, on_banks, on_wire, EndsSo}
-use Rattle.node_run.specs.Statuses.{stop_of_wire}
-use Rattle.node_run.specs.UnderWay.{IsUnderWay, DoesTurn, StopsTurn, StopsWithinTurn, StopsSendingTurn}
+use Rattle.node_run.specs.ServiceEnds.{EventsDone, ServiceEdges, steps_of, StopsBetweenEvents, StopsWithinEvent, StopsSending, ServiceStopsAnywhere, StopsOnBanks, StopsOnWire, Waits, between, sending, within, at_first, on_banks, on_wire, ServiceEnds}
+use Rattle.node_run.specs.ServiceStatuses.{stop_of_wire}
+use Rattle.node_run.specs.ServiceUnderWay.{IsServiceUnderWay, DoesTurn, StopsTurn, StopsWithinTurn, StopsSendingTurn}
 use Rattle.mld_io.specs.declared.faults.IoFault.{IoFault}
 use Rattle.mld_io.specs.declared.faults.IoFault.TheVariants as io
 use Rattle.node_run.proofs.FrontLaws.{moments_then, leaves_done, leaves_due}
@@ -66,7 +66,7 @@ begins_lead words found first keeper (founds role kept each) = refl
 begins_lead words found first keeper (asks role kept each) = refl
 begins_lead words found first keeper (runs_again generation head entries clone runs id domain) = λ i. Stored generation (sym runs.head_is i) (sym runs.entries_are i)
 
-module _ (lead : NodeStepsLead) (found : Found) (texts : List (List ℕ)) (log : WireLog) (done : Done found texts log) where
+module _ (lead : NodeStepsLead) (found : Found) (texts : List (List ℕ)) (log : WireLog) (done : EventsDone found texts log) where
   -- and where it was led
   led : found_of done.node.keeper ≡ found_after (steps_of done) found
   led =
@@ -76,7 +76,7 @@ module _ (lead : NodeStepsLead) (found : Found) (texts : List (List ℕ)) (log :
 
   -- one event more is done
   abbrev done_more : (event : Event) (sent : List Sent) (steps : List KeptStep) (next : NodeValue) → done.node.halted ≡ false → length done.events < done.words.turns
-      → NodeStep done.node event sent steps next → Done found texts log
+      → NodeStep done.node event sent steps next → EventsDone found texts log
   done_more event sent steps next going few does = record {
     words = done.words;
     are = done.are;
@@ -103,9 +103,9 @@ below (suc a) (suc b) few other = let less : a < b = below a b (omega (arith, fe
 module _ {B : Type 0} (log : B → Option Log) (found : Found) (old : Option Log) (texts : List (List ℕ)) (turns : ℕ) (before : Option WireLog) where
   -- nothing is done yet
   pub way_first : (words : NodeWords) (state : NodeState B) (node : BankedNode B) → AreWords texts words → words.turns ≡ turns → BeginsOn log words found old state
-      → node ≡ record { state = state; connections = []; halted = false } → IsUnderWay log found old texts turns before before node 0
+      → node ≡ record { state = state; connections = []; halted = false } → IsServiceUnderWay log found old texts turns before before node 0
   way_first words state node are same begun is =
-      let P : BankedNode B → Type 0 = λ n. IsUnderWay log found old texts turns before before n 0 in
+      let P : BankedNode B → Type 0 = λ n. IsServiceUnderWay log found old texts turns before before n 0 in
       let way : P (record { state = state; connections = []; halted = false }) = record {
         done = record {
           words = words;
@@ -134,7 +134,7 @@ module _ {B : Type 0} (log : B → Option Log) (found : Found) (old : Option Log
       logged_first None = refl
       logged_first (Some l) = refl
 
-  module _ (lead : NodeStepsLead) (now : Option WireLog) (node : BankedNode B) (taken : ℕ) (way : IsUnderWay log found old texts turns before now node taken) where
+  module _ (lead : NodeStepsLead) (now : Option WireLog) (node : BankedNode B) (taken : ℕ) (way : IsServiceUnderWay log found old texts turns before now node taken) where
     -- what is found then
     way_led : found_of (node_value node).keeper ≡ found_after (steps_of way.done) found
     way_led = ap (λ (n : NodeValue). found_of n.keeper) (sym way.node_is) ∙ led lead found texts (unwrap_or before []) way.done
@@ -145,7 +145,7 @@ module _ {B : Type 0} (log : B → Option Log) (found : Found) (old : Option Log
 
     -- it ended between two events
     pub stops_between : (So : Bool → ℕ → ℕ → Type 0) (back : B) → So node.halted taken turns → back ≡ banks_of node → FindsNow (found_of (node_value node).keeper) (log back)
-        → StopsBetween So found (record { texts = texts; turns = taken; before = before; after = now; old = old; now = log back })
+        → StopsBetweenEvents So found (record { texts = texts; turns = taken; before = before; after = now; old = old; now = log back })
     stops_between So back so is finds = record {
       done = way.done;
       so = subst (λ (b : Bool). So b (length way.done.events) way.done.words.turns) (ap (λ (n : NodeValue). n.halted) (sym way.node_is))
@@ -175,7 +175,7 @@ module _ {B : Type 0} (log : B → Option Log) (found : Found) (old : Option Log
 
       -- one more event is done
       pub way_more : (next : BankedNode B) (after : Option WireLog) → StaysTold (log (banks_of node)) (log (banks_of next)) → DoesTurn log node event taking next after
-          → IsUnderWay log found old texts turns before after next (taken + 1)
+          → IsServiceUnderWay log found old texts turns before after next (taken + 1)
       way_more next after stays turn =
           let does : NodeStep way.done.node event turn.sent turn.does.steps (node_value next) =
           subst (λ (n : NodeValue). NodeStep n event turn.sent turn.does.steps (node_value next)) (sym way.node_is) turn.does.does in
@@ -195,7 +195,7 @@ module _ {B : Type 0} (log : B → Option Log) (found : Found) (old : Option Log
 
       -- it ended while the event was done
       silent_turn : (first : Log) (back : B) (after : Option WireLog) → old ≡ Some first → StopsWithinTurn log node event taking back after
-          → StopsWithin found (record { texts = texts; turns = taken + 1; before = before; after = after; old = old; now = log back })
+          → StopsWithinEvent found (record { texts = texts; turns = taken + 1; before = before; after = after; old = old; now = log back })
       silent_turn first back after is turn = record {
         takes = record { done = way.done; waits = (went, left); counted = omega (arith, way.counted); event = event };
         due = turn.stops.steps;
@@ -213,7 +213,7 @@ module _ {B : Type 0} (log : B → Option Log) (found : Found) (old : Option Log
           let same : log back ≡ log (banks_of turn.next) = ap log turn.back_is in
           let does : NodeStep way.done.node event turn.sent turn.does.steps (node_value turn.next) =
           subst (λ (n : NodeValue). NodeStep n event turn.sent turn.does.steps (node_value turn.next)) (sym way.node_is) turn.does.does in
-          let more : Done found texts (unwrap_or before []) =
+          let more : EventsDone found texts (unwrap_or before []) =
           done_more lead found texts (unwrap_or before []) way.done event turn.sent turn.does.steps (node_value turn.next) went left does in
           let sent_led : found_of (node_value turn.next).keeper ≡ found_after (steps_of way.done ++ turn.does.steps) found =
           led lead found texts (unwrap_or before []) more
@@ -241,7 +241,7 @@ module _ {B : Type 0} (log : B → Option Log) (found : Found) (old : Option Log
       -- a turn was not done
       pub ends_turn : (stop : NodeStop) (first : Log) (back : B) (after : Option WireLog) → old ≡ Some first → StaysTold (log (banks_of node)) (log back)
           → StopsTurn stop log node event taking back after
-          → EndsSo (Some stop) found (record { texts = texts; turns = taken + 1; before = before; after = after; old = old; now = log back })
+          → ServiceEnds (Some stop) found (record { texts = texts; turns = taken + 1; before = before; after = after; old = old; now = log back })
       ends_turn stops.Device first back after is stays turn = within (silent_turn first back after is turn)
       ends_turn stops.WireFault first back after is stays turn = sending (stops_sending back after stays turn)
       ends_turn stops.NoMemory first back after is stays (inl turn) = on_banks (within (silent_turn first back after is turn))
@@ -250,6 +250,6 @@ module _ {B : Type 0} (log : B → Option Log) (found : Found) (old : Option Log
 
     -- no event came
     pub ends_waiting : (fault : IoFault) (back : B) → node.halted ≡ false → taken < turns → back ≡ banks_of node → FindsNow (found_of (node_value node).keeper) (log back)
-        → EndsSo (Some (stop_of_wire fault)) found (record { texts = texts; turns = taken; before = before; after = now; old = old; now = log back })
+        → ServiceEnds (Some (stop_of_wire fault)) found (record { texts = texts; turns = taken; before = before; after = now; old = old; now = log back })
     ends_waiting io.Failed back going few is finds = between (stops_between Waits back (going, few) is finds)
     ends_waiting io.NoMemory back going few is finds = on_wire (between (stops_between Waits back (going, few) is finds))

@@ -8,13 +8,13 @@ use Rattle.clone_core.specs.Banked.{BankedClone}
 use Rattle.shell_model.specs.Shells.{Found, Damage, found_in}
 use Rattle.shell_session.specs.Sessions.{HasFound}
 use Rattle.shell_session.specs.Lines.{ImagesFind, LeavesFront}
+use Rattle.shell_session.specs.RunEnds.{LeavesDone}
 use Rattle.node_words.specs.declared.node.NodeWords.{NodeWords}
 use Rattle.node_keeper.specs.declared.states.NodeState.{NodeState}
 use Rattle.node_keeper.specs.declared.states.NodeState.TheVariants as states
 use Rattle.node_keeper.specs.States.{banks_of, keeper_of}
 use Rattle.node_model.specs.Keepers.{found_of}
 use Rattle.node_run.specs.Start.{Begins, IsDueAtFirst, IsOther}
-use Rattle.node_run.specs.Ended.{LeavesDone}
 use Rattle.node_run.specs.declared.stops.NodeStop.{NodeStop}
 use Rattle.node_run.specs.declared.stops.NodeStop.TheVariants as stops
 

@@ -1,5 +1,5 @@
-pub mod Statuses
+pub mod ServiceStatuses
 pub mod Start
-pub mod Ended
+pub mod ServiceEnds
 pub mod Begun
-pub mod UnderWay
+pub mod ServiceUnderWay

@@ -7,7 +7,7 @@ ghost use Rattle.clone_core.specs.Banked.{KeepsClone};
 ghost use Rattle.node_keeper.specs.States.{IsOpen};
 ghost use Rattle.journal_store.specs.Standing.{KeepsNothing};
 ghost use Rattle.shell_model.specs.Shells.{Nothing};
-ghost use Rattle.node_run.specs.Statuses.{IsAtFirst};
+ghost use Rattle.node_run.specs.ServiceStatuses.{IsAtFirst};
 ghost use Rattle.node_run.specs.Begun.{BeginsOn, BeginsShort, IsOfWords, RunsAsFound, RefusesOther, banks_begun, found_on, FailsToBegin};
 
 use crate::stops::{NodeStop, make_stop, mount_stop};

@@ -2,12 +2,13 @@
 ghost use Rattle.std.specs.Prelude.{◌≡◌, Some, map};
 ghost use Rattle.std.specs.String.{string_bytes};
 ghost use Rattle.shell_session.specs.Lines.{Meters};
+ghost use Rattle.shell_session.specs.RunEnds.{TellsUsage, IfFound};
 ghost use Rattle.node_words.specs.Words.{AreRefused};
-ghost use Rattle.node_run.specs.Statuses.{status_of, damaged_of, TellsUsage, AreUntouched, CountsWire};
-ghost use Rattle.node_run.specs.Ended.{EndsTold};
+ghost use Rattle.node_run.specs.ServiceStatuses.{service_status, damaged_of, LeavesWireAndBanks, CountsWire};
+ghost use Rattle.node_run.specs.ServiceEnds.{ServiceEnds};
 
 use crate::begins::begin;
-use crate::stops::{NodeRan, NodeStop, ended, words_stop};
+use crate::stops::{NodeRan, NodeStop, end_run, words_stop};
 use crate::turns::take_turns;
 use mld_io::{Banks, Wire};
 use node_words::read_words;
@@ -32,10 +33,11 @@ pub fn serve<R: Threads, W: Wire, B: Banks>(
 ) -> NodeRan<B>
     // No event was taken before.
     requires { W.taken wire.old ≡ 0 }
-    ensures status { result.status ≡ status_of result.fault }
-    ensures usage { TellsUsage result.fault (AreRefused (map (λ w. string_bytes w) words.now.items)) }
+    ensures status { result.status ≡ service_status result.fault }
+    ensures usage { TellsUsage NodeStop.Usage NodeStop.NoMemory result.fault
+        (AreRefused (map (λ w. string_bytes w) words.now.items)) }
     // At 1 nothing is taken or sent, and no bank is called.
-    ensures untouched { result.fault ≡ Some NodeStop.Usage → AreUntouched wire.old wire.new banks result.banks }
+    ensures untouched { result.fault ≡ Some NodeStop.Usage → LeavesWireAndBanks wire.old wire.new banks result.banks }
     ensures damaged { result.damaged ≡ damaged_of result.fault }
     ensures turns { result.turns ≡ W.taken wire.new }
     // How the run ended over banks that tell their log: by what was found on them at first and the words the node began, the events that were
@@ -48,15 +50,9 @@ pub fn serve<R: Threads, W: Wire, B: Banks>(
     //
     // Where the same was found on all that a crash might have left at first, so it is at each moment of what a front of the run's durable
     // steps makes of that; and in the end of what all steps of the events that were done make, and a front of those of the one under way.
-    ensures ends { EndsTold result.fault
-        (record {
-          texts = map (λ w. string_bytes w) words.now.items;
-          turns = result.turns;
-          before = W.log wire.old;
-          after = W.log wire.new;
-          old = B.log banks;
-          now = B.log result.banks;
-        }) }
+    ensures ends { IfFound (B.log banks) (λ found. ServiceEnds result.fault found (record {
+        texts = map (λ w. string_bytes w) words.now.items; turns = result.turns;
+        before = W.log wire.old; after = W.log wire.new; old = B.log banks; now = B.log result.banks })) }
     // 6 comes just where the banks had a fault, which was a real one if they aren't armed.
     ensures meter { Meters (B.meter banks) (B.meter result.banks) (result.fault ≡ Some NodeStop.Device) }
     // 9 comes just where the wire had one.
@@ -64,11 +60,11 @@ pub fn serve<R: Threads, W: Wire, B: Banks>(
 {
     let words = match read_words(alloc, words) {
         Ok(words) => words,
-        Err(fault) => return ended(Some(words_stop(fault)), 0, banks),
+        Err(fault) => return end_run(Some(words_stop(fault)), 0, banks),
     };
     let turns = words.turns;
     match begin(rt, alloc, banks, words) {
         Ok(state) => take_turns(rt, alloc, wire, state, turns),
-        Err((stop, banks)) => ended(Some(stop), 0, banks),
+        Err((stop, banks)) => end_run(Some(stop), 0, banks),
     }
 }

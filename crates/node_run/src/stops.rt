@@ -1,11 +1,11 @@
 //! How a run of the node ends.
 ghost use Rattle.std.specs.Prelude.{◌≡◌};
-ghost use Rattle.node_run.specs.Statuses.{status_of, damaged_of, stop_of_words, stop_of_mount, stop_of_make, stop_of_event, stop_of_wire};
+ghost use Rattle.node_run.specs.ServiceStatuses.{service_status, damaged_of, stop_of_words, stop_of_mount, stop_of_make, stop_of_event, stop_of_wire};
 
 use journal_store::{MakeFault, MountFault};
 use mld_io::{IoFault, Side};
 use node_keeper::NodeFault;
-use node_words::WordsFault;
+use node_words::NodeWordsFault;
 use thiserror::Error;
 
 /// Why a run of the node ended before `End` came or a request to halt was answered.
@@ -50,8 +50,8 @@ pub struct NodeRan<B> {
 }
 
 /// A run that ended so behind so many events, with these banks.
-pub fn ended<B>(fault: Option<NodeStop>, turns: u64, banks: B) -> NodeRan<B>
-    ensures status { result.status ≡ status_of fault }
+pub fn end_run<B>(fault: Option<NodeStop>, turns: u64, banks: B) -> NodeRan<B>
+    ensures status { result.status ≡ service_status fault }
     ensures fault { result.fault ≡ fault }
     ensures banks { result.banks ≡ banks }
     ensures turns { result.turns ≡ turns }
@@ -68,7 +68,7 @@ pub fn ended<B>(fault: Option<NodeStop>, turns: u64, banks: B) -> NodeRan<B>
 
 /// The status of the program for the way in which a run ended.
 fn status_of(fault: Option<NodeStop>) -> u8
-    ensures { result ≡ status_of fault }
+    ensures { result ≡ service_status fault }
 {
     match fault {
         None => 0,
@@ -93,12 +93,12 @@ fn damaged_of(fault: Option<NodeStop>) -> Option<(Side, u64)>
 }
 
 /// Why words were not read.
-pub fn words_stop(fault: WordsFault) -> NodeStop
+pub fn words_stop(fault: NodeWordsFault) -> NodeStop
     ensures { result ≡ stop_of_words fault }
 {
     match fault {
-        WordsFault::Usage => NodeStop::Usage,
-        WordsFault::NoMemory => NodeStop::NoMemory,
+        NodeWordsFault::Usage => NodeStop::Usage,
+        NodeWordsFault::NoMemory => NodeStop::NoMemory,
     }
 }
 

@@ -11,12 +11,12 @@ ghost use Rattle.node_core.specs.Nodes.{banks_of};
 ghost use Rattle.node_model.specs.Events.{log_with};
 ghost use Rattle.node_words.specs.Words.{AreWords};
 ghost use Rattle.node_words.specs.declared.node.NodeWords.{NodeWords};
-ghost use Rattle.node_run.specs.Statuses.{status_of, damaged_of, IsOfTurns, CountsWire};
-ghost use Rattle.node_run.specs.Ended.{EndsSo};
+ghost use Rattle.node_run.specs.ServiceStatuses.{service_status, damaged_of, IsOfTurns, CountsWire};
+ghost use Rattle.node_run.specs.ServiceEnds.{ServiceEnds};
 ghost use Rattle.node_run.specs.Begun.{BeginsOn};
-ghost use Rattle.node_run.specs.UnderWay.{Sends, SendsFront, DoesTurn, StopsTurn, banks_after, FailsOnBanks, HasTurnCause};
+ghost use Rattle.node_run.specs.ServiceUnderWay.{Sends, SendsFront, DoesTurn, StopsTurn, banks_after, FailsOnBanks, HasTurnCause};
 
-use crate::stops::{NodeRan, NodeStop, ended, event_stop, wire_stop};
+use crate::stops::{NodeRan, NodeStop, end_run, event_stop, wire_stop};
 use mld_io::{Banks, Event, IoFault, Wire};
 use node_core::Node;
 use node_exchange::Sent;
@@ -35,23 +35,15 @@ pub fn take_turns<R: Threads, W: Wire, B: Banks>(
 ) -> NodeRan<B>
     requires opened { IsOpen state }
     requires taken { W.taken wire.old ≡ 0 }
-    ensures status { result.status ≡ status_of result.fault }
+    ensures status { result.status ≡ service_status result.fault }
     ensures damaged { result.damaged ≡ damaged_of result.fault }
     ensures kind { IsOfTurns result.fault }
     ensures turns { result.turns ≡ W.taken wire.new }
     ensures ends { (texts : List (List ℕ)) (words : NodeWords) (found : Found) (old : Option Log) (first : Log)
         → old ≡ Some first → AreWords texts words → words.turns ≡ turns
         → BeginsOn B.log words found old state
-        → EndsSo result.fault found (record {
-          texts = texts;
-          turns = result.turns;
-          before = W.log wire.old;
-          after = W.log wire.new;
-          old = old;
-          now = B.log result.banks;
-        }) }
-    ensures meter { Meters (B.meter (states.banks_of state)) (B.meter result.banks)
-        (result.fault ≡ Some NodeStop.Device) }
+        → ServiceEnds result.fault found (record { texts = texts; turns = result.turns; before = W.log wire.old; after = W.log wire.new; old = old; now = B.log result.banks }) }
+    ensures meter { Meters (B.meter (states.banks_of state)) (B.meter result.banks) (result.fault ≡ Some NodeStop.Device) }
     ensures wire { CountsWire (W.faults wire.old) (W.faults wire.new) result.fault }
 {
     node_steps_lead();
@@ -59,19 +51,19 @@ pub fn take_turns<R: Threads, W: Wire, B: Banks>(
     let mut taken = 0;
     loop {
         if node.halted() {
-            return ended(None, taken, node.stop());
+            return end_run(None, taken, node.stop());
         }
         if taken == turns {
-            return ended(Some(NodeStop::OutOfTurns), taken, node.stop());
+            return end_run(Some(NodeStop::OutOfTurns), taken, node.stop());
         }
         let event = match wire.next() {
             Ok(event) => event,
-            Err(fault) => return ended(Some(wire_stop(fault)), taken, node.stop()),
+            Err(fault) => return end_run(Some(wire_stop(fault)), taken, node.stop()),
         };
         taken += 1;
         node = match take_event(rt, alloc, wire, node, &event) {
             Ok(node) => node,
-            Err((stop, banks)) => return ended(Some(stop), taken, banks),
+            Err((stop, banks)) => return end_run(Some(stop), taken, banks),
         };
     }
 }

@@ -6,8 +6,8 @@ use Rattle.clap.specs.declared.error.Error.{Error}
 use Rattle.clap.specs.declared.error.kind.ErrorKind.TheVariants.{OutOfMemory}
 use Rattle.node_words.specs.Words.{AreRead, AreRefused, AreWords, Reads, node_app, node_name}
 use Rattle.node_words.specs.Words.AreRefused.{by_clap, by_value}
-use Rattle.node_words.specs.declared.faults.WordsFault.{WordsFault}
-use Rattle.node_words.specs.declared.faults.WordsFault.TheVariants.{Usage}
+use Rattle.node_words.specs.declared.faults.NodeWordsFault.{NodeWordsFault}
+use Rattle.node_words.specs.declared.faults.NodeWordsFault.TheVariants.{Usage}
 use Rattle.node_words.specs.declared.node.NodeWords.{NodeWords}
 
 -- words that clap takes
@@ -20,19 +20,19 @@ module _ (words named : List (List ℕ)) (found : List Row) (is : named ≡ node
   taken_is = subst (λ (all : List (List ℕ)). fault_of node_app all ≡ []) is taken
 
   -- are those of the node that is read
-  pub words_read : (result : Result NodeWords WordsFault) → Reads (AreRead found) result → IfOk result (AreWords words)
+  pub words_read : (result : Result NodeWords NodeWordsFault) → Reads (AreRead found) result → IfOk result (AreWords words)
   words_read (Ok node) read = record { taken = taken_is; read = subst (λ (rows : List Row). AreRead rows node) found_is read }
   words_read (Err fault) read = tt
 
   -- and are refused where none is read
-  pub words_refused : (result : Result NodeWords WordsFault) → Reads (AreRead found) result → IsErrOf result Usage → AreRefused words
+  pub words_refused : (result : Result NodeWords NodeWordsFault) → Reads (AreRead found) result → IsErrOf result Usage → AreRefused words
   words_refused result read same =
-      by_value taken_is (λ node h. let none : (node : NodeWords) → ¬ AreRead found node = subst (λ (r : Result NodeWords WordsFault). Reads (AreRead found) r) same read in
+      by_value taken_is (λ node h. let none : (node : NodeWords) → ¬ AreRead found node = subst (λ (r : Result NodeWords NodeWordsFault). Reads (AreRead found) r) same read in
       none node (subst (λ (rows : List Row). AreRead rows node) (sym found_is) h))
 
 -- words that clap refuses for another cause than memory
-pub words_stopped : (words named : List (List ℕ)) (error : Error) (fault : WordsFault) → named ≡ node_name ∷ words → HasKind (fault_of node_app named) error
-    → (fault ≡ Usage → kind_of error ≢ OutOfMemory) → IsErrOf {T = NodeWords} {E = WordsFault} (Err fault) Usage → AreRefused words
+pub words_stopped : (words named : List (List ℕ)) (error : Error) (fault : NodeWordsFault) → named ≡ node_name ∷ words → HasKind (fault_of node_app named) error
+    → (fault ≡ Usage → kind_of error ≢ OutOfMemory) → IsErrOf {T = NodeWords} {E = NodeWordsFault} (Err fault) Usage → AreRefused words
 words_stopped words named error fault is kinds told usage = by_clap (λ none.
     let same : fault ≡ Usage = cc (usage) in
     let empty : fault_of node_app named ≡ [] = ap (fault_of node_app) is ∙ none in

@@ -3,8 +3,8 @@ use Rattle.std.specs.Prelude.{◌≡◌, ◌≢◌, ℕ, List, [], ◌∷◌, Bo
 use Rattle.clap.specs.Words.{App, Row, Rule, new_app, new_rule, with_rule, matches_of, first_of, all_of, fault_of}
 use Rattle.clap.specs.declared.builder.action.ArgAction.TheVariants.{Set, Append}
 use Rattle.node_words.specs.Spelling.{AreIris, AreTurns, IsGiven, IsPeer, SpellsDomain, SpellsId, SpellsName, SpellsRole}
-use Rattle.node_words.specs.declared.faults.WordsFault.{WordsFault}
-use Rattle.node_words.specs.declared.faults.WordsFault.TheVariants.{Usage, NoMemory}
+use Rattle.node_words.specs.declared.faults.NodeWordsFault.{NodeWordsFault}
+use Rattle.node_words.specs.declared.faults.NodeWordsFault.TheVariants.{Usage, NoMemory}
 use Rattle.node_words.specs.declared.node.NodeWords.{NodeWords}
 
 -- the name of the program
@@ -54,7 +54,7 @@ never_both words node are (by_clap refused) = refused are.taken
 never_both words node are (by_value taken none) = none node are.read
 
 -- a value that the rule gives, or Usage where it gives none
-abbrev pub Reads : {A : Type 0} → (A → Type 0) → Result A WordsFault → Type 0
+abbrev pub Reads : {A : Type 0} → (A → Type 0) → Result A NodeWordsFault → Type 0
 Reads Gives (Ok value) = Gives value
 Reads {A} Gives (Err Usage) = (value : A) → ¬ Gives value
 Reads Gives (Err NoMemory) = Unit {0}

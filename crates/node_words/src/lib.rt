@@ -6,5 +6,5 @@ mod given;
 mod node;
 mod spelled;
 
-pub use faults::WordsFault;
+pub use faults::NodeWordsFault;
 pub use node::{NodeWords, read_words};

@@ -6,7 +6,7 @@ ghost use Rattle.iri_rules.specs.Domain.{is_domain};
 ghost use Rattle.node_words.specs.Spelling.{iri_count};
 ghost use Rattle.node_words.specs.Words.{AreRead, AreRefused, AreWords, Reads, node_name};
 
-use crate::faults::WordsFault;
+use crate::faults::NodeWordsFault;
 use crate::given::{NODE_NAME, find_in, iris_of, text_of};
 use crate::spelled::{
     read_domain, read_id, read_iris, read_name, read_peer, read_role, read_turns,
@@ -44,9 +44,9 @@ pub struct NodeWords {
 ///
 /// # Errors
 /// `Usage` where they are anything else: clap refuses them, `--help` among them, a value isn't valid, or there are more than 16 IRIs.
-pub fn read_words(alloc: Global, words: &Vec<String>) -> Result<NodeWords, WordsFault>
+pub fn read_words(alloc: Global, words: &Vec<String>) -> Result<NodeWords, NodeWordsFault>
     ensures ok { IfOk result (AreWords (map (λ w. string_bytes w) words.now.items)) }
-    ensures usage { IsErrOf result WordsFault.Usage → AreRefused (map (λ w. string_bytes w) words.now.items) }
+    ensures usage { IsErrOf result NodeWordsFault.Usage → AreRefused (map (λ w. string_bytes w) words.now.items) }
     ensures domain { IfOk result (λ node. IsTrue (is_domain node.domain)) }
     ensures turns { IfOk result (λ node. 1 ≤ node.turns) }
     ensures props { IfOk result (λ node. length node.props.items ≤ iri_count) }
@@ -72,7 +72,7 @@ fn named_words<'a>(alloc: Global, words: &'a Vec<String>) -> Result<Vec<&'a str>
 }
 
 /// What was found, read by the rule of each value.
-fn read_node(alloc: Global, found: &ArgMatches) -> Result<NodeWords, WordsFault>
+fn read_node(alloc: Global, found: &ArgMatches) -> Result<NodeWords, NodeWordsFault>
     ensures { Reads (AreRead (rows_of (found_of found.now))) result }
 {
     let id = read_id(text_of(found, "id"))?;
@@ -96,11 +96,11 @@ fn read_node(alloc: Global, found: &ArgMatches) -> Result<NodeWords, WordsFault>
 }
 
 /// A refusal for another cause than memory is one of the words.
-fn fault_told(error: &Error) -> WordsFault
-    ensures { result ≡ WordsFault.Usage → kind_of error.now ≢ ErrorKind.OutOfMemory }
+fn fault_told(error: &Error) -> NodeWordsFault
+    ensures { result ≡ NodeWordsFault.Usage → kind_of error.now ≢ ErrorKind.OutOfMemory }
 {
     if error.kind() == ErrorKind::OutOfMemory {
-        return WordsFault::NoMemory;
+        return NodeWordsFault::NoMemory;
     }
-    WordsFault::Usage
+    NodeWordsFault::Usage
 }

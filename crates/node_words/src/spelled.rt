@@ -4,7 +4,7 @@ ghost use Rattle.iri_rules.specs.Iri.{is_absolute};
 ghost use Rattle.node_words.specs.Spelling.{AreIris, AreTurns, IsGiven, IsPeer, SpellsDomain, SpellsId, SpellsName, SpellsRole, SpellsTurns};
 ghost use Rattle.node_words.specs.Words.{Reads};
 
-use crate::faults::WordsFault;
+use crate::faults::NodeWordsFault;
 use iri_rules::{Text, is_domain};
 use rdf_terms::{Iri, TermFault};
 use std::alloc::Global;
@@ -17,34 +17,34 @@ const DEFAULT_TURNS: u64 = 4_294_967_295;
 const IRI_COUNT: usize = 16;
 
 /// A UUID.
-pub fn read_id(given: Option<&str>) -> Result<Uuid, WordsFault>
+pub fn read_id(given: Option<&str>) -> Result<Uuid, NodeWordsFault>
     ensures { Reads (IsGiven SpellsId (option_map (λ text. text.now) given.entry)) result }
 {
     let Some(text) = given else {
-        return Err(WordsFault::Usage);
+        return Err(NodeWordsFault::Usage);
     };
     match Uuid::parse_str(text) {
         Ok(id) => Ok(id),
-        Err(_) => Err(WordsFault::Usage),
+        Err(_) => Err(NodeWordsFault::Usage),
     }
 }
 
 /// Whether the role is `join`, and not `genesis`.
-pub fn read_role(given: Option<&str>) -> Result<bool, WordsFault>
+pub fn read_role(given: Option<&str>) -> Result<bool, NodeWordsFault>
     ensures { Reads (IsGiven SpellsRole (option_map (λ text. text.now) given.entry)) result }
 {
     let Some(text) = given else {
-        return Err(WordsFault::Usage);
+        return Err(NodeWordsFault::Usage);
     };
     match text {
         "genesis" => Ok(false),
         "join" => Ok(true),
-        _ => Err(WordsFault::Usage),
+        _ => Err(NodeWordsFault::Usage),
     }
 }
 
 /// A number of turns, or the default.
-pub fn read_turns(given: Option<&str>) -> Result<u64, WordsFault>
+pub fn read_turns(given: Option<&str>) -> Result<u64, NodeWordsFault>
     ensures { Reads (AreTurns (option_map (λ text. text.now) given.entry)) result }
 {
     let Some(text) = given else {
@@ -52,7 +52,7 @@ pub fn read_turns(given: Option<&str>) -> Result<u64, WordsFault>
     };
     match read_number(text) {
         Some(turns) => Ok(turns),
-        None => Err(WordsFault::Usage),
+        None => Err(NodeWordsFault::Usage),
     }
 }
 
@@ -74,33 +74,33 @@ fn read_number(text: &str) -> Option<u64>
 }
 
 /// The name of a domain.
-pub fn read_domain(alloc: Global, given: Option<&str>) -> Result<Text, WordsFault>
+pub fn read_domain(alloc: Global, given: Option<&str>) -> Result<Text, NodeWordsFault>
     ensures { Reads (IsGiven SpellsDomain (option_map (λ text. text.now) given.entry)) result }
 {
     let Some(text) = given else {
-        return Err(WordsFault::Usage);
+        return Err(NodeWordsFault::Usage);
     };
     if !is_domain(text) {
-        return Err(WordsFault::Usage);
+        return Err(NodeWordsFault::Usage);
     }
     Ok(Text::new(alloc, text)?)
 }
 
 /// The name of a folder, or an address.
-pub fn read_name(alloc: Global, given: Option<&str>) -> Result<Text, WordsFault>
+pub fn read_name(alloc: Global, given: Option<&str>) -> Result<Text, NodeWordsFault>
     ensures { Reads (IsGiven SpellsName (option_map (λ text. text.now) given.entry)) result }
 {
     let Some(text) = given else {
-        return Err(WordsFault::Usage);
+        return Err(NodeWordsFault::Usage);
     };
     if text.is_empty() {
-        return Err(WordsFault::Usage);
+        return Err(NodeWordsFault::Usage);
     }
     Ok(Text::new(alloc, text)?)
 }
 
 /// An address, where one is given.
-pub fn read_peer(alloc: Global, given: Option<&str>) -> Result<Option<Text>, WordsFault>
+pub fn read_peer(alloc: Global, given: Option<&str>) -> Result<Option<Text>, NodeWordsFault>
     ensures { Reads (IsPeer (option_map (λ text. text.now) given.entry)) result }
 {
     if given.is_none() {
@@ -110,33 +110,32 @@ pub fn read_peer(alloc: Global, given: Option<&str>) -> Result<Option<Text>, Wor
 }
 
 /// The IRIs, where these are not too many.
-pub fn read_iris(alloc: Global, given: Option<&[&str]>) -> Result<Vec<Iri>, WordsFault>
-    ensures { Reads (λ iris. AreIris
-        (unwrap_or (option_map (λ texts. map (λ text. text.now) texts.now) given.entry) []) iris.items) result }
+pub fn read_iris(alloc: Global, given: Option<&[&str]>) -> Result<Vec<Iri>, NodeWordsFault>
+    ensures { Reads (λ iris. AreIris (unwrap_or (option_map (λ texts. map (λ text. text.now) texts.now) given.entry) []) iris.items) result }
 {
     let Some(texts) = given else {
         return Ok(Vec::new(alloc));
     };
     if texts.len() > IRI_COUNT {
-        return Err(WordsFault::Usage);
+        return Err(NodeWordsFault::Usage);
     }
     let mut iris = Vec::new(alloc);
     for text in texts {
         let iri = read_iri(alloc, text)?;
         if iris.push(iri).is_err() {
-            return Err(WordsFault::NoMemory);
+            return Err(NodeWordsFault::NoMemory);
         }
     }
     Ok(iris)
 }
 
 /// An absolute IRI.
-fn read_iri(alloc: Global, text: &str) -> Result<Iri, WordsFault>
+fn read_iri(alloc: Global, text: &str) -> Result<Iri, NodeWordsFault>
     ensures { Reads (λ iri. (iri ≡ text.now) × IsTrue (is_absolute text.now)) result }
 {
     match Iri::new(alloc, text) {
         Ok(iri) => Ok(iri),
-        Err(TermFault::BadIri) => Err(WordsFault::Usage),
-        Err(_) => Err(WordsFault::NoMemory),
+        Err(TermFault::BadIri) => Err(NodeWordsFault::Usage),
+        Err(_) => Err(NodeWordsFault::NoMemory),
     }
 }

@@ -19,16 +19,19 @@ use Rattle.shell_session.specs.declared.sessions.Session.{Session}
 use Rattle.shell_session.specs.declared.sessions.Session.TheVariants as sessions
 use Rattle.shell_session.specs.Sessions.{banks_of, HasFound, SessionStands}
 use Rattle.shell_session.specs.Lines.{ImagesFind, FindsFront, LeavesFront, DoesLine, StopsLine}
-use Rattle.shell_run.specs.Inputs.{AreFirst, AreAll, AreRead, AreBefore, AreUpTo, IfTold}
-use Rattle.shell_run.specs.Ended.{Done, LeavesDone, Ends, StopsBetween, StopsWithin, StopsWriting, between, within, writing, EndsSo}
-use Rattle.shell_words.specs.declared.faults.WordsFault.{WordsFault}
-use Rattle.shell_words.specs.declared.faults.WordsFault.TheVariants as words_faults
-use Rattle.shell_run.specs.Statuses.{fault_of_line, fault_of_words, IsReadingFault, IsWritingFault}
-use Rattle.shell_run.specs.declared.run.ShellFault.{ShellFault}
-use Rattle.shell_run.specs.declared.run.ShellFault.TheVariants as faults
+use Rattle.shell_session.specs.RunEnds.{LeavesDone}
+use Rattle.shell_run.specs.Inputs.{AreFirstLines, AreAllLines, AreReadLines, AreLinesBefore, AreLinesUpTo, IfTold}
+use Rattle.shell_run.specs.ShellEnds.{LinesDone, ShellEdges, StopsBetweenLines, StopsWithinLine, StopsWriting, between, within, writing, ShellEnds}
+use Rattle.shell_words.specs.declared.faults.FolderFault.{FolderFault}
+use Rattle.shell_words.specs.declared.faults.FolderFault.TheVariants as words_faults
+use Rattle.shell_run.specs.ShellStatuses.{fault_of_line, fault_of_words, shell_fault_of_input, shell_fault_of_write}
+use Rattle.input_lines.specs.declared.faults.InputFault.{InputFault}
+use Rattle.input_lines.specs.declared.faults.InputFault.TheVariants as inputs
+use Rattle.mld_io.specs.declared.faults.WriteFault.{WriteFault}
+use Rattle.mld_io.specs.declared.faults.WriteFault.TheVariants as writes
 use Rattle.shell_session.specs.declared.faults.SessionFault.{SessionFault}
 use Rattle.shell_session.specs.declared.faults.SessionFault.TheVariants as line_faults
-use Rattle.shell_run.specs.UnderWay.{IsUnderWay}
+use Rattle.shell_run.specs.ShellUnderWay.{IsShellUnderWay}
 use Rattle.shell_run.proofs.StandingLemmas.{session_finds}
 
 -- ---- runs and texts
@@ -70,7 +73,7 @@ appends_nothing None = tt
 appends_nothing (Some xs) = sym (append-nil xs)
 
 -- what is found where a run led to
-led : (found : Found) (done : Done found) → found_of done.shell ≡ found_after done.steps found
+led : (found : Found) (done : LinesDone found) → found_of done.shell ≡ found_after done.steps found
 led found done = steps_lead (Shut found) done.lines done.text done.steps done.shell done.runs
 
 -- ---- what a crash leaves
@@ -112,7 +115,7 @@ moments_then found middle steps more old now after same first settled second log
     })
 
 -- no step is under way
-leaves_done : (found : Found) (done : Done found) (old now : Option Log) → LeavesFront found done.steps old now
+leaves_done : (found : Found) (done : LinesDone found) (old now : Option Log) → LeavesFront found done.steps old now
     → (ImagesFind found old → ImagesFind (found_of done.shell) now) → LeavesDone found done.steps [] old now
 leaves_done found done old now moments settled = record {
   moments = subst (λ (s : List KeptStep). LeavesFront found s old now) (sym (append-nil done.steps)) moments;
@@ -125,7 +128,7 @@ leaves_done found done old now moments settled = record {
 }
 
 -- some are
-leaves_due : (found : Found) (done : Done found) (due : List KeptStep) (old now after : Option Log) (first : Log) → old ≡ Some first
+leaves_due : (found : Found) (done : LinesDone found) (due : List KeptStep) (old now after : Option Log) (first : Log) → old ≡ Some first
     → LeavesFront found done.steps old now → (ImagesFind found old → ImagesFind (found_of done.shell) now) → LeavesFront (found_of done.shell) due now after
     → LeavesDone found done.steps due old after
 leaves_due found done due old now after first told moments settled later = record {
@@ -153,10 +156,10 @@ leaves_due found done due old now after first told moments settled later = recor
 
 -- nothing is done yet
 pub way_first : {B : Type 0} (log : B → Option Log) (banks : B) (session : Session B) (given before : Option (List ℕ)) (size : ℕ) (first : Log) → session ≡ sessions.Shut banks → size ≡ 0 → log banks ≡ Some first
-    → IsUnderWay log (found_in (read_banks (seen first))) (log banks) given given before before size session 0
+    → IsShellUnderWay log (found_in (read_banks (seen first))) (log banks) given given before before size session 0
 way_first {B = B} log banks session given before size first is nothing told =
     let found : Found = found_in (read_banks (seen first)) in
-    let P : Session B → Type 0 = λ s. IsUnderWay log found (log banks) given given before before size s 0 in
+    let P : Session B → Type 0 = λ s. IsShellUnderWay log found (log banks) given given before before size s 0 in
     let way : P (sessions.Shut banks) = record {
       done = record { lines = []; text = []; steps = []; shell = Shut found; runs = (refl, refl, refl) };
       counted = refl;
@@ -174,10 +177,10 @@ way_first {B = B} log banks session given before size first is nothing told =
 
 -- one more line is done and answered
 pub way_more : {B : Type 0} (log : B → Option Log) (found : Found) (old : Option Log) (given left rest before now after : Option (List ℕ)) (size grown : ℕ) (session next : Session B) (count : ℕ) (line had reply : List ℕ)
-    → IsUnderWay log found old given left before now size session count
+    → IsShellUnderWay log found old given left before now size session count
     → ((bytes : List ℕ) → left ≡ Some bytes → TakesLine size bytes rest grown (Some line))
     → ((shell : Shell) → SessionStands log session shell → DoesLine log shell line (banks_of session) had next reply) → had ≡ []
-    → Appends now after reply → IsUnderWay log found old given rest before after grown next (count + 1)
+    → Appends now after reply → IsShellUnderWay log found old given rest before after grown next (count + 1)
 way_more log found old given left rest before now after size grown session next count line had reply way takes does none writes =
     let act : DoesLine log way.done.shell line (banks_of session) had next reply = does way.done.shell way.stands in
     let same : reply ≡ act.text = act.written ∙ ap (λ (t : List ℕ). t ++ act.text) none in
@@ -199,7 +202,7 @@ way_more log found old given left rest before now after size grown session next 
 
 -- ---- the lines that were done, where the source tells its bytes
 
-first_of_way : (bytes : List ℕ) (left : Option (List ℕ)) (size count : ℕ) (lines : List (List ℕ)) → count ≡ length lines → IsLeft bytes left size count lines → AreFirst bytes lines
+first_of_way : (bytes : List ℕ) (left : Option (List ℕ)) (size count : ℕ) (lines : List (List ℕ)) → count ≡ length lines → IsLeft bytes left size count lines → AreFirstLines bytes lines
 first_of_way bytes left size count lines counted at = record {
   rest = lines_of at.rest;
   whole = at.whole;
@@ -207,13 +210,13 @@ first_of_way bytes left size count lines counted at = record {
 }
 
 pub are_first : {B : Type 0} (log : B → Option Log) (found : Found) (old : Option Log) (given left before now : Option (List ℕ)) (size : ℕ) (session : Session B) (count : ℕ)
-    → (way : IsUnderWay log found old given left before now size session count) → IfTold given AreFirst way.done.lines
+    → (way : IsShellUnderWay log found old given left before now size session count) → IfTold given AreFirstLines way.done.lines
 are_first log found old given left before now size session count way bytes told = first_of_way bytes left size count way.done.lines way.counted (way.left_of bytes told)
 
 pub are_all : {B : Type 0} (log : B → Option Log) (found : Found) (old : Option Log) (given left rest before now : Option (List ℕ)) (size : ℕ) (session : Session B) (count : ℕ)
-    → (way : IsUnderWay log found old given left before now size session count)
+    → (way : IsShellUnderWay log found old given left before now size session count)
     → ((bytes : List ℕ) → given ≡ Some bytes → (behind : List ℕ) → left ≡ Some behind → (behind ≡ []) × (rest ≡ Some []))
-    → IfTold given (AreAll rest) way.done.lines
+    → IfTold given (AreAllLines rest) way.done.lines
 are_all log found old given left rest before now size session count way none bytes told =
     let at : IsLeft bytes left size count way.done.lines = way.left_of bytes told in
     let end : (at.rest ≡ []) × (rest ≡ Some []) = none bytes told at.rest at.is in
@@ -224,9 +227,9 @@ are_all log found old given left rest before now size session count way none byt
     }
 
 pub are_read : {B : Type 0} (log : B → Option Log) (found : Found) (old : Option Log) (given left rest before now : Option (List ℕ)) (size : ℕ) (session : Session B) (count : ℕ)
-    → (way : IsUnderWay log found old given left before now size session count)
+    → (way : IsShellUnderWay log found old given left before now size session count)
     → ((bytes : List ℕ) → left ≡ Some bytes → IsCutShort bytes rest) → ((bytes : List ℕ) → given ≡ Some bytes → ReadsLines bytes rest count)
-    → IfTold given (AreRead rest) way.done.lines
+    → IfTold given (AreReadLines rest) way.done.lines
 are_read log found old given left rest before now size session count way cut reads bytes told =
     let at : IsLeft bytes left size count way.done.lines = way.left_of bytes told in
     record {
@@ -236,8 +239,8 @@ are_read log found old given left rest before now size session count way cut rea
     }
 
 pub are_before : {B : Type 0} (log : B → Option Log) (found : Found) (old : Option Log) (given left before now : Option (List ℕ)) (size : ℕ) (session : Session B) (count number : ℕ)
-    → (way : IsUnderWay log found old given left before now size session count) → number ≡ count + 1
-    → ((bytes : List ℕ) → left ≡ Some bytes → BreaksLimits size bytes) → IfTold given (AreBefore number) way.done.lines
+    → (way : IsShellUnderWay log found old given left before now size session count) → number ≡ count + 1
+    → ((bytes : List ℕ) → left ≡ Some bytes → BreaksLimits size bytes) → IfTold given (AreLinesBefore number) way.done.lines
 are_before log found old given left before now size session count number way counts breaks bytes told =
     let at : IsLeft bytes left size count way.done.lines = way.left_of bytes told in
     record {
@@ -247,8 +250,8 @@ are_before log found old given left before now size session count number way cou
     }
 
 are_up_to : {B : Type 0} (log : B → Option Log) (found : Found) (old : Option Log) (given left rest before now : Option (List ℕ)) (size grown : ℕ) (session : Session B) (count : ℕ) (line : List ℕ)
-    → (way : IsUnderWay log found old given left before now size session count)
-    → ((bytes : List ℕ) → left ≡ Some bytes → TakesLine size bytes rest grown (Some line)) → IfTold given (AreUpTo line) way.done.lines
+    → (way : IsShellUnderWay log found old given left before now size session count)
+    → ((bytes : List ℕ) → left ≡ Some bytes → TakesLine size bytes rest grown (Some line)) → IfTold given (AreLinesUpTo line) way.done.lines
 are_up_to log found old given left rest before now size grown session count line way takes bytes told =
     first_of_way bytes rest grown (count + 1) (way.done.lines ++ line ∷ []) (omega (arith, way.counted, length-append way.done.lines (line ∷ [])))
     (taken_left given left size grown count way.done.lines line rest way.left_of takes bytes told)
@@ -257,8 +260,8 @@ are_up_to log found old given left rest before now size grown session count line
 
 -- between two lines
 pub stops_between : {B : Type 0} (log : B → Option Log) (Lines : List ℕ → List (List ℕ) → Type 0) (found : Found) (old : Option Log) (given left before now : Option (List ℕ)) (size : ℕ) (session : Session B) (count : ℕ)
-    → (way : IsUnderWay log found old given left before now size session count) → IfTold given Lines way.done.lines
-    → StopsBetween Lines found (record { given = given; before = before; after = now; old = old; now = log (banks_of session) })
+    → (way : IsShellUnderWay log found old given left before now size session count) → IfTold given Lines way.done.lines
+    → StopsBetweenLines Lines found (record { given = given; before = before; after = now; old = old; now = log (banks_of session) })
 stops_between log Lines found old given left before now size session count way are = record {
   done = way.done;
   lines_are = are;
@@ -269,10 +272,10 @@ stops_between log Lines found old given left before now size session count way a
 
 -- in the middle of a line
 pub stops_within : {B : Type 0} (log : B → Option Log) (found : Found) (old : Option Log) (first : Log) (given left rest before now : Option (List ℕ)) (size grown : ℕ) (session : Session B) (count : ℕ) (line : List ℕ) (back : B)
-    → old ≡ Some first → IsUnderWay log found old given left before now size session count
+    → old ≡ Some first → IsShellUnderWay log found old given left before now size session count
     → ((bytes : List ℕ) → left ≡ Some bytes → TakesLine size bytes rest grown (Some line))
     → ((shell : Shell) → SessionStands log session shell → StopsLine log shell line (banks_of session) back)
-    → StopsWithin found (record { given = given; before = before; after = now; old = old; now = log back })
+    → StopsWithinLine found (record { given = given; before = before; after = now; old = old; now = log back })
 stops_within log found old first given left rest before now size grown session count line back told way takes stops =
     let stop : StopsLine log way.done.shell line (banks_of session) back = stops way.done.shell way.stands in
     record {
@@ -287,7 +290,7 @@ stops_within log found old first given left rest before now size grown session c
 
 -- behind a line whose reply could not be written whole
 pub stops_writing : {B : Type 0} (log : B → Option Log) (found : Found) (old : Option Log) (given left rest before now after : Option (List ℕ)) (size grown : ℕ) (session next : Session B) (count : ℕ) (line had reply : List ℕ) (n : ℕ)
-    → IsUnderWay log found old given left before now size session count
+    → IsShellUnderWay log found old given left before now size session count
     → ((bytes : List ℕ) → left ≡ Some bytes → TakesLine size bytes rest grown (Some line))
     → ((shell : Shell) → SessionStands log session shell → DoesLine log shell line (banks_of session) had next reply) → had ≡ []
     → Appends now after (take n reply)
@@ -295,7 +298,7 @@ pub stops_writing : {B : Type 0} (log : B → Option Log) (found : Found) (old :
 stops_writing log found old given left rest before now after size grown session next count line had reply n way takes does none writes =
     let act : DoesLine log way.done.shell line (banks_of session) had next reply = does way.done.shell way.stands in
     let same : reply ≡ act.text = act.written ∙ ap (λ (t : List ℕ). t ++ act.text) none in
-    let both : Done found = record {
+    let both : LinesDone found = record {
       lines = way.done.lines ++ line ∷ [];
       text = way.done.text ++ act.text;
       steps = way.done.steps ++ act.steps;
@@ -321,30 +324,28 @@ stops_writing log found old given left rest before now after size grown session 
 -- ---- the run ends so
 
 -- where a line could not be read
-pub ends_reading : (fault : ShellFault) (found : Found) (left : Option (List ℕ)) (ends : Ends) → IsReadingFault fault
-    → (fault ≡ faults.ReadFault → StopsBetween (AreRead left) found ends) → ((at : ℕ) → fault ≡ faults.TooLarge at → StopsBetween (AreBefore at) found ends)
-    → StopsBetween AreFirst found ends → EndsSo (Some fault) found left ends
-ends_reading faults.ReadFault found left ends reading cut large stops = cut refl
-ends_reading (faults.TooLarge at) found left ends reading cut large stops = large at refl
-ends_reading faults.NoMemory found left ends reading cut large stops = between stops
-ends_reading fault found left ends reading cut large stops = absurd reading
+pub ends_reading : (fault : InputFault) (found : Found) (left : Option (List ℕ)) (ends : ShellEdges)
+    → (fault ≡ inputs.ReadFault → StopsBetweenLines (AreReadLines left) found ends) → ((at : ℕ) → fault ≡ inputs.TooLarge at → StopsBetweenLines (AreLinesBefore at) found ends)
+    → StopsBetweenLines AreFirstLines found ends → ShellEnds (Some (shell_fault_of_input fault)) found left ends
+ends_reading inputs.ReadFault found left ends cut large stops = cut refl
+ends_reading (inputs.TooLarge at) found left ends cut large stops = large at refl
+ends_reading inputs.NoMemory found left ends cut large stops = between stops
 
 -- where one was not done
-pub ends_line : (fault : SessionFault) (found : Found) (left : Option (List ℕ)) (ends : Ends) → StopsWithin found ends → EndsSo (Some (fault_of_line fault)) found left ends
+pub ends_line : (fault : SessionFault) (found : Found) (left : Option (List ℕ)) (ends : ShellEdges) → StopsWithinLine found ends → ShellEnds (Some (fault_of_line fault)) found left ends
 ends_line line_faults.Device found left ends stops = stops
 ends_line line_faults.NoMemory found left ends stops = within stops
 
 -- where its reply could not be written
-pub ends_writing : (fault : ShellFault) (found : Found) (left : Option (List ℕ)) (ends : Ends) → IsWritingFault fault → StopsWriting found ends → EndsSo (Some fault) found left ends
-ends_writing faults.WriteFault found left ends failed stops = stops
-ends_writing faults.NoMemory found left ends failed stops = writing stops
-ends_writing fault found left ends failed stops = absurd failed
+pub ends_writing : (fault : WriteFault) (found : Found) (left : Option (List ℕ)) (ends : ShellEdges) → StopsWriting found ends → ShellEnds (Some (shell_fault_of_write fault)) found left ends
+ends_writing writes.Failed found left ends stops = stops
+ends_writing writes.NoMemory found left ends stops = writing stops
 
 -- where the words were not read
-pub not_read : {B : Type 0} (log : B → Option Log) (fault : WordsFault) (banks : B) (given before : Option (List ℕ)) (first : Log) → log banks ≡ Some first
-    → EndsSo (Some (fault_of_words fault)) (found_in (read_banks (seen first))) given (record { given = given; before = before; after = before; old = log banks; now = log banks })
-not_read log words_faults.Usage banks given before first told = record { all_left = refl; none_written = refl; same_banks = refl }
+pub not_read : {B : Type 0} (log : B → Option Log) (fault : FolderFault) (banks : B) (given before : Option (List ℕ)) (first : Log) → log banks ≡ Some first
+    → ShellEnds (Some (fault_of_words fault)) (found_in (read_banks (seen first))) given (record { given = given; before = before; after = before; old = log banks; now = log banks })
+not_read log words_faults.Usage banks given before first told = record { nothing = record { all_left = refl; none_written = refl }; same_banks = refl }
 not_read log words_faults.NoMemory banks given before first told =
     let found : Found = found_in (read_banks (seen first)) in
-    let way : IsUnderWay log found (log banks) given given before before 0 (sessions.Shut banks) 0 = way_first log banks (sessions.Shut banks) given before 0 first refl refl told in
-    between (stops_between log AreFirst found (log banks) given given before before 0 (sessions.Shut banks) 0 way (are_first log found (log banks) given given before before 0 (sessions.Shut banks) 0 way))
+    let way : IsShellUnderWay log found (log banks) given given before before 0 (sessions.Shut banks) 0 = way_first log banks (sessions.Shut banks) given before 0 first refl refl told in
+    between (stops_between log AreFirstLines found (log banks) given given before before 0 (sessions.Shut banks) 0 way (are_first log found (log banks) given given before before 0 (sessions.Shut banks) 0 way))

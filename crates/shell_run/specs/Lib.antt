@@ -1,4 +1,4 @@
-pub mod Statuses
+pub mod ShellStatuses
 pub mod Inputs
-pub mod Ended
-pub mod UnderWay
+pub mod ShellEnds
+pub mod ShellUnderWay

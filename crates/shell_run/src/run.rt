@@ -1,19 +1,18 @@
 //! The run: all that the shell does, over the words, the source, the sink and the banks that it is handed.
-ghost use Rattle.std.specs.Prelude.{◌≡◌, ◌≢◌, ◌↔◌, ◌≤◌, ◌<◌, ℕ, List, [], map, take, false, None, Some, IsTrue, IfOk, IfErr, OnOk, OnErr, IsErrOf};
-ghost use Rattle.std.specs.Io.KnownBytes.{Appends};
+ghost use Rattle.std.specs.Prelude.{◌≡◌, ◌≢◌, map, None, Some};
 ghost use Rattle.std.specs.String.{string_bytes};
-ghost use Rattle.mld_io.specs.Lines.{HasNoEnd, IsCutShort};
-ghost use Rattle.input_lines.specs.TooLarge.{BreaksLimits, line_limit, input_limit};
-ghost use Rattle.input_lines.specs.Taken.{TakesLine, IfSomeLine};
+ghost use Rattle.input_lines.specs.InputFaults.{RoseJustWhere};
+ghost use Rattle.input_lines.specs.Untouched.{AreUntouched};
 ghost use Rattle.shell_words.specs.FolderWords.{IsRefused};
 ghost use Rattle.shell_session.specs.Lines.{Meters};
-ghost use Rattle.shell_run.specs.Ended.{EndsTold};
-ghost use Rattle.shell_run.specs.Statuses.{status_of, TellsUsage, AreUntouched, CountsReads, CountsWrites, fault_of_words, fault_of_line, IsReadingFault, IsWritingFault, HasReadCause, HasWriteFaultCause};
+ghost use Rattle.shell_session.specs.RunEnds.{TellsUsage, IfFound};
+ghost use Rattle.shell_run.specs.ShellEnds.{ShellEnds};
+ghost use Rattle.shell_run.specs.ShellStatuses.{shell_status, fault_of_words, fault_of_line, shell_fault_of_input, shell_fault_of_write};
 
-use input_lines::{INPUT_LIMIT, LINE_LIMIT};
-use mld_io::{Banks, LineFault, Lines, Piece, Sink, Source, WriteFault, write_all};
+use input_lines::{INPUT_LIMIT, InputFault, LINE_LIMIT, next_line};
+use mld_io::{Banks, Lines, Sink, Source, WriteFault, write_all};
 use shell_session::{Session, SessionFault};
-use shell_words::{WordsFault, read_folder};
+use shell_words::{FolderFault, read_folder};
 use std::alloc::{AllocError, Global};
 use std::thread::Threads;
 use thiserror::Error;
@@ -68,10 +67,12 @@ pub fn shell<R: Threads, S: Source, K: Sink, B: Banks>(
     sink: &mut K,
     banks: B,
 ) -> ShellRan<B>
-    ensures status { result.status ≡ status_of result.fault }
-    ensures usage { TellsUsage result.fault (IsRefused (map (λ w. string_bytes w) words.now.items)) }
+    ensures status { result.status ≡ shell_status result.fault }
+    ensures usage { TellsUsage ShellFault.Usage ShellFault.NoMemory result.fault
+        (IsRefused (map (λ w. string_bytes w) words.now.items)) }
     // At 1 nothing is read or written, and no bank is called.
-    ensures untouched { result.fault ≡ Some ShellFault.Usage → AreUntouched source.old source.new sink.old sink.new banks result.banks }
+    ensures untouched { result.fault ≡ Some ShellFault.Usage → AreUntouched source.old source.new sink.old sink.new }
+    ensures same_banks { result.fault ≡ Some ShellFault.Usage → result.banks ≡ banks }
     // How the run ended over banks that tell their log: the lines that it did are a run of the model's shell over what was found on the banks
     // at first, and where the source tells its bytes they are these.
     //
@@ -81,23 +82,26 @@ pub fn shell<R: Threads, S: Source, K: Sink, B: Banks>(
     //
     // Where the same was found on all that a crash might have left at first, so it is at each moment of what a front of the run's durable
     // steps makes of that; and in the end of what all steps of the lines that were answered make, and a front of those under way.
-    ensures ends { EndsTold result.fault (S.left source.new)
-        (record { given = S.left source.old; before = K.held sink.old; after = K.held sink.new; old = B.log banks; now = B.log result.banks }) }
+    ensures ends { IfFound (B.log banks) (λ found. ShellEnds result.fault found (S.left source.new) (record {
+        given = S.left source.old; before = K.held sink.old; after = K.held sink.new;
+        old = B.log banks; now = B.log result.banks })) }
     // 6 comes just where the banks had a fault, which was a real one if they aren't armed.
     ensures meter { Meters (B.meter banks) (B.meter result.banks) (result.fault ≡ Some ShellFault.Device) }
     // 2 comes just where the source had a fault, and 3 where the sink had one.
-    ensures reads { CountsReads (S.faults source.old) (S.faults source.new) result.fault }
-    ensures writes { CountsWrites (K.faults sink.old) (K.faults sink.new) result.fault }
+    ensures reads { RoseJustWhere (result.fault ≡ Some ShellFault.ReadFault)
+        (S.faults source.old) (S.faults source.new) }
+    ensures writes { RoseJustWhere (result.fault ≡ Some ShellFault.WriteFault)
+        (K.faults sink.old) (K.faults sink.new) }
 {
     if let Err(fault) = read_folder(alloc, words) {
-        return ended(Some(words_fault(fault)), banks);
+        return end_run(Some(words_fault(fault)), banks);
     }
     do_lines(rt, alloc, source, sink, banks)
 }
 
-/// A run that ended so, with these banks.
-fn ended<B>(fault: Option<ShellFault>, banks: B) -> ShellRan<B>
-    ensures status { result.status ≡ status_of fault }
+/// Ends a run by this fault, or well, and gives back these banks.
+fn end_run<B>(fault: Option<ShellFault>, banks: B) -> ShellRan<B>
+    ensures status { result.status ≡ shell_status fault }
     ensures fault { result.fault ≡ fault }
     ensures banks { result.banks ≡ banks }
 {
@@ -110,7 +114,7 @@ fn ended<B>(fault: Option<ShellFault>, banks: B) -> ShellRan<B>
 
 /// The status of the program for the way in which a run ended.
 fn status_of(fault: Option<ShellFault>) -> u8
-    ensures { result ≡ status_of fault }
+    ensures { result ≡ shell_status fault }
 {
     match fault {
         None => 0,
@@ -124,12 +128,12 @@ fn status_of(fault: Option<ShellFault>) -> u8
 }
 
 /// Why words were not read.
-fn words_fault(fault: WordsFault) -> ShellFault
+fn words_fault(fault: FolderFault) -> ShellFault
     ensures { result ≡ fault_of_words fault }
 {
     match fault {
-        WordsFault::Usage => ShellFault::Usage,
-        WordsFault::NoMemory => ShellFault::NoMemory,
+        FolderFault::Usage => ShellFault::Usage,
+        FolderFault::NoMemory => ShellFault::NoMemory,
     }
 }
 
@@ -141,35 +145,38 @@ fn do_lines<R: Threads, S: Source, K: Sink, B: Banks>(
     sink: &mut K,
     banks: B,
 ) -> ShellRan<B>
-    ensures status { result.status ≡ status_of result.fault }
+    ensures status { result.status ≡ shell_status result.fault }
     ensures begun { result.fault ≢ Some ShellFault.Usage }
-    ensures ends { EndsTold result.fault (S.left source.new)
-        (record { given = S.left source.old; before = K.held sink.old; after = K.held sink.new; old = B.log banks; now = B.log result.banks }) }
+    ensures ends { IfFound (B.log banks) (λ found. ShellEnds result.fault found (S.left source.new) (record {
+        given = S.left source.old; before = K.held sink.old; after = K.held sink.new;
+        old = B.log banks; now = B.log result.banks })) }
     ensures meter { Meters (B.meter banks) (B.meter result.banks) (result.fault ≡ Some ShellFault.Device) }
-    ensures reads { CountsReads (S.faults source.old) (S.faults source.new) result.fault }
-    ensures writes { CountsWrites (K.faults sink.old) (K.faults sink.new) result.fault }
+    ensures reads { RoseJustWhere (result.fault ≡ Some ShellFault.ReadFault)
+        (S.faults source.old) (S.faults source.new) }
+    ensures writes { RoseJustWhere (result.fault ≡ Some ShellFault.WriteFault)
+        (K.faults sink.old) (K.faults sink.new) }
 {
     let mut session = Session::new(banks);
     let mut lines = match Lines::new(alloc, LINE_LIMIT, INPUT_LIMIT) {
         Ok(lines) => lines,
-        Err(AllocError) => return ended(Some(ShellFault::NoMemory), session.into_banks()),
+        Err(AllocError) => return end_run(Some(ShellFault::NoMemory), session.into_banks()),
     };
     let mut reply = Vec::new(alloc);
     let mut done = 0;
     loop {
         let line = match next_line(&mut lines, source, done + 1) {
             Ok(Some(line)) => line,
-            Ok(None) => return ended(None, session.into_banks()),
-            Err(fault) => return ended(Some(fault), session.into_banks()),
+            Ok(None) => return end_run(None, session.into_banks()),
+            Err(fault) => return end_run(Some(input_fault(fault)), session.into_banks()),
         };
         done += 1;
         reply.clear();
         session = match session.line(rt, alloc, line.as_slice(), &mut reply) {
             Ok(session) => session,
-            Err((fault, banks)) => return ended(Some(line_fault(fault)), banks),
+            Err((fault, banks)) => return end_run(Some(line_fault(fault)), banks),
         };
-        if let Err(fault) = write_reply(sink, reply.as_slice()) {
-            return ended(Some(fault), session.into_banks());
+        if let Err(fault) = write_all(sink, reply.as_slice()) {
+            return end_run(Some(write_fault(fault)), session.into_banks());
         }
     }
 }
@@ -184,45 +191,23 @@ fn line_fault(fault: SessionFault) -> ShellFault
     }
 }
 
-/// The next line, where line `number` is due.
-fn next_line<S: Source>(
-    lines: &mut Lines,
-    source: &mut S,
-    number: u64,
-) -> Result<Option<Piece>, ShellFault>
-    requires good { IsTrue lines.old.good }
-    requires line { lines.old.line ≡ line_limit }
-    requires all { lines.old.all ≡ input_limit }
-    ensures line { (bytes : List ℕ) → S.left source.old ≡ Some bytes → IfOk result (TakesLine lines.old.taken bytes (S.left source.new) lines.new.taken) }
-    ensures at_end { lines.old.ended ≡ false → (bytes : List ℕ) → S.left source.old ≡ Some bytes → IfOk result (λ line. line ≡ None → bytes ≡ []) }
-    ensures ended { (bytes : List ℕ) → S.left source.old ≡ Some bytes → IfOk result (IfSomeLine (λ _. IsTrue lines.new.ended ↔ HasNoEnd bytes)) }
-    ensures failed { OnErr result (lines.old.ended ≡ false) }
-    ensures large { (at : ℕ) → IsErrOf result (ShellFault.TooLarge at) → (at ≡ number) × ((bytes : List ℕ) → S.left source.old ≡ Some bytes → BreaksLimits lines.old.taken bytes) }
-    ensures broken_off { IsErrOf result ShellFault.ReadFault → (bytes : List ℕ) → S.left source.old ≡ Some bytes → IsCutShort bytes (S.left source.new) }
-    ensures good { OnOk result (IsTrue lines.new.good) }
-    ensures limits { (lines.new.line ≡ lines.old.line) × (lines.new.all ≡ lines.old.all) }
-    ensures progress { IfOk result (IfSomeLine (λ _. (lines.old.taken < lines.new.taken) × (lines.new.taken ≤ lines.old.all))) }
-    ensures end { IfOk result (λ line. line ≡ None → lines.new.taken ≡ lines.old.taken) }
-    ensures fault { IfErr result IsReadingFault }
-    ensures cause { HasReadCause (S.faults source.old) (S.faults source.new) result }
+/// Why there is no next line.
+fn input_fault(fault: InputFault) -> ShellFault
+    ensures { result ≡ shell_fault_of_input fault }
 {
-    match lines.next(source) {
-        Ok(line) => Ok(line),
-        Err(LineFault::ReadFault) => Err(ShellFault::ReadFault),
-        Err(LineFault::TooLarge) => Err(ShellFault::TooLarge(number)),
-        Err(LineFault::NoMemory) => Err(ShellFault::NoMemory),
+    match fault {
+        InputFault::ReadFault => ShellFault::ReadFault,
+        InputFault::TooLarge(line) => ShellFault::TooLarge(line),
+        InputFault::NoMemory => ShellFault::NoMemory,
     }
 }
 
-/// Writes the text of a line's reply as one piece.
-fn write_reply<K: Sink>(sink: &mut K, reply: &[u8]) -> Result<(), ShellFault>
-    ensures ok { OnOk result (Appends (K.held sink.old) (K.held sink.new) reply.now) }
-    ensures err { OnErr result ((n : ℕ) × Appends (K.held sink.old) (K.held sink.new) (take n reply.now)) }
-    ensures fault { IfErr result IsWritingFault }
-    ensures cause { HasWriteFaultCause (K.faults sink.old) (K.faults sink.new) result }
+/// Why a reply was not written whole.
+fn write_fault(fault: WriteFault) -> ShellFault
+    ensures { result ≡ shell_fault_of_write fault }
 {
-    write_all(sink, reply).map_err(|fault| match fault {
+    match fault {
         WriteFault::Failed => ShellFault::WriteFault,
         WriteFault::NoMemory => ShellFault::NoMemory,
-    })
+    }
 }

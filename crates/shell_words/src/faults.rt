@@ -5,7 +5,7 @@ use thiserror::Error;
 
 /// Why words were not read.
 #[derive(Clone, Copy, Debug, PartialEq, Eq, Error)]
-pub enum WordsFault {
+pub enum FolderFault {
     /// They are not the name of one folder.
     #[error("usage")]
     Usage,
@@ -14,13 +14,13 @@ pub enum WordsFault {
     NoMemory,
 }
 
-impl From<AllocError> for WordsFault {
+impl From<AllocError> for FolderFault {
     ghost use Rattle.std.specs.Prelude.{◌≡◌};
-    ghost use Rattle.shell_words.specs.declared.faults.WordsFault.TheVariants.{NoMemory};
+    ghost use Rattle.shell_words.specs.declared.faults.FolderFault.TheVariants.{NoMemory};
 
     ghost from_gives = { λ _ e. e ≡ NoMemory };
 
-    fn from(_error: AllocError) -> WordsFault {
-        WordsFault::NoMemory
+    fn from(_error: AllocError) -> FolderFault {
+        FolderFault::NoMemory
     }
 }

@@ -4,7 +4,7 @@ ghost use Rattle.std.specs.String.{string_bytes};
 ghost use Rattle.clap.specs.Words.{FailsBy, kind_of, fault_of, first_of, matches_of};
 ghost use Rattle.shell_words.specs.FolderWords.{IsFolder, IsRefused, folder_app, shell_name};
 
-use crate::faults::WordsFault;
+use crate::faults::FolderFault;
 use clap::error::ErrorKind;
 use clap::{Arg, ArgAction, Command, Error};
 use iri_rules::Text;
@@ -17,9 +17,9 @@ const SHELL_NAME: &str = "mld_shell";
 ///
 /// # Errors
 /// `Usage` where they are anything else, among them no words, `--help` and a word with `-` in front. A `--` before the folder is taken.
-pub fn read_folder(alloc: Global, words: &Vec<String>) -> Result<Text, WordsFault>
+pub fn read_folder(alloc: Global, words: &Vec<String>) -> Result<Text, FolderFault>
     ensures ok { IfOk result (IsFolder (map (λ w. string_bytes w) words.now.items)) }
-    ensures usage { IsErrOf result WordsFault.Usage → IsRefused (map (λ w. string_bytes w) words.now.items) }
+    ensures usage { IsErrOf result FolderFault.Usage → IsRefused (map (λ w. string_bytes w) words.now.items) }
 {
     let named = named_words(alloc, words)?;
     match value_given(alloc, named.as_slice()) {
@@ -57,11 +57,11 @@ fn value_given<'a>(alloc: Global, words: &'a [&'a str]) -> Result<&'a str, Error
 }
 
 /// A refusal for another cause than memory is one of the words.
-fn fault_told(error: &Error) -> WordsFault
-    ensures { result ≡ WordsFault.Usage → kind_of error.now ≢ ErrorKind.OutOfMemory }
+fn fault_told(error: &Error) -> FolderFault
+    ensures { result ≡ FolderFault.Usage → kind_of error.now ≢ ErrorKind.OutOfMemory }
 {
     if error.kind() == ErrorKind::OutOfMemory {
-        return WordsFault::NoMemory;
+        return FolderFault::NoMemory;
     }
-    WordsFault::Usage
+    FolderFault::Usage
 }

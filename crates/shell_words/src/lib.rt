@@ -4,5 +4,5 @@
 mod faults;
 mod folder;
 
-pub use faults::WordsFault;
+pub use faults::FolderFault;
 pub use folder::read_folder;

@@ -9,4 +9,4 @@ returns-in-Ok-clause-reports g c =
 pub returns-in-Err-clause-reports : goal.returns-in-Err-clause-reports
 returns-in-Err-clause-reports g c =
     let written = rw c.deref.ensures.value at c.in-Err.ensures.err in
-    refused c.in-None-Some.summary (record { no_fault = c.in-None-Some.is-0; told = c.in-None-Some.is-1 }) c.in-Err.fault c.in-Err.ensures.fault c.ended.ensures.fault c.ended.ensures.banks c.ended.ensures.world written.0 written.1
+    refused c.in-None-Some.summary (record { no_fault = c.in-None-Some.is-0; told = c.in-None-Some.is-1 }) c.in-Err.fault c.in-Err.ensures.fault c.end_run.ensures.fault c.end_run.ensures.banks c.end_run.ensures.world written.0 written.1

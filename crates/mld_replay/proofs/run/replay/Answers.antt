@@ -1,13 +1,14 @@
 use Rattle.std.proofs.Common.{◌≡◌, ◌∙◌, ◌∷◌, ◌++◌, List, ℕ, refl, sym, ap, arith, Some}
 use Rattle.std.specs.Result.{result_err}
 use Rattle.std.proofs.lemmas.Result.{err_from_is_err_and}
-use Rattle.mld_replay.proofs.LimitLemmas.{end_first, end_more, end_cut, end_none}
-use Rattle.mld_replay.proofs.RunLemmas.{under_way_first, under_way_more, whole_first, whole_of_way, line_there, none_there, front_of_reply, takes_some, stops_bad_at, stops_large, breaks_off, finishes, ends_waiting_at, on_ok, read_well, wrote_well, err_same, of_line, ends_reading, ends_stopped, ends_writing, ends_lines, reading_replays, line_replays, writing_replays, end_replays, reads_counted, writes_counted, reads_same, writes_same, not_of_reading, not_of_writing, reading_not_writing, line_not_reading, line_not_writing, writing_not_reading, end_not_reading, end_not_writing}
+use Rattle.input_lines.proofs.TakenLemmas as input
+use Rattle.input_lines.proofs.TakenLemmas.{end_first, end_more, end_cut, end_none, takes_some, end_of_line, advanced, read_well}
+use Rattle.mld_replay.proofs.RunLemmas.{under_way_first, under_way_more, whole_first, whole_of_way, line_there, none_there, front_of_reply, stops_bad_at, stops_large, breaks_off, finishes, ends_waiting_at, on_ok, err_same, ends_reading, ends_stopped, ends_writing, ends_lines, reading_replays, line_replays, writing_replays, end_replays, reads_counted, writes_counted, reads_same, writes_same, not_of_reading, not_of_writing, reading_not_writing, line_not_reading, line_not_writing, writing_not_reading, end_not_reading, end_not_writing}
 use Rattle.mld_io.specs.Lines.{lines_of}
 use Rattle.schedule_model.specs.Runs.{Stage, Waiting}
 use Rattle.mld_replay.specs.BanksLeft.{AreLeftAmid}
 use Rattle.mld_replay.specs.Ran.{short_amid}
-use Rattle.mld_replay.specs.Replaying.{says_by}
+use Rattle.mld_replay.specs.Replaying.{says_by, run_fault_of_input, run_fault_of_write}
 use Rattle.mld_replay.proofs.StoppedLemmas.{still_left}
 use Rattle.mld_replay.specs.Stages.{StageStands, EndsWell, banks_of_stage}
 use Rattle.mld_replay.specs.declared.run.RunFault.TheVariants as faults
@@ -21,8 +22,7 @@ loop-reply-init g c = record {
   well = well_same g.B.Banks.meter (banks_of_stage c.args.stage.now);
   ends = end_first (g.S.Source.left c.args.source.now) c.in_ok-lines.lines.ended (ap (λ l. l.ended) c.in_ok-lines.ensures);
   good = ap (λ l. l.good) c.in_ok-lines.ensures;
-  line = ap (λ l. l.line) c.in_ok-lines.ensures;
-  all = ap (λ l. l.all) c.in_ok-lines.ensures;
+  limits = record { in_line = ap (λ l. l.line) c.in_ok-lines.ensures; in_all = ap (λ l. l.all) c.in_ok-lines.ensures };
   few = omega arith;
   within = omega (arith, ap (λ l. l.taken) c.in_ok-lines.ensures);
   reads = refl;
@@ -32,23 +32,22 @@ loop-reply-init g c = record {
 pub loop-reply-preserved : goal.loop-reply-preserved
 loop-reply-preserved g c = record {
   way = under_way_more g.B.Banks.log (g.S.Source.left c.args.source.now) (g.S.Source.left c.loop-reply.source) (g.S.Source.left c.next_line.new.source)
-      (g.K.Sink.held c.args.sink.now) (g.K.Sink.held c.loop-reply.sink) (g.K.Sink.held c.write_reply.new.sink) c.loop-reply.lines.taken c.next_line.new.lines.taken c.loop-reply.stage c.do_line.new.stage c.loop-reply.done c.as_slice.result.now c.do_line.new.reply.items
+      (g.K.Sink.held c.args.sink.now) (g.K.Sink.held c.loop-reply.sink) (g.K.Sink.held c.write_all.new.sink) c.loop-reply.lines.taken c.next_line.new.lines.taken c.loop-reply.stage c.do_line.new.stage c.loop-reply.done c.as_slice.result.now c.do_line.new.reply.items
       c.loop-reply.invariant.way
       (takes_some (g.S.Source.left c.loop-reply.source) (g.S.Source.left c.next_line.new.source) c.in_ok-line.field-0 c.loop-reply.lines.taken c.next_line.new.lines.taken c.in-Some.line c.as_slice.result.now c.in-Some.is c.as_slice.ensures c.in_ok-line.ensures.line)
       c.in_ok-do_line.ensures.ok c.in_ok-do_line.ensures.steps
-      (rw (sym c.as_slice-in-Some.ensures.value) c.in_ok-write_reply.ensures.ok);
+      (rw (sym c.as_slice-in-Some.ensures.value) c.in_ok-write_all.ensures.ok);
   well = well_then g.B.Banks.meter (banks_of_stage c.args.stage.now) (banks_of_stage c.loop-reply.stage) (banks_of_stage c.do_line.new.stage) c.loop-reply.invariant.well c.in_ok-do_line.ensures.back;
   ends = end_more (g.S.Source.left c.args.source.now) (g.S.Source.left c.loop-reply.source) (g.S.Source.left c.next_line.new.source) c.loop-reply.lines.taken c.next_line.new.lines.taken c.loop-reply.done
       c.loop-reply.invariant.way.lines c.in-Some.line c.loop-reply.lines.ended c.next_line.new.lines.ended c.loop-reply.invariant.ends c.loop-reply.invariant.way.left_of
       (takes_some (g.S.Source.left c.loop-reply.source) (g.S.Source.left c.next_line.new.source) c.in_ok-line.field-0 c.loop-reply.lines.taken c.next_line.new.lines.taken c.in-Some.line c.in-Some.line c.in-Some.is refl c.in_ok-line.ensures.line)
-      (λ bytes told. of_line _ c.in_ok-line.field-0 c.in-Some.line c.in-Some.is (c.in_ok-line.ensures.ended bytes told));
+      (λ bytes told. end_of_line _ bytes c.in_ok-line.field-0 c.in-Some.line c.in-Some.is (c.in_ok-line.ensures.ended bytes told));
   good = c.in_ok-line.ensures.good;
-  line = c.next_line.ensures.limits.0 ∙ c.loop-reply.invariant.line;
-  all = c.next_line.ensures.limits.1 ∙ c.loop-reply.invariant.all;
-  few = omega (arith, c.loop-reply.invariant.few, (of_line _ c.in_ok-line.field-0 c.in-Some.line c.in-Some.is c.in_ok-line.ensures.progress).0);
+  limits = c.next_line.ensures.limits;
+  few = omega (arith, c.loop-reply.invariant.few, (advanced _ _ c.in_ok-line.field-0 c.in-Some.line c.in-Some.is c.in_ok-line.ensures.progress).0);
   reads = read_well _ _ _ c.in_ok-line.ensures.cause ∙ c.loop-reply.invariant.reads;
-  writes = wrote_well _ _ _ c.in_ok-write_reply.ensures.cause ∙ c.loop-reply.invariant.writes;
-  within = omega (arith, c.next_line.ensures.limits.1, (of_line _ c.in_ok-line.field-0 c.in-Some.line c.in-Some.is c.in_ok-line.ensures.progress).1);
+  writes = c.in_ok-write_all.ensures.cause.good ∙ c.loop-reply.invariant.writes;
+  within = omega (arith, c.next_line.ensures.limits.in_all, (advanced _ _ c.in_ok-line.field-0 c.in-Some.line c.in-Some.is c.in_ok-line.ensures.progress).1);
 }
 
 pub do_line-requires-clause-unarmed : goal.do_line-requires-clause-unarmed
@@ -78,20 +77,19 @@ returns-in_err-lines-clause-counts g c =
 pub returns-in_err-line-clause-begun : goal.returns-in_err-line-clause-begun
 returns-in_err-line-clause-begun g c =
     let p = err_from_is_err_and c.from_residual-in_err-line.result c.from_residual-in_err-line.ensures.1 in
-    rw (p.1, p.2) (reading_replays c.in_err-line.field-0.0 c.in_err-line.ensures.fault)
+    rw (p.1, p.2) (reading_replays c.in_err-line.field-0.0)
 
 pub returns-in_err-line-clause-ends : goal.returns-in_err-line-clause-ends
 returns-in_err-line-clause-ends g c = λ bytes told.
     let p = err_from_is_err_and c.from_residual-in_err-line.result c.from_residual-in_err-line.ensures.1 in
     rw (p.1, p.2)
     (ends_reading (says_by g.B.Banks.log c.loop-reply.stage) c.in_err-line.field-0.0 bytes (g.S.Source.left c.next_line.new.source) (g.K.Sink.held c.args.sink.now) (g.K.Sink.held c.loop-reply.sink)
-    c.in_err-line.ensures.fault
     (λ is. breaks_off g.B.Banks.log (g.S.Source.left c.args.source.now) (g.S.Source.left c.loop-reply.source) (g.S.Source.left c.next_line.new.source) (g.K.Sink.held c.args.sink.now) (g.K.Sink.held c.loop-reply.sink)
-    c.loop-reply.lines.taken c.loop-reply.stage c.loop-reply.done c.loop-reply.invariant.way (c.in_err-line.ensures.broken_off (err_same _ _ is))
+    c.loop-reply.lines.taken c.loop-reply.stage c.loop-reply.done c.loop-reply.invariant.way (c.in_err-line.ensures.broken_off (input.err_same _ _ is))
     (end_cut (g.S.Source.left c.args.source.now) (g.S.Source.left c.loop-reply.source) (g.S.Source.left c.next_line.new.source) c.loop-reply.done c.loop-reply.lines.ended c.loop-reply.invariant.ends
-    c.in_err-line.ensures.failed (c.in_err-line.ensures.broken_off (err_same _ _ is))) bytes told)
+    c.in_err-line.ensures.failed (c.in_err-line.ensures.broken_off (input.err_same _ _ is))) bytes told)
     (λ at is.
-    let b = c.in_err-line.ensures.large at (err_same _ _ is) in
+    let b = c.in_err-line.ensures.large at (input.err_same _ _ is) in
     stops_large g.B.Banks.log (g.S.Source.left c.args.source.now) (g.S.Source.left c.loop-reply.source) (g.K.Sink.held c.args.sink.now) (g.K.Sink.held c.loop-reply.sink)
     c.loop-reply.lines.taken c.loop-reply.stage c.loop-reply.done at c.loop-reply.invariant.way b.0 b.1 bytes told)
     (whole_of_way g.B.Banks.log (AreLeftAmid g.B.Banks.log (banks_of_stage c.loop-reply.stage)) (g.S.Source.left c.args.source.now) (g.S.Source.left c.loop-reply.source) (g.K.Sink.held c.args.sink.now)
@@ -102,8 +100,8 @@ pub returns-in_err-line-clause-back : goal.returns-in_err-line-clause-back
 returns-in_err-line-clause-back g c =
     let p = err_from_is_err_and c.from_residual-in_err-line.result c.from_residual-in_err-line.ensures.1 in
     rw (p.1, p.2)
-    (back_later g.B.Banks.meter (banks_of_stage c.args.stage.now) (banks_of_stage c.loop-reply.stage) (banks_of_stage c.loop-reply.stage) (Some c.in_err-line.field-0.0) c.loop-reply.invariant.well
-    (back_same g.B.Banks.meter (banks_of_stage c.loop-reply.stage) c.in_err-line.field-0.0 (not_of_reading c.in_err-line.field-0.0 c.in_err-line.ensures.fault)))
+    (back_later g.B.Banks.meter (banks_of_stage c.args.stage.now) (banks_of_stage c.loop-reply.stage) (banks_of_stage c.loop-reply.stage) (Some (run_fault_of_input c.in_err-line.field-0.0)) c.loop-reply.invariant.well
+    (back_same g.B.Banks.meter (banks_of_stage c.loop-reply.stage) (run_fault_of_input c.in_err-line.field-0.0) (not_of_reading c.in_err-line.field-0.0)))
 
 pub returns-in_err-line-clause-counts : goal.returns-in_err-line-clause-counts
 returns-in_err-line-clause-counts g c = record {
@@ -115,7 +113,7 @@ returns-in_err-line-clause-counts g c = record {
   write =
       let p = err_from_is_err_and c.from_residual-in_err-line.result c.from_residual-in_err-line.ensures.1 in
       rw (p.1, p.2)
-      (writes_same (g.K.Sink.faults c.args.sink.now) (g.K.Sink.faults c.loop-reply.sink) (Some c.in_err-line.field-0.0) (reading_not_writing c.in_err-line.field-0.0 c.in_err-line.ensures.fault)
+      (writes_same (g.K.Sink.faults c.args.sink.now) (g.K.Sink.faults c.loop-reply.sink) (Some (run_fault_of_input c.in_err-line.field-0.0)) (reading_not_writing c.in_err-line.field-0.0)
       c.loop-reply.invariant.writes);
 }
 
@@ -172,44 +170,44 @@ returns-in_err-do_line-clause-counts g c = record {
 
 -- ---- its reply could not be written
 
-pub returns-in_err-write_reply-clause-begun : goal.returns-in_err-write_reply-clause-begun
-returns-in_err-write_reply-clause-begun g c =
-    let p = err_from_is_err_and c.from_residual-in_err-write_reply.result c.from_residual-in_err-write_reply.ensures.1 in
-    rw (p.1, p.2) (writing_replays c.in_err-write_reply.field-0.0 c.in_err-write_reply.ensures.fault)
+pub returns-in_err-write_all-clause-begun : goal.returns-in_err-write_all-clause-begun
+returns-in_err-write_all-clause-begun g c =
+    let p = err_from_is_err_and c.from_residual-in_err-write_all.result c.from_residual-in_err-write_all.ensures.1 in
+    rw (p.1, p.2) (writing_replays c.in_err-write_all.field-0.0)
 
-pub returns-in_err-write_reply-clause-ends : goal.returns-in_err-write_reply-clause-ends
-returns-in_err-write_reply-clause-ends g c = λ bytes told.
-    let p = err_from_is_err_and c.from_residual-in_err-write_reply.result c.from_residual-in_err-write_reply.ensures.1 in
+pub returns-in_err-write_all-clause-ends : goal.returns-in_err-write_all-clause-ends
+returns-in_err-write_all-clause-ends g c = λ bytes told.
+    let p = err_from_is_err_and c.from_residual-in_err-write_all.result c.from_residual-in_err-write_all.ensures.1 in
     rw (p.1, p.2)
-    (ends_writing (says_by g.B.Banks.log c.do_line.new.stage) c.in_err-write_reply.field-0.0 bytes (g.S.Source.left c.next_line.new.source) (g.K.Sink.held c.args.sink.now)
-    (g.K.Sink.held c.write_reply.new.sink) c.in_err-write_reply.ensures.fault
+    (ends_writing (says_by g.B.Banks.log c.do_line.new.stage) c.in_err-write_all.field-0.0 bytes (g.S.Source.left c.next_line.new.source) (g.K.Sink.held c.args.sink.now)
+    (g.K.Sink.held c.write_all.new.sink)
     (front_of_reply g.B.Banks.log (g.S.Source.left c.args.source.now) (g.S.Source.left c.loop-reply.source) (g.S.Source.left c.next_line.new.source)
-    (g.K.Sink.held c.args.sink.now) (g.K.Sink.held c.loop-reply.sink) (g.K.Sink.held c.write_reply.new.sink) c.loop-reply.lines.taken c.next_line.new.lines.taken
+    (g.K.Sink.held c.args.sink.now) (g.K.Sink.held c.loop-reply.sink) (g.K.Sink.held c.write_all.new.sink) c.loop-reply.lines.taken c.next_line.new.lines.taken
     c.loop-reply.stage c.do_line.new.stage c.loop-reply.done c.as_slice.result.now c.do_line.new.reply.items c.loop-reply.invariant.way
     (takes_some (g.S.Source.left c.loop-reply.source) (g.S.Source.left c.next_line.new.source) c.in_ok-line.field-0 c.loop-reply.lines.taken c.next_line.new.lines.taken c.in-Some.line c.as_slice.result.now
     c.in-Some.is c.as_slice.ensures c.in_ok-line.ensures.line)
-    c.in_ok-do_line.ensures.ok c.in_err-write_reply.ensures.err.0 (rw (sym c.as_slice-in-Some.ensures.value) c.in_err-write_reply.ensures.err.1) bytes told))
+    c.in_ok-do_line.ensures.ok c.in_err-write_all.ensures.err.0 (rw (sym c.as_slice-in-Some.ensures.value) c.in_err-write_all.ensures.err.1) bytes told))
 
-pub returns-in_err-write_reply-clause-back : goal.returns-in_err-write_reply-clause-back
-returns-in_err-write_reply-clause-back g c =
-    let p = err_from_is_err_and c.from_residual-in_err-write_reply.result c.from_residual-in_err-write_reply.ensures.1 in
+pub returns-in_err-write_all-clause-back : goal.returns-in_err-write_all-clause-back
+returns-in_err-write_all-clause-back g c =
+    let p = err_from_is_err_and c.from_residual-in_err-write_all.result c.from_residual-in_err-write_all.ensures.1 in
     rw (p.1, p.2)
-    (back_later g.B.Banks.meter (banks_of_stage c.args.stage.now) (banks_of_stage c.loop-reply.stage) (banks_of_stage c.do_line.new.stage) (Some c.in_err-write_reply.field-0.0) c.loop-reply.invariant.well
-    (back_well g.B.Banks.meter (banks_of_stage c.loop-reply.stage) (banks_of_stage c.do_line.new.stage) c.in_err-write_reply.field-0.0
-    (not_of_writing c.in_err-write_reply.field-0.0 c.in_err-write_reply.ensures.fault) c.in_ok-do_line.ensures.back))
+    (back_later g.B.Banks.meter (banks_of_stage c.args.stage.now) (banks_of_stage c.loop-reply.stage) (banks_of_stage c.do_line.new.stage) (Some (run_fault_of_write c.in_err-write_all.field-0.0)) c.loop-reply.invariant.well
+    (back_well g.B.Banks.meter (banks_of_stage c.loop-reply.stage) (banks_of_stage c.do_line.new.stage) (run_fault_of_write c.in_err-write_all.field-0.0)
+    (not_of_writing c.in_err-write_all.field-0.0) c.in_ok-do_line.ensures.back))
 
-pub returns-in_err-write_reply-clause-counts : goal.returns-in_err-write_reply-clause-counts
-returns-in_err-write_reply-clause-counts g c = record {
+pub returns-in_err-write_all-clause-counts : goal.returns-in_err-write_all-clause-counts
+returns-in_err-write_all-clause-counts g c = record {
   read =
-      let p = err_from_is_err_and c.from_residual-in_err-write_reply.result c.from_residual-in_err-write_reply.ensures.1 in
+      let p = err_from_is_err_and c.from_residual-in_err-write_all.result c.from_residual-in_err-write_all.ensures.1 in
       rw (p.1, p.2)
-      (reads_same (g.S.Source.faults c.args.source.now) (g.S.Source.faults c.next_line.new.source) (Some c.in_err-write_reply.field-0.0)
-      (writing_not_reading c.in_err-write_reply.field-0.0 c.in_err-write_reply.ensures.fault) (read_well _ _ _ c.in_ok-line.ensures.cause ∙ c.loop-reply.invariant.reads));
+      (reads_same (g.S.Source.faults c.args.source.now) (g.S.Source.faults c.next_line.new.source) (Some (run_fault_of_write c.in_err-write_all.field-0.0))
+      (writing_not_reading c.in_err-write_all.field-0.0) (read_well _ _ _ c.in_ok-line.ensures.cause ∙ c.loop-reply.invariant.reads));
   write =
-      let p = err_from_is_err_and c.from_residual-in_err-write_reply.result c.from_residual-in_err-write_reply.ensures.1 in
+      let p = err_from_is_err_and c.from_residual-in_err-write_all.result c.from_residual-in_err-write_all.ensures.1 in
       rw (p.1, p.2)
-      (writes_counted (g.K.Sink.faults c.args.sink.now) (g.K.Sink.faults c.loop-reply.sink) (g.K.Sink.faults c.write_reply.new.sink) c.in_err-write_reply.field-0.0
-      c.in_err-write_reply.ensures.cause c.loop-reply.invariant.writes);
+      (writes_counted (g.K.Sink.faults c.args.sink.now) (g.K.Sink.faults c.loop-reply.sink) (g.K.Sink.faults c.write_all.new.sink) c.in_err-write_all.field-0.0
+      c.in_err-write_all.ensures.cause c.loop-reply.invariant.writes);
 }
 
 -- ---- there were no more lines

@@ -1,18 +1,18 @@
 use Rattle.std.proofs.Common.{◌≡◌, ◌-◌, ◌≤◌, IsTrue}
-use Rattle.mld_replay.specs.TooLarge.{line_limit, input_limit}
-use Rattle.mld_replay.specs.BankFaults.{AreWell}
+use Rattle.input_lines.specs.TooLarge.{input_limit, IsUnderLimits}
+use Rattle.input_lines.specs.Taken.{KnowsEnd}
+use Rattle.mld_replay.specs.BankFaults.{ComeBackWell}
 use Rattle.mld_replay.specs.Stages.{banks_of_stage}
-use Rattle.mld_replay.specs.UnderWay.{IsUnderWay, KnowsEnd}
+use Rattle.mld_replay.specs.ReplayUnderWay.{IsReplayUnderWay}
 use Rattle.mld_replay.proofs.run.replay.Given as goal
 
 abbrev pub invariant-loop-reply : goal.invariant-loop-reply
 invariant-loop-reply g l = record {
-  way : IsUnderWay g.B.Banks.log (g.S.Source.left l.fn.source) (g.S.Source.left l.source) (g.K.Sink.held l.fn.sink) (g.K.Sink.held l.sink) l.lines.taken l.stage l.done;
-  well : AreWell g.B.Banks.meter (banks_of_stage l.fn.stage) (banks_of_stage l.stage);
+  way : IsReplayUnderWay g.B.Banks.log (g.S.Source.left l.fn.source) (g.S.Source.left l.source) (g.K.Sink.held l.fn.sink) (g.K.Sink.held l.sink) l.lines.taken l.stage l.done;
+  well : ComeBackWell g.B.Banks.meter (banks_of_stage l.fn.stage) (banks_of_stage l.stage);
   ends : KnowsEnd l.lines.ended (g.S.Source.left l.fn.source) (g.S.Source.left l.source) l.done;
   good : IsTrue l.lines.good;
-  line : l.lines.line ≡ line_limit;
-  all : l.lines.all ≡ input_limit;
+  limits : IsUnderLimits l.lines;
   few : l.done ≤ l.lines.taken;
   within : l.lines.taken ≤ l.lines.all;
   reads : g.S.Source.faults l.source ≡ g.S.Source.faults l.fn.source;
@@ -20,4 +20,4 @@ invariant-loop-reply g l = record {
 }
 
 abbrev pub decreases-loop-reply : goal.decreases-loop-reply
-decreases-loop-reply g l = l.lines.all - l.lines.taken
+decreases-loop-reply g l = input_limit - l.lines.taken

@@ -64,24 +64,24 @@ returns-in-Generate-clause-generated g c = λ seed count words.
 -- ---- the words are others
 
 pub returns-in-Unknown-clause-usage : goal.returns-in-Unknown-clause-usage
-returns-in-Unknown-clause-usage g c = let said = rw c.in-Unknown.is at c.read_words.ensures in (λ _. said, λ _. c.ended.ensures.fault)
+returns-in-Unknown-clause-usage g c = let said = rw c.in-Unknown.is at c.read_words.ensures in (λ _. said, λ _. c.end_run.ensures.fault)
 
 pub returns-in-Unknown-clause-untouched : goal.returns-in-Unknown-clause-untouched
-returns-in-Unknown-clause-untouched g c = rw c.ended.ensures.fault (left_alone c.args.source.now c.args.sink.now, c.ended.ensures.banks)
+returns-in-Unknown-clause-untouched g c = rw c.end_run.ensures.fault (left_alone c.args.source.now c.args.sink.now, c.end_run.ensures.banks)
 
 pub returns-in-Unknown-clause-ends : goal.returns-in-Unknown-clause-ends
 returns-in-Unknown-clause-ends g c = λ words. let said = rw c.in-Unknown.is at c.read_words.ensures in absurd (said.no_replay words)
 
 pub returns-in-Unknown-clause-filled : goal.returns-in-Unknown-clause-filled
 returns-in-Unknown-clause-filled g c =
-    rw (c.ended.ensures.fault, c.ended.ensures.banks) (usage_heeds g.B.Banks.log c.args.banks.items _ (left_alone c.args.source.now c.args.sink.now))
+    rw (c.end_run.ensures.fault, c.end_run.ensures.banks) (usage_heeds g.B.Banks.log c.args.banks.items _ (left_alone c.args.source.now c.args.sink.now))
 
 pub returns-in-Unknown-clause-counts : goal.returns-in-Unknown-clause-counts
-returns-in-Unknown-clause-counts g c = rw c.ended.ensures.fault (record { read = refl; write = refl })
+returns-in-Unknown-clause-counts g c = rw c.end_run.ensures.fault (record { read = refl; write = refl })
 
 pub returns-in-Unknown-clause-back : goal.returns-in-Unknown-clause-back
 returns-in-Unknown-clause-back g c =
-    rw (c.ended.ensures.fault, c.ended.ensures.banks) (back_same g.B.Banks.meter c.args.banks.items faults.Usage (λ clone is. absurd (cc (is))))
+    rw (c.end_run.ensures.fault, c.end_run.ensures.banks) (back_same g.B.Banks.meter c.args.banks.items faults.Usage (λ clone is. absurd (cc (is))))
 
 pub returns-in-Unknown-clause-exact : goal.returns-in-Unknown-clause-exact
 returns-in-Unknown-clause-exact g c = λ lines given outcome verdict.

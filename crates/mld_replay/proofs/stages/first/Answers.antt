@@ -1,6 +1,6 @@
 use Rattle.std.proofs.Common.{IfErr, subst, sym, rules, ◌∷◌, ap}
 use Rattle.mld_replay.specs.Stages.{StageStands, banks_of_stage}
-use Rattle.mld_replay.specs.Stops.{StopsWith}
+use Rattle.mld_replay.specs.Stops.{StopBringsBack}
 use Rattle.mld_replay.specs.declared.stages.Stage.TheVariants as stages
 use Rattle.schedule_text.specs.ReadLines.{IsBadCommand}
 use Rattle.mld_replay.proofs.StageLemmas.{bad_here, nothing_said, started_here}
@@ -20,7 +20,7 @@ returns-in-Some-clause-ok g c =
 
 pub returns-in-Some-clause-back : goal.returns-in-Some-clause-back
 returns-in-Some-clause-back g c =
-    subst (λ state. IfErr c.start.result (StopsWith g.B.Banks.meter (banks_of_stage state) (banks_of_stage c.start.new.stage))) (sym c.in-SetUp.is) c.start.ensures.back
+    subst (λ state. IfErr c.start.result (StopBringsBack g.B.Banks.meter (banks_of_stage state) (banks_of_stage c.start.new.stage))) (sym c.in-SetUp.is) c.start.ensures.back
 
 pub returns-in_err-read_command-in-SetUp-clause-bad : goal.returns-in_err-read_command-in-SetUp-clause-bad
 returns-in_err-read_command-in-SetUp-clause-bad g c = λ is.

@@ -1,13 +1,13 @@
 use Rattle.std.proofs.Common.{map, refl}
 use Rattle.std.specs.String.{string_bytes}
-use Rattle.node_words.specs.Words.{AreRefused}
+use Rattle.node_words.specs.Words.{AreRefused, never_both}
 use Rattle.node_run.specs.Begun.{found_on}
-use Rattle.node_run.proofs.ServeLaws.{words_usage, short_ends}
+use Rattle.node_run.proofs.ServeLaws.{words_usage, tells_turns, tells_first, short_ends}
 use Rattle.node_run.proofs.serving.serve.Goals as goal
 
 pub returns-in-Err-clause-usage : goal.returns-in-Err-clause-usage
 returns-in-Err-clause-usage g c =
-    rw (c.ended.ensures.fault, c.words_stop.ensures) (words_usage c.in-Err.fault (AreRefused (map (λ w. string_bytes w) c.args.words.now.items)) c.in-Err.ensures.usage)
+    rw (c.end_run.ensures.fault, c.words_stop.ensures) (words_usage c.in-Err.fault (AreRefused (map (λ w. string_bytes w) c.args.words.now.items)) c.in-Err.ensures.usage)
 
 pub returns-in-Ok-begin-clause-ends : goal.returns-in-Ok-begin-clause-ends
 returns-in-Ok-begin-clause-ends g c = λ log told.
@@ -16,6 +16,16 @@ returns-in-Ok-begin-clause-ends g c = λ log told.
 
 pub returns-in-Err-begin-clause-ends : goal.returns-in-Err-begin-clause-ends
 returns-in-Err-begin-clause-ends g c = λ log told.
-    rw (c.ended-in-Err-begin.ensures.fault, c.ended-in-Err-begin.ensures.turns, c.ended-in-Err-begin.ensures.banks)
+    rw (c.end_run-in-Err-begin.ensures.fault, c.end_run-in-Err-begin.ensures.turns, c.end_run-in-Err-begin.ensures.banks)
     (short_ends c.in-Err-begin.stop c.in-Ok.words (found_on log) (map (λ w. string_bytes w) c.args.words.now.items) (g.W.Wire.log c.args.wire.now) (g.B.Banks.log c.args.banks)
     (g.B.Banks.log c.in-Err-begin.banks) c.in-Ok.ensures.ok (c.in-Err-begin.ensures.short log told))
+
+pub returns-in-Ok-begin-clause-usage : goal.returns-in-Ok-begin-clause-usage
+returns-in-Ok-begin-clause-usage g c =
+    let texts = map (λ w. string_bytes w) c.args.words.now.items in
+    tells_turns c.take_turns.result.fault (AreRefused texts) c.take_turns.ensures.kind (never_both texts c.in-Ok.words c.in-Ok.ensures.ok)
+
+pub returns-in-Err-begin-clause-usage : goal.returns-in-Err-begin-clause-usage
+returns-in-Err-begin-clause-usage g c =
+    let texts = map (λ w. string_bytes w) c.args.words.now.items in
+    rw c.end_run-in-Err-begin.ensures.fault (tells_first c.in-Err-begin.stop (AreRefused texts) c.in-Err-begin.ensures.kind (never_both texts c.in-Ok.words c.in-Ok.ensures.ok))

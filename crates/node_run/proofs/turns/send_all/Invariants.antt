@@ -1,5 +1,5 @@
 use Rattle.std.proofs.Common.{◌≡◌, take}
-use Rattle.node_run.specs.UnderWay.{Sends}
+use Rattle.node_run.specs.ServiceUnderWay.{Sends}
 use Rattle.node_run.proofs.turns.send_all.Given as goal
 
 abbrev pub invariant-loop-one : goal.invariant-loop-one

@@ -1,8 +1,8 @@
 use Rattle.std.proofs.Common.{◌≡◌, ℕ, ◌∷◌, ◌∙◌, refl, sym, ap, arith, Some}
 use Rattle.mld_io.specs.declared.events.WireCall.TheVariants.{Took}
 use Rattle.node_core.specs.Nodes.{banks_of}
-use Rattle.node_run.specs.Ended.{HasEnded, HasTurned}
-use Rattle.node_run.specs.Statuses.{stop_of_wire}
+use Rattle.node_run.specs.ServiceEnds.{HasEnded, HasTurned}
+use Rattle.node_run.specs.ServiceStatuses.{stop_of_wire}
 use Rattle.node_run.proofs.CountLaws.{counts_next, counts_turn, counts_behind}
 use Rattle.node_run.proofs.LogLaws.{told_map, told_same}
 use Rattle.node_run.proofs.MeterLaws.{meters_none, meters_as, meters_then}
@@ -23,41 +23,41 @@ loop-alloc-init g c = record {
 -- ---- the node has ended
 
 pub returns-then-halted-clause-turns : goal.returns-then-halted-clause-turns
-returns-then-halted-clause-turns g c = c.ended.ensures.turns ∙ sym c.loop-alloc.invariant.counted
+returns-then-halted-clause-turns g c = c.end_run.ensures.turns ∙ sym c.loop-alloc.invariant.counted
 
 pub returns-then-halted-clause-ends : goal.returns-then-halted-clause-ends
 returns-then-halted-clause-ends g c = λ texts words found old first told are same begun.
-    rw (c.ended.ensures.fault, c.ended.ensures.turns, c.ended.ensures.banks)
+    rw (c.end_run.ensures.fault, c.end_run.ensures.turns, c.end_run.ensures.banks)
     (stops_between g.B.Banks.log found old texts c.args.turns (g.W.Wire.log c.args.wire.now) c.node_steps_lead.ensures (g.W.Wire.log c.loop-alloc.wire) c.loop-alloc.node c.loop-alloc.taken
     (c.loop-alloc.invariant.way texts words found old are same begun) HasEnded c.stop.result (sym c.halted.ensures ∙ c.if-halted.true) c.stop.ensures.banks
     (c.stop.ensures.kept c.loop-alloc.invariant.opened))
 
 pub returns-then-halted-clause-meter : goal.returns-then-halted-clause-meter
 returns-then-halted-clause-meter g c =
-    rw (c.ended.ensures.fault, c.ended.ensures.banks, c.stop.ensures.banks) (meters_as _ _ (λ same. absurd (cc (same))) (λ none. absurd none) c.loop-alloc.invariant.meters)
+    rw (c.end_run.ensures.fault, c.end_run.ensures.banks, c.stop.ensures.banks) (meters_as _ _ (λ same. absurd (cc (same))) (λ none. absurd none) c.loop-alloc.invariant.meters)
 
 pub returns-then-halted-clause-wire : goal.returns-then-halted-clause-wire
-returns-then-halted-clause-wire g c = rw c.ended.ensures.fault c.loop-alloc.invariant.quiet
+returns-then-halted-clause-wire g c = rw c.end_run.ensures.fault c.loop-alloc.invariant.quiet
 
 -- ---- all turns were taken
 
 pub returns-then-taken-turns-clause-turns : goal.returns-then-taken-turns-clause-turns
-returns-then-taken-turns-clause-turns g c = c.ended-then-taken-turns.ensures.turns ∙ sym c.loop-alloc.invariant.counted
+returns-then-taken-turns-clause-turns g c = c.end_run-then-taken-turns.ensures.turns ∙ sym c.loop-alloc.invariant.counted
 
 pub returns-then-taken-turns-clause-ends : goal.returns-then-taken-turns-clause-ends
 returns-then-taken-turns-clause-ends g c = λ texts words found old first told are same begun.
-    rw (c.ended-then-taken-turns.ensures.fault, c.ended-then-taken-turns.ensures.turns, c.ended-then-taken-turns.ensures.banks)
+    rw (c.end_run-then-taken-turns.ensures.fault, c.end_run-then-taken-turns.ensures.turns, c.end_run-then-taken-turns.ensures.banks)
     (stops_between g.B.Banks.log found old texts c.args.turns (g.W.Wire.log c.args.wire.now) c.node_steps_lead.ensures (g.W.Wire.log c.loop-alloc.wire) c.loop-alloc.node c.loop-alloc.taken
     (c.loop-alloc.invariant.way texts words found old are same begun) HasTurned c.stop-then-taken-turns.result (sym c.halted.ensures ∙ c.if-halted.false, c.if-taken-turns.true)
     c.stop-then-taken-turns.ensures.banks (c.stop-then-taken-turns.ensures.kept c.loop-alloc.invariant.opened))
 
 pub returns-then-taken-turns-clause-meter : goal.returns-then-taken-turns-clause-meter
 returns-then-taken-turns-clause-meter g c =
-    rw (c.ended-then-taken-turns.ensures.fault, c.ended-then-taken-turns.ensures.banks, c.stop-then-taken-turns.ensures.banks)
+    rw (c.end_run-then-taken-turns.ensures.fault, c.end_run-then-taken-turns.ensures.banks, c.stop-then-taken-turns.ensures.banks)
     (meters_as _ _ (λ same. absurd (cc (same))) (λ none. absurd none) c.loop-alloc.invariant.meters)
 
 pub returns-then-taken-turns-clause-wire : goal.returns-then-taken-turns-clause-wire
-returns-then-taken-turns-clause-wire g c = rw c.ended-then-taken-turns.ensures.fault c.loop-alloc.invariant.quiet
+returns-then-taken-turns-clause-wire g c = rw c.end_run-then-taken-turns.ensures.fault c.loop-alloc.invariant.quiet
 
 -- ---- no event came
 
@@ -65,24 +65,24 @@ pub next-requires : goal.next-requires
 next-requires g c = omega (arith, c.loop-alloc.invariant.counted, below c.loop-alloc.taken c.args.turns c.loop-alloc.invariant.few c.if-taken-turns.false)
 
 pub returns-in-Err-clause-turns : goal.returns-in-Err-clause-turns
-returns-in-Err-clause-turns g c = c.ended-in-Err.ensures.turns ∙ sym c.loop-alloc.invariant.counted ∙ sym c.in-Err.ensures.taken
+returns-in-Err-clause-turns g c = c.end_run-in-Err.ensures.turns ∙ sym c.loop-alloc.invariant.counted ∙ sym c.in-Err.ensures.taken
 
 pub returns-in-Err-clause-ends : goal.returns-in-Err-clause-ends
 returns-in-Err-clause-ends g c = λ texts words found old first told are same begun.
     let now = g.W.Wire.log c.loop-alloc.wire in
     let after = g.W.Wire.log c.next.new.self in
-    rw (c.ended-in-Err.ensures.fault, c.wire_stop.ensures, c.ended-in-Err.ensures.turns, c.ended-in-Err.ensures.banks, told_same now after c.in-Err.ensures.log c.in-Err.ensures.untold)
+    rw (c.end_run-in-Err.ensures.fault, c.wire_stop.ensures, c.end_run-in-Err.ensures.turns, c.end_run-in-Err.ensures.banks, told_same now after c.in-Err.ensures.log c.in-Err.ensures.untold)
     (ends_waiting g.B.Banks.log found old texts c.args.turns (g.W.Wire.log c.args.wire.now) c.node_steps_lead.ensures now c.loop-alloc.node c.loop-alloc.taken
     (c.loop-alloc.invariant.way texts words found old are same begun) c.in-Err.fault c.stop-in-Err.result (sym c.halted.ensures ∙ c.if-halted.false)
     (below c.loop-alloc.taken c.args.turns c.loop-alloc.invariant.few c.if-taken-turns.false) c.stop-in-Err.ensures.banks (c.stop-in-Err.ensures.kept c.loop-alloc.invariant.opened))
 
 pub returns-in-Err-clause-meter : goal.returns-in-Err-clause-meter
 returns-in-Err-clause-meter g c =
-    rw (c.ended-in-Err.ensures.fault, c.wire_stop.ensures, c.ended-in-Err.ensures.banks, c.stop-in-Err.ensures.banks) (meters_waiting c.in-Err.fault _ _ c.loop-alloc.invariant.meters)
+    rw (c.end_run-in-Err.ensures.fault, c.wire_stop.ensures, c.end_run-in-Err.ensures.banks, c.stop-in-Err.ensures.banks) (meters_waiting c.in-Err.fault _ _ c.loop-alloc.invariant.meters)
 
 pub returns-in-Err-clause-wire : goal.returns-in-Err-clause-wire
 returns-in-Err-clause-wire g c =
-    rw (c.ended-in-Err.ensures.fault, c.wire_stop.ensures) (counts_behind (Some (stop_of_wire c.in-Err.fault)) (g.W.Wire.faults c.args.wire.now) (g.W.Wire.faults c.loop-alloc.wire) (g.W.Wire.faults c.next.new.self)
+    rw (c.end_run-in-Err.ensures.fault, c.wire_stop.ensures) (counts_behind (Some (stop_of_wire c.in-Err.fault)) (g.W.Wire.faults c.args.wire.now) (g.W.Wire.faults c.loop-alloc.wire) (g.W.Wire.faults c.next.new.self)
     c.loop-alloc.invariant.quiet (counts_next c.in-Err.fault (g.W.Wire.faults c.loop-alloc.wire) (g.W.Wire.faults c.next.new.self) c.in-Err.ensures.cause))
 
 -- ---- one came
@@ -95,13 +95,13 @@ take_event-requires-clause-opened g c = c.loop-alloc.invariant.opened
 
 pub returns-in-Err-take_event-clause-turns : goal.returns-in-Err-take_event-clause-turns
 returns-in-Err-take_event-clause-turns g c =
-    c.ended-in-Err-take_event.ensures.turns ∙ omega (arith, c.loop-alloc.invariant.counted, c.in-Ok.ensures.taken, c.in-Err-take_event.ensures.taken)
+    c.end_run-in-Err-take_event.ensures.turns ∙ omega (arith, c.loop-alloc.invariant.counted, c.in-Ok.ensures.taken, c.in-Err-take_event.ensures.taken)
 
 pub returns-in-Err-take_event-clause-ends : goal.returns-in-Err-take_event-clause-ends
 returns-in-Err-take_event-clause-ends g c = λ texts words found old first told are same begun.
     let now = g.W.Wire.log c.loop-alloc.wire in
     let taking = g.W.Wire.log c.next.new.self in
-    rw (c.ended-in-Err-take_event.ensures.fault, c.ended-in-Err-take_event.ensures.turns, c.ended-in-Err-take_event.ensures.banks)
+    rw (c.end_run-in-Err-take_event.ensures.fault, c.end_run-in-Err-take_event.ensures.turns, c.end_run-in-Err-take_event.ensures.banks)
     (ends_turn g.B.Banks.log found old texts c.args.turns (g.W.Wire.log c.args.wire.now) c.node_steps_lead.ensures now c.loop-alloc.node c.loop-alloc.taken
     (c.loop-alloc.invariant.way texts words found old are same begun) (sym c.halted.ensures ∙ c.if-halted.false)
     (below c.loop-alloc.taken c.args.turns c.loop-alloc.invariant.few c.if-taken-turns.false) c.in-Ok.event taking (told_map (λ l. Took c.in-Ok.event ∷ l) now taking c.in-Ok.ensures.log c.in-Ok.ensures.untold)
@@ -109,12 +109,12 @@ returns-in-Err-take_event-clause-ends g c = λ texts words found old first told 
 
 pub returns-in-Err-take_event-clause-meter : goal.returns-in-Err-take_event-clause-meter
 returns-in-Err-take_event-clause-meter g c =
-    rw (c.ended-in-Err-take_event.ensures.fault, c.ended-in-Err-take_event.ensures.banks)
+    rw (c.end_run-in-Err-take_event.ensures.fault, c.end_run-in-Err-take_event.ensures.banks)
     (meters_as _ _ (λ same. some_same same) (λ same. ap (λ s. Some s) same) (meters_then _ _ _ (λ none. none) c.loop-alloc.invariant.meters c.in-Err-take_event.ensures.meter))
 
 pub returns-in-Err-take_event-clause-wire : goal.returns-in-Err-take_event-clause-wire
 returns-in-Err-take_event-clause-wire g c =
-    rw c.ended-in-Err-take_event.ensures.fault
+    rw c.end_run-in-Err-take_event.ensures.fault
     (counts_behind (Some c.in-Err-take_event.stop) (g.W.Wire.faults c.args.wire.now) (g.W.Wire.faults c.next.new.self) (g.W.Wire.faults c.take_event.new.wire)
     (c.in-Ok.ensures.cause.good ∙ c.loop-alloc.invariant.quiet)
     (counts_turn c.in-Err-take_event.stop c.in-Err-take_event.banks (g.W.Wire.faults c.next.new.self) (g.W.Wire.faults c.take_event.new.wire) c.in-Err-take_event.ensures.wire))

@@ -8,14 +8,14 @@ use Rattle.node_keeper.specs.States.{IsOpen}
 use Rattle.node_keeper.specs.States as states
 use Rattle.node_core.specs.Nodes.{banks_of}
 use Rattle.node_run.specs.Begun.{BeginsOn}
-use Rattle.node_run.specs.UnderWay.{IsUnderWay}
+use Rattle.node_run.specs.ServiceUnderWay.{IsServiceUnderWay}
 use Rattle.node_run.proofs.turns.take_turns.Given as goal
 
 abbrev pub invariant-loop-alloc : goal.invariant-loop-alloc
 invariant-loop-alloc g l = record {
   way : (texts : List (List ℕ)) (words : NodeWords) (found : Found) (old : Option Log) → AreWords texts words → words.turns ≡ l.turns
       → BeginsOn g.B.Banks.log words found old l.fn.state
-      → IsUnderWay g.B.Banks.log found old texts l.turns (g.W.Wire.log l.fn.wire) (g.W.Wire.log l.wire) l.node l.taken;
+      → IsServiceUnderWay g.B.Banks.log found old texts l.turns (g.W.Wire.log l.fn.wire) (g.W.Wire.log l.wire) l.node l.taken;
   opened : IsOpen l.node.state;
   meters : Meters (g.B.Banks.meter (states.banks_of l.fn.state)) (g.B.Banks.meter (banks_of l.node)) ⊥;
   counted : g.W.Wire.taken l.wire ≡ l.taken;

@@ -1,12 +1,12 @@
 use Rattle.std.proofs.Common.{◌∙◌, refl, sym, ap, arith, Some}
 use Rattle.mld_io.specs.Disk.{seen}
 use Rattle.journal_sides.specs.Pairs.{read_banks}
-use Rattle.input_lines.proofs.TakenLemmas.{end_first, end_more, end_cut, end_none, takes_some, of_line}
+use Rattle.input_lines.proofs.TakenLemmas.{end_first, end_more, end_cut, end_none, takes_some, end_of_line, advanced, err_same, read_well}
 use Rattle.shell_model.specs.Shells.{found_in}
 use Rattle.shell_session.specs.Sessions.{banks_of}
-use Rattle.shell_run.specs.Inputs.{AreFirst, AreAll, AreRead, AreBefore}
-use Rattle.shell_run.specs.Ended.{between}
-use Rattle.shell_run.proofs.FaultLemmas.{err_same, read_well, wrote_well, meters_same, meters_then}
+use Rattle.shell_run.specs.Inputs.{AreFirstLines, AreAllLines, AreReadLines, AreLinesBefore}
+use Rattle.shell_run.specs.ShellEnds.{between}
+use Rattle.shell_run.proofs.FaultLemmas.{none_rose, read_rose, write_rose, reading_not_writing, line_not_reading, line_not_writing, writing_not_reading, meters_same, meters_then}
 use Rattle.shell_run.proofs.WayLemmas.{way_first, way_more, are_first, are_all, are_read, are_before, stops_between, stops_within, stops_writing, ends_reading, ends_line, ends_writing}
 use Rattle.shell_run.proofs.run.do_lines.Goals as goal
 
@@ -15,8 +15,8 @@ use Rattle.shell_run.proofs.run.do_lines.Goals as goal
 pub returns-in-Err-clause-ends : goal.returns-in-Err-clause-ends
 returns-in-Err-clause-ends g c = λ log told.
     let way = way_first g.B.Banks.log c.args.banks c.new-session.result (g.S.Source.left c.args.source.now) (g.K.Sink.held c.args.sink.now) 0 log c.new-session.ensures refl told in
-    rw (c.ended.ensures.fault, c.ended.ensures.banks ∙ c.into_banks.ensures)
-    (between (stops_between g.B.Banks.log AreFirst (found_in (read_banks (seen log))) (g.B.Banks.log c.args.banks) (g.S.Source.left c.args.source.now) (g.S.Source.left c.args.source.now) (g.K.Sink.held c.args.sink.now) (g.K.Sink.held c.args.sink.now) 0 c.new-session.result 0 way
+    rw (c.end_run.ensures.fault, c.end_run.ensures.banks ∙ c.into_banks.ensures)
+    (between (stops_between g.B.Banks.log AreFirstLines (found_in (read_banks (seen log))) (g.B.Banks.log c.args.banks) (g.S.Source.left c.args.source.now) (g.S.Source.left c.args.source.now) (g.K.Sink.held c.args.sink.now) (g.K.Sink.held c.args.sink.now) 0 c.new-session.result 0 way
     (are_first g.B.Banks.log (found_in (read_banks (seen log))) (g.B.Banks.log c.args.banks) (g.S.Source.left c.args.source.now) (g.S.Source.left c.args.source.now) (g.K.Sink.held c.args.sink.now) (g.K.Sink.held c.args.sink.now) 0 c.new-session.result 0 way)))
 
 -- ---- the lines go on
@@ -28,8 +28,7 @@ loop-line-init g c = record {
   meters = rw c.new-session.ensures (meters_same (g.B.Banks.meter c.args.banks));
   ends = λ log told. end_first (g.S.Source.left c.args.source.now) c.in-Ok.lines.ended (ap (λ l. l.ended) c.in-Ok.ensures);
   good = ap (λ l. l.good) c.in-Ok.ensures;
-  line = ap (λ l. l.line) c.in-Ok.ensures;
-  all = ap (λ l. l.all) c.in-Ok.ensures;
+  limits = record { in_line = ap (λ l. l.line) c.in-Ok.ensures; in_all = ap (λ l. l.all) c.in-Ok.ensures };
   few = omega arith;
   within = omega (arith, ap (λ l. l.taken) c.in-Ok.ensures);
   reads = refl;
@@ -38,7 +37,7 @@ loop-line-init g c = record {
 
 pub loop-line-preserved : goal.loop-line-preserved
 loop-line-preserved g c = record {
-  way = λ log told. way_more g.B.Banks.log (found_in (read_banks (seen log))) (g.B.Banks.log c.args.banks) (g.S.Source.left c.args.source.now) (g.S.Source.left c.loop-line.source) (g.S.Source.left c.next_line.new.source) (g.K.Sink.held c.args.sink.now) (g.K.Sink.held c.loop-line.sink) (g.K.Sink.held c.write_reply.new.sink) c.loop-line.lines.taken c.next_line.new.lines.taken c.loop-line.session c.in-Ok-line.session c.loop-line.done
+  way = λ log told. way_more g.B.Banks.log (found_in (read_banks (seen log))) (g.B.Banks.log c.args.banks) (g.S.Source.left c.args.source.now) (g.S.Source.left c.loop-line.source) (g.S.Source.left c.next_line.new.source) (g.K.Sink.held c.args.sink.now) (g.K.Sink.held c.loop-line.sink) (g.K.Sink.held c.write_all.new.sink) c.loop-line.lines.taken c.next_line.new.lines.taken c.loop-line.session c.in-Ok-line.session c.loop-line.done
       c.as_slice.result.now c.clear.new.self.items c.line-in-loop-line.new.out.items
       (c.loop-line.invariant.way log told)
       (takes_some (g.S.Source.left c.loop-line.source) (g.S.Source.left c.next_line.new.source) c.in-Ok-Some.field-0 c.loop-line.lines.taken c.next_line.new.lines.taken c.in-Ok-Some.line c.as_slice.result.now c.in-Ok-Some.field-0-is c.as_slice.ensures c.in-Ok-Some.ensures.line)
@@ -49,22 +48,21 @@ loop-line-preserved g c = record {
   ends = λ log told. end_more (g.S.Source.left c.args.source.now) (g.S.Source.left c.loop-line.source) (g.S.Source.left c.next_line.new.source) c.loop-line.lines.taken c.next_line.new.lines.taken c.loop-line.done
       (c.loop-line.invariant.way log told).done.lines c.in-Ok-Some.line c.loop-line.lines.ended c.next_line.new.lines.ended (c.loop-line.invariant.ends log told) (c.loop-line.invariant.way log told).left_of
       (takes_some (g.S.Source.left c.loop-line.source) (g.S.Source.left c.next_line.new.source) c.in-Ok-Some.field-0 c.loop-line.lines.taken c.next_line.new.lines.taken c.in-Ok-Some.line c.in-Ok-Some.line c.in-Ok-Some.field-0-is refl c.in-Ok-Some.ensures.line)
-      (λ bytes left. of_line _ c.in-Ok-Some.field-0 c.in-Ok-Some.line c.in-Ok-Some.field-0-is (c.in-Ok-Some.ensures.ended bytes left));
+      (λ bytes left. end_of_line _ bytes c.in-Ok-Some.field-0 c.in-Ok-Some.line c.in-Ok-Some.field-0-is (c.in-Ok-Some.ensures.ended bytes left));
   good = c.in-Ok-Some.ensures.good;
-  line = c.next_line.ensures.limits.0 ∙ c.loop-line.invariant.line;
-  all = c.next_line.ensures.limits.1 ∙ c.loop-line.invariant.all;
-  few = omega (arith, c.loop-line.invariant.few, (of_line _ c.in-Ok-Some.field-0 c.in-Ok-Some.line c.in-Ok-Some.field-0-is c.in-Ok-Some.ensures.progress).0);
-  within = omega (arith, c.next_line.ensures.limits.1, (of_line _ c.in-Ok-Some.field-0 c.in-Ok-Some.line c.in-Ok-Some.field-0-is c.in-Ok-Some.ensures.progress).1);
+  limits = c.next_line.ensures.limits;
+  few = omega (arith, c.loop-line.invariant.few, (advanced _ _ c.in-Ok-Some.field-0 c.in-Ok-Some.line c.in-Ok-Some.field-0-is c.in-Ok-Some.ensures.progress).0);
+  within = omega (arith, c.next_line.ensures.limits.in_all, (advanced _ _ c.in-Ok-Some.field-0 c.in-Ok-Some.line c.in-Ok-Some.field-0-is c.in-Ok-Some.ensures.progress).1);
   reads = read_well _ _ _ c.in-Ok-Some.ensures.cause ∙ c.loop-line.invariant.reads;
-  writes = wrote_well _ _ _ c.in_default.ensures.cause ∙ c.loop-line.invariant.writes;
+  writes = c.in_default.ensures.cause.good ∙ c.loop-line.invariant.writes;
 }
 
 -- ---- there were no more lines
 
 pub returns-in-Ok-None-clause-ends : goal.returns-in-Ok-None-clause-ends
 returns-in-Ok-None-clause-ends g c = λ log told.
-    rw (c.ended-in-Ok-None.ensures.fault, c.ended-in-Ok-None.ensures.banks ∙ c.into_banks-in-Ok-None.ensures)
-    (stops_between g.B.Banks.log (AreAll (g.S.Source.left c.next_line.new.source)) (found_in (read_banks (seen log))) (g.B.Banks.log c.args.banks) (g.S.Source.left c.args.source.now) (g.S.Source.left c.loop-line.source) (g.K.Sink.held c.args.sink.now) (g.K.Sink.held c.loop-line.sink) c.loop-line.lines.taken c.loop-line.session c.loop-line.done (c.loop-line.invariant.way log told)
+    rw (c.end_run-in-Ok-None.ensures.fault, c.end_run-in-Ok-None.ensures.banks ∙ c.into_banks-in-Ok-None.ensures)
+    (stops_between g.B.Banks.log (AreAllLines (g.S.Source.left c.next_line.new.source)) (found_in (read_banks (seen log))) (g.B.Banks.log c.args.banks) (g.S.Source.left c.args.source.now) (g.S.Source.left c.loop-line.source) (g.K.Sink.held c.args.sink.now) (g.K.Sink.held c.loop-line.sink) c.loop-line.lines.taken c.loop-line.session c.loop-line.done (c.loop-line.invariant.way log told)
     (are_all g.B.Banks.log (found_in (read_banks (seen log))) (g.B.Banks.log c.args.banks) (g.S.Source.left c.args.source.now) (g.S.Source.left c.loop-line.source) (g.S.Source.left c.next_line.new.source) (g.K.Sink.held c.args.sink.now) (g.K.Sink.held c.loop-line.sink) c.loop-line.lines.taken c.loop-line.session c.loop-line.done (c.loop-line.invariant.way log told)
     (end_none (g.S.Source.left c.args.source.now) (g.S.Source.left c.loop-line.source) (g.S.Source.left c.next_line.new.source) c.in-Ok-None.field-0 c.loop-line.lines.taken c.next_line.new.lines.taken c.loop-line.done c.loop-line.lines.ended (c.loop-line.invariant.ends log told)
     c.in-Ok-None.field-0-is c.in-Ok-None.ensures.line c.in-Ok-None.ensures.at_end)))
@@ -73,24 +71,24 @@ returns-in-Ok-None-clause-ends g c = λ log told.
 
 pub returns-in-Err-next_line-clause-ends : goal.returns-in-Err-next_line-clause-ends
 returns-in-Err-next_line-clause-ends g c = λ log told.
-    rw (c.ended-in-Err-next_line.ensures.fault, c.ended-in-Err-next_line.ensures.banks ∙ c.into_banks-in-Err-next_line.ensures)
-    (ends_reading c.in-Err-next_line.fault (found_in (read_banks (seen log))) (g.S.Source.left c.next_line.new.source) _ c.in-Err-next_line.ensures.fault
-    (λ is. stops_between g.B.Banks.log (AreRead (g.S.Source.left c.next_line.new.source)) (found_in (read_banks (seen log))) (g.B.Banks.log c.args.banks) (g.S.Source.left c.args.source.now) (g.S.Source.left c.loop-line.source) (g.K.Sink.held c.args.sink.now) (g.K.Sink.held c.loop-line.sink) c.loop-line.lines.taken c.loop-line.session c.loop-line.done (c.loop-line.invariant.way log told)
+    rw (c.end_run-in-Err-next_line.ensures.fault, c.input_fault.ensures, c.end_run-in-Err-next_line.ensures.banks ∙ c.into_banks-in-Err-next_line.ensures)
+    (ends_reading c.in-Err-next_line.fault (found_in (read_banks (seen log))) (g.S.Source.left c.next_line.new.source) _
+    (λ is. stops_between g.B.Banks.log (AreReadLines (g.S.Source.left c.next_line.new.source)) (found_in (read_banks (seen log))) (g.B.Banks.log c.args.banks) (g.S.Source.left c.args.source.now) (g.S.Source.left c.loop-line.source) (g.K.Sink.held c.args.sink.now) (g.K.Sink.held c.loop-line.sink) c.loop-line.lines.taken c.loop-line.session c.loop-line.done (c.loop-line.invariant.way log told)
     (are_read g.B.Banks.log (found_in (read_banks (seen log))) (g.B.Banks.log c.args.banks) (g.S.Source.left c.args.source.now) (g.S.Source.left c.loop-line.source) (g.S.Source.left c.next_line.new.source) (g.K.Sink.held c.args.sink.now) (g.K.Sink.held c.loop-line.sink) c.loop-line.lines.taken c.loop-line.session c.loop-line.done (c.loop-line.invariant.way log told)
     (c.in-Err-next_line.ensures.broken_off (err_same _ _ is))
     (end_cut (g.S.Source.left c.args.source.now) (g.S.Source.left c.loop-line.source) (g.S.Source.left c.next_line.new.source) c.loop-line.done c.loop-line.lines.ended (c.loop-line.invariant.ends log told) c.in-Err-next_line.ensures.failed (c.in-Err-next_line.ensures.broken_off (err_same _ _ is)))))
     (λ at is.
     let large = c.in-Err-next_line.ensures.large at (err_same _ _ is) in
-    stops_between g.B.Banks.log (AreBefore at) (found_in (read_banks (seen log))) (g.B.Banks.log c.args.banks) (g.S.Source.left c.args.source.now) (g.S.Source.left c.loop-line.source) (g.K.Sink.held c.args.sink.now) (g.K.Sink.held c.loop-line.sink) c.loop-line.lines.taken c.loop-line.session c.loop-line.done (c.loop-line.invariant.way log told)
+    stops_between g.B.Banks.log (AreLinesBefore at) (found_in (read_banks (seen log))) (g.B.Banks.log c.args.banks) (g.S.Source.left c.args.source.now) (g.S.Source.left c.loop-line.source) (g.K.Sink.held c.args.sink.now) (g.K.Sink.held c.loop-line.sink) c.loop-line.lines.taken c.loop-line.session c.loop-line.done (c.loop-line.invariant.way log told)
     (are_before g.B.Banks.log (found_in (read_banks (seen log))) (g.B.Banks.log c.args.banks) (g.S.Source.left c.args.source.now) (g.S.Source.left c.loop-line.source) (g.K.Sink.held c.args.sink.now) (g.K.Sink.held c.loop-line.sink) c.loop-line.lines.taken c.loop-line.session c.loop-line.done at (c.loop-line.invariant.way log told) large.0 large.1))
-    (stops_between g.B.Banks.log AreFirst (found_in (read_banks (seen log))) (g.B.Banks.log c.args.banks) (g.S.Source.left c.args.source.now) (g.S.Source.left c.loop-line.source) (g.K.Sink.held c.args.sink.now) (g.K.Sink.held c.loop-line.sink) c.loop-line.lines.taken c.loop-line.session c.loop-line.done (c.loop-line.invariant.way log told)
+    (stops_between g.B.Banks.log AreFirstLines (found_in (read_banks (seen log))) (g.B.Banks.log c.args.banks) (g.S.Source.left c.args.source.now) (g.S.Source.left c.loop-line.source) (g.K.Sink.held c.args.sink.now) (g.K.Sink.held c.loop-line.sink) c.loop-line.lines.taken c.loop-line.session c.loop-line.done (c.loop-line.invariant.way log told)
     (are_first g.B.Banks.log (found_in (read_banks (seen log))) (g.B.Banks.log c.args.banks) (g.S.Source.left c.args.source.now) (g.S.Source.left c.loop-line.source) (g.K.Sink.held c.args.sink.now) (g.K.Sink.held c.loop-line.sink) c.loop-line.lines.taken c.loop-line.session c.loop-line.done (c.loop-line.invariant.way log told))))
 
 -- ---- a line was not done
 
 pub returns-in-Err-line-clause-ends : goal.returns-in-Err-line-clause-ends
 returns-in-Err-line-clause-ends g c = λ log told.
-    rw (c.ended-in-Err-line.ensures.fault, c.line_fault.ensures, c.ended-in-Err-line.ensures.banks)
+    rw (c.end_run-in-Err-line.ensures.fault, c.line_fault.ensures, c.end_run-in-Err-line.ensures.banks)
     (ends_line c.in-Err-line.fault (found_in (read_banks (seen log))) (g.S.Source.left c.next_line.new.source) _
     (stops_within g.B.Banks.log (found_in (read_banks (seen log))) (g.B.Banks.log c.args.banks) log (g.S.Source.left c.args.source.now) (g.S.Source.left c.loop-line.source) (g.S.Source.left c.next_line.new.source) (g.K.Sink.held c.args.sink.now) (g.K.Sink.held c.loop-line.sink) c.loop-line.lines.taken c.next_line.new.lines.taken c.loop-line.session c.loop-line.done c.as_slice.result.now c.in-Err-line.banks
     told (c.loop-line.invariant.way log told)
@@ -99,11 +97,52 @@ returns-in-Err-line-clause-ends g c = λ log told.
 
 -- ---- its reply could not be written
 
-pub returns-in-Err-write_reply-clause-ends : goal.returns-in-Err-write_reply-clause-ends
-returns-in-Err-write_reply-clause-ends g c = λ log told.
-    rw (c.ended-in-Err-write_reply.ensures.fault, c.ended-in-Err-write_reply.ensures.banks ∙ c.into_banks-in-Err-write_reply.ensures)
-    (ends_writing c.in-Err-write_reply.fault (found_in (read_banks (seen log))) (g.S.Source.left c.next_line.new.source) _ c.in-Err-write_reply.ensures.fault
-    (stops_writing g.B.Banks.log (found_in (read_banks (seen log))) (g.B.Banks.log c.args.banks) (g.S.Source.left c.args.source.now) (g.S.Source.left c.loop-line.source) (g.S.Source.left c.next_line.new.source) (g.K.Sink.held c.args.sink.now) (g.K.Sink.held c.loop-line.sink) (g.K.Sink.held c.write_reply.new.sink) c.loop-line.lines.taken c.next_line.new.lines.taken c.loop-line.session c.in-Ok-line.session c.loop-line.done
-    c.as_slice.result.now c.clear.new.self.items c.line-in-loop-line.new.out.items c.in-Err-write_reply.ensures.err.0 (c.loop-line.invariant.way log told)
+pub returns-in-Err-write_all-clause-ends : goal.returns-in-Err-write_all-clause-ends
+returns-in-Err-write_all-clause-ends g c = λ log told.
+    rw (c.end_run-in-Err-write_all.ensures.fault, c.write_fault.ensures, c.end_run-in-Err-write_all.ensures.banks ∙ c.into_banks-in-Err-write_all.ensures)
+    (ends_writing c.in-Err-write_all.fault (found_in (read_banks (seen log))) (g.S.Source.left c.next_line.new.source) _
+    (stops_writing g.B.Banks.log (found_in (read_banks (seen log))) (g.B.Banks.log c.args.banks) (g.S.Source.left c.args.source.now) (g.S.Source.left c.loop-line.source) (g.S.Source.left c.next_line.new.source) (g.K.Sink.held c.args.sink.now) (g.K.Sink.held c.loop-line.sink) (g.K.Sink.held c.write_all.new.sink) c.loop-line.lines.taken c.next_line.new.lines.taken c.loop-line.session c.in-Ok-line.session c.loop-line.done
+    c.as_slice.result.now c.clear.new.self.items c.line-in-loop-line.new.out.items c.in-Err-write_all.ensures.err.0 (c.loop-line.invariant.way log told)
     (takes_some (g.S.Source.left c.loop-line.source) (g.S.Source.left c.next_line.new.source) c.in-Ok-Some.field-0 c.loop-line.lines.taken c.next_line.new.lines.taken c.in-Ok-Some.line c.as_slice.result.now c.in-Ok-Some.field-0-is c.as_slice.ensures c.in-Ok-Some.ensures.line)
-    c.in-Ok-line.ensures.done c.clear.ensures.items (rw (sym c.as_slice-in-loop-line.ensures.value) c.in-Err-write_reply.ensures.err.1)))
+    c.in-Ok-line.ensures.done c.clear.ensures.items (rw (sym c.as_slice-in-loop-line.ensures.value) c.in-Err-write_all.ensures.err.1)))
+
+-- ---- the counts of faults
+
+pub returns-in-Err-clause-reads : goal.returns-in-Err-clause-reads
+returns-in-Err-clause-reads g c = rw c.end_run.ensures.fault (none_rose _ _ _ (λ is. absurd (cc (is))) refl)
+
+pub returns-in-Err-clause-writes : goal.returns-in-Err-clause-writes
+returns-in-Err-clause-writes g c = rw c.end_run.ensures.fault (none_rose _ _ _ (λ is. absurd (cc (is))) refl)
+
+pub returns-in-Ok-None-clause-reads : goal.returns-in-Ok-None-clause-reads
+returns-in-Ok-None-clause-reads g c =
+    rw c.end_run-in-Ok-None.ensures.fault (none_rose _ _ _ (λ is. absurd (cc (is))) (read_well _ _ _ c.in-Ok-None.ensures.cause ∙ c.loop-line.invariant.reads))
+
+pub returns-in-Ok-None-clause-writes : goal.returns-in-Ok-None-clause-writes
+returns-in-Ok-None-clause-writes g c = rw c.end_run-in-Ok-None.ensures.fault (none_rose _ _ _ (λ is. absurd (cc (is))) c.loop-line.invariant.writes)
+
+pub returns-in-Err-next_line-clause-reads : goal.returns-in-Err-next_line-clause-reads
+returns-in-Err-next_line-clause-reads g c =
+    rw (c.end_run-in-Err-next_line.ensures.fault, c.input_fault.ensures) (read_rose c.in-Err-next_line.fault _ _ _ c.in-Err-next_line.ensures.cause c.loop-line.invariant.reads)
+
+pub returns-in-Err-next_line-clause-writes : goal.returns-in-Err-next_line-clause-writes
+returns-in-Err-next_line-clause-writes g c =
+    rw (c.end_run-in-Err-next_line.ensures.fault, c.input_fault.ensures) (none_rose _ _ _ (reading_not_writing c.in-Err-next_line.fault) c.loop-line.invariant.writes)
+
+pub returns-in-Err-line-clause-reads : goal.returns-in-Err-line-clause-reads
+returns-in-Err-line-clause-reads g c =
+    rw (c.end_run-in-Err-line.ensures.fault, c.line_fault.ensures)
+    (none_rose _ _ _ (line_not_reading c.in-Err-line.fault) (read_well _ _ _ c.in-Ok-Some.ensures.cause ∙ c.loop-line.invariant.reads))
+
+pub returns-in-Err-line-clause-writes : goal.returns-in-Err-line-clause-writes
+returns-in-Err-line-clause-writes g c =
+    rw (c.end_run-in-Err-line.ensures.fault, c.line_fault.ensures) (none_rose _ _ _ (line_not_writing c.in-Err-line.fault) c.loop-line.invariant.writes)
+
+pub returns-in-Err-write_all-clause-reads : goal.returns-in-Err-write_all-clause-reads
+returns-in-Err-write_all-clause-reads g c =
+    rw (c.end_run-in-Err-write_all.ensures.fault, c.write_fault.ensures)
+    (none_rose _ _ _ (writing_not_reading c.in-Err-write_all.fault) (read_well _ _ _ c.in-Ok-Some.ensures.cause ∙ c.loop-line.invariant.reads))
+
+pub returns-in-Err-write_all-clause-writes : goal.returns-in-Err-write_all-clause-writes
+returns-in-Err-write_all-clause-writes g c =
+    rw (c.end_run-in-Err-write_all.ensures.fault, c.write_fault.ensures) (write_rose c.in-Err-write_all.fault _ _ _ c.in-Err-write_all.ensures.cause c.loop-line.invariant.writes)

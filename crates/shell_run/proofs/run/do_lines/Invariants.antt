@@ -1,10 +1,10 @@
 use Rattle.std.proofs.Common.{◌≡◌, ◌-◌, ◌≤◌, IsTrue, Some}
 use Rattle.mld_io.specs.Disk.{Log}
-use Rattle.input_lines.specs.TooLarge.{line_limit, input_limit}
+use Rattle.input_lines.specs.TooLarge.{input_limit, IsUnderLimits}
 use Rattle.input_lines.specs.Taken.{KnowsEnd}
 use Rattle.shell_session.specs.Sessions.{banks_of, IsStanding}
 use Rattle.shell_session.specs.Lines.{Meters}
-use Rattle.shell_run.specs.UnderWay.{WayTold}
+use Rattle.shell_run.specs.ShellUnderWay.{WayTold}
 use Rattle.shell_run.proofs.run.do_lines.Given as goal
 
 abbrev pub invariant-loop-line : goal.invariant-loop-line
@@ -14,8 +14,7 @@ invariant-loop-line g l = record {
   meters : Meters (g.B.Banks.meter l.fn.banks) (g.B.Banks.meter (banks_of l.session)) ⊥;
   ends : (first : Log) → g.B.Banks.log l.fn.banks ≡ Some first → KnowsEnd l.lines.ended (g.S.Source.left l.fn.source) (g.S.Source.left l.source) l.done;
   good : IsTrue l.lines.good;
-  line : l.lines.line ≡ line_limit;
-  all : l.lines.all ≡ input_limit;
+  limits : IsUnderLimits l.lines;
   few : l.done ≤ l.lines.taken;
   within : l.lines.taken ≤ l.lines.all;
   reads : g.S.Source.faults l.source ≡ g.S.Source.faults l.fn.source;
@@ -23,4 +22,4 @@ invariant-loop-line g l = record {
 }
 
 abbrev pub decreases-loop-line : goal.decreases-loop-line
-decreases-loop-line g l = l.lines.all - l.lines.taken
+decreases-loop-line g l = input_limit - l.lines.taken

@@ -1,6 +1,14 @@
+use Rattle.std.proofs.Common.{map}
+use Rattle.std.specs.String.{string_bytes}
+use Rattle.shell_words.specs.FolderWords.{IsRefused}
+use Rattle.shell_run.proofs.FaultLemmas.{words_usage}
 use Rattle.shell_run.proofs.WayLemmas.{not_read}
 use Rattle.shell_run.proofs.run.shell.Goals as goal
 
 pub returns-in-Err-clause-ends : goal.returns-in-Err-clause-ends
 returns-in-Err-clause-ends g c = λ log told.
-    rw (c.ended.ensures.fault, c.words_fault.ensures, c.ended.ensures.banks) (not_read g.B.Banks.log c.in-Err.fault c.args.banks (g.S.Source.left c.args.source.now) (g.K.Sink.held c.args.sink.now) log told)
+    rw (c.end_run.ensures.fault, c.words_fault.ensures, c.end_run.ensures.banks) (not_read g.B.Banks.log c.in-Err.fault c.args.banks (g.S.Source.left c.args.source.now) (g.K.Sink.held c.args.sink.now) log told)
+
+pub returns-in-Err-clause-usage : goal.returns-in-Err-clause-usage
+returns-in-Err-clause-usage g c =
+    rw (c.end_run.ensures.fault, c.words_fault.ensures) (words_usage c.in-Err.fault (IsRefused (map (λ w. string_bytes w) c.args.words.now.items)) c.in-Err.ensures.usage)

@@ -14,13 +14,13 @@ use Rattle.node_model.specs.Events.{log_after}
 use Rattle.node_keeper.specs.States.{FindsNow}
 use Rattle.node_core.specs.Nodes.{BankedNode, node_value, banks_of}
 use Rattle.node_core.specs.Events.{DoesEvent, IsDueByEvent}
-use Rattle.node_run.specs.Ended.{Done, steps_of}
+use Rattle.node_run.specs.ServiceEnds.{EventsDone, steps_of}
 use Rattle.node_run.specs.declared.stops.NodeStop.{NodeStop}
 use Rattle.node_run.specs.declared.stops.NodeStop.TheVariants as stops
 
 -- so many events are done over banks on which this was found
-pub record IsUnderWay {B : Type 0} (log : B → Option Log) (found : Found) (old : Option Log) (texts : List (List ℕ)) (turns : ℕ) (before now : Option WireLog) (node : BankedNode B) (taken : ℕ) : Type 0 where
-  pub done : Done found texts (unwrap_or before [])
+pub record IsServiceUnderWay {B : Type 0} (log : B → Option Log) (found : Found) (old : Option Log) (texts : List (List ℕ)) (turns : ℕ) (before now : Option WireLog) (node : BankedNode B) (taken : ℕ) : Type 0 where
+  pub done : EventsDone found texts (unwrap_or before [])
   pub turns_are : done.words.turns ≡ turns
   pub counted : taken ≡ length done.events
   pub node_is : done.node ≡ node_value node

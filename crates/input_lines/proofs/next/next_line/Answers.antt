@@ -1,19 +1,19 @@
 use Rattle.std.proofs.Common.{◌∙◌, ap}
-use Rattle.mld_replay.proofs.LimitLemmas.{by_ended, ok_none, not_ended, takes_line, takes_line_none, none_empty, line_ended, line_ended_none, breaks_limits, cut_short}
-use Rattle.mld_replay.proofs.run.next_line.Goals as goal
+use Rattle.input_lines.proofs.TakenLemmas.{by_ended, ok_none, not_ended, takes_line, takes_line_none, none_empty, line_ended, line_ended_none, breaks_limits, cut_short}
+use Rattle.input_lines.proofs.next.next_line.Goals as goal
 
 pub returns-in-Ok-clause-line : goal.returns-in-Ok-clause-line
 returns-in-Ok-clause-line g c = λ bytes told.
     by_ended c.args.lines.now.ended
     (λ yes. takes_line_none _ bytes c.in-Ok.line _ _ (ok_none c.in-Ok.line (c.in-Ok.ensures.ended yes).0) (ap (λ s. g.S.Source.left s) (c.in-Ok.ensures.ended yes).1 ∙ told))
-    (λ no. takes_line _ bytes c.in-Ok.line _ _ _ c.requires.line c.requires.all (c.in-Ok.ensures.line no bytes told))
+    (λ no. takes_line _ bytes c.in-Ok.line _ _ _ c.requires.limits (c.in-Ok.ensures.line no bytes told))
 
 pub returns-in-Ok-clause-at_end : goal.returns-in-Ok-clause-at_end
 returns-in-Ok-clause-at_end g c = λ no bytes told none. none_empty _ bytes c.in-Ok.line _ _ _ (c.in-Ok.ensures.line no bytes told) none
 
 pub returns-in-Ok-clause-ended : goal.returns-in-Ok-clause-ended
 returns-in-Ok-clause-ended g c = λ bytes told.
-    by_ended c.args.lines.now.ended (λ yes. line_ended_none c.in-Ok.line _ (ok_none c.in-Ok.line (c.in-Ok.ensures.ended yes).0)) (λ no. line_ended _ bytes c.in-Ok.line _ _ _ (c.in-Ok.ensures.line no bytes told))
+    by_ended c.args.lines.now.ended (λ yes. line_ended_none c.in-Ok.line _ bytes (ok_none c.in-Ok.line (c.in-Ok.ensures.ended yes).0)) (λ no. line_ended _ bytes c.in-Ok.line _ _ _ (c.in-Ok.ensures.line no bytes told))
 
 pub returns-in-Err-ReadFault-clause-failed : goal.returns-in-Err-ReadFault-clause-failed
 returns-in-Err-ReadFault-clause-failed g c = not_ended c.args.lines.now.ended c.in-Err-ReadFault.field-0 (λ yes. (c.in-Err-ReadFault.ensures.ended yes).0)
@@ -27,7 +27,7 @@ returns-in-Err-NoMemory-clause-failed g c = not_ended c.args.lines.now.ended c.i
 pub returns-in-Err-TooLarge-clause-large : goal.returns-in-Err-TooLarge-clause-large
 returns-in-Err-TooLarge-clause-large g c = λ at is. (
   cc (is),
-  λ bytes told. breaks_limits c.args.lines.now bytes c.in-Err-TooLarge.field-0 _ _ _ c.requires.line c.requires.all c.in-Err-TooLarge.field-0-is
+  λ bytes told. breaks_limits c.args.lines.now bytes c.in-Err-TooLarge.field-0 _ _ _ c.requires.limits c.in-Err-TooLarge.field-0-is
       (c.in-Err-TooLarge.ensures.line (not_ended c.args.lines.now.ended c.in-Err-TooLarge.field-0 (λ yes. (c.in-Err-TooLarge.ensures.ended yes).0)) bytes told),
 )
 

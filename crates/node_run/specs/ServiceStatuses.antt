@@ -1,4 +1,4 @@
--- How a run of the node ends, by its fault: the status, what stays as it was, and what is counted. `serve` cites it.
+-- How a run of the node ends, by its fault: the status, what stays as it was, and what is counted. `serve` and the functions below it cite these.
 use Rattle.std.specs.Prelude.{◌≡◌, ℕ, Option, None, Some}
 use Rattle.mld_io.specs.Faults.{Rose}
 use Rattle.mld_io.specs.declared.banks.Side.{Side}
@@ -8,37 +8,31 @@ use Rattle.journal_store.specs.declared.faults.MakeFault.{MakeFault}
 use Rattle.journal_store.specs.declared.faults.MakeFault.TheVariants as make
 use Rattle.journal_store.specs.declared.faults.MountFault.{MountFault}
 use Rattle.journal_store.specs.declared.faults.MountFault.TheVariants as mount
-use Rattle.node_words.specs.declared.faults.WordsFault.{WordsFault}
-use Rattle.node_words.specs.declared.faults.WordsFault.TheVariants as words
+use Rattle.node_words.specs.declared.faults.NodeWordsFault.{NodeWordsFault}
+use Rattle.node_words.specs.declared.faults.NodeWordsFault.TheVariants as words
 use Rattle.node_keeper.specs.declared.faults.NodeFault.{NodeFault}
 use Rattle.node_keeper.specs.declared.faults.NodeFault.TheVariants as node
 use Rattle.node_run.specs.declared.stops.NodeStop.{NodeStop}
 use Rattle.node_run.specs.declared.stops.NodeStop.TheVariants as stops
 
 -- the status of the program
-abbrev pub status_of : Option NodeStop → ℕ
-status_of None = 0
-status_of (Some stops.Usage) = 1
-status_of (Some stops.NoMemory) = 5
-status_of (Some stops.Device) = 6
-status_of (Some stops.OutOfTurns) = 8
-status_of (Some stops.WireFault) = 9
-status_of (Some (stops.Damaged side place)) = 10
-status_of (Some stops.OtherClone) = 11
+abbrev pub service_status : Option NodeStop → ℕ
+service_status None = 0
+service_status (Some stops.Usage) = 1
+service_status (Some stops.NoMemory) = 5
+service_status (Some stops.Device) = 6
+service_status (Some stops.OutOfTurns) = 8
+service_status (Some stops.WireFault) = 9
+service_status (Some (stops.Damaged side place)) = 10
+service_status (Some stops.OtherClone) = 11
 
 -- the side that is damaged, and the place, which are there just at status 10
 abbrev pub damaged_of : Option NodeStop → Option (Side × ℕ)
 damaged_of (Some (stops.Damaged side place)) = Some (side, place)
 damaged_of fault = None
 
--- usage is told where the words are refused, and only there; but for want of memory they may not have been read
-abbrev pub TellsUsage : Option NodeStop → (Refused : Type 0) → Type 0
-TellsUsage (Some stops.Usage) Refused = Refused
-TellsUsage (Some stops.NoMemory) Refused = Unit {0}
-TellsUsage fault Refused = ¬ Refused
-
 -- the wire is as it was, and so are the banks
-pub record AreUntouched {W B : Type 0} (wire left : W) (banks back : B) : Type 0 where
+pub record LeavesWireAndBanks {W B : Type 0} (wire left : W) (banks back : B) : Type 0 where
   pub wire_is : left ≡ wire
   pub banks_are : back ≡ banks
 
@@ -50,7 +44,7 @@ CountsWire before now fault = now ≡ before
 -- ---- parts of a run
 
 -- why words were not read
-abbrev pub stop_of_words : WordsFault → NodeStop
+abbrev pub stop_of_words : NodeWordsFault → NodeStop
 stop_of_words words.Usage = stops.Usage
 stop_of_words words.NoMemory = stops.NoMemory
 

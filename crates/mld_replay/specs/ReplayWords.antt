@@ -1,9 +1,14 @@
--- What the words of the program say.
-use Rattle.std.specs.Prelude.{◌≡◌, ℕ, ◌<◌, ◌≤◌, ◌^◌, List, [], ◌∷◌, codes}
+-- What the words of the program say: `run` cites `IsGenerate` and `AreUnknown`, and `read_words` `AreSaid`.
+use Rattle.std.specs.Prelude.{◌≡◌, ℕ, ◌<◌, ◌≤◌, ◌^◌, List, [], ◌∷◌, codes, map, String, string_bytes}
+use Rattle.std.specs.declared.alloc.Global.{Global}
 use Rattle.std.specs.Fmt.{decimal}
 use Rattle.mld_replay.specs.Ran.{IsReplay}
 use Rattle.mld_replay.specs.declared.words.Words.{Words}
 use Rattle.mld_replay.specs.declared.words.Words.TheVariants.{Replay, Generate, Unknown}
+
+-- the texts of words
+abbrev pub texts_of : List (String Global) → List (List ℕ)
+texts_of words = map (λ w. string_bytes w) words
 
 -- how many commands a generated schedule has at most
 abbrev pub command_limit : ℕ

@@ -1,15 +1,15 @@
--- How a run of the node ends over banks that tell their log: the events that it took, what it sent, and what its banks keep. `serve` cites it.
+-- How a run of the node ends over banks that tell their log: the events that it took, what it sent, and what its banks keep. `serve` and `take_turns`
+-- cite `ServiceEnds`.
 use Rattle.std.specs.Prelude.{◌≡◌, ◌⊎◌, ℕ, ◌+◌, ◌<◌, ◌≤◌, Bool, true, false, List, [], ◌∷◌, ◌++◌, length, Option, None, Some, option_map, unwrap_or}
 use Rattle.mld_io.specs.declared.banks.Side.{Side}
 use Rattle.mld_io.specs.declared.events.Event.{Event}
 use Rattle.mld_io.specs.declared.events.WireCall.TheVariants.{Took}
-use Rattle.mld_io.specs.Disk.{Log, seen, LeavesOnly}
+use Rattle.mld_io.specs.Disk.{Log}
 use Rattle.mld_io.specs.Wires.{WireLog}
-use Rattle.journal_sides.specs.Pairs.{read_banks}
 use Rattle.clone_banks.specs.KeptSteps.{KeptStep}
-use Rattle.shell_model.specs.Shells.{Found, Damage, found_in, found_after}
+use Rattle.shell_model.specs.Shells.{Found, Damage}
 use Rattle.shell_session.specs.Sessions.{HasFound}
-use Rattle.shell_session.specs.Lines.{ImagesFind, FindsFront, LeavesFront}
+use Rattle.shell_session.specs.RunEnds.{LeavesDone}
 use Rattle.node_words.specs.declared.node.NodeWords.{NodeWords}
 use Rattle.node_words.specs.Words.{AreWords}
 use Rattle.node_exchange.specs.declared.connections.Sent.{Sent}
@@ -21,7 +21,7 @@ use Rattle.node_run.specs.declared.stops.NodeStop.{NodeStop}
 use Rattle.node_run.specs.declared.stops.NodeStop.TheVariants as stops
 
 -- what a run had and left: its words, how many events it took, the logs of its wire before and after, and those of its banks
-pub record Ends : Type 0 where
+pub record ServiceEdges : Type 0 where
   pub texts : List (List ℕ)
   pub turns : ℕ
   pub before : Option WireLog
@@ -30,14 +30,14 @@ pub record Ends : Type 0 where
   pub now : Option Log
 
 -- the wire that told its log tells this one then
-abbrev pub IsLogged : Ends → WireLog → Type 0
+abbrev pub IsLogged : ServiceEdges → WireLog → Type 0
 IsLogged ends log = ends.after ≡ option_map (λ before. log) ends.before
 
 -- ---- what was done
 
 -- what a node did over banks on which this was found: how it began by its words; the events that it took, of which there are no more than the
 -- words say, and none came once it had ended; their durable steps; and the node and the wire's log that they led to
-pub record Done (found : Found) (texts : List (List ℕ)) (log : WireLog) : Type 0 where
+pub record EventsDone (found : Found) (texts : List (List ℕ)) (log : WireLog) : Type 0 where
   pub words : NodeWords
   pub are : AreWords texts words
   pub first : List KeptStep
@@ -50,20 +50,12 @@ pub record Done (found : Found) (texts : List (List ℕ)) (log : WireLog) : Type
   pub after : WireLog
   pub runs : NodeRuns (fresh_node keeper) events log steps node after
 
-abbrev pub DoneIn : Found → Ends → Type 0
-DoneIn found ends = Done found ends.texts (unwrap_or ends.before [])
+abbrev pub EventsDoneIn : Found → ServiceEdges → Type 0
+EventsDoneIn found ends = EventsDone found ends.texts (unwrap_or ends.before [])
 
 -- all its durable steps
-abbrev pub steps_of : {found : Found} {texts : List (List ℕ)} {log : WireLog} → Done found texts log → List KeptStep
+abbrev pub steps_of : {found : Found} {texts : List (List ℕ)} {log : WireLog} → EventsDone found texts log → List KeptStep
 steps_of done = done.first ++ done.steps
-
--- What a crash leaves of banks on which these durable steps were done, and others were due, of which a front may be done. It is claimed
--- where the same was found on all that a crash might have left at first.
-pub record LeavesDone (found : Found) (steps due : List KeptStep) (old now : Option Log) : Type 0 where
-  -- at each moment since then: what a front of all these steps makes
-  pub moments : LeavesFront found (steps ++ due) old now
-  -- in the end: what all that were done make, and a front of those due
-  pub settled : ImagesFind found old → (log : Log) → now ≡ Some log → LeavesOnly log (FindsFront (found_after steps found) due)
 
 -- ---- between two events
 
@@ -78,8 +70,8 @@ abbrev pub Waits : Bool → ℕ → ℕ → Type 0
 Waits halted taken turns = (halted ≡ false) × (taken < turns)
 
 -- it ended behind an event for which all was sent, or before the first: the banks keep what the events led to
-pub record StopsBetween (So : Bool → ℕ → ℕ → Type 0) (found : Found) (ends : Ends) : Type 0 where
-  pub done : DoneIn found ends
+pub record StopsBetweenEvents (So : Bool → ℕ → ℕ → Type 0) (found : Found) (ends : ServiceEdges) : Type 0 where
+  pub done : EventsDoneIn found ends
   pub so : So done.node.halted (length done.events) done.words.turns
   pub counted : ends.turns ≡ length done.events
   pub logged : IsLogged ends done.after
@@ -89,14 +81,14 @@ pub record StopsBetween (So : Bool → ℕ → ℕ → Type 0) (found : Found) (
 -- ---- at an event
 
 -- an event was taken for which the node waited
-pub record Takes (found : Found) (ends : Ends) : Type 0 where
-  pub done : DoneIn found ends
+pub record Takes (found : Found) (ends : ServiceEdges) : Type 0 where
+  pub done : EventsDoneIn found ends
   pub waits : Waits done.node.halted (length done.events) done.words.turns
   pub counted : ends.turns ≡ length done.events + 1
   pub event : Event
 
 -- it ended while the event was done: nothing was sent for it, and of the durable steps that it had to make a front may be done
-pub record StopsWithin (found : Found) (ends : Ends) : Type 0 where
+pub record StopsWithinEvent (found : Found) (ends : ServiceEdges) : Type 0 where
   pub takes : Takes found ends
   pub due : List KeptStep
   pub is_due : (due ≡ []) ⊎ IsDueByEvent takes.done.node takes.event due
@@ -104,7 +96,7 @@ pub record StopsWithin (found : Found) (ends : Ends) : Type 0 where
   pub leaves : LeavesDone found (steps_of takes.done) due ends.old ends.now
 
 -- it ended while it sent: the event was done, and of what is to be sent for it a front was sent
-pub record StopsSending (found : Found) (ends : Ends) : Type 0 where
+pub record StopsSending (found : Found) (ends : ServiceEdges) : Type 0 where
   pub takes : Takes found ends
   pub sent : List Sent
   pub steps : List KeptStep
@@ -121,17 +113,17 @@ pub record StopsSending (found : Found) (ends : Ends) : Type 0 where
 -- ---- before the first event
 
 -- no event was taken, and nothing was sent
-pub record TakesNothing (ends : Ends) : Type 0 where
+pub record TakesNothing (ends : ServiceEdges) : Type 0 where
   pub none : ends.turns ≡ 0
   pub silent : ends.after ≡ ends.before
 
 -- the words were not read
-pub record HasNotBegun (ends : Ends) : Type 0 where
+pub record ServiceHasNotBegun (ends : ServiceEdges) : Type 0 where
   pub nothing : TakesNothing ends
   pub same_banks : ends.now ≡ ends.old
 
 -- the banks were mounted, or a clone was made on them: of the durable steps that this had to make a front may be done
-pub record StopsAtFirst (found : Found) (ends : Ends) : Type 0 where
+pub record StopsAtFirst (found : Found) (ends : ServiceEdges) : Type 0 where
   pub words : NodeWords
   pub are : AreWords ends.texts words
   pub nothing : TakesNothing ends
@@ -140,7 +132,7 @@ pub record StopsAtFirst (found : Found) (ends : Ends) : Type 0 where
   pub leaves : LeavesDone found [] due ends.old ends.now
 
 -- what was found is no clone that the node may run
-pub record FindsSo (So : NodeWords → Type 0) (found : Found) (ends : Ends) : Type 0 where
+pub record FindsSo (So : NodeWords → Type 0) (found : Found) (ends : ServiceEdges) : Type 0 where
   pub words : NodeWords
   pub are : AreWords ends.texts words
   pub so : So words
@@ -151,32 +143,28 @@ pub record FindsSo (So : NodeWords → Type 0) (found : Found) (ends : Ends) : T
 -- ---- any end
 
 -- where the banks failed
-pub data StopsOnBanks (found : Found) (ends : Ends) : Type 0 where
+pub data StopsOnBanks (found : Found) (ends : ServiceEdges) : Type 0 where
   at_first : StopsAtFirst found ends → StopsOnBanks found ends
-  within : StopsWithin found ends → StopsOnBanks found ends
+  within : StopsWithinEvent found ends → StopsOnBanks found ends
 
 -- where the wire failed
-pub data StopsOnWire (found : Found) (ends : Ends) : Type 0 where
-  between : StopsBetween Waits found ends → StopsOnWire found ends
+pub data StopsOnWire (found : Found) (ends : ServiceEdges) : Type 0 where
+  between : StopsBetweenEvents Waits found ends → StopsOnWire found ends
   sending : StopsSending found ends → StopsOnWire found ends
 
 -- where memory was wanting
-pub data StopsAnywhere (found : Found) (ends : Ends) : Type 0 where
-  unread : HasNotBegun ends → StopsAnywhere found ends
-  on_banks : StopsOnBanks found ends → StopsAnywhere found ends
-  on_wire : StopsOnWire found ends → StopsAnywhere found ends
+pub data ServiceStopsAnywhere (found : Found) (ends : ServiceEdges) : Type 0 where
+  unread : ServiceHasNotBegun ends → ServiceStopsAnywhere found ends
+  on_banks : StopsOnBanks found ends → ServiceStopsAnywhere found ends
+  on_wire : StopsOnWire found ends → ServiceStopsAnywhere found ends
 
 -- how a run ended, by its fault, where this was found on its banks
-abbrev pub EndsSo : Option NodeStop → Found → Ends → Type 0
-EndsSo None found ends = StopsBetween HasEnded found ends
-EndsSo (Some stops.Usage) found ends = HasNotBegun ends
-EndsSo (Some stops.NoMemory) found ends = StopsAnywhere found ends
-EndsSo (Some stops.Device) found ends = StopsOnBanks found ends
-EndsSo (Some stops.OutOfTurns) found ends = StopsBetween HasTurned found ends
-EndsSo (Some stops.WireFault) found ends = StopsOnWire found ends
-EndsSo (Some (stops.Damaged side place)) found ends = FindsSo (λ words. found ≡ Damage side place) found ends
-EndsSo (Some stops.OtherClone) found ends = FindsSo (λ words. IsOther words found) found ends
-
--- so it is where the banks tell their log, on which what it reads to was found
-abbrev pub EndsTold : Option NodeStop → Ends → Type 0
-EndsTold fault ends = (log : Log) → ends.old ≡ Some log → EndsSo fault (found_in (read_banks (seen log))) ends
+abbrev pub ServiceEnds : Option NodeStop → Found → ServiceEdges → Type 0
+ServiceEnds None found ends = StopsBetweenEvents HasEnded found ends
+ServiceEnds (Some stops.Usage) found ends = ServiceHasNotBegun ends
+ServiceEnds (Some stops.NoMemory) found ends = ServiceStopsAnywhere found ends
+ServiceEnds (Some stops.Device) found ends = StopsOnBanks found ends
+ServiceEnds (Some stops.OutOfTurns) found ends = StopsBetweenEvents HasTurned found ends
+ServiceEnds (Some stops.WireFault) found ends = StopsOnWire found ends
+ServiceEnds (Some (stops.Damaged side place)) found ends = FindsSo (λ words. found ≡ Damage side place) found ends
+ServiceEnds (Some stops.OtherClone) found ends = FindsSo (λ words. IsOther words found) found ends

@@ -1,7 +1,0 @@
-//! The limits of the input, each of which stands here once. Definitions cite them by the words of `specs/Limits.antt`.
-
-/// How many bytes a line has at most, without its LF.
-pub const LINE_LIMIT: usize = 1_048_576;
-
-/// How many bytes the input has at most, each LF counted.
-pub const INPUT_LIMIT: u64 = 16_777_216;
