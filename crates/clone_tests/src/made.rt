@@ -148,7 +148,7 @@ fn properties(alloc: Global) -> Result<Vec<Iri>, Fail> {
 }
 
 /// The domain `d`.
-fn domain(alloc: Global) -> Result<Text, Fail>
+pub fn domain(alloc: Global) -> Result<Text, Fail>
     ensures { IfOk result (λ domain. IsTrue (is_domain domain)) }
 {
     let domain = Text::new(alloc, "d")?;

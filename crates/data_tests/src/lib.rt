@@ -1,8 +1,26 @@
-//! Tests of operations, messages and their bytes, through their public calls. They stand in a crate of their own, so that those
-//! crates aren't proved a second time with their tests.
+//! Tests of data, through public calls: clocks, paths and dots; IRIs, texts and terms; operations, messages and their bytes; sets of pairs
+//! and snapshots. They stand in a crate of their own, so that what they test isn't proved a second time with them.
 #![tactic(auto)]
 
 #[cfg(test)]
-mod codec_tests;
+mod clocks;
 #[cfg(test)]
-mod operation_tests;
+mod codec;
+#[cfg(test)]
+mod made;
+#[cfg(test)]
+mod operations;
+#[cfg(test)]
+mod paths;
+#[cfg(test)]
+mod sets;
+#[cfg(test)]
+mod snapshots;
+#[cfg(test)]
+mod term_copies;
+#[cfg(test)]
+mod term_refusals;
+#[cfg(test)]
+mod text_limits;
+#[cfg(test)]
+mod texts;

@@ -1,15 +1,22 @@
-//! Tests of the edges: lines, sources and sinks, devices in memory and over files, wires in memory, and
-//! numbers as bytes, through the public calls of `mld_io`, `disk_model` and `mld_bytes`. They stand in a
-//! crate of their own, so that those crates aren't proved a second time with their tests.
+//! Tests of the edges, through public calls: lines, sources and sinks, devices in memory and over files, wires in memory, numbers as
+//! bytes, and frames. They stand in a crate of their own, so that what they test isn't proved a second time with them.
 #![tactic(auto)]
 
 #[cfg(test)]
-mod bank_tests;
+mod banks;
 #[cfg(test)]
-mod byte_tests;
+mod bytes;
 #[cfg(test)]
-mod file_tests;
+mod files;
 #[cfg(test)]
-mod line_tests;
+mod frame_parts;
 #[cfg(test)]
-mod wire_tests;
+mod frame_vectors;
+#[cfg(test)]
+mod frames_read;
+#[cfg(test)]
+mod frames_written;
+#[cfg(test)]
+mod lines;
+#[cfg(test)]
+mod wires;

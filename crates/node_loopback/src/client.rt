@@ -25,7 +25,7 @@ const PAYLOAD_LIMIT: usize = 1_048_588;
 const PART_LIMIT: usize = 1_024;
 
 /// How many seconds one read waits.
-const PATIENCE: u64 = 30;
+const PATIENCE: u64 = 60;
 
 /// A connection to a node, which has said hello.
 #[derive(Drop)]

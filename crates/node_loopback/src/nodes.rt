@@ -17,10 +17,10 @@ use std::time::{Clock, Duration, Instant};
 const STARTS: u32 = 5;
 
 /// How often a node that was started is called at most, or is looked at whether it ended.
-const TRIES: u32 = 1_000;
+const TRIES: u32 = 3_000;
 
 /// For how many seconds it is called at most.
-const CALL_LIMIT: u64 = 30;
+const CALL_LIMIT: u64 = 60;
 
 /// A node that runs, and a client of it.
 #[derive(Drop)]

@@ -1,4 +1,5 @@
-//! Tests of runs: what ends them, what they tell of their world, and what they leave on banks.
+//! Tests of runs, through public calls: what ends them, what they tell of their world, and what they leave on banks; and of the wire over
+//! sockets. They stand in a crate of their own, so that what they test isn't proved a second time with them.
 #![tactic(auto)]
 
 #[cfg(test)]
@@ -9,5 +10,7 @@ mod generated;
 mod replays;
 #[cfg(test)]
 mod runs;
+#[cfg(test)]
+mod sockets;
 #[cfg(test)]
 mod summaries;

@@ -10,6 +10,3 @@ mod table;
 mod wire;
 
 pub use wire::TcpWire;
-
-#[cfg(test)]
-mod tests;

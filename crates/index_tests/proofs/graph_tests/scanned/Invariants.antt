@@ -1,4 +1,0 @@
-use Rattle.index_tests.proofs.graph_tests.scanned.Given as goal
-
-abbrev pub ghosts-scanned_in : goal.ghosts-scanned_in
-ghosts-scanned_in a = record { name = a.blank.name; parts = a.blank.parts }

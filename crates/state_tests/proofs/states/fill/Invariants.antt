@@ -1,6 +1,0 @@
-use Rattle.mld_ops.specs.Tagged.{tagged_cmp}
-use Rattle.tree_clock.specs.Lists.{IsAscending}
-use Rattle.state_tests.proofs.states.fill.Given as goal
-
-abbrev pub invariant-loop-subject : goal.invariant-loop-subject
-invariant-loop-subject l = IsAscending tagged_cmp l.list.items
