@@ -1,28 +1,30 @@
 //! Faults in lines: the name, and behind it the text that the fault carries, between quotes.
 use jsonld_context::JsonFault;
-use std::alloc::{AllocError, Global};
+use std::alloc::AllocError;
+use std::fmt::Write;
 
-/// A fault as lines name it; want of memory is no fault of a line.
-pub fn fault_text(alloc: Global, fault: &JsonFault) -> Result<String, AllocError> {
+/// Puts a fault as lines name it; want of memory is no fault of a line.
+pub fn put_fault(out: &mut String, fault: &JsonFault) -> Result<(), AllocError> {
     match fault {
-        JsonFault::NotJson => String::from_str(alloc, "NotJson"),
-        JsonFault::BadContext(key) => named(alloc, "BadContext", key.as_str()),
-        JsonFault::Remote => String::from_str(alloc, "Remote"),
-        JsonFault::BadSubject(key) => named(alloc, "BadSubject", key.as_str()),
-        JsonFault::Fraction => String::from_str(alloc, "Fraction"),
-        JsonFault::BadIri(written) => named(alloc, "BadIri", written.as_str()),
-        JsonFault::Unsupported(key) => named(alloc, "Unsupported", key.as_str()),
-        JsonFault::BadQuery(key) => named(alloc, "BadQuery", key.as_str()),
+        JsonFault::NotJson => put_name(out, "NotJson"),
+        JsonFault::BadContext(key) => put_named(out, "BadContext", key.as_str()),
+        JsonFault::Remote => put_name(out, "Remote"),
+        JsonFault::BadSubject(key) => put_named(out, "BadSubject", key.as_str()),
+        JsonFault::Fraction => put_name(out, "Fraction"),
+        JsonFault::BadIri(written) => put_named(out, "BadIri", written.as_str()),
+        JsonFault::Unsupported(key) => put_named(out, "Unsupported", key.as_str()),
+        JsonFault::BadQuery(key) => put_named(out, "BadQuery", key.as_str()),
         JsonFault::NoMemory => Err(AllocError),
     }
 }
 
-/// A name and a text between quotes.
-fn named(alloc: Global, name: &str, text: &str) -> Result<String, AllocError> {
-    format!(in alloc; "{name} \"{text}\"")
+/// Puts a name alone.
+fn put_name(out: &mut String, name: &str) -> Result<(), AllocError> {
+    out.push_str(name)?;
+    Ok(())
 }
 
-/// A fault as it is printed.
-pub fn printed(alloc: Global, fault: &JsonFault) -> Result<String, AllocError> {
-    format!(in alloc; "{fault}")
+/// Puts a name and a text between quotes.
+fn put_named(out: &mut String, name: &str, text: &str) -> Result<(), AllocError> {
+    write!(out, "{name} \"{text}\"")
 }

@@ -1,47 +1,84 @@
-//! The kinds of lines, by their first words. Each kind has a module with a function that says what a line of it gives, as text; `None`
-//! where the line isn't one of its kind.
+//! The kinds of lines, by their first words. What a line of a kind gives is put at the end of a text; each function says whether the line
+//! is one of its kind.
 use crate::held::Held;
 use crate::lines::Line;
-use crate::{
-    comparisons, contexts, expanding, forms, iris, objects, orders, parts, queries, references,
-    shorts, subjects, tags, triples, types, updates, written,
-};
+use crate::texts::text_of;
+use crate::{contexts, pairs, parts, queries, subjects, terms, updates, written};
 use std::alloc::{AllocError, Global};
 
-/// What a line gives.
-pub fn given_by(
+/// Puts what a line gives.
+pub fn put(
     alloc: Global,
+    out: &mut String,
     held: &mut Held,
     line: &Line<'_>,
-) -> Result<Option<String>, AllocError> {
+) -> Result<bool, AllocError> {
     let input = line.input;
     match line.word {
-        "context" => contexts::given_by(alloc, held, input),
-        "printed" => contexts::printed_by(alloc, input),
-        "key" => expanding::key_given_by(alloc, held, input),
-        "id" => expanding::id_given_by(alloc, held, input),
-        "type" => types::given_by(alloc, held, input),
-        "short" => shorts::given_by(alloc, held, input),
-        "absolute" | "domain" | "variable" => forms::given_by(alloc, line.word, input),
-        "tag" => tags::given_by(alloc, input),
-        "resolve" => references::given_by(alloc, input),
-        "triple" => triples::given_by(alloc, input),
-        "iri" => iris::given_by(alloc, input),
-        "order" => orders::given_by(alloc, input),
-        "escaped" | "closed" | "common" => comparisons::given_by(alloc, line.word, input),
-        "pattern" | "insert" => subjects::given_by(alloc, held, line.word, input),
-        "count" => subjects::count_given_by(alloc, held, input),
-        "first" => parts::first_given_by(alloc, held, input),
-        "then" => parts::then_given_by(alloc, held, input),
-        "names" => parts::names_given_by(alloc, held, input),
-        "mark" => parts::mark_given_by(alloc, held, input),
-        "since" => parts::since_given_by(alloc, held, input),
-        "numbered" => subjects::numbered_given_by(alloc, held, input),
-        "object" => objects::given_by(alloc, held, input),
-        "written" => written::written_given_by(alloc, held, input),
-        "again" => written::again_given_by(alloc, held, input),
-        "query" => queries::given_by(alloc, input),
-        "update" => updates::given_by(alloc, input),
-        _ => Ok(None),
+        "context" => contexts::put(alloc, out, held, input),
+        "first" => parts::put_first(alloc, out, held, input),
+        "then" => parts::put_then(alloc, out, held, input),
+        "mark" => parts::mark(held, input),
+        _ => put_under(alloc, out, held, line),
+    }
+}
+
+/// Puts what a line gives that changes nothing of what is held.
+fn put_under(
+    alloc: Global,
+    out: &mut String,
+    held: &Held,
+    line: &Line<'_>,
+) -> Result<bool, AllocError> {
+    let input = line.input;
+    match line.word {
+        "printed" => contexts::put_printed(alloc, out, input),
+        "short" => contexts::put_short(alloc, out, held, input),
+        "resolve" => terms::put_resolved(alloc, out, input),
+        "order" | "escaped" | "closed" | "common" => pairs::put(alloc, out, line.word, input),
+        "pattern" | "insert" => subjects::put(alloc, out, held, line.word, input),
+        "count" => subjects::put_count(alloc, out, held, input),
+        "numbered" => subjects::put_numbered(alloc, out, held, input),
+        "object" => subjects::put_object(alloc, out, held, input),
+        "names" => parts::put_names(alloc, out, held, input),
+        "since" => parts::put_since(alloc, out, held, input),
+        "written" => written::put(alloc, out, held, input),
+        "again" => written::put_again(alloc, out, held, input),
+        "query" => queries::put(alloc, out, input),
+        "update" => updates::put(alloc, out, input),
+        _ => put_of_json(alloc, out, held, line),
+    }
+}
+
+/// Puts what a line gives whose input is one text.
+fn put_of_json(
+    alloc: Global,
+    out: &mut String,
+    held: &Held,
+    line: &Line<'_>,
+) -> Result<bool, AllocError> {
+    match text_of(alloc, line.input) {
+        Some(text) => put_of_text(alloc, out, held, line.word, text.as_str()),
+        None => Ok(false),
+    }
+}
+
+/// Puts what a text gives.
+fn put_of_text(
+    alloc: Global,
+    out: &mut String,
+    held: &Held,
+    word: &str,
+    text: &str,
+) -> Result<bool, AllocError> {
+    match word {
+        "absolute" | "domain" | "variable" => terms::put_form(out, word, text),
+        "tag" => terms::put_tag(alloc, out, text),
+        "triple" => terms::put_triple(alloc, out, text),
+        "iri" => terms::put_iri(alloc, out, text),
+        "key" => contexts::put_key(alloc, out, held, text),
+        "id" => contexts::put_id(alloc, out, held, text),
+        "type" => contexts::put_type(out, held, text),
+        _ => Ok(false),
     }
 }

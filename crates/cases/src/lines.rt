@@ -1,4 +1,5 @@
 //! Lines: a word, what is given behind it, and what that has to give.
+use transcripts::parted;
 
 /// What stands before the part that says what is wanted.
 const ARROW: &str = " => ";
@@ -19,27 +20,11 @@ pub fn line_of(text: &str) -> Option<Line<'_>> {
     if text.is_empty() || text.starts_with('#') {
         return None;
     }
-    let (front, wanted) = cut_arrow(text);
-    let (word, input) = cut_word(front);
+    let (front, wanted) = text.rsplit_once(ARROW).unwrap_or((text, ""));
+    let (word, input) = parted(front);
     Some(Line {
         word,
         input,
         wanted,
     })
-}
-
-/// What stands before the last arrow, and what behind it.
-fn cut_arrow(text: &str) -> (&str, &str) {
-    match text.rsplit_once(ARROW) {
-        Some(parts) => parts,
-        None => (text, ""),
-    }
-}
-
-/// The first word of a text, and what stands behind its space.
-pub fn cut_word(text: &str) -> (&str, &str) {
-    match text.split_once(' ') {
-        Some(parts) => parts,
-        None => (text, ""),
-    }
 }

@@ -3,106 +3,131 @@
 //! a fault, which ends the text. `names`: what the parts have met so far. `mark` sets a mark, and `since` has the variables that were met
 //! behind it.
 use crate::held::Held;
-use crate::lines::cut_word;
 use crate::slots::Variables;
-use crate::subjects::{read, told};
+use crate::subjects::{put_outcome, read};
 use jrql_ast::VARIABLE_LIMIT;
 use jsonld_values::Names;
 use std::alloc::{AllocError, Global};
 use std::fmt::Write;
+use transcripts::parted;
 
-/// What a line gives that begins a text.
-pub fn first_given_by(
+/// Puts what a line gives that begins a text.
+pub fn put_first(
     alloc: Global,
+    out: &mut String,
     held: &mut Held,
     input: &str,
-) -> Result<Option<String>, AllocError> {
-    held.set_names(Box::new(alloc, Names::empty(alloc))?);
-    then_given_by(alloc, held, input)
+) -> Result<bool, AllocError> {
+    held.set_names(Some(Box::new(alloc, Names::empty(alloc))?));
+    put_then(alloc, out, held, input)
 }
 
-/// What a line gives that goes on with a text.
-pub fn then_given_by(
+/// Puts what a line gives that goes on with a text.
+pub fn put_then(
     alloc: Global,
+    out: &mut String,
     held: &mut Held,
     input: &str,
-) -> Result<Option<String>, AllocError> {
+) -> Result<bool, AllocError> {
     let Some(mut names) = held.take_names() else {
-        return Ok(None);
+        return Ok(false);
     };
-    let (word, json) = cut_word(input);
-    let Some(outcome) = read(alloc, held, word, json, &mut names) else {
-        return Ok(None);
-    };
-    if outcome.is_ok() {
-        held.set_names(names);
+    let is_read = put_part(alloc, out, held, input, &mut names)?;
+    if is_read.goes_on {
+        held.set_names(Some(names));
     }
-    Ok(Some(told(alloc, &outcome, &Variables::Numbered)?))
+    Ok(is_read.is_line)
 }
 
-/// What a `names` line gives.
-pub fn names_given_by(
+/// What became of a part.
+#[derive(Clone, Copy)]
+struct Part {
+    /// The line can be read.
+    is_line: bool,
+    /// The text goes on behind it.
+    goes_on: bool,
+}
+
+/// Puts what a part gives that is read beside these names.
+fn put_part(
     alloc: Global,
+    out: &mut String,
     held: &Held,
     input: &str,
-) -> Result<Option<String>, AllocError> {
-    match held.names() {
-        Some(names) if input.is_empty() => Ok(Some(names_text(alloc, names)?)),
-        _ => Ok(None),
-    }
-}
-
-/// What a `mark` line gives, which sets a mark: nothing.
-pub fn mark_given_by(
-    alloc: Global,
-    held: &mut Held,
-    input: &str,
-) -> Result<Option<String>, AllocError> {
-    let Some(mut names) = held.take_names() else {
-        return Ok(None);
+    names: &mut Names,
+) -> Result<Part, AllocError> {
+    let (word, json) = parted(input);
+    let Some(outcome) = read(alloc, held, word, json, names)? else {
+        return Ok(Part {
+            is_line: false,
+            goes_on: false,
+        });
     };
-    if !input.is_empty() {
-        return Ok(None);
-    }
-    names.mark();
-    held.set_names(names);
-    Ok(Some(String::new(alloc)))
+    Ok(Part {
+        is_line: put_outcome(alloc, out, &outcome, Variables::Numbered)?,
+        goes_on: outcome.is_ok(),
+    })
 }
 
-/// What a `since` line gives.
-pub fn since_given_by(
+/// Sets a mark.
+pub fn mark(held: &mut Held, input: &str) -> Result<bool, AllocError> {
+    match held.names_mut() {
+        Some(names) if input.is_empty() => {
+            names.mark();
+            Ok(true)
+        }
+        _ => Ok(false),
+    }
+}
+
+/// Puts what a `names` line gives.
+pub fn put_names(
     alloc: Global,
+    out: &mut String,
     held: &Held,
     input: &str,
-) -> Result<Option<String>, AllocError> {
+) -> Result<bool, AllocError> {
     match held.names() {
-        Some(names) if input.is_empty() => Ok(Some(since_text(alloc, names)?)),
-        _ => Ok(None),
+        Some(names) if input.is_empty() => put_met(out, names),
+        _ => Ok(false),
     }
 }
 
-/// The names that were met since the mark, in the order of their numbers.
-fn since_text(alloc: Global, names: &Names) -> Result<String, AllocError> {
+/// Puts what a `since` line gives.
+pub fn put_since(
+    alloc: Global,
+    out: &mut String,
+    held: &Held,
+    input: &str,
+) -> Result<bool, AllocError> {
+    match held.names() {
+        Some(names) if input.is_empty() => put_met_since(alloc, out, names),
+        _ => Ok(false),
+    }
+}
+
+/// Puts the names that were met since the mark, in the order of their numbers.
+fn put_met_since(alloc: Global, out: &mut String, names: &Names) -> Result<bool, AllocError> {
     let texts = names.texts(alloc)?;
-    let mut text = String::from_str(alloc, "met")?;
+    out.push_str("met")?;
     for number in 0..texts.len() {
         if names.was_met(number) {
-            text.push(' ')?;
-            text.push_str(texts[number].as_str())?;
+            out.push(' ')?;
+            out.push_str(texts[number].as_str())?;
         }
     }
-    Ok(text)
+    Ok(true)
 }
 
-/// The names in the order of their numbers, and how many hidden variables and fresh subjects there are.
-fn names_text(alloc: Global, names: &Names) -> Result<String, AllocError> {
-    let mut text = String::from_str(alloc, "named")?;
+/// Puts the names in the order of their numbers, and how many hidden variables and fresh subjects there are.
+fn put_met(out: &mut String, names: &Names) -> Result<bool, AllocError> {
+    out.push_str("named")?;
     for number in 0..VARIABLE_LIMIT {
         if let Some(name) = names.name(number) {
-            text.push(' ')?;
-            text.push_str(name)?;
+            out.push(' ')?;
+            out.push_str(name)?;
         }
     }
-    write!(text, ", hidden {}, fresh {}", names.hidden(), names.fresh())?;
-    Ok(text)
+    write!(out, ", hidden {}, fresh {}", names.hidden(), names.fresh())?;
+    Ok(true)
 }

@@ -1,39 +1,47 @@
 //! `query DOMAIN JSON`: what a query asks for, its patterns, branches and filters, its named variables in the order of their bytes, and how
 //! many have no name; or a fault.
-use crate::faults::fault_text;
-use crate::lines::cut_word;
-use crate::slots::{Variables, put_slot};
-use crate::subjects::triples_text;
+use crate::faults::put_fault;
+use crate::slots::{Variables, put_iri, put_slot, put_triples};
 use iri_rules::{Text, is_domain};
 use jrql_ast::{Compare, Filter, Group, PatternTriple, Query, Select, Slot, Target, What};
-use jrql_patterns::read_query;
-use rdf_terms::Term;
+use jrql_patterns::{ReadQuery, read_query};
+use jsonld_context::JsonFault;
 use std::alloc::{AllocError, Global};
 use std::fmt::Write;
+use transcripts::parted;
 
-/// What a `query` line gives.
-pub fn given_by(alloc: Global, input: &str) -> Result<Option<String>, AllocError> {
-    let (domain, json) = cut_word(input);
+/// Puts what a `query` line gives.
+pub fn put(alloc: Global, out: &mut String, input: &str) -> Result<bool, AllocError> {
+    let (domain, json) = parted(input);
     if !is_domain(domain) {
-        return Ok(None);
+        return Ok(false);
     }
-    match read_query(alloc, json.as_bytes(), domain) {
-        Ok(read) => Ok(Some(query_text(alloc, &read.query)?)),
-        Err(fault) => Ok(Some(fault_text(alloc, &fault)?)),
-    }
+    let read = Box::new(alloc, read_query(alloc, json.as_bytes(), domain))?;
+    put_read(alloc, out, &read)
 }
 
-/// A query as a text.
-fn query_text(alloc: Global, query: &Query) -> Result<String, AllocError> {
-    let mut text = String::new(alloc);
+/// Puts a query, or the fault.
+fn put_read(
+    alloc: Global,
+    out: &mut String,
+    read: &Result<ReadQuery, JsonFault>,
+) -> Result<bool, AllocError> {
+    match read {
+        Ok(read) => put_query(alloc, out, &read.query)?,
+        Err(fault) => put_fault(out, fault)?,
+    }
+    Ok(true)
+}
+
+/// Puts a query.
+fn put_query(alloc: Global, out: &mut String, query: &Query) -> Result<(), AllocError> {
     let names = query.group.names.as_slice();
     match &query.what {
-        What::Select(select) => put_select(&mut text, select, names)?,
-        What::Describe(targets) => put_describe(&mut text, targets.as_slice(), names)?,
+        What::Select(select) => put_select(out, select, names)?,
+        What::Describe(targets) => put_describe(out, targets.as_slice(), names)?,
     }
-    put_group(alloc, &mut text, "; ", &query.group)?;
-    put_names(alloc, &mut text, &query.group)?;
-    Ok(text)
+    put_group(alloc, out, "; ", &query.group)?;
+    put_names(alloc, out, &query.group)
 }
 
 /// Puts the rows that are asked for.
@@ -41,7 +49,7 @@ fn put_select(text: &mut String, select: &Select, names: &[Text]) -> Result<(), 
     text.push_str("select")?;
     for number in select.vars.as_slice() {
         text.push(' ')?;
-        put_slot(text, &Slot::Var(*number), &Variables::OfGroup(names))?;
+        put_slot(text, &Slot::Var(*number), Variables::OfGroup(names))?;
     }
     if select.distinct {
         text.push_str(" distinct")?;
@@ -68,11 +76,8 @@ fn put_describe(text: &mut String, targets: &[Target], names: &[Text]) -> Result
 /// Puts a target.
 fn put_target(text: &mut String, target: &Target, names: &[Text]) -> Result<(), AllocError> {
     match target {
-        Target::Iri(iri) => {
-            let slot = Slot::Term(Term::Iri(iri.share()?));
-            put_slot(text, &slot, &Variables::OfGroup(names))
-        }
-        Target::Var(number) => put_slot(text, &Slot::Var(*number), &Variables::OfGroup(names)),
+        Target::Iri(iri) => put_iri(text, iri.as_str()),
+        Target::Var(number) => put_slot(text, &Slot::Var(*number), Variables::OfGroup(names)),
     }
 }
 
@@ -84,9 +89,9 @@ pub fn put_group(
     group: &Group,
 ) -> Result<(), AllocError> {
     let names = group.names.as_slice();
-    put_triples(alloc, text, mark, group.patterns.as_slice(), names)?;
+    put_marked(alloc, text, mark, group.patterns.as_slice(), names)?;
     for branch in group.branches.as_slice() {
-        put_triples(alloc, text, "; or ", branch.as_slice(), names)?;
+        put_marked(alloc, text, "; or ", branch.as_slice(), names)?;
     }
     for filter in group.filters.as_slice() {
         put_filter(text, filter, names)?;
@@ -95,17 +100,15 @@ pub fn put_group(
 }
 
 /// Puts triples behind a mark.
-pub fn put_triples(
+pub fn put_marked(
     alloc: Global,
     text: &mut String,
     mark: &str,
     triples: &[PatternTriple],
     names: &[Text],
 ) -> Result<(), AllocError> {
-    let told = triples_text(alloc, triples, &Variables::OfGroup(names))?;
     text.push_str(mark)?;
-    text.push_str(told.as_str())?;
-    Ok(())
+    put_triples(alloc, text, triples, Variables::OfGroup(names))
 }
 
 /// The key of a comparison.
@@ -123,29 +126,41 @@ fn key_of(compare: Compare) -> &'static str {
 /// Puts a filter.
 fn put_filter(text: &mut String, filter: &Filter, names: &[Text]) -> Result<(), AllocError> {
     text.push_str("; if ")?;
-    put_slot(text, &filter.left, &Variables::OfGroup(names))?;
+    put_slot(text, &filter.left, Variables::OfGroup(names))?;
     text.push(' ')?;
     text.push_str(key_of(filter.op))?;
     text.push(' ')?;
-    put_slot(text, &filter.right, &Variables::OfGroup(names))
+    put_slot(text, &filter.right, Variables::OfGroup(names))
 }
 
 /// Puts the named variables, where there are any, and how many have no name, where there are any.
 pub fn put_names(alloc: Global, text: &mut String, group: &Group) -> Result<(), AllocError> {
+    let names = sorted_names(alloc, group)?;
+    put_words(text, names.as_slice())?;
+    if group.hidden > 0 {
+        write!(text, "; hidden {}", group.hidden)?;
+    }
+    Ok(())
+}
+
+/// The named variables in the order of their bytes.
+fn sorted_names(alloc: Global, group: &Group) -> Result<Vec<String>, AllocError> {
     let mut names = Vec::new(alloc);
     for name in group.names.as_slice() {
         names.push(String::from_str(alloc, name.as_str())?)?;
     }
     names.sort()?;
+    Ok(names)
+}
+
+/// Puts names behind a mark, where there are any.
+fn put_words(text: &mut String, names: &[String]) -> Result<(), AllocError> {
     if !names.is_empty() {
         text.push_str("; names")?;
     }
-    for name in &names {
+    for name in names {
         text.push(' ')?;
         text.push_str(name.as_str())?;
-    }
-    if group.hidden > 0 {
-        write!(text, "; hidden {}", group.hidden)?;
     }
     Ok(())
 }

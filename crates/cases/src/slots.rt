@@ -20,11 +20,39 @@ pub enum Variables<'a> {
     Numbered,
 }
 
+/// Puts triples, each with a dot behind it, in the order of their bytes; `nothing` where there are none.
+pub fn put_triples(
+    alloc: Global,
+    out: &mut String,
+    triples: &[PatternTriple],
+    variables: Variables<'_>,
+) -> Result<(), AllocError> {
+    let lines = lines_of(alloc, triples, variables)?;
+    put_lines(out, lines.as_slice())
+}
+
+/// Puts lines, each with a dot behind it; `nothing` where there are none.
+fn put_lines(out: &mut String, lines: &[String]) -> Result<(), AllocError> {
+    if lines.is_empty() {
+        out.push_str("nothing")?;
+    }
+    let mut is_first = true;
+    for line in lines {
+        if !is_first {
+            out.push(' ')?;
+        }
+        is_first = false;
+        out.push_str(line.as_str())?;
+        out.push_str(" .")?;
+    }
+    Ok(())
+}
+
 /// The triples as lines without their last dot, in the order of bytes.
-pub fn lines_of(
+fn lines_of(
     alloc: Global,
     triples: &[PatternTriple],
-    variables: &Variables<'_>,
+    variables: Variables<'_>,
 ) -> Result<Vec<String>, AllocError> {
     let mut lines = Vec::new(alloc);
     for triple in triples {
@@ -38,22 +66,31 @@ pub fn lines_of(
 fn line_of(
     alloc: Global,
     triple: &PatternTriple,
-    variables: &Variables<'_>,
+    variables: Variables<'_>,
 ) -> Result<String, AllocError> {
     let mut line = String::new(alloc);
-    put_slot(&mut line, &triple.s, variables)?;
-    line.push(' ')?;
-    put_slot(&mut line, &triple.p, variables)?;
-    line.push(' ')?;
-    put_slot(&mut line, &triple.o, variables)?;
+    put_triple(&mut line, triple, variables)?;
     Ok(line)
+}
+
+/// Puts a triple, without a dot.
+fn put_triple(
+    line: &mut String,
+    triple: &PatternTriple,
+    variables: Variables<'_>,
+) -> Result<(), AllocError> {
+    put_slot(line, &triple.s, variables)?;
+    line.push(' ')?;
+    put_slot(line, &triple.p, variables)?;
+    line.push(' ')?;
+    put_slot(line, &triple.o, variables)
 }
 
 /// Puts what stands in a place at the end of a line.
 pub fn put_slot(
     line: &mut String,
     slot: &Slot,
-    variables: &Variables<'_>,
+    variables: Variables<'_>,
 ) -> Result<(), AllocError> {
     match slot {
         Slot::Term(Term::Iri(iri)) => put_iri(line, iri.as_str()),
@@ -64,7 +101,7 @@ pub fn put_slot(
 }
 
 /// Puts an IRI.
-fn put_iri(line: &mut String, iri: &str) -> Result<(), AllocError> {
+pub fn put_iri(line: &mut String, iri: &str) -> Result<(), AllocError> {
     line.push('<')?;
     line.push_str(iri)?;
     line.push('>')?;
@@ -94,7 +131,7 @@ fn put_literal(line: &mut String, literal: &Literal) -> Result<(), AllocError> {
 fn put_variable(
     line: &mut String,
     number: usize,
-    variables: &Variables<'_>,
+    variables: Variables<'_>,
 ) -> Result<(), AllocError> {
     match variables {
         Variables::Named(names) => put_named(line, number, names),

@@ -1,25 +1,14 @@
 //! How many lines there were of each kind.
 use std::alloc::{AllocError, Global};
+use transcripts::Count;
 
 /// The cases of a kind.
 #[derive(Drop)]
 pub struct Tally {
     /// The first word of its lines.
     pub word: String,
-    /// How many there were.
-    pub cases: u64,
-    /// How many of them gave something else than they had to.
-    pub differ: u64,
-}
-
-impl Tally {
-    /// Counts a case.
-    fn add(&mut self, is_so: bool) {
-        self.cases = self.cases.saturating_add(1);
-        if !is_so {
-            self.differ = self.differ.saturating_add(1);
-        }
-    }
+    /// How many there were, and how many of them gave something else than they had to.
+    pub cases: Count,
 }
 
 /// Counts a case of a word.
@@ -31,7 +20,7 @@ pub fn count(
 ) -> Result<(), AllocError> {
     for tally in tallies.iter_mut() {
         if tally.word.as_str() == word {
-            tally.add(is_so);
+            tally.cases.add(is_so);
             return Ok(());
         }
     }
@@ -45,17 +34,16 @@ fn push_first(
     word: &str,
     is_so: bool,
 ) -> Result<(), AllocError> {
-    let mut tally = Tally {
+    let mut cases = Count::new();
+    cases.add(is_so);
+    tallies.push(Tally {
         word: String::from_str(alloc, word)?,
-        cases: 0,
-        differ: 0,
-    };
-    tally.add(is_so);
-    tallies.push(tally)?;
+        cases,
+    })?;
     Ok(())
 }
 
 /// Whether no case differs.
 pub fn none_differs(tallies: &[Tally]) -> bool {
-    tallies.iter().all(|tally| tally.differ == 0)
+    tallies.iter().all(|tally| tally.cases.is_well())
 }

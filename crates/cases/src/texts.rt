@@ -2,6 +2,14 @@
 use serde_json::Value;
 use std::alloc::{AllocError, Global};
 
+/// The value of a JSON text; `None` where it is none.
+pub fn value_of(alloc: Global, json: &str) -> Result<Option<Box<Value>>, AllocError> {
+    match Value::from_str(alloc, json) {
+        Ok(value) => Ok(Some(Box::new(alloc, value)?)),
+        Err(_) => Ok(None),
+    }
+}
+
 /// The text of a JSON string; `None` where it is no JSON string, or has white space around it.
 pub fn text_of(alloc: Global, json: &str) -> Option<String> {
     if !json.starts_with('"') || !json.ends_with('"') {
@@ -24,7 +32,16 @@ pub fn pair_of(value: &Value) -> Option<(&str, &str)> {
     }
 }
 
-/// A text as a JSON string.
-pub fn quoted(alloc: Global, text: &str) -> Result<String, AllocError> {
-    Value::String(String::from_str(alloc, text)?).to_string(alloc)
+/// Puts a text as a JSON string.
+pub fn put_quoted(alloc: Global, out: &mut String, text: &str) -> Result<(), AllocError> {
+    let text = String::from_str(alloc, text)?;
+    let value = Box::new(alloc, Value::String(text))?;
+    put_value(alloc, out, &value)
+}
+
+/// Puts a JSON value.
+pub fn put_value(alloc: Global, out: &mut String, value: &Value) -> Result<(), AllocError> {
+    let written = value.to_string(alloc)?;
+    out.push_str(written.as_str())?;
+    Ok(())
 }

@@ -1,43 +1,12 @@
-//! Transcripts in which a clone stops and opens again between two lines. What it holds back is forgotten then, and nothing else.
-use std::alloc::{AllocError, Global};
+//! Where a clone stops and opens again between two lines of a transcript. What it holds back is forgotten then, and nothing else.
 
-/// What stands before each line that a run is given.
-const GIVEN: &str = "> ";
-
-/// What stands before the line that says how a run ends.
-const END: &str = "= ";
-
-/// The transcript of a text in which the clone of a number stops and opens behind so many given lines; `None` where there are fewer.
-pub fn restarted(
-    alloc: Global,
-    text: &str,
-    given: u64,
-    clone: u8,
-) -> Result<Option<String>, AllocError> {
-    let mut made = String::new(alloc);
-    let mut count = 0u64;
-    let mut done = false;
-    for line in text.split_inclusive('\n') {
-        if line.starts_with(GIVEN) || line.starts_with(END) {
-            if count == given && !done {
-                push_restart(&mut made, clone)?;
-                done = true;
-            }
-            count = count.saturating_add(1);
-        }
-        made.push_str(line)?;
+/// The lines by which the live clone of a number stops and opens, with their replies.
+pub fn restart_of(clone: u8) -> &'static str {
+    if clone == 0 {
+        "> stop 0\nstopped\n> open 0\nopened\n"
+    } else {
+        "> stop 1\nstopped\n> open 1\nopened\n"
     }
-    Ok(if done { Some(made) } else { None })
-}
-
-/// Adds the lines by which a live clone stops and opens, with their replies.
-fn push_restart(made: &mut String, clone: u8) -> Result<(), AllocError> {
-    let digit = if clone == 0 { "0" } else { "1" };
-    made.push_str("> stop ")?;
-    made.push_str(digit)?;
-    made.push_str("\nstopped\n> open ")?;
-    made.push_str(digit)?;
-    made.push_str("\nopened\n")
 }
 
 /// The places of a transcript where a clone may stop and open, as numbers of lines that were given before.
@@ -58,7 +27,7 @@ pub fn places_of(text: &str) -> Option<Places> {
         if line.starts_with("held") || line.starts_with("> stop ") || line.starts_with("> crash ") {
             return None;
         }
-        if line.starts_with(GIVEN) {
+        if line.starts_with("> ") {
             count = count.saturating_add(1);
         }
         if line.starts_with("> domain ") || line.starts_with("> single ") {

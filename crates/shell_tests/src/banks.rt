@@ -1,8 +1,8 @@
 //! What a run leaves on banks of which a call fails.
-use crate::given::run_on;
+use crate::given::{copy_of, failing_banks, folder_words, source_of};
 use disk_model::MemoryBanks;
-use mld_io::{MemorySink, Side};
-use shell_run::run::ShellFault;
+use mld_io::MemorySink;
+use shell_run::run::{ShellFault, ShellRan, shell};
 use std::alloc::{AllocError, Global};
 use std::test::Fail;
 use std::thread::Threads;
@@ -40,31 +40,54 @@ fn count_of(text: &[u8], front: &[u8]) -> usize {
 
 /// Runs the lines over banks whose call of this number fails, and shows what is there then.
 fn failed_at<R: Threads>(rt: &R, alloc: Global, call: u64) -> Result<Failed, AllocError> {
-    let mut sink = MemorySink::new(alloc, &[])?;
-    let mut banks = MemoryBanks::blank(alloc);
-    banks.fail_call(call)?;
-    let ran = run_on(rt, alloc, &["folder"], LINES, &[], banks, &mut sink)?;
-    let mut shown = MemorySink::new(alloc, &[])?;
-    let behind = MemoryBanks::with_bytes(
-        alloc,
-        ran.banks.bytes(Side::A),
-        ran.banks.bytes(Side::B),
-    )?;
-    run_on(
-        rt,
-        alloc,
-        &["folder"],
-        b"open\nshow\n",
-        &[],
-        behind,
-        &mut shown,
-    )?;
-    Ok(Failed {
-        fault: ran.fault,
-        created: count_of(sink.bytes(), b"created") == 1,
-        answered: count_of(sink.bytes(), b"did "),
-        there: count_of(shown.bytes(), b"r."),
-    })
+    let mut sink = Box::new(alloc, MemorySink::new(alloc, &[])?)?;
+    let ran = failing_run(rt, alloc, call, &mut sink)?;
+    let there = shown_on(rt, alloc, &ran.banks)?;
+    Ok(failed(ran.fault, sink.bytes(), there))
+}
+
+/// How a run ended that ended so, wrote this, and left so many triples.
+fn failed(fault: Option<ShellFault>, text: &[u8], there: usize) -> Failed {
+    Failed {
+        fault,
+        created: count_of(text, b"created") == 1,
+        answered: count_of(text, b"did "),
+        there,
+    }
+}
+
+/// Runs the lines over banks whose call of this number fails.
+fn failing_run<R: Threads>(
+    rt: &R,
+    alloc: Global,
+    call: u64,
+    sink: &mut MemorySink,
+) -> Result<Box<ShellRan<MemoryBanks>>, AllocError> {
+    let words = folder_words(alloc)?;
+    let mut source = source_of(alloc, LINES)?;
+    let banks = failing_banks(alloc, call)?;
+    Ok(Box::new(alloc, shell(rt, alloc, &words, &mut *source, sink, banks))?)
+}
+
+/// How many triples a clone has that opens on what these banks keep.
+fn shown_on<R: Threads>(rt: &R, alloc: Global, banks: &MemoryBanks) -> Result<usize, AllocError> {
+    let mut sink = Box::new(alloc, MemorySink::new(alloc, &[])?)?;
+    show(rt, alloc, banks, &mut sink)?;
+    Ok(count_of(sink.bytes(), b"r."))
+}
+
+/// Opens the clone that these banks keep, and shows what it has.
+fn show<R: Threads>(
+    rt: &R,
+    alloc: Global,
+    banks: &MemoryBanks,
+    sink: &mut MemorySink,
+) -> Result<(), AllocError> {
+    let words = folder_words(alloc)?;
+    let mut source = source_of(alloc, b"open\nshow\n")?;
+    let banks = copy_of(alloc, banks)?;
+    Box::new(alloc, shell(rt, alloc, &words, &mut *source, sink, banks))?;
+    Ok(())
 }
 
 /// The run ended by the fault of its banks, and has what was answered and at most one update more; or no call failed, and it has all.

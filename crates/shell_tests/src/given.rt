@@ -1,27 +1,28 @@
-//! What a shell is given, and how it is run on banks in memory.
+//! What a shell is given, and the banks that it runs on.
 use disk_model::MemoryBanks;
-use mld_io::{MemorySink, MemorySource};
-use shell_run::run::{ShellRan, shell};
+use mld_io::{MemorySource, Side};
 use std::alloc::{AllocError, Global};
-use std::thread::Threads;
 
-/// The line that makes a clone.
-pub const CREATE: &[u8] = b"create 00000000-0000-4000-8000-000000000007 d\n";
+/// The words that name a folder.
+pub fn folder_words(alloc: Global) -> Result<Box<Vec<String>>, AllocError> {
+    let mut words = Vec::new(alloc);
+    words.push(String::from_str(alloc, "folder")?)?;
+    Ok(Box::new(alloc, words)?)
+}
 
-/// Runs a shell that is given these words and these lines, of which these reads fail, over banks and into a sink.
-pub fn run_on<R: Threads>(
-    rt: &R,
-    alloc: Global,
-    words: &[&str],
-    lines: &[u8],
-    reads: &[u64],
-    banks: MemoryBanks,
-    sink: &mut MemorySink,
-) -> Result<ShellRan<MemoryBanks>, AllocError> {
-    let mut texts = Vec::new(alloc);
-    for word in words {
-        texts.push(String::from_str(alloc, word)?)?;
-    }
-    let mut source = MemorySource::new(alloc, lines, reads)?;
-    Ok(shell(rt, alloc, &texts, &mut source, sink, banks))
+/// What gives these lines.
+pub fn source_of(alloc: Global, lines: &[u8]) -> Result<Box<MemorySource>, AllocError> {
+    Ok(Box::new(alloc, MemorySource::new(alloc, lines, &[])?)?)
+}
+
+/// Blank banks of which the call of this number fails.
+pub fn failing_banks(alloc: Global, call: u64) -> Result<MemoryBanks, AllocError> {
+    let mut banks = MemoryBanks::blank(alloc);
+    banks.fail_call(call)?;
+    Ok(banks)
+}
+
+/// Banks with the bytes of these, of which no call fails.
+pub fn copy_of(alloc: Global, banks: &MemoryBanks) -> Result<MemoryBanks, AllocError> {
+    MemoryBanks::with_bytes(alloc, banks.bytes(Side::A), banks.bytes(Side::B))
 }

@@ -1,9 +1,7 @@
-//! Tests of runs of the shell: what ends them, and what they leave on banks whose calls fail.
+//! Tests of runs of the shell: what they leave on banks of which a call fails.
 #![tactic(auto)]
 
 #[cfg(test)]
 mod banks;
 #[cfg(test)]
 mod given;
-#[cfg(test)]
-mod runs;

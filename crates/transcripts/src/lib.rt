@@ -1,0 +1,25 @@
+//! What programs share that run lines of data and compare what comes with what the data says: the files of a folder, transcripts, bytes
+//! as hexadecimal digits, counts of runs, and how a difference is told.
+#![tactic(auto)]
+
+mod comparing;
+mod counts;
+mod ends;
+mod files;
+mod hexadecimal;
+mod marks;
+mod reading;
+mod restarts;
+mod sides;
+mod telling;
+
+pub use comparing::{Difference, first_difference};
+pub use counts::Count;
+pub use ends::End;
+pub use files::names_of_files;
+pub use hexadecimal::{first_bytes, is_hexadecimal, put_hexadecimal};
+pub use marks::{parted, uncommented};
+pub use reading::{Transcript, TranscriptFault, put_given, read_transcript};
+pub use restarts::{count_given, is_stop, with_lines};
+pub use sides::{has_side, is_side, side_bytes};
+pub use telling::{has_end, has_text};
