@@ -1,5 +1,5 @@
 //! What a run leaves on banks of which a call fails.
-use crate::given::{copy_of, failing_banks, folder_words, source_of};
+use crate::shell_given::{copy_of, failing_banks, folder_words, source_of};
 use disk_model::MemoryBanks;
 use mld_io::MemorySink;
 use shell_run::run::{ShellFault, ShellRan, shell};
