@@ -11,7 +11,7 @@ use std::alloc::Global;
 use std::thread::Threads;
 
 /// What comes of a call behind steps, on a device that is armed as the row says: how the call ends, and what is mounted then.
-pub fn crashed<R: Threads>(
+pub fn crash_call<R: Threads>(
     rt: &R,
     alloc: Global,
     steps: &str,

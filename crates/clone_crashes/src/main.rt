@@ -9,7 +9,7 @@ mod messages;
 mod steps;
 mod telling;
 
-use crashes::crashed;
+use crashes::crash_call;
 use faults::Tried;
 use lines::{Line, Row, line_of};
 use making::made_text;
@@ -107,7 +107,7 @@ fn leaves_what_is_wanted<R: Print + Threads + Alloc<A = Global>>(
         None => "",
     };
     let wanted = format!(in rt.alloc(); "{}, {left}", row.ended)?;
-    let came = crashed(rt, rt.alloc(), table.made, table.call, row);
+    let came = crash_call(rt, rt.alloc(), table.made, table.call, row);
     let got = text_of(rt.alloc(), came)?;
     if wanted.as_str() == got.as_str() {
         return Ok(true);

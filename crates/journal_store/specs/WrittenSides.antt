@@ -4,7 +4,7 @@ use Rattle.mld_io.specs.Arm.{Arm}
 use Rattle.mld_io.specs.Disk.{Call, Log, Sides, bytes_of, other_side, seen, IsSettled}
 use Rattle.mld_io.specs.declared.banks.Side.{Side}
 use Rattle.journal_sides.specs.Format.{closed_gate}
-use Rattle.journal_sides.specs.Records.{RecordValue, record_bytes}
+use Rattle.journal_sides.specs.RecordBytes.{RecordValue, record_bytes}
 use Rattle.journal_sides.specs.SideReadings.{IsClosed, IsOpen, Volume, read_side}
 use Rattle.journal_sides.specs.StoredVolumes.{EndsAt}
 use Rattle.journal_sides.specs.WrittenRecords.{with_record}

@@ -27,7 +27,7 @@ use Rattle.schedule_model.specs.declared.Command.TheVariants.{Add, Remove, Deliv
 use Rattle.schedule_model.specs.Schedule.{IsNothing, empty, comment, Setup, SpellsSetup, SpellsCommand}
 use Rattle.schedule_model.specs.Runs.{Stage, Waiting, SetUp, Running, says_nothing, sets_up, sets_property, commands, Acts, Runs, SpellsNone, IsBad, IsBadRest, bad_line, no_domain, BadLine, Verdict}
 use Rattle.schedule_generator.specs.Generated.{lines_from, generated}
-use Rattle.schedule_generator.specs.DrawnCommands.{numbered_triple, IsDrawn, adds, removes, delivers, asks, compacts, truncates, compares}
+use Rattle.schedule_generator.specs.DrawnCommands.{drawn_triple, IsDrawn, adds, removes, delivers, asks, compacts, truncates, compares}
 use Rattle.schedule_generator.proofs.DrawnLines.{all_drawn}
 
 -- ---- numbers in terms
@@ -108,7 +108,7 @@ module _ (subject predicate text : ℕ) (s : subject < 100) (p : predicate < 100
       (then_number (codes "http://gen.example/s") subject refl (omega (arith, s))) (then_number (codes "http://gen.example/#p") predicate refl (omega (arith, p)))
       (plain_utf8 (decimal text) (then_number [] text refl (omega (arith, t))))
 
-  triple_text_is : triple_text (triple_value subject predicate text) ≡ numbered_triple subject predicate text
+  triple_text_is : triple_text (triple_value subject predicate text) ≡ drawn_triple subject predicate text
   unfolding triple_text term_text
   triple_text_is =
       rw (number_same text (omega (arith, t)), xsd_string_unwritten)
@@ -120,7 +120,7 @@ a_clone : (clone : ℕ) → clone < 4 → clone < 32
 a_clone clone h = omega (arith, h)
 
 changed_spells : (subject predicate text : ℕ) → subject < 50 → predicate < 5 → text < 20
-    → (triple : Triple) × IsUtf8 (numbered_triple subject predicate text) × SpellsTriple (numbered_triple subject predicate text) triple × IsTripleWithin triple
+    → (triple : Triple) × IsUtf8 (drawn_triple subject predicate text) × SpellsTriple (drawn_triple subject predicate text) triple × IsTripleWithin triple
 changed_spells subject predicate text s p t =
     let written = triple_written subject predicate text (omega (arith, s)) (omega (arith, p)) (omega (arith, t)) in
     let same = triple_text_is subject predicate text (omega (arith, s)) (omega (arith, p)) (omega (arith, t)) in
@@ -129,10 +129,10 @@ changed_spells subject predicate text s p t =
 pub drawn_spells : (domain line : List ℕ) → IsDrawn line → (command : Command) × SpellsCommand domain line command
 drawn_spells domain line (adds clone subject predicate text c s p t is) =
     let spelled = changed_spells subject predicate text s p t in
-    (Add clone spelled.0, (numbered_triple subject predicate text, is, a_clone clone c, spelled.1, spelled.2, spelled.3))
+    (Add clone spelled.0, (drawn_triple subject predicate text, is, a_clone clone c, spelled.1, spelled.2, spelled.3))
 drawn_spells domain line (removes clone subject predicate text c s p t is) =
     let spelled = changed_spells subject predicate text s p t in
-    (Remove clone spelled.0, (numbered_triple subject predicate text, is, a_clone clone c, spelled.1, spelled.2, spelled.3))
+    (Remove clone spelled.0, (drawn_triple subject predicate text, is, a_clone clone c, spelled.1, spelled.2, spelled.3))
 drawn_spells domain line (delivers message clone m c is) = (Deliver message clone, (is, m, a_clone clone c))
 drawn_spells domain line (asks clone c is) = (Ask clone, (is, a_clone clone c))
 drawn_spells domain line (compacts clone c is) = (Compact clone, (is, a_clone clone c))

@@ -17,7 +17,7 @@ use Rattle.schedule_text.specs.declared.setups.SetupLine.TheVariants as lines
 use Rattle.schedule_model.specs.Schedule.{Setup as ModelSetup, SpellsSetup, SetsProperty, SpellsCommand, IsSetup, single_limit, with_property}
 use Rattle.schedule_text.specs.ReadLines.{setup_of, SetupIs, CommandIs, IsBadCommand}
 use Rattle.net_world.specs.Founding.{StandsFounded}
-use Rattle.net_world.specs.SettledWorlds.{AllImagesStand, AreBlank, Settles, SettlesFounded}
+use Rattle.net_world.specs.SettledWorlds.{AllImagesStand, AreBlank, SettlesWorld, SettlesFounded}
 use Rattle.world_commands.specs.WorldBanks.{BankedWorld, StandsOnBanks, banks_of}
 use Rattle.mld_replay.specs.BankFaults.{ComeBackWell, all_left}
 use Rattle.mld_replay.specs.Stops.{StopBringsBack}
@@ -67,7 +67,7 @@ waiting_count {B = B} log state blanks is stands = let P : RunningStage B → Ty
 
 -- it is a command
 pub commanded : {B : Type 0} (log : B → Option Log) (stage : Stage) (line : List ℕ) (command : Command) (old new : BankedWorld B) (text : List ℕ)
-    → Stepped log old command new [] text → Settles log old command new → (model : World) → SpellsCommand model.domain line command → IsWorldOf stage model → StandsOnBanks log old model → IsSound model
+    → Stepped log old command new [] text → SettlesWorld log old command new → (model : World) → SpellsCommand model.domain line command → IsWorldOf stage model → StandsOnBanks log old model → IsSound model
     → AllImagesStand log model (banks_of old) → ActsWell log stage line text (stages.Running new)
 commanded log stage line command old new text stepped settles model spells founds stands sound images =
     let follows : FollowsOnBanks log model command stepped.reply new = stepped.follows model stands sound in
@@ -99,20 +99,20 @@ spells_founded (Running now) model line command founds spells = subst (λ (world
 
 -- it is a command, and the clones were just founded
 pub started : {B : Type 0} (log : B → Option Log) (stage : Stage) (line : List ℕ) (command : Command) (old new : BankedWorld B) (text : List ℕ)
-    → SpellsAt stage line command → Stepped log old command new [] text → Settles log old command new → EndsWell log stage (stages.Running old) → ActsWell log stage line text (stages.Running new)
+    → SpellsAt stage line command → Stepped log old command new [] text → SettlesWorld log old command new → EndsWell log stage (stages.Running old) → ActsWell log stage line text (stages.Running new)
 started log stage line command old new text spells stepped settles founded =
     commanded log stage line command old new text stepped settles founded.world (spells_founded stage founded.world line command founded.founds spells)
     founded.founds founded.stands.0 founded.stands.1 founded.stands.2
 
 -- so it is, whatever its step answered
 pub started_all : {B : Type 0} (log : B → Option Log) (result : Result (Unit {0}) LineStop) (state : RunningStage B) (command : Command) (old new : BankedWorld B) (text : List ℕ)
-    → OnOk result (Stepped log old command new [] text) → OnOk result (Settles log old command new) → ((stage : Stage) → StageStands log state stage → EndsWell log stage (stages.Running old))
+    → OnOk result (Stepped log old command new [] text) → OnOk result (SettlesWorld log old command new) → ((stage : Stage) → StageStands log state stage → EndsWell log stage (stages.Running old))
     → OnOk result ((stage : Stage) (line : List ℕ) → StageStands log state stage → SpellsAt stage line command → ActsWell log stage line text (stages.Running new))
 started_all log (Ok done) state command old new text stepped settles founded = λ stage line stands spells. started log stage line command old new text spells stepped settles (founded stage stands)
 started_all log (Err stop) state command old new text stepped settles founded = tt
 
 pub commanded_all : {B : Type 0} (log : B → Option Log) (result : Result (Unit {0}) LineStop) (domain line : List ℕ) (command : Command) (old new : BankedWorld B) (text : List ℕ)
-    → domain ≡ old.domain → SpellsCommand domain line command → OnOk result (Stepped log old command new [] text) → OnOk result (Settles log old command new)
+    → domain ≡ old.domain → SpellsCommand domain line command → OnOk result (Stepped log old command new [] text) → OnOk result (SettlesWorld log old command new)
     → OnOk result ((model : World) → StageStands log (stages.Running old) (Running model) → ActsWell log (Running model) line text (stages.Running new))
 commanded_all log (Ok done) domain line command old new text same spells stepped settles = λ model stands.
     commanded log (Running model) line command old new text stepped settles model (subst (λ (d : List ℕ). SpellsCommand d line command) (same ∙ stands.0.memory.domain) spells) refl stands.0 stands.1 stands.2

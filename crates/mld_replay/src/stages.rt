@@ -10,7 +10,7 @@ ghost use Rattle.schedule_model.specs.WorldStep.{step_limit};
 ghost use Rattle.mld_replay.specs.BankFaults.{ComeBackWell};
 ghost use Rattle.mld_replay.specs.BanksLeft.{IsDueAt};
 ghost use Rattle.mld_replay.specs.Stops.{StopBringsBack, StopLeaves, StopLeavesAtLine, LeavesAtStop};
-ghost use Rattle.net_world.specs.SettledWorlds.{Settles};
+ghost use Rattle.net_world.specs.SettledWorlds.{SettlesWorld};
 ghost use Rattle.mld_replay.specs.Stages.{StageStands, SpellsAt, IsStandingStage, IsSetUpState, GetsProperty, GetsNone, IsWorldStop, LeavesRefusedCommand, steps_of_stage, banks_of_stage, ActsWell, EndsWell, ActsFrom, EndsFrom, IsBadFrom, OnlyWaits};
 ghost use Rattle.mld_replay.specs.declared.stages.Stage.TheVariants as stages;
 
@@ -308,7 +308,7 @@ fn step<R: Threads, B: CrashBanks>(
     ensures steps { OnOk result (world.new.steps ≡ world.old.steps + 1) }
     ensures well { OnOk result (ComeBackWell B.meter (banks_of world.old) (banks_of world.new)) }
     ensures back { IfErr result (StopBringsBack B.meter (banks_of world.old) (banks_of world.new)) }
-    ensures settled { OnOk result (Settles B.log world.old command.now world.new) }
+    ensures settled { OnOk result (SettlesWorld B.log world.old command.now world.new) }
     ensures left { OnErr result (LeavesRefusedCommand B.log world.old command.now (banks_of world.new)) }
     ensures other { IfErr result IsWorldStop }
 {

@@ -32,7 +32,7 @@ use Rattle.crash_laws.specs.Deeds.{CarriedDeed}
 use Rattle.crash_laws.proofs.CrashedLines.{opens_nothing, opening_of, caught_crash, caught_opening}
 use Rattle.crash_laws.proofs.Generations.{image_up_to}
 use Rattle.crash_laws.proofs.OtherDeeds.{opened_deed}
-use Rattle.world_commands.specs.LeftBanks.{Doing, LeavesState, leaves_same, leaves_live, leaves_made, leaves_opened}
+use Rattle.world_commands.specs.LeftBanks.{WorkOnBanks, LeavesState, leaves_same, leaves_live, leaves_made, leaves_opened}
 use Rattle.world_commands.specs.States.{HasState}
 use Rattle.world_commands.specs.WorldBanks.{BankedState, BankedWorld, in_memory, banks_of_state, memory_of, IsDownOn, StandsOnBanks, HadNoFault}
 use Rattle.world_commands.proofs.BankLemmas.{memory_at}
@@ -256,7 +256,7 @@ module _ {B : Type 0} (log : B → Option Log) (meter : B → Meter) (tells : (b
       }
 
 -- a call that was caught isn't a fault of the device's own
-pub caught_quiet : {B : Type 0} (log : B → Option Log) (meter : B → Meter) (doing : Doing) (call : ℕ) (leave : Leave) (was now : BankedState B) (Whole : Type 0)
+pub caught_quiet : {B : Type 0} (log : B → Option Log) (meter : B → Meter) (doing : WorkOnBanks) (call : ℕ) (leave : Leave) (was now : BankedState B) (Whole : Type 0)
     → (meter (banks_of_state was)).arm ≡ Armed call leave → (meter (banks_of_state now)).arm ≡ Caught → LeavesState log meter doing Whole was now
     → HadNoFault (meter (banks_of_state was)) (meter (banks_of_state now))
 caught_quiet log meter doing call leave was now Whole arm caught (leaves_same logs arms idle) = absurd (uncaught call leave (sym arm ∙ sym arms ∙ caught))

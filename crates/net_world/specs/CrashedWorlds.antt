@@ -18,7 +18,7 @@ use Rattle.world_commands.specs.declared.faults.WorldFault.TheVariants as faults
 use Rattle.world_commands.specs.declared.keeping.Keeping.TheVariants as keepings
 use Rattle.world_commands.specs.declared.parts.Parts.{Parts}
 use Rattle.world_commands.specs.Doings.{doing_open, doing_update, doing_deliver, doing_keep}
-use Rattle.world_commands.specs.LeftBanks.{Doing}
+use Rattle.world_commands.specs.LeftBanks.{WorkOnBanks}
 use Rattle.world_commands.specs.States.{Becomes}
 use Rattle.world_commands.specs.WorldBanks.{BankedState, banks_of_state}
 use Rattle.world_commands.specs.WorldEnds.{KeepsState}
@@ -74,7 +74,7 @@ pub record CutsPower {B : Type 0} (log : B → Option Log) (meter : B → Meter)
 -- ---- the command
 
 -- what a clone may do on its banks for the command of a crash line
-abbrev pub doing_task : List Message → CrashTask → Doing
+abbrev pub doing_task : List Message → CrashTask → WorkOnBanks
 doing_task messages (tasks.Add number triple) = doing_update (insertion_of triple)
 doing_task messages (tasks.Remove number triple) = doing_update (deletion_of triple)
 doing_task messages (tasks.Update number plan) = doing_update plan

@@ -23,8 +23,8 @@ abbrev pub AreBlank : {B : Type 0} → (B → Option Log) → List B → Type 0
 AreBlank {B = B} log banks = (number : ℕ) (one : B) → slice_get banks number ≡ Some one → IsBlankLog (log one)
 
 -- where all banks stood so for the world before a command, they stand so for the world behind it
-abbrev pub Settles : {B : Type 0} → (B → Option Log) → BankedWorld B → Command → BankedWorld B → Type 0
-Settles log old command new = (world : World) → StandsOnBanks log old world → IsSound world → AllImagesStand log world (banks_of old)
+abbrev pub SettlesWorld : {B : Type 0} → (B → Option Log) → BankedWorld B → Command → BankedWorld B → Type 0
+SettlesWorld log old command new = (world : World) → StandsOnBanks log old world → IsSound world → AllImagesStand log world (banks_of old)
     → (reply : Reply) (next : World) → Step world command reply next → IsSound next → StandsOnBanks log new next → AllImagesStand log next (banks_of new)
 
 -- they stand so for a world that was founded, where the banks were blank

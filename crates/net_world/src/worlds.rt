@@ -51,7 +51,7 @@ impl<B: CrashBanks> World<B> {
     ghost use Rattle.net_world.specs.FoundingLeft.{LeavesFounded};
     ghost use Rattle.net_world.specs.CrashedWorlds.{AreUnarmed};
     ghost use Rattle.net_world.specs.LeftBehind.{LeavesBanks};
-    ghost use Rattle.net_world.specs.SettledWorlds.{Settles, SettlesFounded};
+    ghost use Rattle.net_world.specs.SettledWorlds.{SettlesWorld, SettlesFounded};
     ghost use Rattle.world_commands.specs.Worlds.{IsStanding, Stepped};
     ghost use Rattle.world_summaries.specs.WorldSummary.{Tells};
 
@@ -154,7 +154,7 @@ impl<B: CrashBanks> World<B> {
         ensures faults { HasFaultsFor (number_of_clone command.now) B.meter
             (banks_of self.old) (banks_of self.new) result }
         ensures left { LeavesBanks B.log self.old command.now (banks_of self.new) }
-        ensures settled { OnOk result (Settles B.log self.old command.now self.new) }
+        ensures settled { OnOk result (SettlesWorld B.log self.old command.now self.new) }
         ensures others { OthersStay (number_of_clone command.now) (banks_of self.old) (banks_of self.new) }
         ensures out { OnErr result (out.new.items ≡ out.old.items) }
     {

@@ -4,16 +4,16 @@ use Rattle.mld_io.specs.Disk.{Log, Call, Sides, grown_by, AtEachMoment, LeavesMe
 use Rattle.mld_io.proofs.DiskLaws.{AtEachMoment-weaken, LeavesMeanwhile-then}
 use Rattle.clone_banks.specs.KeptSteps.{KeptStep}
 use Rattle.journal_store.specs.Closing.{StaysTold}
-use Rattle.shell_model.specs.Shells.{Found, found_after_step, found_after}
-use Rattle.shell_session.specs.Lines.{ImagesFind, FindsFront, LeavesFront}
+use Rattle.shell_model.specs.Shells.{FoundOnBanks, found_after_step, found_after}
+use Rattle.shell_session.specs.SessionLines.{ImagesFind, FindsFront, LeavesFront}
 
 -- what comes of some durable steps and then of others
-pub found_both : (first later : List KeptStep) (found : Found) → found_after (first ++ later) found ≡ found_after later (found_after first found)
+pub found_both : (first later : List KeptStep) (found : FoundOnBanks) → found_after (first ++ later) found ≡ found_after later (found_after first found)
 found_both [] later found = refl
 found_both (step ∷ first) later found = found_both first later (found_after_step step found)
 
 -- nothing was done yet
-pub no_steps : (found : Found) (old : Option Log) → LeavesFront found [] old old
+pub no_steps : (found : FoundOnBanks) (old : Option Log) → LeavesFront found [] old old
 no_steps found old log is images = record {
   added = [];
   now_is = is;
@@ -21,7 +21,7 @@ no_steps found old log is images = record {
 }
 
 -- a front of some steps is one of more
-front_longer : (found : Found) (steps more : List KeptStep) (image : Sides) → FindsFront found steps image → FindsFront found (steps ++ more) image
+front_longer : (found : FoundOnBanks) (steps more : List KeptStep) (image : Sides) → FindsFront found steps image → FindsFront found (steps ++ more) image
 front_longer found steps more image finds = record {
   front = finds.front;
   rest = finds.rest ++ more;
@@ -30,7 +30,7 @@ front_longer found steps more image finds = record {
 }
 
 -- and a front of more steps, behind all of some, is one of both
-front_behind : (found middle : Found) (steps more : List KeptStep) (image : Sides) → middle ≡ found_after steps found → FindsFront middle more image
+front_behind : (found middle : FoundOnBanks) (steps more : List KeptStep) (image : Sides) → middle ≡ found_after steps found → FindsFront middle more image
     → FindsFront found (steps ++ more) image
 front_behind found middle steps more image same finds = record {
   front = steps ++ finds.front;
@@ -40,7 +40,7 @@ front_behind found middle steps more image same finds = record {
 }
 
 -- the moments of some steps, and then of more
-pub moments_then : (found middle : Found) (steps more : List KeptStep) (old now after : Option Log) → middle ≡ found_after steps found
+pub moments_then : (found middle : FoundOnBanks) (steps more : List KeptStep) (old now after : Option Log) → middle ≡ found_after steps found
     → LeavesFront found steps old now → (ImagesFind found old → ImagesFind middle now) → LeavesFront middle more now after → LeavesFront found (steps ++ more) old after
 moments_then found middle steps more old now after same first settled second log told images =
     let one : LeavesMeanwhile log now (λ calls image. FindsFront found steps image) = first log told images in

@@ -14,20 +14,20 @@ use Rattle.wire_frames.specs.declared.assembling.Assembled.TheVariants.{Waiting,
 use Rattle.wire_frames.specs.declared.kinds.Frame.{Frame}
 use Rattle.wire_frames.specs.declared.kinds.Frame.TheVariants as kinds
 use Rattle.wire_frames.specs.Frames.{FramesValue, frames_bytes}
-use Rattle.wire_frames.specs.Parts.{AssemblyValue, is_too_long, next_number, reply_parts}
+use Rattle.wire_frames.specs.MessageParts.{AssemblyValue, is_too_long, next_number, reply_parts}
 use Rattle.node_exchange.specs.declared.connections.Connection.{Connection}
 use Rattle.node_exchange.specs.declared.connections.Role.{Role}
 use Rattle.node_exchange.specs.declared.connections.Role.TheVariants as role
-use Rattle.node_exchange.specs.Connections.{AreNumbered, connection_of, without, placed, as_client, as_peer, is_peer}
-use Rattle.node_exchange.specs.Exchanges.{ExchangeValue, saying, refusing_at, refusing, telling_at, telling, telling_each, telling_peers, telling_peers_each, after_sending, left_of_peers, listed, holding, halting}
+use Rattle.node_exchange.specs.Connections.{AreNumbered, connection_of, without, connections_with, as_client, as_peer, is_peer}
+use Rattle.node_exchange.specs.Exchanges.{ExchangeValue, saying, refusing_at, refusing, telling_at, telling, telling_each, telling_peers, telling_peers_each, after_sending, left_of_peers, connections_left, holding, halting}
 use Rattle.node_requests.specs.declared.requests.Request.{Request}
 use Rattle.node_requests.specs.declared.requests.Request.TheVariants as requests
 use Rattle.node_model.specs.Keepers.{Keeper, Lives, Asks, carried, question_of}
 use Rattle.node_model.specs.Requests.{AnswersRequest, TakesRequest}
-use Rattle.node_model.specs.Messages.{Receives, ReceivesAsking, joins, ignores, sending_for}
-use Rattle.node_model.specs.FrameSteps.{Greets, of_other_format, of_other_domain, of_own_id, of_peer, TakesPart, waits, is_whole, is_bad, with_parts, IsOutOfPlace, FrameStepAs, FrameStep, FramesStep, no_more, are_dropped, and_then}
+use Rattle.node_model.specs.NodeMessages.{Receives, AskerReceives, joins, ignores, sending_for}
+use Rattle.node_model.specs.FrameSteps.{Greets, of_other_format, of_other_domain, of_own_id, of_peer, ReceivesPart, waits, is_whole, is_bad, with_parts, IsOutOfPlace, FrameStepAs, FrameStep, FramesStep, no_more, are_dropped, and_then}
 use Rattle.node_core.specs.Nodes.{IsGood, IsGoodRole}
-use Rattle.node_core.specs.Steps.{IsHeld, GoesOn}
+use Rattle.node_core.specs.Steps.{IsHeld, ExchangeGoesOn}
 
 -- ---- lists of connections
 
@@ -41,7 +41,7 @@ either_way P true xs ys p q = p
 either_way P false xs ys p q = q
 
 maybe_listed : (P : Connection → Type 0) (b : Bool) (one : Connection) (more : List Connection) → P one → AllByRecursion P more
-    → AllByRecursion P (listed (if b then None else Some one) ++ more)
+    → AllByRecursion P (connections_left (if b then None else Some one) ++ more)
 maybe_listed P true one more p all = all
 maybe_listed P false one more p all = (p, all)
 
@@ -51,7 +51,7 @@ all_left : (P : Connection → Type 0) → ((one : Connection) (n : ℕ) → P o
 all_left P kept message [] all = tt
 all_left P kept message (one ∷ more) all =
     let rest : AllByRecursion P (left_of_peers message more) = all_left P kept message more all.1 in
-    either_way (AllByRecursion P) (is_peer one.role) (listed (after_sending message one) ++ left_of_peers message more) (one ∷ left_of_peers message more)
+    either_way (AllByRecursion P) (is_peer one.role) (connections_left (after_sending message one) ++ left_of_peers message more) (one ∷ left_of_peers message more)
     (maybe_listed P (is_too_long message) (record one { sends = next_number one.sends }) (left_of_peers message more) (kept one (next_number one.sends) all.0) rest)
     (all.0, rest)
 
@@ -83,7 +83,7 @@ ascend_out [] are = tt
 ascend_out (one ∷ []) are = tt
 ascend_out (one ∷ next ∷ more) are = (are.0.0, ascend_out (next ∷ more) are.1)
 
-maybe_ascend : (b : Bool) (one : Connection) (more : List Connection) → IsBelow one.number more → Ascend more → Ascend (listed (if b then None else Some one) ++ more)
+maybe_ascend : (b : Bool) (one : Connection) (more : List Connection) → IsBelow one.number more → Ascend more → Ascend (connections_left (if b then None else Some one) ++ more)
 maybe_ascend true one more below rest = rest
 maybe_ascend false one more below rest = (below, rest)
 
@@ -93,7 +93,7 @@ ascend_left message (one ∷ more) are =
     let rest : Ascend (left_of_peers message more) = ascend_left message more are.1 in
     let below : IsBelow one.number (left_of_peers message more) =
     all_left (λ other. one.number < other.number) (λ other n h. h) message more are.0 in
-    either_way Ascend (is_peer one.role) (listed (after_sending message one) ++ left_of_peers message more) (one ∷ left_of_peers message more)
+    either_way Ascend (is_peer one.role) (connections_left (after_sending message one) ++ left_of_peers message more) (one ∷ left_of_peers message more)
     (maybe_ascend (is_too_long message) (record one { sends = next_number one.sends }) (left_of_peers message more) below rest)
     (below, rest)
 
@@ -160,32 +160,32 @@ good_found number (first ∷ more) one all found = elim (eqb_tells first.number 
     some_same : (a b : Connection) → ◌≡◌ {A = Option Connection} (Some a) (Some b) → a ≡ b
     some_same a b h = cc
 
-pub good_placed : (one : Connection) (xs : List Connection) → IsGood one → AllByRecursion IsGood xs → AllByRecursion IsGood (placed one xs)
+pub good_placed : (one : Connection) (xs : List Connection) → IsGood one → AllByRecursion IsGood xs → AllByRecursion IsGood (connections_with one xs)
 good_placed one [] good all = (good, tt)
 good_placed one (next ∷ more) good all =
-    either_way (AllByRecursion IsGood) _ (next ∷ placed one more) (one ∷ next ∷ more) (all.0, good_placed one more good all.1) (good, all)
+    either_way (AllByRecursion IsGood) _ (next ∷ connections_with one more) (one ∷ next ∷ more) (all.0, good_placed one more good all.1) (good, all)
 
 -- ---- an exchange
 
 module _ (number : ℕ) (reader : FramesValue) where
-  pub holding_well : (exchange : ExchangeValue) (one : Connection) → IsHeld number reader (Some one) → GoesOn number reader exchange
-      → GoesOn number reader (holding one exchange)
+  pub holding_well : (exchange : ExchangeValue) (one : Connection) → IsHeld number reader (Some one) → ExchangeGoesOn number reader exchange
+      → ExchangeGoesOn number reader (holding one exchange)
   holding_well exchange one held well = record { held = held; good = well.good; numbered = well.numbered; apart = well.apart }
 
-  refusing_at_well : (code : ℕ) (hand : Option Connection) (exchange : ExchangeValue) → GoesOn number reader exchange
-      → GoesOn number reader (refusing_at code hand exchange)
+  refusing_at_well : (code : ℕ) (hand : Option Connection) (exchange : ExchangeValue) → ExchangeGoesOn number reader exchange
+      → ExchangeGoesOn number reader (refusing_at code hand exchange)
   refusing_at_well code None exchange well = well
   refusing_at_well code (Some one) exchange well = record { held = tt; good = well.good; numbered = well.numbered; apart = well.apart }
 
-  pub refusing_well : (code : ℕ) (exchange : ExchangeValue) → GoesOn number reader exchange → GoesOn number reader (refusing code exchange)
+  pub refusing_well : (code : ℕ) (exchange : ExchangeValue) → ExchangeGoesOn number reader exchange → ExchangeGoesOn number reader (refusing code exchange)
   refusing_well code exchange well = refusing_at_well code exchange.at_hand exchange well
 
   sent_held : (b : Bool) (one : Connection) (n : ℕ) → IsHeld number reader (Some one) → IsHeld number reader (if b then None else Some (record one { sends = n }))
   sent_held true one n held = tt
   sent_held false one n held = held
 
-  telling_at_well : (message : MessageValue) (hand : Option Connection) (exchange : ExchangeValue) → IsHeld number reader hand → GoesOn number reader exchange
-      → GoesOn number reader (telling_at message hand exchange)
+  telling_at_well : (message : MessageValue) (hand : Option Connection) (exchange : ExchangeValue) → IsHeld number reader hand → ExchangeGoesOn number reader exchange
+      → ExchangeGoesOn number reader (telling_at message hand exchange)
   telling_at_well message None exchange held well = well
   telling_at_well message (Some one) exchange held well = record {
     held = sent_held (is_too_long message) one (next_number one.sends) held;
@@ -194,14 +194,14 @@ module _ (number : ℕ) (reader : FramesValue) where
     apart = well.apart;
   }
 
-  pub telling_well : (message : MessageValue) (exchange : ExchangeValue) → GoesOn number reader exchange → GoesOn number reader (telling message exchange)
+  pub telling_well : (message : MessageValue) (exchange : ExchangeValue) → ExchangeGoesOn number reader exchange → ExchangeGoesOn number reader (telling message exchange)
   telling_well message exchange well = telling_at_well message exchange.at_hand exchange well.held well
 
-  telling_each_well : (messages : List MessageValue) (exchange : ExchangeValue) → GoesOn number reader exchange → GoesOn number reader (telling_each messages exchange)
+  telling_each_well : (messages : List MessageValue) (exchange : ExchangeValue) → ExchangeGoesOn number reader exchange → ExchangeGoesOn number reader (telling_each messages exchange)
   telling_each_well [] exchange well = well
   telling_each_well (message ∷ messages) exchange well = telling_each_well messages (telling message exchange) (telling_well message exchange well)
 
-  telling_peers_well : (message : MessageValue) (exchange : ExchangeValue) → GoesOn number reader exchange → GoesOn number reader (telling_peers message exchange)
+  telling_peers_well : (message : MessageValue) (exchange : ExchangeValue) → ExchangeGoesOn number reader exchange → ExchangeGoesOn number reader (telling_peers message exchange)
   telling_peers_well message exchange well = record {
     held = well.held;
     good = all_left IsGood (λ one n good. record { reads = good.reads; role = good.role }) message exchange.others well.good;
@@ -210,25 +210,25 @@ module _ (number : ℕ) (reader : FramesValue) where
         (all_left (λ one. ¬ (one.number ≡ number)) (λ one n apart. apart) message exchange.others (apart_in number exchange.others well.apart));
   }
 
-  telling_peers_each_well : (messages : List MessageValue) (exchange : ExchangeValue) → GoesOn number reader exchange
-      → GoesOn number reader (telling_peers_each messages exchange)
+  telling_peers_each_well : (messages : List MessageValue) (exchange : ExchangeValue) → ExchangeGoesOn number reader exchange
+      → ExchangeGoesOn number reader (telling_peers_each messages exchange)
   telling_peers_each_well [] exchange well = well
   telling_peers_each_well (message ∷ messages) exchange well =
       telling_peers_each_well messages (telling_peers message exchange) (telling_peers_well message exchange well)
 
-  saying_well : (conn : ℕ) (bytes : List ℕ) (exchange : ExchangeValue) → GoesOn number reader exchange → GoesOn number reader (saying conn bytes exchange)
+  saying_well : (conn : ℕ) (bytes : List ℕ) (exchange : ExchangeValue) → ExchangeGoesOn number reader exchange → ExchangeGoesOn number reader (saying conn bytes exchange)
   saying_well conn bytes exchange well = record { held = well.held; good = well.good; numbered = well.numbered; apart = well.apart }
 
-  halting_well : (exchange : ExchangeValue) → GoesOn number reader exchange → GoesOn number reader (halting exchange)
+  halting_well : (exchange : ExchangeValue) → ExchangeGoesOn number reader exchange → ExchangeGoesOn number reader (halting exchange)
   halting_well exchange well = record { held = well.held; good = well.good; numbered = well.numbered; apart = well.apart }
 
-  becomes_well : (after other : ExchangeValue) → after ≡ other → GoesOn number reader other → GoesOn number reader after
-  becomes_well after other same well = subst (λ (e : ExchangeValue). GoesOn number reader e) (sym same) well
+  becomes_well : (after other : ExchangeValue) → after ≡ other → ExchangeGoesOn number reader other → ExchangeGoesOn number reader after
+  becomes_well after other same well = subst (λ (e : ExchangeValue). ExchangeGoesOn number reader e) (sym same) well
 
   -- ---- frames
 
   answer_well : (keeper : Keeper) (request : Request) (exchange : ExchangeValue) (text : List ℕ) (steps : List KeptStep) (next : Keeper) (after : ExchangeValue)
-      → AnswersRequest keeper request exchange text steps next after → GoesOn number reader exchange → GoesOn number reader after
+      → AnswersRequest keeper request exchange text steps next after → ExchangeGoesOn number reader exchange → ExchangeGoesOn number reader after
   answer_well keeper requests.Halt exchange text steps next after does well = becomes_well after (halting exchange) does.1 (halting_well exchange well)
   answer_well keeper requests.Bad exchange text steps next after does well = becomes_well after exchange does.1 well
   answer_well (Asks asker) requests.Ask exchange text steps next after does well = becomes_well after exchange does.1 well
@@ -239,15 +239,15 @@ module _ (number : ℕ) (reader : FramesValue) where
       becomes_well after (telling_peers_each (carried steps) exchange) does.tells (telling_peers_each_well (carried steps) exchange well)
 
   request_well : (keeper : Keeper) (one : Connection) (line : List ℕ) (exchange : ExchangeValue) (steps : List KeptStep) (next : Keeper) (after : ExchangeValue)
-      → TakesRequest keeper one line exchange steps next after → IsHeld number reader (Some one) → GoesOn number reader exchange → GoesOn number reader after
+      → TakesRequest keeper one line exchange steps next after → IsHeld number reader (Some one) → ExchangeGoesOn number reader exchange → ExchangeGoesOn number reader after
   request_well keeper one line exchange steps next after does held well =
-      let begun : GoesOn number reader (holding (as_client one) exchange) = holding_well exchange (as_client one) (held.0, (held.1.0, tt)) well in
+      let begun : ExchangeGoesOn number reader (holding (as_client one) exchange) = holding_well exchange (as_client one) (held.0, (held.1.0, tt)) well in
       becomes_well after (saying one.number (frames_bytes (reply_parts does.text)) does.middle) does.replies
       (saying_well one.number (frames_bytes (reply_parts does.text)) does.middle
       (answer_well keeper does.request (holding (as_client one) exchange) does.text steps next does.middle does.answers begun))
 
-  sending_well : (result : Result Got ReceiveFault) (steps : List KeptStep) (ticks : List (List ℕ × ℕ)) (exchange : ExchangeValue) → GoesOn number reader exchange
-      → GoesOn number reader (sending_for result steps ticks exchange)
+  sending_well : (result : Result Got ReceiveFault) (steps : List KeptStep) (ticks : List (List ℕ × ℕ)) (exchange : ExchangeValue) → ExchangeGoesOn number reader exchange
+      → ExchangeGoesOn number reader (sending_for result steps ticks exchange)
   sending_well (Ok (got.Took ranges)) steps ticks exchange well = telling_peers_each_well (carried steps) exchange well
   sending_well (Ok (got.Merged ranges)) steps ticks exchange well = telling_peers_each_well (carried steps) exchange well
   sending_well (Ok got.Held) steps ticks exchange well = telling_well (CarriesWant ticks) exchange well
@@ -264,14 +264,14 @@ module _ (number : ℕ) (reader : FramesValue) where
   sending_well (Err fault.NoMemory) steps ticks exchange well = well
 
   receives_well : (keeper : Keeper) (message : Message) (exchange : ExchangeValue) (steps : List KeptStep) (next : Keeper) (after : ExchangeValue)
-      → Receives keeper message exchange steps next after → GoesOn number reader exchange → GoesOn number reader after
+      → Receives keeper message exchange steps next after → ExchangeGoesOn number reader exchange → ExchangeGoesOn number reader after
   receives_well (Lives generation clone) message exchange steps next after does well =
       becomes_well after (sending_for does.result steps does.new.ticks exchange) does.sends (sending_well does.result steps does.new.ticks exchange well)
   receives_well (Asks asker) message exchange steps next after (joins give is) well = telling_well _ exchange well
   receives_well (Asks asker) message exchange steps next after (ignores none) well = well
 
   greets_well : (keeper : Keeper) (one : Connection) (format : ℕ) (id domain : List ℕ) (exchange after : ExchangeValue)
-      → Greets keeper one format id domain exchange after → IsHeld number reader (Some one) → GoesOn number reader exchange → GoesOn number reader after
+      → Greets keeper one format id domain exchange after → IsHeld number reader (Some one) → ExchangeGoesOn number reader exchange → ExchangeGoesOn number reader after
   greets_well keeper one format id domain exchange after (of_other_format other) held well = refusing_well 4 (holding one exchange) (holding_well exchange one held well)
   greets_well keeper one format id domain exchange after (of_other_domain same other) held well = refusing_well 3 (holding one exchange) (holding_well exchange one held well)
   greets_well keeper one format id domain exchange after (of_own_id same also own) held well = refusing_well 5 (holding one exchange) (holding_well exchange one held well)
@@ -279,8 +279,8 @@ module _ (number : ℕ) (reader : FramesValue) where
       telling_well (question_of keeper) (holding (as_peer one) exchange) (holding_well exchange (as_peer one) (held.0, (held.1.0, refl)) well)
 
   part_well : (keeper : Keeper) (one : Connection) (assembly : AssemblyValue) (message index count : ℕ) (piece : List ℕ) (exchange : ExchangeValue) (steps : List KeptStep) (next : Keeper) (after : ExchangeValue)
-      → TakesPart keeper one assembly message index count piece exchange steps next after → IsHeld number reader (Some one) → GoesOn number reader exchange
-      → GoesOn number reader after
+      → ReceivesPart keeper one assembly message index count piece exchange steps next after → IsHeld number reader (Some one) → ExchangeGoesOn number reader exchange
+      → ExchangeGoesOn number reader after
   part_well keeper one assembly message index count piece exchange steps next after (waits missing put adds) held well =
       holding_well exchange (with_parts put one) (held.0, (held.1.0, ap (λ (a : AssemblyValue). a.good) adds.new_is)) well
   part_well keeper one assembly message index count piece exchange steps next after (is_whole whole put adds made end last receives) held well =
@@ -290,12 +290,12 @@ module _ (number : ℕ) (reader : FramesValue) where
       refusing_well 1 (holding one exchange) (holding_well exchange one held well)
 
   misplaced_well : (keeper : Keeper) (one : Connection) (exchange : ExchangeValue) (steps : List KeptStep) (next : Keeper) (after : ExchangeValue)
-      → IsOutOfPlace keeper one exchange steps next after → IsHeld number reader (Some one) → GoesOn number reader exchange → GoesOn number reader after
+      → IsOutOfPlace keeper one exchange steps next after → IsHeld number reader (Some one) → ExchangeGoesOn number reader exchange → ExchangeGoesOn number reader after
   misplaced_well keeper one exchange steps next after does held well =
       becomes_well after (refusing 6 (holding one exchange)) does.refused (refusing_well 6 (holding one exchange) (holding_well exchange one held well))
 
   frame_as_well : (kind : Role) (frame : Frame) (keeper : Keeper) (one : Connection) (exchange : ExchangeValue) (steps : List KeptStep) (next : Keeper) (after : ExchangeValue)
-      → FrameStepAs kind frame keeper one exchange steps next after → IsHeld number reader (Some one) → GoesOn number reader exchange → GoesOn number reader after
+      → FrameStepAs kind frame keeper one exchange steps next after → IsHeld number reader (Some one) → ExchangeGoesOn number reader exchange → ExchangeGoesOn number reader after
   frame_as_well role.Fresh (kinds.Hello format id domain) keeper one exchange steps next after does held well =
       greets_well keeper one format id domain exchange after does.1 held well
   frame_as_well role.Fresh (kinds.Request line) keeper one exchange steps next after does held well = request_well keeper one line exchange steps next after does held well
@@ -316,12 +316,12 @@ module _ (number : ℕ) (reader : FramesValue) where
 
   -- what goes on stays so while frames are taken
   pub frame_well : (keeper : Keeper) (one : Connection) (frame : Frame) (exchange : ExchangeValue) (steps : List KeptStep) (next : Keeper) (after : ExchangeValue)
-      → FrameStep keeper one frame exchange steps next after → exchange.at_hand ≡ Some one → GoesOn number reader exchange → GoesOn number reader after
+      → FrameStep keeper one frame exchange steps next after → exchange.at_hand ≡ Some one → ExchangeGoesOn number reader exchange → ExchangeGoesOn number reader after
   frame_well keeper one frame exchange steps next after does hand well =
       frame_as_well one.role frame keeper one exchange steps next after does (subst (λ (h : Option Connection). IsHeld number reader h) hand well.held) well
 
   pub frames_well : (keeper : Keeper) (frames : List Frame) (exchange : ExchangeValue) (steps : List KeptStep) (next : Keeper) (after : ExchangeValue)
-      → FramesStep keeper frames exchange steps next after → GoesOn number reader exchange → GoesOn number reader after
+      → FramesStep keeper frames exchange steps next after → ExchangeGoesOn number reader exchange → ExchangeGoesOn number reader after
   frames_well keeper frames exchange steps next after (no_more k e) well = well
   frames_well keeper frames exchange steps next after (are_dropped k fs e why) well = well
   frames_well keeper frames exchange steps next after (and_then k c f fs e goes hand first middle between does rest end last later) well =

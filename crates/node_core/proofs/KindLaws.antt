@@ -4,8 +4,8 @@ use Rattle.std.proofs.lemmas.Bool.{true≢false, false≢true}
 use Rattle.mld_io.specs.Disk.{Log}
 use Rattle.mld_ops.specs.declared.messages.Message.{Message}
 use Rattle.clone_banks.specs.KeptSteps.{KeptStep}
-use Rattle.shell_session.specs.Lines.{StopsIn}
-use Rattle.shell_model.specs.Shells.{Found}
+use Rattle.shell_session.specs.SessionLines.{LeavesFrontOfDue}
+use Rattle.shell_model.specs.Shells.{FoundOnBanks}
 use Rattle.wire_frames.specs.declared.assembling.Assembled.TheVariants.{Waiting, Whole}
 use Rattle.wire_frames.specs.declared.assembling.Assembled.{Assembled}
 use Rattle.wire_frames.specs.declared.faults.AssemblyFault.{AssemblyFault}
@@ -13,21 +13,21 @@ use Rattle.wire_frames.specs.declared.faults.AssemblyFault.TheVariants.{BadPart}
 use Rattle.wire_frames.specs.declared.kinds.Frame.{Frame}
 use Rattle.wire_frames.specs.declared.kinds.Frame.TheVariants as kinds
 use Rattle.wire_frames.specs.Frames.{hello_format}
-use Rattle.wire_frames.specs.Parts.{AssemblyValue, Assembles}
+use Rattle.wire_frames.specs.MessageParts.{AssemblyValue, Assembles}
 use Rattle.node_exchange.specs.declared.connections.Connection.{Connection}
 use Rattle.node_exchange.specs.declared.connections.Role.{Role}
 use Rattle.node_exchange.specs.declared.connections.Role.TheVariants as role
 use Rattle.node_exchange.specs.Connections.{as_peer, is_peer}
 use Rattle.node_exchange.specs.Exchanges.{ExchangeValue, refusing, telling, holding}
-use Rattle.node_keeper.specs.Deeds.{DoesBy, AnswersOn, ReceivesOn, IsDueByRequest, IsDueByMessage}
-use Rattle.node_keeper.specs.States.{banks_of, keeper_of}
+use Rattle.node_keeper.specs.NodeDeeds.{NodeDoesBy, AnswersOn, ReceivesOn, IsDueByRequest, IsDueByMessage}
+use Rattle.node_keeper.specs.NodeStates.{state_banks, keeper_of}
 use Rattle.node_keeper.specs.declared.faults.NodeFault.{NodeFault}
 use Rattle.node_keeper.specs.declared.states.NodeState.{NodeState}
-use Rattle.node_model.specs.Keepers.{Keeper, id_of, domain_of, question_of, found_of}
-use Rattle.node_model.specs.Messages.{Receives}
+use Rattle.node_model.specs.Keepers.{Keeper, keeper_id, keeper_domain, question_of, keeper_found}
+use Rattle.node_model.specs.NodeMessages.{Receives}
 use Rattle.node_model.specs.Requests.{TakesRequest}
-use Rattle.node_model.specs.FrameSteps.{KeepsAll, Greets, of_other_format, of_other_domain, of_own_id, of_peer, TakesPart, waits, is_whole, is_bad, with_parts, IsOutOfPlace, FrameStepAs, FrameStep}
-use Rattle.node_core.specs.Events.{IsDueByFrame}
+use Rattle.node_model.specs.FrameSteps.{KeepsAll, Greets, of_other_format, of_other_domain, of_own_id, of_peer, ReceivesPart, waits, is_whole, is_bad, with_parts, IsOutOfPlace, FrameStepAs, FrameStep}
+use Rattle.node_core.specs.NodeEvents.{IsDueByFrame}
 use Rattle.node_core.specs.Steps.{is_fresh, IsJudged, AddsPart, IsNoPeer, TakesFrame}
 use Rattle.node_core.proofs.EventMoments.{no_steps}
 
@@ -37,7 +37,7 @@ module _ {B : Type 0} (log : B → Option Log) (one : Connection) (frame : Frame
   keeps_all same does = subst (λ (s : NodeState B). TakesFrame log one frame old exchange s after) (sym same) (record {
     steps = [];
     does = does;
-    moments = no_steps (found_of (keeper_of old)) (log (banks_of old));
+    moments = no_steps (keeper_found (keeper_of old)) (log (state_banks old));
     settled = λ images. images;
   })
 
@@ -127,22 +127,22 @@ request_due role.Client keeper line steps none due = due
 request_due (role.Peer assembly) keeper line steps none due = absurd (true≢false none)
 
 -- a call that stopped amid steps that are due by other words
-pub stops_as : {B : Type 0} (One Other : List KeptStep → Type 0) (log : B → Option Log) (found : Found) (old now : B) → ((steps : List KeptStep) → One steps → Other steps)
-    → StopsIn One log found old now → StopsIn Other log found old now
+pub stops_as : {B : Type 0} (One Other : List KeptStep → Type 0) (log : B → Option Log) (found : FoundOnBanks) (old now : B) → ((steps : List KeptStep) → One steps → Other steps)
+    → LeavesFrontOfDue One log found old now → LeavesFrontOfDue Other log found old now
 stops_as One Other log found old now into stop = record { steps = stop.steps; due = due_as stop.due; moments = stop.moments } where
   due_as : (stop.steps ≡ []) ⊎ One stop.steps → (stop.steps ≡ []) ⊎ Other stop.steps
   due_as (inl none) = inl none
   due_as (inr due) = inr (into stop.steps due)
 
-pub request_stops : {B : Type 0} (log : B → Option Log) (kind : Role) (keeper : Keeper) (line : List ℕ) (found : Found) (old now : B) → is_peer kind ≡ false
-    → StopsIn (IsDueByRequest keeper line) log found old now → StopsIn (IsDueByFrame keeper kind (kinds.Request line)) log found old now
+pub request_stops : {B : Type 0} (log : B → Option Log) (kind : Role) (keeper : Keeper) (line : List ℕ) (found : FoundOnBanks) (old now : B) → is_peer kind ≡ false
+    → LeavesFrontOfDue (IsDueByRequest keeper line) log found old now → LeavesFrontOfDue (IsDueByFrame keeper kind (kinds.Request line)) log found old now
 request_stops log kind keeper line found old now none stop =
     stops_as (IsDueByRequest keeper line) (IsDueByFrame keeper kind (kinds.Request line)) log found old now (λ steps due. request_due kind keeper line steps none due) stop
 
 -- ---- a part
 
 part_step : (kind : Role) (assembly : AssemblyValue) (keeper : Keeper) (one : Connection) (number index count : ℕ) (piece : List ℕ) (exchange : ExchangeValue) (steps : List KeptStep) (next : Keeper) (after : ExchangeValue)
-    → kind ≡ role.Peer assembly → TakesPart keeper one assembly number index count piece exchange steps next after
+    → kind ≡ role.Peer assembly → ReceivesPart keeper one assembly number index count piece exchange steps next after
     → FrameStepAs kind (kinds.Part number index count piece) keeper one exchange steps next after
 part_step kind assembly keeper one number index count piece exchange steps next after is does =
     subst (λ (r : Role). FrameStepAs r (kinds.Part number index count piece) keeper one exchange steps next after) (sym is) does
@@ -161,7 +161,7 @@ module _ (keeper : Keeper) (one new : Connection) (number index count : ℕ) (pi
       subst (λ (r : Result Assembled AssemblyFault). AddsPart one number index count piece r new) (is ∙ ap Ok waiting) added in
       let same : held ≡ holding (with_parts adds.left one) exchange = holds ∙ ap (λ (c : Connection). holding c exchange) adds.new_is in
       part_step one.role adds.assembly keeper one number index count piece exchange [] keeper held adds.was
-      (subst (λ (e : ExchangeValue). TakesPart keeper one adds.assembly number index count piece exchange [] keeper e) (sym same)
+      (subst (λ (e : ExchangeValue). ReceivesPart keeper one adds.assembly number index count piece exchange [] keeper e) (sym same)
       (waits missing adds.left adds.assembles))
 
   -- it may not come
@@ -173,7 +173,7 @@ module _ (keeper : Keeper) (one new : Connection) (number index count : ℕ) (pi
       let same : after ≡ refusing 1 (holding one exchange) =
       sent ∙ ap (refusing 1) holds ∙ ap (λ (c : Connection). refusing 1 (holding c exchange)) adds.new_is in
       part_step one.role adds.assembly keeper one number index count piece exchange [] keeper after adds.was
-      (subst (λ (e : ExchangeValue). TakesPart keeper one adds.assembly number index count piece exchange [] keeper e) (sym same)
+      (subst (λ (e : ExchangeValue). ReceivesPart keeper one adds.assembly number index count piece exchange [] keeper e) (sym same)
       (is_bad adds.left adds.assembles))
 
 pub message_done : {B : Type 0} (log : B → Option Log) (one new : Connection) (number index count : ℕ) (piece : List ℕ) (message : Message) (old next : NodeState B) (exchange after : ExchangeValue)
@@ -194,9 +194,9 @@ message_due : (kind : Role) (assembly : AssemblyValue) (keeper : Keeper) (number
 message_due kind assembly keeper number index count piece message then steps is adds due =
     subst (λ (r : Role). IsDueByFrame keeper r (kinds.Part number index count piece) steps) (sym is) (message, then, adds, due)
 
-pub message_stops : {B : Type 0} (log : B → Option Log) (keeper : Keeper) (one new : Connection) (number index count : ℕ) (piece : List ℕ) (message : Message) (found : Found) (old now : B)
-    → AddsPart one number index count piece (Ok (Whole message)) new → StopsIn (IsDueByMessage keeper message) log found old now
-    → StopsIn (IsDueByFrame keeper one.role (kinds.Part number index count piece)) log found old now
+pub message_stops : {B : Type 0} (log : B → Option Log) (keeper : Keeper) (one new : Connection) (number index count : ℕ) (piece : List ℕ) (message : Message) (found : FoundOnBanks) (old now : B)
+    → AddsPart one number index count piece (Ok (Whole message)) new → LeavesFrontOfDue (IsDueByMessage keeper message) log found old now
+    → LeavesFrontOfDue (IsDueByFrame keeper one.role (kinds.Part number index count piece)) log found old now
 message_stops log keeper one new number index count piece message found old now adds stop =
     stops_as (IsDueByMessage keeper message) (IsDueByFrame keeper one.role (kinds.Part number index count piece)) log found old now
     (λ steps due. message_due one.role adds.assembly keeper number index count piece message adds.left steps adds.was adds.assembles due) stop
@@ -236,11 +236,11 @@ module _ {B : Type 0} (log : B → Option Log) (state : NodeState B) (one new : 
   message_answered after (Err refused) does = tt
 
   pub message_refused : (answer : Result (NodeState B) (NodeFault × B))
-      → IfErr answer (λ refused. StopsIn (IsDueByMessage (keeper_of state) message) log (found_of (keeper_of state)) (banks_of state) refused.1)
-      → IfErr answer (λ refused. StopsIn (IsDueByFrame (keeper_of state) one.role (kinds.Part number index count piece)) log (found_of (keeper_of state)) (banks_of state) refused.1)
+      → IfErr answer (λ refused. LeavesFrontOfDue (IsDueByMessage (keeper_of state) message) log (keeper_found (keeper_of state)) (state_banks state) refused.1)
+      → IfErr answer (λ refused. LeavesFrontOfDue (IsDueByFrame (keeper_of state) one.role (kinds.Part number index count piece)) log (keeper_found (keeper_of state)) (state_banks state) refused.1)
   message_refused (Ok next) stop = tt
   message_refused (Err refused) stop =
-      message_stops log (keeper_of state) one new number index count piece message (found_of (keeper_of state)) (banks_of state) refused.1 adds_message stop
+      message_stops log (keeper_of state) one new number index count piece message (keeper_found (keeper_of state)) (state_banks state) refused.1 adds_message stop
 
 -- ---- a request that is answered
 

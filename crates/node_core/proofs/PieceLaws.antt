@@ -7,28 +7,28 @@ use Rattle.mld_io.specs.declared.events.Event.{Event}
 use Rattle.mld_io.specs.declared.events.Event.TheVariants as events
 use Rattle.clone_banks.specs.KeptSteps.{KeptStep}
 use Rattle.journal_store.specs.Closing.{StaysTold}
-use Rattle.shell_model.specs.Shells.{Found}
-use Rattle.shell_session.specs.Lines.{ImagesFind, LeavesFront, StopsIn, Meters}
+use Rattle.shell_model.specs.Shells.{FoundOnBanks}
+use Rattle.shell_session.specs.SessionLines.{ImagesFind, LeavesFront, LeavesFrontOfDue, Meters}
 use Rattle.wire_frames.specs.declared.faults.FrameFault.{FrameFault}
 use Rattle.wire_frames.specs.declared.kinds.Fed.{Fed}
 use Rattle.wire_frames.specs.declared.kinds.Frame.{Frame}
 use Rattle.wire_frames.specs.Frames.{FramesValue, Feeds}
 use Rattle.node_exchange.specs.declared.connections.Connection.{Connection}
 use Rattle.node_exchange.specs.declared.connections.Sent.{Sent}
-use Rattle.node_exchange.specs.Connections.{AreNumbered, IsRidOf, StaysNumbered, connection_of, without, placed, opened}
+use Rattle.node_exchange.specs.Connections.{AreNumbered, IsRidOf, StaysNumbered, connection_of, without, connections_with, opened}
 use Rattle.node_exchange.specs.Exchanges.{ExchangeValue, refusing_at, refusing}
 use Rattle.node_keeper.specs.declared.faults.NodeFault.{NodeFault}
 use Rattle.node_keeper.specs.declared.faults.NodeFault.TheVariants.{NoMemory}
-use Rattle.node_keeper.specs.States.{IsOpen, banks_of, keeper_of}
+use Rattle.node_keeper.specs.NodeStates.{IsOpen, state_banks, keeper_of}
 use Rattle.node_keeper.specs.declared.states.NodeState.{NodeState}
-use Rattle.node_model.specs.Keepers.{Keeper, found_of}
-use Rattle.node_model.specs.FrameSteps.{FramesStep, code_of, faulting, forgetting}
+use Rattle.node_model.specs.Keepers.{Keeper, keeper_found}
+use Rattle.node_model.specs.FrameSteps.{FramesStep, refusal_code, faulting, forgetting}
 use Rattle.node_model.specs.Events.{NodeValue, NodeStep, PieceStep, TakesPiece, beginning, put_back, node_after}
 use Rattle.node_core.specs.declared.pieces.Rest.{Rest}
 use Rattle.node_core.specs.declared.pieces.Taken.{Taken}
-use Rattle.node_core.specs.Nodes.{BankedNode, node_value, IsGood, AreWell}
-use Rattle.node_core.specs.Events.{DoesEvent, IsDueByFrames, IsDueByPiece, IsDueByEvent}
-use Rattle.node_core.specs.Steps.{TakesFrames, GoesOn, IsHeld, MayEnd, EndsBy, MayPutBack, TakesFed, TakesPieceOn, node_with, taken_node, GreetsOn}
+use Rattle.node_core.specs.Nodes.{BankedNode, node_value, IsGood, MayGoOn}
+use Rattle.node_core.specs.NodeEvents.{DoesEvent, IsDueByFrames, IsDueByPiece, IsDueByEvent}
+use Rattle.node_core.specs.Steps.{TakesFrames, ExchangeGoesOn, IsHeld, MayEnd, ExchangeEnds, MayPutBack, TakesFed, TakesPieceOn, node_with, taken_node, GreetsOn}
 use Rattle.node_core.proofs.EventMoments.{no_steps}
 use Rattle.node_core.proofs.KindLaws.{stops_as}
 use Rattle.node_core.proofs.UnderWay.{stops_behind}
@@ -37,20 +37,20 @@ use Rattle.node_core.proofs.HoldLaws.{frames_well, refusing_well, good_placed, g
 -- ---- the end of an exchange
 
 -- what is left at hand behind a fault may go back: nothing is, where there was one
-forgetting_well : (number : ℕ) (reader : FramesValue) (exchange : ExchangeValue) → GoesOn number reader exchange → GoesOn number reader (forgetting exchange)
+forgetting_well : (number : ℕ) (reader : FramesValue) (exchange : ExchangeValue) → ExchangeGoesOn number reader exchange → ExchangeGoesOn number reader (forgetting exchange)
 forgetting_well number reader exchange well = record { held = tt; good = well.good; numbered = well.numbered; apart = well.apart }
 
-either_well : (number : ℕ) (reader : FramesValue) (b : Bool) (one other : ExchangeValue) → GoesOn number reader one → GoesOn number reader other
-    → GoesOn number reader (if b then one else other)
+either_well : (number : ℕ) (reader : FramesValue) (b : Bool) (one other : ExchangeValue) → ExchangeGoesOn number reader one → ExchangeGoesOn number reader other
+    → ExchangeGoesOn number reader (if b then one else other)
 either_well number reader true one other first second = first
 either_well number reader false one other first second = second
 
-faulting_well : (number : ℕ) (reader : FramesValue) (fault : Option FrameFault) (exchange : ExchangeValue) → GoesOn number reader exchange
-    → GoesOn number reader (faulting fault exchange)
+faulting_well : (number : ℕ) (reader : FramesValue) (fault : Option FrameFault) (exchange : ExchangeValue) → ExchangeGoesOn number reader exchange
+    → ExchangeGoesOn number reader (faulting fault exchange)
 faulting_well number reader None exchange well = well
 faulting_well number reader (Some fault) exchange well =
-    either_well number reader exchange.halted (forgetting exchange) (refusing (code_of fault) exchange) (forgetting_well number reader exchange well)
-    (refusing_well number reader (code_of fault) exchange well)
+    either_well number reader exchange.halted (forgetting exchange) (refusing (refusal_code fault) exchange) (forgetting_well number reader exchange well)
+    (refusing_well number reader (refusal_code fault) exchange well)
 
 refused_none : (code : ℕ) (hand : Option Connection) (exchange : ExchangeValue) → exchange.at_hand ≡ hand → (refusing_at code hand exchange).at_hand ≡ None
 refused_none code None exchange is = is
@@ -63,7 +63,7 @@ either_none false one other first second = second
 -- behind a fault nothing is at hand
 fault_none : (fault : FrameFault) (exchange : ExchangeValue) → (faulting (Some fault) exchange).at_hand ≡ None
 fault_none fault exchange =
-    either_none exchange.halted (forgetting exchange) (refusing (code_of fault) exchange) refl (refused_none (code_of fault) exchange.at_hand exchange refl)
+    either_none exchange.halted (forgetting exchange) (refusing (refusal_code fault) exchange) refl (refused_none (refusal_code fault) exchange.at_hand exchange refl)
 
 -- what is at hand is good
 abbrev IsGoodHand : Option Connection → Type 0
@@ -74,7 +74,7 @@ held_good : (number : ℕ) (reader : FramesValue) (hand : Option Connection) →
 held_good number reader None held good = tt
 held_good number reader (Some one) held good = record { reads = subst (λ (f : FramesValue). IsTrue f.good) (sym held.1.0) good; role = held.1.1 }
 
-fault_good : (number : ℕ) (reader : FramesValue) (fault : Option FrameFault) (exchange : ExchangeValue) → GoesOn number reader exchange
+fault_good : (number : ℕ) (reader : FramesValue) (fault : Option FrameFault) (exchange : ExchangeValue) → ExchangeGoesOn number reader exchange
     → (fault ≡ None → IsTrue reader.good) → IsGoodHand (faulting fault exchange).at_hand
 fault_good number reader None exchange well good = held_good number reader exchange.at_hand well.held (good refl)
 fault_good number reader (Some fault) exchange well good = subst IsGoodHand (sym (fault_none fault exchange)) tt
@@ -91,9 +91,9 @@ may_put number reader (Some one) others held numbered apart = (numbered, subst (
 -- the connections behind an exchange go on
 pub ends_well : (fault : Option FrameFault) (exchange last : ExchangeValue) (hand : Option Connection) (others connections : List Connection)
     → last ≡ faulting fault exchange → hand ≡ last.at_hand → others ≡ last.others → connections ≡ put_back hand others
-    → (MayPutBack hand others → AreNumbered connections) → MayEnd fault exchange → AreWell connections
-ends_well fault exchange last hand others connections ends at_hand left placed numbered may =
-    let well : GoesOn may.0 may.1 (faulting fault exchange) = faulting_well may.0 may.1 fault exchange may.2 in
+    → (MayPutBack hand others → AreNumbered connections) → MayEnd fault exchange → MayGoOn connections
+ends_well fault exchange last hand others connections ends at_hand left connections_with numbered may =
+    let well : ExchangeGoesOn may.0 may.1 (faulting fault exchange) = faulting_well may.0 may.1 fault exchange may.2 in
     let same_hand : hand ≡ (faulting fault exchange).at_hand = at_hand ∙ ap (λ (e : ExchangeValue). e.at_hand) ends in
     let same_others : others ≡ (faulting fault exchange).others = left ∙ ap (λ (e : ExchangeValue). e.others) ends in
     let hold : IsGoodHand hand = subst IsGoodHand (sym same_hand) (fault_good may.0 may.1 fault exchange may.2 may.3) in
@@ -101,23 +101,23 @@ ends_well fault exchange last hand others connections ends at_hand left placed n
     let apart : connection_of may.0 others ≡ None = subst (λ (xs : List Connection). connection_of may.0 xs ≡ None) (sym same_others) well.apart in
     let held : IsHeld may.0 may.1 hand = subst (IsHeld may.0 may.1) (sym same_hand) well.held in
     record {
-      good = subst (AllByRecursion IsGood) (sym placed) (back_good hand others hold good);
+      good = subst (AllByRecursion IsGood) (sym connections_with) (back_good hand others hold good);
       numbered = numbered (may_put may.0 may.1 hand others held (subst AreNumbered (sym same_others) well.numbered) apart);
     }
 
 pub ends_so : (fault : Option FrameFault) (exchange last : ExchangeValue) (hand : Option Connection) (others : List Connection) (rest : Rest)
     → last ≡ faulting fault exchange → hand ≡ last.at_hand → others ≡ last.others → rest.sent.items ≡ last.sent → rest.connections.items ≡ put_back hand others
-    → rest.halted ≡ last.halted → EndsBy fault exchange rest
-ends_so fault exchange last hand others rest ends at_hand left sent placed halted = record {
+    → rest.halted ≡ last.halted → ExchangeEnds fault exchange rest
+ends_so fault exchange last hand others rest ends at_hand left sent connections_with halted = record {
   sends = sent ∙ ap (λ (e : ExchangeValue). e.sent) ends;
-  left = placed ∙ (λ i. put_back ((at_hand ∙ ap (λ (e : ExchangeValue). e.at_hand) ends) i) ((left ∙ ap (λ (e : ExchangeValue). e.others) ends) i));
+  left = connections_with ∙ (λ i. put_back ((at_hand ∙ ap (λ (e : ExchangeValue). e.at_hand) ends) i) ((left ∙ ap (λ (e : ExchangeValue). e.others) ends) i));
   ends = halted ∙ ap (λ (e : ExchangeValue). e.halted) ends;
 }
 
 -- ---- the frames of a piece
 
 module _ {B : Type 0} (log : B → Option Log) (old next : NodeState B) (exchange after : ExchangeValue) (fed : Fed) (does : TakesFrames log fed.frames.items old exchange next after) where
-  pub fed_answered : (answer : Result (Taken B) (NodeFault × B)) → IfOk answer (λ taken. taken.state ≡ next) → IfOk answer (λ taken. EndsBy fed.fault after taken.rest)
+  pub fed_answered : (answer : Result (Taken B) (NodeFault × B)) → IfOk answer (λ taken. taken.state ≡ next) → IfOk answer (λ taken. ExchangeEnds fed.fault after taken.rest)
       → IfOk answer (TakesFed log old exchange fed)
   fed_answered (Ok taken) same ends = record {
     middle = after;
@@ -130,8 +130,8 @@ module _ {B : Type 0} (log : B → Option Log) (old next : NodeState B) (exchang
   fed_well may =
       (may.0, may.1, frames_well may.0 may.1 (keeper_of old) fed.frames.items exchange does.steps (keeper_of next) after does.does may.2, may.3)
 
-  pub fed_refused : (answer : Result (Taken B) (NodeFault × B)) → IfErr answer (λ refused. refused ≡ (NoMemory, banks_of next))
-      → IfErr answer (λ refused. StopsIn (IsDueByFrames (keeper_of old) fed.frames.items exchange) log (found_of (keeper_of old)) (banks_of old) refused.1)
+  pub fed_refused : (answer : Result (Taken B) (NodeFault × B)) → IfErr answer (λ refused. refused ≡ (NoMemory, state_banks next))
+      → IfErr answer (λ refused. LeavesFrontOfDue (IsDueByFrames (keeper_of old) fed.frames.items exchange) log (keeper_found (keeper_of old)) (state_banks old) refused.1)
   fed_refused (Ok taken) back = tt
   fed_refused (Err refused) back = stops_behind log old next exchange after fed.frames.items refused.1 does (ap (λ (r : NodeFault × B). r.1) back)
 
@@ -139,11 +139,11 @@ module _ {B : Type 0} (log : B → Option Log) (old next : NodeState B) (exchang
 
 module _ {B : Type 0} (log : B → Option Log) (old : NodeState B) (one : Connection) (others : List Connection) (piece : List ℕ) (reader : FramesValue) (fed : Fed)
     (exchange : ExchangeValue) (begins : exchange ≡ beginning (record one { frames = reader }) others) where
-  pub piece_may : IsGood one → AreWell others → connection_of one.number others ≡ None → reader.good ≡ is_none fed.fault → MayEnd fed.fault exchange
+  pub piece_may : IsGood one → MayGoOn others → connection_of one.number others ≡ None → reader.good ≡ is_none fed.fault → MayEnd fed.fault exchange
   piece_may good well apart told = (
     one.number,
     reader,
-    subst (GoesOn one.number reader) (sym begins) (record { held = (refl, (refl, good.role)); good = well.good; numbered = well.numbered; apart = apart }),
+    subst (ExchangeGoesOn one.number reader) (sym begins) (record { held = (refl, (refl, good.role)); good = well.good; numbered = well.numbered; apart = apart }),
     λ none. told ∙ ap is_none none,
   )
 
@@ -159,8 +159,8 @@ module _ {B : Type 0} (log : B → Option Log) (old : NodeState B) (one : Connec
     ends = does.ends;
   }
 
-  pub piece_stops : (found : Found) (was back : B) → Feeds one.frames.rest piece fed.frames.items fed.fault reader.rest
-      → StopsIn (IsDueByFrames (keeper_of old) fed.frames.items exchange) log found was back → StopsIn (IsDueByPiece (keeper_of old) one others piece) log found was back
+  pub piece_stops : (found : FoundOnBanks) (was back : B) → Feeds one.frames.rest piece fed.frames.items fed.fault reader.rest
+      → LeavesFrontOfDue (IsDueByFrames (keeper_of old) fed.frames.items exchange) log found was back → LeavesFrontOfDue (IsDueByPiece (keeper_of old) one others piece) log found was back
   piece_stops found was back reads stop =
       stops_as (IsDueByFrames (keeper_of old) fed.frames.items exchange) (IsDueByPiece (keeper_of old) one others piece) log found was back
       (λ steps due. record {
@@ -180,9 +180,9 @@ module _ {B : Type 0} (log : B → Option Log) (old next : BankedNode B) (event 
   event_quiet does same = record {
     steps = [];
     does = does;
-    moments = subst (λ (s : NodeState B). LeavesFront (found_of (keeper_of old.state)) [] (log (banks_of old.state)) (log (banks_of s))) (sym same)
-        (no_steps (found_of (keeper_of old.state)) (log (banks_of old.state)));
-    settled = subst (λ (s : NodeState B). ImagesFind (found_of (keeper_of old.state)) (log (banks_of old.state)) → ImagesFind (found_of (keeper_of s)) (log (banks_of s))) (sym same)
+    moments = subst (λ (s : NodeState B). LeavesFront (keeper_found (keeper_of old.state)) [] (log (state_banks old.state)) (log (state_banks s))) (sym same)
+        (no_steps (keeper_found (keeper_of old.state)) (log (state_banks old.state)));
+    settled = subst (λ (s : NodeState B). ImagesFind (keeper_found (keeper_of old.state)) (log (state_banks old.state)) → ImagesFind (keeper_found (keeper_of s)) (log (state_banks s))) (sym same)
         (λ images. images);
   }
 
@@ -236,10 +236,10 @@ module _ {B : Type 0} (log : B → Option Log) (state : NodeState B) (connection
   read_answered one is (Ok taken) does = read_some taken one is does
   read_answered one is (Err refused) does = tt
 
-  pub read_stops : (one : Connection) (back : B) → hand ≡ Some one → StopsIn (IsDueByPiece (keeper_of state) one others piece) log (found_of (keeper_of state)) (banks_of state) back
-      → StopsIn (IsDueByEvent (node_value (node_with state connections)) (events.Bytes number piece)) log (found_of (keeper_of state)) (banks_of state) back
+  pub read_stops : (one : Connection) (back : B) → hand ≡ Some one → LeavesFrontOfDue (IsDueByPiece (keeper_of state) one others piece) log (keeper_found (keeper_of state)) (state_banks state) back
+      → LeavesFrontOfDue (IsDueByEvent (node_value (node_with state connections)) (events.Bytes number piece)) log (keeper_found (keeper_of state)) (state_banks state) back
   read_stops one back is stop =
-      stops_as (IsDueByPiece (keeper_of state) one others piece) (IsDueByEvent (node_value (node_with state connections)) (events.Bytes number piece)) log (found_of (keeper_of state)) (banks_of state) back
+      stops_as (IsDueByPiece (keeper_of state) one others piece) (IsDueByEvent (node_value (node_with state connections)) (events.Bytes number piece)) log (keeper_found (keeper_of state)) (state_banks state) back
       (λ steps due. (one, sym found ∙ is, subst (λ (xs : List Connection). IsDueByPiece (keeper_of state) one xs piece steps) left due)) stop
 
 -- a connection that was opened
@@ -272,7 +272,7 @@ end_done {B = B} log state connections taken silent node =
 
 -- ---- connections
 
-pub opened_well : (number : ℕ) (ys zs : List Connection) (one : Connection) → one ≡ opened number → zs ≡ placed one ys → StaysNumbered one ys zs → IsRidOf number ys → AreWell ys → AreWell zs
+pub opened_well : (number : ℕ) (ys zs : List Connection) (one : Connection) → one ≡ opened number → zs ≡ connections_with one ys → StaysNumbered one ys zs → IsRidOf number ys → MayGoOn ys → MayGoOn zs
 opened_well number ys zs one is put numbered rid well = record {
   good = subst (AllByRecursion IsGood) (sym put) (good_placed one ys (subst IsGood (sym is) (record { reads = refl; role = tt })) well.good);
   numbered = numbered rid.numbered (subst (λ (c : Connection). connection_of c.number ys ≡ None) (sym is) rid.gone);
@@ -289,7 +289,7 @@ open_answered log state connections number event is (Ok taken) greets same =
     subst (λ (e : Event). DoesEvent log (node_with state connections) e (taken_node taken) taken.rest.sent.items) (sym is) (open_done log state connections number taken greets same)
 open_answered log state connections number event is (Err refused) greets same = tt
 
-pub forget_well : (number : ℕ) (xs ys : List Connection) → ys ≡ without number xs → AreWell xs → AreWell ys
+pub forget_well : (number : ℕ) (xs ys : List Connection) → ys ≡ without number xs → MayGoOn xs → MayGoOn ys
 forget_well number xs ys left well = record {
   good = subst (AllByRecursion IsGood) (sym left) (good_without number xs well.good);
   numbered = subst AreNumbered (sym left) (numbered_without number xs well.numbered);
@@ -298,9 +298,9 @@ forget_well number xs ys left well = record {
 -- a node that hasn't ended, by its fields
 pub stops_viewed : {B : Type 0} (log : B → Option Log) (self : BankedNode B) (state : NodeState B) (connections : List Connection) (halted : Bool)
     → self ≡ record { state = state; connections = connections; halted = halted } → self.halted ≡ false → (event : Event) (back : B)
-    → StopsIn (IsDueByEvent (node_value (node_with state connections)) event) log (found_of (keeper_of state)) (banks_of state) back
-    → StopsIn (IsDueByEvent (node_value self) event) log (found_of (keeper_of self.state)) (banks_of self.state) back
+    → LeavesFrontOfDue (IsDueByEvent (node_value (node_with state connections)) event) log (keeper_found (keeper_of state)) (state_banks state) back
+    → LeavesFrontOfDue (IsDueByEvent (node_value self) event) log (keeper_found (keeper_of self.state)) (state_banks self.state) back
 stops_viewed {B = B} log self state connections halted view going event back stop =
     let same : self ≡ node_with state connections =
     view ∙ (λ i. record { state = state; connections = connections; halted = (sym (ap (λ (n : BankedNode B). n.halted) view) ∙ going) i }) in
-    subst (λ (n : BankedNode B). StopsIn (IsDueByEvent (node_value n) event) log (found_of (keeper_of n.state)) (banks_of n.state) back) (sym same) stop
+    subst (λ (n : BankedNode B). LeavesFrontOfDue (IsDueByEvent (node_value n) event) log (keeper_found (keeper_of n.state)) (state_banks n.state) back) (sym same) stop

@@ -4,12 +4,12 @@ use Rattle.mld_io.specs.Arm.{Meter}
 use Rattle.mld_io.specs.Disk.{Log}
 use Rattle.clone_banks.specs.KeptSteps.{KeptStep}
 use Rattle.journal_store.specs.Closing.{StaysTold}
-use Rattle.shell_model.specs.Shells.{Found}
-use Rattle.shell_session.specs.Lines.{LeavesFront, StopsIn, Meters}
+use Rattle.shell_model.specs.Shells.{FoundOnBanks}
+use Rattle.shell_session.specs.SessionLines.{LeavesFront, LeavesFrontOfDue, Meters}
 use Rattle.node_keeper.specs.declared.faults.NodeFault.{NodeFault}
 use Rattle.node_keeper.specs.declared.faults.NodeFault.TheVariants.{Device, NoMemory}
 use Rattle.node_keeper.specs.declared.states.NodeState.{NodeState}
-use Rattle.node_keeper.specs.States.{IsOpen, banks_of, banks_after, FailsOnDevice}
+use Rattle.node_keeper.specs.NodeStates.{IsOpen, state_banks, state_banks_after, StateFailsOnDevice}
 use Rattle.node_core.specs.Nodes.{banks_left, IsDeviceFault}
 use Rattle.node_core.proofs.EventMoments.{no_steps, told_same}
 use Rattle.node_core.proofs.EventMeters.{meters_none}
@@ -18,7 +18,7 @@ not_device : ¬ (◌≡◌ {A = NodeFault} NoMemory Device)
 not_device h = cc
 
 -- no step was made
-pub stops_none : {B : Type 0} (Due : List KeptStep → Type 0) (log : B → Option Log) (found : Found) (old now : B) → now ≡ old → StopsIn Due log found old now
+pub stops_none : {B : Type 0} (Due : List KeptStep → Type 0) (log : B → Option Log) (found : FoundOnBanks) (old now : B) → now ≡ old → LeavesFrontOfDue Due log found old now
 stops_none {B = B} Due log found old now same = record {
   steps = [];
   due = inl refl;
@@ -31,24 +31,24 @@ module _ {B : Type 0} (log : B → Option Log) (meter : B → Meter) (state : No
   Keeps result = IfOk result (λ next. next ≡ state)
 
   abbrev GivesBack : Result (NodeState B) (NodeFault × B) → Type 0
-  GivesBack result = IfErr result (λ refused. refused ≡ (NoMemory, banks_of state))
+  GivesBack result = IfErr result (λ refused. refused ≡ (NoMemory, state_banks state))
 
   pub quiet_open : (result : Result (NodeState B) (NodeFault × B)) → IsOpen state → Keeps result → IfOk result IsOpen
   quiet_open (Ok next) opened same = subst IsOpen (sym same) opened
   quiet_open (Err refused) opened same = tt
 
-  pub quiet_stops : (Due : List KeptStep → Type 0) (found : Found) (result : Result (NodeState B) (NodeFault × B)) → GivesBack result
-      → IfErr result (λ refused. StopsIn Due log found (banks_of state) refused.1)
+  pub quiet_stops : (Due : List KeptStep → Type 0) (found : FoundOnBanks) (result : Result (NodeState B) (NodeFault × B)) → GivesBack result
+      → IfErr result (λ refused. LeavesFrontOfDue Due log found (state_banks state) refused.1)
   quiet_stops Due found (Ok next) back = tt
-  quiet_stops Due found (Err refused) back = stops_none Due log found (banks_of state) refused.1 (ap (λ (r : NodeFault × B). r.1) back)
+  quiet_stops Due found (Err refused) back = stops_none Due log found (state_banks state) refused.1 (ap (λ (r : NodeFault × B). r.1) back)
 
-  pub quiet_told : (result : Result (NodeState B) (NodeFault × B)) → Keeps result → GivesBack result → StaysTold (log (banks_of state)) (log (banks_after result))
-  quiet_told (Ok next) same back = subst (λ (s : NodeState B). StaysTold (log (banks_of state)) (log (banks_of s))) (sym same) (told_same (log (banks_of state)))
+  pub quiet_told : (result : Result (NodeState B) (NodeFault × B)) → Keeps result → GivesBack result → StaysTold (log (state_banks state)) (log (state_banks_after result))
+  quiet_told (Ok next) same back = subst (λ (s : NodeState B). StaysTold (log (state_banks state)) (log (state_banks s))) (sym same) (told_same (log (state_banks state)))
   quiet_told (Err refused) same back =
-      subst (λ (r : NodeFault × B). StaysTold (log (banks_of state)) (log r.1)) (sym back) (told_same (log (banks_of state)))
+      subst (λ (r : NodeFault × B). StaysTold (log (state_banks state)) (log r.1)) (sym back) (told_same (log (state_banks state)))
 
   pub quiet_meters : (result : Result (NodeState B) (NodeFault × B)) → Keeps result → GivesBack result
-      → Meters (meter (banks_of state)) (meter (banks_after result)) (FailsOnDevice result)
-  quiet_meters (Ok next) same back = subst (λ (s : NodeState B). Meters (meter (banks_of state)) (meter (banks_of s)) ⊥) (sym same) (meters_none (meter (banks_of state)) (λ h. h))
+      → Meters (meter (state_banks state)) (meter (state_banks_after result)) (StateFailsOnDevice result)
+  quiet_meters (Ok next) same back = subst (λ (s : NodeState B). Meters (meter (state_banks state)) (meter (state_banks s)) ⊥) (sym same) (meters_none (meter (state_banks state)) (λ h. h))
   quiet_meters (Err refused) same back =
-      subst (λ (r : NodeFault × B). Meters (meter (banks_of state)) (meter r.1) (r.0 ≡ Device)) (sym back) (meters_none (meter (banks_of state)) not_device)
+      subst (λ (r : NodeFault × B). Meters (meter (state_banks state)) (meter r.1) (r.0 ≡ Device)) (sym back) (meters_none (meter (state_banks state)) not_device)

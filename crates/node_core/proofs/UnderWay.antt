@@ -4,18 +4,18 @@ use Rattle.mld_io.specs.Arm.{Meter}
 use Rattle.mld_io.specs.Disk.{Log}
 use Rattle.clone_banks.specs.KeptSteps.{KeptStep}
 use Rattle.journal_store.specs.Closing.{StaysTold}
-use Rattle.shell_session.specs.Lines.{ImagesFind, LeavesFront, StopsIn, Meters}
+use Rattle.shell_session.specs.SessionLines.{ImagesFind, LeavesFront, LeavesFrontOfDue, Meters}
 use Rattle.wire_frames.specs.declared.kinds.Frame.{Frame}
 use Rattle.wire_frames.specs.Frames.{FramesValue}
 use Rattle.node_exchange.specs.declared.connections.Connection.{Connection}
 use Rattle.node_exchange.specs.Exchanges.{ExchangeValue, holding}
-use Rattle.node_keeper.specs.States.{IsOpen, banks_of, keeper_of}
+use Rattle.node_keeper.specs.NodeStates.{IsOpen, state_banks, keeper_of}
 use Rattle.node_keeper.specs.declared.states.NodeState.{NodeState}
-use Rattle.node_model.specs.Keepers.{found_of}
+use Rattle.node_model.specs.Keepers.{keeper_found}
 use Rattle.node_model.specs.FrameSteps.{FrameStep, FramesStep, no_more}
-use Rattle.node_core.specs.Events.{IsDueByFrame, IsDueNext, IsDueByFrames}
+use Rattle.node_core.specs.NodeEvents.{IsDueByFrame, IsDueNext, IsDueByFrames}
 use Rattle.node_core.specs.Nodes.{IsGoodRole}
-use Rattle.node_core.specs.Steps.{TakesFrame, TakesFrames, IsHeld, GoesOn}
+use Rattle.node_core.specs.Steps.{TakesFrame, TakesFrames, IsHeld, ExchangeGoesOn}
 use Rattle.node_core.proofs.EventMoments.{no_steps, moments_then, told_same, told_then}
 use Rattle.node_core.proofs.EventMeters.{meters_none, meters_then}
 use Rattle.node_model.proofs.StepLaws.{frames_lead}
@@ -27,7 +27,7 @@ pub takes_none : {B : Type 0} (log : B → Option Log) (state : NodeState B) (ex
 takes_none log state exchange = record {
   steps = [];
   does = no_more (keeper_of state) exchange;
-  moments = no_steps (found_of (keeper_of state)) (log (banks_of state));
+  moments = no_steps (keeper_found (keeper_of state)) (log (state_banks state));
   settled = λ images. images;
 }
 
@@ -48,7 +48,7 @@ pub takes_more : {B : Type 0} (log : B → Option Log) (old now next : NodeState
 takes_more log old now next exchange between after taken one frame first goes hand second = record {
   steps = first.steps ++ second.steps;
   does = frames_more (keeper_of old) taken exchange first.steps (keeper_of now) between first.does one frame goes hand second.steps (keeper_of next) after second.does;
-  moments = moments_then (found_of (keeper_of old)) (found_of (keeper_of now)) first.steps second.steps (log (banks_of old)) (log (banks_of now)) (log (banks_of next))
+  moments = moments_then (keeper_found (keeper_of old)) (keeper_found (keeper_of now)) first.steps second.steps (log (state_banks old)) (log (state_banks now)) (log (state_banks next))
       (frames_lead (keeper_of old) taken exchange first.steps (keeper_of now) between first.does) first.moments first.settled second.moments;
   settled = λ images. second.settled (first.settled images);
 }
@@ -67,8 +67,8 @@ takes_end log old now exchange between frames taken rest whole first why = recor
 -- one frame more was under way
 pub stops_next : {B : Type 0} (log : B → Option Log) (old now : NodeState B) (exchange between : ExchangeValue) (frames taken more : List Frame) (one : Connection) (frame : Frame) (back : B)
     → frames ≡ taken ++ frame ∷ more → TakesFrames log taken old exchange now between → between.halted ≡ false → between.at_hand ≡ Some one
-    → StopsIn (IsDueByFrame (keeper_of now) one.role frame) log (found_of (keeper_of now)) (banks_of now) back
-    → StopsIn (IsDueByFrames (keeper_of old) frames exchange) log (found_of (keeper_of old)) (banks_of old) back
+    → LeavesFrontOfDue (IsDueByFrame (keeper_of now) one.role frame) log (keeper_found (keeper_of now)) (state_banks now) back
+    → LeavesFrontOfDue (IsDueByFrames (keeper_of old) frames exchange) log (keeper_found (keeper_of old)) (state_banks old) back
 stops_next log old now exchange between frames taken more one frame back whole first goes hand stop = record {
   steps = first.steps ++ stop.steps;
   due = inr (record {
@@ -83,7 +83,7 @@ stops_next log old now exchange between frames taken more one frame back whole f
     is_due = due_next stop.due;
     all = refl;
   });
-  moments = moments_then (found_of (keeper_of old)) (found_of (keeper_of now)) first.steps stop.steps (log (banks_of old)) (log (banks_of now)) (log back)
+  moments = moments_then (keeper_found (keeper_of old)) (keeper_found (keeper_of now)) first.steps stop.steps (log (state_banks old)) (log (state_banks now)) (log back)
       (frames_lead (keeper_of old) taken exchange first.steps (keeper_of now) between first.does) first.moments first.settled stop.moments;
 }
   where
@@ -93,8 +93,8 @@ stops_next log old now exchange between frames taken more one frame back whole f
 
 -- all frames were taken, and no more is done
 pub stops_behind : {B : Type 0} (log : B → Option Log) (old now : NodeState B) (exchange between : ExchangeValue) (frames : List Frame) (back : B)
-    → TakesFrames log frames old exchange now between → back ≡ banks_of now
-    → StopsIn (IsDueByFrames (keeper_of old) frames exchange) log (found_of (keeper_of old)) (banks_of old) back
+    → TakesFrames log frames old exchange now between → back ≡ state_banks now
+    → LeavesFrontOfDue (IsDueByFrames (keeper_of old) frames exchange) log (keeper_found (keeper_of old)) (state_banks old) back
 stops_behind {B = B} log old now exchange between frames back first same = record {
   steps = first.steps;
   due = inr (record {
@@ -109,7 +109,7 @@ stops_behind {B = B} log old now exchange between frames back first same = recor
     is_due = inl refl;
     all = sym (append-nil first.steps);
   });
-  moments = subst (λ (b : B). LeavesFront (found_of (keeper_of old)) first.steps (log (banks_of old)) (log b)) (sym same) first.moments;
+  moments = subst (λ (b : B). LeavesFront (keeper_found (keeper_of old)) first.steps (log (state_banks old)) (log b)) (sym same) first.moments;
 }
 
 -- ---- frames under way
@@ -120,12 +120,12 @@ pub record IsUnderWay {B : Type 0} (log : B → Option Log) (meter : B → Meter
   pub whole : frames ≡ taken ++ left
   pub done : TakesFrames log taken old exchange now between
   pub opened : IsOpen now
-  pub well : (number : ℕ) × (reader : FramesValue) × GoesOn number reader between
-  pub told : StaysTold (log (banks_of old)) (log (banks_of now))
-  pub meters : Meters (meter (banks_of old)) (meter (banks_of now)) ⊥
+  pub well : (number : ℕ) × (reader : FramesValue) × ExchangeGoesOn number reader between
+  pub told : StaysTold (log (state_banks old)) (log (state_banks now))
+  pub meters : Meters (meter (state_banks old)) (meter (state_banks now)) ⊥
 
 module _ {B : Type 0} (log : B → Option Log) (meter : B → Meter) (old : NodeState B) (frames : List Frame) (exchange : ExchangeValue) where
-  pub way_first : (left : List Frame) → left ≡ frames → IsOpen old → (number : ℕ) × (reader : FramesValue) × GoesOn number reader exchange
+  pub way_first : (left : List Frame) → left ≡ frames → IsOpen old → (number : ℕ) × (reader : FramesValue) × ExchangeGoesOn number reader exchange
       → IsUnderWay log meter old frames exchange old exchange left
   way_first left same opened well = record {
     taken = [];
@@ -133,15 +133,15 @@ module _ {B : Type 0} (log : B → Option Log) (meter : B → Meter) (old : Node
     done = takes_none log old exchange;
     opened = opened;
     well = well;
-    told = told_same (log (banks_of old));
-    meters = meters_none (meter (banks_of old)) (λ h. h);
+    told = told_same (log (state_banks old));
+    meters = meters_none (meter (state_banks old)) (λ h. h);
   }
 
   -- one more was taken
   pub way_more : (now next : NodeState B) (between mid after : ExchangeValue) (left rest : List Frame) (hand : Option Connection) (one : Connection) (frame : Frame)
       → IsUnderWay log meter old frames exchange now between left → left ≡ frame ∷ rest → between.halted ≡ false
       → hand ≡ between.at_hand → mid ≡ record between { at_hand = None } → hand ≡ Some one → TakesFrame log one frame now (holding one mid) next after
-      → IsOpen next → StaysTold (log (banks_of now)) (log (banks_of next)) → Meters (meter (banks_of now)) (meter (banks_of next)) ⊥
+      → IsOpen next → StaysTold (log (state_banks now)) (log (state_banks next)) → Meters (meter (state_banks now)) (meter (state_banks next)) ⊥
       → IsUnderWay log meter old frames exchange next after rest
   way_more now next between mid after left rest hand one frame way first goes out gone is does opened told meters =
       let back : holding one mid ≡ between = holding_same between mid hand one out gone is in
@@ -157,8 +157,8 @@ module _ {B : Type 0} (log : B → Option Log) (meter : B → Meter) (old : Node
           way.well.1,
           frame_well way.well.0 way.well.1 (keeper_of now) one frame between act.steps (keeper_of next) after act.does held way.well.2,
         );
-        told = told_then (log (banks_of old)) (log (banks_of now)) (log (banks_of next)) way.told told;
-        meters = meters_then (meter (banks_of old)) (meter (banks_of now)) (meter (banks_of next)) (λ h. h) way.meters meters;
+        told = told_then (log (state_banks old)) (log (state_banks now)) (log (state_banks next)) way.told told;
+        meters = meters_then (meter (state_banks old)) (meter (state_banks now)) (meter (state_banks next)) (λ h. h) way.meters meters;
       }
 
   -- the rest is dropped
@@ -177,18 +177,18 @@ module _ {B : Type 0} (log : B → Option Log) (meter : B → Meter) (old : Node
   -- one more was under way
   pub way_stops : (now : NodeState B) (between : ExchangeValue) (left rest : List Frame) (hand : Option Connection) (one : Connection) (frame : Frame) (back : B)
       → IsUnderWay log meter old frames exchange now between left → left ≡ frame ∷ rest → between.halted ≡ false → hand ≡ between.at_hand → hand ≡ Some one
-      → StopsIn (IsDueByFrame (keeper_of now) one.role frame) log (found_of (keeper_of now)) (banks_of now) back
-      → StopsIn (IsDueByFrames (keeper_of old) frames exchange) log (found_of (keeper_of old)) (banks_of old) back
+      → LeavesFrontOfDue (IsDueByFrame (keeper_of now) one.role frame) log (keeper_found (keeper_of now)) (state_banks now) back
+      → LeavesFrontOfDue (IsDueByFrames (keeper_of old) frames exchange) log (keeper_found (keeper_of old)) (state_banks old) back
   way_stops now between left rest hand one frame back way first goes out is stop =
       stops_next log old now exchange between frames way.taken rest one frame back (way.whole ∙ ap (λ (fs : List Frame). way.taken ++ fs) first) way.done goes (sym out ∙ is) stop
 
   pub way_tells : (now : NodeState B) (between : ExchangeValue) (left : List Frame) (back : B) → IsUnderWay log meter old frames exchange now between left
-      → StaysTold (log (banks_of now)) (log back) → StaysTold (log (banks_of old)) (log back)
-  way_tells now between left back way told = told_then (log (banks_of old)) (log (banks_of now)) (log back) way.told told
+      → StaysTold (log (state_banks now)) (log back) → StaysTold (log (state_banks old)) (log back)
+  way_tells now between left back way told = told_then (log (state_banks old)) (log (state_banks now)) (log back) way.told told
 
   pub way_counts : {Told : Type 0} (now : NodeState B) (between : ExchangeValue) (left : List Frame) (back : B) → IsUnderWay log meter old frames exchange now between left
-      → Meters (meter (banks_of now)) (meter back) Told → Meters (meter (banks_of old)) (meter back) Told
-  way_counts now between left back way meters = meters_then (meter (banks_of old)) (meter (banks_of now)) (meter back) (λ h. h) way.meters meters
+      → Meters (meter (state_banks now)) (meter back) Told → Meters (meter (state_banks old)) (meter back) Told
+  way_counts now between left back way meters = meters_then (meter (state_banks old)) (meter (state_banks now)) (meter back) (λ h. h) way.meters meters
 
   -- the connection that was taken out may take a frame
   pub way_good : (now : NodeState B) (between : ExchangeValue) (left : List Frame) (hand : Option Connection) (one : Connection) → IsUnderWay log meter old frames exchange now between left

@@ -1,3 +1,3 @@
 pub mod Nodes
-pub mod Events
+pub mod NodeEvents
 pub mod Steps

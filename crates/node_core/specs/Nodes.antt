@@ -8,7 +8,7 @@ use Rattle.node_exchange.specs.Connections.{AreNumbered}
 use Rattle.node_keeper.specs.declared.faults.NodeFault.{NodeFault}
 use Rattle.node_keeper.specs.declared.faults.NodeFault.TheVariants.{Device}
 use Rattle.node_keeper.specs.declared.states.NodeState.{NodeState}
-use Rattle.node_keeper.specs.States as states
+use Rattle.node_keeper.specs.NodeStates as states
 use Rattle.node_model.specs.Events.{NodeValue}
 
 -- what contracts see of a node: what it has on its banks, its connections, and whether it has ended
@@ -22,8 +22,8 @@ abbrev pub node_value : {B : Type 0} → BankedNode B → NodeValue
 node_value node = record { keeper = states.keeper_of node.state; connections = node.connections; halted = node.halted }
 
 -- its banks
-abbrev pub banks_of : {B : Type 0} → BankedNode B → B
-banks_of node = states.banks_of node.state
+abbrev pub node_banks : {B : Type 0} → BankedNode B → B
+node_banks node = states.state_banks node.state
 
 -- the banks, whatever an event answered
 abbrev pub banks_left : {A B : Type 0} → (A → B) → Result A (NodeFault × B) → B
@@ -49,6 +49,6 @@ pub record IsGood (one : Connection) : Type 0 where
   pub role : IsGoodRole one.role
 
 -- each connection may go on, and their numbers ascend
-pub record AreWell (connections : List Connection) : Type 0 where
+pub record MayGoOn (connections : List Connection) : Type 0 where
   pub good : AllByRecursion IsGood connections
   pub numbered : AreNumbered connections

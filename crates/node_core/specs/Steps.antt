@@ -10,17 +10,17 @@ use Rattle.wire_frames.specs.declared.kinds.Frame.{Frame}
 use Rattle.wire_frames.specs.declared.kinds.Frame.TheVariants.{Hello}
 use Rattle.wire_frames.specs.declared.faults.FrameFault.{FrameFault}
 use Rattle.wire_frames.specs.Frames.{FramesValue, Feeds, frame_bytes, hello_format}
-use Rattle.wire_frames.specs.Parts.{AssemblyValue, Assembles}
+use Rattle.wire_frames.specs.MessageParts.{AssemblyValue, Assembles}
 use Rattle.node_exchange.specs.declared.connections.Connection.{Connection}
 use Rattle.node_exchange.specs.declared.connections.Role.{Role}
 use Rattle.node_exchange.specs.declared.connections.Role.TheVariants as role
 use Rattle.node_exchange.specs.declared.connections.Sent.{Sent}
-use Rattle.node_exchange.specs.Connections.{AreNumbered, connection_of, without, placed, opened, is_peer}
+use Rattle.node_exchange.specs.Connections.{AreNumbered, connection_of, without, connections_with, opened, is_peer}
 use Rattle.node_exchange.specs.Exchanges.{ExchangeValue, says}
-use Rattle.node_keeper.specs.Deeds.{DoesBy}
-use Rattle.node_keeper.specs.States.{keeper_of}
+use Rattle.node_keeper.specs.NodeDeeds.{NodeDoesBy}
+use Rattle.node_keeper.specs.NodeStates.{keeper_of}
 use Rattle.node_keeper.specs.declared.states.NodeState.{NodeState}
-use Rattle.node_model.specs.Keepers.{Keeper, id_of, domain_of}
+use Rattle.node_model.specs.Keepers.{Keeper, keeper_id, keeper_domain}
 use Rattle.node_model.specs.FrameSteps.{FrameStep, FramesStep, with_parts, faulting}
 use Rattle.node_model.specs.Events.{beginning, put_back}
 use Rattle.node_core.specs.declared.pieces.Rest.{Rest}
@@ -37,11 +37,11 @@ is_fresh (role.Peer assembly) = false
 
 -- by which code a Hello is refused, if it is
 abbrev pub IsJudged : Keeper → ℕ → List ℕ → List ℕ → Option ℕ → Type 0
-IsJudged keeper format id domain None = (format ≡ hello_format) × (domain ≡ domain_of keeper) × (id ≢ id_of keeper)
+IsJudged keeper format id domain None = (format ≡ hello_format) × (domain ≡ keeper_domain keeper) × (id ≢ keeper_id keeper)
 IsJudged keeper format id domain (Some code) =
     ((code ≡ 4) × (format ≢ hello_format))
-    ⊎ (((code ≡ 3) × ((format ≡ hello_format) × (domain ≢ domain_of keeper)))
-    ⊎ ((code ≡ 5) × ((format ≡ hello_format) × ((domain ≡ domain_of keeper) × (id ≡ id_of keeper)))))
+    ⊎ (((code ≡ 3) × ((format ≡ hello_format) × (domain ≢ keeper_domain keeper)))
+    ⊎ ((code ≡ 5) × ((format ≡ hello_format) × ((domain ≡ keeper_domain keeper) × (id ≡ keeper_id keeper)))))
 
 -- ---- a part
 
@@ -66,12 +66,12 @@ MayAddPart old number index count piece (Some result) new = AddsPart old number 
 -- the connection at hand took a frame
 abbrev pub TakesFrame : {B : Type 0} → (B → Option Log) → Connection → Frame → NodeState B → ExchangeValue → NodeState B → ExchangeValue → Type 0
 TakesFrame log one frame old exchange next after =
-    DoesBy (λ steps. FrameStep (keeper_of old) one frame exchange steps (keeper_of next) after) log old next
+    NodeDoesBy (λ steps. FrameStep (keeper_of old) one frame exchange steps (keeper_of next) after) log old next
 
 -- frames were taken, one after another
 abbrev pub TakesFrames : {B : Type 0} → (B → Option Log) → List Frame → NodeState B → ExchangeValue → NodeState B → ExchangeValue → Type 0
 TakesFrames log frames old exchange next after =
-    DoesBy (λ steps. FramesStep (keeper_of old) frames exchange steps (keeper_of next) after) log old next
+    NodeDoesBy (λ steps. FramesStep (keeper_of old) frames exchange steps (keeper_of next) after) log old next
 
 -- ---- an exchange that goes on
 
@@ -81,7 +81,7 @@ IsHeld number reader None = Unit {0}
 IsHeld number reader (Some one) = (one.number ≡ number) × ((one.frames ≡ reader) × IsGoodRole one.role)
 
 -- and the others go on
-pub record GoesOn (number : ℕ) (reader : FramesValue) (exchange : ExchangeValue) : Type 0 where
+pub record ExchangeGoesOn (number : ℕ) (reader : FramesValue) (exchange : ExchangeValue) : Type 0 where
   pub held : IsHeld number reader exchange.at_hand
   pub good : AllByRecursion IsGood exchange.others
   pub numbered : AreNumbered exchange.others
@@ -89,12 +89,12 @@ pub record GoesOn (number : ℕ) (reader : FramesValue) (exchange : ExchangeValu
 
 -- no frame was refused that is told by this
 abbrev pub MayEnd : Option FrameFault → ExchangeValue → Type 0
-MayEnd fault exchange = (number : ℕ) × (reader : FramesValue) × GoesOn number reader exchange × (fault ≡ None → IsTrue reader.good)
+MayEnd fault exchange = (number : ℕ) × (reader : FramesValue) × ExchangeGoesOn number reader exchange × (fault ≡ None → IsTrue reader.good)
 
 -- ---- a piece
 
 -- an exchange ended, behind a fault of frames, if there is one
-pub record EndsBy (fault : Option FrameFault) (exchange : ExchangeValue) (rest : Rest) : Type 0 where
+pub record ExchangeEnds (fault : Option FrameFault) (exchange : ExchangeValue) (rest : Rest) : Type 0 where
   pub sends : rest.sent.items ≡ (faulting fault exchange).sent
   pub left : rest.connections.items ≡ put_back (faulting fault exchange).at_hand (faulting fault exchange).others
   pub ends : rest.halted ≡ (faulting fault exchange).halted
@@ -108,7 +108,7 @@ MayPutBack (Some one) others = AreNumbered others × (connection_of one.number o
 pub record TakesFed {B : Type 0} (log : B → Option Log) (old : NodeState B) (exchange : ExchangeValue) (fed : Fed) (taken : Taken B) : Type 0 where
   pub middle : ExchangeValue
   pub does : TakesFrames log fed.frames.items old exchange taken.state middle
-  pub ends : EndsBy fed.fault middle taken.rest
+  pub ends : ExchangeEnds fed.fault middle taken.rest
 
 -- a piece was taken on a connection, beside these others
 pub record TakesPieceOn {B : Type 0} (log : B → Option Log) (old : NodeState B) (one : Connection) (others : List Connection) (piece : List ℕ) (taken : Taken B) : Type 0 where
@@ -118,7 +118,7 @@ pub record TakesPieceOn {B : Type 0} (log : B → Option Log) (old : NodeState B
   pub reads : Feeds one.frames.rest piece frames fault reader.rest
   pub middle : ExchangeValue
   pub does : TakesFrames log frames old (beginning (record one { frames = reader }) others) taken.state middle
-  pub ends : EndsBy fault middle taken.rest
+  pub ends : ExchangeEnds fault middle taken.rest
 
 -- ---- an event
 
@@ -131,6 +131,6 @@ taken_node taken = record { state = taken.state; connections = taken.rest.connec
 
 -- a connection more was opened, and greeted
 pub record GreetsOn {B : Type 0} (state : NodeState B) (connections : List Connection) (number : ℕ) (rest : Rest) : Type 0 where
-  pub hello : rest.sent.items ≡ says number (frame_bytes (Hello hello_format (id_of (keeper_of state)) (domain_of (keeper_of state)))) ∷ []
-  pub becomes : rest.connections.items ≡ placed (opened number) (without number connections)
+  pub hello : rest.sent.items ≡ says number (frame_bytes (Hello hello_format (keeper_id (keeper_of state)) (keeper_domain (keeper_of state)))) ∷ []
+  pub becomes : rest.connections.items ≡ connections_with (opened number) (without number connections)
   pub goes_on : rest.halted ≡ false

@@ -1,16 +1,16 @@
 //! What a node does with a frame.
 ghost use Rattle.std.specs.Prelude.{◌≡◌, ℕ, false, Some, IfOk, IfErr, OnOk, IsTrue};
 ghost use Rattle.journal_store.specs.Closing.{StaysTold};
-ghost use Rattle.shell_session.specs.Lines.{Meters};
+ghost use Rattle.shell_session.specs.SessionLines.{Meters};
 ghost use Rattle.wire_frames.specs.declared.kinds.Frame.TheVariants as kinds;
 ghost use Rattle.wire_frames.specs.Frames.{FramesValue};
 ghost use Rattle.node_exchange.specs.Connections.{is_peer, as_peer};
 ghost use Rattle.node_exchange.specs.Exchanges.{holding, refusing, telling};
-ghost use Rattle.node_keeper.specs.States.{IsOpen, banks_of, keeper_of, banks_after, FailsOnDevice};
+ghost use Rattle.node_keeper.specs.NodeStates.{IsOpen, state_banks, keeper_of, state_banks_after, StateFailsOnDevice};
 ghost use Rattle.node_model.specs.Keepers.{question_of};
 ghost use Rattle.node_core.specs.Nodes.{IsGoodRole};
-ghost use Rattle.node_core.specs.Events.{StopsFrame, StopsFrames};
-ghost use Rattle.node_core.specs.Steps.{TakesFrame, TakesFrames, MayAddPart, GoesOn, is_fresh};
+ghost use Rattle.node_core.specs.NodeEvents.{StopsFrame, StopsFrames};
+ghost use Rattle.node_core.specs.Steps.{TakesFrame, TakesFrames, MayAddPart, ExchangeGoesOn, is_fresh};
 
 use crate::greeting::refusal;
 use iri_rules::Text;
@@ -42,12 +42,12 @@ pub(crate) fn take_frames<R: Threads, B: Banks>(
     exchange: &mut Exchange,
 ) -> Result<NodeState<B>, (NodeFault, B)>
     requires opened { IsOpen state }
-    requires goes_on { (number : ℕ) × (reader : FramesValue) × GoesOn number reader exchange.old }
+    requires goes_on { (number : ℕ) × (reader : FramesValue) × ExchangeGoesOn number reader exchange.old }
     ensures done { IfOk result (λ next. TakesFrames B.log frames.items state exchange.old next exchange.new) }
     ensures opened { IfOk result IsOpen }
     ensures stopped { IfErr result (λ refused. StopsFrames B.log frames.items state exchange.old refused.1) }
-    ensures told { StaysTold (B.log (banks_of state)) (B.log (banks_after result)) }
-    ensures fault { Meters (B.meter (banks_of state)) (B.meter (banks_after result)) (FailsOnDevice result) }
+    ensures told { StaysTold (B.log (state_banks state)) (B.log (state_banks_after result)) }
+    ensures fault { Meters (B.meter (state_banks state)) (B.meter (state_banks_after result)) (StateFailsOnDevice result) }
 {
     let mut state = state;
     for frame in frames {
@@ -83,8 +83,8 @@ fn take_frame<R: Threads, B: Banks>(
     ensures done { IfOk result (λ next. TakesFrame B.log one frame state (holding one exchange.old) next exchange.new) }
     ensures opened { IfOk result IsOpen }
     ensures stopped { IfErr result (λ refused. StopsFrame B.log one.role frame state refused.1) }
-    ensures told { StaysTold (B.log (banks_of state)) (B.log (banks_after result)) }
-    ensures fault { Meters (B.meter (banks_of state)) (B.meter (banks_after result)) (FailsOnDevice result) }
+    ensures told { StaysTold (B.log (state_banks state)) (B.log (state_banks_after result)) }
+    ensures fault { Meters (B.meter (state_banks state)) (B.meter (state_banks_after result)) (StateFailsOnDevice result) }
 {
     match frame {
         Frame::Hello(format, id, domain) => {
@@ -112,7 +112,7 @@ fn greet<B: Banks>(
     ensures done { IfOk result (λ next. TakesFrame B.log one (kinds.Hello format id.now domain.now) state
         (holding one exchange.old) next exchange.new) }
     ensures same { IfOk result (λ next. next ≡ state) }
-    ensures err { IfErr result (λ refused. refused ≡ (NodeFault.NoMemory, banks_of state)) }
+    ensures err { IfErr result (λ refused. refused ≡ (NodeFault.NoMemory, state_banks state)) }
 {
     if !is_fresh(&one.role) {
         return misplace(state, one, exchange);
@@ -142,8 +142,8 @@ fn take_request<B: Banks>(
         (λ next. TakesFrame B.log one (kinds.Request line.now) state (holding one exchange.old) next exchange.new) }
     ensures opened { IfOk result IsOpen }
     ensures stopped { IfErr result (λ refused. StopsFrame B.log one.role (kinds.Request line.now) state refused.1) }
-    ensures told { StaysTold (B.log (banks_of state)) (B.log (banks_after result)) }
-    ensures fault { Meters (B.meter (banks_of state)) (B.meter (banks_after result)) (FailsOnDevice result) }
+    ensures told { StaysTold (B.log (state_banks state)) (B.log (state_banks_after result)) }
+    ensures fault { Meters (B.meter (state_banks state)) (B.meter (state_banks_after result)) (StateFailsOnDevice result) }
 {
     if is_peer(&one.role) {
         return misplace(state, one, exchange);
@@ -175,8 +175,8 @@ fn take_part<R: Threads, B: Banks>(
     ensures opened { IfOk result IsOpen }
     ensures stopped { IfErr result
         (λ refused. StopsFrame B.log one.role (kinds.Part number index count piece) state refused.1) }
-    ensures told { StaysTold (B.log (banks_of state)) (B.log (banks_after result)) }
-    ensures fault { Meters (B.meter (banks_of state)) (B.meter (banks_after result)) (FailsOnDevice result) }
+    ensures told { StaysTold (B.log (state_banks state)) (B.log (state_banks_after result)) }
+    ensures fault { Meters (B.meter (state_banks state)) (B.meter (state_banks_after result)) (StateFailsOnDevice result) }
 {
     let added = add_part(&mut one, number, index, count, piece);
     exchange.hold(one);
@@ -216,7 +216,7 @@ fn misplace<B: Banks>(
 ) -> Result<NodeState<B>, (NodeFault, B)>
     ensures sent { OnOk result (exchange.new ≡ refusing 6 (holding one exchange.old)) }
     ensures same { IfOk result (λ next. next ≡ state) }
-    ensures err { IfErr result (λ refused. refused ≡ (NodeFault.NoMemory, banks_of state)) }
+    ensures err { IfErr result (λ refused. refused ≡ (NodeFault.NoMemory, state_banks state)) }
 {
     exchange.hold(one);
     refuse(state, OUT_OF_PLACE, exchange)
@@ -230,7 +230,7 @@ fn refuse<B: Banks>(
 ) -> Result<NodeState<B>, (NodeFault, B)>
     ensures sent { OnOk result (exchange.new ≡ refusing code exchange.old) }
     ensures same { IfOk result (λ next. next ≡ state) }
-    ensures err { IfErr result (λ refused. refused ≡ (NodeFault.NoMemory, banks_of state)) }
+    ensures err { IfErr result (λ refused. refused ≡ (NodeFault.NoMemory, state_banks state)) }
 {
     match exchange.refuse(code) {
         Ok(()) => Ok(state),
@@ -246,7 +246,7 @@ fn ask<B: Banks>(
 ) -> Result<NodeState<B>, (NodeFault, B)>
     ensures sent { OnOk result (exchange.new ≡ telling (question_of (keeper_of state)) exchange.old) }
     ensures same { IfOk result (λ next. next ≡ state) }
-    ensures err { IfErr result (λ refused. refused ≡ (NodeFault.NoMemory, banks_of state)) }
+    ensures err { IfErr result (λ refused. refused ≡ (NodeFault.NoMemory, state_banks state)) }
 {
     match tell_question(alloc, &state, exchange) {
         Ok(()) => Ok(state),

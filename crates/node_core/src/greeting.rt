@@ -1,7 +1,7 @@
 //! What a node says first on a connection, and what it makes of a Hello.
 ghost use Rattle.std.specs.Prelude.{◌≡◌, IfOk};
-ghost use Rattle.node_keeper.specs.States.{keeper_of};
-ghost use Rattle.node_model.specs.Keepers.{id_of, domain_of};
+ghost use Rattle.node_keeper.specs.NodeStates.{keeper_of};
+ghost use Rattle.node_model.specs.Keepers.{keeper_id, keeper_domain};
 ghost use Rattle.node_core.specs.Steps.{IsJudged};
 ghost use Rattle.wire_frames.specs.Frames.{hello_format, frame_bytes};
 ghost use Rattle.wire_frames.specs.declared.kinds.Frame.TheVariants.{Hello};
@@ -28,7 +28,7 @@ const OWN_ID: u8 = 5;
 /// The frame by which a node tells who it is.
 pub(crate) fn hello<B: Banks>(alloc: Global, state: &NodeState<B>) -> Result<Piece, AllocError>
     ensures { IfOk result (λ piece. piece
-        ≡ frame_bytes (Hello hello_format (id_of (keeper_of state.now)) (domain_of (keeper_of state.now)))) }
+        ≡ frame_bytes (Hello hello_format (keeper_id (keeper_of state.now)) (keeper_domain (keeper_of state.now)))) }
 {
     let id = state.id();
     let domain = Text::new(alloc, state.domain())?;

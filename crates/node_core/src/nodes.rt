@@ -1,14 +1,14 @@
 //! The node.
 ghost use Rattle.std.specs.Prelude.{◌≡◌, [], None, false, IfOk, IfErr};
 ghost use Rattle.journal_store.specs.Closing.{StaysTold};
-ghost use Rattle.shell_session.specs.Lines.{Meters};
+ghost use Rattle.shell_session.specs.SessionLines.{Meters};
 ghost use Rattle.node_exchange.specs.Connections.{opened, without};
 ghost use Rattle.mld_io.specs.declared.events.Event.TheVariants as events;
-ghost use Rattle.node_keeper.specs.States.{FindsNow, IsOpen, keeper_of};
-ghost use Rattle.node_keeper.specs.States as states;
-ghost use Rattle.node_model.specs.Keepers.{found_of};
-ghost use Rattle.node_core.specs.Nodes.{AreWell, node_value, banks_of, banks_left, IsDeviceFault};
-ghost use Rattle.node_core.specs.Events.{DoesEvent, StopsEvent};
+ghost use Rattle.node_keeper.specs.NodeStates.{FindsNow, IsOpen, keeper_of};
+ghost use Rattle.node_keeper.specs.NodeStates as states;
+ghost use Rattle.node_model.specs.Keepers.{keeper_found};
+ghost use Rattle.node_core.specs.Nodes.{MayGoOn, node_value, node_banks, banks_left, IsDeviceFault};
+ghost use Rattle.node_core.specs.NodeEvents.{DoesEvent, StopsEvent};
 ghost use Rattle.node_core.specs.Steps.{node_with, taken_node, GreetsOn};
 
 use crate::greeting::hello;
@@ -29,13 +29,13 @@ pub struct Node<B: Banks> {
 }
 
 impl<B: Banks> Model for Node<B> {
-    ghost use Rattle.node_core.specs.Nodes.{BankedNode, AreWell};
+    ghost use Rattle.node_core.specs.Nodes.{BankedNode, MayGoOn};
 
     ghost Value = { BankedNode B };
 
     ghost view = { λ node. record { state = node.state; connections = node.connections.items; halted = node.halted } };
 
-    ghost invariant = { λ node. AreWell node.connections.items };
+    ghost invariant = { λ node. MayGoOn node.connections.items };
 }
 
 impl<B: Banks> Node<B> {
@@ -66,8 +66,8 @@ impl<B: Banks> Node<B> {
         ensures done { IfOk result (λ done. DoesEvent B.log self event.now done.0 done.1.items) }
         ensures opened { IfOk result (λ done. IsOpen done.0.state) }
         ensures stopped { IfErr result (λ refused. StopsEvent B.log self event.now refused.1) }
-        ensures told { StaysTold (B.log (banks_of self)) (B.log (banks_left (λ done. banks_of done.0) result)) }
-        ensures fault { Meters (B.meter (banks_of self)) (B.meter (banks_left (λ done. banks_of done.0) result))
+        ensures told { StaysTold (B.log (node_banks self)) (B.log (banks_left (λ done. node_banks done.0) result)) }
+        ensures fault { Meters (B.meter (node_banks self)) (B.meter (banks_left (λ done. node_banks done.0) result))
             (IsDeviceFault result) }
     {
         let Node {
@@ -90,8 +90,8 @@ impl<B: Banks> Node<B> {
 
     /// The banks, which keep what the node has where it is open. A live clone stops. It takes no memory and calls no device.
     pub fn stop(self) -> B
-        ensures banks { result ≡ banks_of self }
-        ensures kept { IsOpen self.state → FindsNow (found_of (keeper_of self.state)) (B.log result) }
+        ensures banks { result ≡ node_banks self }
+        ensures kept { IsOpen self.state → FindsNow (keeper_found (keeper_of self.state)) (B.log result) }
     {
         self.state.into_banks()
     }
@@ -99,7 +99,7 @@ impl<B: Banks> Node<B> {
 
 /// The node behind an event, and what is to be sent.
 fn going_on<B: Banks>(taken: Taken<B>) -> (Node<B>, Vec<Sent>)
-    requires { AreWell taken.rest.connections.items }
+    requires { MayGoOn taken.rest.connections.items }
     ensures node { result.0 ≡ taken_node taken }
     ensures sent { result.1 ≡ taken.rest.sent }
 {
@@ -132,17 +132,17 @@ fn do_event<R: Threads, B: Banks>(
     event: &Event,
 ) -> Result<Taken<B>, (NodeFault, B)>
     requires opened { IsOpen state }
-    requires well { AreWell connections.items }
+    requires well { MayGoOn connections.items }
     ensures done { IfOk result (λ taken. DoesEvent B.log (node_with state connections.items) event.now
         (taken_node taken) taken.rest.sent.items) }
-    ensures well { IfOk result (λ taken. AreWell taken.rest.connections.items) }
+    ensures well { IfOk result (λ taken. MayGoOn taken.rest.connections.items) }
     ensures opened { IfOk result (λ taken. IsOpen taken.state) }
     ensures stopped { IfErr result
         (λ refused. StopsEvent B.log (node_with state connections.items) event.now refused.1) }
-    ensures told { StaysTold (B.log (states.banks_of state))
-        (B.log (banks_left (λ taken. states.banks_of taken.state) result)) }
-    ensures fault { Meters (B.meter (states.banks_of state))
-        (B.meter (banks_left (λ taken. states.banks_of taken.state) result)) (IsDeviceFault result) }
+    ensures told { StaysTold (B.log (states.state_banks state))
+        (B.log (banks_left (λ taken. states.state_banks taken.state) result)) }
+    ensures fault { Meters (B.meter (states.state_banks state))
+        (B.meter (banks_left (λ taken. states.state_banks taken.state) result)) (IsDeviceFault result) }
 {
     match event {
         Event::Opened(number) => open(alloc, state, connections, *number),
@@ -161,11 +161,11 @@ fn open<B: Banks>(
     connections: Vec<Connection>,
     number: u32,
 ) -> Result<Taken<B>, (NodeFault, B)>
-    requires well { AreWell connections.items }
+    requires well { MayGoOn connections.items }
     ensures done { IfOk result (λ taken. GreetsOn state connections.items number taken.rest) }
-    ensures well { IfOk result (λ taken. AreWell taken.rest.connections.items) }
+    ensures well { IfOk result (λ taken. MayGoOn taken.rest.connections.items) }
     ensures same { IfOk result (λ taken. taken.state ≡ state) }
-    ensures err { IfErr result (λ refused. refused ≡ (NodeFault.NoMemory, states.banks_of state)) }
+    ensures err { IfErr result (λ refused. refused ≡ (NodeFault.NoMemory, states.state_banks state)) }
 {
     match opened(alloc, &state, connections, number) {
         Ok(rest) => Ok(Taken { state, rest }),
@@ -180,9 +180,9 @@ fn opened<B: Banks>(
     mut connections: Vec<Connection>,
     number: u32,
 ) -> Result<Rest, AllocError>
-    requires well { AreWell connections.items }
+    requires well { MayGoOn connections.items }
     ensures done { IfOk result (GreetsOn state.now connections.items number) }
-    ensures well { IfOk result (λ rest. AreWell rest.connections.items) }
+    ensures well { IfOk result (λ rest. MayGoOn rest.connections.items) }
 {
     let piece = hello(alloc, state)?;
     let mut sent = Vec::new(alloc);
@@ -226,17 +226,17 @@ fn read<R: Threads, B: Banks>(
     piece: &[u8],
 ) -> Result<Taken<B>, (NodeFault, B)>
     requires opened { IsOpen state }
-    requires well { AreWell connections.items }
+    requires well { MayGoOn connections.items }
     ensures done { IfOk result (λ taken. DoesEvent B.log (node_with state connections.items)
         (events.Bytes number piece.now) (taken_node taken) taken.rest.sent.items) }
-    ensures well { IfOk result (λ taken. AreWell taken.rest.connections.items) }
+    ensures well { IfOk result (λ taken. MayGoOn taken.rest.connections.items) }
     ensures opened { IfOk result (λ taken. IsOpen taken.state) }
     ensures stopped { IfErr result
         (λ refused. StopsEvent B.log (node_with state connections.items) (events.Bytes number piece.now) refused.1) }
-    ensures told { StaysTold (B.log (states.banks_of state))
-        (B.log (banks_left (λ taken. states.banks_of taken.state) result)) }
-    ensures fault { Meters (B.meter (states.banks_of state))
-        (B.meter (banks_left (λ taken. states.banks_of taken.state) result)) (IsDeviceFault result) }
+    ensures told { StaysTold (B.log (states.state_banks state))
+        (B.log (banks_left (λ taken. states.state_banks taken.state) result)) }
+    ensures fault { Meters (B.meter (states.state_banks state))
+        (B.meter (banks_left (λ taken. states.state_banks taken.state) result)) (IsDeviceFault result) }
 {
     match take_connection(&mut connections, number) {
         Some(one) => take_piece(rt, alloc, state, one, connections, piece),
@@ -251,11 +251,11 @@ fn forget<B: Banks>(
     mut connections: Vec<Connection>,
     number: u32,
 ) -> Taken<B>
-    requires { AreWell connections.items }
+    requires { MayGoOn connections.items }
     ensures sent { result.rest.sent.items ≡ [] }
     ensures node { taken_node result
         ≡ record { state = state; connections = without number connections.items; halted = false } }
-    ensures well { AreWell result.rest.connections.items }
+    ensures well { MayGoOn result.rest.connections.items }
 {
     take_connection(&mut connections, number);
     becomes(alloc, state, connections, false)

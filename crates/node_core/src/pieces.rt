@@ -1,14 +1,14 @@
 //! What a node does with a piece of a connection.
 ghost use Rattle.std.specs.Prelude.{◌≡◌, None, IfOk, IfErr, OnOk};
 ghost use Rattle.journal_store.specs.Closing.{StaysTold};
-ghost use Rattle.shell_session.specs.Lines.{Meters};
+ghost use Rattle.shell_session.specs.SessionLines.{Meters};
 ghost use Rattle.node_exchange.specs.Connections.{AreNumbered, connection_of};
-ghost use Rattle.node_keeper.specs.States.{IsOpen, banks_of};
-ghost use Rattle.node_model.specs.FrameSteps.{code_of, faulting};
-ghost use Rattle.node_core.specs.Nodes.{IsGood, AreWell, banks_left, IsDeviceFault};
+ghost use Rattle.node_keeper.specs.NodeStates.{IsOpen, state_banks};
+ghost use Rattle.node_model.specs.FrameSteps.{refusal_code, faulting};
+ghost use Rattle.node_core.specs.Nodes.{IsGood, MayGoOn, banks_left, IsDeviceFault};
 ghost use Rattle.node_model.specs.Events.{put_back};
-ghost use Rattle.node_core.specs.Events.{StopsFrames, StopsPiece};
-ghost use Rattle.node_core.specs.Steps.{MayEnd, EndsBy, MayPutBack, TakesFed, TakesPieceOn};
+ghost use Rattle.node_core.specs.NodeEvents.{StopsFrames, StopsPiece};
+ghost use Rattle.node_core.specs.Steps.{MayEnd, ExchangeEnds, MayPutBack, TakesFed, TakesPieceOn};
 
 use crate::frames::take_frames;
 use mld_io::Banks;
@@ -54,14 +54,14 @@ pub(crate) fn take_piece<R: Threads, B: Banks>(
 ) -> Result<Taken<B>, (NodeFault, B)>
     requires opened { IsOpen state }
     requires good { IsGood one }
-    requires others { AreWell others.items }
+    requires others { MayGoOn others.items }
     requires apart { connection_of one.number others.items ≡ None }
     ensures done { IfOk result (TakesPieceOn B.log state one others.items piece.now) }
-    ensures well { IfOk result (λ taken. AreWell taken.rest.connections.items) }
+    ensures well { IfOk result (λ taken. MayGoOn taken.rest.connections.items) }
     ensures opened { IfOk result (λ taken. IsOpen taken.state) }
     ensures stopped { IfErr result (λ refused. StopsPiece B.log one others.items piece.now state refused.1) }
-    ensures told { StaysTold (B.log (banks_of state)) (B.log (banks_left (λ taken. banks_of taken.state) result)) }
-    ensures fault { Meters (B.meter (banks_of state)) (B.meter (banks_left (λ taken. banks_of taken.state) result))
+    ensures told { StaysTold (B.log (state_banks state)) (B.log (banks_left (λ taken. state_banks taken.state) result)) }
+    ensures fault { Meters (B.meter (state_banks state)) (B.meter (banks_left (λ taken. state_banks taken.state) result))
         (IsDeviceFault result) }
 {
     match one.frames.feed(piece) {
@@ -85,11 +85,11 @@ fn take_fed<R: Threads, B: Banks>(
     requires opened { IsOpen state }
     requires goes_on { MayEnd fed.fault exchange }
     ensures done { IfOk result (TakesFed B.log state exchange fed) }
-    ensures well { IfOk result (λ taken. AreWell taken.rest.connections.items) }
+    ensures well { IfOk result (λ taken. MayGoOn taken.rest.connections.items) }
     ensures opened { IfOk result (λ taken. IsOpen taken.state) }
     ensures stopped { IfErr result (λ refused. StopsFrames B.log fed.frames.items state exchange refused.1) }
-    ensures told { StaysTold (B.log (banks_of state)) (B.log (banks_left (λ taken. banks_of taken.state) result)) }
-    ensures fault { Meters (B.meter (banks_of state)) (B.meter (banks_left (λ taken. banks_of taken.state) result))
+    ensures told { StaysTold (B.log (state_banks state)) (B.log (banks_left (λ taken. state_banks taken.state) result)) }
+    ensures fault { Meters (B.meter (state_banks state)) (B.meter (banks_left (λ taken. state_banks taken.state) result))
         (IsDeviceFault result) }
 {
     let Fed { frames, fault } = fed;
@@ -105,10 +105,10 @@ fn finish<B: Banks>(
     exchange: Exchange,
     fault: Option<FrameFault>,
 ) -> Result<Taken<B>, (NodeFault, B)>
-    ensures ends { IfOk result (λ taken. EndsBy fault exchange taken.rest) }
-    ensures well { MayEnd fault exchange → IfOk result (λ taken. AreWell taken.rest.connections.items) }
+    ensures ends { IfOk result (λ taken. ExchangeEnds fault exchange taken.rest) }
+    ensures well { MayEnd fault exchange → IfOk result (λ taken. MayGoOn taken.rest.connections.items) }
     ensures same { IfOk result (λ taken. taken.state ≡ state) }
-    ensures err { IfErr result (λ refused. refused ≡ (NodeFault.NoMemory, banks_of state)) }
+    ensures err { IfErr result (λ refused. refused ≡ (NodeFault.NoMemory, state_banks state)) }
 {
     match end(exchange, fault) {
         Ok(rest) => Ok(Taken { state, rest }),
@@ -119,8 +119,8 @@ fn finish<B: Banks>(
 /// Ends an exchange by the fault behind its frames, if there is one. The connection at hand goes back to its place, where it is still
 /// there.
 fn end(mut exchange: Exchange, fault: Option<FrameFault>) -> Result<Rest, AllocError>
-    ensures ends { IfOk result (EndsBy fault exchange) }
-    ensures well { MayEnd fault exchange → IfOk result (λ rest. AreWell rest.connections.items) }
+    ensures ends { IfOk result (ExchangeEnds fault exchange) }
+    ensures well { MayEnd fault exchange → IfOk result (λ rest. MayGoOn rest.connections.items) }
 {
     fail(&mut exchange, fault)?;
     let halted = exchange.is_halted();
@@ -163,7 +163,7 @@ fn fail(exchange: &mut Exchange, fault: Option<FrameFault>) -> Result<(), AllocE
 
 /// The code by which a fault of frames is refused.
 fn code_of(fault: &FrameFault) -> u8
-    ensures { result ≡ code_of fault.now }
+    ensures { result ≡ refusal_code fault.now }
 {
     match fault {
         FrameFault::BadFrame { .. } => BAD_FRAME,

@@ -4,8 +4,8 @@ use Rattle.std.proofs.lemmas.Bool.{false≢true, eq-eqb}
 use Rattle.std.proofs.lemmas.Bool.Decides.{eqb_tells, leb_tells}
 use Rattle.std.specs.List.{AllWithin, HoldsAt, insert, remove}
 use Rattle.node_exchange.specs.declared.connections.Connection.{Connection}
-use Rattle.node_exchange.specs.Connections.{AreNumbered, IsRidOf, connection_of, placed, without}
-use Rattle.node_exchange.specs.Sending.{IsFirstOf}
+use Rattle.node_exchange.specs.Connections.{AreNumbered, IsRidOf, connection_of, connections_with, without}
+use Rattle.node_exchange.specs.Sending.{IsPlaceOfFirst}
 
 -- ---- a choice that is known
 
@@ -60,22 +60,22 @@ none_taken number (one ∷ more) a =
 
 pub placed_at : (one : Connection) (list : List Connection) (i : ℕ) → i ≤ length list
     → (i < length list → HoldsAt (λ (next : Connection). one.number < next.number) list i) → AllWithin (λ (next : Connection). ¬ (one.number < next.number)) list 0 i
-    → placed one list ≡ insert list i one
+    → connections_with one list ≡ insert list i one
 placed_at one [] zero l h a = refl
 placed_at one [] (suc i) l h a = absurd (omega arith)
 placed_at one (next ∷ more) zero l h a =
-    passed (nat_le next.number one.number) (next ∷ placed one more) (one ∷ next ∷ more) (behind one.number next.number (h (omega arith) next))
+    passed (nat_le next.number one.number) (next ∷ connections_with one more) (one ∷ next ∷ more) (behind one.number next.number (h (omega arith) next))
 placed_at one (next ∷ more) (suc i) l h a =
-    picked (nat_le next.number one.number) (next ∷ placed one more) (one ∷ next ∷ more) (not_behind one.number next.number (a 0 next (omega arith) (omega arith)))
+    picked (nat_le next.number one.number) (next ∷ connections_with one more) (one ∷ next ∷ more) (not_behind one.number next.number (a 0 next (omega arith) (omega arith)))
     ∙ ap (λ (l : List Connection). next ∷ l)
     (placed_at one more i (omega arith) (λ k d. h (omega arith) d) (λ k d low high. a (suc k) d (omega arith) (omega arith)))
 
 pub placed_first : (one : Connection) (list : List Connection) (found : Option ℕ) (place : ℕ)
-    → IsFirstOf (λ (next : Connection). one.number < next.number) list found → place ≡ unwrap_or found (length list) → placed one list ≡ insert list place one
+    → IsPlaceOfFirst (λ (next : Connection). one.number < next.number) list found → place ≡ unwrap_or found (length list) → connections_with one list ≡ insert list place one
 placed_first one list None place h e =
     placed_at one list place (omega (arith, e)) (λ l. absurd (omega (arith, e, l))) (subst (λ k. AllWithin (λ (next : Connection). ¬ (one.number < next.number)) list 0 k) (sym e) h)
 placed_first one list (Some i) place h e =
-    subst (λ k. placed one list ≡ insert list k one) (sym e) (placed_at one list i (omega (arith, h.0)) (λ l. h.1) h.2)
+    subst (λ k. connections_with one list ≡ insert list k one) (sym e) (placed_at one list i (omega (arith, h.0)) (λ l. h.1) h.2)
 
 -- ---- numbers that ascend
 
@@ -144,10 +144,10 @@ pub rid_of : (number : ℕ) (list : List Connection) → AreNumbered list → Is
 rid_of number list h = record { numbered = without_numbered number list h; gone = without_none number list h }
 
 -- so does what was put in, where no other has its number
-placed_behind : (before : ℕ) (one : Connection) (list : List Connection) → before < one.number → AreBehind before list → AreBehind before (placed one list)
+placed_behind : (before : ℕ) (one : Connection) (list : List Connection) → before < one.number → AreBehind before list → AreBehind before (connections_with one list)
 placed_behind before one [] l b = l
 placed_behind before one (next ∷ more) l b =
-    elim (nat_le next.number one.number) as (λ (q : Bool). AreBehind before (if q then next ∷ placed one more else one ∷ next ∷ more)) [
+    elim (nat_le next.number one.number) as (λ (q : Bool). AreBehind before (if q then next ∷ connections_with one more else one ∷ next ∷ more)) [
       | true ↦ b
       | false ↦ l
     ]
@@ -163,16 +163,16 @@ not_number number next more n =
     some_is_none : (one : Connection) → ¬ (◌≡◌ {A = Option Connection} (Some one) None)
     some_is_none one e = cc (e)
 
-pub placed_numbered : (one : Connection) (list : List Connection) → AreNumbered list → connection_of one.number list ≡ None → AreNumbered (placed one list)
+pub placed_numbered : (one : Connection) (list : List Connection) → AreNumbered list → connection_of one.number list ≡ None → AreNumbered (connections_with one list)
 placed_numbered one [] h n = tt
 placed_numbered one (next ∷ more) h n =
     let parts = rest_numbered next more h in
     let apart = not_number one.number next more n in
-    let later : AreNumbered (placed one more) = placed_numbered one more parts.1 apart.1 in
+    let later : AreNumbered (connections_with one more) = placed_numbered one more parts.1 apart.1 in
     elim (leb_tells next.number one.number) [
       | inl t ↦ subst (λ (l : List Connection). AreNumbered l)
-          (sym (picked (nat_le next.number one.number) (next ∷ placed one more) (one ∷ next ∷ more) t.0))
-          (put_first next (placed one more) (placed_behind next.number one more (omega (arith, t.1, apart.0)) parts.0) later)
+          (sym (picked (nat_le next.number one.number) (next ∷ connections_with one more) (one ∷ next ∷ more) t.0))
+          (put_first next (connections_with one more) (placed_behind next.number one more (omega (arith, t.1, apart.0)) parts.0) later)
       | inr t ↦ subst (λ (l : List Connection). AreNumbered l)
-          (sym (passed (nat_le next.number one.number) (next ∷ placed one more) (one ∷ next ∷ more) t.0)) (t.1, h)
+          (sym (passed (nat_le next.number one.number) (next ∷ connections_with one more) (one ∷ next ∷ more) t.0)) (t.1, h)
     ]

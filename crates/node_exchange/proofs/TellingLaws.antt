@@ -6,7 +6,7 @@ use Rattle.mld_ops.specs.Messages.{MessageValue}
 use Rattle.node_exchange.specs.declared.connections.Connection.{Connection}
 use Rattle.node_exchange.specs.declared.connections.Sent.{Sent}
 use Rattle.node_exchange.specs.Connections.{is_peer}
-use Rattle.node_exchange.specs.Exchanges.{ExchangeValue, sends, after_sending, sent_to_peers, left_of_peers, listed, telling_peers}
+use Rattle.node_exchange.specs.Exchanges.{ExchangeValue, sends, after_sending, sent_to_peers, left_of_peers, connections_left, telling_peers}
 use Rattle.node_exchange.specs.Sending.{SendsToPeers, any_peer}
 use Rattle.node_exchange.proofs.PlaceLaws.{passed}
 
@@ -39,7 +39,7 @@ no_peers message old list e = record {
     all_left [] e = refl
     all_left (one ∷ more) e =
         let parts = both_false (is_peer one.role) (any_peer more) e in
-        passed (is_peer one.role) (listed (after_sending message one) ++ left_of_peers message more) (one ∷ left_of_peers message more) parts.0
+        passed (is_peer one.role) (connections_left (after_sending message one) ++ left_of_peers message more) (one ∷ left_of_peers message more) parts.0
         ∙ ap (λ (l : List Connection). one ∷ l) (all_left more parts.1)
 
 -- ---- exchanges that go on

@@ -1,7 +1,7 @@
 -- The connections of a node, in ascending number, each once.
 use Rattle.std.specs.Prelude.{◌≡◌, ℕ, ◌<◌, nat_le, ◌==◌, if◌then◌else◌, Bool, true, false, List, [], ◌∷◌, Option, None, Some}
 use Rattle.wire_frames.specs.Frames.{FramesValue}
-use Rattle.wire_frames.specs.Parts.{fresh_assembly}
+use Rattle.wire_frames.specs.MessageParts.{fresh_assembly}
 use Rattle.node_exchange.specs.declared.connections.Connection.{Connection}
 use Rattle.node_exchange.specs.declared.connections.Role.{Role}
 use Rattle.node_exchange.specs.declared.connections.Role.TheVariants.{Fresh, Client, Peer}
@@ -17,9 +17,9 @@ without number [] = []
 without number (one ∷ more) = if one.number == number then more else one ∷ without number more
 
 -- one more, in its place
-abbrev pub placed : Connection → List Connection → List Connection
-placed one [] = one ∷ []
-placed one (next ∷ more) = if nat_le next.number one.number then next ∷ placed one more else one ∷ next ∷ more
+abbrev pub connections_with : Connection → List Connection → List Connection
+connections_with one [] = one ∷ []
+connections_with one (next ∷ more) = if nat_le next.number one.number then next ∷ connections_with one more else one ∷ next ∷ more
 
 -- nothing came of a frame
 abbrev pub no_frames : FramesValue

@@ -3,7 +3,7 @@ use Rattle.std.specs.Prelude.{ℕ, if◌then◌else◌, Bool, true, false, List,
 use Rattle.mld_ops.specs.Messages.{MessageValue}
 use Rattle.wire_frames.specs.declared.kinds.Frame.TheVariants.{Refuse}
 use Rattle.wire_frames.specs.Frames.{frame_bytes}
-use Rattle.wire_frames.specs.Parts.{message_parts, is_too_long, next_number}
+use Rattle.wire_frames.specs.MessageParts.{message_parts, is_too_long, next_number}
 use Rattle.node_exchange.specs.declared.connections.Connection.{Connection}
 use Rattle.node_exchange.specs.declared.connections.Sent.{Sent}
 use Rattle.node_exchange.specs.Connections.{is_peer}
@@ -41,14 +41,14 @@ sent_to_peers message [] = []
 sent_to_peers message (one ∷ more) = if is_peer one.role then sends message one ∷ sent_to_peers message more else sent_to_peers message more
 
 -- the connections then
-abbrev pub listed : Option Connection → List Connection
-listed None = []
-listed (Some one) = one ∷ []
+abbrev pub connections_left : Option Connection → List Connection
+connections_left None = []
+connections_left (Some one) = one ∷ []
 
 abbrev pub left_of_peers : MessageValue → List Connection → List Connection
 left_of_peers message [] = []
 left_of_peers message (one ∷ more) =
-    if is_peer one.role then listed (after_sending message one) ++ left_of_peers message more else one ∷ left_of_peers message more
+    if is_peer one.role then connections_left (after_sending message one) ++ left_of_peers message more else one ∷ left_of_peers message more
 
 -- ---- an exchange that goes on
 

@@ -5,7 +5,7 @@ ghost use Rattle.node_exchange.specs.Exchanges.{saying, refusing, telling, telli
 
 use crate::connections::{Connection, Sent};
 use crate::parts::{
-    Parts, refuse_at_hand, tell_at_hand, tell_each_at_hand, tell_others, tell_others_each,
+    ExchangeParts, refuse_at_hand, tell_at_hand, tell_each_at_hand, tell_others, tell_others_each,
 };
 use crate::sending::say_on;
 use mld_ops::{Entry, Message};
@@ -16,7 +16,7 @@ use std::marker::Model;
 /// refused, and the others, in ascending number. Where memory runs out nothing is said of it.
 #[derive(Drop)]
 pub struct Exchange {
-    parts: Parts,
+    parts: ExchangeParts,
 }
 
 impl Model for Exchange {
@@ -34,7 +34,7 @@ impl Exchange {
         ensures { result ≡ record { sent = []; at_hand = Some one; others = others.items; halted = false } }
     {
         Exchange {
-            parts: Parts {
+            parts: ExchangeParts {
                 alloc,
                 sent: Vec::new(alloc),
                 at_hand: Some(one),
@@ -129,7 +129,7 @@ impl Exchange {
         ensures others { result.2.items ≡ self.others }
     {
         let Exchange { parts } = self;
-        let Parts {
+        let ExchangeParts {
             sent,
             at_hand,
             others,

@@ -1,8 +1,8 @@
 //! Lists of connections, in ascending number.
 ghost use Rattle.std.specs.Prelude.{◌≡◌, ◌<◌, ◌↔◌, OnOk, IsTrue};
 ghost use Rattle.node_exchange.specs.declared.connections.Connection.{Connection as ConnectionValue};
-ghost use Rattle.node_exchange.specs.Connections.{AreNumbered, IsRidOf, StaysNumbered, connection_of, placed, without};
-ghost use Rattle.node_exchange.specs.Sending.{IsFirstOf};
+ghost use Rattle.node_exchange.specs.Connections.{AreNumbered, IsRidOf, StaysNumbered, connection_of, connections_with, without};
+ghost use Rattle.node_exchange.specs.Sending.{IsPlaceOfFirst};
 
 use crate::connections::Connection;
 use std::alloc::AllocError;
@@ -19,7 +19,7 @@ pub fn take_connection(list: &mut Vec<Connection>, number: u32) -> Option<Connec
 
 /// Puts a connection in its place in a list. Where memory runs out it is lost.
 pub fn place_connection(list: &mut Vec<Connection>, one: Connection) -> Result<(), AllocError>
-    ensures placed { OnOk result (list.new.items ≡ placed one list.old.items) }
+    ensures placed { OnOk result (list.new.items ≡ connections_with one list.old.items) }
     ensures numbered { OnOk result (StaysNumbered one list.old.items list.new.items) }
 {
     let place = place_behind(list.as_slice(), one.number).unwrap_or(list.len());
@@ -29,14 +29,14 @@ pub fn place_connection(list: &mut Vec<Connection>, one: Connection) -> Result<(
 
 /// Where the connection of a number is in a list.
 fn place_of(list: &[Connection], number: u32) -> Option<usize>
-    ensures { IsFirstOf (λ (one : ConnectionValue). one.number ≡ number) list.now result }
+    ensures { IsPlaceOfFirst (λ (one : ConnectionValue). one.number ≡ number) list.now result }
 {
     list.iter().position(|one| has_number(one, number))
 }
 
 /// Where the first connection is in a list whose number is greater.
 fn place_behind(list: &[Connection], number: u32) -> Option<usize>
-    ensures { IsFirstOf (λ (one : ConnectionValue). number < one.number) list.now result }
+    ensures { IsPlaceOfFirst (λ (one : ConnectionValue). number < one.number) list.now result }
 {
     list.iter().position(|one| is_behind(one, number))
 }

@@ -12,7 +12,7 @@ use std::mem;
 
 /// What was sent so far, the connection at hand, the others, and whether the node is to end.
 #[derive(Drop)]
-pub struct Parts {
+pub struct ExchangeParts {
     pub alloc: Global,
     pub sent: Vec<Sent>,
     pub at_hand: Option<Connection>,
@@ -21,7 +21,7 @@ pub struct Parts {
 }
 
 /// Refuses the connection at hand by a code, where it is still there.
-pub(crate) fn refuse_at_hand(parts: &mut Parts, code: u8) -> Result<(), AllocError>
+pub(crate) fn refuse_at_hand(parts: &mut ExchangeParts, code: u8) -> Result<(), AllocError>
     ensures { OnOk result (exchange_of parts.new ≡ refusing code (exchange_of parts.old)) }
 {
     let Some(one) = parts.at_hand.take() else {
@@ -31,7 +31,7 @@ pub(crate) fn refuse_at_hand(parts: &mut Parts, code: u8) -> Result<(), AllocErr
 }
 
 /// Sends a message to the connection at hand, where it is still there.
-pub(crate) fn tell_at_hand(parts: &mut Parts, message: &Message) -> Result<(), AllocError>
+pub(crate) fn tell_at_hand(parts: &mut ExchangeParts, message: &Message) -> Result<(), AllocError>
     ensures { OnOk result (exchange_of parts.new ≡ telling (message_value message.now) (exchange_of parts.old)) }
 {
     let Some(one) = parts.at_hand.take() else {
@@ -43,7 +43,7 @@ pub(crate) fn tell_at_hand(parts: &mut Parts, message: &Message) -> Result<(), A
 }
 
 /// Sends messages to the connection at hand, one after another.
-pub(crate) fn tell_each_at_hand(parts: &mut Parts, messages: &[Message]) -> Result<(), AllocError>
+pub(crate) fn tell_each_at_hand(parts: &mut ExchangeParts, messages: &[Message]) -> Result<(), AllocError>
     ensures { OnOk result
         (exchange_of parts.new ≡ telling_each (map message_value messages.now) (exchange_of parts.old)) }
 {
@@ -54,7 +54,7 @@ pub(crate) fn tell_each_at_hand(parts: &mut Parts, messages: &[Message]) -> Resu
 }
 
 /// Sends a message to each peer but the one at hand, for which it is encoded once.
-pub(crate) fn tell_others(parts: &mut Parts, message: &Message) -> Result<(), AllocError>
+pub(crate) fn tell_others(parts: &mut ExchangeParts, message: &Message) -> Result<(), AllocError>
     ensures { OnOk result (exchange_of parts.new ≡ telling_peers (message_value message.now) (exchange_of parts.old)) }
 {
     if !has_peer(&parts.others) {
@@ -67,7 +67,7 @@ pub(crate) fn tell_others(parts: &mut Parts, message: &Message) -> Result<(), Al
 }
 
 /// Sends an entry to each peer but the one at hand.
-fn tell_others_entry(parts: &mut Parts, entry: &Entry) -> Result<(), AllocError>
+fn tell_others_entry(parts: &mut ExchangeParts, entry: &Entry) -> Result<(), AllocError>
     ensures { OnOk result (exchange_of parts.new ≡ telling_peers (CarriesEntry entry.now) (exchange_of parts.old)) }
 {
     if !has_peer(&parts.others) {
@@ -78,7 +78,7 @@ fn tell_others_entry(parts: &mut Parts, entry: &Entry) -> Result<(), AllocError>
 }
 
 /// Sends entries to each peer but the one at hand, one after another.
-pub(crate) fn tell_others_each(parts: &mut Parts, entries: &[Entry]) -> Result<(), AllocError>
+pub(crate) fn tell_others_each(parts: &mut ExchangeParts, entries: &[Entry]) -> Result<(), AllocError>
     ensures { OnOk result
         (exchange_of parts.new ≡ telling_peers_each (map CarriesEntry entries.now) (exchange_of parts.old)) }
 {

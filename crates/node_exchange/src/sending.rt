@@ -1,10 +1,10 @@
 //! Messages and refusals as they go out on connections.
 ghost use Rattle.std.specs.Prelude.{◌≡◌, ◌++◌, ◌∷◌, [], IfOk, OnOk};
 ghost use Rattle.mld_ops.specs.Messages.{MessageValue, message_value};
-ghost use Rattle.wire_frames.specs.Parts.{next_number};
+ghost use Rattle.wire_frames.specs.MessageParts.{next_number};
 ghost use Rattle.node_exchange.specs.Connections.{is_peer};
 ghost use Rattle.node_exchange.specs.Exchanges.{says, refuses};
-ghost use Rattle.node_exchange.specs.Sending.{IsPayload, FitsParts, SendsOn, SendsToPeers, GoesOn, any_peer};
+ghost use Rattle.node_exchange.specs.Sending.{IsPayload, FitsParts, SendsOn, SendsToPeers, SendsIfPeer, any_peer};
 
 use crate::connections::{Connection, Role, Sent};
 use mld_io::Piece;
@@ -108,7 +108,7 @@ fn send_if_peer(
 ) -> Result<(), AllocError>
     requires { FitsParts payload.now }
     ensures { (message : MessageValue) → IsPayload message payload.now
-        → OnOk result (GoesOn message one sent.old.items left.old.items sent.new.items left.new.items) }
+        → OnOk result (SendsIfPeer message one sent.old.items left.old.items sent.new.items left.new.items) }
 {
     if !is_peer(&one.role) {
         left.push(one)?;

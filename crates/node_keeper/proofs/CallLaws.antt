@@ -23,26 +23,26 @@ use Rattle.clone_core.specs.Merging.{StaysOpenBy}
 use Rattle.shell_model.specs.Shells.{generation_after}
 use Rattle.shell_text.specs.declared.commands.ShellCommand.{ShellCommand}
 use Rattle.shell_model.specs.ShellStep.{IsLast, LiveStep, IsDueLive}
-use Rattle.shell_session.specs.Lines.{StopsIn}
-use Rattle.shell_session.specs.LiveCalls.{Answers, StopsShort}
+use Rattle.shell_session.specs.SessionLines.{LeavesFrontOfDue}
+use Rattle.shell_session.specs.LiveCalls.{CloneAnswers, CloneLeavesFrontOfDue}
 use Rattle.wire_frames.specs.Frames.{frames_bytes}
-use Rattle.wire_frames.specs.Parts.{reply_parts}
+use Rattle.wire_frames.specs.MessageParts.{reply_parts}
 use Rattle.node_requests.specs.declared.requests.Request.{Request}
 use Rattle.node_requests.specs.declared.requests.Request.TheVariants.{Command}
 use Rattle.node_requests.specs.RequestLines.{SpellsRequest}
 use Rattle.node_exchange.specs.declared.connections.Connection.{Connection}
 use Rattle.node_exchange.specs.Exchanges.{ExchangeValue, saying, telling, telling_peers_each}
-use Rattle.node_model.specs.Keepers.{Keeper, Lives, Asks, found_of, domain_of, carried}
+use Rattle.node_model.specs.Keepers.{Keeper, Lives, Asks, keeper_found, keeper_domain, carried}
 use Rattle.node_model.specs.Requests.{AnswersRequest, TakesRequest}
-use Rattle.node_model.specs.Messages.{StaysAsItIs, HasReceived, ReceivesLive, ReceivesAsking, joins, adopted_clone, sending_for}
+use Rattle.node_model.specs.NodeMessages.{StaysAsItIs, HasReceived, LiveReceives, AskerReceives, joins, adopted_clone, sending_for}
 use Rattle.node_model.proofs.StepLaws.{appended_generation}
 use Rattle.node_keeper.specs.declared.faults.NodeFault.{NodeFault}
 use Rattle.node_keeper.specs.declared.faults.NodeFault.TheVariants.{NoMemory}
 use Rattle.node_keeper.specs.declared.states.NodeState.{NodeState}
 use Rattle.node_keeper.specs.declared.states.NodeState.TheVariants as states
-use Rattle.node_keeper.specs.States.{banks_of, banks_after, FailsOnDevice}
-use Rattle.node_keeper.specs.Calls.{GoesBy, Greets, Replies, IsBehind, told_by, MayAnswer, MayBeSent, Carry, HasSent}
-use Rattle.node_keeper.specs.Deeds.{DoesBy, ReceivesOn, IsDueByMessage}
+use Rattle.node_keeper.specs.NodeStates.{state_banks, state_banks_after, StateFailsOnDevice}
+use Rattle.node_keeper.specs.LoanCalls.{GoesBy, GreetsClient, Replies, AppendsBehind, told_by, MayAnswer, MayBeSent, CarryTaken, HasSent}
+use Rattle.node_keeper.specs.NodeDeeds.{NodeDoesBy, ReceivesOn, IsDueByMessage}
 use Rattle.node_keeper.proofs.Moments.{same_front, fronts, made_front, kept_images}
 use Rattle.node_keeper.proofs.CommandLaws.{carried_appends, carried_behind, none_lost, command_due, command_carried, command_behind, text_has_byte}
 
@@ -51,7 +51,7 @@ module _ {B : Type 0} (log : B → Option Log) (meter : B → Meter) (old : Bank
 
   pub node_goes : (Rule : List KeptStep → Keeper → Type 0) (new : BankedClone B) → GoesBy log meter Rule old new
       → (new.closed ≡ None → (l : Log) → log new.banks ≡ Some l → KeepsClone new.local new.generation l)
-      → DoesBy (λ steps. Rule steps (Lives new.generation new.local)) log (states.Live old) (states.Live new)
+      → NodeDoesBy (λ steps. Rule steps (Lives new.generation new.local)) log (states.Live old) (states.Live new)
   node_goes Rule new goes keeps = record {
     steps = goes.steps;
     does = goes.does;
@@ -59,8 +59,8 @@ module _ {B : Type 0} (log : B → Option Log) (meter : B → Meter) (old : Bank
     settled = λ alike. kept_images new.local new.generation (log new.banks) (keeps goes.opened);
   }
 
-  pub node_stops : (Due : List KeptStep → Type 0) (now : B) → StopsShort log meter Due old now
-      → StopsIn Due log (found_of (Lives old.generation old.local)) old.banks now
+  pub node_stops : (Due : List KeptStep → Type 0) (now : B) → CloneLeavesFrontOfDue log meter Due old now
+      → LeavesFrontOfDue Due log (keeper_found (Lives old.generation old.local)) old.banks now
   node_stops Due now stops = record { steps = stops.steps; due = stops.due; moments = fronts log meter stops.steps old now stops.moments }
 
   -- ---- other words for a call
@@ -76,7 +76,7 @@ module _ {B : Type 0} (log : B → Option Log) (meter : B → Meter) (old : Bank
   due_so One Other weaker steps (inr due) = inr (weaker steps due)
 
   pub stops_so : (One Other : List KeptStep → Type 0) (now : B) → ((steps : List KeptStep) → One steps → Other steps)
-      → StopsShort log meter One old now → StopsShort log meter Other old now
+      → CloneLeavesFrontOfDue log meter One old now → CloneLeavesFrontOfDue log meter Other old now
   stops_so One Other now weaker stops =
       record { steps = stops.steps; due = due_so One Other weaker stops.steps stops.due; moments = stops.moments }
 
@@ -84,7 +84,7 @@ module _ {B : Type 0} (log : B → Option Log) (meter : B → Meter) (old : Bank
   pub nothing_goes : (Rule : List KeptStep → Keeper → Type 0) → old.closed ≡ None → Rule [] (Lives old.generation old.local) → GoesBy log meter Rule old old
   nothing_goes Rule opened does = record { steps = []; does = does; opened = opened; moments = refl }
 
-  pub nothing_stops : (Due : List KeptStep → Type 0) → StopsShort log meter Due old old.banks
+  pub nothing_stops : (Due : List KeptStep → Type 0) → CloneLeavesFrontOfDue log meter Due old old.banks
   nothing_stops Due = record { steps = []; due = inl refl; moments = refl }
 
   -- ---- a command
@@ -92,12 +92,12 @@ module _ {B : Type 0} (log : B → Option Log) (meter : B → Meter) (old : Bank
   module _ (new : BankedClone B) (command : ShellCommand) (text : List ℕ) where
     -- it was done, and its text was added to none
     abbrev pub Does : Type 0
-    Does = Answers log meter (LiveStep old.generation old.local command) old [] new text
+    Does = CloneAnswers log meter (LiveStep old.generation old.local command) old [] new text
 
-    pub command_puts : (kept : ℕ) → kept ≡ length old.local.entries → Does → IsBehind command kept new.local.entries
+    pub command_puts : (kept : ℕ) → kept ≡ length old.local.entries → Does → AppendsBehind command kept new.local.entries
     command_puts kept same does =
         let goes = does.goes_on in
-        subst (λ (n : ℕ). IsBehind command n new.local.entries) (sym same)
+        subst (λ (n : ℕ). AppendsBehind command n new.local.entries) (sym same)
         (command_behind old.generation old.local command does.reply goes.steps new.local goes.does)
 
     pub command_text : Does → 1 ≤ length text
@@ -129,7 +129,7 @@ module _ {B : Type 0} (log : B → Option Log) (meter : B → Meter) (old : Bank
           moments = goes.moments;
         }
 
-    pub command_stops : Does → StopsShort log meter (IsDueLive old.generation old.local command) old new.banks
+    pub command_stops : Does → CloneLeavesFrontOfDue log meter (IsDueLive old.generation old.local command) old new.banks
     command_stops does =
         let goes = does.goes_on in
         record {
@@ -156,7 +156,7 @@ on_err_as (Err refused) weaker holds = weaker holds
 
 -- a request that was read of a connection that was greeted, and answered
 pub takes_request : (keeper : Keeper) (one : Connection) (line : List ℕ) (before : ExchangeValue) (request : Request) (number : ℕ) (middle : ExchangeValue)
-    (after : ExchangeValue) → SpellsRequest (domain_of keeper) line request → Greets one before number middle
+    (after : ExchangeValue) → SpellsRequest (keeper_domain keeper) line request → GreetsClient one before number middle
     → (steps : List KeptStep) (next : Keeper) → Replies keeper request number middle steps next after → TakesRequest keeper one line before steps next after
 takes_request keeper one line before request number middle after spells greets steps next replies = record {
   request = request;
@@ -174,7 +174,7 @@ module _ {B : Type 0} (log : B → Option Log) (meter : B → Meter) (old new : 
   pub record ReceivedSo (sent : Message) (answer : Got) (steps : List KeptStep) : Type 0 where
     pub opened : new.closed ≡ None
     pub counts : new.generation ≡ generation_after steps old.generation
-    pub carry : Carry answer (length old.local.entries) new.local.entries steps
+    pub carry : CarryTaken answer (length old.local.entries) new.local.entries steps
     pub may : MayAnswer answer (length old.local.entries) new.local.entries
     pub due : (steps ≡ []) ⊎ WouldReceive old.local sent steps
 
@@ -266,7 +266,7 @@ module _ {B : Type 0} (log : B → Option Log) (meter : B → Meter) (old new : 
 
     module _ (before after : ExchangeValue) where
       abbrev Receiving : List KeptStep → Keeper → Type 0
-      Receiving steps next = ReceivesLive old.generation old.local sent before steps next after
+      Receiving steps next = LiveReceives old.generation old.local sent before steps next after
 
       refused_goes : (refused : ReceiveFault) → new ≡ old → HasReceived old.generation old.local sent (Err refused) [] new.local
           → after ≡ sending_for (Err refused) [] new.local.ticks before → old.closed ≡ None → GoesBy log meter Receiving old new
@@ -317,11 +317,11 @@ module _ {B : Type 0} (log : B → Option Log) (meter : B → Meter) (old new : 
 
     -- ---- or not
 
-    left_stops : (Due : List KeptStep → Type 0) → new ≡ old → StopsShort log meter Due old new.banks
+    left_stops : (Due : List KeptStep → Type 0) → new ≡ old → CloneLeavesFrontOfDue log meter Due old new.banks
     left_stops Due same = record { steps = []; due = inl refl; moments = ap (λ (clone : BankedClone B). clone.banks) same }
 
     pub receive_stops : (result : Result Got ReceiveFault) → old.closed ≡ None → Received result → Stays result → Closes result → Left result → Durable result
-        → StopsShort log meter (WouldReceive old.local sent) old new.banks
+        → CloneLeavesFrontOfDue log meter (WouldReceive old.local sent) old new.banks
     receive_stops (Ok answer) is_open received stays closes left durable =
         record { steps = durable.0; due = (received_so sent answer durable.0 received durable.1 stays).due; moments = durable.2.moments }
     receive_stops (Err (fault.ForeignTick said own)) is_open received stays closes left durable = left_stops (WouldReceive old.local sent) left
@@ -349,11 +349,11 @@ module _ {B : Type 0} (log : B → Option Log) (meter : B → Meter) (old : Bank
   joined_node sent new before after give is local generation creates keeps tells = record {
     steps = created give;
     does =
-        subst (λ (e : ExchangeValue). ReceivesAsking old.asker sent before (created give) (Lives new.generation new.local) e)
+        subst (λ (e : ExchangeValue). AskerReceives old.asker sent before (created give) (Lives new.generation new.local) e)
         (sym (tells ∙ ap (λ (clone : LocalClone). telling (CarriesWant clone.ticks) before) local))
-        (subst (λ (n : ℕ). ReceivesAsking old.asker sent before (created give) (Lives n new.local) (telling (CarriesWant (adopted_clone old.asker give).ticks) before))
+        (subst (λ (n : ℕ). AskerReceives old.asker sent before (created give) (Lives n new.local) (telling (CarriesWant (adopted_clone old.asker give).ticks) before))
         (sym generation)
-        (subst (λ (clone : LocalClone). ReceivesAsking old.asker sent before (created give) (Lives 1 clone) (telling (CarriesWant (adopted_clone old.asker give).ticks) before))
+        (subst (λ (clone : LocalClone). AskerReceives old.asker sent before (created give) (Lives 1 clone) (telling (CarriesWant (adopted_clone old.asker give).ticks) before))
         (sym local) (joins give is)));
     moments = made_front log meter (created give) old.banks new.banks creates.moments;
     settled = λ alike. kept_images new.local new.generation (log new.banks) keeps;
@@ -362,7 +362,7 @@ module _ {B : Type 0} (log : B → Option Log) (meter : B → Meter) (old : Bank
   -- or it was not told, or not made
   pub joined_stops : (sent : Message) (now : B) (give : Give) → IsGiveFor old.asker sent give → {Whole Failed : Type 0}
       → Creates log meter (head_of (joined_clone old.asker (give_value give))) old.banks now Whole Failed
-      → StopsIn (IsDueByMessage (Asks old.asker) sent) log (found_of (Asks old.asker)) old.banks now
+      → LeavesFrontOfDue (IsDueByMessage (Asks old.asker) sent) log (keeper_found (Asks old.asker)) old.banks now
   joined_stops sent now give is creates = record {
     steps = created give;
     due = inr (give, is, refl);
@@ -370,29 +370,29 @@ module _ {B : Type 0} (log : B → Option Log) (meter : B → Meter) (old : Bank
   }
 
   -- it goes on asking
-  pub asks_on : (Rule : List KeptStep → Type 0) → Rule [] → DoesBy Rule log (states.Asking old) (states.Asking old)
+  pub asks_on : (Rule : List KeptStep → Type 0) → Rule [] → NodeDoesBy Rule log (states.Asking old) (states.Asking old)
   asks_on Rule does = record {
     steps = [];
     does = does;
-    moments = same_front (found_of (Asks old.asker)) [] (log old.banks) (log old.banks) refl;
+    moments = same_front (keeper_found (Asks old.asker)) [] (log old.banks) (log old.banks) refl;
     settled = λ alike. alike;
   }
 
-  pub asks_stops : (Due : List KeptStep → Type 0) (now : B) → now ≡ old.banks → StopsIn Due log (found_of (Asks old.asker)) old.banks now
+  pub asks_stops : (Due : List KeptStep → Type 0) (now : B) → now ≡ old.banks → LeavesFrontOfDue Due log (keeper_found (Asks old.asker)) old.banks now
   asks_stops Due now same =
-      record { steps = []; due = inl refl; moments = same_front (found_of (Asks old.asker)) [] (log old.banks) (log now) (ap log same) }
+      record { steps = []; due = inl refl; moments = same_front (keeper_found (Asks old.asker)) [] (log old.banks) (log now) (ap log same) }
 
 -- ---- what was handed on
 
 -- the banks of what began to live, whatever it answered
 pub begun_banks : {B : Type 0} (result : Result (NodeState B) (NodeFault × B)) (clone : BankedClone B) → IfOk result (λ next. next ≡ states.Live clone)
-    → IfErr result (λ refused. (refused.0 ≡ NoMemory) × (refused.1 ≡ clone.banks)) → banks_after result ≡ clone.banks
-begun_banks (Ok next) clone same back = ap (λ (s : NodeState _). banks_of s) same
+    → IfErr result (λ refused. (refused.0 ≡ NoMemory) × (refused.1 ≡ clone.banks)) → state_banks_after result ≡ clone.banks
+begun_banks (Ok next) clone same back = ap (λ (s : NodeState _). state_banks s) same
 begun_banks (Err refused) clone same back = back.1
 
 -- the device didn't fail
 pub begun_fine : {B : Type 0} (result : Result (NodeState B) (NodeFault × B)) (clone : BankedClone B)
-    → IfErr result (λ refused. (refused.0 ≡ NoMemory) × (refused.1 ≡ clone.banks)) → ¬ FailsOnDevice result
+    → IfErr result (λ refused. (refused.0 ≡ NoMemory) × (refused.1 ≡ clone.banks)) → ¬ StateFailsOnDevice result
 begun_fine (Ok next) clone back = λ fails. fails
 begun_fine (Err refused) clone back = λ fails. absurd (cc (fails, back.0))
 

@@ -15,15 +15,15 @@ use Rattle.clone_banks.specs.KeptSteps.{KeptStep, Appended, appends}
 use Rattle.shell_text.specs.declared.commands.ShellCommand.{ShellCommand}
 use Rattle.shell_text.specs.declared.commands.ShellCommand.TheVariants as shell
 use Rattle.shell_model.specs.ShellReply.{ShellReply, Says, DidAt, BadLine, IsClosed, FoundNothing, FoundDamage, NotEmpty, MadeClone, TicksSpent, GenerationsSpent, shell_text}
-use Rattle.shell_model.specs.ShellStep.{AnswersUpdate, no_tick_is_left, is_too_large, changes_nothing, breaks_single, makes_operation, KeepsJournal, is_kept_so, no_generation_is_left, swaps_journal, AppendsOperation, SwapsJournal, LiveStep, IsDueLive}
+use Rattle.shell_model.specs.ShellStep.{AnswersUpdate, no_tick_is_left, is_too_large, changes_nothing, breaks_single, makes_operation, KeepsJournal, is_kept_so, no_generation_is_left, swaps_journal, AppendsUpdate, SwapsJournal, LiveStep, IsDueLive}
 use Rattle.node_model.specs.Keepers.{carried}
-use Rattle.node_keeper.specs.Calls.{is_update, IsBehind, told_by}
+use Rattle.node_keeper.specs.LoanCalls.{is_update, AppendsBehind, told_by}
 
 -- ---- durable steps that are due
 
 -- those of an update that was answered
 update_due : (clone : LocalClone) (plan : UpdatePlan) (reply : ShellReply) (steps : List KeptStep) (new : LocalClone) → AnswersUpdate clone plan reply steps new
-    → (steps ≡ []) ⊎ AppendsOperation clone plan steps
+    → (steps ≡ []) ⊎ AppendsUpdate clone plan steps
 update_due clone plan reply steps new (no_tick_is_left spent) = inl refl
 update_due clone plan reply steps new (is_too_large left many) = inl refl
 update_due clone plan reply steps new (changes_nothing left updates) = inl refl
@@ -130,7 +130,7 @@ not_true : false ≡ true → ⊥
 not_true same = cc
 
 pub command_behind : (generation : ℕ) (clone : LocalClone) (command : ShellCommand) (reply : ShellReply) (steps : List KeptStep) (new : LocalClone)
-    → LiveStep generation clone command reply steps new → IsBehind command (length clone.entries) new.entries
+    → LiveStep generation clone command reply steps new → AppendsBehind command (length clone.entries) new.entries
 command_behind generation clone (shell.Add triple) reply steps new does = λ is.
     puts_behind clone new steps (update_puts clone (insertion_of triple) reply steps new does)
 command_behind generation clone (shell.Remove triple) reply steps new does = λ is.

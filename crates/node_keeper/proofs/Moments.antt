@@ -8,9 +8,9 @@ use Rattle.mld_model.specs.Local.{LocalClone}
 use Rattle.clone_banks.specs.KeptSteps.{KeptStep, Created, Appended, Forked, Swapped, after_step, after_steps, ReadsSome, LeavesSome}
 use Rattle.clone_core.specs.Banked.{BankedClone, kept_as, KeepsClone}
 use Rattle.clone_core.specs.DurableCalls.{LeavesFronts}
-use Rattle.shell_model.specs.Shells.{Found, Nothing, found_in, found_after_step, found_after}
-use Rattle.shell_session.specs.Lines.{ImagesFind, FindsFront, LeavesFront}
-use Rattle.node_model.specs.Keepers.{Lives, found_of}
+use Rattle.shell_model.specs.Shells.{FoundOnBanks, Nothing, found_in, found_after_step, found_after}
+use Rattle.shell_session.specs.SessionLines.{ImagesFind, FindsFront, LeavesFront}
+use Rattle.node_model.specs.Keepers.{Lives, keeper_found}
 
 -- ---- what is found after durable steps
 
@@ -32,7 +32,7 @@ steps_read (step ∷ steps) reading = steps_read steps (after_step step reading)
 
 -- ---- moments
 
-module _ (found : Found) (steps : List KeptStep) where
+module _ (found : FoundOnBanks) (steps : List KeptStep) where
   -- nothing was called
   pub same_front : (old now : Option Log) → now ≡ old → LeavesFront found steps old now
   same_front old now same log is alike =
@@ -54,11 +54,11 @@ module _ (found : Found) (steps : List KeptStep) where
 module _ {B : Type 0} (log : B → Option Log) (meter : B → Meter) where
   -- a clone's call
   pub fronts : (steps : List KeptStep) (old : BankedClone B) (now : B) → LeavesFronts log meter steps old now
-      → LeavesFront (found_of (Lives old.generation old.local)) steps (log old.banks) (log now)
-  fronts [] old now same = same_front (found_of (Lives old.generation old.local)) [] (log old.banks) (log now) (ap log same)
+      → LeavesFront (keeper_found (Lives old.generation old.local)) steps (log old.banks) (log now)
+  fronts [] old now same = same_front (keeper_found (Lives old.generation old.local)) [] (log old.banks) (log now) (ap log same)
   fronts (step ∷ steps) old now moments = λ l is alike.
       let some = moments l is in
-      some_front (found_of (Lives old.generation old.local)) (step ∷ steps) (Keeps (kept_as some.0 old.generation old.local)) (meter old.banks).arm (meter now).arm l (log now) refl some.1
+      some_front (keeper_found (Lives old.generation old.local)) (step ∷ steps) (Keeps (kept_as some.0 old.generation old.local)) (meter old.banks).arm (meter now).arm l (log now) refl some.1
 
   -- a clone is made on banks that keep nothing
   pub made_front : (steps : List KeptStep) (old now : B) → ((l : Log) → log old ≡ Some l → LeavesSome l (log now) KeepsNone steps (meter old).arm (meter now).arm)
@@ -67,7 +67,7 @@ module _ {B : Type 0} (log : B → Option Log) (meter : B → Meter) where
 
 -- where banks keep a clone whatever a crash leaves of them, it is found there
 pub kept_images : (clone : LocalClone) (generation : ℕ) (now : Option Log) → ((log : Log) → now ≡ Some log → KeepsClone clone generation log)
-    → ImagesFind (found_of (Lives generation clone)) now
+    → ImagesFind (keeper_found (Lives generation clone)) now
 kept_images clone generation now keeps log is image left =
     let kept = keeps log is in
     ap (λ (sides : Sides). found_in (read_banks sides)) (kept.1.settled image left) ∙ ap found_in kept.1.reads

@@ -1,4 +1,4 @@
-pub mod States
-pub mod Deeds
-pub mod Faults
-pub mod Calls
+pub mod NodeStates
+pub mod NodeDeeds
+pub mod NodeFaults
+pub mod LoanCalls

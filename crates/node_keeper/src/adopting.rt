@@ -4,10 +4,10 @@ ghost use Rattle.mld_io.specs.Disk.{Log};
 ghost use Rattle.journal_store.specs.Closing.{StaysTold};
 ghost use Rattle.mld_ops.specs.Messages.{CarriesWant, message_value, IsGoodMessage};
 ghost use Rattle.clone_core.specs.Banked.{KeepsClone};
-ghost use Rattle.shell_session.specs.Lines.{Meters};
+ghost use Rattle.shell_session.specs.SessionLines.{Meters};
 ghost use Rattle.node_exchange.specs.Exchanges.{telling};
-ghost use Rattle.node_keeper.specs.States.{IsOpen, banks_after, FailsOnDevice};
-ghost use Rattle.node_keeper.specs.Deeds.{ReceivesOn, StopsMessage};
+ghost use Rattle.node_keeper.specs.NodeStates.{IsOpen, state_banks_after, StateFailsOnDevice};
+ghost use Rattle.node_keeper.specs.NodeDeeds.{ReceivesOn, StopsMessage};
 ghost use Rattle.node_keeper.specs.declared.states.NodeState.TheVariants as states;
 
 use crate::faults::NodeFault;
@@ -34,8 +34,8 @@ pub(crate) fn receive_asking<R: Threads, B: Banks>(
         (λ next. ReceivesOn B.log message.now (states.Asking asker) exchange.old next exchange.new) }
     ensures opened { IfOk result IsOpen }
     ensures stopped { IfErr result (λ refused. StopsMessage B.log message.now (states.Asking asker) refused.1) }
-    ensures told { StaysTold (B.log asker.banks) (B.log (banks_after result)) }
-    ensures fault { Meters (B.meter asker.banks) (B.meter (banks_after result)) (FailsOnDevice result) }
+    ensures told { StaysTold (B.log asker.banks) (B.log (state_banks_after result)) }
+    ensures fault { Meters (B.meter asker.banks) (B.meter (state_banks_after result)) (StateFailsOnDevice result) }
 {
     match asker.receive(rt, alloc, message) {
         Adopted::Joined(clone) => begin(alloc, clone, exchange),

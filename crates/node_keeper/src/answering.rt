@@ -2,16 +2,16 @@
 ghost use Rattle.std.specs.Prelude.{◌≡◌, ◌≤◌, [], None, Some, length, OnOk, OnErr, IsErrOf};
 ghost use Rattle.journal_store.specs.Closing.{StaysTold};
 ghost use Rattle.shell_text.specs.ReadShell.{IsShellInForm};
-ghost use Rattle.shell_session.specs.Lines.{Meters};
-ghost use Rattle.shell_session.specs.LiveCalls.{StopsShort};
+ghost use Rattle.shell_session.specs.SessionLines.{Meters};
+ghost use Rattle.shell_session.specs.LiveCalls.{CloneLeavesFrontOfDue};
 ghost use Rattle.node_requests.specs.RequestLines.{IsNodeCommand, IsRequestInForm};
 ghost use Rattle.node_requests.specs.declared.requests.Request.TheVariants as requests;
 ghost use Rattle.node_exchange.specs.declared.connections.Connection.{Connection};
 ghost use Rattle.node_exchange.specs.Exchanges.{telling_peers_each};
 ghost use Rattle.node_model.specs.Requests.{TakesRequest};
-ghost use Rattle.node_keeper.specs.Calls.{GoesBy, Replies, IsNoCommand, is_update, IsBehind, told_by};
-ghost use Rattle.node_keeper.specs.Deeds.{IsDueByCommand, IsDueByRequest};
-ghost use Rattle.node_keeper.specs.States.{living};
+ghost use Rattle.node_keeper.specs.LoanCalls.{GoesBy, Replies, IsNoCommand, is_update, AppendsBehind, told_by};
+ghost use Rattle.node_keeper.specs.NodeDeeds.{IsDueByCommand, IsDueByRequest};
+ghost use Rattle.node_keeper.specs.NodeStates.{living};
 
 use crate::faults::NodeFault;
 use crate::telling::{greet_client, say_reply};
@@ -37,7 +37,7 @@ pub(crate) fn answer_loan<B: Banks>(
         (λ steps next. TakesRequest (living clone.old) one line.now exchange.old steps next exchange.new)
         clone.old clone.new) }
     ensures stopped { OnErr result
-        (StopsShort B.log B.meter (IsDueByRequest (living clone.old) line.now) clone.old clone.new.banks) }
+        (CloneLeavesFrontOfDue B.log B.meter (IsDueByRequest (living clone.old) line.now) clone.old clone.new.banks) }
     ensures told { StaysTold (B.log clone.old.banks) (B.log clone.new.banks) }
     ensures fault { Meters (B.meter clone.old.banks) (B.meter clone.new.banks) (IsErrOf result NodeFault.Device) }
 {
@@ -60,7 +60,7 @@ fn do_request<B: Banks>(
         (λ steps next. Replies (living clone.old) request.now number exchange.old steps next exchange.new)
         clone.old clone.new) }
     ensures stopped { OnErr result
-        (StopsShort B.log B.meter (IsDueByCommand (living clone.old) request.now) clone.old clone.new.banks) }
+        (CloneLeavesFrontOfDue B.log B.meter (IsDueByCommand (living clone.old) request.now) clone.old clone.new.banks) }
     ensures told { StaysTold (B.log clone.old.banks) (B.log clone.new.banks) }
     ensures fault { Meters (B.meter clone.old.banks) (B.meter clone.new.banks) (IsErrOf result NodeFault.Device) }
 {
@@ -87,7 +87,7 @@ fn do_command<B: Banks>(
     ensures done { OnOk result (GoesBy B.log B.meter
         (λ steps next. Replies (living clone.old) (requests.Command command.now) number exchange.old
         steps next exchange.new) clone.old clone.new) }
-    ensures stopped { OnErr result (StopsShort B.log B.meter
+    ensures stopped { OnErr result (CloneLeavesFrontOfDue B.log B.meter
         (IsDueByCommand (living clone.old) (requests.Command command.now)) clone.old clone.new.banks) }
     ensures told { StaysTold (B.log clone.old.banks) (B.log clone.new.banks) }
     ensures fault { Meters (B.meter clone.old.banks) (B.meter clone.new.banks) (IsErrOf result NodeFault.Device) }
@@ -107,7 +107,7 @@ fn tell_made<B: Banks>(
     kept: usize,
     exchange: &mut Exchange,
 ) -> Result<(), AllocError>
-    requires { IsBehind command.now kept clone.now.local.entries }
+    requires { AppendsBehind command.now kept clone.now.local.entries }
     ensures { OnOk result
         (exchange.new ≡ telling_peers_each (told_by command.now kept clone.now.local.entries) exchange.old) }
 {

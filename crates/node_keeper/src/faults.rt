@@ -28,9 +28,9 @@ impl From<AllocError> for NodeFault {
 
 impl From<SessionFault> for NodeFault {
     ghost use Rattle.std.specs.Prelude.{◌≡◌};
-    ghost use Rattle.node_keeper.specs.Faults.{fault_of};
+    ghost use Rattle.node_keeper.specs.NodeFaults.{node_fault_of};
 
-    ghost from_gives = { λ session fault. fault ≡ fault_of session };
+    ghost from_gives = { λ session fault. fault ≡ node_fault_of session };
 
     fn from(session: SessionFault) -> NodeFault {
         match session {

@@ -2,12 +2,12 @@
 ghost use Rattle.std.specs.Prelude.{◌≡◌, ◌↔◌, None, IfOk, IfErr, OnOk, OnErr, IsErrOf};
 ghost use Rattle.journal_store.specs.Closing.{StaysTold};
 ghost use Rattle.mld_ops.specs.Messages.{message_value, IsGoodMessage};
-ghost use Rattle.shell_session.specs.Lines.{Meters};
-ghost use Rattle.shell_session.specs.LiveCalls.{StopsShort};
-ghost use Rattle.node_model.specs.Messages.{ReceivesLive};
-ghost use Rattle.node_keeper.specs.States.{IsOpen, banks_of, living, banks_after, FailsOnDevice};
-ghost use Rattle.node_keeper.specs.Deeds.{ReceivesOn, StopsMessage, IsDueByMessage};
-ghost use Rattle.node_keeper.specs.Calls.{GoesBy, MayBeSent, HasSent, MayAnswer, HasAnswered};
+ghost use Rattle.shell_session.specs.SessionLines.{Meters};
+ghost use Rattle.shell_session.specs.LiveCalls.{CloneLeavesFrontOfDue};
+ghost use Rattle.node_model.specs.NodeMessages.{LiveReceives};
+ghost use Rattle.node_keeper.specs.NodeStates.{IsOpen, state_banks, living, state_banks_after, StateFailsOnDevice};
+ghost use Rattle.node_keeper.specs.NodeDeeds.{ReceivesOn, StopsMessage, IsDueByMessage};
+ghost use Rattle.node_keeper.specs.LoanCalls.{GoesBy, MayBeSent, HasSent, MayAnswer, HasAnswered};
 ghost use Rattle.node_keeper.specs.declared.states.NodeState.TheVariants as states;
 
 use crate::adopting::receive_asking;
@@ -41,8 +41,8 @@ pub fn receive_message<R: Threads, B: Banks>(
     ensures done { IfOk result (λ next. ReceivesOn B.log message.now state exchange.old next exchange.new) }
     ensures opened { IfOk result IsOpen }
     ensures stopped { IfErr result (λ refused. StopsMessage B.log message.now state refused.1) }
-    ensures told { StaysTold (B.log (banks_of state)) (B.log (banks_after result)) }
-    ensures fault { Meters (B.meter (banks_of state)) (B.meter (banks_after result)) (FailsOnDevice result) }
+    ensures told { StaysTold (B.log (state_banks state)) (B.log (state_banks_after result)) }
+    ensures fault { Meters (B.meter (state_banks state)) (B.meter (state_banks_after result)) (StateFailsOnDevice result) }
 {
     match state {
         NodeState::Live(clone) => receive_live(rt, alloc, clone, message, exchange),
@@ -64,8 +64,8 @@ fn receive_live<R: Threads, B: Banks>(
         (λ next. ReceivesOn B.log message.now (states.Live clone) exchange.old next exchange.new) }
     ensures opened { IfOk result IsOpen }
     ensures stopped { IfErr result (λ refused. StopsMessage B.log message.now (states.Live clone) refused.1) }
-    ensures told { StaysTold (B.log clone.banks) (B.log (banks_after result)) }
-    ensures fault { Meters (B.meter clone.banks) (B.meter (banks_after result)) (FailsOnDevice result) }
+    ensures told { StaysTold (B.log clone.banks) (B.log (state_banks_after result)) }
+    ensures fault { Meters (B.meter clone.banks) (B.meter (state_banks_after result)) (StateFailsOnDevice result) }
 {
     match receive_loan(rt, alloc, &mut clone, message, exchange) {
         Ok(()) => {
@@ -87,10 +87,10 @@ fn receive_loan<R: Threads, B: Banks>(
     requires opened { clone.old.closed ≡ None }
     requires good { IsGoodMessage (message_value message.now) }
     ensures done { OnOk result (GoesBy B.log B.meter
-        (λ steps next. ReceivesLive clone.old.generation clone.old.local message.now exchange.old
+        (λ steps next. LiveReceives clone.old.generation clone.old.local message.now exchange.old
         steps next exchange.new) clone.old clone.new) }
     ensures stopped { OnErr result
-        (StopsShort B.log B.meter (IsDueByMessage (living clone.old) message.now) clone.old clone.new.banks) }
+        (CloneLeavesFrontOfDue B.log B.meter (IsDueByMessage (living clone.old) message.now) clone.old clone.new.banks) }
     ensures told { StaysTold (B.log clone.old.banks) (B.log clone.new.banks) }
     ensures fault { Meters (B.meter clone.old.banks) (B.meter clone.new.banks) (IsErrOf result NodeFault.Device) }
 {

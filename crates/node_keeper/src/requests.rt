@@ -1,14 +1,14 @@
 //! Requests of clients.
 ghost use Rattle.std.specs.Prelude.{◌≡◌, [], None, Some, IfOk, IfErr, OnOk};
 ghost use Rattle.journal_store.specs.Closing.{StaysTold};
-ghost use Rattle.shell_session.specs.Lines.{Meters};
+ghost use Rattle.shell_session.specs.SessionLines.{Meters};
 ghost use Rattle.node_exchange.specs.declared.connections.Connection.{Connection};
 ghost use Rattle.mld_model.specs.Local.{LocalAsker};
 ghost use Rattle.node_model.specs.Keepers.{Asks};
 ghost use Rattle.node_model.specs.Requests.{TakesRequest};
-ghost use Rattle.node_keeper.specs.States.{IsOpen, banks_of, banks_after, FailsOnDevice};
-ghost use Rattle.node_keeper.specs.Deeds.{AnswersOn, StopsRequest};
-ghost use Rattle.node_keeper.specs.Calls.{Replies};
+ghost use Rattle.node_keeper.specs.NodeStates.{IsOpen, state_banks, state_banks_after, StateFailsOnDevice};
+ghost use Rattle.node_keeper.specs.NodeDeeds.{AnswersOn, StopsRequest};
+ghost use Rattle.node_keeper.specs.LoanCalls.{Replies};
 ghost use Rattle.node_keeper.specs.declared.states.NodeState.TheVariants as states;
 
 use crate::answering::answer_loan;
@@ -40,8 +40,8 @@ pub fn answer_request<B: Banks>(
         → AnswersOn B.log one line.now state exchange.old next exchange.new) }
     ensures opened { IfOk result IsOpen }
     ensures stopped { IfErr result (λ refused. StopsRequest B.log line.now state refused.1) }
-    ensures told { StaysTold (B.log (banks_of state)) (B.log (banks_after result)) }
-    ensures fault { Meters (B.meter (banks_of state)) (B.meter (banks_after result)) (FailsOnDevice result) }
+    ensures told { StaysTold (B.log (state_banks state)) (B.log (state_banks_after result)) }
+    ensures fault { Meters (B.meter (state_banks state)) (B.meter (state_banks_after result)) (StateFailsOnDevice result) }
 {
     match state {
         NodeState::Live(clone) => answer_live(alloc, clone, line, exchange),
@@ -62,8 +62,8 @@ fn answer_live<B: Banks>(
         → AnswersOn B.log one line.now (states.Live clone) exchange.old next exchange.new) }
     ensures opened { IfOk result IsOpen }
     ensures stopped { IfErr result (λ refused. StopsRequest B.log line.now (states.Live clone) refused.1) }
-    ensures told { StaysTold (B.log clone.banks) (B.log (banks_after result)) }
-    ensures fault { Meters (B.meter clone.banks) (B.meter (banks_after result)) (FailsOnDevice result) }
+    ensures told { StaysTold (B.log clone.banks) (B.log (state_banks_after result)) }
+    ensures fault { Meters (B.meter clone.banks) (B.meter (state_banks_after result)) (StateFailsOnDevice result) }
 {
     match answer_loan(alloc, &mut clone, line, exchange) {
         Ok(()) => {
@@ -86,8 +86,8 @@ fn answer_asking<B: Banks>(
         → AnswersOn B.log one line.now (states.Asking asker) exchange.old next exchange.new) }
     ensures opened { IfOk result IsOpen }
     ensures stopped { IfErr result (λ refused. StopsRequest B.log line.now (states.Asking asker) refused.1) }
-    ensures told { StaysTold (B.log asker.banks) (B.log (banks_after result)) }
-    ensures fault { Meters (B.meter asker.banks) (B.meter (banks_after result)) (FailsOnDevice result) }
+    ensures told { StaysTold (B.log asker.banks) (B.log (state_banks_after result)) }
+    ensures fault { Meters (B.meter asker.banks) (B.meter (state_banks_after result)) (StateFailsOnDevice result) }
 {
     match reply_asking(alloc, &asker, line, exchange) {
         Ok(()) => Ok(NodeState::Asking(asker)),

@@ -19,12 +19,12 @@ impl<B: Banks> NodeState<B> {
     ghost use Rattle.std.specs.Prelude.{◌≡◌, IsTrue, IfOk};
     ghost use Rattle.iri_rules.specs.Domain.{is_domain};
     ghost use Rattle.mld_ops.specs.Messages.{message_value, IsGoodMessage};
-    ghost use Rattle.node_model.specs.Keepers.{id_of, domain_of, question_of, found_of};
-    ghost use Rattle.node_keeper.specs.States.{banks_of, keeper_of, FindsNow, IsOpen};
+    ghost use Rattle.node_model.specs.Keepers.{keeper_id, keeper_domain, question_of, keeper_found};
+    ghost use Rattle.node_keeper.specs.NodeStates.{state_banks, keeper_of, FindsNow, IsOpen};
 
     /// Its id.
     pub fn id(&self) -> Uuid
-        ensures { result ≡ id_of (keeper_of self.now) }
+        ensures { result ≡ keeper_id (keeper_of self.now) }
     {
         match self {
             NodeState::Live(clone) => clone.id(),
@@ -34,7 +34,7 @@ impl<B: Banks> NodeState<B> {
 
     /// The name of its domain.
     pub fn domain(&self) -> &str
-        ensures domain { result.now ≡ domain_of (keeper_of self.now) }
+        ensures domain { result.now ≡ keeper_domain (keeper_of self.now) }
         ensures name { IsTrue (is_domain result.now) }
     {
         match self {
@@ -56,8 +56,8 @@ impl<B: Banks> NodeState<B> {
 
     /// Its banks, which keep what it has where it is open. A live clone stops. It takes no memory and calls no device.
     pub fn into_banks(self) -> B
-        ensures banks { result ≡ banks_of self }
-        ensures kept { IsOpen self → FindsNow (found_of (keeper_of self)) (B.log result) }
+        ensures banks { result ≡ state_banks self }
+        ensures kept { IsOpen self → FindsNow (keeper_found (keeper_of self)) (B.log result) }
     {
         match self {
             NodeState::Live(clone) => clone.stop(),

@@ -4,11 +4,11 @@ ghost use Rattle.mld_io.specs.Disk.{Log};
 ghost use Rattle.mld_ops.specs.Messages.{CarriesWant};
 ghost use Rattle.clone_core.specs.Banked.{KeepsClone};
 ghost use Rattle.wire_frames.specs.Frames.{frames_bytes};
-ghost use Rattle.wire_frames.specs.Parts.{reply_parts};
+ghost use Rattle.wire_frames.specs.MessageParts.{reply_parts};
 ghost use Rattle.node_exchange.specs.declared.connections.Connection.{Connection as ConnectionValue};
 ghost use Rattle.node_exchange.specs.Connections.{as_client};
 ghost use Rattle.node_exchange.specs.Exchanges.{saying, telling};
-ghost use Rattle.node_keeper.specs.Calls.{Greets};
+ghost use Rattle.node_keeper.specs.LoanCalls.{GreetsClient};
 
 use clone_core::MldClone;
 use mld_io::Banks;
@@ -19,7 +19,7 @@ use wire_frames::reply_frames;
 /// Makes the connection at hand a client's, and tells its number.
 pub(crate) fn greet_client(exchange: &mut Exchange) -> u32
     requires { (one : ConnectionValue) × (exchange.old.at_hand ≡ Some one) }
-    ensures { (one : ConnectionValue) → exchange.old.at_hand ≡ Some one → Greets one exchange.old result exchange.new }
+    ensures { (one : ConnectionValue) → exchange.old.at_hand ≡ Some one → GreetsClient one exchange.old result exchange.new }
 {
     let Some(one) = exchange.take_at_hand() else {
         unreachable!()

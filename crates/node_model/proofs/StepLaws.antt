@@ -16,7 +16,7 @@ use Rattle.clone_answers.specs.declared.faults.ReceiveFault.TheVariants as fault
 use Rattle.clone_core.specs.Banked.{head_of}
 use Rattle.clone_core.specs.CloneCalls.{LocallyReceives}
 use Rattle.clone_core.specs.DurableCalls.{ReceivedSteps, merged_steps}
-use Rattle.shell_model.specs.Shells.{Found, Stored, found_after, generation_after}
+use Rattle.shell_model.specs.Shells.{FoundOnBanks, Stored, found_after, generation_after}
 use Rattle.shell_model.proofs.RunLaws.{live_step, live_found, found_both}
 use Rattle.wire_frames.specs.declared.kinds.Frame.{Frame}
 use Rattle.wire_frames.specs.declared.kinds.Frame.TheVariants.{Hello, Part, Request, Reply, Refuse}
@@ -28,13 +28,13 @@ use Rattle.node_exchange.specs.declared.connections.Role.TheVariants as role
 use Rattle.node_exchange.specs.declared.connections.Sent.{Sent}
 use Rattle.node_exchange.specs.Connections.{connection_of, as_client, without}
 use Rattle.node_exchange.specs.Exchanges.{ExchangeValue, holding}
-use Rattle.wire_frames.specs.Parts.{AssemblyValue}
-use Rattle.node_model.specs.Keepers.{Keeper, Lives, Asks, found_of}
-use Rattle.node_model.specs.Requests.{OnlyReplies, AnswersRequest, TakesRequest}
-use Rattle.node_model.specs.Messages.{StaysAsItIs, HasReceived, ReceivesAsking, joins, ignores, Receives}
-use Rattle.node_model.specs.FrameSteps.{KeepsAll, with_parts, TakesPart, waits, is_whole, is_bad, FrameStepAs, FramesStep, no_more, are_dropped, and_then}
+use Rattle.wire_frames.specs.MessageParts.{AssemblyValue}
+use Rattle.node_model.specs.Keepers.{Keeper, Lives, Asks, keeper_found}
+use Rattle.node_model.specs.Requests.{NodeOnlyReplies, AnswersRequest, TakesRequest}
+use Rattle.node_model.specs.NodeMessages.{StaysAsItIs, HasReceived, AskerReceives, joins, ignores, Receives}
+use Rattle.node_model.specs.FrameSteps.{KeepsAll, with_parts, ReceivesPart, waits, is_whole, is_bad, FrameStepAs, FramesStep, no_more, are_dropped, and_then}
 use Rattle.node_model.specs.Events.{NodeValue, beginning, PieceStep, NodeStep, log_after}
-use Rattle.node_model.specs.Laws.{NodeStepsLead}
+use Rattle.node_model.specs.NodeLaws.{NodeStepsLead}
 
 -- ---- a live clone
 
@@ -134,13 +134,13 @@ result_leads generation old new sent (Err fault.NoMemory) steps received = absur
 
 -- what is found on the banks of the next is what the durable steps make of what was found on those of the first
 abbrev Leads : Keeper → List KeptStep → Keeper → Type 0
-Leads keeper steps next = found_of next ≡ found_after steps (found_of keeper)
+Leads keeper steps next = keeper_found next ≡ found_after steps (keeper_found keeper)
 
 -- none were made
 nothing_leads : (keeper : Keeper) (steps : List KeptStep) (next : Keeper) → steps ≡ [] → next ≡ keeper → Leads keeper steps next
-nothing_leads keeper steps next none same = subst (λ (s : List KeptStep). Leads keeper s next) (sym none) (ap found_of same)
+nothing_leads keeper steps next none same = subst (λ (s : List KeptStep). Leads keeper s next) (sym none) (ap keeper_found same)
 
-replied_leads : {answer : List ℕ} (keeper : Keeper) (text : List ℕ) (steps : List KeptStep) (next : Keeper) → OnlyReplies answer keeper text steps next
+replied_leads : {answer : List ℕ} (keeper : Keeper) (text : List ℕ) (steps : List KeptStep) (next : Keeper) → NodeOnlyReplies answer keeper text steps next
     → Leads keeper steps next
 replied_leads keeper text steps next only = nothing_leads keeper steps next only.none only.same
 
@@ -154,7 +154,7 @@ answer_leads (Lives generation clone) request.Halt exchange text steps next afte
 answer_leads (Lives generation clone) request.Bad exchange text steps next after answers = replied_leads (Lives generation clone) text steps next answers.0
 answer_leads (Lives generation clone) request.Ask exchange text steps next after answers = replied_leads (Lives generation clone) text steps next answers.0
 answer_leads (Lives generation clone) (request.Command command) exchange text steps next after answers =
-    ap found_of answers.becomes
+    ap keeper_found answers.becomes
     ∙ live_found generation clone answers.new steps (live_step generation clone command answers.reply steps answers.new answers.does)
 answer_leads (Asks asker) request.Halt exchange text steps next after answers = replied_leads (Asks asker) text steps next answers.0
 answer_leads (Asks asker) request.Bad exchange text steps next after answers = replied_leads (Asks asker) text steps next answers.0
@@ -168,20 +168,20 @@ request_leads keeper one line exchange steps next after takes =
 
 -- a message was received
 asking_leads : (asker : LocalAsker) (sent : Message) (exchange : ExchangeValue) (steps : List KeptStep) (next : Keeper) (after : ExchangeValue)
-    → ReceivesAsking asker sent exchange steps next after → Leads (Asks asker) steps next
+    → AskerReceives asker sent exchange steps next after → Leads (Asks asker) steps next
 asking_leads asker sent exchange steps next after (joins give is) = refl
 asking_leads asker sent exchange steps next after (ignores none) = refl
 
 message_leads : (keeper : Keeper) (sent : Message) (exchange : ExchangeValue) (steps : List KeptStep) (next : Keeper) (after : ExchangeValue)
     → Receives keeper sent exchange steps next after → Leads keeper steps next
 message_leads (Lives generation clone) sent exchange steps next after receives =
-    ap found_of receives.becomes ∙ result_leads generation clone receives.new sent receives.result steps receives.received
+    ap keeper_found receives.becomes ∙ result_leads generation clone receives.new sent receives.result steps receives.received
 message_leads (Asks asker) sent exchange steps next after receives = asking_leads asker sent exchange steps next after receives
 
 -- ---- frames
 
 part_leads : (keeper : Keeper) (one : Connection) (assembly : AssemblyValue) (number index count : ℕ) (piece : List ℕ) (exchange : ExchangeValue)
-    (steps : List KeptStep) (next : Keeper) (after : ExchangeValue) → TakesPart keeper one assembly number index count piece exchange steps next after
+    (steps : List KeptStep) (next : Keeper) (after : ExchangeValue) → ReceivesPart keeper one assembly number index count piece exchange steps next after
     → Leads keeper steps next
 part_leads keeper one assembly number index count piece exchange steps next after (waits missing put assembles) = refl
 part_leads keeper one assembly number index count piece exchange steps next after (is_whole sent put assembles made other done receives) =
@@ -204,7 +204,7 @@ frames_lead keeper frames exchange steps next after (are_dropped same_keeper sam
 frames_lead keeper frames exchange steps next after (and_then was one frame behind now going at_hand first middle between does rest then end more) =
     frames_lead middle behind between rest next after more
     ∙ ap (found_after rest) (frame_leads one.role frame keeper one exchange first middle between does)
-    ∙ sym (found_both first rest (found_of keeper))
+    ∙ sym (found_both first rest (keeper_found keeper))
 
 -- ---- events
 
@@ -212,7 +212,7 @@ piece_leads : (one : Option Connection) (node : NodeValue) (piece : List ℕ) (s
     → PieceStep one node piece sent steps next → Leads node.keeper steps next.keeper
 piece_leads None node piece sent steps next does = nothing_leads node.keeper steps next.keeper does.none (ap (λ (n : NodeValue). n.keeper) does.becomes)
 piece_leads (Some one) node piece sent steps next does =
-    ap (λ (n : NodeValue). found_of n.keeper) does.becomes
+    ap (λ (n : NodeValue). keeper_found n.keeper) does.becomes
     ∙ frames_lead node.keeper does.frames (beginning (record one { frames = does.reader }) (without one.number node.connections)) steps does.keeper does.middle does.does
 
 event_leads : (node : NodeValue) (event : Event) (sent : List Sent) (steps : List KeptStep) (next : NodeValue) → NodeStep node event sent steps next
@@ -227,5 +227,5 @@ node_steps_lead node [] log steps next after runs = nothing_leads node.keeper st
 node_steps_lead node (event ∷ events) log steps next after (going, sent, first, rest, middle, does, more, whole) =
     node_steps_lead middle events (log_after sent (call.Took event ∷ log)) rest next after more
     ∙ ap (found_after rest) (event_leads node event sent first middle does)
-    ∙ sym (found_both first rest (found_of node.keeper))
-    ∙ sym (ap (λ (s : List KeptStep). found_after s (found_of node.keeper)) whole)
+    ∙ sym (found_both first rest (keeper_found node.keeper))
+    ∙ sym (ap (λ (s : List KeptStep). found_after s (keeper_found node.keeper)) whole)

@@ -11,9 +11,9 @@ use Rattle.wire_frames.specs.declared.kinds.Frame.TheVariants.{Hello}
 use Rattle.wire_frames.specs.Frames.{FramesValue, Feeds, frame_bytes, hello_format}
 use Rattle.node_exchange.specs.declared.connections.Connection.{Connection}
 use Rattle.node_exchange.specs.declared.connections.Sent.{Sent}
-use Rattle.node_exchange.specs.Connections.{connection_of, without, placed, opened}
+use Rattle.node_exchange.specs.Connections.{connection_of, without, connections_with, opened}
 use Rattle.node_exchange.specs.Exchanges.{ExchangeValue, says}
-use Rattle.node_model.specs.Keepers.{Keeper, id_of, domain_of}
+use Rattle.node_model.specs.Keepers.{Keeper, keeper_id, keeper_domain}
 use Rattle.node_model.specs.FrameSteps.{FramesStep, faulting}
 
 -- a node: what it has, its connections in ascending number, and whether it has ended
@@ -31,7 +31,7 @@ beginning one others = record { sent = []; at_hand = Some one; others = others; 
 -- the connection at hand comes back to the others, where it is still there
 abbrev pub put_back : Option Connection → List Connection → List Connection
 put_back None others = others
-put_back (Some one) others = placed one others
+put_back (Some one) others = connections_with one others
 
 -- the node once an exchange ended
 abbrev pub node_after : Keeper → ExchangeValue → NodeValue
@@ -64,9 +64,9 @@ PieceStep (Some one) node piece sent steps next = TakesPiece node one piece sent
 
 -- a connection was opened, and begins anew where it was known: it is told who the node is
 pub record GreetsNew (node : NodeValue) (number : ℕ) (sent : List Sent) (steps : List KeptStep) (next : NodeValue) : Type 0 where
-  pub hello : sent ≡ says number (frame_bytes (Hello hello_format (id_of node.keeper) (domain_of node.keeper))) ∷ []
+  pub hello : sent ≡ says number (frame_bytes (Hello hello_format (keeper_id node.keeper) (keeper_domain node.keeper))) ∷ []
   pub none : steps ≡ []
-  pub becomes : next ≡ record node { connections = placed (opened number) (without number node.connections) }
+  pub becomes : next ≡ record node { connections = connections_with (opened number) (without number node.connections) }
 
 -- the step of a node by an event: what is sent, in order; the durable steps; and the node then
 abbrev pub NodeStep : NodeValue → Event → List Sent → List KeptStep → NodeValue → Type 0

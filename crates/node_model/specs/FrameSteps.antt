@@ -9,15 +9,15 @@ use Rattle.wire_frames.specs.declared.kinds.Frame.{Frame}
 use Rattle.wire_frames.specs.declared.kinds.Frame.TheVariants.{Hello, Part, Request, Reply, Refuse}
 use Rattle.wire_frames.specs.declared.assembling.Assembled.TheVariants.{Waiting, Whole}
 use Rattle.wire_frames.specs.Frames.{hello_format}
-use Rattle.wire_frames.specs.Parts.{AssemblyValue, Assembles}
+use Rattle.wire_frames.specs.MessageParts.{AssemblyValue, Assembles}
 use Rattle.node_exchange.specs.declared.connections.Connection.{Connection}
 use Rattle.node_exchange.specs.declared.connections.Role.{Role}
 use Rattle.node_exchange.specs.declared.connections.Role.TheVariants as role
 use Rattle.node_exchange.specs.Connections.{as_peer}
 use Rattle.node_exchange.specs.Exchanges.{ExchangeValue, refusing, telling, holding}
-use Rattle.node_model.specs.Keepers.{Keeper, id_of, domain_of, question_of}
+use Rattle.node_model.specs.Keepers.{Keeper, keeper_id, keeper_domain, question_of}
 use Rattle.node_model.specs.Requests.{TakesRequest}
-use Rattle.node_model.specs.Messages.{Receives}
+use Rattle.node_model.specs.NodeMessages.{Receives}
 
 -- nothing is kept, and the node has what it had
 pub record KeepsAll (keeper : Keeper) (steps : List KeptStep) (next : Keeper) : Type 0 where
@@ -30,10 +30,10 @@ pub record KeepsAll (keeper : Keeper) (steps : List KeptStep) (next : Keeper) : 
 -- peer, and is asked for what is lacked.
 pub data Greets (keeper : Keeper) (one : Connection) (format : ℕ) (id domain : List ℕ) (exchange : ExchangeValue) : ExchangeValue → Type 0 where
   of_other_format : format ≢ hello_format → Greets keeper one format id domain exchange (refusing 4 (holding one exchange))
-  of_other_domain : format ≡ hello_format → domain ≢ domain_of keeper → Greets keeper one format id domain exchange (refusing 3 (holding one exchange))
-  of_own_id : format ≡ hello_format → domain ≡ domain_of keeper → id ≡ id_of keeper
+  of_other_domain : format ≡ hello_format → domain ≢ keeper_domain keeper → Greets keeper one format id domain exchange (refusing 3 (holding one exchange))
+  of_own_id : format ≡ hello_format → domain ≡ keeper_domain keeper → id ≡ keeper_id keeper
       → Greets keeper one format id domain exchange (refusing 5 (holding one exchange))
-  of_peer : format ≡ hello_format → domain ≡ domain_of keeper → id ≢ id_of keeper
+  of_peer : format ≡ hello_format → domain ≡ keeper_domain keeper → id ≢ keeper_id keeper
       → Greets keeper one format id domain exchange (telling (question_of keeper) (holding (as_peer one) exchange))
 
 -- ---- a part
@@ -43,15 +43,15 @@ abbrev pub with_parts : AssemblyValue → Connection → Connection
 with_parts assembly one = record one { role = role.Peer assembly }
 
 -- a part came of a peer: its message isn't whole yet; or it is, and is received; or the part is none that may come, and the peer is refused
-pub data TakesPart (keeper : Keeper) (one : Connection) (assembly : AssemblyValue) (number index count : ℕ) (piece : List ℕ) (exchange : ExchangeValue)
+pub data ReceivesPart (keeper : Keeper) (one : Connection) (assembly : AssemblyValue) (number index count : ℕ) (piece : List ℕ) (exchange : ExchangeValue)
     : List KeptStep → Keeper → ExchangeValue → Type 0 where
   waits : (missing : ℕ) (put : AssemblyValue) → Assembles assembly number index count piece (Ok (Waiting missing)) put
-      → TakesPart keeper one assembly number index count piece exchange [] keeper (holding (with_parts put one) exchange)
+      → ReceivesPart keeper one assembly number index count piece exchange [] keeper (holding (with_parts put one) exchange)
   is_whole : (message : Message) (put : AssemblyValue) → Assembles assembly number index count piece (Ok (Whole message)) put
       → (steps : List KeptStep) (next : Keeper) (after : ExchangeValue) → Receives keeper message (holding (with_parts put one) exchange) steps next after
-      → TakesPart keeper one assembly number index count piece exchange steps next after
+      → ReceivesPart keeper one assembly number index count piece exchange steps next after
   is_bad : (put : AssemblyValue) → Assembles assembly number index count piece (Err BadPart) put
-      → TakesPart keeper one assembly number index count piece exchange [] keeper (refusing 1 (holding one exchange))
+      → ReceivesPart keeper one assembly number index count piece exchange [] keeper (refusing 1 (holding one exchange))
 
 -- ---- a frame
 
@@ -67,7 +67,7 @@ FrameStepAs role.Fresh (Hello format id domain) keeper one exchange steps next a
 FrameStepAs role.Fresh (Request line) keeper one exchange steps next after = TakesRequest keeper one line exchange steps next after
 FrameStepAs role.Client (Request line) keeper one exchange steps next after = TakesRequest keeper one line exchange steps next after
 FrameStepAs (role.Peer assembly) (Part number index count piece) keeper one exchange steps next after =
-    TakesPart keeper one assembly number index count piece exchange steps next after
+    ReceivesPart keeper one assembly number index count piece exchange steps next after
 FrameStepAs kind frame keeper one exchange steps next after = IsOutOfPlace keeper one exchange steps next after
 
 abbrev pub FrameStep : Keeper → Connection → Frame → ExchangeValue → List KeptStep → Keeper → ExchangeValue → Type 0
@@ -88,9 +88,9 @@ pub data FramesStep : Keeper → List Frame → ExchangeValue → List KeptStep 
       → FramesStep keeper (frame ∷ frames) exchange (first ++ rest) next after
 
 -- the code by which a fault of frames is refused
-abbrev pub code_of : FrameFault → ℕ
-code_of (BadFrame place) = 1
-code_of (TooLong place) = 2
+abbrev pub refusal_code : FrameFault → ℕ
+refusal_code (BadFrame place) = 1
+refusal_code (TooLong place) = 2
 
 -- the connection at hand is forgotten
 abbrev pub forgetting : ExchangeValue → ExchangeValue
@@ -99,4 +99,4 @@ forgetting exchange = record exchange { at_hand = None }
 -- Behind the frames there may be a fault. The connection is refused for it, where it is still there; where the node is to end, it is dropped too.
 abbrev pub faulting : Option FrameFault → ExchangeValue → ExchangeValue
 faulting None exchange = exchange
-faulting (Some fault) exchange = if exchange.halted then forgetting exchange else refusing (code_of fault) exchange
+faulting (Some fault) exchange = if exchange.halted then forgetting exchange else refusing (refusal_code fault) exchange

@@ -4,7 +4,7 @@ use Rattle.mld_ops.specs.Messages.{MessageValue, CarriesEntry, CarriesWant, Carr
 use Rattle.mld_model.specs.Local.{LocalClone, LocalAsker}
 use Rattle.clone_banks.specs.KeptSteps.{KeptStep, Created, Appended, Forked, Swapped}
 use Rattle.clone_core.specs.Banked.{head_of}
-use Rattle.shell_model.specs.Shells.{Found, Nothing, Stored}
+use Rattle.shell_model.specs.Shells.{FoundOnBanks, Nothing, Stored}
 
 pub data Keeper : Type 0 where
   -- the clone is live, and what its banks keep has this generation
@@ -13,18 +13,18 @@ pub data Keeper : Type 0 where
   Asks : LocalAsker → Keeper
 
 -- its id and its domain
-abbrev pub id_of : Keeper → List ℕ
-id_of (Lives generation clone) = clone.id
-id_of (Asks asker) = asker.id
+abbrev pub keeper_id : Keeper → List ℕ
+keeper_id (Lives generation clone) = clone.id
+keeper_id (Asks asker) = asker.id
 
-abbrev pub domain_of : Keeper → List ℕ
-domain_of (Lives generation clone) = clone.domain
-domain_of (Asks asker) = asker.domain
+abbrev pub keeper_domain : Keeper → List ℕ
+keeper_domain (Lives generation clone) = clone.domain
+keeper_domain (Asks asker) = asker.domain
 
 -- what is found on its banks
-abbrev pub found_of : Keeper → Found
-found_of (Lives generation clone) = Stored generation (head_of clone) clone.entries
-found_of (Asks asker) = Nothing
+abbrev pub keeper_found : Keeper → FoundOnBanks
+keeper_found (Lives generation clone) = Stored generation (head_of clone) clone.entries
+keeper_found (Asks asker) = Nothing
 
 -- what it asks a peer for: all that it lacks, or a leaf
 abbrev pub question_of : Keeper → MessageValue

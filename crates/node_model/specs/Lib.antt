@@ -1,6 +1,6 @@
-pub mod Laws
+pub mod NodeLaws
 pub mod Keepers
 pub mod Requests
-pub mod Messages
+pub mod NodeMessages
 pub mod FrameSteps
 pub mod Events

@@ -8,14 +8,14 @@ use Rattle.shell_model.specs.Shells.{generation_after}
 use Rattle.shell_model.specs.ShellReply.{ShellReply, shell_text}
 use Rattle.shell_model.specs.ShellStep.{LiveStep}
 use Rattle.wire_frames.specs.Frames.{frames_bytes}
-use Rattle.wire_frames.specs.Parts.{reply_parts}
+use Rattle.wire_frames.specs.MessageParts.{reply_parts}
 use Rattle.node_requests.specs.declared.requests.Request.{Request}
 use Rattle.node_requests.specs.declared.requests.Request.TheVariants.{Command, Ask, Halt, Bad}
 use Rattle.node_requests.specs.RequestLines.{SpellsRequest}
 use Rattle.node_exchange.specs.declared.connections.Connection.{Connection}
 use Rattle.node_exchange.specs.Connections.{as_client}
 use Rattle.node_exchange.specs.Exchanges.{ExchangeValue, saying, telling_peers, telling_peers_each, holding, halting}
-use Rattle.node_model.specs.Keepers.{Keeper, Lives, Asks, domain_of, carried}
+use Rattle.node_model.specs.Keepers.{Keeper, Lives, Asks, keeper_domain, carried}
 
 -- replies of a node's own
 abbrev pub bad_text : List ℕ
@@ -31,7 +31,7 @@ abbrev pub sent_text : List ℕ
 sent_text = codes "sent\n"
 
 -- the reply is this one, no durable step is made, and what the node has stays as it was
-pub record OnlyReplies (answer : List ℕ) (keeper : Keeper) (text : List ℕ) (steps : List KeptStep) (next : Keeper) : Type 0 where
+pub record NodeOnlyReplies (answer : List ℕ) (keeper : Keeper) (text : List ℕ) (steps : List KeptStep) (next : Keeper) : Type 0 where
   pub replies : text ≡ answer
   pub none : steps ≡ []
   pub same : next ≡ keeper
@@ -48,20 +48,20 @@ pub record DoesCommand (generation : ℕ) (clone : LocalClone) (command : ShellC
 -- the text of the reply to a request, its durable steps, and the node and the exchange once they are made: while asking, all but a line
 -- that is bad or ends the node has to wait
 abbrev pub AnswersRequest : Keeper → Request → ExchangeValue → List ℕ → List KeptStep → Keeper → ExchangeValue → Type 0
-AnswersRequest keeper Halt exchange text steps next after = OnlyReplies stopped_text keeper text steps next × (after ≡ halting exchange)
-AnswersRequest keeper Bad exchange text steps next after = OnlyReplies bad_text keeper text steps next × (after ≡ exchange)
-AnswersRequest (Asks asker) Ask exchange text steps next after = OnlyReplies asking_text (Asks asker) text steps next × (after ≡ exchange)
+AnswersRequest keeper Halt exchange text steps next after = NodeOnlyReplies stopped_text keeper text steps next × (after ≡ halting exchange)
+AnswersRequest keeper Bad exchange text steps next after = NodeOnlyReplies bad_text keeper text steps next × (after ≡ exchange)
+AnswersRequest (Asks asker) Ask exchange text steps next after = NodeOnlyReplies asking_text (Asks asker) text steps next × (after ≡ exchange)
 AnswersRequest (Asks asker) (Command command) exchange text steps next after =
-    OnlyReplies asking_text (Asks asker) text steps next × (after ≡ exchange)
+    NodeOnlyReplies asking_text (Asks asker) text steps next × (after ≡ exchange)
 AnswersRequest (Lives generation clone) Ask exchange text steps next after =
-    OnlyReplies sent_text (Lives generation clone) text steps next × (after ≡ telling_peers (CarriesWant clone.ticks) exchange)
+    NodeOnlyReplies sent_text (Lives generation clone) text steps next × (after ≡ telling_peers (CarriesWant clone.ticks) exchange)
 AnswersRequest (Lives generation clone) (Command command) exchange text steps next after =
     DoesCommand generation clone command exchange text steps next after
 
 -- a request came on a connection, which is a client's then. The reply to it goes out behind what went to peers
 pub record TakesRequest (keeper : Keeper) (one : Connection) (line : List ℕ) (exchange : ExchangeValue) (steps : List KeptStep) (next : Keeper) (after : ExchangeValue) : Type 0 where
   pub request : Request
-  pub spells : SpellsRequest (domain_of keeper) line request
+  pub spells : SpellsRequest (keeper_domain keeper) line request
   pub text : List ℕ
   pub middle : ExchangeValue
   pub answers : AnswersRequest keeper request (holding (as_client one) exchange) text steps next middle

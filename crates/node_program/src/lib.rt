@@ -2,7 +2,7 @@
 #![tactic(auto)]
 
 ghost use Rattle.std.specs.Prelude.{◌≡◌, IfOk};
-ghost use Rattle.tcp_wire.specs.Wires.{taken_of};
+ghost use Rattle.tcp_wire.specs.TcpWires.{count_of_taken};
 
 use iri_rules::Text;
 use mld_io::FileBanks;
@@ -60,7 +60,7 @@ fn ends_of<R: Alloc<A = Global> + Clock + Clone + Drop + Files<File = File> + Ne
     rt: &R,
     words: &Vec<String>,
 ) -> Result<(TcpWire<R>, FileBanks<R>), AllocError>
-    ensures { IfOk result (λ ends. taken_of ends.0 ≡ 0) }
+    ensures { IfOk result (λ ends. count_of_taken ends.0 ≡ 0) }
 {
     match read_words(rt.alloc(), words) {
         Ok(node) => {
@@ -78,7 +78,7 @@ fn ends_at<R: Alloc<A = Global> + Clock + Clone + Drop + Files<File = File> + Ne
     listen: &str,
     peer: Option<&str>,
 ) -> Result<(TcpWire<R>, FileBanks<R>), AllocError>
-    ensures { IfOk result (λ ends. taken_of ends.0 ≡ 0) }
+    ensures { IfOk result (λ ends. count_of_taken ends.0 ≡ 0) }
 {
     let wire = TcpWire::new(rt.clone()?, rt.alloc(), listen, peer)?;
     let banks = FileBanks::new(rt.clone()?, rt.alloc(), folder)?;

@@ -21,22 +21,22 @@ use Rattle.clone_core.specs.Banked.{BankedClone, BankedAsker, KeepsClone, head_o
 use Rattle.clone_core.specs.DurableCalls.{Creates}
 use Rattle.clone_core.specs.Opening.{IsFoundAs, RunsAgain, TellsClone, SyncsBoth, mount_calls}
 use Rattle.clone_core.specs.declared.mounts.Mounted.TheVariants.{Refused}
-use Rattle.shell_model.specs.Shells.{Found, Nothing, Damage, found_in}
+use Rattle.shell_model.specs.Shells.{FoundOnBanks, Nothing, Damage, found_in}
 use Rattle.shell_model.specs.ShellStep.{first_clone}
 use Rattle.shell_session.specs.Sessions.{HasFound, HasKept}
-use Rattle.shell_session.specs.Lines.{ImagesFind, LeavesFront, Meters}
+use Rattle.shell_session.specs.SessionLines.{ImagesFind, LeavesFront, Meters}
 use Rattle.node_run.proofs.Moments.{found_with, same_front, no_more_front, later_front, images_later, made_front, kept_images}
 use Rattle.node_words.specs.declared.node.NodeWords.{NodeWords}
 use Rattle.node_keeper.specs.declared.states.NodeState.{NodeState}
 use Rattle.node_keeper.specs.declared.states.NodeState.TheVariants as states
-use Rattle.node_keeper.specs.States.{banks_of, keeper_of, IsOpen}
+use Rattle.node_keeper.specs.NodeStates.{state_banks, keeper_of, IsOpen}
 use Rattle.node_model.specs.Keepers.{Keeper, Lives, Asks}
 use Rattle.node_run.specs.declared.stops.NodeStop.{NodeStop}
 use Rattle.node_run.specs.declared.stops.NodeStop.TheVariants as stops
 use Rattle.node_run.specs.ServiceStatuses.{stop_of_make, stop_of_mount, IsAtFirst}
 use Rattle.node_run.specs.Start.{Begins, founds, asks, runs_again, IsDueAtFirst, IsOther}
 use Rattle.shell_session.specs.RunEnds.{LeavesDone}
-use Rattle.node_run.specs.Begun.{BeginsOn, FallsShort, StaysFound, BeginsShort, IsOfWords, RunsAsFound, RefusesOther, found_on, banks_begun, FailsToBegin}
+use Rattle.node_run.specs.NodeBegun.{BeginsOn, FallsShort, StaysFound, BeginsShort, IsOfWords, RunsAsFound, RefusesOther, found_on, banks_begun, FailsToBegin}
 use Rattle.node_run.proofs.MeterLaws.{meters_of, meters_as}
 use Rattle.node_run.proofs.FrontLaws.{leaves_first}
 
@@ -45,7 +45,7 @@ use Rattle.node_run.proofs.FrontLaws.{leaves_first}
 module _ {B : Type 0} (log : B → Option Log) (words : NodeWords) (banks mid : B) (mounts : (l : Log) → log banks ≡ Some l → LeavesNothingNew l (log mid)) (first : Log)
     (told : log banks ≡ Some first) where
   -- what was found is found
-  still : (found : Found) → found_on first ≡ found → IsSynced (Unit {0}) first (log mid) → HasFound found (log mid)
+  still : (found : FoundOnBanks) → found_on first ≡ found → IsSynced (Unit {0}) first (log mid) → HasFound found (log mid)
   still found same synced = record {
     log = synced.log;
     now_is = synced.now_is;
@@ -53,18 +53,18 @@ module _ {B : Type 0} (log : B → Option Log) (words : NodeWords) (banks mid : 
   }
 
   -- also on what a crash leaves
-  later : (found : Found) → ImagesFind found (log banks) → ImagesFind found (log mid)
+  later : (found : FoundOnBanks) → ImagesFind found (log banks) → ImagesFind found (log mid)
   later found = images_later found (log banks) (log mid) first told (mounts first told)
 
   -- no durable step was done
-  none_done : (found : Found) → LeavesDone found [] [] (log banks) (log mid)
+  none_done : (found : FoundOnBanks) → LeavesDone found [] [] (log banks) (log mid)
   none_done found = leaves_first found [] (log banks) (log mid) first told (no_more_front found [] (log banks) (log mid) mounts)
 
   -- the clone that was found runs again
   runs_found : (clone : BankedClone B) → clone.banks ≡ mid → IsFoundAs clone (read_banks (seen first)) → RunsAgain clone → IsSynced (Unit {0}) first (log mid)
       → IsOfWords words clone.local → BeginsOn log words (found_on first) (log banks) (states.Live clone)
   runs_found clone same at runs synced is_of =
-      let found : Found = found_with clone.generation clone.local in
+      let found : FoundOnBanks = found_with clone.generation clone.local in
       let is : found_on first ≡ found = ap found_in at.reads in
       let P : B → Type 0 = λ b. LeavesFront found [] (log banks) (log b) in
       let begun : BeginsOn log words found (log banks) (states.Live clone) = record {
@@ -75,14 +75,14 @@ module _ {B : Type 0} (log : B → Option Log) (words : NodeWords) (banks mid : 
         moments = subst P (sym same) (no_more_front found [] (log banks) (log mid) mounts);
         settled = subst (λ (b : B). ImagesFind found (log banks) → ImagesFind found (log b)) (sym same) (later found);
       } in
-      subst (λ (f : Found). BeginsOn log words f (log banks) (states.Live clone)) (sym is) begun
+      subst (λ (f : FoundOnBanks). BeginsOn log words f (log banks) (states.Live clone)) (sym is) begun
 
   -- or it is another
   finds_other : (clone : BankedClone B) → IsFoundAs clone (read_banks (seen first)) → IsSynced (Unit {0}) first (log mid) → ¬ IsOfWords words clone.local
       → BeginsShort stops.OtherClone words (found_on first) (log banks) (log mid)
   finds_other clone at synced other =
       let is : found_on first ≡ found_with clone.generation clone.local = ap found_in at.reads in
-      record { so = subst (λ (f : Found). IsOther words f) (sym is) other; keeps = still (found_on first) refl synced; leaves = none_done (found_on first) }
+      record { so = subst (λ (f : FoundOnBanks). IsOther words f) (sym is) other; keeps = still (found_on first) refl synced; leaves = none_done (found_on first) }
 
   -- they were not mounted
   not_mounted : (fault : MountFault) → TellsClone (Refused fault mid) (read_banks (seen first)) → IsSynced (SyncsBoth (Refused fault mid)) first (log mid)
@@ -102,18 +102,18 @@ module _ {B : Type 0} (log : B → Option Log) (words : NodeWords) (banks mid : 
         first = begun.first;
         begins = begun.begins;
         keeps = begun.keeps;
-        moments = later_front Nothing begun.first (log banks) (log mid) (log (banks_of state)) mounts (later Nothing) begun.moments;
+        moments = later_front Nothing begun.first (log banks) (log mid) (log (state_banks state)) mounts (later Nothing) begun.moments;
         settled = λ alike. begun.settled (later Nothing alike);
       } in
-      subst (λ (f : Found). BeginsOn log words f (log banks) state) (sym is) then
+      subst (λ (f : FoundOnBanks). BeginsOn log words f (log banks) state) (sym is) then
 
-  leaves_then : (found : Found) (due : List KeptStep) (now : Option Log) → LeavesDone found [] due (log mid) now → LeavesDone found [] due (log banks) now
+  leaves_then : (found : FoundOnBanks) (due : List KeptStep) (now : Option Log) → LeavesDone found [] due (log mid) now → LeavesDone found [] due (log banks) now
   leaves_then found due now leaves = record {
     moments = later_front found due (log banks) (log mid) now mounts (later found) leaves.moments;
     settled = λ alike. leaves.settled (later found alike);
   }
 
-  short_then : (stop : NodeStop) (found : Found) (now : Option Log) → BeginsShort stop words found (log mid) now → BeginsShort stop words found (log banks) now
+  short_then : (stop : NodeStop) (found : FoundOnBanks) (now : Option Log) → BeginsShort stop words found (log mid) now → BeginsShort stop words found (log banks) now
   short_then stops.NoMemory found now short = record { due = short.due; is_due = short.is_due; leaves = leaves_then found short.due now short.leaves }
   short_then stops.Device found now short = record { due = short.due; is_due = short.is_due; leaves = leaves_then found short.due now short.leaves }
   short_then (stops.Damaged side place) found now short = record { so = short.so; keeps = short.keeps; leaves = leaves_then found [] now short.leaves }
@@ -123,7 +123,7 @@ module _ {B : Type 0} (log : B → Option Log) (words : NodeWords) (banks mid : 
   short_on : (stop : NodeStop) (now : Option Log) → read_banks (seen first) ≡ KeepsNone → BeginsShort stop words Nothing (log mid) now
       → BeginsShort stop words (found_on first) (log banks) now
   short_on stop now tells short =
-      subst (λ (f : Found). BeginsShort stop words f (log banks) now) (sym (ap found_in tells)) (short_then stop Nothing now short)
+      subst (λ (f : FoundOnBanks). BeginsShort stop words f (log banks) now) (sym (ap found_in tells)) (short_then stop Nothing now short)
 
 -- ---- what `begin` answers
 
@@ -260,7 +260,7 @@ module _ {B : Type 0} (words : NodeWords) (clone : BankedClone B) (result : Resu
     where
       meters_by : (r : Result (NodeState B) (NodeStop × B)) → IfOk r (RunsAsFound words clone) → IfErr r (RefusesOther words clone)
           → Meters before (meter clone.banks) ⊥ → Meters before (meter (banks_begun r)) (FailsToBegin r)
-      meters_by (Ok state) runs refuses meters = subst (λ (s : NodeState B). Meters before (meter (banks_of s)) ⊥) (sym runs.same) meters
+      meters_by (Ok state) runs refuses meters = subst (λ (s : NodeState B). Meters before (meter (state_banks s)) ⊥) (sym runs.same) meters
       meters_by (Err refused) runs refuses meters =
           subst (λ (b : B). Meters before (meter b) (refused.0 ≡ stops.Device)) (sym refuses.back)
           (meters_as before (meter clone.banks) (λ device. absurd (cc (device, refuses.told))) (λ none. absurd none) meters)

@@ -3,13 +3,13 @@ use Rattle.std.proofs.Common.{◌≡◌, List, [], ◌++◌, refl, sym, ◌∙�
 use Rattle.mld_io.specs.Disk.{Log, Call, Sides, grown_by, MayLeave, LeavesOnly, LeavesMeanwhile}
 use Rattle.mld_io.proofs.DiskLaws.{AtEachMoment-weaken, AtEachMoment-last, LeavesMeanwhile-then}
 use Rattle.clone_banks.specs.KeptSteps.{KeptStep}
-use Rattle.shell_model.specs.Shells.{Found, found_after}
+use Rattle.shell_model.specs.Shells.{FoundOnBanks, found_after}
 use Rattle.shell_model.proofs.RunLaws.{found_both}
-use Rattle.shell_session.specs.Lines.{ImagesFind, FindsFront, LeavesFront}
+use Rattle.shell_session.specs.SessionLines.{ImagesFind, FindsFront, LeavesFront}
 use Rattle.shell_session.specs.RunEnds.{LeavesDone}
 
 -- a front of some steps is one of more
-front_longer : (found : Found) (steps more : List KeptStep) (image : Sides) → FindsFront found steps image → FindsFront found (steps ++ more) image
+front_longer : (found : FoundOnBanks) (steps more : List KeptStep) (image : Sides) → FindsFront found steps image → FindsFront found (steps ++ more) image
 front_longer found steps more image finds = record {
   front = finds.front;
   rest = finds.rest ++ more;
@@ -18,7 +18,7 @@ front_longer found steps more image finds = record {
 }
 
 -- and a front of more steps, behind all of some, is one of both
-front_behind : (found middle : Found) (steps more : List KeptStep) (image : Sides) → middle ≡ found_after steps found → FindsFront middle more image
+front_behind : (found middle : FoundOnBanks) (steps more : List KeptStep) (image : Sides) → middle ≡ found_after steps found → FindsFront middle more image
     → FindsFront found (steps ++ more) image
 front_behind found middle steps more image same finds = record {
   front = steps ++ finds.front;
@@ -28,7 +28,7 @@ front_behind found middle steps more image same finds = record {
 }
 
 -- Steps were done, which led to this: so is a front of more of them.
-module _ (found middle : Found) (steps : List KeptStep) (led : middle ≡ found_after steps found) where
+module _ (found middle : FoundOnBanks) (steps : List KeptStep) (led : middle ≡ found_after steps found) where
   -- the moments of these steps, and then of more
   pub moments_then : (more : List KeptStep) (old now after : Option Log) → LeavesFront found steps old now → (ImagesFind found old → ImagesFind middle now)
       → LeavesFront middle more now after → LeavesFront found (steps ++ more) old after
@@ -65,11 +65,11 @@ module _ (found middle : Found) (steps : List KeptStep) (led : middle ≡ found_
         let last : LeavesOnly (grown_by two.added (grown_by one.added first)) (λ sides. FindsFront middle due sides) =
         AtEachMoment-last (grown_by one.added first) two.added (λ calls sides. FindsFront middle due sides) two.each in
         let same : log ≡ grown_by two.added (grown_by one.added first) = cc (is, two.now_is) in
-        subst (λ (f : Found). FindsFront f due image) led (last image (subst (λ (l : Log). MayLeave l image) same left));
+        subst (λ (f : FoundOnBanks). FindsFront f due image) led (last image (subst (λ (l : Log). MayLeave l image) same left));
   }
 
 -- before the first step
-pub leaves_first : (found : Found) (due : List KeptStep) (old now : Option Log) (first : Log) → old ≡ Some first → LeavesFront found due old now → LeavesDone found [] due old now
+pub leaves_first : (found : FoundOnBanks) (due : List KeptStep) (old now : Option Log) (first : Log) → old ≡ Some first → LeavesFront found due old now → LeavesDone found [] due old now
 leaves_first found due old now first told moments = record {
   moments = moments;
   settled = λ images log is image left.

@@ -3,8 +3,8 @@ use Rattle.std.proofs.Common.{◌≡◌, ℕ, List, [], ◌∷◌, Option, None,
 use Rattle.mld_io.specs.Arm.{Meter}
 use Rattle.mld_io.specs.Disk.{Log}
 use Rattle.mld_io.specs.Wires.{WireLog}
-use Rattle.shell_model.specs.Shells.{Found}
-use Rattle.shell_session.specs.Lines.{Meters}
+use Rattle.shell_model.specs.Shells.{FoundOnBanks}
+use Rattle.shell_session.specs.SessionLines.{Meters}
 use Rattle.shell_session.specs.RunEnds.{TellsUsage}
 use Rattle.node_words.specs.declared.node.NodeWords.{NodeWords}
 use Rattle.node_words.specs.declared.faults.NodeWordsFault.{NodeWordsFault}
@@ -14,11 +14,11 @@ use Rattle.node_run.proofs.MeterLaws.{meters_as}
 use Rattle.node_run.specs.declared.stops.NodeStop.{NodeStop}
 use Rattle.node_run.specs.declared.stops.NodeStop.TheVariants as stops
 use Rattle.node_run.specs.ServiceStatuses.{stop_of_words, IsOfTurns, IsAtFirst, CountsWire}
-use Rattle.node_run.specs.Begun.{BeginsShort}
+use Rattle.node_run.specs.NodeBegun.{BeginsShort}
 use Rattle.node_run.specs.ServiceEnds.{ServiceEdges, ServiceEnds, unread, on_banks, at_first}
 
 -- the words were not read
-pub not_read : (fault : NodeWordsFault) (found : Found) (texts : List (List ℕ)) (before : Option WireLog) (old : Option Log)
+pub not_read : (fault : NodeWordsFault) (found : FoundOnBanks) (texts : List (List ℕ)) (before : Option WireLog) (old : Option Log)
     → ServiceEnds (Some (stop_of_words fault)) found (record { texts = texts; turns = 0; before = before; after = before; old = old; now = old })
 not_read words_faults.Usage found texts before old = record { nothing = record { none = refl; silent = refl }; same_banks = refl }
 not_read words_faults.NoMemory found texts before old = unread (record { nothing = record { none = refl; silent = refl }; same_banks = refl })
@@ -30,7 +30,7 @@ words_usage words_faults.Usage Refused told = record { refused = λ _. told refl
 words_usage words_faults.NoMemory Refused told = record { refused = λ is. absurd (cc (is)); read = λ _ differs. absurd (differs refl) }
 
 -- it did not begin
-pub short_ends : (stop : NodeStop) (words : NodeWords) (found : Found) (texts : List (List ℕ)) (before : Option WireLog) (old now : Option Log) → AreWords texts words
+pub short_ends : (stop : NodeStop) (words : NodeWords) (found : FoundOnBanks) (texts : List (List ℕ)) (before : Option WireLog) (old now : Option Log) → AreWords texts words
     → BeginsShort stop words found old now → ServiceEnds (Some stop) found (record { texts = texts; turns = 0; before = before; after = before; old = old; now = now })
 short_ends stops.NoMemory words found texts before old now are short = on_banks (at_first (record {
   words = words;

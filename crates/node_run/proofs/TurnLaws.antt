@@ -6,13 +6,13 @@ use Rattle.mld_io.specs.declared.faults.IoFault.TheVariants as io
 use Rattle.mld_io.specs.Arm.{Meter}
 use Rattle.mld_io.specs.Disk.{Log}
 use Rattle.mld_io.specs.Wires.{WireLog}
-use Rattle.shell_session.specs.Lines.{Meters, StopsIn}
+use Rattle.shell_session.specs.SessionLines.{Meters, LeavesFrontOfDue}
 use Rattle.node_run.proofs.MeterLaws.{meters_as}
 use Rattle.node_keeper.specs.declared.faults.NodeFault.{NodeFault}
 use Rattle.node_keeper.specs.declared.faults.NodeFault.TheVariants as node_faults
-use Rattle.node_model.specs.Keepers.{found_of}
-use Rattle.node_core.specs.Nodes.{BankedNode, node_value, banks_of}
-use Rattle.node_core.specs.Events.{IsDueByEvent}
+use Rattle.node_model.specs.Keepers.{keeper_found}
+use Rattle.node_core.specs.Nodes.{BankedNode, node_value, node_banks}
+use Rattle.node_core.specs.NodeEvents.{IsDueByEvent}
 use Rattle.node_run.specs.declared.stops.NodeStop.{NodeStop}
 use Rattle.node_run.specs.declared.stops.NodeStop.TheVariants as stops
 use Rattle.node_run.specs.ServiceStatuses.{stop_of_event, stop_of_wire}
@@ -21,7 +21,7 @@ use Rattle.node_run.specs.ServiceUnderWay.{StopsTurn, StopsSendingTurn}
 module _ {B : Type 0} (log : B → Option Log) (node : BankedNode B) (event : Event) (before : Option WireLog) where
   -- the event was not done
   pub stops_event : (fault : NodeFault) (back : B)
-      → StopsIn (IsDueByEvent (node_value node) event) log (found_of (node_value node).keeper) (banks_of node) back
+      → LeavesFrontOfDue (IsDueByEvent (node_value node) event) log (keeper_found (node_value node).keeper) (node_banks node) back
       → StopsTurn (stop_of_event fault) log node event before back before
   stops_event node_faults.Device back short = record { stops = short; silent = refl }
   stops_event node_faults.NoMemory back short = inl (record { stops = short; silent = refl })

@@ -7,25 +7,25 @@ use Rattle.mld_io.specs.Disk.{Log}
 use Rattle.mld_io.specs.Wires.{WireLog}
 use Rattle.journal_store.specs.Closing.{StaysTold}
 use Rattle.clone_banks.specs.KeptSteps.{KeptStep}
-use Rattle.shell_model.specs.Shells.{Found, Stored, found_after}
+use Rattle.shell_model.specs.Shells.{FoundOnBanks, Stored, found_after}
 use Rattle.shell_model.proofs.RunLaws.{found_both}
-use Rattle.shell_session.specs.Lines.{ImagesFind, LeavesFront, StopsIn}
+use Rattle.shell_session.specs.SessionLines.{ImagesFind, LeavesFront, LeavesFrontOfDue}
 use Rattle.node_words.specs.declared.node.NodeWords.{NodeWords}
 use Rattle.node_words.specs.Words.{AreWords}
 use Rattle.node_exchange.specs.declared.connections.Sent.{Sent}
 use Rattle.node_keeper.specs.declared.states.NodeState.{NodeState}
-use Rattle.node_keeper.specs.States as states
-use Rattle.node_model.specs.Keepers.{Keeper, found_of}
+use Rattle.node_keeper.specs.NodeStates as states
+use Rattle.node_model.specs.Keepers.{Keeper, keeper_found}
 use Rattle.node_model.specs.Events.{NodeValue, NodeStep, NodeRuns, log_after}
-use Rattle.node_model.specs.Laws.{NodeStepsLead}
-use Rattle.node_keeper.specs.States.{FindsNow}
-use Rattle.node_core.specs.Nodes.{BankedNode, node_value, banks_of}
-use Rattle.node_core.specs.Events.{IsDueByEvent}
+use Rattle.node_model.specs.NodeLaws.{NodeStepsLead}
+use Rattle.node_keeper.specs.NodeStates.{FindsNow}
+use Rattle.node_core.specs.Nodes.{BankedNode, node_value, node_banks}
+use Rattle.node_core.specs.NodeEvents.{IsDueByEvent}
 use Rattle.node_run.specs.declared.stops.NodeStop.{NodeStop}
 use Rattle.node_run.specs.declared.stops.NodeStop.TheVariants as stops
 use Rattle.node_run.specs.Start.{Begins, founds, asks, runs_again, fresh_node}
-use Rattle.node_run.specs.Begun.{BeginsOn}
-use Rattle.node_run.specs.ServiceEnds.{EventsDone, ServiceEdges, steps_of, StopsBetweenEvents, StopsWithinEvent, StopsSending, ServiceStopsAnywhere, StopsOnBanks, StopsOnWire, Waits, between, sending, within, at_first, on_banks, on_wire, ServiceEnds}
+use Rattle.node_run.specs.NodeBegun.{BeginsOn}
+use Rattle.node_run.specs.ServiceEnds.{EventsDone, ServiceEdges, durable_steps_of, StopsBetweenEvents, StopsWithinEvent, StopsSending, ServiceStopsAnywhere, StopsByDevice, StopsOnWire, Waits, between, sending, within, at_first, on_banks, on_wire, ServiceEnds}
 use Rattle.node_run.specs.ServiceStatuses.{stop_of_wire}
 use Rattle.node_run.specs.ServiceUnderWay.{IsServiceUnderWay, DoesTurn, StopsTurn, StopsWithinTurn, StopsSendingTurn}
 use Rattle.mld_io.specs.declared.faults.IoFault.{IoFault}
@@ -61,14 +61,14 @@ runs_more node middle next (one ∷ events) event log after steps more sent (on,
 )
 
 -- what is found where a node began
-pub begins_lead : (words : NodeWords) (found : Found) (first : List KeptStep) (keeper : Keeper) → Begins words found first keeper → found_of keeper ≡ found_after first found
+pub begins_lead : (words : NodeWords) (found : FoundOnBanks) (first : List KeptStep) (keeper : Keeper) → Begins words found first keeper → keeper_found keeper ≡ found_after first found
 begins_lead words found first keeper (founds role kept each) = refl
 begins_lead words found first keeper (asks role kept each) = refl
 begins_lead words found first keeper (runs_again generation head entries clone runs id domain) = λ i. Stored generation (sym runs.head_is i) (sym runs.entries_are i)
 
-module _ (lead : NodeStepsLead) (found : Found) (texts : List (List ℕ)) (log : WireLog) (done : EventsDone found texts log) where
+module _ (lead : NodeStepsLead) (found : FoundOnBanks) (texts : List (List ℕ)) (log : WireLog) (done : EventsDone found texts log) where
   -- and where it was led
-  led : found_of done.node.keeper ≡ found_after (steps_of done) found
+  led : keeper_found done.node.keeper ≡ found_after (durable_steps_of done) found
   led =
       lead (fresh_node done.keeper) done.events log done.steps done.node done.after done.runs
       ∙ ap (found_after done.steps) (begins_lead done.words found done.first done.keeper done.begins)
@@ -100,7 +100,7 @@ below zero (suc b) few other = omega arith
 below (suc a) zero few other = absurd (omega (arith, few))
 below (suc a) (suc b) few other = let less : a < b = below a b (omega (arith, few)) (λ same. other (ap suc same)) in omega (arith, less)
 
-module _ {B : Type 0} (log : B → Option Log) (found : Found) (old : Option Log) (texts : List (List ℕ)) (turns : ℕ) (before : Option WireLog) where
+module _ {B : Type 0} (log : B → Option Log) (found : FoundOnBanks) (old : Option Log) (texts : List (List ℕ)) (turns : ℕ) (before : Option WireLog) where
   -- nothing is done yet
   pub way_first : (words : NodeWords) (state : NodeState B) (node : BankedNode B) → AreWords texts words → words.turns ≡ turns → BeginsOn log words found old state
       → node ≡ record { state = state; connections = []; halted = false } → IsServiceUnderWay log found old texts turns before before node 0
@@ -125,7 +125,7 @@ module _ {B : Type 0} (log : B → Option Log) (found : Found) (old : Option Log
         node_is = refl;
         logged = logged_first before;
         told = (begun.keeps.log, begun.keeps.now_is);
-        moments = subst (λ (s : List KeptStep). LeavesFront found s old (log (states.banks_of state))) (sym (append-nil begun.first)) begun.moments;
+        moments = subst (λ (s : List KeptStep). LeavesFront found s old (log (states.state_banks state))) (sym (append-nil begun.first)) begun.moments;
         settled = begun.settled;
       } in
       subst P (sym is) way
@@ -136,15 +136,15 @@ module _ {B : Type 0} (log : B → Option Log) (found : Found) (old : Option Log
 
   module _ (lead : NodeStepsLead) (now : Option WireLog) (node : BankedNode B) (taken : ℕ) (way : IsServiceUnderWay log found old texts turns before now node taken) where
     -- what is found then
-    way_led : found_of (node_value node).keeper ≡ found_after (steps_of way.done) found
-    way_led = ap (λ (n : NodeValue). found_of n.keeper) (sym way.node_is) ∙ led lead found texts (unwrap_or before []) way.done
+    way_led : keeper_found (node_value node).keeper ≡ found_after (durable_steps_of way.done) found
+    way_led = ap (λ (n : NodeValue). keeper_found n.keeper) (sym way.node_is) ∙ led lead found texts (unwrap_or before []) way.done
 
     -- whether it has ended
     way_halted : (halted : Bool) → node.halted ≡ halted → way.done.node.halted ≡ halted
     way_halted halted is = ap (λ (n : NodeValue). n.halted) way.node_is ∙ is
 
     -- it ended between two events
-    pub stops_between : (So : Bool → ℕ → ℕ → Type 0) (back : B) → So node.halted taken turns → back ≡ banks_of node → FindsNow (found_of (node_value node).keeper) (log back)
+    pub stops_between : (So : Bool → ℕ → ℕ → Type 0) (back : B) → So node.halted taken turns → back ≡ node_banks node → FindsNow (keeper_found (node_value node).keeper) (log back)
         → StopsBetweenEvents So found (record { texts = texts; turns = taken; before = before; after = now; old = old; now = log back })
     stops_between So back so is finds = record {
       done = way.done;
@@ -155,11 +155,11 @@ module _ {B : Type 0} (log : B → Option Log) (found : Found) (old : Option Log
       keeps = record {
         log = way.told.0;
         now_is = ap log is ∙ way.told.1;
-        finds = finds way.told.0 (ap log is ∙ way.told.1) ∙ ap (λ (n : NodeValue). found_of n.keeper) (sym way.node_is);
+        finds = finds way.told.0 (ap log is ∙ way.told.1) ∙ ap (λ (n : NodeValue). keeper_found n.keeper) (sym way.node_is);
       };
-      leaves = leaves_done found (found_of (node_value node).keeper) (steps_of way.done) way_led old (log back)
-          (subst (λ (b : B). LeavesFront found (steps_of way.done) old (log b)) (sym is) way.moments)
-          (subst (λ (b : B). ImagesFind found old → ImagesFind (found_of (node_value node).keeper) (log b)) (sym is) way.settled);
+      leaves = leaves_done found (keeper_found (node_value node).keeper) (durable_steps_of way.done) way_led old (log back)
+          (subst (λ (b : B). LeavesFront found (durable_steps_of way.done) old (log b)) (sym is) way.moments)
+          (subst (λ (b : B). ImagesFind found old → ImagesFind (keeper_found (node_value node).keeper) (log b)) (sym is) way.settled);
     }
 
     module _ (going : node.halted ≡ false) (few : taken < turns) (event : Event) (taking : Option WireLog) (took : taking ≡ option_map (λ l. Took event ∷ l) now) where
@@ -174,7 +174,7 @@ module _ {B : Type 0} (log : B → Option Log) (found : Found) (old : Option Log
       taken_log = logged_then way.done.after (λ l. Took event ∷ l) before now taking way.logged took
 
       -- one more event is done
-      pub way_more : (next : BankedNode B) (after : Option WireLog) → StaysTold (log (banks_of node)) (log (banks_of next)) → DoesTurn log node event taking next after
+      pub way_more : (next : BankedNode B) (after : Option WireLog) → StaysTold (log (node_banks node)) (log (node_banks next)) → DoesTurn log node event taking next after
           → IsServiceUnderWay log found old texts turns before after next (taken + 1)
       way_more next after stays turn =
           let does : NodeStep way.done.node event turn.sent turn.does.steps (node_value next) =
@@ -187,8 +187,8 @@ module _ {B : Type 0} (log : B → Option Log) (found : Found) (old : Option Log
             node_is = refl;
             logged = logged_then (Took event ∷ way.done.after) (log_after turn.sent) before taking after taken_log turn.sends;
             told = (_, told.1);
-            moments = subst (λ (s : List KeptStep). LeavesFront found s old (log (banks_of next))) (append_assoc way.done.first way.done.steps turn.does.steps)
-                (moments_then found (found_of (node_value node).keeper) (steps_of way.done) way_led turn.does.steps old (log (banks_of node)) (log (banks_of next))
+            moments = subst (λ (s : List KeptStep). LeavesFront found s old (log (node_banks next))) (append_assoc way.done.first way.done.steps turn.does.steps)
+                (moments_then found (keeper_found (node_value node).keeper) (durable_steps_of way.done) way_led turn.does.steps old (log (node_banks node)) (log (node_banks next))
                 way.moments way.settled turn.does.moments);
             settled = λ images. turn.does.settled (way.settled images);
           }
@@ -201,21 +201,21 @@ module _ {B : Type 0} (log : B → Option Log) (found : Found) (old : Option Log
         due = turn.stops.steps;
         is_due = subst (λ (n : NodeValue). (turn.stops.steps ≡ []) ⊎ IsDueByEvent n event turn.stops.steps) (sym way.node_is) turn.stops.due;
         logged = turn.silent ∙ taken_log;
-        leaves = leaves_due found (found_of (node_value node).keeper) (steps_of way.done) way_led turn.stops.steps old (log (banks_of node)) (log back) first is
+        leaves = leaves_due found (keeper_found (node_value node).keeper) (durable_steps_of way.done) way_led turn.stops.steps old (log (node_banks node)) (log back) first is
             way.moments way.settled turn.stops.moments;
       }
 
       -- it ended while it sent
-      stops_sending : (back : B) (after : Option WireLog) → StaysTold (log (banks_of node)) (log back) → StopsSendingTurn log node event taking back after
+      stops_sending : (back : B) (after : Option WireLog) → StaysTold (log (node_banks node)) (log back) → StopsSendingTurn log node event taking back after
           → StopsSending found (record { texts = texts; turns = taken + 1; before = before; after = after; old = old; now = log back })
       stops_sending back after stays turn =
           let told = stays.told way.told.0 way.told.1 in
-          let same : log back ≡ log (banks_of turn.next) = ap log turn.back_is in
+          let same : log back ≡ log (node_banks turn.next) = ap log turn.back_is in
           let does : NodeStep way.done.node event turn.sent turn.does.steps (node_value turn.next) =
           subst (λ (n : NodeValue). NodeStep n event turn.sent turn.does.steps (node_value turn.next)) (sym way.node_is) turn.does.does in
           let more : EventsDone found texts (unwrap_or before []) =
           done_more lead found texts (unwrap_or before []) way.done event turn.sent turn.does.steps (node_value turn.next) went left does in
-          let sent_led : found_of (node_value turn.next).keeper ≡ found_after (steps_of way.done ++ turn.does.steps) found =
+          let sent_led : keeper_found (node_value turn.next).keeper ≡ found_after (durable_steps_of way.done ++ turn.does.steps) found =
           led lead found texts (unwrap_or before []) more
           ∙ ap (λ (s : List KeptStep). found_after s found) (sym (append_assoc way.done.first way.done.steps turn.does.steps)) in
           record {
@@ -230,16 +230,16 @@ module _ {B : Type 0} (log : B → Option Log) (found : Found) (old : Option Log
             whole = turn.sends.whole;
             logged = logged_then (Took event ∷ way.done.after) (log_after turn.sends.front) before taking after taken_log turn.sends.sends;
             keeps = record { log = _; now_is = told.1; finds = turn.kept _ told.1 };
-            leaves = leaves_done found (found_of (node_value turn.next).keeper) (steps_of way.done ++ turn.does.steps) sent_led old (log back)
-                (subst (λ (l : Option Log). LeavesFront found (steps_of way.done ++ turn.does.steps) old l) (sym same)
-                (moments_then found (found_of (node_value node).keeper) (steps_of way.done) way_led turn.does.steps old (log (banks_of node)) (log (banks_of turn.next))
+            leaves = leaves_done found (keeper_found (node_value turn.next).keeper) (durable_steps_of way.done ++ turn.does.steps) sent_led old (log back)
+                (subst (λ (l : Option Log). LeavesFront found (durable_steps_of way.done ++ turn.does.steps) old l) (sym same)
+                (moments_then found (keeper_found (node_value node).keeper) (durable_steps_of way.done) way_led turn.does.steps old (log (node_banks node)) (log (node_banks turn.next))
                 way.moments way.settled turn.does.moments))
-                (subst (λ (l : Option Log). ImagesFind found old → ImagesFind (found_of (node_value turn.next).keeper) l) (sym same)
+                (subst (λ (l : Option Log). ImagesFind found old → ImagesFind (keeper_found (node_value turn.next).keeper) l) (sym same)
                 (λ images. turn.does.settled (way.settled images)));
           }
 
       -- a turn was not done
-      pub ends_turn : (stop : NodeStop) (first : Log) (back : B) (after : Option WireLog) → old ≡ Some first → StaysTold (log (banks_of node)) (log back)
+      pub ends_turn : (stop : NodeStop) (first : Log) (back : B) (after : Option WireLog) → old ≡ Some first → StaysTold (log (node_banks node)) (log back)
           → StopsTurn stop log node event taking back after
           → ServiceEnds (Some stop) found (record { texts = texts; turns = taken + 1; before = before; after = after; old = old; now = log back })
       ends_turn stops.Device first back after is stays turn = within (silent_turn first back after is turn)
@@ -249,7 +249,7 @@ module _ {B : Type 0} (log : B → Option Log) (found : Found) (old : Option Log
       ends_turn stop first back after is stays turn = absurd turn
 
     -- no event came
-    pub ends_waiting : (fault : IoFault) (back : B) → node.halted ≡ false → taken < turns → back ≡ banks_of node → FindsNow (found_of (node_value node).keeper) (log back)
+    pub ends_waiting : (fault : IoFault) (back : B) → node.halted ≡ false → taken < turns → back ≡ node_banks node → FindsNow (keeper_found (node_value node).keeper) (log back)
         → ServiceEnds (Some (stop_of_wire fault)) found (record { texts = texts; turns = taken; before = before; after = now; old = old; now = log back })
     ends_waiting io.Failed back going few is finds = between (stops_between Waits back (going, few) is finds)
     ends_waiting io.NoMemory back going few is finds = on_wire (between (stops_between Waits back (going, few) is finds))

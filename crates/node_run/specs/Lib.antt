@@ -1,5 +1,5 @@
 pub mod ServiceStatuses
 pub mod Start
 pub mod ServiceEnds
-pub mod Begun
+pub mod NodeBegun
 pub mod ServiceUnderWay

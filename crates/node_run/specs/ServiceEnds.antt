@@ -7,15 +7,15 @@ use Rattle.mld_io.specs.declared.events.WireCall.TheVariants.{Took}
 use Rattle.mld_io.specs.Disk.{Log}
 use Rattle.mld_io.specs.Wires.{WireLog}
 use Rattle.clone_banks.specs.KeptSteps.{KeptStep}
-use Rattle.shell_model.specs.Shells.{Found, Damage}
+use Rattle.shell_model.specs.Shells.{FoundOnBanks, Damage}
 use Rattle.shell_session.specs.Sessions.{HasFound}
 use Rattle.shell_session.specs.RunEnds.{LeavesDone}
 use Rattle.node_words.specs.declared.node.NodeWords.{NodeWords}
 use Rattle.node_words.specs.Words.{AreWords}
 use Rattle.node_exchange.specs.declared.connections.Sent.{Sent}
-use Rattle.node_model.specs.Keepers.{Keeper, found_of}
+use Rattle.node_model.specs.Keepers.{Keeper, keeper_found}
 use Rattle.node_model.specs.Events.{NodeValue, NodeStep, NodeRuns, log_after}
-use Rattle.node_core.specs.Events.{IsDueByEvent}
+use Rattle.node_core.specs.NodeEvents.{IsDueByEvent}
 use Rattle.node_run.specs.Start.{Begins, IsDueAtFirst, IsOther, fresh_node}
 use Rattle.node_run.specs.declared.stops.NodeStop.{NodeStop}
 use Rattle.node_run.specs.declared.stops.NodeStop.TheVariants as stops
@@ -37,7 +37,7 @@ IsLogged ends log = ends.after ≡ option_map (λ before. log) ends.before
 
 -- what a node did over banks on which this was found: how it began by its words; the events that it took, of which there are no more than the
 -- words say, and none came once it had ended; their durable steps; and the node and the wire's log that they led to
-pub record EventsDone (found : Found) (texts : List (List ℕ)) (log : WireLog) : Type 0 where
+pub record EventsDone (found : FoundOnBanks) (texts : List (List ℕ)) (log : WireLog) : Type 0 where
   pub words : NodeWords
   pub are : AreWords texts words
   pub first : List KeptStep
@@ -50,12 +50,12 @@ pub record EventsDone (found : Found) (texts : List (List ℕ)) (log : WireLog) 
   pub after : WireLog
   pub runs : NodeRuns (fresh_node keeper) events log steps node after
 
-abbrev pub EventsDoneIn : Found → ServiceEdges → Type 0
+abbrev pub EventsDoneIn : FoundOnBanks → ServiceEdges → Type 0
 EventsDoneIn found ends = EventsDone found ends.texts (unwrap_or ends.before [])
 
 -- all its durable steps
-abbrev pub steps_of : {found : Found} {texts : List (List ℕ)} {log : WireLog} → EventsDone found texts log → List KeptStep
-steps_of done = done.first ++ done.steps
+abbrev pub durable_steps_of : {found : FoundOnBanks} {texts : List (List ℕ)} {log : WireLog} → EventsDone found texts log → List KeptStep
+durable_steps_of done = done.first ++ done.steps
 
 -- ---- between two events
 
@@ -70,34 +70,34 @@ abbrev pub Waits : Bool → ℕ → ℕ → Type 0
 Waits halted taken turns = (halted ≡ false) × (taken < turns)
 
 -- it ended behind an event for which all was sent, or before the first: the banks keep what the events led to
-pub record StopsBetweenEvents (So : Bool → ℕ → ℕ → Type 0) (found : Found) (ends : ServiceEdges) : Type 0 where
+pub record StopsBetweenEvents (So : Bool → ℕ → ℕ → Type 0) (found : FoundOnBanks) (ends : ServiceEdges) : Type 0 where
   pub done : EventsDoneIn found ends
   pub so : So done.node.halted (length done.events) done.words.turns
   pub counted : ends.turns ≡ length done.events
   pub logged : IsLogged ends done.after
-  pub keeps : HasFound (found_of done.node.keeper) ends.now
-  pub leaves : LeavesDone found (steps_of done) [] ends.old ends.now
+  pub keeps : HasFound (keeper_found done.node.keeper) ends.now
+  pub leaves : LeavesDone found (durable_steps_of done) [] ends.old ends.now
 
 -- ---- at an event
 
 -- an event was taken for which the node waited
-pub record Takes (found : Found) (ends : ServiceEdges) : Type 0 where
+pub record TakesOneEvent (found : FoundOnBanks) (ends : ServiceEdges) : Type 0 where
   pub done : EventsDoneIn found ends
   pub waits : Waits done.node.halted (length done.events) done.words.turns
   pub counted : ends.turns ≡ length done.events + 1
   pub event : Event
 
 -- it ended while the event was done: nothing was sent for it, and of the durable steps that it had to make a front may be done
-pub record StopsWithinEvent (found : Found) (ends : ServiceEdges) : Type 0 where
-  pub takes : Takes found ends
+pub record StopsWithinEvent (found : FoundOnBanks) (ends : ServiceEdges) : Type 0 where
+  pub takes : TakesOneEvent found ends
   pub due : List KeptStep
   pub is_due : (due ≡ []) ⊎ IsDueByEvent takes.done.node takes.event due
   pub logged : IsLogged ends (Took takes.event ∷ takes.done.after)
-  pub leaves : LeavesDone found (steps_of takes.done) due ends.old ends.now
+  pub leaves : LeavesDone found (durable_steps_of takes.done) due ends.old ends.now
 
 -- it ended while it sent: the event was done, and of what is to be sent for it a front was sent
-pub record StopsSending (found : Found) (ends : ServiceEdges) : Type 0 where
-  pub takes : Takes found ends
+pub record StopsSending (found : FoundOnBanks) (ends : ServiceEdges) : Type 0 where
+  pub takes : TakesOneEvent found ends
   pub sent : List Sent
   pub steps : List KeptStep
   pub next : NodeValue
@@ -107,63 +107,63 @@ pub record StopsSending (found : Found) (ends : ServiceEdges) : Type 0 where
   pub rest : List Sent
   pub whole : sent ≡ front ++ missed ∷ rest
   pub logged : IsLogged ends (log_after front (Took takes.event ∷ takes.done.after))
-  pub keeps : HasFound (found_of next.keeper) ends.now
-  pub leaves : LeavesDone found (steps_of takes.done ++ steps) [] ends.old ends.now
+  pub keeps : HasFound (keeper_found next.keeper) ends.now
+  pub leaves : LeavesDone found (durable_steps_of takes.done ++ steps) [] ends.old ends.now
 
 -- ---- before the first event
 
 -- no event was taken, and nothing was sent
-pub record TakesNothing (ends : ServiceEdges) : Type 0 where
+pub record TakesNoEvent (ends : ServiceEdges) : Type 0 where
   pub none : ends.turns ≡ 0
   pub silent : ends.after ≡ ends.before
 
 -- the words were not read
 pub record ServiceHasNotBegun (ends : ServiceEdges) : Type 0 where
-  pub nothing : TakesNothing ends
+  pub nothing : TakesNoEvent ends
   pub same_banks : ends.now ≡ ends.old
 
 -- the banks were mounted, or a clone was made on them: of the durable steps that this had to make a front may be done
-pub record StopsAtFirst (found : Found) (ends : ServiceEdges) : Type 0 where
+pub record StopsAtFirst (found : FoundOnBanks) (ends : ServiceEdges) : Type 0 where
   pub words : NodeWords
   pub are : AreWords ends.texts words
-  pub nothing : TakesNothing ends
+  pub nothing : TakesNoEvent ends
   pub due : List KeptStep
   pub is_due : (due ≡ []) ⊎ IsDueAtFirst words found due
   pub leaves : LeavesDone found [] due ends.old ends.now
 
 -- what was found is no clone that the node may run
-pub record FindsSo (So : NodeWords → Type 0) (found : Found) (ends : ServiceEdges) : Type 0 where
+pub record FindsSo (So : NodeWords → Type 0) (found : FoundOnBanks) (ends : ServiceEdges) : Type 0 where
   pub words : NodeWords
   pub are : AreWords ends.texts words
   pub so : So words
-  pub nothing : TakesNothing ends
+  pub nothing : TakesNoEvent ends
   pub keeps : HasFound found ends.now
   pub leaves : LeavesDone found [] [] ends.old ends.now
 
 -- ---- any end
 
 -- where the banks failed
-pub data StopsOnBanks (found : Found) (ends : ServiceEdges) : Type 0 where
-  at_first : StopsAtFirst found ends → StopsOnBanks found ends
-  within : StopsWithinEvent found ends → StopsOnBanks found ends
+pub data StopsByDevice (found : FoundOnBanks) (ends : ServiceEdges) : Type 0 where
+  at_first : StopsAtFirst found ends → StopsByDevice found ends
+  within : StopsWithinEvent found ends → StopsByDevice found ends
 
 -- where the wire failed
-pub data StopsOnWire (found : Found) (ends : ServiceEdges) : Type 0 where
+pub data StopsOnWire (found : FoundOnBanks) (ends : ServiceEdges) : Type 0 where
   between : StopsBetweenEvents Waits found ends → StopsOnWire found ends
   sending : StopsSending found ends → StopsOnWire found ends
 
 -- where memory was wanting
-pub data ServiceStopsAnywhere (found : Found) (ends : ServiceEdges) : Type 0 where
+pub data ServiceStopsAnywhere (found : FoundOnBanks) (ends : ServiceEdges) : Type 0 where
   unread : ServiceHasNotBegun ends → ServiceStopsAnywhere found ends
-  on_banks : StopsOnBanks found ends → ServiceStopsAnywhere found ends
+  on_banks : StopsByDevice found ends → ServiceStopsAnywhere found ends
   on_wire : StopsOnWire found ends → ServiceStopsAnywhere found ends
 
 -- how a run ended, by its fault, where this was found on its banks
-abbrev pub ServiceEnds : Option NodeStop → Found → ServiceEdges → Type 0
+abbrev pub ServiceEnds : Option NodeStop → FoundOnBanks → ServiceEdges → Type 0
 ServiceEnds None found ends = StopsBetweenEvents HasEnded found ends
 ServiceEnds (Some stops.Usage) found ends = ServiceHasNotBegun ends
 ServiceEnds (Some stops.NoMemory) found ends = ServiceStopsAnywhere found ends
-ServiceEnds (Some stops.Device) found ends = StopsOnBanks found ends
+ServiceEnds (Some stops.Device) found ends = StopsByDevice found ends
 ServiceEnds (Some stops.OutOfTurns) found ends = StopsBetweenEvents HasTurned found ends
 ServiceEnds (Some stops.WireFault) found ends = StopsOnWire found ends
 ServiceEnds (Some (stops.Damaged side place)) found ends = FindsSo (λ words. found ≡ Damage side place) found ends

@@ -5,29 +5,29 @@ use Rattle.mld_io.specs.declared.events.Event.{Event}
 use Rattle.mld_io.specs.Disk.{Log}
 use Rattle.mld_io.specs.Faults.{Rose}
 use Rattle.mld_io.specs.Wires.{WireLog}
-use Rattle.shell_model.specs.Shells.{Found}
+use Rattle.shell_model.specs.Shells.{FoundOnBanks}
 use Rattle.shell_session.specs.Sessions.{HasFound}
-use Rattle.shell_session.specs.Lines.{ImagesFind, LeavesFront, StopsIn}
+use Rattle.shell_session.specs.SessionLines.{ImagesFind, LeavesFront, LeavesFrontOfDue}
 use Rattle.node_exchange.specs.declared.connections.Sent.{Sent}
-use Rattle.node_model.specs.Keepers.{found_of}
+use Rattle.node_model.specs.Keepers.{keeper_found}
 use Rattle.node_model.specs.Events.{log_after}
-use Rattle.node_keeper.specs.States.{FindsNow}
-use Rattle.node_core.specs.Nodes.{BankedNode, node_value, banks_of}
-use Rattle.node_core.specs.Events.{DoesEvent, IsDueByEvent}
-use Rattle.node_run.specs.ServiceEnds.{EventsDone, steps_of}
+use Rattle.node_keeper.specs.NodeStates.{FindsNow}
+use Rattle.node_core.specs.Nodes.{BankedNode, node_value, node_banks}
+use Rattle.node_core.specs.NodeEvents.{DoesEvent, IsDueByEvent}
+use Rattle.node_run.specs.ServiceEnds.{EventsDone, durable_steps_of}
 use Rattle.node_run.specs.declared.stops.NodeStop.{NodeStop}
 use Rattle.node_run.specs.declared.stops.NodeStop.TheVariants as stops
 
 -- so many events are done over banks on which this was found
-pub record IsServiceUnderWay {B : Type 0} (log : B → Option Log) (found : Found) (old : Option Log) (texts : List (List ℕ)) (turns : ℕ) (before now : Option WireLog) (node : BankedNode B) (taken : ℕ) : Type 0 where
+pub record IsServiceUnderWay {B : Type 0} (log : B → Option Log) (found : FoundOnBanks) (old : Option Log) (texts : List (List ℕ)) (turns : ℕ) (before now : Option WireLog) (node : BankedNode B) (taken : ℕ) : Type 0 where
   pub done : EventsDone found texts (unwrap_or before [])
   pub turns_are : done.words.turns ≡ turns
   pub counted : taken ≡ length done.events
   pub node_is : done.node ≡ node_value node
   pub logged : now ≡ option_map (λ log. done.after) before
-  pub told : (first : Log) × (log (banks_of node) ≡ Some first)
-  pub moments : LeavesFront found (steps_of done) old (log (banks_of node))
-  pub settled : ImagesFind found old → ImagesFind (found_of (node_value node).keeper) (log (banks_of node))
+  pub told : (first : Log) × (log (node_banks node) ≡ Some first)
+  pub moments : LeavesFront found (durable_steps_of done) old (log (node_banks node))
+  pub settled : ImagesFind found old → ImagesFind (keeper_found (node_value node).keeper) (log (node_banks node))
 
 -- ---- a turn
 
@@ -51,7 +51,7 @@ pub record DoesTurn {B : Type 0} (log : B → Option Log) (old : BankedNode B) (
 
 -- an event was not done, and nothing was sent
 pub record StopsWithinTurn {B : Type 0} (log : B → Option Log) (old : BankedNode B) (event : Event) (before : Option WireLog) (back : B) (now : Option WireLog) : Type 0 where
-  pub stops : StopsIn (IsDueByEvent (node_value old) event) log (found_of (node_value old).keeper) (banks_of old) back
+  pub stops : LeavesFrontOfDue (IsDueByEvent (node_value old) event) log (keeper_found (node_value old).keeper) (node_banks old) back
   pub silent : now ≡ before
 
 -- an event was done, and of what is to be sent for it a front was sent
@@ -59,8 +59,8 @@ pub record StopsSendingTurn {B : Type 0} (log : B → Option Log) (old : BankedN
   pub next : BankedNode B
   pub sent : List Sent
   pub does : DoesEvent log old event next sent
-  pub back_is : back ≡ banks_of next
-  pub kept : FindsNow (found_of (node_value next).keeper) (log back)
+  pub back_is : back ≡ node_banks next
+  pub kept : FindsNow (keeper_found (node_value next).keeper) (log back)
   pub sends : SendsFront sent before now
 
 -- a turn was not done, by why
@@ -72,9 +72,9 @@ StopsTurn stops.NoMemory log old event before back now =
 StopsTurn stop log old event before back now = ⊥
 
 -- the banks, whatever became of a turn
-abbrev pub banks_after : {B : Type 0} → Result (BankedNode B) (NodeStop × B) → B
-banks_after (Ok next) = banks_of next
-banks_after (Err refused) = refused.1
+abbrev pub node_banks_after : {B : Type 0} → Result (BankedNode B) (NodeStop × B) → B
+node_banks_after (Ok next) = node_banks next
+node_banks_after (Err refused) = refused.1
 
 -- the device failed
 abbrev pub FailsOnBanks : {B : Type 0} → Result (BankedNode B) (NodeStop × B) → Type 0

@@ -6,7 +6,7 @@ use Rattle.journal_sides.specs.Heads.{HeadValue}
 use Rattle.mld_model.specs.Local.{LocalClone}
 use Rattle.clone_banks.specs.KeptSteps.{KeptStep, Created}
 use Rattle.clone_core.specs.Banked.{head_of}
-use Rattle.shell_model.specs.Shells.{Found, Nothing, Stored}
+use Rattle.shell_model.specs.Shells.{FoundOnBanks, Nothing, Stored}
 use Rattle.shell_model.specs.ShellStep.{RunsFrom, MakesFirst, first_clone}
 use Rattle.node_words.specs.declared.node.NodeWords.{NodeWords}
 use Rattle.node_model.specs.Keepers.{Keeper, Lives, Asks}
@@ -14,7 +14,7 @@ use Rattle.node_model.specs.Events.{NodeValue}
 
 -- the durable steps by which it begins, and what it has then: on banks that keep nothing it makes the first clone of the domain, or asks for a
 -- leaf, with the properties of the words; a clone of the id and the domain of the words runs again as it is kept, whatever the role is
-pub data Begins (words : NodeWords) : Found → List KeptStep → Keeper → Type 0 where
+pub data Begins (words : NodeWords) : FoundOnBanks → List KeptStep → Keeper → Type 0 where
   founds : words.join ≡ false → (kept : List (List ℕ)) → AreKept words.props.items kept
       → Begins words Nothing (Created (head_of (first_clone words.id words.domain kept)) ∷ []) (Lives 1 (first_clone words.id words.domain kept))
   asks : words.join ≡ true → (kept : List (List ℕ)) → AreKept words.props.items kept
@@ -23,12 +23,12 @@ pub data Begins (words : NodeWords) : Found → List KeptStep → Keeper → Typ
       → clone.id ≡ words.id → clone.domain ≡ words.domain → Begins words (Stored generation head entries) [] (Lives generation clone)
 
 -- the durable steps that it has to make then, where it has any
-abbrev pub IsDueAtFirst : NodeWords → Found → List KeptStep → Type 0
+abbrev pub IsDueAtFirst : NodeWords → FoundOnBanks → List KeptStep → Type 0
 IsDueAtFirst words Nothing steps = (words.join ≡ false) × MakesFirst words.id words.domain words.props.items steps
 IsDueAtFirst words found steps = ⊥
 
 -- the clone that was found is of another id or domain
-abbrev pub IsOther : NodeWords → Found → Type 0
+abbrev pub IsOther : NodeWords → FoundOnBanks → Type 0
 IsOther words (Stored generation head entries) = ¬ ((head.id ≡ words.id) × (head.domain ≡ words.domain))
 IsOther words found = ⊥
 

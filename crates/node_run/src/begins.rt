@@ -2,13 +2,13 @@
 ghost use Rattle.std.specs.Prelude.{◌≡◌, ◌↔◌, None, Some, IsTrue, IfOk, IfErr};
 ghost use Rattle.iri_rules.specs.Domain.{is_domain};
 ghost use Rattle.mld_io.specs.Disk.{Log};
-ghost use Rattle.shell_session.specs.Lines.{Meters};
+ghost use Rattle.shell_session.specs.SessionLines.{Meters};
 ghost use Rattle.clone_core.specs.Banked.{KeepsClone};
-ghost use Rattle.node_keeper.specs.States.{IsOpen};
+ghost use Rattle.node_keeper.specs.NodeStates.{IsOpen};
 ghost use Rattle.journal_store.specs.Standing.{KeepsNothing};
 ghost use Rattle.shell_model.specs.Shells.{Nothing};
 ghost use Rattle.node_run.specs.ServiceStatuses.{IsAtFirst};
-ghost use Rattle.node_run.specs.Begun.{BeginsOn, BeginsShort, IsOfWords, RunsAsFound, RefusesOther, banks_begun, found_on, FailsToBegin};
+ghost use Rattle.node_run.specs.NodeBegun.{BeginsOn, BeginsShort, IsOfWords, RunsAsFound, RefusesOther, banks_begun, found_on, FailsToBegin};
 
 use crate::stops::{NodeStop, make_stop, mount_stop};
 use clone_core::{Asker, MldClone, Mounted};

@@ -3,18 +3,18 @@ ghost use Rattle.std.specs.Prelude.{◌≡◌, ℕ, List, false, IfOk, IfErr, On
 ghost use Rattle.mld_io.specs.Faults.{HasSinkCause};
 ghost use Rattle.mld_io.specs.Disk.{Log};
 ghost use Rattle.journal_store.specs.Closing.{StaysTold};
-ghost use Rattle.shell_session.specs.Lines.{Meters};
-ghost use Rattle.shell_model.specs.Shells.{Found};
-ghost use Rattle.node_keeper.specs.States.{IsOpen};
-ghost use Rattle.node_keeper.specs.States as states;
-ghost use Rattle.node_core.specs.Nodes.{banks_of};
+ghost use Rattle.shell_session.specs.SessionLines.{Meters};
+ghost use Rattle.shell_model.specs.Shells.{FoundOnBanks};
+ghost use Rattle.node_keeper.specs.NodeStates.{IsOpen};
+ghost use Rattle.node_keeper.specs.NodeStates as states;
+ghost use Rattle.node_core.specs.Nodes.{node_banks};
 ghost use Rattle.node_model.specs.Events.{log_with};
 ghost use Rattle.node_words.specs.Words.{AreWords};
 ghost use Rattle.node_words.specs.declared.node.NodeWords.{NodeWords};
 ghost use Rattle.node_run.specs.ServiceStatuses.{service_status, damaged_of, IsOfTurns, CountsWire};
 ghost use Rattle.node_run.specs.ServiceEnds.{ServiceEnds};
-ghost use Rattle.node_run.specs.Begun.{BeginsOn};
-ghost use Rattle.node_run.specs.ServiceUnderWay.{Sends, SendsFront, DoesTurn, StopsTurn, banks_after, FailsOnBanks, HasTurnCause};
+ghost use Rattle.node_run.specs.NodeBegun.{BeginsOn};
+ghost use Rattle.node_run.specs.ServiceUnderWay.{Sends, SendsFront, DoesTurn, StopsTurn, node_banks_after, FailsOnBanks, HasTurnCause};
 
 use crate::stops::{NodeRan, NodeStop, end_run, event_stop, wire_stop};
 use mld_io::{Banks, Event, IoFault, Wire};
@@ -39,11 +39,11 @@ pub fn take_turns<R: Threads, W: Wire, B: Banks>(
     ensures damaged { result.damaged ≡ damaged_of result.fault }
     ensures kind { IsOfTurns result.fault }
     ensures turns { result.turns ≡ W.taken wire.new }
-    ensures ends { (texts : List (List ℕ)) (words : NodeWords) (found : Found) (old : Option Log) (first : Log)
+    ensures ends { (texts : List (List ℕ)) (words : NodeWords) (found : FoundOnBanks) (old : Option Log) (first : Log)
         → old ≡ Some first → AreWords texts words → words.turns ≡ turns
         → BeginsOn B.log words found old state
         → ServiceEnds result.fault found (record { texts = texts; turns = result.turns; before = W.log wire.old; after = W.log wire.new; old = old; now = B.log result.banks }) }
-    ensures meter { Meters (B.meter (states.banks_of state)) (B.meter result.banks) (result.fault ≡ Some NodeStop.Device) }
+    ensures meter { Meters (B.meter (states.state_banks state)) (B.meter result.banks) (result.fault ≡ Some NodeStop.Device) }
     ensures wire { CountsWire (W.faults wire.old) (W.faults wire.new) result.fault }
 {
     node_steps_lead();
@@ -82,9 +82,9 @@ fn take_event<R: Threads, W: Wire, B: Banks>(
     ensures opened { IfOk result (λ next. IsOpen next.state) }
     ensures stopped { IfErr result
         (λ refused. StopsTurn refused.0 B.log node event.now (W.log wire.old) refused.1 (W.log wire.new)) }
-    ensures told { StaysTold (B.log (banks_of node)) (B.log (banks_after result)) }
+    ensures told { StaysTold (B.log (node_banks node)) (B.log (node_banks_after result)) }
     ensures taken { W.taken wire.new ≡ W.taken wire.old }
-    ensures meter { Meters (B.meter (banks_of node)) (B.meter (banks_after result)) (FailsOnBanks result) }
+    ensures meter { Meters (B.meter (node_banks node)) (B.meter (node_banks_after result)) (FailsOnBanks result) }
     ensures wire { HasTurnCause (W.faults wire.old) (W.faults wire.new) result }
 {
     let (node, sent) = match node.on_event(rt, alloc, event) {

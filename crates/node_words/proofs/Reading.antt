@@ -4,7 +4,7 @@ use Rattle.std.specs.declared.result.Result.{Result}
 use Rattle.clap.specs.Words.{HasKind, Kinds, Row, fault_of, kind_of, matches_of}
 use Rattle.clap.specs.declared.error.Error.{Error}
 use Rattle.clap.specs.declared.error.kind.ErrorKind.TheVariants.{OutOfMemory}
-use Rattle.node_words.specs.Words.{AreRead, AreRefused, AreWords, Reads, node_app, node_name}
+use Rattle.node_words.specs.Words.{AreReadAs, AreRefused, AreWords, ReadsBy, node_app, node_name}
 use Rattle.node_words.specs.Words.AreRefused.{by_clap, by_value}
 use Rattle.node_words.specs.declared.faults.NodeWordsFault.{NodeWordsFault}
 use Rattle.node_words.specs.declared.faults.NodeWordsFault.TheVariants.{Usage}
@@ -20,15 +20,15 @@ module _ (words named : List (List ℕ)) (found : List Row) (is : named ≡ node
   taken_is = subst (λ (all : List (List ℕ)). fault_of node_app all ≡ []) is taken
 
   -- are those of the node that is read
-  pub words_read : (result : Result NodeWords NodeWordsFault) → Reads (AreRead found) result → IfOk result (AreWords words)
-  words_read (Ok node) read = record { taken = taken_is; read = subst (λ (rows : List Row). AreRead rows node) found_is read }
+  pub words_read : (result : Result NodeWords NodeWordsFault) → ReadsBy (AreReadAs found) result → IfOk result (AreWords words)
+  words_read (Ok node) read = record { taken = taken_is; read = subst (λ (rows : List Row). AreReadAs rows node) found_is read }
   words_read (Err fault) read = tt
 
   -- and are refused where none is read
-  pub words_refused : (result : Result NodeWords NodeWordsFault) → Reads (AreRead found) result → IsErrOf result Usage → AreRefused words
+  pub words_refused : (result : Result NodeWords NodeWordsFault) → ReadsBy (AreReadAs found) result → IsErrOf result Usage → AreRefused words
   words_refused result read same =
-      by_value taken_is (λ node h. let none : (node : NodeWords) → ¬ AreRead found node = subst (λ (r : Result NodeWords NodeWordsFault). Reads (AreRead found) r) same read in
-      none node (subst (λ (rows : List Row). AreRead rows node) (sym found_is) h))
+      by_value taken_is (λ node h. let none : (node : NodeWords) → ¬ AreReadAs found node = subst (λ (r : Result NodeWords NodeWordsFault). ReadsBy (AreReadAs found) r) same read in
+      none node (subst (λ (rows : List Row). AreReadAs rows node) (sym found_is) h))
 
 -- words that clap refuses for another cause than memory
 pub words_stopped : (words named : List (List ℕ)) (error : Error) (fault : NodeWordsFault) → named ≡ node_name ∷ words → HasKind (fault_of node_app named) error

@@ -7,7 +7,7 @@ use Rattle.std.proofs.lemmas.Str.Parse.{IsNumeralModel, numerals_by_value, tells
 use Rattle.std.specs.declared.result.Result.{Result}
 use Rattle.std.specs.declared.result.Result.TheVariants.{Ok, Err}
 use Rattle.std.proofs.lemmas.Fmt.{decimal_digit, decimal_nonempty, parse-decimal, first_decimal, decimal-digits_value}
-use Rattle.node_words.specs.Spelling.{SpellsTurns}
+use Rattle.node_words.specs.WordSpelling.{SpellsTurns}
 
 -- an empty text spells none
 pub not_empty : (text : List ℕ) → ¬ (0 < length text) → (turns : ℕ) → ¬ SpellsTurns text turns

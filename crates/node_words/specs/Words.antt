@@ -2,7 +2,7 @@
 use Rattle.std.specs.Prelude.{◌≡◌, ◌≢◌, ℕ, List, [], ◌∷◌, Bool, true, false, Result, Ok, Err, Some, codes, fold, unwrap_or}
 use Rattle.clap.specs.Words.{App, Row, Rule, new_app, new_rule, with_rule, matches_of, first_of, all_of, fault_of}
 use Rattle.clap.specs.declared.builder.action.ArgAction.TheVariants.{Set, Append}
-use Rattle.node_words.specs.Spelling.{AreIris, AreTurns, IsGiven, IsPeer, SpellsDomain, SpellsId, SpellsName, SpellsRole}
+use Rattle.node_words.specs.WordSpelling.{AreIris, AreTurns, IsGiven, IsPeer, SpellsDomain, SpellsId, SpellsName, SpellsRole}
 use Rattle.node_words.specs.declared.faults.NodeWordsFault.{NodeWordsFault}
 use Rattle.node_words.specs.declared.faults.NodeWordsFault.TheVariants.{Usage, NoMemory}
 use Rattle.node_words.specs.declared.node.NodeWords.{NodeWords}
@@ -26,7 +26,7 @@ node_app = fold with_rule (new_app node_name) (option_rule (codes "id") true ∷
     ∷ option_rule (codes "peer") false ∷ option_rule (codes "turns") false ∷ iris_rule ∷ [])
 
 -- what was found, read by the rule of each value
-pub record AreRead (found : List Row) (node : NodeWords) : Type 0 where
+pub record AreReadAs (found : List Row) (node : NodeWords) : Type 0 where
   pub id : IsGiven SpellsId (first_of (codes "id") found) node.id
   pub domain : IsGiven SpellsDomain (first_of (codes "domain") found) node.domain
   pub role : IsGiven SpellsRole (first_of (codes "role") found) node.join
@@ -39,13 +39,13 @@ pub record AreRead (found : List Row) (node : NodeWords) : Type 0 where
 -- clap takes the words behind the program's name, and what it finds in them is read so
 pub record AreWords (words : List (List ℕ)) (node : NodeWords) : Type 0 where
   pub taken : fault_of node_app (node_name ∷ words) ≡ []
-  pub read : AreRead (matches_of node_app (node_name ∷ words)) node
+  pub read : AreReadAs (matches_of node_app (node_name ∷ words)) node
 
 -- clap refuses the words behind the program's name for another cause than memory, or it takes them, and a value is missing or not valid,
 -- or there are too many IRIs
 pub data AreRefused (words : List (List ℕ)) : Type 0 where
   by_clap : fault_of node_app (node_name ∷ words) ≢ [] → AreRefused words
-  by_value : fault_of node_app (node_name ∷ words) ≡ [] → ((node : NodeWords) → ¬ AreRead (matches_of node_app (node_name ∷ words)) node)
+  by_value : fault_of node_app (node_name ∷ words) ≡ [] → ((node : NodeWords) → ¬ AreReadAs (matches_of node_app (node_name ∷ words)) node)
       → AreRefused words
 
 -- no words are both
@@ -54,7 +54,7 @@ never_both words node are (by_clap refused) = refused are.taken
 never_both words node are (by_value taken none) = none node are.read
 
 -- a value that the rule gives, or Usage where it gives none
-abbrev pub Reads : {A : Type 0} → (A → Type 0) → Result A NodeWordsFault → Type 0
-Reads Gives (Ok value) = Gives value
-Reads {A} Gives (Err Usage) = (value : A) → ¬ Gives value
-Reads Gives (Err NoMemory) = Unit {0}
+abbrev pub ReadsBy : {A : Type 0} → (A → Type 0) → Result A NodeWordsFault → Type 0
+ReadsBy Gives (Ok value) = Gives value
+ReadsBy {A} Gives (Err Usage) = (value : A) → ¬ Gives value
+ReadsBy Gives (Err NoMemory) = Unit {0}

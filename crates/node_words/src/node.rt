@@ -3,8 +3,8 @@ ghost use Rattle.std.specs.Prelude.{◌≡◌, ◌≢◌, ◌≤◌, ◌∷◌, 
 ghost use Rattle.std.specs.String.{string_bytes};
 ghost use Rattle.clap.specs.Words.{found_of, kind_of, rows_of};
 ghost use Rattle.iri_rules.specs.Domain.{is_domain};
-ghost use Rattle.node_words.specs.Spelling.{iri_count};
-ghost use Rattle.node_words.specs.Words.{AreRead, AreRefused, AreWords, Reads, node_name};
+ghost use Rattle.node_words.specs.WordSpelling.{iri_count};
+ghost use Rattle.node_words.specs.Words.{AreReadAs, AreRefused, AreWords, ReadsBy, node_name};
 
 use crate::faults::NodeWordsFault;
 use crate::given::{NODE_NAME, find_in, iris_of, text_of};
@@ -73,7 +73,7 @@ fn named_words<'a>(alloc: Global, words: &'a Vec<String>) -> Result<Vec<&'a str>
 
 /// What was found, read by the rule of each value.
 fn read_node(alloc: Global, found: &ArgMatches) -> Result<NodeWords, NodeWordsFault>
-    ensures { Reads (AreRead (rows_of (found_of found.now))) result }
+    ensures { ReadsBy (AreReadAs (rows_of (found_of found.now))) result }
 {
     let id = read_id(text_of(found, "id"))?;
     let join = read_role(text_of(found, "role"))?;

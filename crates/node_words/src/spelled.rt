@@ -1,8 +1,8 @@
 //! The value that a text spells, for each value of the words.
 ghost use Rattle.std.specs.Prelude.{◌≡◌, ℕ, IsTrue, MatchOption, [], map, option_map, unwrap_or};
 ghost use Rattle.iri_rules.specs.Iri.{is_absolute};
-ghost use Rattle.node_words.specs.Spelling.{AreIris, AreTurns, IsGiven, IsPeer, SpellsDomain, SpellsId, SpellsName, SpellsRole, SpellsTurns};
-ghost use Rattle.node_words.specs.Words.{Reads};
+ghost use Rattle.node_words.specs.WordSpelling.{AreIris, AreTurns, IsGiven, IsPeer, SpellsDomain, SpellsId, SpellsName, SpellsRole, SpellsTurns};
+ghost use Rattle.node_words.specs.Words.{ReadsBy};
 
 use crate::faults::NodeWordsFault;
 use iri_rules::{Text, is_domain};
@@ -18,7 +18,7 @@ const IRI_COUNT: usize = 16;
 
 /// A UUID.
 pub fn read_id(given: Option<&str>) -> Result<Uuid, NodeWordsFault>
-    ensures { Reads (IsGiven SpellsId (option_map (λ text. text.now) given.entry)) result }
+    ensures { ReadsBy (IsGiven SpellsId (option_map (λ text. text.now) given.entry)) result }
 {
     let Some(text) = given else {
         return Err(NodeWordsFault::Usage);
@@ -31,7 +31,7 @@ pub fn read_id(given: Option<&str>) -> Result<Uuid, NodeWordsFault>
 
 /// Whether the role is `join`, and not `genesis`.
 pub fn read_role(given: Option<&str>) -> Result<bool, NodeWordsFault>
-    ensures { Reads (IsGiven SpellsRole (option_map (λ text. text.now) given.entry)) result }
+    ensures { ReadsBy (IsGiven SpellsRole (option_map (λ text. text.now) given.entry)) result }
 {
     let Some(text) = given else {
         return Err(NodeWordsFault::Usage);
@@ -45,7 +45,7 @@ pub fn read_role(given: Option<&str>) -> Result<bool, NodeWordsFault>
 
 /// A number of turns, or the default.
 pub fn read_turns(given: Option<&str>) -> Result<u64, NodeWordsFault>
-    ensures { Reads (AreTurns (option_map (λ text. text.now) given.entry)) result }
+    ensures { ReadsBy (AreTurns (option_map (λ text. text.now) given.entry)) result }
 {
     let Some(text) = given else {
         return Ok(DEFAULT_TURNS);
@@ -75,7 +75,7 @@ fn read_number(text: &str) -> Option<u64>
 
 /// The name of a domain.
 pub fn read_domain(alloc: Global, given: Option<&str>) -> Result<Text, NodeWordsFault>
-    ensures { Reads (IsGiven SpellsDomain (option_map (λ text. text.now) given.entry)) result }
+    ensures { ReadsBy (IsGiven SpellsDomain (option_map (λ text. text.now) given.entry)) result }
 {
     let Some(text) = given else {
         return Err(NodeWordsFault::Usage);
@@ -88,7 +88,7 @@ pub fn read_domain(alloc: Global, given: Option<&str>) -> Result<Text, NodeWords
 
 /// The name of a folder, or an address.
 pub fn read_name(alloc: Global, given: Option<&str>) -> Result<Text, NodeWordsFault>
-    ensures { Reads (IsGiven SpellsName (option_map (λ text. text.now) given.entry)) result }
+    ensures { ReadsBy (IsGiven SpellsName (option_map (λ text. text.now) given.entry)) result }
 {
     let Some(text) = given else {
         return Err(NodeWordsFault::Usage);
@@ -101,7 +101,7 @@ pub fn read_name(alloc: Global, given: Option<&str>) -> Result<Text, NodeWordsFa
 
 /// An address, where one is given.
 pub fn read_peer(alloc: Global, given: Option<&str>) -> Result<Option<Text>, NodeWordsFault>
-    ensures { Reads (IsPeer (option_map (λ text. text.now) given.entry)) result }
+    ensures { ReadsBy (IsPeer (option_map (λ text. text.now) given.entry)) result }
 {
     if given.is_none() {
         return Ok(None);
@@ -111,7 +111,7 @@ pub fn read_peer(alloc: Global, given: Option<&str>) -> Result<Option<Text>, Nod
 
 /// The IRIs, where these are not too many.
 pub fn read_iris(alloc: Global, given: Option<&[&str]>) -> Result<Vec<Iri>, NodeWordsFault>
-    ensures { Reads (λ iris. AreIris (unwrap_or (option_map (λ texts. map (λ text. text.now) texts.now) given.entry) []) iris.items) result }
+    ensures { ReadsBy (λ iris. AreIris (unwrap_or (option_map (λ texts. map (λ text. text.now) texts.now) given.entry) []) iris.items) result }
 {
     let Some(texts) = given else {
         return Ok(Vec::new(alloc));
@@ -131,7 +131,7 @@ pub fn read_iris(alloc: Global, given: Option<&[&str]>) -> Result<Vec<Iri>, Node
 
 /// An absolute IRI.
 fn read_iri(alloc: Global, text: &str) -> Result<Iri, NodeWordsFault>
-    ensures { Reads (λ iri. (iri ≡ text.now) × IsTrue (is_absolute text.now)) result }
+    ensures { ReadsBy (λ iri. (iri ≡ text.now) × IsTrue (is_absolute text.now)) result }
 {
     match Iri::new(alloc, text) {
         Ok(iri) => Ok(iri),

@@ -1,7 +1,7 @@
 //! The wire over TCP, with clients and a peer in the same process. Its owners stand in boxes, and what is done with them is told in plain
 //! words by helpers that they are lent to.
 ghost use Rattle.std.specs.Prelude.{◌≡◌, ◌+◌, ◌-◌, ◌^◌, ◌<◌, ◌≤◌, IfOk};
-ghost use Rattle.tcp_wire.specs.Wires.{taken_of};
+ghost use Rattle.tcp_wire.specs.TcpWires.{count_of_taken};
 
 use mld_io::{Event, IoFault, Wire};
 use std::alloc::Global;
@@ -27,8 +27,8 @@ enum Given {
 
 /// What a wire gives next.
 fn next_of(wire: &mut TestWire) -> Given
-    requires { taken_of wire.old < 2 ^ 64 - 1 }
-    ensures { taken_of wire.new ≤ taken_of wire.old + 1 }
+    requires { count_of_taken wire.old < 2 ^ 64 - 1 }
+    ensures { count_of_taken wire.new ≤ count_of_taken wire.old + 1 }
 {
     match wire.next() {
         Ok(Event::Opened(conn)) => Given::Opened(conn),
@@ -42,8 +42,8 @@ fn next_of(wire: &mut TestWire) -> Given
 
 /// Whether a wire gives these bytes of a connection next.
 fn gives(wire: &mut TestWire, conn: u32, bytes: &[u8]) -> bool
-    requires { taken_of wire.old < 2 ^ 64 - 1 }
-    ensures { taken_of wire.new ≤ taken_of wire.old + 1 }
+    requires { count_of_taken wire.old < 2 ^ 64 - 1 }
+    ensures { count_of_taken wire.new ≤ count_of_taken wire.old + 1 }
 {
     match wire.next() {
         Ok(Event::Bytes(on, piece)) => on == conn && piece.as_slice() == bytes,
@@ -58,7 +58,7 @@ fn free_address(rt: &HostRuntime) -> io::Result<SocketAddr> {
 
 /// A wire that is to listen on an address, and to call a peer where there is one.
 fn wire_on(rt: &HostRuntime, listen: &str, peer: Option<&str>) -> Result<Box<TestWire>, Fail>
-    ensures { IfOk result (λ wire. taken_of wire.value ≡ 0) }
+    ensures { IfOk result (λ wire. count_of_taken wire.value ≡ 0) }
 {
     Ok(Box::new(
         rt.alloc(),
@@ -68,7 +68,7 @@ fn wire_on(rt: &HostRuntime, listen: &str, peer: Option<&str>) -> Result<Box<Tes
 
 /// A wire that listens on an address. What it sends on a connection that isn't there is dropped.
 fn listening(rt: &HostRuntime, address: SocketAddr) -> Result<Box<TestWire>, Fail>
-    ensures { IfOk result (λ wire. taken_of wire.value ≡ 0) }
+    ensures { IfOk result (λ wire. count_of_taken wire.value ≡ 0) }
 {
     let text = format!(in rt.alloc(); "{address}")?;
     let mut wire = wire_on(rt, text.as_str(), None)?;
@@ -78,7 +78,7 @@ fn listening(rt: &HostRuntime, address: SocketAddr) -> Result<Box<TestWire>, Fai
 
 /// A wire that listens on an address, once it is asked for an event, and calls another one.
 fn calling(rt: &HostRuntime, address: SocketAddr, peer: SocketAddr) -> Result<Box<TestWire>, Fail>
-    ensures { IfOk result (λ wire. taken_of wire.value ≡ 0) }
+    ensures { IfOk result (λ wire. count_of_taken wire.value ≡ 0) }
 {
     let text = format!(in rt.alloc(); "{address}")?;
     let peer = format!(in rt.alloc(); "{peer}")?;
@@ -102,8 +102,8 @@ fn reads(client: &mut TcpStream, count: usize) -> bool {
 
 /// Whether a wire serves one client until that shuts its side, and shuts another.
 fn serves(wire: &mut TestWire, near: &mut TcpStream, far: &mut TcpStream) -> bool
-    requires { taken_of wire.old < 2 ^ 63 }
-    ensures { taken_of wire.new ≤ taken_of wire.old + 4 }
+    requires { count_of_taken wire.old < 2 ^ 63 }
+    ensures { count_of_taken wire.new ≤ count_of_taken wire.old + 4 }
 {
     let one = next_of(wire) == Given::Opened(1);
     let two = next_of(wire) == Given::Opened(2);
@@ -121,7 +121,7 @@ fn serves(wire: &mut TestWire, near: &mut TcpStream, far: &mut TcpStream) -> boo
 
 /// Whether a wire that has had two clients serves a third one.
 fn serves_third(wire: &mut TestWire, third: &mut TcpStream) -> bool
-    requires { taken_of wire.old < 2 ^ 63 }
+    requires { count_of_taken wire.old < 2 ^ 63 }
 {
     let asked = third.write_all(b"z").is_ok();
     let opened = next_of(wire) == Given::Opened(3);
@@ -131,7 +131,7 @@ fn serves_third(wire: &mut TestWire, third: &mut TcpStream) -> bool
 
 /// Whether a wire serves two clients, and then a third one.
 fn serves_all(rt: &HostRuntime, wire: &mut TestWire, address: SocketAddr) -> io::Result<bool>
-    requires { taken_of wire.old ≡ 0 }
+    requires { count_of_taken wire.old ≡ 0 }
 {
     let mut near = TcpStream::connect(rt, address)?;
     let mut far = TcpStream::connect(rt, address)?;
@@ -161,7 +161,7 @@ fn head_of(given: Given) -> u32 {
 
 /// Whether two clients that both send frames have their turns: no piece goes behind the end of a frame's head or of its payload.
 fn gives_turns(wire: &mut TestWire, one: &mut TcpStream, other: &mut TcpStream) -> bool
-    requires { taken_of wire.old < 2 ^ 63 }
+    requires { count_of_taken wire.old < 2 ^ 63 }
 {
     let sent = other.write_all(b"\x03\0\0\0\0").is_ok()
         && one.write_all(b"\x03\0\0\0\x02ab\x03").is_ok();
@@ -174,7 +174,7 @@ fn gives_turns(wire: &mut TestWire, one: &mut TcpStream, other: &mut TcpStream) 
 
 /// Whether a wire gives the frames of two clients in turn.
 fn gives_in_turn(rt: &HostRuntime, wire: &mut TestWire, address: SocketAddr) -> io::Result<bool>
-    requires { taken_of wire.old ≡ 0 }
+    requires { count_of_taken wire.old ≡ 0 }
 {
     let mut one = TcpStream::connect(rt, address)?;
     if next_of(wire) != Given::Opened(1) {
@@ -196,8 +196,8 @@ fn gives_frames_in_turn(rt: HostRuntime) -> Result<(), Fail> {
 
 /// Whether a wire is connected with its peer, again once the peer shut that, and sends on the second connection.
 fn calls(near: &mut TestWire, far: &mut TestWire) -> bool
-    requires near { taken_of near.old ≡ 0 }
-    requires far { taken_of far.old ≡ 0 }
+    requires near { count_of_taken near.old ≡ 0 }
+    requires far { count_of_taken far.old ≡ 0 }
 {
     let called = next_of(near) == Given::Opened(1);
     let accepted = next_of(far) == Given::Opened(1);
@@ -250,7 +250,7 @@ fn send_long(alloc: Global, wire: &mut TestWire) -> Result<(), Fail> {
 
 /// Whether a client gets all of a piece that is longer than what it reads at once.
 fn keeps(rt: &HostRuntime, wire: &mut TestWire, address: SocketAddr) -> Result<bool, Fail>
-    requires { taken_of wire.old ≡ 0 }
+    requires { count_of_taken wire.old ≡ 0 }
 {
     let mut client = TcpStream::connect(rt, address)?;
     if next_of(wire) != Given::Opened(1) {

@@ -9,7 +9,7 @@ use Rattle.std.proofs.lemmas.List.{append_assoc}
 use Rattle.std.proofs.lemmas.List.Elements.{All-nil, All-cons, All-append, All-push, All-head, All-tail, All-weaker}
 use Rattle.mld_io.specs.Lines.{line_break, lines_of, onto_first, HasNoEnd}
 use Rattle.schedule_generator.specs.Generated.{drawn_line, lines_from, generated, text_of}
-use Rattle.schedule_generator.specs.DrawnCommands.{numbered_triple, IsDrawn, adds, removes, delivers, asks, compacts, truncates, compares}
+use Rattle.schedule_generator.specs.DrawnCommands.{drawn_triple, IsDrawn, adds, removes, delivers, asks, compacts, truncates, compares}
 use Rattle.schedule_generator.proofs.DrawnLines.{a_line, all_drawn}
 
 -- a byte is no LF
@@ -55,7 +55,7 @@ lines_of_text (line ∷ lines) h =
     ∙ ap (λ (ls : List (List ℕ)). line ∷ ls) (lines_of_text lines (All-tail HasNoEnd line lines h))
 
 -- a triple has none
-triple_in_line : (subject predicate text : ℕ) → subject < 50 → predicate < 5 → text < 20 → HasNoEnd (numbered_triple subject predicate text)
+triple_in_line : (subject predicate text : ℕ) → subject < 50 → predicate < 5 → text < 20 → HasNoEnd (drawn_triple subject predicate text)
 triple_in_line subject predicate text s p t =
     both (codes "<http://gen.example/s") _ (word_in_line (codes "<http://gen.example/s") refl) (both (decimal subject) _ (number_in_line subject (omega (arith, s)))
     (both (codes "> <http://gen.example/#p") _ (word_in_line (codes "> <http://gen.example/#p") refl) (both (decimal predicate) _ (number_in_line predicate (omega (arith, p)))
@@ -92,7 +92,7 @@ generated_text seed count few =
 two_digits : (n : ℕ) → n < 100 → length (decimal n) ≤ 2
 two_digits n h = length-decimal-le 2 n (omega arith) (omega (arith, h)) (omega (arith, h))
 
-triple_short : (subject predicate text : ℕ) → subject < 50 → predicate < 5 → text < 20 → length (numbered_triple subject predicate text) ≤ 60
+triple_short : (subject predicate text : ℕ) → subject < 50 → predicate < 5 → text < 20 → length (drawn_triple subject predicate text) ≤ 60
 triple_short subject predicate text s p t =
     let first = length-append (decimal subject) (codes "> <http://gen.example/#p" ++ (decimal predicate ++ (codes "> \"" ++ (decimal text ++ codes "\" .")))) in
     let second = length-append (decimal predicate) (codes "> \"" ++ (decimal text ++ codes "\" .")) in
@@ -105,12 +105,12 @@ triple_short subject predicate text s p t =
 -- a command line has at most 70 bytes
 drawn_short : (line : List ℕ) → IsDrawn line → length line ≤ 70
 drawn_short line (adds clone subject predicate text c s p t is) =
-    let all = length-append (decimal clone) (codes " " ++ numbered_triple subject predicate text) in
+    let all = length-append (decimal clone) (codes " " ++ drawn_triple subject predicate text) in
     let one = two_digits clone (omega (arith, c)) in
     let triple = triple_short subject predicate text s p t in
     rw is (omega (arith, all, one, triple))
 drawn_short line (removes clone subject predicate text c s p t is) =
-    let all = length-append (decimal clone) (codes " " ++ numbered_triple subject predicate text) in
+    let all = length-append (decimal clone) (codes " " ++ drawn_triple subject predicate text) in
     let one = two_digits clone (omega (arith, c)) in
     let triple = triple_short subject predicate text s p t in
     rw is (omega (arith, all, one, triple))

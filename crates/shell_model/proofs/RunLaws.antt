@@ -10,11 +10,11 @@ use Rattle.clone_core.specs.Banked.{head_of}
 use Rattle.jrql_ast.specs.Templates.{insertion_of, deletion_of}
 use Rattle.shell_text.specs.declared.commands.ShellCommand.{ShellCommand}
 use Rattle.shell_text.specs.declared.commands.ShellCommand.TheVariants as shell
-use Rattle.shell_model.specs.Laws.{StepsLead}
-use Rattle.shell_model.specs.ShellRuns.{ShellLine, ShellRuns, Commands, says_nothing, is_bad, commands}
+use Rattle.shell_model.specs.ShellRunLaws.{StepsLead}
+use Rattle.shell_model.specs.ShellRuns.{ShellLine, ShellRuns, CommandsShell, says_nothing, is_bad, commands}
 use Rattle.shell_model.specs.ShellReply.{ShellReply, IsClosed, FoundNothing, FoundDamage, NotEmpty}
-use Rattle.shell_model.specs.ShellStep.{AnswersUpdate, no_tick_is_left, is_too_large, changes_nothing, breaks_single, makes_operation, KeepsJournal, is_kept_so, no_generation_is_left, swaps_journal, OnlyReplies, LiveStep, Stays, RunsFrom, Reopens, OpensShut, first_clone, Founds, FoundsShut, ShutStep, Stops, StaysLive, ShellStep}
-use Rattle.shell_model.specs.Shells.{Found, Nothing, Stored, Damage, Shell, Shut, Live, found_of, found_after_step, found_after, generation_after}
+use Rattle.shell_model.specs.ShellStep.{AnswersUpdate, no_tick_is_left, is_too_large, changes_nothing, breaks_single, makes_operation, KeepsJournal, is_kept_so, no_generation_is_left, swaps_journal, OnlyReplies, LiveStep, Stays, RunsFrom, ShellReopens, OpensShut, first_clone, Founds, FoundsShut, ShutStep, ShellStops, StaysLive, ShellStep}
+use Rattle.shell_model.specs.Shells.{FoundOnBanks, Nothing, Stored, Damage, Shell, Shut, Live, found_of, found_after_step, found_after, generation_after}
 
 -- ---- a live clone
 
@@ -80,7 +80,7 @@ stays_found : (answer : ShellReply) (shell : Shell) (reply : ShellReply) (steps 
 stays_found answer shell reply steps next does =
     ap found_of does.2 ∙ sym (ap (λ (s : List KeptStep). found_after s (found_of shell)) does.1)
 
-opens_found : (found : Found) (reply : ShellReply) (steps : List KeptStep) (next : Shell) → OpensShut found reply steps next
+opens_found : (found : FoundOnBanks) (reply : ShellReply) (steps : List KeptStep) (next : Shell) → OpensShut found reply steps next
     → found_of next ≡ found_after steps found
 opens_found Nothing reply steps next does = stays_found FoundNothing (Shut Nothing) reply steps next does
 opens_found (Damage side place) reply steps next does = stays_found (FoundDamage side place) (Shut (Damage side place)) reply steps next does
@@ -89,7 +89,7 @@ opens_found (Stored generation head entries) reply steps next does =
     λ i. Stored generation (sym does.runs.head_is i) (sym does.runs.entries_are i) in
     ap found_of does.becomes ∙ same ∙ sym (ap (λ (s : List KeptStep). found_after s (Stored generation head entries)) does.none)
 
-founds_found : (id domain : List ℕ) (properties : List (List ℕ)) (found : Found) (reply : ShellReply) (steps : List KeptStep) (next : Shell)
+founds_found : (id domain : List ℕ) (properties : List (List ℕ)) (found : FoundOnBanks) (reply : ShellReply) (steps : List KeptStep) (next : Shell)
     → FoundsShut id domain properties found reply steps next → found_of next ≡ found_after steps found
 founds_found id domain properties Nothing reply steps next does =
     ap found_of does.becomes ∙ sym (ap (λ (s : List KeptStep). found_after s Nothing) does.creates)
@@ -98,7 +98,7 @@ founds_found id domain properties (Damage side place) reply steps next does =
 founds_found id domain properties (Stored generation head entries) reply steps next does =
     stays_found NotEmpty (Shut (Stored generation head entries)) reply steps next does
 
-shut_found : (found : Found) (command : ShellCommand) (reply : ShellReply) (steps : List KeptStep) (next : Shell) → ShutStep found command reply steps next
+shut_found : (found : FoundOnBanks) (command : ShellCommand) (reply : ShellReply) (steps : List KeptStep) (next : Shell) → ShutStep found command reply steps next
     → found_of next ≡ found_after steps found
 shut_found found shell.Open reply steps next does = opens_found found reply steps next does
 shut_found found (shell.Create id domain properties) reply steps next does = founds_found id domain properties.items found reply steps next does
@@ -123,7 +123,7 @@ line_found old line text steps next (is_bad bad replies none same) =
 line_found old line text steps next (commands does) = step_found old does.command does.reply steps next does.does
 
 -- what comes of some durable steps and then of others
-pub found_both : (first later : List KeptStep) (found : Found) → found_after (first ++ later) found ≡ found_after later (found_after first found)
+pub found_both : (first later : List KeptStep) (found : FoundOnBanks) → found_after (first ++ later) found ≡ found_after later (found_after first found)
 found_both [] later found = refl
 found_both (step ∷ first) later found = found_both first later (found_after_step step found)
 

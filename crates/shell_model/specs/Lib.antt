@@ -1,4 +1,4 @@
-pub mod Laws
+pub mod ShellRunLaws
 pub mod ShellRuns
 pub mod ShellReply
 pub mod Shells

@@ -10,7 +10,7 @@ use Rattle.shell_model.specs.ShellReply.{ShellReply, BadLine, shell_text}
 use Rattle.shell_model.specs.ShellStep.{ShellStep, IsDue}
 
 -- a line spells a command, which makes a step: the text of its reply is written
-pub record Commands (shell : Shell) (line text : List ℕ) (steps : List KeptStep) (next : Shell) : Type 0 where
+pub record CommandsShell (shell : Shell) (line text : List ℕ) (steps : List KeptStep) (next : Shell) : Type 0 where
   pub command : ShellCommand
   pub spells : SpellsShell (domain_of shell) line command
   pub reply : ShellReply
@@ -22,7 +22,7 @@ pub record Commands (shell : Shell) (line text : List ℕ) (steps : List KeptSte
 pub data ShellLine (shell : Shell) (line text : List ℕ) (steps : List KeptStep) (next : Shell) : Type 0 where
   says_nothing : IsNothing line → text ≡ [] → steps ≡ [] → next ≡ shell → ShellLine shell line text steps next
   is_bad : IsBadShell (domain_of shell) line → text ≡ shell_text BadLine → steps ≡ [] → next ≡ shell → ShellLine shell line text steps next
-  commands : Commands shell line text steps next → ShellLine shell line text steps next
+  commands : CommandsShell shell line text steps next → ShellLine shell line text steps next
 
 -- a run over lines: the text is what they write, and the durable steps are theirs, in order
 abbrev pub ShellRuns : Shell → List (List ℕ) → List ℕ → List KeptStep → Shell → Type 0

@@ -22,7 +22,7 @@ use Rattle.clone_core.specs.CloneUpdates.{LocallyUpdatesBy, BreaksSingle, HasEff
 use Rattle.clone_core.specs.DurableCalls.{SwapsTo}
 use Rattle.shell_text.specs.declared.commands.ShellCommand.{ShellCommand}
 use Rattle.shell_text.specs.declared.commands.ShellCommand.TheVariants as shell
-use Rattle.shell_model.specs.Shells.{Found, Nothing, Stored, Damage, Shell, Shut, Live, generation_after}
+use Rattle.shell_model.specs.Shells.{FoundOnBanks, Nothing, Stored, Damage, Shell, Shut, Live, generation_after}
 use Rattle.shell_model.specs.ShellReply.{ShellReply, Says, DidAt, IsClosed, FoundNothing, FoundDamage, NotEmpty, MadeClone, TicksSpent, GenerationsSpent}
 
 -- ---- a live clone
@@ -95,7 +95,7 @@ pub record RunsFrom (head : HeadValue) (entries : List EntryValue) (clone : Loca
   pub local : IsLocal clone
 
 -- the clone that the banks keep is live again
-pub record Reopens (generation : ℕ) (head : HeadValue) (entries : List EntryValue) (reply : ShellReply) (steps : List KeptStep) (next : Shell) : Type 0 where
+pub record ShellReopens (generation : ℕ) (head : HeadValue) (entries : List EntryValue) (reply : ShellReply) (steps : List KeptStep) (next : Shell) : Type 0 where
   pub clone : LocalClone
   pub runs : RunsFrom head entries clone
   pub replies : reply ≡ Says Opened
@@ -103,9 +103,9 @@ pub record Reopens (generation : ℕ) (head : HeadValue) (entries : List EntryVa
   pub becomes : next ≡ Live generation clone
 
 -- banks are opened on which this is found
-abbrev pub OpensShut : Found → ShellReply → List KeptStep → Shell → Type 0
+abbrev pub OpensShut : FoundOnBanks → ShellReply → List KeptStep → Shell → Type 0
 OpensShut Nothing reply steps next = Stays FoundNothing (Shut Nothing) reply steps next
-OpensShut (Stored generation head entries) reply steps next = Reopens generation head entries reply steps next
+OpensShut (Stored generation head entries) reply steps next = ShellReopens generation head entries reply steps next
 OpensShut (Damage side place) reply steps next = Stays (FoundDamage side place) (Shut (Damage side place)) reply steps next
 
 -- the first clone of a domain, which keeps these properties
@@ -121,14 +121,14 @@ pub record Founds (id domain : List ℕ) (properties : List (List ℕ)) (reply :
   pub becomes : next ≡ Live 1 (first_clone id domain kept)
 
 -- a clone is to be made on banks on which this is found: it is made where they keep nothing, and only there
-abbrev pub FoundsShut : List ℕ → List ℕ → List (List ℕ) → Found → ShellReply → List KeptStep → Shell → Type 0
+abbrev pub FoundsShut : List ℕ → List ℕ → List (List ℕ) → FoundOnBanks → ShellReply → List KeptStep → Shell → Type 0
 FoundsShut id domain properties Nothing reply steps next = Founds id domain properties reply steps next
 FoundsShut id domain properties (Stored generation head entries) reply steps next =
     Stays NotEmpty (Shut (Stored generation head entries)) reply steps next
 FoundsShut id domain properties (Damage side place) reply steps next = Stays (FoundDamage side place) (Shut (Damage side place)) reply steps next
 
 -- what becomes of a command while no clone is live: all but two are refused
-abbrev pub ShutStep : Found → ShellCommand → ShellReply → List KeptStep → Shell → Type 0
+abbrev pub ShutStep : FoundOnBanks → ShellCommand → ShellReply → List KeptStep → Shell → Type 0
 ShutStep found shell.Open reply steps next = OpensShut found reply steps next
 ShutStep found (shell.Create id domain properties) reply steps next = FoundsShut id domain properties.items found reply steps next
 ShutStep found command reply steps next = Stays IsClosed (Shut found) reply steps next
@@ -136,7 +136,7 @@ ShutStep found command reply steps next = Stays IsClosed (Shut found) reply step
 -- ---- any command
 
 -- a live clone stops: its banks keep it, and what it holds back is forgotten
-pub record Stops (generation : ℕ) (clone : LocalClone) (reply : ShellReply) (steps : List KeptStep) (next : Shell) : Type 0 where
+pub record ShellStops (generation : ℕ) (clone : LocalClone) (reply : ShellReply) (steps : List KeptStep) (next : Shell) : Type 0 where
   pub replies : reply ≡ Says Stopped
   pub none : steps ≡ []
   pub becomes : next ≡ Shut (Stored generation (head_of clone) clone.entries)
@@ -150,13 +150,13 @@ pub record StaysLive (generation : ℕ) (clone : LocalClone) (command : ShellCom
 -- the step of a shell
 abbrev pub ShellStep : Shell → ShellCommand → ShellReply → List KeptStep → Shell → Type 0
 ShellStep (Shut found) command reply steps next = ShutStep found command reply steps next
-ShellStep (Live generation clone) shell.Stop reply steps next = Stops generation clone reply steps next
+ShellStep (Live generation clone) shell.Stop reply steps next = ShellStops generation clone reply steps next
 ShellStep (Live generation clone) command reply steps next = StaysLive generation clone command reply steps next
 
 -- ---- what a command has to do on the banks
 
 -- the clone makes the operation of an update, whose entry is appended
-pub record AppendsOperation (clone : LocalClone) (plan : UpdatePlan) (steps : List KeptStep) : Type 0 where
+pub record AppendsUpdate (clone : LocalClone) (plan : UpdatePlan) (steps : List KeptStep) : Type 0 where
   pub effect : EffectValue
   pub has : HasEffect clone plan effect
   pub may : IsMakeable clone effect
@@ -182,9 +182,9 @@ IsDueTruncation keep generation clone steps = SwapsJournal (keep < length clone.
 
 -- the durable steps that a command has to make on a live clone, where it has any
 abbrev pub IsDueLive : ℕ → LocalClone → ShellCommand → List KeptStep → Type 0
-IsDueLive generation clone (shell.Add triple) steps = AppendsOperation clone (insertion_of triple) steps
-IsDueLive generation clone (shell.Remove triple) steps = AppendsOperation clone (deletion_of triple) steps
-IsDueLive generation clone (shell.Update plan) steps = AppendsOperation clone plan steps
+IsDueLive generation clone (shell.Add triple) steps = AppendsUpdate clone (insertion_of triple) steps
+IsDueLive generation clone (shell.Remove triple) steps = AppendsUpdate clone (deletion_of triple) steps
+IsDueLive generation clone (shell.Update plan) steps = AppendsUpdate clone plan steps
 IsDueLive generation clone shell.Compact steps = IsDueCompaction generation clone steps
 IsDueLive generation clone (shell.Truncate keep) steps = IsDueTruncation keep generation clone steps
 IsDueLive generation clone command steps = ⊥
@@ -196,7 +196,7 @@ pub record MakesFirst (id domain : List ℕ) (properties : List (List ℕ)) (ste
   pub creates : steps ≡ Created (head_of (first_clone id domain kept)) ∷ []
 
 -- those that it has to make while no clone is live
-abbrev pub IsDueShut : Found → ShellCommand → List KeptStep → Type 0
+abbrev pub IsDueShut : FoundOnBanks → ShellCommand → List KeptStep → Type 0
 IsDueShut Nothing (shell.Create id domain properties) steps = MakesFirst id domain properties.items steps
 IsDueShut found command steps = ⊥
 

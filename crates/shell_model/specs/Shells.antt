@@ -10,22 +10,22 @@ use Rattle.clone_banks.specs.KeptSteps.{KeptStep, Created, Appended, Forked, Swa
 use Rattle.clone_core.specs.Banked.{head_of}
 
 -- what is found on banks, whichever of their sides counts
-pub data Found : Type 0 where
+pub data FoundOnBanks : Type 0 where
   -- they keep nothing
-  Nothing : Found
+  Nothing : FoundOnBanks
   -- they keep a clone: the generation of that, its head, and the entries of its journal
-  Stored : ℕ → HeadValue → List EntryValue → Found
+  Stored : ℕ → HeadValue → List EntryValue → FoundOnBanks
   -- this side is damaged, at this place
-  Damage : Side → ℕ → Found
+  Damage : Side → ℕ → FoundOnBanks
 
 -- what is found on banks that read to this
-abbrev pub found_in : PairReading → Found
+abbrev pub found_in : PairReading → FoundOnBanks
 found_in KeepsNone = Nothing
 found_in (Keeps kept) = Stored kept.generation kept.head kept.entries
 found_in (Damages side place) = Damage side place
 
 -- what is found after a durable step
-abbrev pub found_after_step : KeptStep → Found → Found
+abbrev pub found_after_step : KeptStep → FoundOnBanks → FoundOnBanks
 found_after_step (Created head) found = Stored 1 head []
 found_after_step (Appended entry) (Stored generation head entries) = Stored generation head (entries ++ entry ∷ [])
 found_after_step Forked (Stored generation head entries) = Stored generation (record head { path = head.path ++ zero_letter ∷ [] }) entries
@@ -33,13 +33,13 @@ found_after_step (Swapped head others) (Stored generation old entries) = Stored 
 found_after_step step found = found
 
 -- and after several, the first one first
-abbrev pub found_after : List KeptStep → Found → Found
+abbrev pub found_after : List KeptStep → FoundOnBanks → FoundOnBanks
 found_after [] found = found
 found_after (step ∷ steps) found = found_after steps (found_after_step step found)
 
 pub data Shell : Type 0 where
   -- no clone is live, and this is found on the banks
-  Shut : Found → Shell
+  Shut : FoundOnBanks → Shell
   -- the clone is live, and what its banks keep has this generation
   Live : ℕ → LocalClone → Shell
 
@@ -49,7 +49,7 @@ domain_of (Shut found) = None
 domain_of (Live generation clone) = Some clone.domain
 
 -- what is found on the banks of a shell
-abbrev pub found_of : Shell → Found
+abbrev pub found_of : Shell → FoundOnBanks
 found_of (Shut found) = found
 found_of (Live generation clone) = Stored generation (head_of clone) clone.entries
 

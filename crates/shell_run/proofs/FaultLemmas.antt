@@ -12,7 +12,7 @@ use Rattle.shell_session.specs.declared.faults.SessionFault.{SessionFault}
 use Rattle.shell_session.specs.declared.faults.SessionFault.TheVariants as sessions
 use Rattle.shell_session.specs.RunEnds.{TellsUsage}
 use Rattle.mld_io.specs.Arm.{Meter}
-use Rattle.shell_session.specs.Lines.{Meters}
+use Rattle.shell_session.specs.SessionLines.{Meters}
 use Rattle.shell_run.specs.declared.run.ShellFault.TheVariants as faults
 use Rattle.shell_run.specs.ShellStatuses.{fault_of_words, fault_of_line, shell_fault_of_input, shell_fault_of_write}
 

@@ -12,13 +12,13 @@ use Rattle.clone_banks.specs.KeptSteps.{KeptStep}
 use Rattle.input_lines.specs.TooLarge.{left_after, BreaksLimits, IsTooLargeLine}
 use Rattle.input_lines.specs.Taken.{TakesLine, IsLeft, KnowsEnd, ReadsLines}
 use Rattle.input_lines.proofs.TakenLemmas.{left_first, taken_left, taken_fit, all_fit, large_next}
-use Rattle.shell_model.specs.Shells.{Shell, Shut, Live, Found, found_in, found_of, found_after}
+use Rattle.shell_model.specs.Shells.{Shell, Shut, Live, FoundOnBanks, found_in, found_of, found_after}
 use Rattle.shell_model.specs.ShellRuns.{ShellLine, ShellRuns, IsDueByLine}
 use Rattle.shell_model.proofs.RunLaws.{steps_lead, found_both}
 use Rattle.shell_session.specs.declared.sessions.Session.{Session}
 use Rattle.shell_session.specs.declared.sessions.Session.TheVariants as sessions
-use Rattle.shell_session.specs.Sessions.{banks_of, HasFound, SessionStands}
-use Rattle.shell_session.specs.Lines.{ImagesFind, FindsFront, LeavesFront, DoesLine, StopsLine}
+use Rattle.shell_session.specs.Sessions.{session_banks, HasFound, SessionStands}
+use Rattle.shell_session.specs.SessionLines.{ImagesFind, FindsFront, LeavesFront, DoesLine, StopsLine}
 use Rattle.shell_session.specs.RunEnds.{LeavesDone}
 use Rattle.shell_run.specs.Inputs.{AreFirstLines, AreAllLines, AreReadLines, AreLinesBefore, AreLinesUpTo, IfTold}
 use Rattle.shell_run.specs.ShellEnds.{LinesDone, ShellEdges, StopsBetweenLines, StopsWithinLine, StopsWriting, between, within, writing, ShellEnds}
@@ -73,13 +73,13 @@ appends_nothing None = tt
 appends_nothing (Some xs) = sym (append-nil xs)
 
 -- what is found where a run led to
-led : (found : Found) (done : LinesDone found) → found_of done.shell ≡ found_after done.steps found
+led : (found : FoundOnBanks) (done : LinesDone found) → found_of done.shell ≡ found_after done.steps found
 led found done = steps_lead (Shut found) done.lines done.text done.steps done.shell done.runs
 
 -- ---- what a crash leaves
 
 -- a front of some steps is one of more
-front_longer : (found : Found) (steps more : List KeptStep) (image : Sides) → FindsFront found steps image → FindsFront found (steps ++ more) image
+front_longer : (found : FoundOnBanks) (steps more : List KeptStep) (image : Sides) → FindsFront found steps image → FindsFront found (steps ++ more) image
 front_longer found steps more image finds = record {
   front = finds.front;
   rest = finds.rest ++ more;
@@ -88,7 +88,7 @@ front_longer found steps more image finds = record {
 }
 
 -- and a front of more steps, behind all of some, is one of both
-front_behind : (found middle : Found) (steps more : List KeptStep) (image : Sides) → middle ≡ found_after steps found → FindsFront middle more image
+front_behind : (found middle : FoundOnBanks) (steps more : List KeptStep) (image : Sides) → middle ≡ found_after steps found → FindsFront middle more image
     → FindsFront found (steps ++ more) image
 front_behind found middle steps more image same finds = record {
   front = steps ++ finds.front;
@@ -98,7 +98,7 @@ front_behind found middle steps more image same finds = record {
 }
 
 -- the moments of some steps, and then of more
-moments_then : (found middle : Found) (steps more : List KeptStep) (old now after : Option Log) → middle ≡ found_after steps found
+moments_then : (found middle : FoundOnBanks) (steps more : List KeptStep) (old now after : Option Log) → middle ≡ found_after steps found
     → LeavesFront found steps old now → (ImagesFind found old → ImagesFind middle now) → LeavesFront middle more now after → LeavesFront found (steps ++ more) old after
 moments_then found middle steps more old now after same first settled second log told images =
     let one : LeavesMeanwhile log now (λ calls image. FindsFront found steps image) = first log told images in
@@ -115,7 +115,7 @@ moments_then found middle steps more old now after same first settled second log
     })
 
 -- no step is under way
-leaves_done : (found : Found) (done : LinesDone found) (old now : Option Log) → LeavesFront found done.steps old now
+leaves_done : (found : FoundOnBanks) (done : LinesDone found) (old now : Option Log) → LeavesFront found done.steps old now
     → (ImagesFind found old → ImagesFind (found_of done.shell) now) → LeavesDone found done.steps [] old now
 leaves_done found done old now moments settled = record {
   moments = subst (λ (s : List KeptStep). LeavesFront found s old now) (sym (append-nil done.steps)) moments;
@@ -128,7 +128,7 @@ leaves_done found done old now moments settled = record {
 }
 
 -- some are
-leaves_due : (found : Found) (done : LinesDone found) (due : List KeptStep) (old now after : Option Log) (first : Log) → old ≡ Some first
+leaves_due : (found : FoundOnBanks) (done : LinesDone found) (due : List KeptStep) (old now after : Option Log) (first : Log) → old ≡ Some first
     → LeavesFront found done.steps old now → (ImagesFind found old → ImagesFind (found_of done.shell) now) → LeavesFront (found_of done.shell) due now after
     → LeavesDone found done.steps due old after
 leaves_due found done due old now after first told moments settled later = record {
@@ -158,7 +158,7 @@ leaves_due found done due old now after first told moments settled later = recor
 pub way_first : {B : Type 0} (log : B → Option Log) (banks : B) (session : Session B) (given before : Option (List ℕ)) (size : ℕ) (first : Log) → session ≡ sessions.Shut banks → size ≡ 0 → log banks ≡ Some first
     → IsShellUnderWay log (found_in (read_banks (seen first))) (log banks) given given before before size session 0
 way_first {B = B} log banks session given before size first is nothing told =
-    let found : Found = found_in (read_banks (seen first)) in
+    let found : FoundOnBanks = found_in (read_banks (seen first)) in
     let P : Session B → Type 0 = λ s. IsShellUnderWay log found (log banks) given given before before size s 0 in
     let way : P (sessions.Shut banks) = record {
       done = record { lines = []; text = []; steps = []; shell = Shut found; runs = (refl, refl, refl) };
@@ -176,13 +176,13 @@ way_first {B = B} log banks session given before size first is nothing told =
     subst P (sym is) way
 
 -- one more line is done and answered
-pub way_more : {B : Type 0} (log : B → Option Log) (found : Found) (old : Option Log) (given left rest before now after : Option (List ℕ)) (size grown : ℕ) (session next : Session B) (count : ℕ) (line had reply : List ℕ)
+pub way_more : {B : Type 0} (log : B → Option Log) (found : FoundOnBanks) (old : Option Log) (given left rest before now after : Option (List ℕ)) (size grown : ℕ) (session next : Session B) (count : ℕ) (line had reply : List ℕ)
     → IsShellUnderWay log found old given left before now size session count
     → ((bytes : List ℕ) → left ≡ Some bytes → TakesLine size bytes rest grown (Some line))
-    → ((shell : Shell) → SessionStands log session shell → DoesLine log shell line (banks_of session) had next reply) → had ≡ []
+    → ((shell : Shell) → SessionStands log session shell → DoesLine log shell line (session_banks session) had next reply) → had ≡ []
     → Appends now after reply → IsShellUnderWay log found old given rest before after grown next (count + 1)
 way_more log found old given left rest before now after size grown session next count line had reply way takes does none writes =
-    let act : DoesLine log way.done.shell line (banks_of session) had next reply = does way.done.shell way.stands in
+    let act : DoesLine log way.done.shell line (session_banks session) had next reply = does way.done.shell way.stands in
     let same : reply ≡ act.text = act.written ∙ ap (λ (t : List ℕ). t ++ act.text) none in
     record {
       done = record {
@@ -196,7 +196,7 @@ way_more log found old given left rest before now after size grown session next 
       stands = act.stands;
       left_of = taken_left given left size grown count way.done.lines line rest way.left_of takes;
       written = appends_more before now after way.done.text act.text way.written (subst (λ (t : List ℕ). Appends now after t) same writes);
-      moments = moments_then found (found_of way.done.shell) way.done.steps act.steps old (log (banks_of session)) (log (banks_of next)) (led found way.done) way.moments way.settled act.moments;
+      moments = moments_then found (found_of way.done.shell) way.done.steps act.steps old (log (session_banks session)) (log (session_banks next)) (led found way.done) way.moments way.settled act.moments;
       settled = λ images. act.settled (way.settled images);
     }
 
@@ -209,11 +209,11 @@ first_of_way bytes left size count lines counted at = record {
   fits = λ before below large. at.fits before (omega (arith, below, counted)) large;
 }
 
-pub are_first : {B : Type 0} (log : B → Option Log) (found : Found) (old : Option Log) (given left before now : Option (List ℕ)) (size : ℕ) (session : Session B) (count : ℕ)
+pub are_first : {B : Type 0} (log : B → Option Log) (found : FoundOnBanks) (old : Option Log) (given left before now : Option (List ℕ)) (size : ℕ) (session : Session B) (count : ℕ)
     → (way : IsShellUnderWay log found old given left before now size session count) → IfTold given AreFirstLines way.done.lines
 are_first log found old given left before now size session count way bytes told = first_of_way bytes left size count way.done.lines way.counted (way.left_of bytes told)
 
-pub are_all : {B : Type 0} (log : B → Option Log) (found : Found) (old : Option Log) (given left rest before now : Option (List ℕ)) (size : ℕ) (session : Session B) (count : ℕ)
+pub are_all : {B : Type 0} (log : B → Option Log) (found : FoundOnBanks) (old : Option Log) (given left rest before now : Option (List ℕ)) (size : ℕ) (session : Session B) (count : ℕ)
     → (way : IsShellUnderWay log found old given left before now size session count)
     → ((bytes : List ℕ) → given ≡ Some bytes → (behind : List ℕ) → left ≡ Some behind → (behind ≡ []) × (rest ≡ Some []))
     → IfTold given (AreAllLines rest) way.done.lines
@@ -226,7 +226,7 @@ are_all log found old given left rest before now size session count way none byt
       fits = all_fit bytes left size count way.done.lines at end.0;
     }
 
-pub are_read : {B : Type 0} (log : B → Option Log) (found : Found) (old : Option Log) (given left rest before now : Option (List ℕ)) (size : ℕ) (session : Session B) (count : ℕ)
+pub are_read : {B : Type 0} (log : B → Option Log) (found : FoundOnBanks) (old : Option Log) (given left rest before now : Option (List ℕ)) (size : ℕ) (session : Session B) (count : ℕ)
     → (way : IsShellUnderWay log found old given left before now size session count)
     → ((bytes : List ℕ) → left ≡ Some bytes → IsCutShort bytes rest) → ((bytes : List ℕ) → given ≡ Some bytes → ReadsLines bytes rest count)
     → IfTold given (AreReadLines rest) way.done.lines
@@ -238,7 +238,7 @@ are_read log found old given left rest before now size session count way cut rea
       cut = subst (λ (n : ℕ). IsCutShort (left_after n bytes) rest) way.counted (subst (λ (b : List ℕ). IsCutShort b rest) at.behind (cut at.rest at.is));
     }
 
-pub are_before : {B : Type 0} (log : B → Option Log) (found : Found) (old : Option Log) (given left before now : Option (List ℕ)) (size : ℕ) (session : Session B) (count number : ℕ)
+pub are_before : {B : Type 0} (log : B → Option Log) (found : FoundOnBanks) (old : Option Log) (given left before now : Option (List ℕ)) (size : ℕ) (session : Session B) (count number : ℕ)
     → (way : IsShellUnderWay log found old given left before now size session count) → number ≡ count + 1
     → ((bytes : List ℕ) → left ≡ Some bytes → BreaksLimits size bytes) → IfTold given (AreLinesBefore number) way.done.lines
 are_before log found old given left before now size session count number way counts breaks bytes told =
@@ -249,7 +249,7 @@ are_before log found old given left before now size session count number way cou
       large = subst (λ (n : ℕ). IsTooLargeLine bytes n) way.counted (large_next bytes left size count way.done.lines at (breaks at.rest at.is));
     }
 
-are_up_to : {B : Type 0} (log : B → Option Log) (found : Found) (old : Option Log) (given left rest before now : Option (List ℕ)) (size grown : ℕ) (session : Session B) (count : ℕ) (line : List ℕ)
+are_up_to : {B : Type 0} (log : B → Option Log) (found : FoundOnBanks) (old : Option Log) (given left rest before now : Option (List ℕ)) (size grown : ℕ) (session : Session B) (count : ℕ) (line : List ℕ)
     → (way : IsShellUnderWay log found old given left before now size session count)
     → ((bytes : List ℕ) → left ≡ Some bytes → TakesLine size bytes rest grown (Some line)) → IfTold given (AreLinesUpTo line) way.done.lines
 are_up_to log found old given left rest before now size grown session count line way takes bytes told =
@@ -259,25 +259,25 @@ are_up_to log found old given left rest before now size grown session count line
 -- ---- how it ends
 
 -- between two lines
-pub stops_between : {B : Type 0} (log : B → Option Log) (Lines : List ℕ → List (List ℕ) → Type 0) (found : Found) (old : Option Log) (given left before now : Option (List ℕ)) (size : ℕ) (session : Session B) (count : ℕ)
+pub stops_between : {B : Type 0} (log : B → Option Log) (Lines : List ℕ → List (List ℕ) → Type 0) (found : FoundOnBanks) (old : Option Log) (given left before now : Option (List ℕ)) (size : ℕ) (session : Session B) (count : ℕ)
     → (way : IsShellUnderWay log found old given left before now size session count) → IfTold given Lines way.done.lines
-    → StopsBetweenLines Lines found (record { given = given; before = before; after = now; old = old; now = log (banks_of session) })
+    → StopsBetweenLines Lines found (record { given = given; before = before; after = now; old = old; now = log (session_banks session) })
 stops_between log Lines found old given left before now size session count way are = record {
   done = way.done;
   lines_are = are;
   written = way.written;
   keeps = session_finds log session way.done.shell way.stands;
-  leaves = leaves_done found way.done old (log (banks_of session)) way.moments way.settled;
+  leaves = leaves_done found way.done old (log (session_banks session)) way.moments way.settled;
 }
 
 -- in the middle of a line
-pub stops_within : {B : Type 0} (log : B → Option Log) (found : Found) (old : Option Log) (first : Log) (given left rest before now : Option (List ℕ)) (size grown : ℕ) (session : Session B) (count : ℕ) (line : List ℕ) (back : B)
+pub stops_within : {B : Type 0} (log : B → Option Log) (found : FoundOnBanks) (old : Option Log) (first : Log) (given left rest before now : Option (List ℕ)) (size grown : ℕ) (session : Session B) (count : ℕ) (line : List ℕ) (back : B)
     → old ≡ Some first → IsShellUnderWay log found old given left before now size session count
     → ((bytes : List ℕ) → left ≡ Some bytes → TakesLine size bytes rest grown (Some line))
-    → ((shell : Shell) → SessionStands log session shell → StopsLine log shell line (banks_of session) back)
+    → ((shell : Shell) → SessionStands log session shell → StopsLine log shell line (session_banks session) back)
     → StopsWithinLine found (record { given = given; before = before; after = now; old = old; now = log back })
 stops_within log found old first given left rest before now size grown session count line back told way takes stops =
-    let stop : StopsLine log way.done.shell line (banks_of session) back = stops way.done.shell way.stands in
+    let stop : StopsLine log way.done.shell line (session_banks session) back = stops way.done.shell way.stands in
     record {
       done = way.done;
       line = line;
@@ -285,18 +285,18 @@ stops_within log found old first given left rest before now size grown session c
       written = way.written;
       due = stop.steps;
       is_due = stop.due;
-      leaves = leaves_due found way.done stop.steps old (log (banks_of session)) (log back) first told way.moments way.settled stop.moments;
+      leaves = leaves_due found way.done stop.steps old (log (session_banks session)) (log back) first told way.moments way.settled stop.moments;
     }
 
 -- behind a line whose reply could not be written whole
-pub stops_writing : {B : Type 0} (log : B → Option Log) (found : Found) (old : Option Log) (given left rest before now after : Option (List ℕ)) (size grown : ℕ) (session next : Session B) (count : ℕ) (line had reply : List ℕ) (n : ℕ)
+pub stops_writing : {B : Type 0} (log : B → Option Log) (found : FoundOnBanks) (old : Option Log) (given left rest before now after : Option (List ℕ)) (size grown : ℕ) (session next : Session B) (count : ℕ) (line had reply : List ℕ) (n : ℕ)
     → IsShellUnderWay log found old given left before now size session count
     → ((bytes : List ℕ) → left ≡ Some bytes → TakesLine size bytes rest grown (Some line))
-    → ((shell : Shell) → SessionStands log session shell → DoesLine log shell line (banks_of session) had next reply) → had ≡ []
+    → ((shell : Shell) → SessionStands log session shell → DoesLine log shell line (session_banks session) had next reply) → had ≡ []
     → Appends now after (take n reply)
-    → StopsWriting found (record { given = given; before = before; after = after; old = old; now = log (banks_of next) })
+    → StopsWriting found (record { given = given; before = before; after = after; old = old; now = log (session_banks next) })
 stops_writing log found old given left rest before now after size grown session next count line had reply n way takes does none writes =
-    let act : DoesLine log way.done.shell line (banks_of session) had next reply = does way.done.shell way.stands in
+    let act : DoesLine log way.done.shell line (session_banks session) had next reply = does way.done.shell way.stands in
     let same : reply ≡ act.text = act.written ∙ ap (λ (t : List ℕ). t ++ act.text) none in
     let both : LinesDone found = record {
       lines = way.done.lines ++ line ∷ [];
@@ -316,15 +316,15 @@ stops_writing log found old given left rest before now after size grown session 
       size = n;
       written = appends_more before now after way.done.text (take n act.text) way.written (subst (λ (t : List ℕ). Appends now after (take n t)) same writes);
       keeps = session_finds log next act.shell act.stands;
-      leaves = leaves_done found both old (log (banks_of next))
-          (moments_then found (found_of way.done.shell) way.done.steps act.steps old (log (banks_of session)) (log (banks_of next)) (led found way.done) way.moments way.settled act.moments)
+      leaves = leaves_done found both old (log (session_banks next))
+          (moments_then found (found_of way.done.shell) way.done.steps act.steps old (log (session_banks session)) (log (session_banks next)) (led found way.done) way.moments way.settled act.moments)
           (λ images. act.settled (way.settled images));
     }
 
 -- ---- the run ends so
 
 -- where a line could not be read
-pub ends_reading : (fault : InputFault) (found : Found) (left : Option (List ℕ)) (ends : ShellEdges)
+pub ends_reading : (fault : InputFault) (found : FoundOnBanks) (left : Option (List ℕ)) (ends : ShellEdges)
     → (fault ≡ inputs.ReadFault → StopsBetweenLines (AreReadLines left) found ends) → ((at : ℕ) → fault ≡ inputs.TooLarge at → StopsBetweenLines (AreLinesBefore at) found ends)
     → StopsBetweenLines AreFirstLines found ends → ShellEnds (Some (shell_fault_of_input fault)) found left ends
 ends_reading inputs.ReadFault found left ends cut large stops = cut refl
@@ -332,12 +332,12 @@ ends_reading (inputs.TooLarge at) found left ends cut large stops = large at ref
 ends_reading inputs.NoMemory found left ends cut large stops = between stops
 
 -- where one was not done
-pub ends_line : (fault : SessionFault) (found : Found) (left : Option (List ℕ)) (ends : ShellEdges) → StopsWithinLine found ends → ShellEnds (Some (fault_of_line fault)) found left ends
+pub ends_line : (fault : SessionFault) (found : FoundOnBanks) (left : Option (List ℕ)) (ends : ShellEdges) → StopsWithinLine found ends → ShellEnds (Some (fault_of_line fault)) found left ends
 ends_line line_faults.Device found left ends stops = stops
 ends_line line_faults.NoMemory found left ends stops = within stops
 
 -- where its reply could not be written
-pub ends_writing : (fault : WriteFault) (found : Found) (left : Option (List ℕ)) (ends : ShellEdges) → StopsWriting found ends → ShellEnds (Some (shell_fault_of_write fault)) found left ends
+pub ends_writing : (fault : WriteFault) (found : FoundOnBanks) (left : Option (List ℕ)) (ends : ShellEdges) → StopsWriting found ends → ShellEnds (Some (shell_fault_of_write fault)) found left ends
 ends_writing writes.Failed found left ends stops = stops
 ends_writing writes.NoMemory found left ends stops = writing stops
 
@@ -346,6 +346,6 @@ pub not_read : {B : Type 0} (log : B → Option Log) (fault : FolderFault) (bank
     → ShellEnds (Some (fault_of_words fault)) (found_in (read_banks (seen first))) given (record { given = given; before = before; after = before; old = log banks; now = log banks })
 not_read log words_faults.Usage banks given before first told = record { nothing = record { all_left = refl; none_written = refl }; same_banks = refl }
 not_read log words_faults.NoMemory banks given before first told =
-    let found : Found = found_in (read_banks (seen first)) in
+    let found : FoundOnBanks = found_in (read_banks (seen first)) in
     let way : IsShellUnderWay log found (log banks) given given before before 0 (sessions.Shut banks) 0 = way_first log banks (sessions.Shut banks) given before 0 first refl refl told in
     between (stops_between log AreFirstLines found (log banks) given given before before 0 (sessions.Shut banks) 0 way (are_first log found (log banks) given given before before 0 (sessions.Shut banks) 0 way))

@@ -5,8 +5,8 @@ use Rattle.std.specs.Io.KnownBytes.{Appends}
 use Rattle.mld_io.specs.Disk.{Log}
 use Rattle.input_lines.specs.Untouched.{HasNotBegun}
 use Rattle.clone_banks.specs.KeptSteps.{KeptStep}
-use Rattle.shell_model.specs.Shells.{Shell, Shut, Found, found_of}
-use Rattle.shell_model.specs.ShellLines.{ShellLine, ShellRuns, IsDueByLine}
+use Rattle.shell_model.specs.Shells.{Shell, Shut, FoundOnBanks, found_of}
+use Rattle.shell_model.specs.ShellRuns.{ShellLine, ShellRuns, IsDueByLine}
 use Rattle.shell_session.specs.Sessions.{HasFound}
 use Rattle.shell_session.specs.RunEnds.{LeavesDone}
 use Rattle.shell_run.specs.Inputs.{AreFirstLines, AreAllLines, AreReadLines, AreLinesBefore, AreLinesUpTo, IfTold}
@@ -14,7 +14,7 @@ use Rattle.shell_run.specs.declared.run.ShellFault.{ShellFault}
 use Rattle.shell_run.specs.declared.run.ShellFault.TheVariants as faults
 
 -- what a shell did over banks on which this was found: the lines, the text of their replies, their durable steps, and the shell that they led to
-pub record LinesDone (found : Found) : Type 0 where
+pub record LinesDone (found : FoundOnBanks) : Type 0 where
   pub lines : List (List ℕ)
   pub text : List ℕ
   pub steps : List KeptStep
@@ -31,7 +31,7 @@ pub record ShellEdges : Type 0 where
 
 -- it ended between two lines: the text of those done was written, which are these where the source tells its bytes, and the banks keep what
 -- they led to
-pub record StopsBetweenLines (Lines : List ℕ → List (List ℕ) → Type 0) (found : Found) (ends : ShellEdges) : Type 0 where
+pub record StopsBetweenLines (Lines : List ℕ → List (List ℕ) → Type 0) (found : FoundOnBanks) (ends : ShellEdges) : Type 0 where
   pub done : LinesDone found
   pub lines_are : IfTold ends.given Lines done.lines
   pub written : Appends ends.before ends.after done.text
@@ -40,7 +40,7 @@ pub record StopsBetweenLines (Lines : List ℕ → List (List ℕ) → Type 0) (
 
 -- it ended in the middle of a line: the text of the lines before was written, and of the durable steps that the line had to make a front may
 -- be done
-pub record StopsWithinLine (found : Found) (ends : ShellEdges) : Type 0 where
+pub record StopsWithinLine (found : FoundOnBanks) (ends : ShellEdges) : Type 0 where
   pub done : LinesDone found
   pub line : List ℕ
   pub lines_are : IfTold ends.given (AreLinesUpTo line) done.lines
@@ -50,7 +50,7 @@ pub record StopsWithinLine (found : Found) (ends : ShellEdges) : Type 0 where
   pub leaves : LeavesDone found done.steps due ends.old ends.now
 
 -- it ended behind a line that was done, and of the line's reply a front was written
-pub record StopsWriting (found : Found) (ends : ShellEdges) : Type 0 where
+pub record StopsWriting (found : FoundOnBanks) (ends : ShellEdges) : Type 0 where
   pub done : LinesDone found
   pub line : List ℕ
   pub lines_are : IfTold ends.given (AreLinesUpTo line) done.lines
@@ -64,7 +64,7 @@ pub record StopsWriting (found : Found) (ends : ShellEdges) : Type 0 where
   pub leaves : LeavesDone found (done.steps ++ steps) [] ends.old ends.now
 
 -- it ended at any of these
-pub data ShellStopsAnywhere (found : Found) (ends : ShellEdges) : Type 0 where
+pub data ShellStopsAnywhere (found : FoundOnBanks) (ends : ShellEdges) : Type 0 where
   between : StopsBetweenLines AreFirstLines found ends → ShellStopsAnywhere found ends
   within : StopsWithinLine found ends → ShellStopsAnywhere found ends
   writing : StopsWriting found ends → ShellStopsAnywhere found ends
@@ -75,7 +75,7 @@ pub record ShellHasNotBegun (left : Option (List ℕ)) (ends : ShellEdges) : Typ
   pub same_banks : ends.now ≡ ends.old
 
 -- how a run ended, by its fault, where this was found on its banks and this is left of the source's bytes
-abbrev pub ShellEnds : Option ShellFault → Found → Option (List ℕ) → ShellEdges → Type 0
+abbrev pub ShellEnds : Option ShellFault → FoundOnBanks → Option (List ℕ) → ShellEdges → Type 0
 ShellEnds None found left ends = StopsBetweenLines (AreAllLines left) found ends
 ShellEnds (Some faults.Usage) found left ends = ShellHasNotBegun left ends
 ShellEnds (Some faults.ReadFault) found left ends = StopsBetweenLines (AreReadLines left) found ends

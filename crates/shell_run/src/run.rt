@@ -3,8 +3,8 @@ ghost use Rattle.std.specs.Prelude.{◌≡◌, ◌≢◌, map, None, Some};
 ghost use Rattle.std.specs.String.{string_bytes};
 ghost use Rattle.input_lines.specs.InputFaults.{RoseJustWhere};
 ghost use Rattle.input_lines.specs.Untouched.{AreUntouched};
-ghost use Rattle.shell_words.specs.FolderWords.{IsRefused};
-ghost use Rattle.shell_session.specs.Lines.{Meters};
+ghost use Rattle.shell_words.specs.FolderWords.{AreRefusedWords};
+ghost use Rattle.shell_session.specs.SessionLines.{Meters};
 ghost use Rattle.shell_session.specs.RunEnds.{TellsUsage, IfFound};
 ghost use Rattle.shell_run.specs.ShellEnds.{ShellEnds};
 ghost use Rattle.shell_run.specs.ShellStatuses.{shell_status, fault_of_words, fault_of_line, shell_fault_of_input, shell_fault_of_write};
@@ -69,7 +69,7 @@ pub fn shell<R: Threads, S: Source, K: Sink, B: Banks>(
 ) -> ShellRan<B>
     ensures status { result.status ≡ shell_status result.fault }
     ensures usage { TellsUsage ShellFault.Usage ShellFault.NoMemory result.fault
-        (IsRefused (map (λ w. string_bytes w) words.now.items)) }
+        (AreRefusedWords (map (λ w. string_bytes w) words.now.items)) }
     // At 1 nothing is read or written, and no bank is called.
     ensures untouched { result.fault ≡ Some ShellFault.Usage → AreUntouched source.old source.new sink.old sink.new }
     ensures same_banks { result.fault ≡ Some ShellFault.Usage → result.banks ≡ banks }

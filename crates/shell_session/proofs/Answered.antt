@@ -20,16 +20,16 @@ use Rattle.clone_core.specs.Opening.{TellsClone, SyncsBoth}
 use Rattle.clone_core.specs.declared.mounts.Mounted.TheVariants.{Refused}
 use Rattle.shell_text.specs.declared.commands.ShellCommand.{ShellCommand}
 use Rattle.shell_text.specs.declared.commands.ShellCommand.TheVariants as shell
-use Rattle.shell_model.specs.Shells.{Found, Nothing, Damage, found_of, Shell, Shut}
+use Rattle.shell_model.specs.Shells.{FoundOnBanks, Nothing, Damage, found_of, Shell, Shut}
 use Rattle.shell_model.specs.ShellReply.{FoundDamage, IsClosed, shell_text}
 use Rattle.shell_model.specs.ShellStep.{ShutStep, IsDue}
 use Rattle.shell_session.specs.declared.faults.SessionFault.{SessionFault}
 use Rattle.shell_session.specs.declared.faults.SessionFault.TheVariants as faults
 use Rattle.shell_session.specs.declared.sessions.Session.{Session}
 use Rattle.shell_session.specs.declared.sessions.Session.TheVariants as sessions
-use Rattle.shell_session.specs.Lines.{DoesAndReplies, DoesCommand, StopsCommand, banks_after, FailsOnDevice, Meters}
-use Rattle.shell_session.specs.Sessions.{banks_of, SessionStands}
-use Rattle.shell_session.specs.ShutCalls.{TellsDamage, GivesBack}
+use Rattle.shell_session.specs.SessionLines.{DoesAndReplies, DoesShellCommand, StopsShellCommand, banks_after, FailsOnDevice, Meters}
+use Rattle.shell_session.specs.Sessions.{session_banks, SessionStands}
+use Rattle.shell_session.specs.ShutCalls.{TellsDamage, GivesBackUnmounted}
 use Rattle.shell_session.proofs.LineLaws.{only_replies, nothing_stops}
 use Rattle.shell_session.proofs.MeterLaws.{meters_none}
 use Rattle.shell_session.proofs.ShutLaws.{shut_shell, mount_stops, mount_then, mount_then_stops, create_damaged, nothing_found, synced_found}
@@ -55,16 +55,16 @@ given_back P (Err refused) banks back holds = subst P (sym back.1) holds
 module _ {B : Type 0} (log : B → Option Log) (banks : B) where
   -- what holds while no clone is live, after a mount that was stopped
   pub mount_refuses : (mid : B) (command : ShellCommand) → ((l : Log) → log banks ≡ Some l → LeavesNothingNew l (log mid))
-      → (it : Shell) → SessionStands log (sessions.Shut banks) it → StopsCommand log it command banks mid
+      → (it : Shell) → SessionStands log (sessions.Shut banks) it → StopsShellCommand log it command banks mid
   mount_refuses mid command mounts it stands = mount_stops log banks mid it (found_of it) command mounts
 
   module _ (fault : MountFault) (mid : B) (mounts : (l : Log) → log banks ≡ Some l → LeavesNothingNew l (log mid)) where
     -- banks that were not mounted were given back
-    pub refused_stops : {S : Type 0} (command : ShellCommand) (result : Result S (SessionFault × B)) → IfErr result (GivesBack fault mid)
-        → IfErr result (λ refused. (it : Shell) → SessionStands log (sessions.Shut banks) it → StopsCommand log it command banks refused.1)
+    pub refused_stops : {S : Type 0} (command : ShellCommand) (result : Result S (SessionFault × B)) → IfErr result (GivesBackUnmounted fault mid)
+        → IfErr result (λ refused. (it : Shell) → SessionStands log (sessions.Shut banks) it → StopsShellCommand log it command banks refused.1)
     refused_stops command (Ok next) back = tt
     refused_stops command (Err refused) back =
-        subst (λ (b : B). (it : Shell) → SessionStands log (sessions.Shut banks) it → StopsCommand log it command banks b) (sym back.same) (mount_refuses mid command mounts)
+        subst (λ (b : B). (it : Shell) → SessionStands log (sessions.Shut banks) it → StopsShellCommand log it command banks b) (sym back.same) (mount_refuses mid command mounts)
 
     -- or they were damaged, and that was told
     pub refused_does : {E : Type 0} (command : ShellCommand) (before after : List ℕ) (result : Result (Session B) E)
@@ -72,10 +72,10 @@ module _ {B : Type 0} (log : B → Option Log) (banks : B) where
         → ((l : Log) → log banks ≡ Some l → TellsClone (Refused fault mid) (read_banks (seen l)))
         → ((l : Log) → log banks ≡ Some l → IsSynced (SyncsBoth (Refused fault mid)) l (log mid))
         → ((side : Side) (place : ℕ) → ShutStep (Damage side place) command (FoundDamage side place) [] (Shut (Damage side place)))
-        → IfOk result (λ next. (it : Shell) → SessionStands log (sessions.Shut banks) it → DoesCommand log it command banks before next after)
+        → IfOk result (λ next. (it : Shell) → SessionStands log (sessions.Shut banks) it → DoesShellCommand log it command banks before next after)
     refused_does command before after (Err refused) damage tells synced does = tt
     refused_does command before after (Ok next) damage tells synced does =
-        subst (λ (s : Session B). (it : Shell) → SessionStands log (sessions.Shut banks) it → DoesCommand log it command banks before s after) (sym damage.same)
+        subst (λ (s : Session B). (it : Shell) → SessionStands log (sessions.Shut banks) it → DoesShellCommand log it command banks before s after) (sym damage.same)
         (create_damaged log banks mid mounts
         (λ l is. subst (λ (f : MountFault). IsSynced (SyncsBoth (Refused f mid)) l (log mid)) damage.damaged (synced l is))
         before after command damage.side damage.place
@@ -86,21 +86,21 @@ module _ {B : Type 0} (log : B → Option Log) (banks : B) where
   module _ (blank : B) (mounts : (l : Log) → log banks ≡ Some l → LeavesNothingNew l (log blank)) (synced : (l : Log) → log banks ≡ Some l → IsSynced (Unit {0}) l (log blank))
       (tells : (l : Log) → log banks ≡ Some l → read_banks (seen l) ≡ KeepsNone) (command : ShellCommand) where
     pub created_does : {E : Type 0} (before after : List ℕ) (result : Result (Session B) E)
-        → IfOk result (λ next. SessionStands log (sessions.Shut blank) (Shut Nothing) → DoesCommand log (Shut Nothing) command blank before next after)
-        → IfOk result (λ next. (it : Shell) → SessionStands log (sessions.Shut banks) it → DoesCommand log it command banks before next after)
+        → IfOk result (λ next. SessionStands log (sessions.Shut blank) (Shut Nothing) → DoesShellCommand log (Shut Nothing) command blank before next after)
+        → IfOk result (λ next. (it : Shell) → SessionStands log (sessions.Shut banks) it → DoesShellCommand log it command banks before next after)
     created_does before after (Err refused) does = tt
     created_does before after (Ok next) does =
-        shut_shell log banks (λ (it : Shell). DoesCommand log it command banks before next after)
-        (nothing_found log banks tells (λ (found : Found). DoesCommand log (Shut found) command banks before next after)
+        shut_shell log banks (λ (it : Shell). DoesShellCommand log it command banks before next after)
+        (nothing_found log banks tells (λ (found : FoundOnBanks). DoesShellCommand log (Shut found) command banks before next after)
         (λ has. mount_then log banks blank _ Nothing before after next has mounts (does (synced_found log banks blank Nothing has synced))))
 
     pub created_stops : {S : Type 0} (result : Result S (SessionFault × B))
-        → IfErr result (λ refused. SessionStands log (sessions.Shut blank) (Shut Nothing) → StopsCommand log (Shut Nothing) command blank refused.1)
-        → IfErr result (λ refused. (it : Shell) → SessionStands log (sessions.Shut banks) it → StopsCommand log it command banks refused.1)
+        → IfErr result (λ refused. SessionStands log (sessions.Shut blank) (Shut Nothing) → StopsShellCommand log (Shut Nothing) command blank refused.1)
+        → IfErr result (λ refused. (it : Shell) → SessionStands log (sessions.Shut banks) it → StopsShellCommand log it command banks refused.1)
     created_stops (Ok next) stops = tt
     created_stops (Err refused) stops =
-        shut_shell log banks (λ (it : Shell). StopsCommand log it command banks refused.1)
-        (nothing_found log banks tells (λ (found : Found). StopsCommand log (Shut found) command banks refused.1)
+        shut_shell log banks (λ (it : Shell). StopsShellCommand log it command banks refused.1)
+        (nothing_found log banks tells (λ (found : FoundOnBanks). StopsShellCommand log (Shut found) command banks refused.1)
         (λ has. mount_then_stops log banks blank _ Nothing refused.1 has mounts (stops (synced_found log banks blank Nothing has synced))))
 
 -- what holds of an answer, or of the banks that were given back, by a weaker rule
@@ -116,7 +116,7 @@ weaken_err (Err refused) P Q weaker holds = weaker refused.1 holds
 -- ---- a command that is refused while no clone is live
 
 -- its reply says so
-closed_step : (found : Found) (command : ShellCommand) → (command ≢ shell.Open)
+closed_step : (found : FoundOnBanks) (command : ShellCommand) → (command ≢ shell.Open)
     → ((id : Uuid) (domain : Text) (properties : Vec Iri Global) → command ≢ shell.Create id domain properties) → ShutStep found command IsClosed [] (Shut found)
 closed_step found shell.Open not_open not_create = absurd (not_open refl)
 closed_step found (shell.Create id domain properties) not_open not_create = absurd (not_create id domain properties refl)
@@ -130,7 +130,7 @@ module _ {B : Type 0} (log : B → Option Log) (meter : B → Meter) (banks : B)
   closed_banks same back = by result same back where
     by : (r : Result (Session B) (SessionFault × B)) → IfOk r (λ next. next ≡ sessions.Shut banks)
         → IfErr r (λ refused. (refused.0 ≡ faults.NoMemory) × (refused.1 ≡ banks)) → banks_after r ≡ banks
-    by (Ok next) same' back' = ap (λ (s : Session B). banks_of s) same'
+    by (Ok next) same' back' = ap (λ (s : Session B). session_banks s) same'
     by (Err refused) same' back' = back'.1
 
   closed_fine : IfErr result (λ refused. (refused.0 ≡ faults.NoMemory) × (refused.1 ≡ banks)) → ¬ FailsOnDevice result
@@ -148,16 +148,16 @@ module _ {B : Type 0} (log : B → Option Log) (meter : B → Meter) (banks : B)
   closed_meters same back = meters_none (meter banks) (meter (banks_after result)) (ap meter (closed_banks same back)) (closed_fine back)
 
   pub closed_does : IfOk result (λ next. next ≡ sessions.Shut banks) → IfOk result (λ next. after ≡ before ++ shell_text IsClosed)
-      → IfOk result (λ next. (it : Shell) → SessionStands log (sessions.Shut banks) it → DoesCommand log it command banks before next after)
+      → IfOk result (λ next. (it : Shell) → SessionStands log (sessions.Shut banks) it → DoesShellCommand log it command banks before next after)
   closed_does same written =
-      handed_on (λ (next : Session B). (it : Shell) → SessionStands log (sessions.Shut banks) it → DoesCommand log it command banks before next after)
+      handed_on (λ (next : Session B). (it : Shell) → SessionStands log (sessions.Shut banks) it → DoesShellCommand log it command banks before next after)
       result (sessions.Shut banks) same written (λ text.
-      shut_shell log banks (λ (it : Shell). DoesCommand log it command banks before (sessions.Shut banks) after) (λ found has.
+      shut_shell log banks (λ (it : Shell). DoesShellCommand log it command banks before (sessions.Shut banks) after) (λ found has.
       only_replies log (sessions.Shut banks) (DoesAndReplies (Shut found) command) (shell_text IsClosed) before after (Shut found) has
       (record { reply = IsClosed; does = closed_step found command not_open not_create; replies = refl }) text))
 
   pub closed_stops : IfErr result (λ refused. (refused.0 ≡ faults.NoMemory) × (refused.1 ≡ banks))
-      → IfErr result (λ refused. (it : Shell) → SessionStands log (sessions.Shut banks) it → StopsCommand log it command banks refused.1)
+      → IfErr result (λ refused. (it : Shell) → SessionStands log (sessions.Shut banks) it → StopsShellCommand log it command banks refused.1)
   closed_stops back =
-      given_back (λ (b : B). (it : Shell) → SessionStands log (sessions.Shut banks) it → StopsCommand log it command banks b) result banks back
+      given_back (λ (b : B). (it : Shell) → SessionStands log (sessions.Shut banks) it → StopsShellCommand log it command banks b) result banks back
       (λ it stands. nothing_stops log (sessions.Shut banks) (IsDue it command) (found_of it) banks refl)

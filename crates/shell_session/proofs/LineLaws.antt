@@ -12,15 +12,15 @@ use Rattle.shell_text.specs.declared.commands.ShellCommand.{ShellCommand}
 use Rattle.shell_text.specs.declared.commands.ShellCommand.TheVariants as shell
 use Rattle.shell_text.specs.ReadShell.{IsBadShell, IsShellInForm}
 use Rattle.shell_text.specs.ShellLines.{SpellsShell}
-use Rattle.shell_model.specs.Shells.{Found, Shell, Shut, Live, domain_of, found_of, generation_after}
+use Rattle.shell_model.specs.Shells.{FoundOnBanks, Shell, Shut, Live, domain_of, found_of, generation_after}
 use Rattle.shell_model.specs.ShellRuns.{ShellLine, says_nothing, is_bad, commands, IsDueByLine}
 use Rattle.shell_model.specs.ShellReply.{ShellReply, Says, BadLine, shell_text}
 use Rattle.shell_model.specs.ShellStep.{LiveStep, StaysLive, ShellStep, IsDue, IsDueLive}
 use Rattle.shell_session.specs.declared.sessions.Session.{Session}
 use Rattle.shell_session.specs.declared.sessions.Session.TheVariants as sessions
-use Rattle.shell_session.specs.Lines.{ImagesFind, DoesBy, DoesLine, DoesCommand, StopsIn, StopsLine, StopsCommand, IsUsable, IsLiveCommand}
-use Rattle.shell_session.specs.LiveCalls.{Answers, StopsShort}
-use Rattle.shell_session.specs.Sessions.{banks_of, domain_in, HasKept, SessionStands}
+use Rattle.shell_session.specs.SessionLines.{ImagesFind, DoesBy, DoesLine, DoesShellCommand, LeavesFrontOfDue, StopsLine, StopsShellCommand, IsUsable, IsLiveCommand}
+use Rattle.shell_session.specs.LiveCalls.{CloneAnswers, CloneLeavesFrontOfDue}
+use Rattle.shell_session.specs.Sessions.{session_banks, domain_in, HasKept, SessionStands}
 use Rattle.shell_session.proofs.Moments.{found_with, same_front, fronts, kept_images, kept_found}
 
 -- ---- a live clone
@@ -44,11 +44,11 @@ module _ {B : Type 0} (log : B → Option Log) (meter : B → Meter) (old : Bank
 
   -- it does a command and stays live
   pub live_does : (new : BankedClone B) (command : ShellCommand) (before after : List ℕ) → command ≢ shell.Stop
-      → Answers log meter (LiveStep old.generation old.local command) old before new after → StaysTold (log old.banks) (log new.banks)
+      → CloneAnswers log meter (LiveStep old.generation old.local command) old before new after → StaysTold (log old.banks) (log new.banks)
       → (new.closed ≡ None → (l : Log) → log new.banks ≡ Some l → KeepsClone new.local new.generation l)
-      → (it : Shell) → SessionStands log (sessions.Live old) it → DoesCommand log it command old.banks before (sessions.Live new) after
+      → (it : Shell) → SessionStands log (sessions.Live old) it → DoesShellCommand log it command old.banks before (sessions.Live new) after
   live_does new command before after other answers told keeps =
-      live_shell (λ (it : Shell). DoesCommand log it command old.banks before (sessions.Live new) after) (λ has.
+      live_shell (λ (it : Shell). DoesShellCommand log it command old.banks before (sessions.Live new) after) (λ has.
       let goes = answers.goes_on in
       let counts : ℕ = generation_after goes.steps old.generation in
       let next : Shell = Live counts new.local in
@@ -71,20 +71,20 @@ module _ {B : Type 0} (log : B → Option Log) (meter : B → Meter) (old : Bank
       })
 
   -- or it ends in the middle
-  pub live_stops : (now : B) (command : ShellCommand) → StopsShort log meter (IsDueLive old.generation old.local command) old now
-      → (it : Shell) → SessionStands log (sessions.Live old) it → StopsCommand log it command old.banks now
+  pub live_stops : (now : B) (command : ShellCommand) → CloneLeavesFrontOfDue log meter (IsDueLive old.generation old.local command) old now
+      → (it : Shell) → SessionStands log (sessions.Live old) it → StopsShellCommand log it command old.banks now
   live_stops now command stops =
-      live_shell (λ (it : Shell). StopsCommand log it command old.banks now) (λ has.
+      live_shell (λ (it : Shell). StopsShellCommand log it command old.banks now) (λ has.
       record { steps = stops.steps; due = stops.due; moments = fronts log meter stops.steps old now stops.moments })
 
   -- it stops
   pub stop_does : (banks : B) (before after : List ℕ) → banks ≡ old.banks → old.closed ≡ None
       → (old.closed ≡ None → (l : Log) → log banks ≡ Some l → KeepsClone old.local old.generation l)
       → after ≡ before ++ shell_text (Says Stopped) → (it : Shell) → SessionStands log (sessions.Live old) it
-      → DoesCommand log it shell.Stop old.banks before (sessions.Shut banks) after
+      → DoesShellCommand log it shell.Stop old.banks before (sessions.Shut banks) after
   stop_does banks before after same is_open keeps written =
-      live_shell (λ (it : Shell). DoesCommand log it shell.Stop old.banks before (sessions.Shut banks) after) (λ has.
-      let found : Found = found_with old.generation old.local in
+      live_shell (λ (it : Shell). DoesShellCommand log it shell.Stop old.banks before (sessions.Shut banks) after) (λ has.
+      let found : FoundOnBanks = found_with old.generation old.local in
       let told : log banks ≡ Some has.log = ap log same ∙ has.now_is in
       record {
         text = shell_text (Says Stopped);
@@ -102,7 +102,7 @@ module _ {B : Type 0} (log : B → Option Log) (meter : B → Meter) (old : Bank
 module _ {B : Type 0} (log : B → Option Log) (session : Session B) where
   -- a reply alone
   pub only_replies : (Rule : List ℕ → List KeptStep → Shell → Type 0) (text before after : List ℕ) (it : Shell) → SessionStands log session it
-      → Rule text [] it → after ≡ before ++ text → DoesBy Rule log (found_of it) (banks_of session) before session after
+      → Rule text [] it → after ≡ before ++ text → DoesBy Rule log (found_of it) (session_banks session) before session after
   only_replies Rule text before after it stands does written = record {
     text = text;
     steps = [];
@@ -110,13 +110,13 @@ module _ {B : Type 0} (log : B → Option Log) (session : Session B) where
     does = does;
     written = written;
     stands = stands;
-    moments = same_front (found_of it) [] (log (banks_of session)) (log (banks_of session)) refl;
+    moments = same_front (found_of it) [] (log (session_banks session)) (log (session_banks session)) refl;
     settled = λ alike. alike;
   }
 
   -- nothing was done
-  pub nothing_stops : (Due : List KeptStep → Type 0) (found : Found) (now : B) → now ≡ banks_of session → StopsIn Due log found (banks_of session) now
-  nothing_stops Due found now same = record { steps = []; due = inl refl; moments = same_front found [] (log (banks_of session)) (log now) (ap log same) }
+  pub nothing_stops : (Due : List KeptStep → Type 0) (found : FoundOnBanks) (now : B) → now ≡ session_banks session → LeavesFrontOfDue Due log found (session_banks session) now
+  nothing_stops Due found now same = record { steps = []; due = inl refl; moments = same_front found [] (log (session_banks session)) (log now) (ap log same) }
 
 -- ---- lines
 
@@ -132,17 +132,17 @@ module _ {B : Type 0} (log : B → Option Log) (session : Session B) (line : Lis
   in_domain : domain ≡ domain_of it
   in_domain = same ∙ domain_is log session it stands
 
-  pub nothing_line : (before : List ℕ) → IsNothing line → DoesLine log it line (banks_of session) before session before
+  pub nothing_line : (before : List ℕ) → IsNothing line → DoesLine log it line (session_banks session) before session before
   nothing_line before nothing =
       only_replies log session (ShellLine it line) [] before before it stands (says_nothing nothing refl refl refl) (sym (append-nil before))
 
-  pub bad_line : (before after : List ℕ) → IsBadShell domain line → after ≡ before ++ shell_text BadLine → DoesLine log it line (banks_of session) before session after
+  pub bad_line : (before after : List ℕ) → IsBadShell domain line → after ≡ before ++ shell_text BadLine → DoesLine log it line (session_banks session) before session after
   bad_line before after bad written =
       only_replies log session (ShellLine it line) (shell_text BadLine) before after it stands
       (is_bad (subst (λ (d : Option (List ℕ)). IsBadShell d line) in_domain bad) refl refl refl) written
 
   pub command_line : (command : ShellCommand) (before after : List ℕ) (next : Session B) → SpellsShell domain line command
-      → DoesCommand log it command (banks_of session) before next after → DoesLine log it line (banks_of session) before next after
+      → DoesShellCommand log it command (session_banks session) before next after → DoesLine log it line (session_banks session) before next after
   command_line command before after next spells does = record {
     text = does.text;
     steps = does.steps;
@@ -165,8 +165,8 @@ module _ {B : Type 0} (log : B → Option Log) (session : Session B) (line : Lis
   due_line command steps spells (inl none) = inl none
   due_line command steps spells (inr due) = inr (command, subst (λ (d : Option (List ℕ)). SpellsShell d line command) in_domain spells, due)
 
-  pub command_stops : (command : ShellCommand) (now : B) → SpellsShell domain line command → StopsCommand log it command (banks_of session) now
-      → StopsLine log it line (banks_of session) now
+  pub command_stops : (command : ShellCommand) (now : B) → SpellsShell domain line command → StopsShellCommand log it command (session_banks session) now
+      → StopsLine log it line (session_banks session) now
   command_stops command now spells stops = record { steps = stops.steps; due = due_line command stops.steps spells stops.due; moments = stops.moments }
 
 -- ---- commands that were read

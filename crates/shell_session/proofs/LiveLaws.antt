@@ -27,13 +27,13 @@ use Rattle.clone_core.specs.DurableCalls.{LeavesFronts, Changes, UpdateSteps, Ap
 use Rattle.clone_core.specs.Keeping.{KeepsCompacted, nothing_to_fuse, swapped, KeepsTruncated, nothing_to_cut, cut}
 use Rattle.crash_laws.proofs.KeepingDeeds.{neighbours_fused}
 use Rattle.shell_model.specs.ShellReply.{ShellReply, Says, DidAt, TicksSpent, GenerationsSpent, shell_text}
-use Rattle.shell_model.specs.ShellStep.{HasSpentTicks, AnswersUpdate, no_tick_is_left, is_too_large, changes_nothing, breaks_single, makes_operation, KeepsJournal, is_kept_so, no_generation_is_left, swaps_journal, AppendsOperation, SwapsJournal}
-use Rattle.shell_session.specs.LiveCalls.{GoesOn, Answers, StopsShort}
+use Rattle.shell_model.specs.ShellStep.{HasSpentTicks, AnswersUpdate, no_tick_is_left, is_too_large, changes_nothing, breaks_single, makes_operation, KeepsJournal, is_kept_so, no_generation_is_left, swaps_journal, AppendsUpdate, SwapsJournal}
+use Rattle.shell_session.specs.LiveCalls.{CloneGoesOn, CloneAnswers, CloneLeavesFrontOfDue}
 
 -- ---- durable steps that are due
 
 -- those of an operation that was to be made
-planned : (clone : LocalClone) (plan : UpdatePlan) (steps : List KeptStep) → AppendsPlanned clone plan steps → AppendsOperation clone plan steps
+planned : (clone : LocalClone) (plan : UpdatePlan) (steps : List KeptStep) → AppendsPlanned clone plan steps → AppendsUpdate clone plan steps
 planned clone plan steps plans = record {
   effect = plans.due.effect;
   has = plans.due.has;
@@ -46,7 +46,7 @@ planned clone plan steps plans = record {
 
 -- those of an update that was answered
 pub update_due : (clone : LocalClone) (plan : UpdatePlan) (reply : ShellReply) (steps : List KeptStep) (new : LocalClone) → AnswersUpdate clone plan reply steps new
-    → (steps ≡ []) ⊎ AppendsOperation clone plan steps
+    → (steps ≡ []) ⊎ AppendsUpdate clone plan steps
 update_due clone plan reply steps new (no_tick_is_left spent) = inl refl
 update_due clone plan reply steps new (is_too_large left many) = inl refl
 update_due clone plan reply steps new (changes_nothing left updates) = inl refl
@@ -100,7 +100,7 @@ IsKeepStop result = ⊥
 module _ {B : Type 0} (log : B → Option Log) (meter : B → Meter) (old new : BankedClone B) where
   -- nothing changes
   pub stays_on : (Rule : ShellReply → List KeptStep → LocalClone → Type 0) (reply : ShellReply) → new ≡ old → old.closed ≡ None → Rule reply [] old.local
-      → GoesOn log meter Rule old new reply
+      → CloneGoesOn log meter Rule old new reply
   stays_on Rule reply same is_open does = record {
     steps = [];
     does = subst (λ (clone : BankedClone B). Rule reply [] clone.local) (sym same) does;
@@ -124,7 +124,7 @@ module _ {B : Type 0} (log : B → Option Log) (meter : B → Meter) (old new : 
         → IfErr result (RefusesUpdate old.local plan)
         → IfErr result (λ fault. LeavesClone log meter (IsDueUpdate old.local plan) ⊥ old new (update_stop fault))
         → ((steps : List KeptStep) × UpdateSteps old.local plan result steps × Changes log meter steps old new.banks (IsOk result) (IsErrOf result update.Device))
-        → GoesOn log meter (AnswersUpdate old.local plan) old new reply
+        → CloneGoesOn log meter (AnswersUpdate old.local plan) old new reply
     update_goes (Ok done.Nothing) reply is is_open ok opened spent refused left durable =
         let some : ¬ HasSpentTicks old.local = λ h. let e = spent.1 (is_open, h) in absurd cc in
         let none : Updates (Says NoOperation) [] old.local =
@@ -159,13 +159,13 @@ module _ {B : Type 0} (log : B → Option Log) (meter : B → Meter) (old new : 
     update_goes (Err update.Device) reply is is_open ok opened spent refused left durable = absurd is
     update_goes (Err update.NoMemory) reply is is_open ok opened spent refused left durable = absurd is
 
-    planned_or_none : (steps : List KeptStep) → (steps ≡ []) ⊎ AppendsPlanned old.local plan steps → (steps ≡ []) ⊎ AppendsOperation old.local plan steps
+    planned_or_none : (steps : List KeptStep) → (steps ≡ []) ⊎ AppendsPlanned old.local plan steps → (steps ≡ []) ⊎ AppendsUpdate old.local plan steps
     planned_or_none steps (inl none) = inl none
     planned_or_none steps (inr plans) = inr (planned old.local plan steps plans)
 
     pub update_stops : (result : Result Done UpdateFault) → IsUpdateStop result
         → ((steps : List KeptStep) × UpdateSteps old.local plan result steps × Changes log meter steps old new.banks (IsOk result) (IsErrOf result update.Device))
-        → StopsShort log meter (AppendsOperation old.local plan) old new.banks
+        → CloneLeavesFrontOfDue log meter (AppendsUpdate old.local plan) old new.banks
     update_stops (Ok answer) is durable = absurd is
     update_stops (Err update.Device) is durable =
         record { steps = durable.0; due = inr (planned old.local plan durable.0 durable.1); moments = durable.2.moments }
@@ -192,7 +192,7 @@ module _ {B : Type 0} (log : B → Option Log) (meter : B → Meter) (old new : 
     kept_swapped : (count : ℕ) (reply : ShellReply) → reply ≡ Says (Kept count) → count ≡ length new.local.entries → ¬ (old.generation ≡ 2 ^ 64 - 1)
         → Due → Step new.local → new.closed ≡ None → new.generation ≡ old.generation + 1
         → (steps : List KeptStep) → (¬ Due × (steps ≡ [])) ⊎ (Due × SwapsTo new.local steps) → LeavesFronts log meter steps old new.banks
-        → GoesOn log meter Journals old new reply
+        → CloneGoesOn log meter Journals old new reply
     kept_swapped count reply is counted left due step opened next steps (inl none) moments = absurd (none.0 due)
     kept_swapped count reply is counted left due step opened next steps (inr made) moments = record {
       steps = Swapped (head_of new.local) new.local.entries ∷ [];
@@ -206,7 +206,7 @@ module _ {B : Type 0} (log : B → Option Log) (meter : B → Meter) (old new : 
     kept_goes_on : (count : ℕ) (reply : ShellReply) → reply ≡ Says (Kept count) → count ≡ length new.local.entries → old.closed ≡ None
         → (Due → ¬ (old.generation ≡ 2 ^ 64 - 1)) → KeepsEither
         → (steps : List KeptStep) → (¬ Due × (steps ≡ [])) ⊎ (Due × SwapsTo new.local steps) → LeavesFronts log meter steps old new.banks
-        → GoesOn log meter Journals old new reply
+        → CloneGoesOn log meter Journals old new reply
     kept_goes_on count reply is counted is_open left (inl none) steps made moments =
         let same : count ≡ length old.local.entries = counted ∙ ap (λ (clone : BankedClone B). length clone.local.entries) none.1 in
         stays_on Journals reply none.1 is_open
@@ -219,7 +219,7 @@ module _ {B : Type 0} (log : B → Option Log) (meter : B → Meter) (old new : 
         → (IsErrOf result keep.GenerationsSpent ↔ (IsSpent Due old × ¬ IsErrOf result keep.NoMemory))
         → IfErr result (λ fault. LeavesClone log meter (IsDueSwap Due old) ⊥ old new (keep_stop fault))
         → ((steps : List KeptStep) × KeepSteps Due Step new.local result steps × Changes log meter steps old new.banks (IsOk result) (IsErrOf result keep.Device))
-        → GoesOn log meter (KeepsJournal Due Step old.generation old.local) old new reply
+        → CloneGoesOn log meter (KeepsJournal Due Step old.generation old.local) old new reply
     keep_goes (Ok count) reply is is_open ok spent left durable =
         kept_goes_on count reply is ok.1 is_open
         (λ due last. let e = spent.1 (record { opened = is_open; due = due; last = last }, λ told. absurd cc) in absurd cc)
@@ -238,7 +238,7 @@ module _ {B : Type 0} (log : B → Option Log) (meter : B → Meter) (old new : 
     swaps_so steps is_due would = record { due = is_due.due; left = is_due.left; new = would.0; step = would.1; swaps = would.2 }
 
     short_of_memory : (steps : List KeptStep) → (steps ≡ []) ⊎ Would steps → LeavesFronts log meter steps old new.banks
-        → (new ≡ old) ⊎ IsDueSwap Due old → StopsShort log meter (SwapsJournal Due Step old.generation) old new.banks
+        → (new ≡ old) ⊎ IsDueSwap Due old → CloneLeavesFrontOfDue log meter (SwapsJournal Due Step old.generation) old new.banks
     short_of_memory steps (inl none) moments left = record { steps = steps; due = inl none; moments = moments }
     short_of_memory steps (inr would) moments (inl same) =
         record { steps = []; due = inl refl; moments = ap (λ (clone : BankedClone B). clone.banks) same }
@@ -247,7 +247,7 @@ module _ {B : Type 0} (log : B → Option Log) (meter : B → Meter) (old new : 
     pub keep_stops : (result : Result ℕ KeepFault) → IsKeepStop result
         → IfErr result (λ fault. LeavesClone log meter (IsDueSwap Due old) ⊥ old new (keep_stop fault))
         → ((steps : List KeptStep) × KeepSteps Due Step new.local result steps × Changes log meter steps old new.banks (IsOk result) (IsErrOf result keep.Device))
-        → StopsShort log meter (SwapsJournal Due Step old.generation) old new.banks
+        → CloneLeavesFrontOfDue log meter (SwapsJournal Due Step old.generation) old new.banks
     keep_stops (Ok count) is left durable = absurd is
     keep_stops (Err keep.Device) is left durable =
         record { steps = durable.0; due = inr (swaps_so durable.0 left.due durable.1); moments = durable.2.moments }
@@ -269,13 +269,13 @@ module _ {B : Type 0} (log : B → Option Log) (meter : B → Meter) (old new : 
 
   module _ (Rule : ShellReply → List KeptStep → LocalClone → Type 0) (Due : List KeptStep → Type 0) (before after : List ℕ) where
     -- it was added
-    pub answers : {T E : Type 0} (result : Result T E) (reply : ShellReply) → GoesOn log meter Rule old new reply → OnOk result (after ≡ before ++ shell_text reply)
-        → OnOk result (Answers log meter Rule old before new after)
+    pub answers : {T E : Type 0} (result : Result T E) (reply : ShellReply) → CloneGoesOn log meter Rule old new reply → OnOk result (after ≡ before ++ shell_text reply)
+        → OnOk result (CloneAnswers log meter Rule old before new after)
     answers (Ok value) reply goes_on written = record { reply = reply; goes_on = goes_on; written = written }
     answers (Err fault) reply goes_on written = tt
 
     -- or it was not
-    pub short : {T E : Type 0} (result : Result T E) (reply : ShellReply) → GoesOn log meter Rule old new reply
-        → ((steps : List KeptStep) → Rule reply steps new.local → (steps ≡ []) ⊎ Due steps) → OnErr result (StopsShort log meter Due old new.banks)
+    pub short : {T E : Type 0} (result : Result T E) (reply : ShellReply) → CloneGoesOn log meter Rule old new reply
+        → ((steps : List KeptStep) → Rule reply steps new.local → (steps ≡ []) ⊎ Due steps) → OnErr result (CloneLeavesFrontOfDue log meter Due old new.banks)
     short (Ok value) reply goes_on due = tt
     short (Err fault) reply goes_on due = record { steps = goes_on.steps; due = due goes_on.steps goes_on.does; moments = goes_on.moments }

@@ -10,12 +10,12 @@ use Rattle.mld_model.specs.Local.{LocalClone}
 use Rattle.clone_banks.specs.KeptSteps.{KeptStep, Created, Appended, Forked, Swapped, after_step, after_steps, ReadsSome, LeavesSome}
 use Rattle.clone_core.specs.Banked.{BankedClone, head_of, kept_as, KeepsClone}
 use Rattle.clone_core.specs.DurableCalls.{LeavesFronts}
-use Rattle.shell_model.specs.Shells.{Found, Stored, found_in, found_after_step, found_after}
-use Rattle.shell_session.specs.Lines.{ImagesFind, FindsFront, LeavesFront}
+use Rattle.shell_model.specs.Shells.{FoundOnBanks, Stored, found_in, found_after_step, found_after}
+use Rattle.shell_session.specs.SessionLines.{ImagesFind, FindsFront, LeavesFront}
 use Rattle.shell_session.specs.Sessions.{HasKept}
 
 -- what the banks of a clone keep of it
-abbrev pub found_with : ℕ → LocalClone → Found
+abbrev pub found_with : ℕ → LocalClone → FoundOnBanks
 found_with generation clone = Stored generation (head_of clone) clone.entries
 
 -- ---- what is found after durable steps
@@ -38,7 +38,7 @@ steps_read (step ∷ steps) reading = steps_read steps (after_step step reading)
 
 -- ---- moments
 
-module _ (found : Found) (steps : List KeptStep) where
+module _ (found : FoundOnBanks) (steps : List KeptStep) where
   -- nothing was called
   pub same_front : (old now : Option Log) → now ≡ old → LeavesFront found steps old now
   same_front old now same log is alike =
@@ -74,7 +74,7 @@ module _ (found : Found) (steps : List KeptStep) where
       (second (grown_by early.added log) early.now_is (settled alike))
 
 -- what a crash now may leave it might have left before, where nothing was written
-pub images_later : (found : Found) (old mid : Option Log) (log : Log) → old ≡ Some log → LeavesNothingNew log mid → ImagesFind found old → ImagesFind found mid
+pub images_later : (found : FoundOnBanks) (old mid : Option Log) (log : Log) → old ≡ Some log → LeavesNothingNew log mid → ImagesFind found old → ImagesFind found mid
 images_later found old mid log is moments alike later told image left =
     let same : later ≡ grown_by moments.added log = cc (told, moments.now_is) in
     let last : LeavesOnly (grown_by moments.added log) (λ other. MayLeave log other) =

@@ -1,6 +1,6 @@
-pub mod Lines
+pub mod SessionLines
 pub mod LiveCalls
-pub mod Replies
+pub mod SessionReplies
 pub mod RunEnds
 pub mod ShutCalls
 pub mod Sessions

@@ -15,7 +15,7 @@ use Rattle.shell_model.specs.ShellReply.{ShellReply, Says, shell_text}
 
 -- a clone went on by a rule of the model, with this reply: it is open, and at each moment since a crash leaves the old clone after a front of the
 -- durable steps
-pub record GoesOn {B : Type 0} (log : B → Option Log) (meter : B → Meter) (Rule : ShellReply → List KeptStep → LocalClone → Type 0) (old new : BankedClone B) (reply : ShellReply) : Type 0 where
+pub record CloneGoesOn {B : Type 0} (log : B → Option Log) (meter : B → Meter) (Rule : ShellReply → List KeptStep → LocalClone → Type 0) (old new : BankedClone B) (reply : ShellReply) : Type 0 where
   pub steps : List KeptStep
   pub does : Rule reply steps new.local
   pub opened : new.closed ≡ None
@@ -23,13 +23,13 @@ pub record GoesOn {B : Type 0} (log : B → Option Log) (meter : B → Meter) (R
   pub moments : LeavesFronts log meter steps old new.banks
 
 -- and the text of the reply was added to the output
-pub record Answers {B : Type 0} (log : B → Option Log) (meter : B → Meter) (Rule : ShellReply → List KeptStep → LocalClone → Type 0) (old : BankedClone B) (before : List ℕ) (new : BankedClone B) (after : List ℕ) : Type 0 where
+pub record CloneAnswers {B : Type 0} (log : B → Option Log) (meter : B → Meter) (Rule : ShellReply → List KeptStep → LocalClone → Type 0) (old : BankedClone B) (before : List ℕ) (new : BankedClone B) (after : List ℕ) : Type 0 where
   pub reply : ShellReply
-  pub goes_on : GoesOn log meter Rule old new reply
+  pub goes_on : CloneGoesOn log meter Rule old new reply
   pub written : after ≡ before ++ shell_text reply
 
 -- a clone was stopped in the middle of durable steps that are due, or of none
-pub record StopsShort {B : Type 0} (log : B → Option Log) (meter : B → Meter) (Due : List KeptStep → Type 0) (old : BankedClone B) (now : B) : Type 0 where
+pub record CloneLeavesFrontOfDue {B : Type 0} (log : B → Option Log) (meter : B → Meter) (Due : List KeptStep → Type 0) (old : BankedClone B) (now : B) : Type 0 where
   pub steps : List KeptStep
   pub due : (steps ≡ []) ⊎ Due steps
   pub moments : LeavesFronts log meter steps old now

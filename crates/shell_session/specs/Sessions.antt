@@ -4,14 +4,14 @@ use Rattle.mld_io.specs.Disk.{Log, seen}
 use Rattle.journal_sides.specs.Pairs.{read_banks}
 use Rattle.mld_model.specs.Local.{LocalClone}
 use Rattle.clone_core.specs.Banked.{BankedClone, KeepsClone}
-use Rattle.shell_model.specs.Shells.{Found, found_in, Shell, Shut, Live}
+use Rattle.shell_model.specs.Shells.{FoundOnBanks, found_in, Shell, Shut, Live}
 use Rattle.shell_session.specs.declared.sessions.Session.{Session}
 use Rattle.shell_session.specs.declared.sessions.Session.TheVariants as sessions
 
 -- the banks of a session
-abbrev pub banks_of : {B : Type 0} → Session B → B
-banks_of (sessions.Shut banks) = banks
-banks_of (sessions.Live clone) = clone.banks
+abbrev pub session_banks : {B : Type 0} → Session B → B
+session_banks (sessions.Shut banks) = banks
+session_banks (sessions.Live clone) = clone.banks
 
 -- the domain of the live clone, if one is live
 abbrev pub domain_in : {B : Type 0} → Session B → Option (List ℕ)
@@ -19,12 +19,12 @@ domain_in (sessions.Shut banks) = None
 domain_in (sessions.Live clone) = Some clone.local.domain
 
 -- a session that may do a line: a live clone is open
-abbrev pub IsStanding : {B : Type 0} → Session B → Type 0
-IsStanding (sessions.Shut banks) = Unit {0}
-IsStanding (sessions.Live clone) = clone.closed ≡ None
+abbrev pub MayDoLine : {B : Type 0} → Session B → Type 0
+MayDoLine (sessions.Shut banks) = Unit {0}
+MayDoLine (sessions.Live clone) = clone.closed ≡ None
 
 -- banks tell their log, and this is found on them
-pub record HasFound (found : Found) (now : Option Log) : Type 0 where
+pub record HasFound (found : FoundOnBanks) (now : Option Log) : Type 0 where
   pub log : Log
   pub now_is : now ≡ Some log
   pub finds : found_in (read_banks (seen log)) ≡ found

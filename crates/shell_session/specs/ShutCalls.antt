@@ -18,6 +18,6 @@ pub record TellsDamage {B : Type 0} (fault : MountFault) (banks : B) (before : L
   pub written : after ≡ before ++ shell_text (FoundDamage side place)
 
 -- banks that were not mounted are given back, and that the device failed is told where it did
-pub record GivesBack {B : Type 0} (fault : MountFault) (banks : B) (refused : SessionFault × B) : Type 0 where
+pub record GivesBackUnmounted {B : Type 0} (fault : MountFault) (banks : B) (refused : SessionFault × B) : Type 0 where
   pub same : refused.1 ≡ banks
   pub told : refused.0 ≡ faults.Device → fault ≡ Device

@@ -9,10 +9,10 @@ ghost use Rattle.schedule_model.specs.Querying.{AnswersQuery};
 ghost use Rattle.jrql_ast.specs.Templates.{insertion_of, deletion_of};
 ghost use Rattle.schedule_replies.specs.Replies.{reply_value};
 ghost use Rattle.shell_model.specs.ShellReply.{shell_text};
-ghost use Rattle.shell_model.specs.ShellStep.{LiveStep, IsDueLive, AnswersUpdate, AppendsOperation, CompactsAs, IsDueCompaction, TruncatesAs, IsDueTruncation};
-ghost use Rattle.shell_session.specs.Lines.{Meters, IsUsable, StaysLive};
-ghost use Rattle.shell_session.specs.LiveCalls.{Answers, GoesOn, StopsShort, TellsQuery};
-ghost use Rattle.shell_session.specs.Replies.{shell_value};
+ghost use Rattle.shell_model.specs.ShellStep.{LiveStep, IsDueLive, AnswersUpdate, AppendsUpdate, CompactsAs, IsDueCompaction, TruncatesAs, IsDueTruncation};
+ghost use Rattle.shell_session.specs.SessionLines.{Meters, IsUsable, KeepsLive};
+ghost use Rattle.shell_session.specs.LiveCalls.{CloneAnswers, CloneGoesOn, CloneLeavesFrontOfDue, TellsQuery};
+ghost use Rattle.shell_session.specs.SessionReplies.{shell_value};
 
 use crate::faults::SessionFault;
 use crate::replies::{ShellReply, push_shell_reply};
@@ -42,10 +42,10 @@ pub fn do_live<B: Banks>(
 ) -> Result<(), SessionFault>
     requires opened { clone.old.closed ≡ None }
     requires usable { IsUsable command.now }
-    requires stays { StaysLive command.now }
-    ensures done { OnOk result (Answers B.log B.meter (LiveStep clone.old.generation clone.old.local command.now)
+    requires stays { KeepsLive command.now }
+    ensures done { OnOk result (CloneAnswers B.log B.meter (LiveStep clone.old.generation clone.old.local command.now)
         clone.old out.old.items clone.new out.new.items) }
-    ensures stopped { OnErr result (StopsShort B.log B.meter
+    ensures stopped { OnErr result (CloneLeavesFrontOfDue B.log B.meter
         (IsDueLive clone.old.generation clone.old.local command.now) clone.old clone.new.banks) }
     ensures told { StaysTold (B.log clone.old.banks) (B.log clone.new.banks) }
     ensures fault { Meters (B.meter clone.old.banks) (B.meter clone.new.banks) (IsErrOf result SessionFault.Device) }
@@ -84,10 +84,10 @@ fn add<B: Banks>(
     out: &mut Vec<u8>,
 ) -> Result<(), SessionFault>
     requires { clone.old.closed ≡ None }
-    ensures done { OnOk result (Answers B.log B.meter (AnswersUpdate clone.old.local (insertion_of triple.now))
+    ensures done { OnOk result (CloneAnswers B.log B.meter (AnswersUpdate clone.old.local (insertion_of triple.now))
         clone.old out.old.items clone.new out.new.items) }
-    ensures stopped { OnErr result (StopsShort B.log B.meter
-        (AppendsOperation clone.old.local (insertion_of triple.now)) clone.old clone.new.banks) }
+    ensures stopped { OnErr result (CloneLeavesFrontOfDue B.log B.meter
+        (AppendsUpdate clone.old.local (insertion_of triple.now)) clone.old clone.new.banks) }
     ensures told { StaysTold (B.log clone.old.banks) (B.log clone.new.banks) }
     ensures fault { Meters (B.meter clone.old.banks) (B.meter clone.new.banks) (IsErrOf result SessionFault.Device) }
     ensures out { OnErr result (out.new.items ≡ out.old.items) }
@@ -104,10 +104,10 @@ fn remove<B: Banks>(
     out: &mut Vec<u8>,
 ) -> Result<(), SessionFault>
     requires { clone.old.closed ≡ None }
-    ensures done { OnOk result (Answers B.log B.meter (AnswersUpdate clone.old.local (deletion_of triple.now))
+    ensures done { OnOk result (CloneAnswers B.log B.meter (AnswersUpdate clone.old.local (deletion_of triple.now))
         clone.old out.old.items clone.new out.new.items) }
-    ensures stopped { OnErr result (StopsShort B.log B.meter
-        (AppendsOperation clone.old.local (deletion_of triple.now)) clone.old clone.new.banks) }
+    ensures stopped { OnErr result (CloneLeavesFrontOfDue B.log B.meter
+        (AppendsUpdate clone.old.local (deletion_of triple.now)) clone.old clone.new.banks) }
     ensures told { StaysTold (B.log clone.old.banks) (B.log clone.new.banks) }
     ensures fault { Meters (B.meter clone.old.banks) (B.meter clone.new.banks) (IsErrOf result SessionFault.Device) }
     ensures out { OnErr result (out.new.items ≡ out.old.items) }
@@ -125,10 +125,10 @@ fn update<B: Banks>(
 ) -> Result<(), SessionFault>
     requires opened { clone.old.closed ≡ None }
     requires form { IsPlanInForm plan.now }
-    ensures done { OnOk result (Answers B.log B.meter (AnswersUpdate clone.old.local plan.now)
+    ensures done { OnOk result (CloneAnswers B.log B.meter (AnswersUpdate clone.old.local plan.now)
         clone.old out.old.items clone.new out.new.items) }
     ensures stopped { OnErr result
-        (StopsShort B.log B.meter (AppendsOperation clone.old.local plan.now) clone.old clone.new.banks) }
+        (CloneLeavesFrontOfDue B.log B.meter (AppendsUpdate clone.old.local plan.now) clone.old clone.new.banks) }
     ensures told { StaysTold (B.log clone.old.banks) (B.log clone.new.banks) }
     ensures fault { Meters (B.meter clone.old.banks) (B.meter clone.new.banks) (IsErrOf result SessionFault.Device) }
     ensures out { OnErr result (out.new.items ≡ out.old.items) }
@@ -145,10 +145,10 @@ fn updated<B: Banks>(
 ) -> Result<ShellReply<'static>, SessionFault>
     requires opened { clone.old.closed ≡ None }
     requires form { IsPlanInForm plan.now }
-    ensures done { IfOk result (λ reply. GoesOn B.log B.meter (AnswersUpdate clone.old.local plan.now)
+    ensures done { IfOk result (λ reply. CloneGoesOn B.log B.meter (AnswersUpdate clone.old.local plan.now)
         clone.old clone.new (shell_value reply)) }
     ensures stopped { OnErr result
-        (StopsShort B.log B.meter (AppendsOperation clone.old.local plan.now) clone.old clone.new.banks) }
+        (CloneLeavesFrontOfDue B.log B.meter (AppendsUpdate clone.old.local plan.now) clone.old clone.new.banks) }
     ensures told { StaysTold (B.log clone.old.banks) (B.log clone.new.banks) }
     ensures fault { Meters (B.meter clone.old.banks) (B.meter clone.new.banks) (IsErrOf result SessionFault.Device) }
 {
@@ -226,10 +226,10 @@ fn compact<B: Banks>(
     out: &mut Vec<u8>,
 ) -> Result<(), SessionFault>
     requires { clone.old.closed ≡ None }
-    ensures done { OnOk result (Answers B.log B.meter (CompactsAs clone.old.generation clone.old.local)
+    ensures done { OnOk result (CloneAnswers B.log B.meter (CompactsAs clone.old.generation clone.old.local)
         clone.old out.old.items clone.new out.new.items) }
     ensures stopped { OnErr result
-        (StopsShort B.log B.meter (IsDueCompaction clone.old.generation clone.old.local) clone.old clone.new.banks) }
+        (CloneLeavesFrontOfDue B.log B.meter (IsDueCompaction clone.old.generation clone.old.local) clone.old clone.new.banks) }
     ensures told { StaysTold (B.log clone.old.banks) (B.log clone.new.banks) }
     ensures fault { Meters (B.meter clone.old.banks) (B.meter clone.new.banks) (IsErrOf result SessionFault.Device) }
     ensures out { OnErr result (out.new.items ≡ out.old.items) }
@@ -244,10 +244,10 @@ fn compacted<B: Banks>(
     clone: &mut MldClone<B>,
 ) -> Result<ShellReply<'static>, SessionFault>
     requires { clone.old.closed ≡ None }
-    ensures done { IfOk result (λ reply. GoesOn B.log B.meter (CompactsAs clone.old.generation clone.old.local)
+    ensures done { IfOk result (λ reply. CloneGoesOn B.log B.meter (CompactsAs clone.old.generation clone.old.local)
         clone.old clone.new (shell_value reply)) }
     ensures stopped { OnErr result
-        (StopsShort B.log B.meter (IsDueCompaction clone.old.generation clone.old.local) clone.old clone.new.banks) }
+        (CloneLeavesFrontOfDue B.log B.meter (IsDueCompaction clone.old.generation clone.old.local) clone.old clone.new.banks) }
     ensures told { StaysTold (B.log clone.old.banks) (B.log clone.new.banks) }
     ensures fault { Meters (B.meter clone.old.banks) (B.meter clone.new.banks) (IsErrOf result SessionFault.Device) }
 {
@@ -268,9 +268,9 @@ fn truncate<B: Banks>(
     out: &mut Vec<u8>,
 ) -> Result<(), SessionFault>
     requires { clone.old.closed ≡ None }
-    ensures done { OnOk result (Answers B.log B.meter (TruncatesAs keep clone.old.generation clone.old.local)
+    ensures done { OnOk result (CloneAnswers B.log B.meter (TruncatesAs keep clone.old.generation clone.old.local)
         clone.old out.old.items clone.new out.new.items) }
-    ensures stopped { OnErr result (StopsShort B.log B.meter
+    ensures stopped { OnErr result (CloneLeavesFrontOfDue B.log B.meter
         (IsDueTruncation keep clone.old.generation clone.old.local) clone.old clone.new.banks) }
     ensures told { StaysTold (B.log clone.old.banks) (B.log clone.new.banks) }
     ensures fault { Meters (B.meter clone.old.banks) (B.meter clone.new.banks) (IsErrOf result SessionFault.Device) }
@@ -287,9 +287,9 @@ fn truncated<B: Banks>(
     keep: u64,
 ) -> Result<ShellReply<'static>, SessionFault>
     requires { clone.old.closed ≡ None }
-    ensures done { IfOk result (λ reply. GoesOn B.log B.meter (TruncatesAs keep clone.old.generation clone.old.local)
+    ensures done { IfOk result (λ reply. CloneGoesOn B.log B.meter (TruncatesAs keep clone.old.generation clone.old.local)
         clone.old clone.new (shell_value reply)) }
-    ensures stopped { OnErr result (StopsShort B.log B.meter
+    ensures stopped { OnErr result (CloneLeavesFrontOfDue B.log B.meter
         (IsDueTruncation keep clone.old.generation clone.old.local) clone.old clone.new.banks) }
     ensures told { StaysTold (B.log clone.old.banks) (B.log clone.new.banks) }
     ensures fault { Meters (B.meter clone.old.banks) (B.meter clone.new.banks) (IsErrOf result SessionFault.Device) }

@@ -3,7 +3,7 @@ ghost use Rattle.std.specs.Prelude.{◌≡◌, ◌++◌, ◌∷◌, [], codes, O
 ghost use Rattle.std.specs.Fmt.{decimal};
 ghost use Rattle.schedule_model.specs.Characters.{line_end};
 ghost use Rattle.shell_model.specs.ShellReply.{shell_text, DidAt, FoundDamage};
-ghost use Rattle.shell_session.specs.Replies.{shell_value};
+ghost use Rattle.shell_session.specs.SessionReplies.{shell_value};
 
 use mld_io::Side;
 use schedule_replies::{Reply, push_reply};

@@ -7,9 +7,9 @@ ghost use Rattle.journal_store.specs.Closing.{StaysTold};
 ghost use Rattle.shell_text.specs.declared.commands.ShellCommand.TheVariants as commands;
 ghost use Rattle.shell_model.specs.Shells.{Shell};
 ghost use Rattle.shell_model.specs.ShellReply.{shell_text};
-ghost use Rattle.shell_session.specs.Replies.{shell_value};
-ghost use Rattle.shell_session.specs.Sessions.{banks_of, domain_in, IsStanding, SessionStands};
-ghost use Rattle.shell_session.specs.Lines.{DoesLine, DoesCommand, StopsLine, StopsCommand, banks_after, FailsOnDevice, Meters, IsUsable, IsLiveCommand, StaysLive};
+ghost use Rattle.shell_session.specs.SessionReplies.{shell_value};
+ghost use Rattle.shell_session.specs.Sessions.{session_banks, domain_in, MayDoLine, SessionStands};
+ghost use Rattle.shell_session.specs.SessionLines.{DoesLine, DoesShellCommand, StopsLine, StopsShellCommand, banks_after, FailsOnDevice, Meters, IsUsable, IsLiveCommand, KeepsLive};
 ghost use Rattle.shell_session.specs.declared.sessions.Session.TheVariants as sessions;
 
 use crate::faults::SessionFault;
@@ -52,14 +52,14 @@ impl<B: Banks> Session<B> {
         line: &[u8],
         out: &mut Vec<u8>,
     ) -> Result<Session<B>, (SessionFault, B)>
-        requires { IsStanding self }
+        requires { MayDoLine self }
         ensures done { IfOk result (λ next. (shell : Shell) → SessionStands B.log self shell
-            → DoesLine B.log shell line.now (banks_of self) out.old.items next out.new.items) }
-        ensures standing { IfOk result IsStanding }
+            → DoesLine B.log shell line.now (session_banks self) out.old.items next out.new.items) }
+        ensures standing { IfOk result MayDoLine }
         ensures stopped { IfErr result (λ refused. (shell : Shell) → SessionStands B.log self shell
-            → StopsLine B.log shell line.now (banks_of self) refused.1) }
-        ensures told { StaysTold (B.log (banks_of self)) (B.log (banks_after result)) }
-        ensures fault { Meters (B.meter (banks_of self)) (B.meter (banks_after result)) (FailsOnDevice result) }
+            → StopsLine B.log shell line.now (session_banks self) refused.1) }
+        ensures told { StaysTold (B.log (session_banks self)) (B.log (banks_after result)) }
+        ensures fault { Meters (B.meter (session_banks self)) (B.meter (banks_after result)) (FailsOnDevice result) }
         ensures out { OnErr result (out.new.items ≡ out.old.items) }
     {
         match read_shell(alloc, line, self.domain()) {
@@ -72,7 +72,7 @@ impl<B: Banks> Session<B> {
 
     /// The banks. A live clone stops. It takes no memory and calls no device.
     pub fn into_banks(self) -> B
-        ensures { result ≡ banks_of self }
+        ensures { result ≡ session_banks self }
     {
         match self {
             Session::Shut(banks) => banks,
@@ -100,16 +100,16 @@ fn do_command<R: Threads, B: Banks>(
     command: ShellCommand,
     out: &mut Vec<u8>,
 ) -> Result<Session<B>, (SessionFault, B)>
-    requires standing { IsStanding session }
+    requires standing { MayDoLine session }
     requires usable { IsUsable command }
     requires live { IsLiveCommand session command }
     ensures done { IfOk result (λ next. (shell : Shell) → SessionStands B.log session shell
-        → DoesCommand B.log shell command (banks_of session) out.old.items next out.new.items) }
-    ensures standing { IfOk result IsStanding }
+        → DoesShellCommand B.log shell command (session_banks session) out.old.items next out.new.items) }
+    ensures standing { IfOk result MayDoLine }
     ensures stopped { IfErr result (λ refused. (shell : Shell) → SessionStands B.log session shell
-        → StopsCommand B.log shell command (banks_of session) refused.1) }
-    ensures told { StaysTold (B.log (banks_of session)) (B.log (banks_after result)) }
-    ensures fault { Meters (B.meter (banks_of session)) (B.meter (banks_after result)) (FailsOnDevice result) }
+        → StopsShellCommand B.log shell command (session_banks session) refused.1) }
+    ensures told { StaysTold (B.log (session_banks session)) (B.log (banks_after result)) }
+    ensures fault { Meters (B.meter (session_banks session)) (B.meter (banks_after result)) (FailsOnDevice result) }
     ensures out { OnErr result (out.new.items ≡ out.old.items) }
 {
     match session {
@@ -134,10 +134,10 @@ fn is_stop(command: &ShellCommand) -> bool
 fn stop<B: Banks>(clone: MldClone<B>, out: &mut Vec<u8>) -> Result<Session<B>, (SessionFault, B)>
     requires { clone.closed ≡ None }
     ensures done { IfOk result (λ next. (shell : Shell) → SessionStands B.log (sessions.Live clone) shell
-        → DoesCommand B.log shell commands.Stop clone.banks out.old.items next out.new.items) }
-    ensures standing { IfOk result IsStanding }
+        → DoesShellCommand B.log shell commands.Stop clone.banks out.old.items next out.new.items) }
+    ensures standing { IfOk result MayDoLine }
     ensures stopped { IfErr result (λ refused. (shell : Shell) → SessionStands B.log (sessions.Live clone) shell
-        → StopsCommand B.log shell commands.Stop clone.banks refused.1) }
+        → StopsShellCommand B.log shell commands.Stop clone.banks refused.1) }
     ensures told { StaysTold (B.log clone.banks) (B.log (banks_after result)) }
     ensures fault { Meters (B.meter clone.banks) (B.meter (banks_after result)) (FailsOnDevice result) }
     ensures out { OnErr result (out.new.items ≡ out.old.items) }
@@ -155,12 +155,12 @@ fn stay_live<B: Banks>(
 ) -> Result<Session<B>, (SessionFault, B)>
     requires opened { clone.closed ≡ None }
     requires usable { IsUsable command.now }
-    requires stays { StaysLive command.now }
+    requires stays { KeepsLive command.now }
     ensures done { IfOk result (λ next. (shell : Shell) → SessionStands B.log (sessions.Live clone) shell
-        → DoesCommand B.log shell command.now clone.banks out.old.items next out.new.items) }
-    ensures standing { IfOk result IsStanding }
+        → DoesShellCommand B.log shell command.now clone.banks out.old.items next out.new.items) }
+    ensures standing { IfOk result MayDoLine }
     ensures stopped { IfErr result (λ refused. (shell : Shell) → SessionStands B.log (sessions.Live clone) shell
-        → StopsCommand B.log shell command.now clone.banks refused.1) }
+        → StopsShellCommand B.log shell command.now clone.banks refused.1) }
     ensures told { StaysTold (B.log clone.banks) (B.log (banks_after result)) }
     ensures fault { Meters (B.meter clone.banks) (B.meter (banks_after result)) (FailsOnDevice result) }
     ensures out { OnErr result (out.new.items ≡ out.old.items) }
@@ -190,7 +190,7 @@ pub fn answer<B: Banks>(
 ) -> Result<Session<B>, (SessionFault, B)>
     ensures same { IfOk result (λ next. next ≡ session) }
     ensures text { IfOk result (λ next. out.new.items ≡ out.old.items ++ shell_text (shell_value reply.now)) }
-    ensures err { IfErr result (λ refused. (refused.0 ≡ SessionFault.NoMemory) × (refused.1 ≡ banks_of session)) }
+    ensures err { IfErr result (λ refused. (refused.0 ≡ SessionFault.NoMemory) × (refused.1 ≡ session_banks session)) }
     ensures out { OnErr result (out.new.items ≡ out.old.items) }
 {
     match push_shell_reply(out, reply) {

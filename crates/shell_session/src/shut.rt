@@ -4,9 +4,9 @@ ghost use Rattle.iri_rules.specs.Domain.{is_domain};
 ghost use Rattle.journal_store.specs.Closing.{StaysTold};
 ghost use Rattle.shell_text.specs.declared.commands.ShellCommand.TheVariants as commands;
 ghost use Rattle.shell_model.specs.Shells.{Nothing, Shell, Shut};
-ghost use Rattle.shell_session.specs.Sessions.{IsStanding, SessionStands};
-ghost use Rattle.shell_session.specs.Lines.{DoesCommand, StopsCommand, banks_after, FailsOnDevice, Meters, IsUsable};
-ghost use Rattle.shell_session.specs.ShutCalls.{TellsDamage, GivesBack};
+ghost use Rattle.shell_session.specs.Sessions.{MayDoLine, SessionStands};
+ghost use Rattle.shell_session.specs.SessionLines.{DoesShellCommand, StopsShellCommand, banks_after, FailsOnDevice, Meters, IsUsable};
+ghost use Rattle.shell_session.specs.ShutCalls.{TellsDamage, GivesBackUnmounted};
 ghost use Rattle.shell_session.specs.declared.sessions.Session.TheVariants as sessions;
 
 use crate::faults::SessionFault;
@@ -33,10 +33,10 @@ pub fn do_shut<R: Threads, B: Banks>(
 ) -> Result<Session<B>, (SessionFault, B)>
     requires { IsUsable command }
     ensures done { IfOk result (λ next. (shell : Shell) → SessionStands B.log (sessions.Shut banks) shell
-        → DoesCommand B.log shell command banks out.old.items next out.new.items) }
-    ensures standing { IfOk result IsStanding }
+        → DoesShellCommand B.log shell command banks out.old.items next out.new.items) }
+    ensures standing { IfOk result MayDoLine }
     ensures stopped { IfErr result (λ refused. (shell : Shell) → SessionStands B.log (sessions.Shut banks) shell
-        → StopsCommand B.log shell command banks refused.1) }
+        → StopsShellCommand B.log shell command banks refused.1) }
     ensures told { StaysTold (B.log banks) (B.log (banks_after result)) }
     ensures fault { Meters (B.meter banks) (B.meter (banks_after result)) (FailsOnDevice result) }
     ensures out { OnErr result (out.new.items ≡ out.old.items) }
@@ -58,10 +58,10 @@ fn open<R: Threads, B: Banks>(
     out: &mut Vec<u8>,
 ) -> Result<Session<B>, (SessionFault, B)>
     ensures done { IfOk result (λ next. (shell : Shell) → SessionStands B.log (sessions.Shut banks) shell
-        → DoesCommand B.log shell commands.Open banks out.old.items next out.new.items) }
-    ensures standing { IfOk result IsStanding }
+        → DoesShellCommand B.log shell commands.Open banks out.old.items next out.new.items) }
+    ensures standing { IfOk result MayDoLine }
     ensures stopped { IfErr result (λ refused. (shell : Shell) → SessionStands B.log (sessions.Shut banks) shell
-        → StopsCommand B.log shell commands.Open banks refused.1) }
+        → StopsShellCommand B.log shell commands.Open banks refused.1) }
     ensures told { StaysTold (B.log banks) (B.log (banks_after result)) }
     ensures fault { Meters (B.meter banks) (B.meter (banks_after result)) (FailsOnDevice result) }
     ensures out { OnErr result (out.new.items ≡ out.old.items) }
@@ -85,10 +85,10 @@ fn create<R: Threads, B: Banks>(
 ) -> Result<Session<B>, (SessionFault, B)>
     requires { IsTrue (is_domain domain) }
     ensures done { IfOk result (λ next. (shell : Shell) → SessionStands B.log (sessions.Shut banks) shell
-        → DoesCommand B.log shell (commands.Create id domain properties) banks out.old.items next out.new.items) }
-    ensures standing { IfOk result IsStanding }
+        → DoesShellCommand B.log shell (commands.Create id domain properties) banks out.old.items next out.new.items) }
+    ensures standing { IfOk result MayDoLine }
     ensures stopped { IfErr result (λ refused. (shell : Shell) → SessionStands B.log (sessions.Shut banks) shell
-        → StopsCommand B.log shell (commands.Create id domain properties) banks refused.1) }
+        → StopsShellCommand B.log shell (commands.Create id domain properties) banks refused.1) }
     ensures told { StaysTold (B.log banks) (B.log (banks_after result)) }
     ensures fault { Meters (B.meter banks) (B.meter (banks_after result)) (FailsOnDevice result) }
     ensures out { OnErr result (out.new.items ≡ out.old.items) }
@@ -111,11 +111,11 @@ fn found<B: Banks>(
 ) -> Result<Session<B>, (SessionFault, B)>
     requires { IsTrue (is_domain domain) }
     ensures done { IfOk result (λ next. SessionStands B.log (sessions.Shut blank) (Shut Nothing)
-        → DoesCommand B.log (Shut Nothing) (commands.Create id domain properties)
+        → DoesShellCommand B.log (Shut Nothing) (commands.Create id domain properties)
         blank out.old.items next out.new.items) }
-    ensures standing { IfOk result IsStanding }
+    ensures standing { IfOk result MayDoLine }
     ensures stopped { IfErr result (λ refused. SessionStands B.log (sessions.Shut blank) (Shut Nothing)
-        → StopsCommand B.log (Shut Nothing) (commands.Create id domain properties) blank refused.1) }
+        → StopsShellCommand B.log (Shut Nothing) (commands.Create id domain properties) blank refused.1) }
     ensures told { StaysTold (B.log blank) (B.log (banks_after result)) }
     ensures fault { Meters (B.meter blank) (B.meter (banks_after result)) (FailsOnDevice result) }
     ensures out { OnErr result (out.new.items ≡ out.old.items) }
@@ -137,7 +137,7 @@ fn refuse<B: Banks>(
     out: &mut Vec<u8>,
 ) -> Result<Session<B>, (SessionFault, B)>
     ensures damaged { IfOk result (λ next. TellsDamage fault banks out.old.items next out.new.items) }
-    ensures err { IfErr result (GivesBack fault banks) }
+    ensures err { IfErr result (GivesBackUnmounted fault banks) }
     ensures device { fault ≡ MountFault.Device → FailsOnDevice result }
     ensures out { OnErr result (out.new.items ≡ out.old.items) }
 {

@@ -16,8 +16,8 @@ abbrev pub folder_app : App
 folder_app = with_rule (new_app shell_name) folder_rule
 
 -- clap refuses the words behind the program's name, for another cause than memory
-abbrev pub IsRefused : List (List ℕ) → Type 0
-IsRefused words = fault_of folder_app (shell_name ∷ words) ≢ []
+abbrev pub AreRefusedWords : List (List ℕ) → Type 0
+AreRefusedWords words = fault_of folder_app (shell_name ∷ words) ≢ []
 
 -- clap takes the words behind the program's name, and gives this for DIR
 pub record IsFolder (words : List (List ℕ)) (folder : List ℕ) : Type 0 where

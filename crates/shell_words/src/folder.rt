@@ -2,7 +2,7 @@
 ghost use Rattle.std.specs.Prelude.{◌≡◌, ◌≢◌, ◌∷◌, codes, map, Some, IfOk, IsErrOf};
 ghost use Rattle.std.specs.String.{string_bytes};
 ghost use Rattle.clap.specs.Words.{FailsBy, kind_of, fault_of, first_of, matches_of};
-ghost use Rattle.shell_words.specs.FolderWords.{IsFolder, IsRefused, folder_app, shell_name};
+ghost use Rattle.shell_words.specs.FolderWords.{IsFolder, AreRefusedWords, folder_app, shell_name};
 
 use crate::faults::FolderFault;
 use clap::error::ErrorKind;
@@ -19,7 +19,7 @@ const SHELL_NAME: &str = "mld_shell";
 /// `Usage` where they are anything else, among them no words, `--help` and a word with `-` in front. A `--` before the folder is taken.
 pub fn read_folder(alloc: Global, words: &Vec<String>) -> Result<Text, FolderFault>
     ensures ok { IfOk result (IsFolder (map (λ w. string_bytes w) words.now.items)) }
-    ensures usage { IsErrOf result FolderFault.Usage → IsRefused (map (λ w. string_bytes w) words.now.items) }
+    ensures usage { IsErrOf result FolderFault.Usage → AreRefusedWords (map (λ w. string_bytes w) words.now.items) }
 {
     let named = named_words(alloc, words)?;
     match value_given(alloc, named.as_slice()) {

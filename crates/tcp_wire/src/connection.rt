@@ -1,7 +1,7 @@
 //! One connection.
 ghost use Rattle.std.specs.Prelude.{◌≡◌, ◌≤◌, vec_len, IfOk, IfSome};
 ghost use Rattle.mld_io.specs.Wires.{piece_limit};
-ghost use Rattle.tcp_wire.specs.Wires.{IsSized};
+ghost use Rattle.tcp_wire.specs.TcpWires.{IsSizedEvent};
 
 use crate::framing::Framing;
 use crate::outbox::Outbox;
@@ -91,7 +91,7 @@ impl Connection {
     /// Sends what waits, and reads once, no further than to the end of a frame's head or payload: what
     /// one frame asks for may be much, and others wait meanwhile.
     pub(crate) fn turn(&mut self, alloc: Global) -> Result<Turn, AllocError>
-        ensures sized { IfOk result (λ turn. IfSome turn.event IsSized) }
+        ensures sized { IfOk result (λ turn. IfSome turn.event IsSizedEvent) }
     {
         self.queued = false;
         self.flush();
@@ -124,7 +124,7 @@ impl Connection {
     fn after_read(&mut self, bytes: Vec<u8>, count: io::Result<usize>) -> Turn
         requires within { IfOk count (λ n. n ≤ vec_len bytes) }
         requires few { vec_len bytes ≤ piece_limit }
-        ensures sized { IfSome result.event IsSized }
+        ensures sized { IfSome result.event IsSizedEvent }
     {
         match count {
             Ok(0) => self.end(),
@@ -135,7 +135,7 @@ impl Connection {
 
     /// A read gave nothing.
     fn after_fault(&mut self, error: &io::Error) -> Turn
-        ensures sized { IfSome result.event IsSized }
+        ensures sized { IfSome result.event IsSizedEvent }
     {
         match error.kind() {
             ErrorKind::WouldBlock => Turn {
@@ -158,7 +158,7 @@ impl Connection {
         requires some { 1 ≤ count }
         requires within { count ≤ vec_len bytes }
         requires few { vec_len bytes ≤ piece_limit }
-        ensures sized { IfSome result.event IsSized }
+        ensures sized { IfSome result.event IsSizedEvent }
     {
         if self.is_open() {
             bytes.truncate(count);
@@ -178,7 +178,7 @@ impl Connection {
 
     /// The other end sends no more.
     fn end(&mut self) -> Turn
-        ensures sized { IfSome result.event IsSized }
+        ensures sized { IfSome result.event IsSizedEvent }
     {
         self.ended = true;
         if self.is_open() {

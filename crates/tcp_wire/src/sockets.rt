@@ -1,6 +1,6 @@
 //! The sockets, once they are open.
 ghost use Rattle.std.specs.Prelude.{IfOk};
-ghost use Rattle.tcp_wire.specs.Wires.{IsSized};
+ghost use Rattle.tcp_wire.specs.TcpWires.{IsSizedEvent};
 
 use crate::peer::Peer;
 use crate::table::{LISTENER, Table, both_ways, token};
@@ -61,7 +61,7 @@ impl Sockets {
 
     /// Waits for the next event.
     pub(crate) fn next<R: Net + Clock>(&mut self, rt: &R) -> Result<Event, IoFault>
-        ensures sized { IfOk result IsSized }
+        ensures sized { IfOk result IsSizedEvent }
     {
         for _ in 0..u64::MAX {
             self.table.try_again(rt)?;

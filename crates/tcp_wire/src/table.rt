@@ -1,6 +1,6 @@
 //! The connections, each under its number, and whose turn it is.
 ghost use Rattle.std.specs.Prelude.{IfOk, IfSome};
-ghost use Rattle.tcp_wire.specs.Wires.{IsSized};
+ghost use Rattle.tcp_wire.specs.TcpWires.{IsSizedEvent};
 
 use crate::connection::Connection;
 use crate::peer::{PAUSE, Peer};
@@ -137,7 +137,7 @@ impl Table {
 
     /// Gives the turn to each that waits for it now, until one has an event.
     pub(crate) fn take_turns(&mut self) -> Result<Option<Event>, IoFault>
-        ensures sized { IfOk result (λ found. IfSome found IsSized) }
+        ensures sized { IfOk result (λ found. IfSome found IsSizedEvent) }
     {
         for _ in 0..self.turns.len() {
             let event = match self.turns.pop_front() {
@@ -155,7 +155,7 @@ impl Table {
 
     /// Accepts one connection.
     fn accept(&mut self) -> Result<Option<Event>, IoFault>
-        ensures sized { IfOk result (λ found. IfSome found IsSized) }
+        ensures sized { IfOk result (λ found. IfSome found IsSizedEvent) }
     {
         self.queued = false;
         match self.listener.accept() {
@@ -180,7 +180,7 @@ impl Table {
 
     /// Takes the connection to the peer, where the call is answered.
     fn answer(&mut self) -> Result<Option<Event>, IoFault>
-        ensures sized { IfOk result (λ found. IfSome found IsSized) }
+        ensures sized { IfOk result (λ found. IfSome found IsSizedEvent) }
     {
         let number = self.free_number();
         let Some(peer) = &mut self.peer else {
@@ -202,7 +202,7 @@ impl Table {
 
     /// Takes up a connection.
     fn add(&mut self, number: u32, stream: TcpStream) -> Result<Option<Event>, IoFault>
-        ensures sized { IfOk result (λ found. IfSome found IsSized) }
+        ensures sized { IfOk result (λ found. IfSome found IsSizedEvent) }
     {
         // Where this fails, small pieces may wait a while.
         let _ = stream.set_nodelay(true);
@@ -231,7 +231,7 @@ impl Table {
 
     /// Reads once on a connection.
     fn read(&mut self, number: u32) -> Result<Option<Event>, IoFault>
-        ensures sized { IfOk result (λ found. IfSome found IsSized) }
+        ensures sized { IfOk result (λ found. IfSome found IsSizedEvent) }
     {
         let Some(connection) = self.connections.get_mut(&number) else {
             return Ok(None);

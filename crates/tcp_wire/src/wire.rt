@@ -2,7 +2,7 @@
 ghost use Rattle.std.specs.Prelude.{◌≡◌, ◌-◌, ◌^◌, ◌<◌, None, IfOk};
 ghost use Rattle.mld_io.specs.Faults.{HasSinkCause};
 ghost use Rattle.mld_io.specs.Wires.{CountsEvent};
-ghost use Rattle.tcp_wire.specs.Wires.{IsSized, faults_of, taken_of};
+ghost use Rattle.tcp_wire.specs.TcpWires.{IsSizedEvent, faults_of, count_of_taken};
 
 use crate::sockets::Sockets;
 use mld_io::{Event, IoFault, Wire};
@@ -33,7 +33,7 @@ impl<R: Net + Clock + Drop> TcpWire<R> {
         listen: &str,
         peer: Option<&str>,
     ) -> Result<TcpWire<R>, AllocError>
-        ensures taken { IfOk result (λ wire. taken_of wire ≡ 0) }
+        ensures taken { IfOk result (λ wire. count_of_taken wire ≡ 0) }
         ensures faults { IfOk result (λ wire. faults_of wire ≡ 0) }
     {
         Ok(TcpWire {
@@ -55,7 +55,7 @@ impl<R: Net + Clock + Drop> TcpWire<R> {
     /// Sends what still waits on the connections, and ends once all is sent, nothing of it was taken
     /// for a second, or ten seconds are over. Called before the wire is dropped.
     pub fn finish(&mut self)
-        ensures taken { taken_of self.new ≡ taken_of self.old }
+        ensures taken { count_of_taken self.new ≡ count_of_taken self.old }
         ensures faults { faults_of self.new ≡ faults_of self.old }
     {
         self.ends.finish();
@@ -65,7 +65,7 @@ impl<R: Net + Clock + Drop> TcpWire<R> {
 impl<R: Net + Clock + Drop> Wire for TcpWire<R> {
     ghost log = { λ _. None };
 
-    ghost taken = { taken_of };
+    ghost taken = { count_of_taken };
 
     ghost faults = { faults_of };
 
@@ -118,7 +118,7 @@ struct Ends<R> {
 
 impl<R: Net + Clock + Drop> Ends<R> {
     fn next(&mut self) -> Result<Event, IoFault>
-        ensures sized { IfOk result IsSized }
+        ensures sized { IfOk result IsSizedEvent }
     {
         self.open()?;
         match &mut self.sockets {

@@ -5,7 +5,7 @@ use Rattle.std.proofs.lemmas.List.{length-append, append-nil}
 use Rattle.std.specs.List.{AllByRecursion}
 use Rattle.wire_frames.specs.declared.kinds.Frame.{Frame}
 use Rattle.wire_frames.specs.Frames.{frame_bytes, frames_bytes, IsFrame, HasFrames}
-use Rattle.wire_frames.specs.Reading.{IsFrameAt}
+use Rattle.wire_frames.specs.FrameReading.{IsFrameAt}
 use Rattle.wire_frames.proofs.Heads.{length-frame}
 
 -- these frames are cut off up to a place

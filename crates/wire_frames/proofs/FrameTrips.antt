@@ -8,7 +8,7 @@ use Rattle.wire_frames.specs.declared.faults.FrameFault.{FrameFault}
 use Rattle.wire_frames.specs.declared.faults.FrameFault.TheVariants.{BadFrame, TooLong}
 use Rattle.wire_frames.specs.declared.kinds.Frame.{Frame}
 use Rattle.wire_frames.specs.declared.kinds.Frame.TheVariants.{Hello, Part, Request, Reply, Refuse}
-use Rattle.wire_frames.specs.Frames.{frame_kind, payload, frame_bytes, IsFrame, Ends, Stops}
+use Rattle.wire_frames.specs.Frames.{frame_kind, payload, frame_bytes, IsFrame, StreamEnds, StreamStops}
 use Rattle.wire_frames.proofs.Heads.{head_announces, head_length, payload_fits, frame_head}
 
 -- a number of four bytes that is read from the front of bytes
@@ -81,10 +81,10 @@ one_frame frame other behind left is also e =
     record { frame_same = same_frame frame other is also both.0 same.0; behind_same = same.1 }
 
 -- where a stream ends no frame begins
-pub no_end : (frame : Frame) (rest behind : List ℕ) (fault : Option FrameFault) → IsFrame frame → rest ≡ frame_bytes frame ++ behind → Ends rest fault → ⊥
-no_end frame rest behind fault is e h = by fault (subst (λ (bytes : List ℕ). Ends bytes fault) e h)
+pub no_end : (frame : Frame) (rest behind : List ℕ) (fault : Option FrameFault) → IsFrame frame → rest ≡ frame_bytes frame ++ behind → StreamEnds rest fault → ⊥
+no_end frame rest behind fault is e h = by fault (subst (λ (bytes : List ℕ). StreamEnds bytes fault) e h)
   where
-    by : (fault : Option FrameFault) → Ends (frame_bytes frame ++ behind) fault → ⊥
+    by : (fault : Option FrameFault) → StreamEnds (frame_bytes frame ++ behind) fault → ⊥
     by None ends =
         let head = frame_head frame behind is in
         let a = head_announces (frame_bytes frame ++ behind) (frame_kind frame) (length (payload frame)) (payload frame ++ behind) head in
@@ -102,7 +102,7 @@ no_end frame rest behind fault is e h = by fault (subst (λ (bytes : List ℕ). 
         omega arith
 
 -- a rest ends in one way
-pub one_end : (frames : List Frame) (rest : List ℕ) (fault second : Option FrameFault) → Stops frames rest fault → Stops frames rest second → fault ≡ second
+pub one_end : (frames : List Frame) (rest : List ℕ) (fault second : Option FrameFault) → StreamStops frames rest fault → StreamStops frames rest second → fault ≡ second
 one_end frames rest None None a b = refl
 one_end frames rest None (Some (BadFrame place)) a b =
     let header = b.ends.header in

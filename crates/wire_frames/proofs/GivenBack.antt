@@ -12,8 +12,8 @@ use Rattle.wire_frames.specs.declared.faults.AssemblyFault.TheVariants.{BadPart,
 use Rattle.wire_frames.specs.declared.kinds.Frame.{Frame}
 use Rattle.wire_frames.specs.declared.kinds.Frame.TheVariants.{Part}
 use Rattle.wire_frames.specs.Frames.{part_size, part_limit, message_limit}
-use Rattle.wire_frames.specs.Parts.{part_count, parts_from, AssemblyValue, waits_for, IsNextPart, Assembles}
-use Rattle.wire_frames.specs.PartLaws.{Answers, GivesBack, PartsGiveBack}
+use Rattle.wire_frames.specs.MessageParts.{part_count, parts_from, AssemblyValue, waits_for, IsNextPart, Assembles}
+use Rattle.wire_frames.specs.PartLaws.{AnswersPart, GivesMessageBack, PartsGiveBack}
 use Rattle.wire_frames.proofs.PartFrames.{part_count_few}
 use Rattle.wire_frames.proofs.ShortMessages.{message_some}
 use Rattle.wire_frames.proofs.Spelled.{same_message}
@@ -57,7 +57,7 @@ module _ (message : MessageValue) (number count : ℕ) (old : AssemblyValue) (in
       let parts = w.parts_left in
       ap (λ (l : List ℕ). old.bytes ++ l) (take_all part_size rest (omega arith)) ∙ w.bytes_are
 
-  last_answer : (goes_on : AssemblyValue → Type 0) (result : Result Assembled AssemblyFault) (new : AssemblyValue) → Assembles old number index count (take part_size rest) result new → Answers message number [] goes_on result new
+  last_answer : (goes_on : AssemblyValue → Type 0) (result : Result Assembled AssemblyFault) (new : AssemblyValue) → Assembles old number index count (take part_size rest) result new → AnswersPart message number [] goes_on result new
   last_answer goes_on (Ok (Waiting left)) new a =
       let all = w.all in
       let more = a.more in
@@ -93,7 +93,7 @@ module _ (message : MessageValue) (number count left : ℕ) (old : AssemblyValue
       }
 
   more_answer : (frame : Frame) (frames : List Frame) (goes_on : AssemblyValue → Type 0) → length (frame ∷ frames) ≡ suc left → goes_on taken_on
-      → (result : Result Assembled AssemblyFault) (new : AssemblyValue) → Assembles old number index count (take part_size rest) result new → Answers message number (frame ∷ frames) goes_on result new
+      → (result : Result Assembled AssemblyFault) (new : AssemblyValue) → Assembles old number index count (take part_size rest) result new → AnswersPart message number (frame ∷ frames) goes_on result new
   unfolding taken_on
   more_answer frame frames goes_on many on (Ok (Waiting given)) new a =
       let all = w.all in
@@ -114,12 +114,12 @@ module _ (message : MessageValue) (number count left : ℕ) (old : AssemblyValue
 
 -- the parts of a rest
 rest_given : (left : ℕ) (message : MessageValue) (number count : ℕ) (old : AssemblyValue) (index : ℕ) (rest : List ℕ) → IsMessage message → IsUnderWay message number count left old index rest
-    → GivesBack message (parts_from (suc left) number index count rest) old
+    → GivesMessageBack message (parts_from (suc left) number index count rest) old
 unfolding parts_from
-rest_given zero message number count old index rest is w = last_answer message number count old index rest is w (GivesBack message [])
+rest_given zero message number count old index rest is w = last_answer message number count old index rest is w (GivesMessageBack message [])
 rest_given (suc left) message number count old index rest is w =
     more_answer message number count left old index rest w (Part number (index + 1) count (take part_size (drop part_size rest)))
-    (parts_from left number (index + 1 + 1) count (drop part_size (drop part_size rest))) (GivesBack message (parts_from (suc left) number (index + 1) count (drop part_size rest)))
+    (parts_from left number (index + 1 + 1) count (drop part_size (drop part_size rest))) (GivesMessageBack message (parts_from (suc left) number (index + 1) count (drop part_size rest)))
     (parts_length (suc left) number (index + 1) count (drop part_size rest))
     (rest_given left message number count (taken_on message number count left old index rest w) (index + 1) (drop part_size rest) is (under_way message number count left old index rest w))
 
@@ -128,7 +128,7 @@ given_back message number is fits =
     let size : length (message_bytes message) ≤ message_limit = elim (cases_lt message_limit (length (message_bytes message))) [ inl over ↦ absurd (fits over) | inr within ↦ within ] in
     let some = message_some message in
     let parts : part_count (length (message_bytes message)) ≡ suc (part_count (length (message_bytes message)) - 1) = omega arith in
-    subst (λ (left : ℕ). GivesBack message (parts_from left number 0 (part_count (length (message_bytes message))) (message_bytes message)) (waits_for number)) (sym parts)
+    subst (λ (left : ℕ). GivesMessageBack message (parts_from left number 0 (part_count (length (message_bytes message))) (message_bytes message)) (waits_for number)) (sym parts)
     (rest_given (part_count (length (message_bytes message)) - 1) message number (part_count (length (message_bytes message))) (waits_for number) 0 (message_bytes message) is
     (record {
       number_is = refl;

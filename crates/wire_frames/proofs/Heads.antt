@@ -3,8 +3,8 @@ use Rattle.std.proofs.Common.{◌≡◌, ℕ, ◌+◌, ◌-◌, ◌^◌, ◌<◌
 use Rattle.std.proofs.lemmas.List.{length-append, length-drop, length-take-le, take-append-drop, take_at, drop-drop}
 use Rattle.mld_bytes.proofs.Numbers.{length-u32_bytes, u32_number-bytes, u32_same}
 use Rattle.mld_bytes.specs.Bytes.{u8_bytes, u32_bytes, u32_number, IsAt}
-use Rattle.wire_frames.specs.Frames.{payload_limit, frame_kind, payload, frame_bytes, IsFrame, announced, IsWaiting, IsTooLong, IsBad}
-use Rattle.wire_frames.specs.Reading.{IsFrameOf, IsFrameAt}
+use Rattle.wire_frames.specs.Frames.{payload_limit, frame_kind, payload, frame_bytes, IsFrame, announced, IsWaiting, IsTooLong, IsBadFrame}
+use Rattle.wire_frames.specs.FrameReading.{IsFrameOf, IsFrameAt}
 use Rattle.wire_frames.specs.declared.kinds.Frame.{Frame}
 use Rattle.wire_frames.specs.declared.kinds.Frame.TheVariants.{Hello, Part, Request, Reply, Refuse}
 
@@ -112,7 +112,7 @@ frame_at input at start kind size frame head start_is within whole of =
 
 -- a whole payload of no frame
 pub bad_at : (input : List ℕ) (at start kind size : ℕ) → HasHead (drop at input) kind size (drop start input) → size ≤ payload_limit → size ≤ length input - start
-    → ((frame : Frame) → ¬ IsFrameOf kind (take size (drop start input)) frame) → IsBad (drop at input)
+    → ((frame : Frame) → ¬ IsFrameOf kind (take size (drop start input)) frame) → IsBadFrame (drop at input)
 bad_at input at start kind size head within whole none =
     let a = head_announces (drop at input) kind size (drop start input) head in
     let l = head_length (drop at input) kind size (drop start input) head in

@@ -6,7 +6,7 @@ use Rattle.rdf_terms.specs.Kept.{KeepsStart}
 use Rattle.wire_frames.specs.declared.kinds.Frame.{Frame}
 use Rattle.wire_frames.specs.declared.kinds.Frame.TheVariants.{Part, Reply}
 use Rattle.wire_frames.specs.Frames.{part_size, part_limit, message_limit, frame_bytes, frames_bytes, IsPart}
-use Rattle.wire_frames.specs.Parts.{part_count, parts_from, part_frames, replies_from, reply_parts}
+use Rattle.wire_frames.specs.MessageParts.{part_count, parts_from, part_frames, replies_from, reply_parts}
 
 -- ---- how many
 

@@ -8,7 +8,7 @@ use Rattle.mld_bytes.specs.Bytes.{u32_bytes, piece_bytes, IsAt, IsPieceAt, HasNo
 use Rattle.wire_frames.specs.declared.kinds.Frame.{Frame}
 use Rattle.wire_frames.specs.declared.kinds.Frame.TheVariants.{Hello, Part, Request, Reply, Refuse}
 use Rattle.wire_frames.specs.Frames.{payload_limit, part_size, reply_kind, payload, IsHello, IsPart}
-use Rattle.wire_frames.specs.Reading.{IsFrameOf}
+use Rattle.wire_frames.specs.FrameReading.{IsFrameOf}
 
 -- ---- a kind has one kind of frames
 

@@ -19,7 +19,7 @@ use Rattle.op_codec.specs.Triples.{stored_triple}
 use Rattle.rdf_terms.specs.Spelling.{triple_text}
 use Rattle.rdf_terms.specs.declared.terms.Triple.{Triple}
 use Rattle.wire_frames.specs.Frames.{message_limit}
-use Rattle.wire_frames.specs.Parts.{IsTooLongMessage}
+use Rattle.wire_frames.specs.MessageParts.{IsTooLongMessage}
 
 -- the bytes of an element are among those of all
 element_among : {X : Type 0} (f : X → List ℕ) (xs : List X) (k : ℕ) (d : X) → k < length xs → length (f (slice_index_or xs k d)) ≤ length (flat_map f xs)

@@ -11,7 +11,7 @@ use Rattle.op_codec.proofs.Sequences.{SameParts, same_parts, refuses_rightly}
 use Rattle.wire_frames.specs.declared.faults.AssemblyFault.{AssemblyFault}
 use Rattle.wire_frames.specs.declared.faults.AssemblyFault.TheVariants.{BadPart, NoMemory}
 use Rattle.wire_frames.specs.Assemblies.{IsSpelled, GivesMessage}
-use Rattle.wire_frames.specs.Parts.{AssemblyValue, IsNextPart, HasNoMessage, Assembles}
+use Rattle.wire_frames.specs.MessageParts.{AssemblyValue, IsNextPart, HasNoMessage, Assembles}
 
 -- bytes that begin with two messages begin with one
 message_front : (message other : MessageValue) (rest left : List ℕ) → IsMessage message → IsMessage other → message_bytes message ++ rest ≡ message_bytes other ++ left

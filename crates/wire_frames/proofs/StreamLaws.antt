@@ -7,10 +7,10 @@ use Rattle.wire_frames.specs.declared.faults.FrameFault.{FrameFault}
 use Rattle.wire_frames.specs.declared.faults.FrameFault.TheVariants.{BadFrame, TooLong}
 use Rattle.wire_frames.specs.declared.kinds.Fed.{Fed}
 use Rattle.wire_frames.specs.declared.kinds.Frame.{Frame}
-use Rattle.wire_frames.specs.Frames.{frame_bytes, frames_bytes, IsFrame, HasFrames, IsWaiting, Ends, IsPlaced, Stops, FramesValue, place_behind, Reads, FeedsOn, Feeds}
-use Rattle.wire_frames.specs.FrameLaws.{OneStream, FeedsAll, joined, AnyCutting, WrittenRead}
-use Rattle.wire_frames.specs.declared.cutting.Cut.{Cut}
-use Rattle.wire_frames.specs.Reading.{place_after, IsFaultAt, IsCut, IsFedOn}
+use Rattle.wire_frames.specs.Frames.{frame_bytes, frames_bytes, IsFrame, HasFrames, IsWaiting, StreamEnds, IsPlaced, StreamStops, FramesValue, place_behind_frames, Reads, FeedsOn, Feeds}
+use Rattle.wire_frames.specs.FrameLaws.{OneStream, FeedsAll, joined_pieces, AnyCutting, WrittenRead}
+use Rattle.wire_frames.specs.declared.cutting.CutFrames.{CutFrames}
+use Rattle.wire_frames.specs.FrameReading.{place_after, IsFaultAt, IsCut, IsFedOn}
 use Rattle.wire_frames.proofs.FrameTrips.{one_frame, no_end, one_end}
 
 -- ---- one stream
@@ -25,7 +25,7 @@ in_front : (frame : Frame) (frames : List Frame) (rest : List ℕ) → frames_by
 in_front frame frames rest = append_assoc (frame_bytes frame) (frames_bytes frames) rest
 
 one_list : (frames other : List Frame) (rest left : List ℕ) (fault second : Option FrameFault) → AllByRecursion IsFrame frames → AllByRecursion IsFrame other
-    → frames_bytes frames ++ rest ≡ frames_bytes other ++ left → Ends rest fault → Ends left second → AreOne frames other rest left
+    → frames_bytes frames ++ rest ≡ frames_bytes other ++ left → StreamEnds rest fault → StreamEnds left second → AreOne frames other rest left
 one_list [] [] rest left fault second a b e h k = record { frames_same = refl; rest_same = e }
 one_list [] (frame ∷ other) rest left fault second a b e h k =
     absurd (no_end frame rest (frames_bytes other ++ left) fault b.0 (e ∙ in_front frame other left) h)
@@ -44,7 +44,7 @@ stream_is_one stream frames other rest left fault second h a k b =
     record {
       frames_same = one.frames_same;
       rest_same = one.rest_same;
-      fault_same = one_end frames rest fault second a (subst (λ (l : List ℕ). Stops frames l second) (sym one.rest_same) (subst (λ (fs : List Frame). Stops fs left second) (sym one.frames_same) b));
+      fault_same = one_end frames rest fault second a (subst (λ (l : List ℕ). StreamStops frames l second) (sym one.rest_same) (subst (λ (fs : List Frame). StreamStops fs left second) (sym one.frames_same) b));
     }
 
 -- ---- any cutting
@@ -65,20 +65,20 @@ frames_on stream rest piece left before frames h k = record {
 }
 
 -- the frames of pieces are those of all of them
-cuts : (pieces : List (List ℕ)) (rest : List ℕ) (frames : List Frame) (fault : Option FrameFault) (left : List ℕ) → IsWaiting rest → FeedsAll rest pieces frames fault left → Feeds rest (joined pieces) frames fault left
+cuts : (pieces : List (List ℕ)) (rest : List ℕ) (frames : List Frame) (fault : Option FrameFault) (left : List ℕ) → IsWaiting rest → FeedsAll rest pieces frames fault left → Feeds rest (joined_pieces pieces) frames fault left
 cuts [] rest frames fault left w h = record {
   found = record {
     bytes = append-nil rest ∙ (λ i. frames_bytes (sym h.0 i) ++ sym h.2 i);
     each = subst (λ (fs : List Frame). AllByRecursion IsFrame fs) (sym h.0) tt;
   };
-  ends = subst (λ (f : Option FrameFault). Ends left f) (sym h.1) (subst IsWaiting (sym h.2) w);
+  ends = subst (λ (f : Option FrameFault). StreamEnds left f) (sym h.1) (subst IsWaiting (sym h.2) w);
 }
 cuts (piece ∷ []) rest frames fault left w h = subst (λ (bytes : List ℕ). Feeds rest bytes frames fault left) (sym (append-nil piece)) h
 cuts (piece ∷ (next ∷ pieces)) rest frames fault left w h =
     let behind = cuts (next ∷ pieces) h.between h.later fault left h.feeds.ends h.goes_on in
-    let all = frames_on (rest ++ piece) h.between (joined (next ∷ pieces)) left h.first h.later h.feeds.found behind.found in
+    let all = frames_on (rest ++ piece) h.between (joined_pieces (next ∷ pieces)) left h.first h.later h.feeds.found behind.found in
     record {
-      found = subst (λ (bytes : List ℕ). HasFrames bytes frames left) (append_assoc rest piece (joined (next ∷ pieces))) (subst (λ (fs : List Frame). HasFrames ((rest ++ piece) ++ joined (next ∷ pieces)) fs left) (sym h.frames_are) all);
+      found = subst (λ (bytes : List ℕ). HasFrames bytes frames left) (append_assoc rest piece (joined_pieces (next ∷ pieces))) (subst (λ (fs : List Frame). HasFrames ((rest ++ piece) ++ joined_pieces (next ∷ pieces)) fs left) (sym h.frames_are) all);
       ends = behind.ends;
     }
 
@@ -105,13 +105,13 @@ written_is_read (frame ∷ frames) (first ∷ found) behind left fault is h ends
 -- ---- a reader goes on
 
 -- a fault's place
-placed_so : (frames : List Frame) (place : ℕ) (fault : Option FrameFault) → place ≡ place_behind frames → IsFaultAt place fault → IsPlaced frames fault
+placed_so : (frames : List Frame) (place : ℕ) (fault : Option FrameFault) → place ≡ place_behind_frames frames → IsFaultAt place fault → IsPlaced frames fault
 placed_so frames place None e h = tt
 placed_so frames place (Some (BadFrame at)) e h = h ∙ e
 placed_so frames place (Some (TooLong at)) e h = h ∙ e
 
 -- the place behind frames and more frames
-place_on : (before frames : List Frame) (place : ℕ) → place ≡ place_behind before → place_after place (length (frames_bytes frames)) ≡ place_behind (before ++ frames)
+place_on : (before frames : List Frame) (place : ℕ) → place ≡ place_behind_frames before → place_after place (length (frames_bytes frames)) ≡ place_behind_frames (before ++ frames)
 place_on before frames place e =
     let all : length (frames_bytes (before ++ frames)) ≡ length (frames_bytes before) + length (frames_bytes frames) =
     ap length (flat_map-append frame_bytes before frames) ∙ length-append (frames_bytes before) (frames_bytes frames) in
@@ -121,7 +121,7 @@ place_on before frames place e =
 pub feeds_on : (old new : FramesValue) (stream piece : List ℕ) (before : List Frame) (fed : Fed) → Reads old stream before → IsFedOn old.place old.rest piece fed new.place new.rest
     → FeedsOn stream before piece fed new
 feeds_on old new stream piece before fed reads on =
-    let place : new.place ≡ place_behind (before ++ fed.frames.items) = on.place_is ∙ place_on before fed.frames.items old.place reads.place_is in
+    let place : new.place ≡ place_behind_frames (before ++ fed.frames.items) = on.place_is ∙ place_on before fed.frames.items old.place reads.place_is in
     record {
       frames = frames_on stream old.rest piece new.rest before fed.frames.items reads.frames on.feeds.found;
       stops = record { ends = on.feeds.ends; placed = placed_so (before ++ fed.frames.items) new.place fed.fault place on.placed };
@@ -129,12 +129,12 @@ feeds_on old new stream piece before fed reads on =
     }
 
 -- what was cut off what came of a frame and a piece was read
-pub fed_so : (place new : ℕ) (rest piece whole left : List ℕ) (cut : Cut) → IsCut whole place cut → whole ≡ rest ++ piece → left ≡ drop cut.end whole → new ≡ place_after place cut.end
+pub fed_so : (place new : ℕ) (rest piece whole left : List ℕ) (cut : CutFrames) → IsCut whole place cut → whole ≡ rest ++ piece → left ≡ drop cut.end whole → new ≡ place_after place cut.end
     → IsFedOn place rest piece (record { frames = cut.frames; fault = cut.fault }) new left
 fed_so place new rest piece whole left cut is whole_is left_is new_is = record {
   feeds = record {
     found = subst (λ (l : List ℕ). HasFrames l cut.frames.items left) whole_is (subst (λ (l : List ℕ). HasFrames whole cut.frames.items l) (sym left_is) is.found);
-    ends = subst (λ (l : List ℕ). Ends l cut.fault) (sym left_is) is.ends;
+    ends = subst (λ (l : List ℕ). StreamEnds l cut.fault) (sym left_is) is.ends;
   };
   place_is = new_is ∙ ap (place_after place) is.size;
   placed = subst (λ (n : ℕ). IsFaultAt n cut.fault) (sym new_is) is.placed;

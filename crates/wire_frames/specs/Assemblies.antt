@@ -4,13 +4,13 @@ use Rattle.mld_ops.specs.Messages.{MessageValue, message_value, IsGoodMessage}
 use Rattle.mld_ops.specs.declared.messages.Message.{Message}
 use Rattle.op_codec.specs.MessageBytes.{message_bytes}
 use Rattle.op_codec.specs.Stored.{IsMessage}
-use Rattle.wire_frames.specs.declared.assembling.State.{State}
+use Rattle.wire_frames.specs.declared.assembling.AssemblyState.{AssemblyState}
 use Rattle.wire_frames.specs.declared.faults.AssemblyFault.{AssemblyFault}
 use Rattle.wire_frames.specs.declared.faults.AssemblyFault.TheVariants.{BadPart, NoMemory}
-use Rattle.wire_frames.specs.Parts.{AssemblyValue, HasNoMessage}
+use Rattle.wire_frames.specs.MessageParts.{AssemblyValue, HasNoMessage}
 
 -- an assembly by its fields
-abbrev pub state_value : State → AssemblyValue
+abbrev pub state_value : AssemblyState → AssemblyValue
 state_value state =
     record { number = state.number; count = state.count; index = state.index; bytes = state.bytes.items; good = state.good }
 

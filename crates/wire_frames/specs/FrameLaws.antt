@@ -3,7 +3,7 @@ use Rattle.std.specs.Prelude.{◌≡◌, ℕ, List, [], ◌∷◌, ◌++◌, Opt
 use Rattle.std.specs.List.{AllByRecursion, flat_map}
 use Rattle.wire_frames.specs.declared.faults.FrameFault.{FrameFault}
 use Rattle.wire_frames.specs.declared.kinds.Frame.{Frame}
-use Rattle.wire_frames.specs.Frames.{IsFrame, frames_bytes, HasFrames, Ends, Stops, Feeds}
+use Rattle.wire_frames.specs.Frames.{IsFrame, frames_bytes, HasFrames, StreamEnds, StreamStops, Feeds}
 
 -- two lists of frames, with their rests and faults, are one
 pub record IsSameReading (frames other : List Frame) (rest left : List ℕ) (fault second : Option FrameFault) : Type 0 where
@@ -15,11 +15,11 @@ pub record IsSameReading (frames other : List Frame) (rest left : List ℕ) (fau
 abbrev pub OneStream : Type 0
 OneStream =
     (stream : List ℕ) (frames other : List Frame) (rest left : List ℕ) (fault second : Option FrameFault)
-    → HasFrames stream frames rest → Stops frames rest fault → HasFrames stream other left → Stops other left second
+    → HasFrames stream frames rest → StreamStops frames rest fault → HasFrames stream other left → StreamStops other left second
     → IsSameReading frames other rest left fault second
 
 -- frames of one piece more, where those of the pieces behind it are told
-pub record Goes (rest piece : List ℕ) (frames : List Frame) (behind : List ℕ → List Frame → Type 0) : Type 0 where
+pub record FeedsOneMore (rest piece : List ℕ) (frames : List Frame) (behind : List ℕ → List Frame → Type 0) : Type 0 where
   pub first : List Frame
   pub later : List Frame
   pub between : List ℕ
@@ -32,17 +32,17 @@ abbrev pub FeedsAll : List ℕ → List (List ℕ) → List Frame → Option Fra
 FeedsAll rest [] frames fault left = (frames ≡ []) × (fault ≡ None) × (left ≡ rest)
 FeedsAll rest (piece ∷ []) frames fault left = Feeds rest piece frames fault left
 FeedsAll rest (piece ∷ (next ∷ pieces)) frames fault left =
-    Goes rest piece frames (λ between later. FeedsAll between (next ∷ pieces) later fault left)
+    FeedsOneMore rest piece frames (λ between later. FeedsAll between (next ∷ pieces) later fault left)
 
 -- the pieces of a stream, joined
-abbrev pub joined : List (List ℕ) → List ℕ
-joined pieces = flat_map (λ (piece : List ℕ). piece) pieces
+abbrev pub joined_pieces : List (List ℕ) → List ℕ
+joined_pieces pieces = flat_map (λ (piece : List ℕ). piece) pieces
 
 -- whatever the pieces are that a stream is cut in, their frames are those of the stream
 abbrev pub AnyCutting : Type 0
 AnyCutting =
     (pieces : List (List ℕ)) (frames : List Frame) (fault : Option FrameFault) (left : List ℕ)
-    → FeedsAll [] pieces frames fault left → Feeds [] (joined pieces) frames fault left
+    → FeedsAll [] pieces frames fault left → Feeds [] (joined_pieces pieces) frames fault left
 
 -- frames that begin with these, and then are those of what is behind
 pub record BeginsWith (frames found : List Frame) (behind left : List ℕ) : Type 0 where
@@ -54,4 +54,4 @@ pub record BeginsWith (frames found : List Frame) (behind left : List ℕ) : Typ
 abbrev pub WrittenRead : Type 0
 WrittenRead =
     (frames found : List Frame) (behind left : List ℕ) (fault : Option FrameFault) → AllByRecursion IsFrame frames
-    → HasFrames (frames_bytes frames ++ behind) found left → Ends left fault → BeginsWith frames found behind left
+    → HasFrames (frames_bytes frames ++ behind) found left → StreamEnds left fault → BeginsWith frames found behind left

@@ -101,7 +101,7 @@ pub record IsTooLong (rest : List ℕ) : Type 0 where
   pub over : payload_limit < announced rest
 
 -- the rest of a stream has a whole payload, and begins with no frame
-pub record IsBad (rest : List ℕ) : Type 0 where
+pub record IsBadFrame (rest : List ℕ) : Type 0 where
   pub header : header_size ≤ length rest
   pub within : announced rest ≤ payload_limit
   pub whole : header_size + announced rest ≤ length rest
@@ -126,41 +126,41 @@ abbrev pub place_limit : ℕ
 place_limit = 2 ^ 64 - 1
 
 -- the place behind frames, from the first byte of the stream
-abbrev pub place_behind : List Frame → ℕ
-place_behind frames = min (length (frames_bytes frames)) place_limit
+abbrev pub place_behind_frames : List Frame → ℕ
+place_behind_frames frames = min (length (frames_bytes frames)) place_limit
 
 -- where the frames of a stream end: the rest waits, or it is this fault
-abbrev pub Ends : List ℕ → Option FrameFault → Type 0
-Ends rest None = IsWaiting rest
-Ends rest (Some (BadFrame place)) = IsBad rest
-Ends rest (Some (TooLong place)) = IsTooLong rest
+abbrev pub StreamEnds : List ℕ → Option FrameFault → Type 0
+StreamEnds rest None = IsWaiting rest
+StreamEnds rest (Some (BadFrame place)) = IsBadFrame rest
+StreamEnds rest (Some (TooLong place)) = IsTooLong rest
 
 -- the place of a fault, if there is one, is that of the first byte behind these frames
 abbrev pub IsPlaced : List Frame → Option FrameFault → Type 0
 IsPlaced frames None = Unit {0}
-IsPlaced frames (Some (BadFrame place)) = place ≡ place_behind frames
-IsPlaced frames (Some (TooLong place)) = place ≡ place_behind frames
+IsPlaced frames (Some (BadFrame place)) = place ≡ place_behind_frames frames
+IsPlaced frames (Some (TooLong place)) = place ≡ place_behind_frames frames
 
 -- a stream of these frames and this rest waits there, or has its first fault there
-pub record Stops (frames : List Frame) (rest : List ℕ) (fault : Option FrameFault) : Type 0 where
-  pub ends : Ends rest fault
+pub record StreamStops (frames : List Frame) (rest : List ℕ) (fault : Option FrameFault) : Type 0 where
+  pub ends : StreamEnds rest fault
   pub placed : IsPlaced frames fault
 
 -- a reader has read this stream, whose frames were these
 pub record Reads (state : FramesValue) (stream : List ℕ) (before : List Frame) : Type 0 where
   pub frames : HasFrames stream before state.rest
   pub waiting : IsWaiting state.rest
-  pub place_is : state.place ≡ place_behind before
+  pub place_is : state.place ≡ place_behind_frames before
 
 -- a piece more of a stream was read: the frames up to the first fault of the whole are those before and these, and the reader stands
 -- behind them
 pub record FeedsOn (stream : List ℕ) (before : List Frame) (piece : List ℕ) (fed : Fed) (new : FramesValue) : Type 0 where
   pub frames : HasFrames (stream ++ piece) (before ++ fed.frames.items) new.rest
-  pub stops : Stops (before ++ fed.frames.items) new.rest fed.fault
-  pub place_is : new.place ≡ place_behind (before ++ fed.frames.items)
+  pub stops : StreamStops (before ++ fed.frames.items) new.rest fed.fault
+  pub place_is : new.place ≡ place_behind_frames (before ++ fed.frames.items)
 
 -- the same from the frame that was under way: its bytes and the piece are these frames, and then what is left, which waits or is this
 -- fault, wherever it is told to be
 pub record Feeds (rest piece : List ℕ) (frames : List Frame) (fault : Option FrameFault) (left : List ℕ) : Type 0 where
   pub found : HasFrames (rest ++ piece) frames left
-  pub ends : Ends left fault
+  pub ends : StreamEnds left fault

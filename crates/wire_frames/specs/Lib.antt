@@ -1,6 +1,6 @@
 pub mod Frames
 pub mod FrameLaws
-pub mod Reading
-pub mod Parts
+pub mod FrameReading
+pub mod MessageParts
 pub mod PartLaws
 pub mod Assemblies

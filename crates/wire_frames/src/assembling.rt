@@ -1,7 +1,7 @@
 //! Messages that come in parts.
 ghost use Rattle.std.specs.Prelude.{◌≡◌, ◌≢◌, ◌+◌, ◌<◌, ◌↔◌, length, IsTrue, MatchResult};
 ghost use Rattle.wire_frames.specs.Assemblies.{state_value, GivesMessage};
-ghost use Rattle.wire_frames.specs.Parts.{IsNextPart, IsSized, Assembles, next_number};
+ghost use Rattle.wire_frames.specs.MessageParts.{IsNextPart, IsSizedPart, Assembles, next_number};
 
 use crate::faults::AssemblyFault;
 use crate::kinds::PART_SIZE;
@@ -27,13 +27,13 @@ pub enum Assembled {
 /// parts that came of the message that is under way.
 #[derive(Drop)]
 pub struct Assembly {
-    state: State,
+    state: AssemblyState,
 }
 
 /// The number of the message that is due or under way, how many parts that has, the index of its
 /// next part, and the bytes that came.
 #[derive(Drop)]
-pub struct State {
+pub struct AssemblyState {
     pub alloc: Global,
     pub number: u32,
     pub count: u32,
@@ -44,7 +44,7 @@ pub struct State {
 
 impl Model for Assembly {
     ghost use Rattle.wire_frames.specs.Assemblies.{state_value};
-    ghost use Rattle.wire_frames.specs.Parts.{AssemblyValue};
+    ghost use Rattle.wire_frames.specs.MessageParts.{AssemblyValue};
 
     ghost Value = { AssemblyValue };
 
@@ -52,14 +52,14 @@ impl Model for Assembly {
 }
 
 impl Assembly {
-    ghost use Rattle.wire_frames.specs.Parts.{fresh_assembly};
+    ghost use Rattle.wire_frames.specs.MessageParts.{fresh_assembly};
 
     /// An assembly that waits for the message of number 0.
     pub fn new(alloc: Global) -> Assembly
         ensures { result ≡ fresh_assembly }
     {
         Assembly {
-            state: State {
+            state: AssemblyState {
                 alloc,
                 number: 0,
                 count: 0,
@@ -93,7 +93,7 @@ impl Assembly {
 }
 
 /// Whether a part may be the next one.
-fn is_next_part(state: &State, number: u32, index: u32, count: u32, piece: &[u8]) -> bool
+fn is_next_part(state: &AssemblyState, number: u32, index: u32, count: u32, piece: &[u8]) -> bool
     ensures { IsTrue result ↔ IsNextPart (state_value state.now) number index count piece.now }
 {
     let begun = state.count > 0;
@@ -108,7 +108,7 @@ fn is_next_part(state: &State, number: u32, index: u32, count: u32, piece: &[u8]
 /// Whether a part of this index has as many bytes as it should.
 fn is_sized(index: u32, count: u32, piece: &[u8]) -> bool
     requires { index < count }
-    ensures { IsTrue result ↔ IsSized index count piece.now }
+    ensures { IsTrue result ↔ IsSizedPart index count piece.now }
 {
     if index + 1 < count {
         piece.len() == PART_SIZE
@@ -142,7 +142,7 @@ fn whole_message(alloc: Global, bytes: &[u8]) -> Result<Message, AssemblyFault>
 
 /// Takes a part. The assembly is good where that was taken.
 fn add_part(
-    state: &mut State,
+    state: &mut AssemblyState,
     number: u32,
     index: u32,
     count: u32,
@@ -163,7 +163,7 @@ fn add_part(
         return Ok(Assembled::Waiting(count - (index + 1)));
     }
     let message = whole_message(state.alloc, state.bytes.as_slice())?;
-    *state = State {
+    *state = AssemblyState {
         alloc: state.alloc,
         number: next_number(number),
         count: 0,

@@ -1,7 +1,7 @@
 //! How the bytes of a stream are cut in frames.
 ghost use Rattle.std.specs.Prelude.{◌≡◌, ◌≤◌, ◌<◌, length, drop, IfOk};
 ghost use Rattle.wire_frames.specs.Frames.{payload_limit, reply_kind};
-ghost use Rattle.wire_frames.specs.Reading.{IsOnlyFrameOf, IsNext, IsCut};
+ghost use Rattle.wire_frames.specs.FrameReading.{IsOnlyFrameOf, StandsNext, IsCut};
 
 use crate::faults::FrameFault;
 use crate::kinds::{
@@ -32,7 +32,7 @@ pub enum Next {
 
 /// The frames of an input, the place behind them, and the fault there, if there is one.
 #[derive(Drop)]
-pub struct Cut {
+pub struct CutFrames {
     pub frames: Vec<Frame>,
     pub end: usize,
     pub fault: Option<FrameFault>,
@@ -121,7 +121,7 @@ fn frame_of(alloc: Global, kind: u8, payload: &[u8]) -> Result<Option<Frame>, Al
 /// What an input begins with at a place. Of a frame that isn't whole the header alone is looked at.
 fn next_frame(alloc: Global, input: &[u8], at: usize) -> Result<Next, AllocError>
     requires { at ≤ length input.now }
-    ensures { IfOk result (λ next. IsNext input.now at next) }
+    ensures { IfOk result (λ next. StandsNext input.now at next) }
 {
     let Ok((kind, next)) = take_u8(input, at) else {
         return Ok(Next::Waiting);
@@ -144,7 +144,7 @@ fn next_frame(alloc: Global, input: &[u8], at: usize) -> Result<Next, AllocError
 }
 
 /// The frames of an input, whose first byte has this place in its stream.
-pub fn cut_frames(alloc: Global, input: &[u8], place: u64) -> Result<Cut, AllocError>
+pub fn cut_frames(alloc: Global, input: &[u8], place: u64) -> Result<CutFrames, AllocError>
     ensures { IfOk result (λ cut. IsCut input.now place cut) }
 {
     let mut frames = Vec::new(alloc);
@@ -157,17 +157,17 @@ pub fn cut_frames(alloc: Global, input: &[u8], place: u64) -> Result<Cut, AllocE
             }
             Next::Waiting => {
                 let fault = None;
-                return Ok(Cut { frames, end, fault });
+                return Ok(CutFrames { frames, end, fault });
             }
             Next::Bad => {
                 let place = place.saturating_add(end as u64);
                 let fault = Some(FrameFault::BadFrame { place });
-                return Ok(Cut { frames, end, fault });
+                return Ok(CutFrames { frames, end, fault });
             }
             Next::Long => {
                 let place = place.saturating_add(end as u64);
                 let fault = Some(FrameFault::TooLong { place });
-                return Ok(Cut { frames, end, fault });
+                return Ok(CutFrames { frames, end, fault });
             }
         }
     }

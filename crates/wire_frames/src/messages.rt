@@ -4,7 +4,7 @@ ghost use Rattle.mld_ops.specs.Messages.{message_value};
 ghost use Rattle.op_codec.specs.MessageBytes.{message_bytes};
 ghost use Rattle.rdf_terms.specs.Kept.{KeepsStart};
 ghost use Rattle.wire_frames.specs.Frames.{message_limit, frames_bytes};
-ghost use Rattle.wire_frames.specs.Parts.{IsTooLongMessage, message_parts, part_frames};
+ghost use Rattle.wire_frames.specs.MessageParts.{IsTooLongMessage, message_parts, part_frames};
 
 use crate::faults::PartFault;
 use crate::kinds::PART_SIZE;

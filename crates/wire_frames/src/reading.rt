@@ -1,9 +1,9 @@
 //! The reader of frames.
 ghost use Rattle.std.specs.Prelude.{◌≡◌, ◌≤◌, ℕ, List, length, drop, false, IfOk, OnErr, IsTrue, is_none};
 ghost use Rattle.wire_frames.specs.Frames.{FramesValue, Feeds};
-ghost use Rattle.wire_frames.specs.Reading.{IsFedOn};
+ghost use Rattle.wire_frames.specs.FrameReading.{IsFedOn};
 
-use crate::cutting::{Cut, cut_frames};
+use crate::cutting::{CutFrames, cut_frames};
 use crate::kinds::Fed;
 use std::alloc::{AllocError, Global};
 use std::marker::Model;
@@ -86,7 +86,7 @@ fn feed_on(
     ensures { IfOk result (λ fed. IsFedOn place.old rest.old.items piece.now fed place.new rest.new.items) }
 {
     rest.extend_from_slice(piece)?;
-    let Cut { frames, end, fault } = cut_frames(alloc, rest.as_slice(), *place)?;
+    let CutFrames { frames, end, fault } = cut_frames(alloc, rest.as_slice(), *place)?;
     drop_front(alloc, rest, end)?;
     *place = place.saturating_add(end as u64);
     Ok(Fed { frames, fault })

@@ -2,7 +2,7 @@
 ghost use Rattle.std.specs.Prelude.{◌≡◌, ◌++◌, ◌≤◌, length, OnOk, OnErr};
 ghost use Rattle.rdf_terms.specs.Kept.{KeepsStart};
 ghost use Rattle.wire_frames.specs.Frames.{frames_bytes};
-ghost use Rattle.wire_frames.specs.Parts.{reply_parts};
+ghost use Rattle.wire_frames.specs.MessageParts.{reply_parts};
 
 use crate::kinds::PART_SIZE;
 use crate::writing::append_reply;

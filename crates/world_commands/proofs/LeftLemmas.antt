@@ -52,7 +52,7 @@ use Rattle.world_commands.specs.Asking.{AsksFirst}
 use Rattle.world_commands.specs.Delivering.{IsToldOf}
 use Rattle.world_commands.specs.Doings.{WhereUp, IsNotDown, AppendsDue, UpdatesNone, changes_nothing, has_too_many, breaks_single, ReceivesNone, received_none, held_full, too_deep, doing_nothing, doing_open, doing_update, doing_receive, doing_keep, doing_deliver, KeepsLocally, IsKeepDue, IsKeptAlready}
 use Rattle.world_commands.specs.KeptJournals.{KeepsBy}
-use Rattle.world_commands.specs.LeftBanks.{Doing, Went, LeavesState, leaves_same, leaves_live, leaves_made, leaves_opened, LeavesAt, IsSilent}
+use Rattle.world_commands.specs.LeftBanks.{WorkOnBanks, MakesDeviceCalls, LeavesState, leaves_same, leaves_live, leaves_made, leaves_opened, LeavesAt, IsSilent}
 use Rattle.world_commands.specs.OpeningBanks.{IsOpenedAs}
 use Rattle.world_commands.specs.States.{HasState, Becomes}
 use Rattle.world_commands.specs.StoppedClones.{StopsOnBanks}
@@ -151,14 +151,14 @@ keep_none (keepings.Last count) old new (cut more truncates opened next) not = a
 
 -- so many calls went, where the device tells of them
 went_as : {B : Type 0} (meter : B → Meter) (calls : ℕ) (Done Failed Whole : Type 0) (old now : B) → Metered calls (meter old) (meter now) Done Failed → (Whole → Done)
-    → Went meter calls Whole old now
+    → MakesDeviceCalls meter calls Whole old now
 went_as meter calls Done Failed Whole old now metered all = record { most = metered.lowered; whole = λ whole. (metered.done (all whole)).lowered; caught = metered.caught }
 
-went_past : {B : Type 0} (meter : B → Meter) (calls : ℕ) (Done Whole : Type 0) (old now : B) → (Whole → Done) → Went meter calls Done old now → Went meter calls Whole old now
+went_past : {B : Type 0} (meter : B → Meter) (calls : ℕ) (Done Whole : Type 0) (old now : B) → (Whole → Done) → MakesDeviceCalls meter calls Done old now → MakesDeviceCalls meter calls Whole old now
 went_past meter calls Done Whole old now all went = record { most = went.most; whole = λ whole. went.whole (all whole); caught = went.caught }
 
 -- what a command may do another may, and where all of it was done so was what this one made
-pub left_as : {B : Type 0} (log : B → Option Log) (meter : B → Meter) (one other : Doing) (Done Whole : Type 0) (old new : BankedState B)
+pub left_as : {B : Type 0} (log : B → Option Log) (meter : B → Meter) (one other : WorkOnBanks) (Done Whole : Type 0) (old new : BankedState B)
     → ((clone : LocalClone) (steps : List KeptStep) → one.changes clone steps → other.changes clone steps)
     → ((asker : LocalAsker) (give : GiveValue) → one.takes asker give → other.takes asker give)
     → ((state : RunningClone) → one.idles state → other.idles state) → (Whole → Done)
@@ -172,7 +172,7 @@ left_as log meter one other Done Whole (states.Asking old) new changes takes idl
 left_as log meter one other Done Whole (states.Down old) new changes takes idles all (leaves_opened went left) =
     leaves_opened (went_past meter _ Done Whole old (banks_of_state new) all went) left
 
-module _ {B : Type 0} (log : B → Option Log) (meter : B → Meter) (doing : Doing) (Whole : Type 0) where
+module _ {B : Type 0} (log : B → Option Log) (meter : B → Meter) (doing : WorkOnBanks) (Whole : Type 0) where
   -- where the banks are the same
   pub left_same : (old new : BankedState B) → banks_of_state new ≡ banks_of_state old → (Whole → doing.idles (in_memory old)) → LeavesState log meter doing Whole old new
   left_same old new same idle = leaves_same (ap (λ (b : B). log b) same) (ap (λ (b : B). (meter b).arm) same) idle
@@ -247,7 +247,7 @@ module _ {B : Type 0} (log : B → Option Log) (meter : B → Meter) (doing : Do
       left_still clones clones number there.0 there.1 refl (λ whole. idle whole (in_memory there.0))
 
 -- what a command may do another may, at the clone of a number
-pub left_at_as : {B : Type 0} (log : B → Option Log) (meter : B → Meter) (one other : Doing) (Done Whole : Type 0) (number : ℕ) (old new : List (BankedState B))
+pub left_at_as : {B : Type 0} (log : B → Option Log) (meter : B → Meter) (one other : WorkOnBanks) (Done Whole : Type 0) (number : ℕ) (old new : List (BankedState B))
     → ((clone : LocalClone) (steps : List KeptStep) → one.changes clone steps → other.changes clone steps)
     → ((asker : LocalAsker) (give : GiveValue) → one.takes asker give → other.takes asker give)
     → ((state : RunningClone) → one.idles state → other.idles state) → (Whole → Done)
@@ -404,7 +404,7 @@ module _ {B : Type 0} (log : B → Option Log) (meter : B → Meter) where
   opened_left domain properties old new number banks what told is metered left =
       let same : banks_of_mounted what ≡ banks_of_state told.0 = sym (opened_banks log meter domain properties old new number banks what told is) in
       leaves_opened
-      (subst (λ (b : B). Went meter mount_calls (IsOk told.1) banks b) same
+      (subst (λ (b : B). MakesDeviceCalls meter mount_calls (IsOk told.1) banks b) same
       (went_as meter mount_calls (SyncsBoth what) (FailsToOpen what) (IsOk told.1) banks (banks_of_mounted what) metered (synced_both domain properties number what told is)))
       (subst (λ (b : B). (l : Log) → log banks ≡ Some l → LeavesNothingNew l (log b)) same left)
 

@@ -23,7 +23,7 @@ use Rattle.clone_core.specs.CloneUpdates.{IsDueUpdate, LocallyUpdatesBy, BreaksS
 use Rattle.clone_core.specs.DurableCalls.{ReceivedSteps, WouldReceive, SwapsTo}
 use Rattle.clone_core.specs.Joining.{GivesNone}
 use Rattle.crash_laws.specs.Deeds.{HasLeafToGive}
-use Rattle.world_commands.specs.LeftBanks.{Doing}
+use Rattle.world_commands.specs.LeftBanks.{WorkOnBanks}
 use Rattle.world_commands.specs.declared.keeping.Keeping.{Keeping}
 use Rattle.world_commands.specs.declared.keeping.Keeping.TheVariants as keepings
 
@@ -35,7 +35,7 @@ WhereUp Live Asks (states.Down device) = Unit {0}
 WhereUp Live Asks (states.Live clone) = Live clone
 
 -- nothing
-abbrev pub doing_nothing : Doing
+abbrev pub doing_nothing : WorkOnBanks
 doing_nothing = record { changes = λ old steps. ⊥; takes = λ asker give. ⊥; idles = λ state. Unit {0} }
 
 -- ---- an opening
@@ -47,7 +47,7 @@ IsNotDown (states.Asking asker) = Unit {0}
 IsNotDown (states.Down device) = ⊥
 IsNotDown (states.Live clone) = Unit {0}
 
-abbrev pub doing_open : Doing
+abbrev pub doing_open : WorkOnBanks
 doing_open = record { changes = λ old steps. ⊥; takes = λ asker give. ⊥; idles = IsNotDown }
 
 -- ---- an update
@@ -68,7 +68,7 @@ pub data UpdatesNone (old : LocalClone) (plan : UpdatePlan) : Type 0 where
   breaks_single : (place : List ℕ × List ℕ) → BreaksSingle old plan place → UpdatesNone old plan
 
 -- the operation of a plan is appended
-abbrev pub doing_update : UpdatePlan → Doing
+abbrev pub doing_update : UpdatePlan → WorkOnBanks
 doing_update plan = record {
   changes = λ old steps. AppendsDue old plan steps;
   takes = λ asker give. ⊥;
@@ -84,7 +84,7 @@ pub data ReceivesNone (old : LocalClone) (sent : Message) : Type 0 where
   too_deep : Refuses old sent fault.Deep → ReceivesNone old sent
 
 -- a message is received
-abbrev pub doing_receive : Message → Doing
+abbrev pub doing_receive : Message → WorkOnBanks
 doing_receive sent = record {
   changes = λ old steps. HasLeafToGive old sent × WouldReceive old sent steps;
   takes = λ asker leaf. (give : Give) × (sent ≡ message.JoinGive give) × (leaf ≡ give_value give) × (leaf.id ≡ asker.id);
@@ -92,7 +92,7 @@ doing_receive sent = record {
 }
 
 -- a message of this number is received, where there is one
-abbrev pub doing_deliver : List Message → ℕ → Doing
+abbrev pub doing_deliver : List Message → ℕ → WorkOnBanks
 doing_deliver messages number = record {
   changes = λ old steps. (sent : Message) × (numbered messages number ≡ Some sent) × (doing_receive sent).changes old steps;
   takes = λ asker give. (sent : Message) × (numbered messages number ≡ Some sent) × (doing_receive sent).takes asker give;
@@ -116,7 +116,7 @@ abbrev pub IsKeptAlready : Keeping → LocalClone → Type 0
 IsKeptAlready keepings.Compacted old = AreFusedRuns old.entries old.entries
 IsKeptAlready (keepings.Last count) old = length old.entries ≤ count
 
-abbrev pub doing_keep : Keeping → Doing
+abbrev pub doing_keep : Keeping → WorkOnBanks
 doing_keep keeping = record {
   changes = λ old steps. (next : LocalClone) × IsKeepDue keeping old × KeepsLocally keeping old next × SwapsTo next steps;
   takes = λ asker give. ⊥;

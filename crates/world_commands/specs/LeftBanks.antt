@@ -19,37 +19,37 @@ use Rattle.world_commands.specs.WorldBanks.{BankedState, in_memory, banks_of_sta
 
 -- what a clone may do on its banks for a command: these changes, where it is live; or it takes this leaf, where it asks for one; or it has
 -- nothing to do on them
-pub record Doing : Type 1 where
+pub record WorkOnBanks : Type 1 where
   pub changes : LocalClone → List KeptStep → Type 0
   pub takes : LocalAsker → GiveValue → Type 0
   pub idles : RunningClone → Type 0
 
 -- so many calls of a device that write or sync were made at most, and just so many where all of them were done (`Whole`); a caught call is no
 -- fault of the device's own
-pub record Went {B : Type 0} (meter : B → Meter) (calls : ℕ) (Whole : Type 0) (old now : B) : Type 0 where
+pub record MakesDeviceCalls {B : Type 0} (meter : B → Meter) (calls : ℕ) (Whole : Type 0) (old now : B) : Type 0 where
   pub most : LowersAtMost calls (meter old).arm (meter now).arm
   pub whole : Whole → LowersBy calls (meter old).arm (meter now).arm
   pub caught : (meter now).arm ≡ Caught → HadNoFault (meter old) (meter now)
 
 -- a state of the clone, and the one that it was left in
-pub data LeavesState {B : Type 0} (log : B → Option Log) (meter : B → Meter) (doing : Doing) (Whole : Type 0) : BankedState B → BankedState B → Type 0 where
+pub data LeavesState {B : Type 0} (log : B → Option Log) (meter : B → Meter) (doing : WorkOnBanks) (Whole : Type 0) : BankedState B → BankedState B → Type 0 where
   -- no call was made that writes or syncs; where all was done, there was nothing to do
   leaves_same : {old new : BankedState B} → log (banks_of_state new) ≡ log (banks_of_state old)
       → (meter (banks_of_state new)).arm ≡ (meter (banks_of_state old)).arm → (Whole → doing.idles (in_memory old)) → LeavesState log meter doing Whole old new
   -- a live clone made such changes, or some of them: at each moment a crash leaves it after a front of them
-  leaves_live : {old new : BankedClone B} (steps : List KeptStep) → doing.changes old.local steps → Went meter (calls_of_all steps) Whole old.banks new.banks
+  leaves_live : {old new : BankedClone B} (steps : List KeptStep) → doing.changes old.local steps → MakesDeviceCalls meter (calls_of_all steps) Whole old.banks new.banks
       → LeavesFronts log meter steps old new.banks → LeavesState log meter doing Whole (states.Live old) (states.Live new)
   -- one who asks took a leaf, or was stopped: at each moment a crash leaves its banks as they were, or the clone at that leaf
   leaves_made : {old : BankedAsker B} {new : BankedState B} (give : GiveValue) → doing.takes old.asker give
-      → Went meter (calls_of_all (Created (head_of (joined_clone old.asker give)) ∷ [])) Whole old.banks (banks_of_state new)
+      → MakesDeviceCalls meter (calls_of_all (Created (head_of (joined_clone old.asker give)) ∷ [])) Whole old.banks (banks_of_state new)
       → LeavesMade log meter (head_of (joined_clone old.asker give)) old.banks (banks_of_state new)
       → LeavesState log meter doing Whole (states.Asking old) new
   -- a clone that is down was opened, or was not: a crash leaves nothing that it might not have left before
-  leaves_opened : {old : B} {new : BankedState B} → Went meter mount_calls Whole old (banks_of_state new)
+  leaves_opened : {old : B} {new : BankedState B} → MakesDeviceCalls meter mount_calls Whole old (banks_of_state new)
       → ((l : Log) → log old ≡ Some l → LeavesNothingNew l (log (banks_of_state new))) → LeavesState log meter doing Whole (states.Down old) new
 
 -- the clone of the number was left so, and the others are as they were
-pub record LeavesAt {B : Type 0} (log : B → Option Log) (meter : B → Meter) (doing : Doing) (Whole : Type 0) (number : ℕ) (old new : List (BankedState B)) : Type 0 where
+pub record LeavesAt {B : Type 0} (log : B → Option Log) (meter : B → Meter) (doing : WorkOnBanks) (Whole : Type 0) (number : ℕ) (old new : List (BankedState B)) : Type 0 where
   pub was : BankedState B
   pub now : BankedState B
   pub before : HasState old number was

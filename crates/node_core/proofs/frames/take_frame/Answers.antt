@@ -1,5 +1,5 @@
 use Rattle.node_exchange.specs.Exchanges.{holding, refusing}
-use Rattle.node_keeper.specs.States.{keeper_of}
+use Rattle.node_keeper.specs.NodeStates.{keeper_of}
 use Rattle.node_core.proofs.KindLaws.{quiet_done, reply_step, refuse_step}
 use Rattle.node_core.proofs.QuietLaws.{quiet_told}
 use Rattle.node_core.proofs.frames.take_frame.Goals as goal

@@ -1,9 +1,9 @@
 use Rattle.std.proofs.Common.{refl}
 use Rattle.node_exchange.specs.Exchanges.{holding, refusing}
-use Rattle.node_keeper.specs.States.{banks_of, keeper_of}
+use Rattle.node_keeper.specs.NodeStates.{state_banks, keeper_of}
 use Rattle.wire_frames.specs.declared.kinds.Frame.TheVariants as kinds
-use Rattle.node_model.specs.Keepers.{found_of}
-use Rattle.node_core.specs.Events.{IsDueByFrame}
+use Rattle.node_model.specs.Keepers.{keeper_found}
+use Rattle.node_core.specs.NodeEvents.{IsDueByFrame}
 use Rattle.node_core.proofs.KindLaws.{keeps_all, quiet_done, part_none, part_waits, part_is_bad, message_answered, message_refused}
 use Rattle.node_core.proofs.QuietLaws.{quiet_stops, stops_none}
 use Rattle.node_core.proofs.frames.take_part.Goals as goal
@@ -37,8 +37,8 @@ returns-in-Some-Err-BadPart-clause-done g c =
 
 pub returns-in-Some-Err-BadPart-clause-stopped : goal.returns-in-Some-Err-BadPart-clause-stopped
 returns-in-Some-Err-BadPart-clause-stopped g c =
-    quiet_stops g.B.Banks.log g.B.Banks.meter c.args.state (IsDueByFrame (keeper_of c.args.state) c.args.one.role (kinds.Part c.args.number c.args.index c.args.count c.args.piece)) (found_of (keeper_of c.args.state)) c.refuse-in-Some-Err-BadPart.result c.refuse-in-Some-Err-BadPart.ensures.err
+    quiet_stops g.B.Banks.log g.B.Banks.meter c.args.state (IsDueByFrame (keeper_of c.args.state) c.args.one.role (kinds.Part c.args.number c.args.index c.args.count c.args.piece)) (keeper_found (keeper_of c.args.state)) c.refuse-in-Some-Err-BadPart.result c.refuse-in-Some-Err-BadPart.ensures.err
 
 pub returns-in-Some-Err-NoMemory-clause-stopped : goal.returns-in-Some-Err-NoMemory-clause-stopped
 returns-in-Some-Err-NoMemory-clause-stopped g c =
-    stops_none (IsDueByFrame (keeper_of c.args.state) c.args.one.role (kinds.Part c.args.number c.args.index c.args.count c.args.piece)) g.B.Banks.log (found_of (keeper_of c.args.state)) (banks_of c.args.state) c.into_banks.result c.into_banks.ensures.banks
+    stops_none (IsDueByFrame (keeper_of c.args.state) c.args.one.role (kinds.Part c.args.number c.args.index c.args.count c.args.piece)) g.B.Banks.log (keeper_found (keeper_of c.args.state)) (state_banks c.args.state) c.into_banks.result c.into_banks.ensures.banks

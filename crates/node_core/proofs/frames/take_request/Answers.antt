@@ -1,7 +1,7 @@
 use Rattle.std.proofs.Common.{sym, ◌∙◌, ap}
 use Rattle.wire_frames.specs.declared.kinds.Frame.TheVariants as kinds
 use Rattle.node_exchange.specs.Exchanges.{ExchangeValue, holding, refusing}
-use Rattle.node_keeper.specs.States.{keeper_of}
+use Rattle.node_keeper.specs.NodeStates.{keeper_of}
 use Rattle.node_core.proofs.KindLaws.{quiet_done, request_misplaced, request_answered}
 use Rattle.node_core.proofs.frames.take_request.Goals as goal
 

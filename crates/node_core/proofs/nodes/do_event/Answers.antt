@@ -1,6 +1,6 @@
 use Rattle.std.proofs.Common.{sym, subst}
 use Rattle.mld_io.specs.declared.events.Event.{Event}
-use Rattle.node_core.specs.Events.{DoesEvent}
+use Rattle.node_core.specs.NodeEvents.{DoesEvent}
 use Rattle.node_core.specs.Steps.{node_with, taken_node}
 use Rattle.node_core.proofs.PieceLaws.{open_answered, shut_done, end_done}
 use Rattle.node_core.proofs.nodes.do_event.Goals as goal

@@ -1,6 +1,6 @@
-use Rattle.node_keeper.specs.States.{banks_of, keeper_of}
-use Rattle.node_model.specs.Keepers.{found_of}
-use Rattle.node_core.specs.Events.{IsDueByPiece}
+use Rattle.node_keeper.specs.NodeStates.{state_banks, keeper_of}
+use Rattle.node_model.specs.Keepers.{keeper_found}
+use Rattle.node_core.specs.NodeEvents.{IsDueByPiece}
 use Rattle.node_core.proofs.PieceLaws.{piece_may}
 use Rattle.node_core.proofs.QuietLaws.{stops_none}
 use Rattle.node_core.proofs.pieces.take_piece.Goals as goal
@@ -11,4 +11,4 @@ take_fed-requires-clause-goes_on g c =
 
 pub returns-in-Err-clause-stopped : goal.returns-in-Err-clause-stopped
 returns-in-Err-clause-stopped g c =
-    stops_none (IsDueByPiece (keeper_of c.args.state) c.args.one c.args.others.items c.args.piece.now) g.B.Banks.log (found_of (keeper_of c.args.state)) (banks_of c.args.state) c.into_banks.result c.into_banks.ensures.banks
+    stops_none (IsDueByPiece (keeper_of c.args.state) c.args.one c.args.others.items c.args.piece.now) g.B.Banks.log (keeper_found (keeper_of c.args.state)) (state_banks c.args.state) c.into_banks.result c.into_banks.ensures.banks

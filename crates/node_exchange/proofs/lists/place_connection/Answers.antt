@@ -1,7 +1,7 @@
 use Rattle.std.proofs.Common.{◌≡◌, ℕ, List, length, unwrap_or, sym, ◌∙◌, ap, subst, arith}
 use Rattle.std.specs.List.{insert}
 use Rattle.node_exchange.specs.declared.connections.Connection.{Connection}
-use Rattle.node_exchange.specs.Connections.{AreNumbered, placed}
+use Rattle.node_exchange.specs.Connections.{AreNumbered, connections_with}
 use Rattle.node_exchange.proofs.PlaceLaws.{placed_first, placed_numbered}
 use Rattle.node_exchange.proofs.lists.place_connection.Goals as goal
 
@@ -13,7 +13,7 @@ returns-clause-placed c =
     c.unwrap_or-place.ensures ∙ ap (λ (n : ℕ). unwrap_or c.place_behind.result n) all in
     let there = placed_first c.args.one xs c.place_behind.result c.unwrap_or-place.result c.place_behind.ensures place in
     c.in_ok-insert.ensures.items
-    ∙ sym (subst (λ (l : List Connection). placed c.args.one l ≡ insert l c.unwrap_or-place.result c.args.one) c.as_slice.ensures.value there)
+    ∙ sym (subst (λ (l : List Connection). connections_with c.args.one l ≡ insert l c.unwrap_or-place.result c.args.one) c.as_slice.ensures.value there)
 
 pub returns-clause-numbered : goal.returns-clause-numbered
 returns-clause-numbered c = λ h n.

@@ -2,14 +2,14 @@ use Rattle.std.proofs.Common.{◌≡◌, sym, subst}
 use Rattle.mld_ops.specs.Messages.{CarriesWant}
 use Rattle.journal_store.specs.Closing.{StaysTold}
 use Rattle.clone_core.specs.Banked.{BankedAsker}
-use Rattle.shell_session.specs.Lines.{StopsIn, Meters}
+use Rattle.shell_session.specs.SessionLines.{LeavesFrontOfDue, Meters}
 use Rattle.node_exchange.specs.Exchanges.{telling}
-use Rattle.node_model.specs.Keepers.{Asks, found_of}
-use Rattle.node_model.specs.Messages.{ignores}
+use Rattle.node_model.specs.Keepers.{Asks, keeper_found}
+use Rattle.node_model.specs.NodeMessages.{ignores}
 use Rattle.node_keeper.specs.declared.states.NodeState.{NodeState}
 use Rattle.node_keeper.specs.declared.states.NodeState.TheVariants as states
-use Rattle.node_keeper.specs.States.{FailsOnDevice, IsOpen}
-use Rattle.node_keeper.specs.Deeds.{ReceivesOn, IsDueByMessage}
+use Rattle.node_keeper.specs.NodeStates.{StateFailsOnDevice, IsOpen}
+use Rattle.node_keeper.specs.NodeDeeds.{ReceivesOn, IsDueByMessage}
 use Rattle.node_keeper.proofs.CallLaws.{handed_on, given_back, joined_node, joined_stops, asks_on, begun_banks, begun_fine}
 use Rattle.node_keeper.proofs.MeterLaws.{meters_of}
 use Rattle.node_keeper.proofs.adopting.receive_asking.Goals as goal
@@ -39,7 +39,7 @@ returns-in-Joined-clause-stopped g c =
     let at = c.in-Joined in
     let adopts = at.ensures.adopts in
     let keeper = Asks c.args.asker.asker in
-    given_back (λ (b : g.row.B.Denot). StopsIn (IsDueByMessage keeper c.args.message.now) log (found_of keeper) c.args.asker.banks b)
+    given_back (λ (b : g.row.B.Denot). LeavesFrontOfDue (IsDueByMessage keeper c.args.message.now) log (keeper_found keeper) c.args.asker.banks b)
     c.begin.result at.clone.banks c.begin.ensures.err
     (joined_stops log g.B.Banks.meter c.args.asker c.args.message.now at.clone.banks adopts.0 adopts.1 (at.ensures.durable adopts.0 adopts.1))
 
@@ -56,7 +56,7 @@ returns-in-Joined-clause-fault g c =
     let meter = g.B.Banks.meter in
     let at = c.in-Joined in
     let fine = begun_fine c.begin.result at.clone c.begin.ensures.err in
-    subst (λ (b : g.row.B.Denot). Meters (meter c.args.asker.banks) (meter b) (FailsOnDevice c.begin.result))
+    subst (λ (b : g.row.B.Denot). Meters (meter c.args.asker.banks) (meter b) (StateFailsOnDevice c.begin.result))
     (sym (begun_banks c.begin.result at.clone c.begin.ensures.same c.begin.ensures.err))
     (meters_of _ (meter c.args.asker.banks) (meter at.clone.banks) fine (λ never. absurd never) at.ensures.meter)
 

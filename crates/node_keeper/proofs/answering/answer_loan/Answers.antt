@@ -1,7 +1,7 @@
 use Rattle.std.proofs.Common.{◌≡◌, List, ℕ, subst}
 use Rattle.node_requests.specs.RequestLines.{SpellsRequest}
 use Rattle.node_model.specs.Keepers.{Lives}
-use Rattle.node_keeper.specs.Deeds.{IsDueByCommand, IsDueByRequest}
+use Rattle.node_keeper.specs.NodeDeeds.{IsDueByCommand, IsDueByRequest}
 use Rattle.node_keeper.proofs.CallLaws.{on_ok, on_err_as, goes_so, stops_so, takes_request}
 use Rattle.node_keeper.proofs.answering.answer_loan.Goals as goal
 

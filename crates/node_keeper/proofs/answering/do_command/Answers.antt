@@ -1,9 +1,9 @@
 use Rattle.std.proofs.Common.{◌≡◌, ◌≤◌, ℕ, List, length, sym, ap, subst}
 use Rattle.mld_ops.specs.Entry.{EntryValue}
 use Rattle.shell_model.specs.ShellStep.{LiveStep}
-use Rattle.shell_session.specs.LiveCalls.{Answers}
+use Rattle.shell_session.specs.LiveCalls.{CloneAnswers}
 use Rattle.wire_frames.specs.Frames.{frames_bytes}
-use Rattle.wire_frames.specs.Parts.{reply_parts}
+use Rattle.wire_frames.specs.MessageParts.{reply_parts}
 use Rattle.node_exchange.specs.Exchanges.{saying}
 use Rattle.node_keeper.proofs.CallLaws.{on_err, command_puts, command_text, command_goes, command_stops}
 use Rattle.node_keeper.proofs.answering.do_command.Goals as goal
@@ -13,7 +13,7 @@ tell_made-requires g c =
     let old = c.args.clone.now in
     let new = c.do_live.new.clone in
     let text = c.do_live.new.out.items in
-    let does = subst (λ (front : List ℕ). Answers g.B.Banks.log g.B.Banks.meter (LiveStep old.generation old.local c.args.command.now) old front new text)
+    let does = subst (λ (front : List ℕ). CloneAnswers g.B.Banks.log g.B.Banks.meter (LiveStep old.generation old.local c.args.command.now) old front new text)
     c.new-text.ensures.items c.in_ok-do_live.ensures.done in
     command_puts g.B.Banks.log g.B.Banks.meter old new c.args.command.now text (length c.journal-kept.result.now)
     (ap (λ (entries : List EntryValue). length entries) c.journal-kept.ensures) does
@@ -23,7 +23,7 @@ returns-in_err-tell_made-clause-stopped g c =
     let old = c.args.clone.now in
     let new = c.do_live.new.clone in
     let text = c.do_live.new.out.items in
-    let does = subst (λ (front : List ℕ). Answers g.B.Banks.log g.B.Banks.meter (LiveStep old.generation old.local c.args.command.now) old front new text)
+    let does = subst (λ (front : List ℕ). CloneAnswers g.B.Banks.log g.B.Banks.meter (LiveStep old.generation old.local c.args.command.now) old front new text)
     c.new-text.ensures.items c.in_ok-do_live.ensures.done in
     on_err c.from_residual-in_err-tell_made.result (command_stops g.B.Banks.log g.B.Banks.meter old new c.args.command.now text does)
 
@@ -32,7 +32,7 @@ say_reply-requires g c =
     let old = c.args.clone.now in
     let new = c.do_live.new.clone in
     let text = c.do_live.new.out.items in
-    let does = subst (λ (front : List ℕ). Answers g.B.Banks.log g.B.Banks.meter (LiveStep old.generation old.local c.args.command.now) old front new text)
+    let does = subst (λ (front : List ℕ). CloneAnswers g.B.Banks.log g.B.Banks.meter (LiveStep old.generation old.local c.args.command.now) old front new text)
     c.new-text.ensures.items c.in_ok-do_live.ensures.done in
     subst (λ (bytes : List ℕ). 1 ≤ length bytes) (sym c.as_slice.ensures.value)
     (command_text g.B.Banks.log g.B.Banks.meter old new c.args.command.now text does)
@@ -42,7 +42,7 @@ returns-in_err-say_reply-clause-stopped g c =
     let old = c.args.clone.now in
     let new = c.do_live.new.clone in
     let text = c.do_live.new.out.items in
-    let does = subst (λ (front : List ℕ). Answers g.B.Banks.log g.B.Banks.meter (LiveStep old.generation old.local c.args.command.now) old front new text)
+    let does = subst (λ (front : List ℕ). CloneAnswers g.B.Banks.log g.B.Banks.meter (LiveStep old.generation old.local c.args.command.now) old front new text)
     c.new-text.ensures.items c.in_ok-do_live.ensures.done in
     on_err c.from_residual-in_err-say_reply.result (command_stops g.B.Banks.log g.B.Banks.meter old new c.args.command.now text does)
 
@@ -53,7 +53,7 @@ returns-clause-done g c =
     let text = c.do_live.new.out.items in
     let middle = c.tell_made.new.exchange in
     let after = c.say_reply.new.exchange in
-    let does = subst (λ (front : List ℕ). Answers g.B.Banks.log g.B.Banks.meter (LiveStep old.generation old.local c.args.command.now) old front new text)
+    let does = subst (λ (front : List ℕ). CloneAnswers g.B.Banks.log g.B.Banks.meter (LiveStep old.generation old.local c.args.command.now) old front new text)
     c.new-text.ensures.items c.in_ok-do_live.ensures.done in
     command_goes g.B.Banks.log g.B.Banks.meter old new c.args.command.now text (length c.journal-kept.result.now) c.args.number c.args.exchange.now middle after
     (ap (λ (entries : List EntryValue). length entries) c.journal-kept.ensures) does c.in_ok-tell_made.ensures

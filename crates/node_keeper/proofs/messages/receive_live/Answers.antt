@@ -1,7 +1,7 @@
 use Rattle.std.proofs.Common.{sym, subst}
-use Rattle.shell_session.specs.Lines.{StopsIn}
-use Rattle.node_model.specs.Keepers.{Lives, found_of}
-use Rattle.node_keeper.specs.Deeds.{IsDueByMessage}
+use Rattle.shell_session.specs.SessionLines.{LeavesFrontOfDue}
+use Rattle.node_model.specs.Keepers.{Lives, keeper_found}
+use Rattle.node_keeper.specs.NodeDeeds.{IsDueByMessage}
 use Rattle.node_keeper.proofs.CallLaws.{node_goes, node_stops}
 use Rattle.node_keeper.proofs.messages.receive_live.Goals as goal
 
@@ -13,5 +13,5 @@ returns-in-Err-clause-stopped g c =
     let log = g.B.Banks.log in
     let old = c.args.clone in
     let keeper = Lives old.generation old.local in
-    subst (λ (b : g.row.B.Denot). StopsIn (IsDueByMessage keeper c.args.message.now) log (found_of keeper) old.banks b) (sym c.stop.ensures.banks)
+    subst (λ (b : g.row.B.Denot). LeavesFrontOfDue (IsDueByMessage keeper c.args.message.now) log (keeper_found keeper) old.banks b) (sym c.stop.ensures.banks)
     (node_stops log g.B.Banks.meter old (IsDueByMessage keeper c.args.message.now) c.receive_loan.new.clone.banks c.in-Err.ensures.stopped)

@@ -1,6 +1,6 @@
 use Rattle.std.proofs.Common.{◌≡◌, ℕ, List, length, sym, ap, subst}
 use Rattle.mld_ops.specs.Entry.{EntryValue}
-use Rattle.node_keeper.specs.Calls.{MayBeSent, HasSent}
+use Rattle.node_keeper.specs.LoanCalls.{MayBeSent, HasSent}
 use Rattle.node_keeper.proofs.CallLaws.{on_ok, on_err, may_be_sent, receive_goes, receive_stops}
 use Rattle.node_keeper.proofs.MeterLaws.{meters_of}
 use Rattle.node_keeper.proofs.messages.receive_loan.Goals as goal

@@ -1,5 +1,5 @@
 use Rattle.node_model.specs.Keepers.{Asks}
-use Rattle.node_keeper.specs.Deeds.{IsDueByRequest}
+use Rattle.node_keeper.specs.NodeDeeds.{IsDueByRequest}
 use Rattle.node_keeper.proofs.CallLaws.{asks_on, asks_stops}
 use Rattle.node_keeper.proofs.requests.answer_asking.Goals as goal
 

@@ -1,7 +1,7 @@
 use Rattle.std.proofs.Common.{sym, subst}
-use Rattle.shell_session.specs.Lines.{StopsIn}
-use Rattle.node_model.specs.Keepers.{Lives, found_of}
-use Rattle.node_keeper.specs.Deeds.{IsDueByRequest}
+use Rattle.shell_session.specs.SessionLines.{LeavesFrontOfDue}
+use Rattle.node_model.specs.Keepers.{Lives, keeper_found}
+use Rattle.node_keeper.specs.NodeDeeds.{IsDueByRequest}
 use Rattle.node_keeper.proofs.CallLaws.{node_goes, node_stops}
 use Rattle.node_keeper.proofs.requests.answer_live.Goals as goal
 
@@ -14,7 +14,7 @@ returns-in-Err-clause-stopped g c =
     let log = g.B.Banks.log in
     let old = c.args.clone in
     let keeper = Lives old.generation old.local in
-    subst (λ (b : g.row.B.Denot). StopsIn (IsDueByRequest keeper c.args.line.now) log (found_of keeper) old.banks b) (sym c.stop.ensures.banks)
+    subst (λ (b : g.row.B.Denot). LeavesFrontOfDue (IsDueByRequest keeper c.args.line.now) log (keeper_found keeper) old.banks b) (sym c.stop.ensures.banks)
     (node_stops log g.B.Banks.meter old (IsDueByRequest keeper c.args.line.now) c.answer_loan.new.clone.banks c.in-Err.ensures.stopped)
 
 pub returns-in-Ok-clause-opened : goal.returns-in-Ok-clause-opened

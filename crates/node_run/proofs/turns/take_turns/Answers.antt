@@ -1,6 +1,6 @@
 use Rattle.std.proofs.Common.{◌≡◌, ℕ, ◌∷◌, ◌∙◌, refl, sym, ap, arith, Some}
 use Rattle.mld_io.specs.declared.events.WireCall.TheVariants.{Took}
-use Rattle.node_core.specs.Nodes.{banks_of}
+use Rattle.node_core.specs.Nodes.{node_banks}
 use Rattle.node_run.specs.ServiceEnds.{HasEnded, HasTurned}
 use Rattle.node_run.specs.ServiceStatuses.{stop_of_wire}
 use Rattle.node_run.proofs.CountLaws.{counts_next, counts_turn, counts_behind}
@@ -14,7 +14,7 @@ pub loop-alloc-init : goal.loop-alloc-init
 loop-alloc-init g c = record {
   way = λ texts words found old are same begun. way_first g.B.Banks.log found old texts c.args.turns (g.W.Wire.log c.args.wire.now) words c.args.state c.new-node.result are same begun c.new-node.ensures;
   opened = rw c.new-node.ensures c.requires.opened;
-  meters = meters_none _ _ (ap (λ n. g.B.Banks.meter (banks_of n)) c.new-node.ensures) (λ none. none);
+  meters = meters_none _ _ (ap (λ n. g.B.Banks.meter (node_banks n)) c.new-node.ensures) (λ none. none);
   counted = c.requires.taken;
   few = omega arith;
   quiet = refl;

@@ -1,23 +1,23 @@
 use Rattle.std.proofs.Common.{◌≡◌, ℕ, ◌-◌, ◌≤◌, List, Option, Some}
 use Rattle.mld_io.specs.Disk.{Log}
-use Rattle.shell_model.specs.Shells.{Found}
-use Rattle.shell_session.specs.Lines.{Meters}
+use Rattle.shell_model.specs.Shells.{FoundOnBanks}
+use Rattle.shell_session.specs.SessionLines.{Meters}
 use Rattle.node_words.specs.declared.node.NodeWords.{NodeWords}
 use Rattle.node_words.specs.Words.{AreWords}
-use Rattle.node_keeper.specs.States.{IsOpen}
-use Rattle.node_keeper.specs.States as states
-use Rattle.node_core.specs.Nodes.{banks_of}
-use Rattle.node_run.specs.Begun.{BeginsOn}
+use Rattle.node_keeper.specs.NodeStates.{IsOpen}
+use Rattle.node_keeper.specs.NodeStates as states
+use Rattle.node_core.specs.Nodes.{node_banks}
+use Rattle.node_run.specs.NodeBegun.{BeginsOn}
 use Rattle.node_run.specs.ServiceUnderWay.{IsServiceUnderWay}
 use Rattle.node_run.proofs.turns.take_turns.Given as goal
 
 abbrev pub invariant-loop-alloc : goal.invariant-loop-alloc
 invariant-loop-alloc g l = record {
-  way : (texts : List (List ℕ)) (words : NodeWords) (found : Found) (old : Option Log) → AreWords texts words → words.turns ≡ l.turns
+  way : (texts : List (List ℕ)) (words : NodeWords) (found : FoundOnBanks) (old : Option Log) → AreWords texts words → words.turns ≡ l.turns
       → BeginsOn g.B.Banks.log words found old l.fn.state
       → IsServiceUnderWay g.B.Banks.log found old texts l.turns (g.W.Wire.log l.fn.wire) (g.W.Wire.log l.wire) l.node l.taken;
   opened : IsOpen l.node.state;
-  meters : Meters (g.B.Banks.meter (states.banks_of l.fn.state)) (g.B.Banks.meter (banks_of l.node)) ⊥;
+  meters : Meters (g.B.Banks.meter (states.state_banks l.fn.state)) (g.B.Banks.meter (node_banks l.node)) ⊥;
   counted : g.W.Wire.taken l.wire ≡ l.taken;
   few : l.taken ≤ l.turns;
   quiet : g.W.Wire.faults l.wire ≡ g.W.Wire.faults l.fn.wire;

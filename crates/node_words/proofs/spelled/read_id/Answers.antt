@@ -1,6 +1,6 @@
 use Rattle.std.proofs.Common.{Some, sym}
 use Rattle.std.proofs.lemmas.Bool.{false≢true}
-use Rattle.node_words.specs.Spelling.{IsGiven, SpellsId}
+use Rattle.node_words.specs.WordSpelling.{IsGiven, SpellsId}
 use Rattle.node_words.proofs.spelled.read_id.Goals as goal
 
 pub returns-in-Err : goal.returns-in-Err

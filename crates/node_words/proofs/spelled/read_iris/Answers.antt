@@ -1,6 +1,6 @@
 use Rattle.std.proofs.Common.{◌≡◌, ℕ, List, [], Bor, IsTrue, Vec, Global, get_or, map, option_map, unwrap_or, refl}
 use Rattle.iri_rules.specs.Iri.{is_absolute}
-use Rattle.node_words.specs.Spelling.{AreIris}
+use Rattle.node_words.specs.WordSpelling.{AreIris}
 use Rattle.node_words.proofs.Iris.{absolute_at}
 use Rattle.node_words.proofs.Passing.{passes_on}
 use Rattle.node_words.proofs.spelled.read_iris.Goals as goal

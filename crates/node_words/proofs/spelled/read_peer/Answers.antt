@@ -1,5 +1,5 @@
 use Rattle.std.proofs.Common.{rules, ◌≡◌, true, is_some, option_map}
-use Rattle.node_words.specs.Spelling.{IsGiven, IsPeer, SpellsName}
+use Rattle.node_words.specs.WordSpelling.{IsGiven, IsPeer, SpellsName}
 use Rattle.node_words.proofs.Passing.{name_given, passes_on}
 use Rattle.node_words.proofs.spelled.read_peer.Goals as goal
 

@@ -3,7 +3,7 @@ use Rattle.mld_io.specs.Disk.{seen}
 use Rattle.journal_sides.specs.Pairs.{read_banks}
 use Rattle.input_lines.proofs.TakenLemmas.{end_first, end_more, end_cut, end_none, takes_some, end_of_line, advanced, err_same, read_well}
 use Rattle.shell_model.specs.Shells.{found_in}
-use Rattle.shell_session.specs.Sessions.{banks_of}
+use Rattle.shell_session.specs.Sessions.{session_banks}
 use Rattle.shell_run.specs.Inputs.{AreFirstLines, AreAllLines, AreReadLines, AreLinesBefore}
 use Rattle.shell_run.specs.ShellEnds.{between}
 use Rattle.shell_run.proofs.FaultLemmas.{none_rose, read_rose, write_rose, reading_not_writing, line_not_reading, line_not_writing, writing_not_reading, meters_same, meters_then}
@@ -44,7 +44,7 @@ loop-line-preserved g c = record {
       c.in-Ok-line.ensures.done c.clear.ensures.items
       (rw (sym c.as_slice-in-loop-line.ensures.value) c.in_default.ensures.ok);
   standing = c.in-Ok-line.ensures.standing;
-  meters = meters_then (g.B.Banks.meter c.args.banks) (g.B.Banks.meter (banks_of c.loop-line.session)) (g.B.Banks.meter (banks_of c.in-Ok-line.session)) c.loop-line.invariant.meters c.in-Ok-line.ensures.fault;
+  meters = meters_then (g.B.Banks.meter c.args.banks) (g.B.Banks.meter (session_banks c.loop-line.session)) (g.B.Banks.meter (session_banks c.in-Ok-line.session)) c.loop-line.invariant.meters c.in-Ok-line.ensures.fault;
   ends = λ log told. end_more (g.S.Source.left c.args.source.now) (g.S.Source.left c.loop-line.source) (g.S.Source.left c.next_line.new.source) c.loop-line.lines.taken c.next_line.new.lines.taken c.loop-line.done
       (c.loop-line.invariant.way log told).done.lines c.in-Ok-Some.line c.loop-line.lines.ended c.next_line.new.lines.ended (c.loop-line.invariant.ends log told) (c.loop-line.invariant.way log told).left_of
       (takes_some (g.S.Source.left c.loop-line.source) (g.S.Source.left c.next_line.new.source) c.in-Ok-Some.field-0 c.loop-line.lines.taken c.next_line.new.lines.taken c.in-Ok-Some.line c.in-Ok-Some.line c.in-Ok-Some.field-0-is refl c.in-Ok-Some.ensures.line)

@@ -2,16 +2,16 @@ use Rattle.std.proofs.Common.{◌≡◌, ◌-◌, ◌≤◌, IsTrue, Some}
 use Rattle.mld_io.specs.Disk.{Log}
 use Rattle.input_lines.specs.TooLarge.{input_limit, IsUnderLimits}
 use Rattle.input_lines.specs.Taken.{KnowsEnd}
-use Rattle.shell_session.specs.Sessions.{banks_of, IsStanding}
-use Rattle.shell_session.specs.Lines.{Meters}
+use Rattle.shell_session.specs.Sessions.{session_banks, MayDoLine}
+use Rattle.shell_session.specs.SessionLines.{Meters}
 use Rattle.shell_run.specs.ShellUnderWay.{WayTold}
 use Rattle.shell_run.proofs.run.do_lines.Given as goal
 
 abbrev pub invariant-loop-line : goal.invariant-loop-line
 invariant-loop-line g l = record {
   way : WayTold g.B.Banks.log (g.B.Banks.log l.fn.banks) (g.S.Source.left l.fn.source) (g.S.Source.left l.source) (g.K.Sink.held l.fn.sink) (g.K.Sink.held l.sink) l.lines.taken l.session l.done;
-  standing : IsStanding l.session;
-  meters : Meters (g.B.Banks.meter l.fn.banks) (g.B.Banks.meter (banks_of l.session)) ⊥;
+  standing : MayDoLine l.session;
+  meters : Meters (g.B.Banks.meter l.fn.banks) (g.B.Banks.meter (session_banks l.session)) ⊥;
   ends : (first : Log) → g.B.Banks.log l.fn.banks ≡ Some first → KnowsEnd l.lines.ended (g.S.Source.left l.fn.source) (g.S.Source.left l.source) l.done;
   good : IsTrue l.lines.good;
   limits : IsUnderLimits l.lines;

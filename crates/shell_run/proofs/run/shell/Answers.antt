@@ -1,6 +1,6 @@
 use Rattle.std.proofs.Common.{map}
 use Rattle.std.specs.String.{string_bytes}
-use Rattle.shell_words.specs.FolderWords.{IsRefused}
+use Rattle.shell_words.specs.FolderWords.{AreRefusedWords}
 use Rattle.shell_run.proofs.FaultLemmas.{words_usage}
 use Rattle.shell_run.proofs.WayLemmas.{not_read}
 use Rattle.shell_run.proofs.run.shell.Goals as goal
@@ -11,4 +11,4 @@ returns-in-Err-clause-ends g c = λ log told.
 
 pub returns-in-Err-clause-usage : goal.returns-in-Err-clause-usage
 returns-in-Err-clause-usage g c =
-    rw (c.end_run.ensures.fault, c.words_fault.ensures) (words_usage c.in-Err.fault (IsRefused (map (λ w. string_bytes w) c.args.words.now.items)) c.in-Err.ensures.usage)
+    rw (c.end_run.ensures.fault, c.words_fault.ensures) (words_usage c.in-Err.fault (AreRefusedWords (map (λ w. string_bytes w) c.args.words.now.items)) c.in-Err.ensures.usage)

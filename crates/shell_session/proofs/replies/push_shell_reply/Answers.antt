@@ -1,7 +1,7 @@
 use Rattle.std.proofs.Common.{ap, rules, sym}
 use Rattle.schedule_replies.proofs.RepliesShown.{word_pushed}
 use Rattle.shell_model.specs.ShellReply.{shell_text}
-use Rattle.shell_session.specs.Replies.{shell_value}
+use Rattle.shell_session.specs.SessionReplies.{shell_value}
 use Rattle.shell_session.proofs.replies.push_shell_reply.Goals as goal
 
 pub returns-in-Says-clause-ok : goal.returns-in-Says-clause-ok

@@ -1,7 +1,7 @@
 use Rattle.std.proofs.Common.{sym, subst}
 use Rattle.shell_model.specs.Shells.{Shell}
 use Rattle.shell_session.specs.declared.sessions.Session.TheVariants as sessions
-use Rattle.shell_session.specs.Lines.{StopsCommand}
+use Rattle.shell_session.specs.SessionLines.{StopsShellCommand}
 use Rattle.shell_session.specs.Sessions.{SessionStands}
 use Rattle.shell_session.proofs.LineLaws.{live_does, live_stops}
 use Rattle.shell_session.proofs.sessions.stay_live.Goals as goal
@@ -15,5 +15,5 @@ pub returns-in-Err-clause-stopped : goal.returns-in-Err-clause-stopped
 returns-in-Err-clause-stopped g c =
     let log = g.B.Banks.log in
     let old = c.args.clone in
-    subst (λ (b : g.row.B.Denot). (it : Shell) → SessionStands log (sessions.Live old) it → StopsCommand log it c.args.command.now old.banks b) (sym c.stop.ensures.banks)
+    subst (λ (b : g.row.B.Denot). (it : Shell) → SessionStands log (sessions.Live old) it → StopsShellCommand log it c.args.command.now old.banks b) (sym c.stop.ensures.banks)
     (live_stops log g.B.Banks.meter old c.do_live.new.clone.banks c.args.command.now c.in-Err.ensures.stopped)

@@ -5,7 +5,7 @@ use Rattle.shell_model.specs.Shells.{Shell}
 use Rattle.shell_model.specs.ShellReply.{Says, shell_text}
 use Rattle.shell_session.specs.declared.sessions.Session.{Session}
 use Rattle.shell_session.specs.declared.sessions.Session.TheVariants as sessions
-use Rattle.shell_session.specs.Lines.{DoesCommand}
+use Rattle.shell_session.specs.SessionLines.{DoesShellCommand}
 use Rattle.shell_session.specs.Sessions.{SessionStands}
 use Rattle.shell_session.proofs.Answered.{handed_on}
 use Rattle.shell_session.proofs.LineLaws.{stop_does}
@@ -18,6 +18,6 @@ returns-clause-done g c =
     let before = c.args.out.now.items in
     let after = c.answer.new.out.items in
     handed_on {W = after ≡ before ++ shell_text (Says Stopped)}
-    (λ (next : Session g.row.B.Denot). (it : Shell) → SessionStands log (sessions.Live old) it → DoesCommand log it commands.Stop old.banks before next after)
+    (λ (next : Session g.row.B.Denot). (it : Shell) → SessionStands log (sessions.Live old) it → DoesShellCommand log it commands.Stop old.banks before next after)
     c.answer.result (sessions.Shut c.stop-banks.result) c.answer.ensures.same c.answer.ensures.text
     (λ written. stop_does log g.B.Banks.meter old c.stop-banks.result before after c.stop-banks.ensures.banks c.requires c.stop-banks.ensures.kept written)

@@ -5,7 +5,7 @@ use Rattle.shell_model.specs.Shells.{Shell}
 use Rattle.shell_model.specs.ShellReply.{NotEmpty, shell_text}
 use Rattle.shell_session.specs.declared.sessions.Session.{Session}
 use Rattle.shell_session.specs.declared.sessions.Session.TheVariants as sessions
-use Rattle.shell_session.specs.Lines.{DoesCommand, StopsCommand, banks_after}
+use Rattle.shell_session.specs.SessionLines.{DoesShellCommand, StopsShellCommand, banks_after}
 use Rattle.shell_session.specs.Sessions.{SessionStands}
 use Rattle.shell_session.proofs.Answered.{handed_on, given_back, mount_refuses, refused_does, refused_stops, created_does, created_stops}
 use Rattle.shell_session.proofs.ShutLaws.{create_found}
@@ -17,18 +17,18 @@ returns-in-Live-clause-done g c =
     let after = c.answer.new.out.items in
     let at = c.in-Live in
     handed_on {W = after ≡ before ++ shell_text NotEmpty}
-    (λ (next : Session g.row.B.Denot). (it : Shell) → SessionStands g.B.Banks.log (sessions.Shut c.args.banks) it → DoesCommand g.B.Banks.log it (commands.Create c.args.id c.args.domain c.args.properties) c.args.banks before next after)
+    (λ (next : Session g.row.B.Denot). (it : Shell) → SessionStands g.B.Banks.log (sessions.Shut c.args.banks) it → DoesShellCommand g.B.Banks.log it (commands.Create c.args.id c.args.domain c.args.properties) c.args.banks before next after)
     c.answer.result (sessions.Shut c.stop.result) c.answer.ensures.same c.answer.ensures.text
     (λ written. subst (λ (b : g.row.B.Denot). (it : Shell) → SessionStands g.B.Banks.log (sessions.Shut c.args.banks) it
-    → DoesCommand g.B.Banks.log it (commands.Create c.args.id c.args.domain c.args.properties) c.args.banks before (sessions.Shut b) after) (sym c.stop.ensures.banks)
+    → DoesShellCommand g.B.Banks.log it (commands.Create c.args.id c.args.domain c.args.properties) c.args.banks before (sessions.Shut b) after) (sym c.stop.ensures.banks)
     (create_found g.B.Banks.log c.args.banks at.clone.banks at.ensures.moments at.ensures.synced before after (commands.Create c.args.id c.args.domain c.args.properties) at.clone at.ensures.tells (refl, refl, refl) written))
 
 pub returns-in-Live-clause-stopped : goal.returns-in-Live-clause-stopped
 returns-in-Live-clause-stopped g c =
     given_back
-    (λ (b : g.row.B.Denot). (it : Shell) → SessionStands g.B.Banks.log (sessions.Shut c.args.banks) it → StopsCommand g.B.Banks.log it (commands.Create c.args.id c.args.domain c.args.properties) c.args.banks b)
+    (λ (b : g.row.B.Denot). (it : Shell) → SessionStands g.B.Banks.log (sessions.Shut c.args.banks) it → StopsShellCommand g.B.Banks.log it (commands.Create c.args.id c.args.domain c.args.properties) c.args.banks b)
     c.answer.result c.stop.result c.answer.ensures.err
-    (subst (λ (b : g.row.B.Denot). (it : Shell) → SessionStands g.B.Banks.log (sessions.Shut c.args.banks) it → StopsCommand g.B.Banks.log it (commands.Create c.args.id c.args.domain c.args.properties) c.args.banks b)
+    (subst (λ (b : g.row.B.Denot). (it : Shell) → SessionStands g.B.Banks.log (sessions.Shut c.args.banks) it → StopsShellCommand g.B.Banks.log it (commands.Create c.args.id c.args.domain c.args.properties) c.args.banks b)
     (sym c.stop.ensures.banks) (mount_refuses g.B.Banks.log c.args.banks c.in-Live.clone.banks (commands.Create c.args.id c.args.domain c.args.properties) c.in-Live.ensures.moments))
 
 pub returns-in-Empty-clause-done : goal.returns-in-Empty-clause-done

@@ -1,7 +1,7 @@
 use Rattle.std.proofs.Common.{◌≡◌, ℕ, ◌+◌, ◌-◌, take, drop, subst, arith}
 use Rattle.std.proofs.lemmas.List.{length-drop}
 use Rattle.mld_bytes.proofs.Numbers.{length-u32_bytes}
-use Rattle.wire_frames.specs.Reading.{IsFrameOf}
+use Rattle.wire_frames.specs.FrameReading.{IsFrameOf}
 use Rattle.wire_frames.specs.declared.kinds.Frame.{Frame}
 use Rattle.wire_frames.proofs.Heads.{head_read, head_too_long, head_waits, frame_at, bad_at}
 use Rattle.wire_frames.proofs.cutting.next_frame.Goals as goal

@@ -1,7 +1,7 @@
 use Rattle.std.proofs.Common.{ℕ, List, ◌∙◌, refl, sym, subst, arith}
 use Rattle.std.proofs.lemmas.List.{take_rest}
 use Rattle.mld_bytes.proofs.Numbers.{length-u32_bytes}
-use Rattle.wire_frames.specs.Reading.{IsFrameOf}
+use Rattle.wire_frames.specs.FrameReading.{IsFrameOf}
 use Rattle.wire_frames.specs.declared.kinds.Frame.TheVariants.{Part}
 use Rattle.wire_frames.proofs.Payloads.{short_part, part_read}
 use Rattle.wire_frames.proofs.cutting.part_of.Goals as goal

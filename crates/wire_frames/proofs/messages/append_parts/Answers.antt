@@ -5,7 +5,7 @@ use Rattle.rdf_terms.specs.Kept.{KeepsStart}
 use Rattle.rdf_terms.proofs.Appending.{keeps_same, keeps_on}
 use Rattle.wire_frames.specs.declared.kinds.Frame.TheVariants.{Part}
 use Rattle.wire_frames.specs.Frames.{frame_bytes}
-use Rattle.wire_frames.specs.Parts.{part_count}
+use Rattle.wire_frames.specs.MessageParts.{part_count}
 use Rattle.wire_frames.proofs.PartFrames.{part_count_few, part_count_behind, part_fits, keeps_past, parts_begun, parts_on, parts_done}
 use Rattle.wire_frames.proofs.messages.append_parts.Goals as goal
 

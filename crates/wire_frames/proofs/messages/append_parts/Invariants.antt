@@ -1,6 +1,6 @@
 use Rattle.std.proofs.Common.{◌≡◌, ◌+◌, length}
 use Rattle.rdf_terms.specs.Kept.{KeepsStart}
-use Rattle.wire_frames.specs.Parts.{part_count}
+use Rattle.wire_frames.specs.MessageParts.{part_count}
 use Rattle.wire_frames.proofs.PartFrames.{HasParts}
 use Rattle.wire_frames.proofs.messages.append_parts.Given as goal
 

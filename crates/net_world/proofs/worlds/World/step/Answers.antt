@@ -6,7 +6,7 @@ use Rattle.world_commands.specs.WorldParts.{running_of}
 use Rattle.world_commands.specs.Worlds.{Stepped}
 use Rattle.schedule_model.specs.Tasks.{command_done}
 use Rattle.net_world.specs.LeftBehind.{LeavesBanksAt}
-use Rattle.net_world.specs.SettledWorlds.{Settles, LiveKept}
+use Rattle.net_world.specs.SettledWorlds.{SettlesWorld, LiveKept}
 use Rattle.net_world.proofs.SettledSteps.{number_within, step_settles}
 use Rattle.net_world.proofs.StepLemmas.{standing_after, step_answered, step_banks, step_begun}
 use Rattle.net_world.proofs.worlds.World.step.Given as given
@@ -35,7 +35,7 @@ returns g c =
       faults = subst (λ (l : List g.row.B.Denot). HadNoFaults g.B.Banks.meter l (map banks_of_state new.clones.items)) begun c.in_ok-answer.ensures.faults;
       others = used.others;
       left = subst (λ (w : BankedWorld g.row.B.Denot). LeavesBanksAt g.B.Banks.log w (command_done c.args.command.now) (number_of_clone c.args.command.now) (map banks_of_state new.clones.items)) c.self.view_is (c.in_ok-answer.ensures.left steps);
-      settled = subst (λ (w : BankedWorld g.row.B.Denot). Settles g.B.Banks.log w c.args.command.now (running_of new (steps + 1))) c.self.view_is (λ world stands sound images reply next step sound_next now.
+      settled = subst (λ (w : BankedWorld g.row.B.Denot). SettlesWorld g.B.Banks.log w c.args.command.now (running_of new (steps + 1))) c.self.view_is (λ world stands sound images reply next step sound_next now.
           step_settles g.B.Banks.log g.met.B.CrashBanks.tells (running_of c.self.inside.parts steps) (running_of new (steps + 1)) c.args.command.now c.requires.numbers c.requires.form (c.in_ok-answer.ensures.left steps)
           c.in_ok-answer.ensures.keeps.banks.others (live g c) world stands sound images reply next step now);
       out = tt;

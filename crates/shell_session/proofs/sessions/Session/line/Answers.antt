@@ -5,8 +5,8 @@ use Rattle.shell_text.specs.ReadShell.{ShellIs}
 use Rattle.shell_model.specs.Shells.{Shell}
 use Rattle.shell_model.specs.ShellReply.{BadLine, shell_text}
 use Rattle.shell_session.specs.declared.sessions.Session.{Session}
-use Rattle.shell_session.specs.Lines.{DoesCommand, DoesLine, StopsCommand, StopsLine}
-use Rattle.shell_session.specs.Sessions.{banks_of, SessionStands}
+use Rattle.shell_session.specs.SessionLines.{DoesShellCommand, DoesLine, StopsShellCommand, StopsLine}
+use Rattle.shell_session.specs.Sessions.{session_banks, SessionStands}
 use Rattle.shell_session.proofs.Answered.{handed_on, weaken_ok, weaken_err}
 use Rattle.shell_session.proofs.LineLaws.{nothing_line, bad_line, command_line, command_stops}
 use Rattle.shell_session.proofs.sessions.Session.line.Goals as goal
@@ -24,8 +24,8 @@ returns-in-Ok-Some-clause-done g c =
     let at = c.in-Ok-Some in
     let spells = subst (λ (read : Option ShellCommand). ShellIs domain c.args.line.now read) at.field-0-is at.ensures.ok in
     weaken_ok c.do_command.result
-    (λ (next : Session g.row.B.Denot). (it : Shell) → SessionStands log c.args.self it → DoesCommand log it at.command (banks_of c.args.self) c.args.out.now.items next c.do_command.new.out.items)
-    (λ (next : Session g.row.B.Denot). (it : Shell) → SessionStands log c.args.self it → DoesLine log it c.args.line.now (banks_of c.args.self) c.args.out.now.items next c.do_command.new.out.items)
+    (λ (next : Session g.row.B.Denot). (it : Shell) → SessionStands log c.args.self it → DoesShellCommand log it at.command (session_banks c.args.self) c.args.out.now.items next c.do_command.new.out.items)
+    (λ (next : Session g.row.B.Denot). (it : Shell) → SessionStands log c.args.self it → DoesLine log it c.args.line.now (session_banks c.args.self) c.args.out.now.items next c.do_command.new.out.items)
     (λ next does it stands. command_line log c.args.self c.args.line.now domain c.domain.ensures.domain it stands at.command c.args.out.now.items c.do_command.new.out.items next spells (does it stands))
     c.do_command.ensures.done
 
@@ -36,8 +36,8 @@ returns-in-Ok-Some-clause-stopped g c =
     let at = c.in-Ok-Some in
     let spells = subst (λ (read : Option ShellCommand). ShellIs domain c.args.line.now read) at.field-0-is at.ensures.ok in
     weaken_err c.do_command.result
-    (λ (b : g.row.B.Denot). (it : Shell) → SessionStands log c.args.self it → StopsCommand log it at.command (banks_of c.args.self) b)
-    (λ (b : g.row.B.Denot). (it : Shell) → SessionStands log c.args.self it → StopsLine log it c.args.line.now (banks_of c.args.self) b)
+    (λ (b : g.row.B.Denot). (it : Shell) → SessionStands log c.args.self it → StopsShellCommand log it at.command (session_banks c.args.self) b)
+    (λ (b : g.row.B.Denot). (it : Shell) → SessionStands log c.args.self it → StopsLine log it c.args.line.now (session_banks c.args.self) b)
     (λ b stops it stands. command_stops log c.args.self c.args.line.now domain c.domain.ensures.domain it stands at.command b spells (stops it stands))
     c.do_command.ensures.stopped
 
@@ -48,6 +48,6 @@ returns-in-Err-BadLine-clause-done g c =
     let before = c.args.out.now.items in
     let after = c.answer.new.out.items in
     handed_on {W = after ≡ before ++ shell_text BadLine}
-    (λ (next : Session g.row.B.Denot). (it : Shell) → SessionStands log c.args.self it → DoesLine log it c.args.line.now (banks_of c.args.self) before next after)
+    (λ (next : Session g.row.B.Denot). (it : Shell) → SessionStands log c.args.self it → DoesLine log it c.args.line.now (session_banks c.args.self) before next after)
     c.answer.result c.args.self c.answer.ensures.same c.answer.ensures.text
     (λ written it stands. bad_line log c.args.self c.args.line.now domain c.domain.ensures.domain it stands before after (c.in-Err-BadLine.ensures.bad (λ i. Err (c.in-Err-BadLine.field-0-is i))) written)

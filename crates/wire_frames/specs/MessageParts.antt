@@ -74,7 +74,7 @@ abbrev pub next_number : ℕ → ℕ
 next_number number = if number == last_number then 0 else number + 1
 
 -- a part has as many bytes as it should: the last at least one, and each before it as many as a part may have
-pub record IsSized (index count : ℕ) (piece : List ℕ) : Type 0 where
+pub record IsSizedPart (index count : ℕ) (piece : List ℕ) : Type 0 where
   pub full : index + 1 < count → length piece ≡ part_size
   pub low : 1 ≤ length piece
   pub high : length piece ≤ part_size
@@ -86,7 +86,7 @@ pub record IsNextPart (assembly : AssemblyValue) (number index count : ℕ) (pie
   pub begun : 1 ≤ assembly.count → count ≡ assembly.count
   pub few : count ≤ part_limit
   pub one_of : index < count
-  pub sized : IsSized index count piece
+  pub sized : IsSizedPart index count piece
 
 -- no message is spelled by these bytes
 abbrev pub HasNoMessage : List ℕ → Type 0

@@ -5,40 +5,40 @@ use Rattle.journal_sides.specs.Pairs.{read_banks}
 use Rattle.mld_model.specs.Local.{LocalClone}
 use Rattle.clone_banks.specs.KeptSteps.{KeptStep}
 use Rattle.clone_core.specs.Banked.{BankedClone}
-use Rattle.shell_model.specs.Shells.{Found, Damage, found_in}
+use Rattle.shell_model.specs.Shells.{FoundOnBanks, Damage, found_in}
 use Rattle.shell_session.specs.Sessions.{HasFound}
-use Rattle.shell_session.specs.Lines.{ImagesFind, LeavesFront}
+use Rattle.shell_session.specs.SessionLines.{ImagesFind, LeavesFront}
 use Rattle.shell_session.specs.RunEnds.{LeavesDone}
 use Rattle.node_words.specs.declared.node.NodeWords.{NodeWords}
 use Rattle.node_keeper.specs.declared.states.NodeState.{NodeState}
 use Rattle.node_keeper.specs.declared.states.NodeState.TheVariants as states
-use Rattle.node_keeper.specs.States.{banks_of, keeper_of}
-use Rattle.node_model.specs.Keepers.{found_of}
+use Rattle.node_keeper.specs.NodeStates.{state_banks, keeper_of}
+use Rattle.node_model.specs.Keepers.{keeper_found}
 use Rattle.node_run.specs.Start.{Begins, IsDueAtFirst, IsOther}
 use Rattle.node_run.specs.declared.stops.NodeStop.{NodeStop}
 use Rattle.node_run.specs.declared.stops.NodeStop.TheVariants as stops
 
 -- a node began by its words: its banks keep what it has, and at each moment since a crash leaves what a front of its first steps makes
-pub record BeginsOn {B : Type 0} (log : B → Option Log) (words : NodeWords) (found : Found) (old : Option Log) (state : NodeState B) : Type 0 where
+pub record BeginsOn {B : Type 0} (log : B → Option Log) (words : NodeWords) (found : FoundOnBanks) (old : Option Log) (state : NodeState B) : Type 0 where
   pub first : List KeptStep
   pub begins : Begins words found first (keeper_of state)
-  pub keeps : HasFound (found_of (keeper_of state)) (log (banks_of state))
-  pub moments : LeavesFront found first old (log (banks_of state))
-  pub settled : ImagesFind found old → ImagesFind (found_of (keeper_of state)) (log (banks_of state))
+  pub keeps : HasFound (keeper_found (keeper_of state)) (log (state_banks state))
+  pub moments : LeavesFront found first old (log (state_banks state))
+  pub settled : ImagesFind found old → ImagesFind (keeper_found (keeper_of state)) (log (state_banks state))
 
 -- it did not, in the middle of durable steps that are due, or of none
-pub record FallsShort (words : NodeWords) (found : Found) (old now : Option Log) : Type 0 where
+pub record FallsShort (words : NodeWords) (found : FoundOnBanks) (old now : Option Log) : Type 0 where
   pub due : List KeptStep
   pub is_due : (due ≡ []) ⊎ IsDueAtFirst words found due
   pub leaves : LeavesDone found [] due old now
 
 -- it did not, since what was found is no clone that it may run
-pub record StaysFound (So : Type 0) (found : Found) (old now : Option Log) : Type 0 where
+pub record StaysFound (So : Type 0) (found : FoundOnBanks) (old now : Option Log) : Type 0 where
   pub so : So
   pub keeps : HasFound found now
   pub leaves : LeavesDone found [] [] old now
 
-abbrev pub BeginsShort : NodeStop → NodeWords → Found → (old now : Option Log) → Type 0
+abbrev pub BeginsShort : NodeStop → NodeWords → FoundOnBanks → (old now : Option Log) → Type 0
 BeginsShort stops.NoMemory words found old now = FallsShort words found old now
 BeginsShort stops.Device words found old now = FallsShort words found old now
 BeginsShort (stops.Damaged side place) words found old now = StaysFound (found ≡ Damage side place) found old now
@@ -65,12 +65,12 @@ pub record RefusesOther {B : Type 0} (words : NodeWords) (clone : BankedClone B)
 -- ---- any answer
 
 -- what is found on banks that tell this log
-abbrev pub found_on : Log → Found
+abbrev pub found_on : Log → FoundOnBanks
 found_on log = found_in (read_banks (seen log))
 
 -- the banks, whatever became of them
 abbrev pub banks_begun : {B : Type 0} → Result (NodeState B) (NodeStop × B) → B
-banks_begun (Ok state) = banks_of state
+banks_begun (Ok state) = state_banks state
 banks_begun (Err refused) = refused.1
 
 -- the device failed

@@ -5,35 +5,35 @@ use Rattle.mld_io.specs.declared.events.Event.TheVariants.{Opened, Bytes, Shut, 
 use Rattle.mld_io.specs.Disk.{Log}
 use Rattle.mld_ops.specs.declared.messages.Message.{Message}
 use Rattle.clone_banks.specs.KeptSteps.{KeptStep}
-use Rattle.shell_session.specs.Lines.{ImagesFind, LeavesFront, StopsIn}
+use Rattle.shell_session.specs.SessionLines.{ImagesFind, LeavesFront, LeavesFrontOfDue}
 use Rattle.wire_frames.specs.declared.assembling.Assembled.TheVariants.{Whole}
 use Rattle.wire_frames.specs.declared.faults.FrameFault.{FrameFault}
 use Rattle.wire_frames.specs.declared.kinds.Frame.{Frame}
 use Rattle.wire_frames.specs.declared.kinds.Frame.TheVariants.{Request, Part}
 use Rattle.wire_frames.specs.Frames.{FramesValue, Feeds}
-use Rattle.wire_frames.specs.Parts.{AssemblyValue, Assembles}
+use Rattle.wire_frames.specs.MessageParts.{AssemblyValue, Assembles}
 use Rattle.node_exchange.specs.declared.connections.Connection.{Connection}
 use Rattle.node_exchange.specs.declared.connections.Role.{Role}
 use Rattle.node_exchange.specs.declared.connections.Role.TheVariants as role
 use Rattle.node_exchange.specs.declared.connections.Sent.{Sent}
 use Rattle.node_exchange.specs.Connections.{connection_of, without}
 use Rattle.node_exchange.specs.Exchanges.{ExchangeValue}
-use Rattle.node_keeper.specs.Deeds.{IsDueByRequest, IsDueByMessage}
-use Rattle.node_keeper.specs.States.{keeper_of}
-use Rattle.node_keeper.specs.States as states
+use Rattle.node_keeper.specs.NodeDeeds.{IsDueByRequest, IsDueByMessage}
+use Rattle.node_keeper.specs.NodeStates.{keeper_of}
+use Rattle.node_keeper.specs.NodeStates as states
 use Rattle.node_keeper.specs.declared.states.NodeState.{NodeState}
-use Rattle.node_model.specs.Keepers.{Keeper, found_of}
+use Rattle.node_model.specs.Keepers.{Keeper, keeper_found}
 use Rattle.node_model.specs.FrameSteps.{FramesStep}
 use Rattle.node_model.specs.Events.{NodeValue, NodeStep, beginning}
-use Rattle.node_core.specs.Nodes.{BankedNode, node_value, banks_of}
+use Rattle.node_core.specs.Nodes.{BankedNode, node_value, node_banks}
 
 -- an event was done as the model does it, with what is sent: at each moment since, where the same was found on all that a crash might have left before,
 -- what is found is what a front of the durable steps makes of that; and it is found then what all of them make
 pub record DoesEvent {B : Type 0} (log : B → Option Log) (old : BankedNode B) (event : Event) (next : BankedNode B) (sent : List Sent) : Type 0 where
   pub steps : List KeptStep
   pub does : NodeStep (node_value old) event sent steps (node_value next)
-  pub moments : LeavesFront (found_of (node_value old).keeper) steps (log (banks_of old)) (log (banks_of next))
-  pub settled : ImagesFind (found_of (node_value old).keeper) (log (banks_of old)) → ImagesFind (found_of (node_value next).keeper) (log (banks_of next))
+  pub moments : LeavesFront (keeper_found (node_value old).keeper) steps (log (node_banks old)) (log (node_banks next))
+  pub settled : ImagesFind (keeper_found (node_value old).keeper) (log (node_banks old)) → ImagesFind (keeper_found (node_value next).keeper) (log (node_banks next))
 
 -- ---- the durable steps that an event has to make
 
@@ -85,18 +85,18 @@ IsDueByEvent node event steps = ⊥
 
 -- it stopped short of the durable steps of a frame, on a connection of this kind
 abbrev pub StopsFrame : {B : Type 0} → (B → Option Log) → Role → Frame → NodeState B → B → Type 0
-StopsFrame log kind frame old left = StopsIn (IsDueByFrame (keeper_of old) kind frame) log (found_of (keeper_of old)) (states.banks_of old) left
+StopsFrame log kind frame old left = LeavesFrontOfDue (IsDueByFrame (keeper_of old) kind frame) log (keeper_found (keeper_of old)) (states.state_banks old) left
 
 -- it stopped short of the durable steps of frames that come one after another
 abbrev pub StopsFrames : {B : Type 0} → (B → Option Log) → List Frame → NodeState B → ExchangeValue → B → Type 0
 StopsFrames log frames old exchange left =
-    StopsIn (IsDueByFrames (keeper_of old) frames exchange) log (found_of (keeper_of old)) (states.banks_of old) left
+    LeavesFrontOfDue (IsDueByFrames (keeper_of old) frames exchange) log (keeper_found (keeper_of old)) (states.state_banks old) left
 
 -- it stopped short of the durable steps of a piece, on a connection beside these others
 abbrev pub StopsPiece : {B : Type 0} → (B → Option Log) → Connection → List Connection → List ℕ → NodeState B → B → Type 0
 StopsPiece log one others piece old left =
-    StopsIn (IsDueByPiece (keeper_of old) one others piece) log (found_of (keeper_of old)) (states.banks_of old) left
+    LeavesFrontOfDue (IsDueByPiece (keeper_of old) one others piece) log (keeper_found (keeper_of old)) (states.state_banks old) left
 
 -- it stopped short of the durable steps of an event
 abbrev pub StopsEvent : {B : Type 0} → (B → Option Log) → BankedNode B → Event → B → Type 0
-StopsEvent log old event left = StopsIn (IsDueByEvent (node_value old) event) log (found_of (keeper_of old.state)) (banks_of old) left
+StopsEvent log old event left = LeavesFrontOfDue (IsDueByEvent (node_value old) event) log (keeper_found (keeper_of old.state)) (node_banks old) left

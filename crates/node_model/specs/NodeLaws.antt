@@ -4,10 +4,10 @@ use Rattle.mld_io.specs.declared.events.Event.{Event}
 use Rattle.mld_io.specs.Wires.{WireLog}
 use Rattle.clone_banks.specs.KeptSteps.{KeptStep}
 use Rattle.shell_model.specs.Shells.{found_after}
-use Rattle.node_model.specs.Keepers.{found_of}
+use Rattle.node_model.specs.Keepers.{keeper_found}
 use Rattle.node_model.specs.Events.{NodeValue, NodeRuns}
 
 -- what is found on the banks after a run is what its durable steps make of what was found there before
 abbrev pub NodeStepsLead : Type 0
 NodeStepsLead = (node : NodeValue) (events : List Event) (log : WireLog) (steps : List KeptStep) (next : NodeValue) (after : WireLog)
-    → NodeRuns node events log steps next after → found_of next.keeper ≡ found_after steps (found_of node.keeper)
+    → NodeRuns node events log steps next after → keeper_found next.keeper ≡ found_after steps (keeper_found node.keeper)

@@ -4,6 +4,6 @@ use Rattle.shell_session.specs.declared.faults.SessionFault.TheVariants as sessi
 use Rattle.node_keeper.specs.declared.faults.NodeFault.{NodeFault}
 use Rattle.node_keeper.specs.declared.faults.NodeFault.TheVariants.{Device, NoMemory}
 
-abbrev pub fault_of : SessionFault → NodeFault
-fault_of session.Device = Device
-fault_of session.NoMemory = NoMemory
+abbrev pub node_fault_of : SessionFault → NodeFault
+node_fault_of session.Device = Device
+node_fault_of session.NoMemory = NoMemory

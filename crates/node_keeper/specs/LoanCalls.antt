@@ -15,7 +15,7 @@ use Rattle.clone_core.specs.DurableCalls.{LeavesFronts}
 use Rattle.shell_text.specs.declared.commands.ShellCommand.{ShellCommand}
 use Rattle.shell_text.specs.declared.commands.ShellCommand.TheVariants as shell
 use Rattle.wire_frames.specs.Frames.{frames_bytes}
-use Rattle.wire_frames.specs.Parts.{reply_parts}
+use Rattle.wire_frames.specs.MessageParts.{reply_parts}
 use Rattle.node_requests.specs.declared.requests.Request.{Request}
 use Rattle.node_requests.specs.declared.requests.Request.TheVariants as asked
 use Rattle.node_exchange.specs.declared.connections.Connection.{Connection}
@@ -23,7 +23,7 @@ use Rattle.node_exchange.specs.Connections.{as_client}
 use Rattle.node_exchange.specs.Exchanges.{ExchangeValue, saying, holding}
 use Rattle.node_model.specs.Keepers.{Keeper, Lives, carried}
 use Rattle.node_model.specs.Requests.{AnswersRequest}
-use Rattle.node_model.specs.Messages.{sending_for}
+use Rattle.node_model.specs.NodeMessages.{sending_for}
 
 -- a clone went on by a rule of the model: it is open, and at each moment since a crash leaves the old clone after a front of the durable steps
 pub record GoesBy {B : Type 0} (log : B → Option Log) (meter : B → Meter) (Rule : List KeptStep → Keeper → Type 0) (old new : BankedClone B) : Type 0 where
@@ -35,7 +35,7 @@ pub record GoesBy {B : Type 0} (log : B → Option Log) (meter : B → Meter) (R
 -- ---- requests
 
 -- the connection at hand is a client's from now on, and has this number
-pub record Greets (one : Connection) (before : ExchangeValue) (number : ℕ) (after : ExchangeValue) : Type 0 where
+pub record GreetsClient (one : Connection) (before : ExchangeValue) (number : ℕ) (after : ExchangeValue) : Type 0 where
   pub same : number ≡ one.number
   pub holds : after ≡ holding (as_client one) before
 
@@ -59,8 +59,8 @@ is_update (shell.Update plan) = true
 is_update command = false
 
 -- an update leaves so many entries, and puts others behind them
-abbrev pub IsBehind : ShellCommand → ℕ → List EntryValue → Type 0
-IsBehind command kept entries = is_update command ≡ true → kept ≤ length entries
+abbrev pub AppendsBehind : ShellCommand → ℕ → List EntryValue → Type 0
+AppendsBehind command kept entries = is_update command ≡ true → kept ≤ length entries
 
 -- which go to the peers
 abbrev pub told_by : ShellCommand → ℕ → List EntryValue → List MessageValue
@@ -80,15 +80,15 @@ MayBeSent (Err (fault.Closed why)) kept entries = ⊥
 MayBeSent (Err refused) kept entries = Unit {0}
 
 -- durable steps carry what was taken
-abbrev pub Carry : Got → ℕ → List EntryValue → List KeptStep → Type 0
-Carry (got.Took ranges) kept entries steps = carried steps ≡ map CarriesEntry (drop kept entries)
-Carry (got.Merged ranges) kept entries steps = carried steps ≡ map CarriesEntry entries
-Carry answer kept entries steps = Unit {0}
+abbrev pub CarryTaken : Got → ℕ → List EntryValue → List KeptStep → Type 0
+CarryTaken (got.Took ranges) kept entries steps = carried steps ≡ map CarriesEntry (drop kept entries)
+CarryTaken (got.Merged ranges) kept entries steps = carried steps ≡ map CarriesEntry entries
+CarryTaken answer kept entries steps = Unit {0}
 
 -- what is to be sent for an answer was sent
 abbrev pub HasAnswered : Got → ℕ → LocalClone → ExchangeValue → ExchangeValue → Type 0
 HasAnswered answer kept clone before after =
-    (steps : List KeptStep) → Carry answer kept clone.entries steps → after ≡ sending_for (Ok answer) steps clone.ticks before
+    (steps : List KeptStep) → CarryTaken answer kept clone.entries steps → after ≡ sending_for (Ok answer) steps clone.ticks before
 
 -- and so for any result that a device and memory let be
 abbrev pub HasSent : Result Got ReceiveFault → ℕ → LocalClone → ExchangeValue → ExchangeValue → Type 0

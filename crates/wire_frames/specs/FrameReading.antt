@@ -4,10 +4,10 @@ use Rattle.wire_frames.specs.declared.faults.FrameFault.{FrameFault}
 use Rattle.wire_frames.specs.declared.faults.FrameFault.TheVariants.{BadFrame, TooLong}
 use Rattle.wire_frames.specs.declared.kinds.Fed.{Fed}
 use Rattle.wire_frames.specs.declared.kinds.Frame.{Frame}
-use Rattle.wire_frames.specs.declared.cutting.Cut.{Cut}
+use Rattle.wire_frames.specs.declared.cutting.CutFrames.{CutFrames}
 use Rattle.wire_frames.specs.declared.cutting.Next.{Next}
 use Rattle.wire_frames.specs.declared.cutting.Next.TheVariants as next
-use Rattle.wire_frames.specs.Frames.{IsFrame, frame_kind, payload, frame_bytes, frames_bytes, place_limit, IsWaiting, IsTooLong, IsBad, HasFrames, Ends, Feeds}
+use Rattle.wire_frames.specs.Frames.{IsFrame, frame_kind, payload, frame_bytes, frames_bytes, place_limit, IsWaiting, IsTooLong, IsBadFrame, HasFrames, StreamEnds, Feeds}
 
 -- a frame of this kind and payload
 pub record IsFrameOf (kind : ℕ) (bytes : List ℕ) (frame : Frame) : Type 0 where
@@ -28,11 +28,11 @@ pub record IsFrameAt (input : List ℕ) (at end : ℕ) (frame : Frame) : Type 0 
   pub within : end ≤ length input
 
 -- what stands in the input at a place
-abbrev pub IsNext : List ℕ → ℕ → Next → Type 0
-IsNext input at (next.Frame frame end) = IsFrameAt input at end frame
-IsNext input at next.Waiting = IsWaiting (drop at input)
-IsNext input at next.Bad = IsBad (drop at input)
-IsNext input at next.Long = IsTooLong (drop at input)
+abbrev pub StandsNext : List ℕ → ℕ → Next → Type 0
+StandsNext input at (next.Frame frame end) = IsFrameAt input at end frame
+StandsNext input at next.Waiting = IsWaiting (drop at input)
+StandsNext input at next.Bad = IsBadFrame (drop at input)
+StandsNext input at next.Long = IsTooLong (drop at input)
 
 -- the place behind so many bytes from another
 abbrev pub place_after : ℕ → ℕ → ℕ
@@ -45,9 +45,9 @@ IsFaultAt place (Some (BadFrame at)) = at ≡ place
 IsFaultAt place (Some (TooLong at)) = at ≡ place
 
 -- the frames of an input up to where they end; the input's first byte has this place
-pub record IsCut (input : List ℕ) (place : ℕ) (cut : Cut) : Type 0 where
+pub record IsCut (input : List ℕ) (place : ℕ) (cut : CutFrames) : Type 0 where
   pub found : HasFrames input cut.frames.items (drop cut.end input)
-  pub ends : Ends (drop cut.end input) cut.fault
+  pub ends : StreamEnds (drop cut.end input) cut.fault
   pub within : cut.end ≤ length input
   pub size : cut.end ≡ length (frames_bytes cut.frames.items)
   pub placed : IsFaultAt (place_after place cut.end) cut.fault

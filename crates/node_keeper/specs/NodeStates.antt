@@ -3,7 +3,7 @@ use Rattle.std.specs.Prelude.{◌≡◌, Option, None, Some, Result, Ok, Err}
 use Rattle.mld_io.specs.Disk.{Log, seen}
 use Rattle.journal_sides.specs.Pairs.{read_banks}
 use Rattle.clone_core.specs.Banked.{BankedClone, BankedAsker}
-use Rattle.shell_model.specs.Shells.{Found, found_in}
+use Rattle.shell_model.specs.Shells.{FoundOnBanks, found_in}
 use Rattle.node_keeper.specs.declared.faults.NodeFault.{NodeFault}
 use Rattle.node_keeper.specs.declared.faults.NodeFault.TheVariants.{Device}
 use Rattle.node_keeper.specs.declared.states.NodeState.{NodeState}
@@ -11,9 +11,9 @@ use Rattle.node_keeper.specs.declared.states.NodeState.TheVariants as states
 use Rattle.node_model.specs.Keepers.{Keeper, Lives, Asks}
 
 -- its banks
-abbrev pub banks_of : {B : Type 0} → NodeState B → B
-banks_of (states.Live clone) = clone.banks
-banks_of (states.Asking asker) = asker.banks
+abbrev pub state_banks : {B : Type 0} → NodeState B → B
+state_banks (states.Live clone) = clone.banks
+state_banks (states.Asking asker) = asker.banks
 
 -- what it is in the model
 abbrev pub keeper_of : {B : Type 0} → NodeState B → Keeper
@@ -30,15 +30,15 @@ IsOpen (states.Live clone) = clone.closed ≡ None
 IsOpen (states.Asking asker) = Unit {0}
 
 -- this is found on banks that tell their log
-abbrev pub FindsNow : Found → Option Log → Type 0
+abbrev pub FindsNow : FoundOnBanks → Option Log → Type 0
 FindsNow found now = (log : Log) → now ≡ Some log → found_in (read_banks (seen log)) ≡ found
 
 -- the banks, whatever it answered
-abbrev pub banks_after : {B : Type 0} → Result (NodeState B) (NodeFault × B) → B
-banks_after (Ok next) = banks_of next
-banks_after (Err refused) = refused.1
+abbrev pub state_banks_after : {B : Type 0} → Result (NodeState B) (NodeFault × B) → B
+state_banks_after (Ok next) = state_banks next
+state_banks_after (Err refused) = refused.1
 
 -- the device failed
-abbrev pub FailsOnDevice : {B : Type 0} → Result (NodeState B) (NodeFault × B) → Type 0
-FailsOnDevice (Ok next) = ⊥
-FailsOnDevice (Err refused) = refused.0 ≡ Device
+abbrev pub StateFailsOnDevice : {B : Type 0} → Result (NodeState B) (NodeFault × B) → Type 0
+StateFailsOnDevice (Ok next) = ⊥
+StateFailsOnDevice (Err refused) = refused.0 ≡ Device

@@ -55,7 +55,7 @@ sending_for (Err fault.Deep) steps ticks exchange = refusing 9 exchange
 sending_for (Err other) steps ticks exchange = exchange
 
 -- a message came to a live clone
-pub record ReceivesLive (generation : ℕ) (clone : LocalClone) (message : Message) (exchange : ExchangeValue) (steps : List KeptStep) (next : Keeper) (after : ExchangeValue) : Type 0 where
+pub record LiveReceives (generation : ℕ) (clone : LocalClone) (message : Message) (exchange : ExchangeValue) (steps : List KeptStep) (next : Keeper) (after : ExchangeValue) : Type 0 where
   pub result : Result Got ReceiveFault
   pub new : LocalClone
   pub received : HasReceived generation clone message result steps new
@@ -69,14 +69,14 @@ abbrev pub adopted_clone : LocalAsker → Give → LocalClone
 adopted_clone asker give = joined_clone asker (give_value give)
 
 -- a message came to one who asks: it gives a leaf, the clone lives at that, and the giver is asked for what it lacks; or it gives none
-pub data ReceivesAsking (asker : LocalAsker) (message : Message) (exchange : ExchangeValue) : List KeptStep → Keeper → ExchangeValue → Type 0 where
+pub data AskerReceives (asker : LocalAsker) (message : Message) (exchange : ExchangeValue) : List KeptStep → Keeper → ExchangeValue → Type 0 where
   joins : (give : Give) → IsGiveFor asker message give
-      → ReceivesAsking asker message exchange (Created (head_of (adopted_clone asker give)) ∷ []) (Lives 1 (adopted_clone asker give))
+      → AskerReceives asker message exchange (Created (head_of (adopted_clone asker give)) ∷ []) (Lives 1 (adopted_clone asker give))
       (telling (CarriesWant (adopted_clone asker give).ticks) exchange)
-  ignores : GivesNone asker message → ReceivesAsking asker message exchange [] (Asks asker) exchange
+  ignores : GivesNone asker message → AskerReceives asker message exchange [] (Asks asker) exchange
 
 -- ---- any
 
 abbrev pub Receives : Keeper → Message → ExchangeValue → List KeptStep → Keeper → ExchangeValue → Type 0
-Receives (Lives generation clone) message exchange steps next after = ReceivesLive generation clone message exchange steps next after
-Receives (Asks asker) message exchange steps next after = ReceivesAsking asker message exchange steps next after
+Receives (Lives generation clone) message exchange steps next after = LiveReceives generation clone message exchange steps next after
+Receives (Asks asker) message exchange steps next after = AskerReceives asker message exchange steps next after

@@ -9,7 +9,7 @@ use Rattle.clone_banks.specs.KeptSteps.{KeptStep}
 use Rattle.shell_text.specs.declared.commands.ShellCommand.{ShellCommand}
 use Rattle.shell_text.specs.declared.commands.ShellCommand.TheVariants as shell
 use Rattle.shell_text.specs.ReadShell.{IsShellInForm}
-use Rattle.shell_model.specs.Shells.{Found, found_in, found_after, Shell, found_of}
+use Rattle.shell_model.specs.Shells.{FoundOnBanks, found_in, found_after, Shell, found_of}
 use Rattle.shell_model.specs.ShellReply.{ShellReply, shell_text}
 use Rattle.shell_model.specs.ShellStep.{ShellStep, IsDue}
 use Rattle.shell_model.specs.ShellRuns.{ShellLine, IsDueByLine}
@@ -17,23 +17,23 @@ use Rattle.shell_session.specs.declared.faults.SessionFault.{SessionFault}
 use Rattle.shell_session.specs.declared.faults.SessionFault.TheVariants.{Device}
 use Rattle.shell_session.specs.declared.sessions.Session.{Session}
 use Rattle.shell_session.specs.declared.sessions.Session.TheVariants as sessions
-use Rattle.shell_session.specs.Sessions.{banks_of, SessionStands}
+use Rattle.shell_session.specs.Sessions.{session_banks, SessionStands}
 
 -- ---- what a crash leaves
 
 -- this is found on whatever a crash now leaves of banks that tell their log
-abbrev pub ImagesFind : Found → Option Log → Type 0
+abbrev pub ImagesFind : FoundOnBanks → Option Log → Type 0
 ImagesFind found now = (log : Log) → now ≡ Some log → LeavesOnly log (λ image. found_in (read_banks image) ≡ found)
 
 -- what is found there is what a front of durable steps makes of what was found before
-pub record FindsFront (found : Found) (steps : List KeptStep) (image : Sides) : Type 0 where
+pub record FindsFront (found : FoundOnBanks) (steps : List KeptStep) (image : Sides) : Type 0 where
   pub front : List KeptStep
   pub rest : List KeptStep
   pub whole : front ++ rest ≡ steps
   pub finds : found_in (read_banks image) ≡ found_after front found
 
 -- where the same was found on all that a crash might have left before, at each moment since a crash leaves only what a front of the steps makes of that
-abbrev pub LeavesFront : Found → List KeptStep → Option Log → Option Log → Type 0
+abbrev pub LeavesFront : FoundOnBanks → List KeptStep → Option Log → Option Log → Type 0
 LeavesFront found steps old now =
     (log : Log) → old ≡ Some log → ImagesFind found old → LeavesMeanwhile log now (λ calls image. FindsFront found steps image)
 
@@ -41,15 +41,15 @@ LeavesFront found steps old now =
 
 -- A session goes on by a rule of the model, which gives text, durable steps and a shell: the text was added to the output, the new session stands for
 -- the shell, and where the same was found on all that a crash might have left before, so it is now.
-pub record DoesBy {B : Type 0} (Rule : List ℕ → List KeptStep → Shell → Type 0) (log : B → Option Log) (found : Found) (old : B) (before : List ℕ) (next : Session B) (after : List ℕ) : Type 0 where
+pub record DoesBy {B : Type 0} (Rule : List ℕ → List KeptStep → Shell → Type 0) (log : B → Option Log) (found : FoundOnBanks) (old : B) (before : List ℕ) (next : Session B) (after : List ℕ) : Type 0 where
   pub text : List ℕ
   pub steps : List KeptStep
   pub shell : Shell
   pub does : Rule text steps shell
   pub written : after ≡ before ++ text
   pub stands : SessionStands log next shell
-  pub moments : LeavesFront found steps (log old) (log (banks_of next))
-  pub settled : ImagesFind found (log old) → ImagesFind (found_of shell) (log (banks_of next))
+  pub moments : LeavesFront found steps (log old) (log (session_banks next))
+  pub settled : ImagesFind found (log old) → ImagesFind (found_of shell) (log (session_banks next))
 
 -- a line of the model's shell was done
 abbrev pub DoesLine : {B : Type 0} → (B → Option Log) → Shell → List ℕ → B → List ℕ → Session B → List ℕ → Type 0
@@ -62,27 +62,27 @@ pub record DoesAndReplies (shell : Shell) (command : ShellCommand) (text : List 
   pub replies : text ≡ shell_text reply
 
 -- a command of the model's shell was done
-abbrev pub DoesCommand : {B : Type 0} → (B → Option Log) → Shell → ShellCommand → B → List ℕ → Session B → List ℕ → Type 0
-DoesCommand log shell command old before next after = DoesBy (DoesAndReplies shell command) log (found_of shell) old before next after
+abbrev pub DoesShellCommand : {B : Type 0} → (B → Option Log) → Shell → ShellCommand → B → List ℕ → Session B → List ℕ → Type 0
+DoesShellCommand log shell command old before next after = DoesBy (DoesAndReplies shell command) log (found_of shell) old before next after
 
 -- ---- a line that was not
 
 -- a session ends in the middle of durable steps that are due, or of none
-pub record StopsIn {B : Type 0} (Due : List KeptStep → Type 0) (log : B → Option Log) (found : Found) (old now : B) : Type 0 where
+pub record LeavesFrontOfDue {B : Type 0} (Due : List KeptStep → Type 0) (log : B → Option Log) (found : FoundOnBanks) (old now : B) : Type 0 where
   pub steps : List KeptStep
   pub due : (steps ≡ []) ⊎ Due steps
   pub moments : LeavesFront found steps (log old) (log now)
 
 -- those of a line, and of a command
 abbrev pub StopsLine : {B : Type 0} → (B → Option Log) → Shell → List ℕ → B → B → Type 0
-StopsLine log shell line old now = StopsIn (IsDueByLine shell line) log (found_of shell) old now
+StopsLine log shell line old now = LeavesFrontOfDue (IsDueByLine shell line) log (found_of shell) old now
 
-abbrev pub StopsCommand : {B : Type 0} → (B → Option Log) → Shell → ShellCommand → B → B → Type 0
-StopsCommand log shell command old now = StopsIn (IsDue shell command) log (found_of shell) old now
+abbrev pub StopsShellCommand : {B : Type 0} → (B → Option Log) → Shell → ShellCommand → B → B → Type 0
+StopsShellCommand log shell command old now = LeavesFrontOfDue (IsDue shell command) log (found_of shell) old now
 
 -- the banks, whatever a line answered
 abbrev pub banks_after : {B : Type 0} → Result (Session B) (SessionFault × B) → B
-banks_after (Ok next) = banks_of next
+banks_after (Ok next) = session_banks next
 banks_after (Err refused) = refused.1
 
 -- the device failed
@@ -112,6 +112,6 @@ IsLiveCommand (sessions.Shut banks) command = Unit {0}
 IsLiveCommand (sessions.Live clone) command = command ≢ shell.Skipped
 
 -- a live clone does the command, and stays live
-pub record StaysLive (command : ShellCommand) : Type 0 where
+pub record KeepsLive (command : ShellCommand) : Type 0 where
   pub stays : command ≢ shell.Stop
   pub live : command ≢ shell.Skipped

@@ -5,13 +5,13 @@ use Rattle.mld_io.specs.Wires.{is_event}
 use Rattle.tcp_wire.specs.declared.wire.TcpWire.{TcpWire}
 
 -- how many events were taken
-abbrev pub taken_of : {R : Type 0} → TcpWire R → ℕ
-taken_of wire = wire.taken
+abbrev pub count_of_taken : {R : Type 0} → TcpWire R → ℕ
+count_of_taken wire = wire.taken
 
 -- how many faults there were
 abbrev pub faults_of : {R : Type 0} → TcpWire R → ℕ
 faults_of wire = wire.faults
 
 -- a piece that came has 1 to 65,536 bytes
-abbrev pub IsSized : Event → Type 0
-IsSized event = IsTrue (is_event event)
+abbrev pub IsSizedEvent : Event → Type 0
+IsSizedEvent event = IsTrue (is_event event)
