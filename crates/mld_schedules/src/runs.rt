@@ -9,7 +9,7 @@ use mld_replay::run::{Ran, RunFault, run};
 use std::alloc::{Alloc, AllocError, Global};
 use std::io::{self, Print};
 use std::thread::Threads;
-use transcripts::{End, Transcript, has_end, has_text, put_given, read_transcript};
+use transcripts::{RunEnd, Transcript, has_end, has_text, put_given, read_transcript};
 
 /// Replays the transcript of a text; whether its run is as it says. What differs is written.
 pub fn replays<R: Print + Threads + Alloc<A = Global>>(
@@ -83,10 +83,10 @@ fn compare<R: Print>(
 }
 
 /// How a run ended that has this status and this fault.
-fn end_of_run(status: u8, fault: Option<RunFault>) -> End
+fn end_of_run(status: u8, fault: Option<RunFault>) -> RunEnd
     ensures status { result.status ≡ status }
 {
-    End {
+    RunEnd {
         status,
         line: match fault {
             Some(RunFault::BadLine(line) | RunFault::TooLarge(line)) => Some(line),

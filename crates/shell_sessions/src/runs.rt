@@ -8,7 +8,7 @@ use shell_run::run::{ShellFault, ShellRan, shell};
 use std::alloc::{Alloc, AllocError, Global};
 use std::io::{self, Print};
 use std::thread::Threads;
-use transcripts::{End, Transcript, has_end, has_side, has_text, read_transcript};
+use transcripts::{RunEnd, Transcript, has_end, has_side, has_text, read_transcript};
 
 /// Runs the transcript of a text; whether its run is as it says. What differs is written.
 pub fn does<R: Print + Threads + Alloc<A = Global>>(
@@ -81,10 +81,10 @@ fn compare<R: Print + Alloc<A = Global>>(
 }
 
 /// How a run ended that has this status and this fault.
-fn end_of_run(status: u8, fault: Option<ShellFault>) -> End
+fn end_of_run(status: u8, fault: Option<ShellFault>) -> RunEnd
     ensures status { result.status ≡ status }
 {
-    End {
+    RunEnd {
         status,
         line: match fault {
             Some(ShellFault::TooLarge(line)) => Some(line),

@@ -15,7 +15,7 @@ mod telling;
 
 pub use comparing::{Difference, first_difference};
 pub use counts::Count;
-pub use ends::End;
+pub use ends::RunEnd;
 pub use files::names_of_files;
 pub use hexadecimal::{first_bytes, is_hexadecimal, put_hexadecimal};
 pub use marks::{parted, uncommented};

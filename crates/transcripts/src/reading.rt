@@ -1,5 +1,5 @@
 //! Transcripts: the lines that a run is given, each with the replies that belong to it, and how the run ends.
-use crate::ends::{End, read_end};
+use crate::ends::{RunEnd, read_end};
 use crate::hexadecimal::put_hexadecimal;
 use std::alloc::AllocError;
 use thiserror::Error;
@@ -18,7 +18,7 @@ pub struct Transcript<'a> {
     /// All lines before the one that says how the run ends, the first one and the head among them.
     pub front: &'a str,
     /// How the run ends.
-    pub end: End,
+    pub end: RunEnd,
     /// The lines behind the one that says so.
     pub behind: &'a str,
 }

@@ -1,6 +1,6 @@
 //! What differs is written, with the name of the file that says otherwise.
 use crate::comparing::{Difference, first_difference};
-use crate::ends::End;
+use crate::ends::RunEnd;
 use crate::reading::Transcript;
 use std::io::{self, Print};
 
@@ -35,7 +35,7 @@ fn tell_difference<R: Print>(rt: &R, name: &str, found: Difference<'_>) -> io::R
 }
 
 /// Whether a run ended as is wanted. What differs is written.
-pub fn has_end<R: Print>(rt: &R, name: &str, wanted: End, got: End) -> io::Result<bool> {
+pub fn has_end<R: Print>(rt: &R, name: &str, wanted: RunEnd, got: RunEnd) -> io::Result<bool> {
     if wanted == got {
         return Ok(true);
     }
