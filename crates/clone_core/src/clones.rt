@@ -283,6 +283,14 @@ impl<B: Banks> MldClone<B> {
         self.journal.is_closed()
     }
 
+    /// Carries a fact and does nothing: the banks of an open clone keep it, whatever a crash leaves of them.
+    pub fn tell_banks_keep(&self)
+        ensures { self.now.closed ≡ None → (log : Log) → B.log self.now.banks ≡ Some log
+            → KeepsClone self.now.local self.now.generation log }
+    {
+        self.is_closed();
+    }
+
     /// The banks of the clone, which stops. What it holds back is forgotten. It takes no memory.
     pub fn stop(self) -> B
         ensures banks { result ≡ self.banks }

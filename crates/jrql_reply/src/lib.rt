@@ -8,4 +8,4 @@ mod rows;
 mod subjects;
 
 pub use laws::one_text;
-pub use replies::reply;
+pub use replies::{reply, spell_answer};

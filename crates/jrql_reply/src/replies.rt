@@ -1,5 +1,5 @@
 //! The text of an answer.
-ghost use Rattle.std.specs.Prelude.{◌≡◌, ◌++◌, ℕ, List, OnOk, OnErr};
+ghost use Rattle.std.specs.Prelude.{◌≡◌, ◌++◌, ℕ, List, IfOk, OnOk, OnErr};
 ghost use Rattle.rdf_terms.specs.Kept.{KeepsStart};
 ghost use Rattle.jrql_ast.specs.InForm.{IsQueryInForm, IsAnswerTo};
 ghost use Rattle.jrql_reply.specs.AnswerText.{SpellsAnswer};
@@ -9,7 +9,7 @@ use crate::subjects::push_subjects;
 use jrql_ast::{Answer, Query, What};
 use jrql_patterns::ReadQuery;
 use jsonld_context::Context;
-use std::alloc::AllocError;
+use std::alloc::{AllocError, Global};
 
 /// Adds the answer to a query to an output, as one line of compact JSON without its LF: an array with an object for each row, or for each
 /// subject, whose keys are in byte order (JSON-LD 1.1 API, section 8.5). Where memory is wanting, the output is as it was.
@@ -26,6 +26,17 @@ pub fn reply(out: &mut Vec<u8>, answer: &Answer, read: &ReadQuery) -> Result<(),
         out.truncate(before);
     }
     done
+}
+
+/// The text of the answer to a query, without its LF.
+pub fn spell_answer(alloc: Global, answer: &Answer, read: &ReadQuery) -> Result<Vec<u8>, AllocError>
+    requires form { IsQueryInForm read.now.query }
+    requires kind { IsAnswerTo read.now.query.what answer.now }
+    ensures { IfOk result (λ text. SpellsAnswer read.now.context read.now.query answer.now text.items) }
+{
+    let mut text = Vec::new(alloc);
+    reply(&mut text, answer, read)?;
+    Ok(text)
 }
 
 /// Adds the answer. Where memory is wanting, what stood there still stands in front.

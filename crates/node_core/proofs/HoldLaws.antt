@@ -20,6 +20,7 @@ use Rattle.node_exchange.specs.declared.connections.Role.{Role}
 use Rattle.node_exchange.specs.declared.connections.Role.TheVariants as role
 use Rattle.node_exchange.specs.Connections.{AreNumbered, connection_of, without, connections_with, as_client, as_peer, is_peer}
 use Rattle.node_exchange.specs.Exchanges.{ExchangeValue, saying, refusing_at, refusing, telling_at, telling, telling_each, telling_peers, telling_peers_each, after_sending, left_of_peers, connections_left, holding, halting}
+use Rattle.node_exchange.specs.RefusalCodes.{bad_frame_code, deep_leaf_code, foreign_tick_code, misplaced_code, other_domain_code, other_format_code, own_id_code}
 use Rattle.node_requests.specs.declared.requests.Request.{Request}
 use Rattle.node_requests.specs.declared.requests.Request.TheVariants as requests
 use Rattle.node_model.specs.Keepers.{Keeper, Lives, Asks, carried, question_of}
@@ -256,8 +257,8 @@ module _ (number : ℕ) (reader : FramesValue) where
   sending_well (Ok got.Nothing) steps ticks exchange well = well
   sending_well (Ok got.Ignored) steps ticks exchange well = well
   sending_well (Err fault.HeldFull) steps ticks exchange well = telling_well (CarriesWant ticks) exchange well
-  sending_well (Err (fault.ForeignTick said own)) steps ticks exchange well = refusing_well 8 exchange well
-  sending_well (Err fault.Deep) steps ticks exchange well = refusing_well 9 exchange well
+  sending_well (Err (fault.ForeignTick said own)) steps ticks exchange well = refusing_well foreign_tick_code exchange well
+  sending_well (Err fault.Deep) steps ticks exchange well = refusing_well deep_leaf_code exchange well
   sending_well (Err fault.GenerationsSpent) steps ticks exchange well = well
   sending_well (Err (fault.Closed why)) steps ticks exchange well = well
   sending_well (Err fault.Device) steps ticks exchange well = well
@@ -272,9 +273,9 @@ module _ (number : ℕ) (reader : FramesValue) where
 
   greets_well : (keeper : Keeper) (one : Connection) (format : ℕ) (id domain : List ℕ) (exchange after : ExchangeValue)
       → Greets keeper one format id domain exchange after → IsHeld number reader (Some one) → ExchangeGoesOn number reader exchange → ExchangeGoesOn number reader after
-  greets_well keeper one format id domain exchange after (of_other_format other) held well = refusing_well 4 (holding one exchange) (holding_well exchange one held well)
-  greets_well keeper one format id domain exchange after (of_other_domain same other) held well = refusing_well 3 (holding one exchange) (holding_well exchange one held well)
-  greets_well keeper one format id domain exchange after (of_own_id same also own) held well = refusing_well 5 (holding one exchange) (holding_well exchange one held well)
+  greets_well keeper one format id domain exchange after (of_other_format other) held well = refusing_well other_format_code (holding one exchange) (holding_well exchange one held well)
+  greets_well keeper one format id domain exchange after (of_other_domain same other) held well = refusing_well other_domain_code (holding one exchange) (holding_well exchange one held well)
+  greets_well keeper one format id domain exchange after (of_own_id same also own) held well = refusing_well own_id_code (holding one exchange) (holding_well exchange one held well)
   greets_well keeper one format id domain exchange after (of_peer same also other) held well =
       telling_well (question_of keeper) (holding (as_peer one) exchange) (holding_well exchange (as_peer one) (held.0, (held.1.0, refl)) well)
 
@@ -287,12 +288,12 @@ module _ (number : ℕ) (reader : FramesValue) where
       receives_well keeper whole (holding (with_parts put one) exchange) made end last receives
       (holding_well exchange (with_parts put one) (held.0, (held.1.0, ap (λ (a : AssemblyValue). a.good) adds.new_is)) well)
   part_well keeper one assembly message index count piece exchange steps next after (is_bad put adds) held well =
-      refusing_well 1 (holding one exchange) (holding_well exchange one held well)
+      refusing_well bad_frame_code (holding one exchange) (holding_well exchange one held well)
 
   misplaced_well : (keeper : Keeper) (one : Connection) (exchange : ExchangeValue) (steps : List KeptStep) (next : Keeper) (after : ExchangeValue)
       → IsOutOfPlace keeper one exchange steps next after → IsHeld number reader (Some one) → ExchangeGoesOn number reader exchange → ExchangeGoesOn number reader after
   misplaced_well keeper one exchange steps next after does held well =
-      becomes_well after (refusing 6 (holding one exchange)) does.refused (refusing_well 6 (holding one exchange) (holding_well exchange one held well))
+      becomes_well after (refusing misplaced_code (holding one exchange)) does.refused (refusing_well misplaced_code (holding one exchange) (holding_well exchange one held well))
 
   frame_as_well : (kind : Role) (frame : Frame) (keeper : Keeper) (one : Connection) (exchange : ExchangeValue) (steps : List KeptStep) (next : Keeper) (after : ExchangeValue)
       → FrameStepAs kind frame keeper one exchange steps next after → IsHeld number reader (Some one) → ExchangeGoesOn number reader exchange → ExchangeGoesOn number reader after

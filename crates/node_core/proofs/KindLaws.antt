@@ -19,6 +19,7 @@ use Rattle.node_exchange.specs.declared.connections.Role.{Role}
 use Rattle.node_exchange.specs.declared.connections.Role.TheVariants as role
 use Rattle.node_exchange.specs.Connections.{as_peer, is_peer}
 use Rattle.node_exchange.specs.Exchanges.{ExchangeValue, refusing, telling, holding}
+use Rattle.node_exchange.specs.RefusalCodes.{bad_frame_code, misplaced_code}
 use Rattle.node_keeper.specs.NodeDeeds.{NodeDoesBy, AnswersOn, ReceivesOn, IsDueByRequest, IsDueByMessage}
 use Rattle.node_keeper.specs.NodeStates.{state_banks, keeper_of}
 use Rattle.node_keeper.specs.declared.faults.NodeFault.{NodeFault}
@@ -43,7 +44,7 @@ module _ {B : Type 0} (log : B → Option Log) (one : Connection) (frame : Frame
 
 -- ---- frames that may not come
 
-module _ (keeper : Keeper) (one : Connection) (exchange after : ExchangeValue) (refused : after ≡ refusing 6 (holding one exchange)) where
+module _ (keeper : Keeper) (one : Connection) (exchange after : ExchangeValue) (refused : after ≡ refusing misplaced_code (holding one exchange)) where
   misplaced : IsOutOfPlace keeper one exchange [] keeper after
   misplaced = record { nothing = record { none = refl; same = refl }; refused = refused }
 
@@ -149,9 +150,9 @@ part_step kind assembly keeper one number index count piece exchange steps next 
 
 module _ (keeper : Keeper) (one new : Connection) (number index count : ℕ) (piece : List ℕ) (exchange held : ExchangeValue) (holds : held ≡ holding new exchange) where
   -- of no peer
-  pub part_none : (after : ExchangeValue) → IsNoPeer one new → after ≡ refusing 6 held → FrameStep keeper one (kinds.Part number index count piece) exchange [] keeper after
+  pub part_none : (after : ExchangeValue) → IsNoPeer one new → after ≡ refusing misplaced_code held → FrameStep keeper one (kinds.Part number index count piece) exchange [] keeper after
   part_none after lacks sent =
-      part_misplaced keeper one exchange after (sent ∙ ap (refusing 6) holds ∙ ap (λ (c : Connection). refusing 6 (holding c exchange)) lacks.same) one.role number index count piece lacks.none
+      part_misplaced keeper one exchange after (sent ∙ ap (refusing misplaced_code) holds ∙ ap (λ (c : Connection). refusing misplaced_code (holding c exchange)) lacks.same) one.role number index count piece lacks.none
 
   -- the message isn't whole
   pub part_waits : (result : Result Assembled AssemblyFault) (given : Assembled) (missing : ℕ) → result ≡ Ok given → given ≡ Waiting missing
@@ -166,12 +167,12 @@ module _ (keeper : Keeper) (one new : Connection) (number index count : ℕ) (pi
 
   -- it may not come
   pub part_is_bad : (result : Result Assembled AssemblyFault) (fault : AssemblyFault) → result ≡ Err fault → fault ≡ BadPart → AddsPart one number index count piece result new
-      → (after : ExchangeValue) → after ≡ refusing 1 held → FrameStep keeper one (kinds.Part number index count piece) exchange [] keeper after
+      → (after : ExchangeValue) → after ≡ refusing bad_frame_code held → FrameStep keeper one (kinds.Part number index count piece) exchange [] keeper after
   part_is_bad result fault is bad added after sent =
       let adds : AddsPart one number index count piece (Err BadPart) new =
       subst (λ (r : Result Assembled AssemblyFault). AddsPart one number index count piece r new) (is ∙ ap Err bad) added in
-      let same : after ≡ refusing 1 (holding one exchange) =
-      sent ∙ ap (refusing 1) holds ∙ ap (λ (c : Connection). refusing 1 (holding c exchange)) adds.new_is in
+      let same : after ≡ refusing bad_frame_code (holding one exchange) =
+      sent ∙ ap (refusing bad_frame_code) holds ∙ ap (λ (c : Connection). refusing bad_frame_code (holding c exchange)) adds.new_is in
       part_step one.role adds.assembly keeper one number index count piece exchange [] keeper after adds.was
       (subst (λ (e : ExchangeValue). ReceivesPart keeper one adds.assembly number index count piece exchange [] keeper e) (sym same)
       (is_bad adds.left adds.assembles))
@@ -212,12 +213,12 @@ module _ {B : Type 0} (log : B → Option Log) (state : NodeState B) (one : Conn
 -- ---- frames that may come on no connection
 
 pub reply_step : (keeper : Keeper) (one : Connection) (exchange after : ExchangeValue) (frame : Frame) (piece : List ℕ) (more : Bool) → frame ≡ kinds.Reply piece more
-    → after ≡ refusing 6 (holding one exchange) → FrameStep keeper one frame exchange [] keeper after
+    → after ≡ refusing misplaced_code (holding one exchange) → FrameStep keeper one frame exchange [] keeper after
 reply_step keeper one exchange after frame piece more is sent =
     subst (λ (f : Frame). FrameStep keeper one f exchange [] keeper after) (sym is) (reply_misplaced keeper one exchange after sent one.role piece more)
 
 pub refuse_step : (keeper : Keeper) (one : Connection) (exchange after : ExchangeValue) (frame : Frame) (code : ℕ) → frame ≡ kinds.Refuse code
-    → after ≡ refusing 6 (holding one exchange) → FrameStep keeper one frame exchange [] keeper after
+    → after ≡ refusing misplaced_code (holding one exchange) → FrameStep keeper one frame exchange [] keeper after
 refuse_step keeper one exchange after frame code is sent =
     subst (λ (f : Frame). FrameStep keeper one f exchange [] keeper after) (sym is) (refuse_misplaced keeper one exchange after sent one.role code)
 

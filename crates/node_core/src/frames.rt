@@ -6,6 +6,7 @@ ghost use Rattle.wire_frames.specs.declared.kinds.Frame.TheVariants as kinds;
 ghost use Rattle.wire_frames.specs.Frames.{FramesValue};
 ghost use Rattle.node_exchange.specs.Connections.{is_peer, as_peer};
 ghost use Rattle.node_exchange.specs.Exchanges.{holding, refusing, telling};
+ghost use Rattle.node_exchange.specs.RefusalCodes.{misplaced_code};
 ghost use Rattle.node_keeper.specs.NodeStates.{IsOpen, state_banks, keeper_of, state_banks_after, StateFailsOnDevice};
 ghost use Rattle.node_model.specs.Keepers.{question_of};
 ghost use Rattle.node_core.specs.Nodes.{IsGoodRole};
@@ -15,18 +16,12 @@ ghost use Rattle.node_core.specs.Steps.{TakesFrame, TakesFrames, MayAddPart, Exc
 use crate::greeting::refusal;
 use iri_rules::Text;
 use mld_io::{Banks, Piece};
-use node_exchange::{Connection, Exchange, Role};
+use node_exchange::{BAD_FRAME, Connection, Exchange, MISPLACED, Role};
 use node_keeper::{NodeFault, NodeState, answer_request, receive_message};
 use std::alloc::{AllocError, Global};
 use std::thread::Threads;
 use uuid::Uuid;
 use wire_frames::{Assembled, Assembly, AssemblyFault, Frame};
-
-/// A connection is refused by this code for a part that may not come.
-const BAD_PART: u8 = 1;
-
-/// A connection is refused by this code for a frame that may not come on it.
-const OUT_OF_PLACE: u8 = 6;
 
 /// Takes frames that came on the connection at hand, one after another. Those behind one by which it was refused, or by which the node is
 /// to end, are dropped.
@@ -181,12 +176,12 @@ fn take_part<R: Threads, B: Banks>(
     let added = add_part(&mut one, number, index, count, piece);
     exchange.hold(one);
     match added {
-        None => refuse(state, OUT_OF_PLACE, exchange),
+        None => refuse(state, MISPLACED, exchange),
         Some(Ok(Assembled::Waiting(_))) => Ok(state),
         Some(Ok(Assembled::Whole(message))) => {
             receive_message(rt, alloc, state, &message, exchange)
         }
-        Some(Err(AssemblyFault::BadPart)) => refuse(state, BAD_PART, exchange),
+        Some(Err(AssemblyFault::BadPart)) => refuse(state, BAD_FRAME, exchange),
         Some(Err(AssemblyFault::NoMemory)) => Err((NodeFault::NoMemory, state.into_banks())),
     }
 }
@@ -214,12 +209,12 @@ fn misplace<B: Banks>(
     one: Connection,
     exchange: &mut Exchange,
 ) -> Result<NodeState<B>, (NodeFault, B)>
-    ensures sent { OnOk result (exchange.new ≡ refusing 6 (holding one exchange.old)) }
+    ensures sent { OnOk result (exchange.new ≡ refusing misplaced_code (holding one exchange.old)) }
     ensures same { IfOk result (λ next. next ≡ state) }
     ensures err { IfErr result (λ refused. refused ≡ (NodeFault.NoMemory, state_banks state)) }
 {
     exchange.hold(one);
-    refuse(state, OUT_OF_PLACE, exchange)
+    refuse(state, MISPLACED, exchange)
 }
 
 /// Refuses the connection at hand by a code.

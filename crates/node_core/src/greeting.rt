@@ -8,6 +8,7 @@ ghost use Rattle.wire_frames.specs.declared.kinds.Frame.TheVariants.{Hello};
 
 use iri_rules::Text;
 use mld_io::{Banks, Piece};
+use node_exchange::{OTHER_DOMAIN, OTHER_FORMAT, OWN_ID};
 use node_keeper::NodeState;
 use std::alloc::{AllocError, Global};
 use uuid::Uuid;
@@ -15,15 +16,6 @@ use wire_frames::{Frame, are_kept, write_frame};
 
 /// The format of frames that a Hello tells.
 const HELLO_FORMAT: u8 = 1;
-
-/// A Hello of another format is refused by this code.
-const OTHER_FORMAT: u8 = 4;
-
-/// A Hello of another domain is refused by this code.
-const OTHER_DOMAIN: u8 = 3;
-
-/// A Hello of the node's own id is refused by this code.
-const OWN_ID: u8 = 5;
 
 /// The frame by which a node tells who it is.
 pub(crate) fn hello<B: Banks>(alloc: Global, state: &NodeState<B>) -> Result<Piece, AllocError>

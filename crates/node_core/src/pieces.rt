@@ -12,17 +12,11 @@ ghost use Rattle.node_core.specs.Steps.{MayEnd, ExchangeEnds, MayPutBack, TakesF
 
 use crate::frames::take_frames;
 use mld_io::Banks;
-use node_exchange::{Connection, Exchange, Sent, place_connection};
+use node_exchange::{BAD_FRAME, Connection, Exchange, LONG_FRAME, Sent, place_connection};
 use node_keeper::{NodeFault, NodeState};
 use std::alloc::{AllocError, Global};
 use std::thread::Threads;
 use wire_frames::{Fed, FrameFault};
-
-/// A connection is refused by this code for a bad frame.
-const BAD_FRAME: u8 = 1;
-
-/// A connection is refused by this code for a frame that is too long.
-const TOO_LONG: u8 = 2;
 
 /// What a node has behind an event.
 #[derive(Drop)]
@@ -167,6 +161,6 @@ fn code_of(fault: &FrameFault) -> u8
 {
     match fault {
         FrameFault::BadFrame { .. } => BAD_FRAME,
-        FrameFault::TooLong { .. } => TOO_LONG,
+        FrameFault::TooLong { .. } => LONG_FRAME,
     }
 }

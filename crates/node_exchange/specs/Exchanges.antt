@@ -7,6 +7,7 @@ use Rattle.wire_frames.specs.MessageParts.{message_parts, is_too_long, next_numb
 use Rattle.node_exchange.specs.declared.connections.Connection.{Connection}
 use Rattle.node_exchange.specs.declared.connections.Sent.{Sent}
 use Rattle.node_exchange.specs.Connections.{is_peer}
+use Rattle.node_exchange.specs.RefusalCodes.{long_message_code}
 
 -- what was sent so far; the connection at hand, whose event it is, until it is refused; the others, in ascending number; and
 -- whether the node is to end
@@ -26,9 +27,9 @@ refuses number code = record { conn = number; piece = frame_bytes (Refuse code);
 
 -- ---- one message on one connection
 
--- its parts, by the connection's next number; one that is too long is refused by code 7
+-- its parts, by the connection's next number; one that is too long is refused
 abbrev pub sends : MessageValue → Connection → Sent
-sends message one = if is_too_long message then refuses one.number 7 else says one.number (message_parts one.sends message)
+sends message one = if is_too_long message then refuses one.number long_message_code else says one.number (message_parts one.sends message)
 
 -- the connection then: it is forgotten where it was refused
 abbrev pub after_sending : MessageValue → Connection → Option Connection

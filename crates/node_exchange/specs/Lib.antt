@@ -1,3 +1,4 @@
 pub mod Connections
 pub mod Exchanges
+pub mod RefusalCodes
 pub mod Sending

@@ -7,13 +7,11 @@ ghost use Rattle.node_exchange.specs.Exchanges.{says, refuses};
 ghost use Rattle.node_exchange.specs.Sending.{IsPayload, FitsParts, SendsOn, SendsToPeers, SendsIfPeer, any_peer};
 
 use crate::connections::{Connection, Role, Sent};
+use crate::refusals::LONG_MESSAGE;
 use mld_io::Piece;
 use mld_ops::Message;
 use std::alloc::{AllocError, Global};
 use wire_frames::{Frame, PartFault, cut_in_parts, message_payload, write_frame};
-
-/// The code by which a connection is refused to which a message goes that is too long.
-const MESSAGE_TOO_LONG: u8 = 7;
 
 /// The bytes of a message, or none where it is too long to go in parts.
 pub(crate) fn payload_of(alloc: Global, message: &Message) -> Result<Option<Piece>, AllocError>
@@ -39,7 +37,7 @@ pub(crate) fn send_on(
         → IfOk result (λ left. SendsOn message one sent.old.items sent.new.items left) }
 {
     let Some(bytes) = payload else {
-        refuse_on(alloc, sent, one.number, MESSAGE_TOO_LONG)?;
+        refuse_on(alloc, sent, one.number, LONG_MESSAGE)?;
         return Ok(None);
     };
     let mut frames = Vec::new(alloc);

@@ -12,7 +12,7 @@ ghost use Rattle.node_keeper.specs.declared.states.NodeState.TheVariants as stat
 
 use crate::faults::NodeFault;
 use crate::states::NodeState;
-use crate::telling::{tell_kept, tell_want};
+use crate::telling::tell_want;
 use clone_core::{Adopted, Asker, MldClone};
 use journal_store::MakeFault;
 use mld_io::Banks;
@@ -57,7 +57,7 @@ fn begin<B: Banks>(
     ensures kept { (log : Log) → B.log clone.banks ≡ Some log → KeepsClone clone.local clone.generation log }
     ensures err { IfErr result (λ refused. (refused.0 ≡ NodeFault.NoMemory) × (refused.1 ≡ clone.banks)) }
 {
-    tell_kept(&clone);
+    clone.tell_banks_keep();
     match tell_want(alloc, &clone, exchange) {
         Ok(()) => Ok(NodeState::Live(clone)),
         Err(AllocError) => Err((NodeFault::NoMemory, clone.stop())),

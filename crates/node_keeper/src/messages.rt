@@ -13,12 +13,12 @@ ghost use Rattle.node_keeper.specs.declared.states.NodeState.TheVariants as stat
 use crate::adopting::receive_asking;
 use crate::faults::NodeFault;
 use crate::states::NodeState;
-use crate::telling::{tell_kept, tell_want};
+use crate::telling::tell_want;
 use clone_answers::{Got, ReceiveFault};
 use clone_core::MldClone;
 use mld_io::Banks;
 use mld_ops::Message;
-use node_exchange::Exchange;
+use node_exchange::{DEEP_LEAF, Exchange, FOREIGN_TICK};
 use std::alloc::{AllocError, Global};
 use std::thread::Threads;
 
@@ -69,7 +69,7 @@ fn receive_live<R: Threads, B: Banks>(
 {
     match receive_loan(rt, alloc, &mut clone, message, exchange) {
         Ok(()) => {
-            tell_kept(&clone);
+            clone.tell_banks_keep();
             Ok(NodeState::Live(clone))
         }
         Err(fault) => Err((fault, clone.stop())),
@@ -121,11 +121,11 @@ fn send_for<B: Banks>(
             Ok(())
         }
         Err(ReceiveFault::ForeignTick { .. }) => {
-            exchange.refuse(8)?;
+            exchange.refuse(FOREIGN_TICK)?;
             Ok(())
         }
         Err(ReceiveFault::Deep) => {
-            exchange.refuse(9)?;
+            exchange.refuse(DEEP_LEAF)?;
             Ok(())
         }
         Err(ReceiveFault::GenerationsSpent) => Ok(()),

@@ -14,7 +14,7 @@ ghost use Rattle.node_keeper.specs.declared.states.NodeState.TheVariants as stat
 use crate::answering::answer_loan;
 use crate::faults::NodeFault;
 use crate::states::NodeState;
-use crate::telling::{greet_client, say_reply, tell_kept};
+use crate::telling::{greet_client, say_reply};
 use clone_core::{Asker, MldClone};
 use mld_io::Banks;
 use node_exchange::Exchange;
@@ -67,7 +67,7 @@ fn answer_live<B: Banks>(
 {
     match answer_loan(alloc, &mut clone, line, exchange) {
         Ok(()) => {
-            tell_kept(&clone);
+            clone.tell_banks_keep();
             Ok(NodeState::Live(clone))
         }
         Err(fault) => Err((fault, clone.stop())),

@@ -1,8 +1,6 @@
 //! What goes out over the connections of a node.
-ghost use Rattle.std.specs.Prelude.{◌≡◌, ◌≤◌, None, Some, length, OnOk};
-ghost use Rattle.mld_io.specs.Disk.{Log};
+ghost use Rattle.std.specs.Prelude.{◌≡◌, ◌≤◌, Some, length, OnOk};
 ghost use Rattle.mld_ops.specs.Messages.{CarriesWant};
-ghost use Rattle.clone_core.specs.Banked.{KeepsClone};
 ghost use Rattle.wire_frames.specs.Frames.{frames_bytes};
 ghost use Rattle.wire_frames.specs.MessageParts.{reply_parts};
 ghost use Rattle.node_exchange.specs.declared.connections.Connection.{Connection as ConnectionValue};
@@ -72,12 +70,4 @@ pub(crate) fn tell_want<B: Banks>(
 {
     let want = clone.want(alloc)?;
     exchange.tell(&want)
-}
-
-/// Tells what the banks of an open clone keep.
-pub(crate) fn tell_kept<B: Banks>(clone: &MldClone<B>)
-    ensures { clone.now.closed ≡ None → (log : Log) → B.log clone.now.banks ≡ Some log
-        → KeepsClone clone.now.local clone.now.generation log }
-{
-    clone.is_closed();
 }

@@ -15,6 +15,7 @@ use Rattle.node_exchange.specs.declared.connections.Role.{Role}
 use Rattle.node_exchange.specs.declared.connections.Role.TheVariants as role
 use Rattle.node_exchange.specs.Connections.{as_peer}
 use Rattle.node_exchange.specs.Exchanges.{ExchangeValue, refusing, telling, holding}
+use Rattle.node_exchange.specs.RefusalCodes.{bad_frame_code, long_frame_code, misplaced_code, other_domain_code, other_format_code, own_id_code}
 use Rattle.node_model.specs.Keepers.{Keeper, keeper_id, keeper_domain, question_of}
 use Rattle.node_model.specs.Requests.{TakesRequest}
 use Rattle.node_model.specs.NodeMessages.{Receives}
@@ -29,10 +30,10 @@ pub record KeepsAll (keeper : Keeper) (steps : List KeptStep) (next : Keeper) : 
 -- The first frame of a connection is a Hello: of another format, of another domain, or of the node's own id, it is refused; else its sender is a
 -- peer, and is asked for what is lacked.
 pub data Greets (keeper : Keeper) (one : Connection) (format : ℕ) (id domain : List ℕ) (exchange : ExchangeValue) : ExchangeValue → Type 0 where
-  of_other_format : format ≢ hello_format → Greets keeper one format id domain exchange (refusing 4 (holding one exchange))
-  of_other_domain : format ≡ hello_format → domain ≢ keeper_domain keeper → Greets keeper one format id domain exchange (refusing 3 (holding one exchange))
+  of_other_format : format ≢ hello_format → Greets keeper one format id domain exchange (refusing other_format_code (holding one exchange))
+  of_other_domain : format ≡ hello_format → domain ≢ keeper_domain keeper → Greets keeper one format id domain exchange (refusing other_domain_code (holding one exchange))
   of_own_id : format ≡ hello_format → domain ≡ keeper_domain keeper → id ≡ keeper_id keeper
-      → Greets keeper one format id domain exchange (refusing 5 (holding one exchange))
+      → Greets keeper one format id domain exchange (refusing own_id_code (holding one exchange))
   of_peer : format ≡ hello_format → domain ≡ keeper_domain keeper → id ≢ keeper_id keeper
       → Greets keeper one format id domain exchange (telling (question_of keeper) (holding (as_peer one) exchange))
 
@@ -51,14 +52,14 @@ pub data ReceivesPart (keeper : Keeper) (one : Connection) (assembly : AssemblyV
       → (steps : List KeptStep) (next : Keeper) (after : ExchangeValue) → Receives keeper message (holding (with_parts put one) exchange) steps next after
       → ReceivesPart keeper one assembly number index count piece exchange steps next after
   is_bad : (put : AssemblyValue) → Assembles assembly number index count piece (Err BadPart) put
-      → ReceivesPart keeper one assembly number index count piece exchange [] keeper (refusing 1 (holding one exchange))
+      → ReceivesPart keeper one assembly number index count piece exchange [] keeper (refusing bad_frame_code (holding one exchange))
 
 -- ---- a frame
 
--- a frame that may not come on such a connection is refused by code 6
+-- a frame that may not come on such a connection is refused
 pub record IsOutOfPlace (keeper : Keeper) (one : Connection) (exchange : ExchangeValue) (steps : List KeptStep) (next : Keeper) (after : ExchangeValue) : Type 0 where
   pub nothing : KeepsAll keeper steps next
-  pub refused : after ≡ refusing 6 (holding one exchange)
+  pub refused : after ≡ refusing misplaced_code (holding one exchange)
 
 -- by what the connection is
 abbrev pub FrameStepAs : Role → Frame → Keeper → Connection → ExchangeValue → List KeptStep → Keeper → ExchangeValue → Type 0
@@ -89,8 +90,8 @@ pub data FramesStep : Keeper → List Frame → ExchangeValue → List KeptStep 
 
 -- the code by which a fault of frames is refused
 abbrev pub refusal_code : FrameFault → ℕ
-refusal_code (BadFrame place) = 1
-refusal_code (TooLong place) = 2
+refusal_code (BadFrame place) = bad_frame_code
+refusal_code (TooLong place) = long_frame_code
 
 -- the connection at hand is forgotten
 abbrev pub forgetting : ExchangeValue → ExchangeValue

@@ -16,6 +16,7 @@ use Rattle.clone_core.specs.Joining.{IsGiveFor, GivesNone}
 use Rattle.shell_model.specs.Shells.{generation_after}
 use Rattle.shell_model.specs.ShellStep.{IsLast}
 use Rattle.node_exchange.specs.Exchanges.{ExchangeValue, refusing, telling, telling_each, telling_peers_each}
+use Rattle.node_exchange.specs.RefusalCodes.{deep_leaf_code, foreign_tick_code}
 use Rattle.node_model.specs.Keepers.{Keeper, Lives, Asks, carried}
 
 -- ---- a live clone
@@ -50,8 +51,8 @@ sending_for (Ok got.Known) steps ticks exchange = exchange
 sending_for (Ok got.Nothing) steps ticks exchange = exchange
 sending_for (Ok got.Ignored) steps ticks exchange = exchange
 sending_for (Err fault.HeldFull) steps ticks exchange = telling (CarriesWant ticks) exchange
-sending_for (Err (fault.ForeignTick said own)) steps ticks exchange = refusing 8 exchange
-sending_for (Err fault.Deep) steps ticks exchange = refusing 9 exchange
+sending_for (Err (fault.ForeignTick said own)) steps ticks exchange = refusing foreign_tick_code exchange
+sending_for (Err fault.Deep) steps ticks exchange = refusing deep_leaf_code exchange
 sending_for (Err other) steps ticks exchange = exchange
 
 -- a message came to a live clone

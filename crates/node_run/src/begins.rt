@@ -1,9 +1,8 @@
 //! How a node begins over its banks: the clone that they keep runs again, or one is made, or a leaf is asked for.
-ghost use Rattle.std.specs.Prelude.{◌≡◌, ◌↔◌, None, Some, IsTrue, IfOk, IfErr};
+ghost use Rattle.std.specs.Prelude.{◌≡◌, ◌↔◌, Some, IsTrue, IfOk, IfErr};
 ghost use Rattle.iri_rules.specs.Domain.{is_domain};
 ghost use Rattle.mld_io.specs.Disk.{Log};
 ghost use Rattle.shell_session.specs.SessionLines.{Meters};
-ghost use Rattle.clone_core.specs.Banked.{KeepsClone};
 ghost use Rattle.node_keeper.specs.NodeStates.{IsOpen};
 ghost use Rattle.journal_store.specs.Standing.{KeepsNothing};
 ghost use Rattle.shell_model.specs.Shells.{Nothing};
@@ -92,17 +91,9 @@ fn begin_anew<B: Banks>(
     }
     match MldClone::genesis(alloc, blank, id, domain, props) {
         Ok(clone) => {
-            tell_kept(&clone);
+            clone.tell_banks_keep();
             Ok(NodeState::Live(clone))
         }
         Err((fault, banks)) => Err((make_stop(fault), banks)),
     }
-}
-
-/// Tells what the banks of an open clone keep.
-fn tell_kept<B: Banks>(clone: &MldClone<B>)
-    ensures { clone.now.closed ≡ None → (log : Log) → B.log clone.now.banks ≡ Some log
-        → KeepsClone clone.now.local clone.now.generation log }
-{
-    clone.is_closed();
 }

@@ -1,13 +1,9 @@
 //! Commands on a live clone that stays live.
 ghost use Rattle.std.specs.Prelude.{◌≡◌, ◌++◌, None, IfOk, IfErr, OnOk, OnErr, IsErrOf};
-ghost use Rattle.jrql_ast.specs.InForm.{IsPlanInForm, IsQueryInForm, IsAnswerTo};
-ghost use Rattle.jrql_reply.specs.AnswerText.{SpellsAnswer};
+ghost use Rattle.jrql_ast.specs.InForm.{IsPlanInForm, IsQueryInForm};
 ghost use Rattle.journal_store.specs.Closing.{StaysTold};
-ghost use Rattle.mld_ops.specs.Present.{present};
 ghost use Rattle.mld_ops.specs.Ready.{last_dot};
-ghost use Rattle.schedule_model.specs.Querying.{AnswersQuery};
 ghost use Rattle.jrql_ast.specs.Templates.{insertion_of, deletion_of};
-ghost use Rattle.schedule_replies.specs.Replies.{reply_value};
 ghost use Rattle.shell_model.specs.ShellReply.{shell_text};
 ghost use Rattle.shell_model.specs.ShellStep.{LiveStep, IsDueLive, AnswersUpdate, AppendsUpdate, CompactsAs, IsDueCompaction, TruncatesAs, IsDueTruncation};
 ghost use Rattle.shell_session.specs.SessionLines.{Meters, IsUsable, KeepsLive};
@@ -16,16 +12,15 @@ ghost use Rattle.shell_session.specs.SessionReplies.{shell_value};
 
 use crate::faults::SessionFault;
 use crate::replies::{ShellReply, push_shell_reply};
-use clone_core::{Done, KeepFault, MldClone, QueryFault, UpdateFault};
-use jrql_ast::{Answer, UpdatePlan};
+use clone_core::{Done, KeepFault, MldClone, UpdateFault};
+use jrql_ast::UpdatePlan;
 use jrql_patterns::ReadQuery;
-use jrql_reply::reply;
 use mld_io::Banks;
 use mld_ops::Entry;
 use rdf_terms::Triple;
-use schedule_replies::Reply;
+use schedule_replies::{Reply, reply_to_query};
 use shell_text::ShellCommand;
-use std::alloc::{AllocError, Global};
+use std::alloc::Global;
 use tree_clock::{Dot, Range};
 
 /// Does a command on a live clone that stays live, and adds the text of its reply to the output once its durable steps stand on the
@@ -185,38 +180,8 @@ fn query<B: Banks>(
     ensures err { IfErr result (λ fault. fault ≡ SessionFault.NoMemory) }
     ensures out { OnErr result (out.new.items ≡ out.old.items) }
 {
-    let reply = answered(alloc, clone, read)?;
+    let reply = reply_to_query(alloc, clone, read)?;
     tell(out, &ShellReply::Says(reply))
-}
-
-/// The reply to a query.
-fn answered<B: Banks>(
-    alloc: Global,
-    clone: &MldClone<B>,
-    read: &ReadQuery,
-) -> Result<Reply<'static>, SessionFault>
-    requires opened { clone.now.closed ≡ None }
-    requires form { IsQueryInForm read.now.query }
-    ensures answers { IfOk result (λ reply. AnswersQuery (present clone.now.local.pairs) read.now (reply_value reply)) }
-    ensures err { IfErr result (λ fault. fault ≡ SessionFault.NoMemory) }
-{
-    match clone.query(alloc, &read.query) {
-        Ok(answer) => Ok(Reply::Tells(answer_text(alloc, &answer, read)?)),
-        Err(QueryFault::TooMany) => Ok(Reply::TooMany),
-        Err(QueryFault::NoMemory) => Err(SessionFault::NoMemory),
-        Err(QueryFault::Closed { .. }) => unreachable!(),
-    }
-}
-
-/// The text of an answer.
-fn answer_text(alloc: Global, answer: &Answer, read: &ReadQuery) -> Result<Vec<u8>, AllocError>
-    requires form { IsQueryInForm read.now.query }
-    requires kind { IsAnswerTo read.now.query.what answer.now }
-    ensures { IfOk result (λ text. SpellsAnswer read.now.context read.now.query answer.now text.items) }
-{
-    let mut text = Vec::new(alloc);
-    reply(&mut text, answer, read)?;
-    Ok(text)
 }
 
 /// Compacts the journal.

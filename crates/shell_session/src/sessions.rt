@@ -1,8 +1,6 @@
 //! A session of the shell: the banks of one clone, and the clone where it is live.
 ghost use Rattle.std.specs.Prelude.{◌≡◌, ◌↔◌, ◌++◌, None, Some, Option, MatchOption, option_map, IsTrue, IfOk, IfErr, OnErr};
 ghost use Rattle.iri_rules.specs.Domain.{is_domain};
-ghost use Rattle.mld_io.specs.Disk.{Log};
-ghost use Rattle.clone_core.specs.Banked.{KeepsClone};
 ghost use Rattle.journal_store.specs.Closing.{StaysTold};
 ghost use Rattle.shell_text.specs.declared.commands.ShellCommand.TheVariants as commands;
 ghost use Rattle.shell_model.specs.Shells.{Shell};
@@ -167,19 +165,11 @@ fn stay_live<B: Banks>(
 {
     match do_live(alloc, &mut clone, command, out) {
         Ok(()) => {
-            tell_kept(&clone);
+            clone.tell_banks_keep();
             Ok(Session::Live(clone))
         }
         Err(fault) => Err((fault, clone.stop())),
     }
-}
-
-/// Tells what the banks of an open clone keep.
-pub fn tell_kept<B: Banks>(clone: &MldClone<B>)
-    ensures { clone.now.closed ≡ None → (log : Log) → B.log clone.now.banks ≡ Some log
-        → KeepsClone clone.now.local clone.now.generation log }
-{
-    clone.is_closed();
 }
 
 /// Adds the text of a reply to the output, and hands the session on. Where memory is wanting, its banks are given back.

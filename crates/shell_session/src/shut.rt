@@ -11,7 +11,7 @@ ghost use Rattle.shell_session.specs.declared.sessions.Session.TheVariants as se
 
 use crate::faults::SessionFault;
 use crate::replies::ShellReply;
-use crate::sessions::{Session, answer, tell_kept};
+use crate::sessions::{Session, answer};
 use clone_core::{MldClone, Mounted};
 use iri_rules::Text;
 use journal_store::{Blank, MakeFault, MountFault};
@@ -122,7 +122,7 @@ fn found<B: Banks>(
 {
     match MldClone::genesis(alloc, blank, id, domain, properties) {
         Ok(clone) => {
-            tell_kept(&clone);
+            clone.tell_banks_keep();
             answer(Session::Live(clone), &ShellReply::Created, out)
         }
         Err((MakeFault::Device, banks)) => Err((SessionFault::Device, banks)),

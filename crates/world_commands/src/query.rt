@@ -1,7 +1,6 @@
 //! The command `query`.
 ghost use Rattle.std.specs.Prelude.{◌≡◌, ◌<◌, vec_len, None, IfOk, IfErr};
-ghost use Rattle.jrql_ast.specs.InForm.{IsQueryInForm, IsAnswerTo};
-ghost use Rattle.jrql_reply.specs.AnswerText.{SpellsAnswer};
+ghost use Rattle.jrql_ast.specs.InForm.{IsQueryInForm};
 ghost use Rattle.mld_ops.specs.Present.{present};
 ghost use Rattle.schedule_model.specs.Querying.{AnswersQuery};
 ghost use Rattle.schedule_model.specs.declared.Command.TheVariants as commands;
@@ -11,13 +10,11 @@ ghost use Rattle.world_commands.specs.WorldParts.{HasStepLeft, HasFaultsOfParts,
 use crate::faults::WorldFault;
 use crate::parts::Parts;
 use crate::states::live_at;
-use clone_core::{MldClone, QueryFault};
-use jrql_ast::Answer;
+use clone_core::MldClone;
 use jrql_patterns::ReadQuery;
-use jrql_reply::reply;
 use mld_io::{Banks, CrashBanks};
-use schedule_replies::Reply;
-use std::alloc::{AllocError, Global};
+use schedule_replies::{Reply, reply_to_query};
+use std::alloc::Global;
 
 /// The answer of clone `number` to a query.
 pub fn query<'a, B: CrashBanks>(
@@ -33,13 +30,13 @@ pub fn query<'a, B: CrashBanks>(
     ensures faults { HasFaultsOfParts B.meter number parts.now parts.now result }
 {
     match live_at(parts.clones.as_slice(), number) {
-        Ok(clone) => answered(alloc, clone, read),
+        Ok(clone) => answer_live(alloc, clone, read),
         Err(missing) => Ok(missing),
     }
 }
 
-/// The answer of a live clone.
-fn answered<B: CrashBanks>(
+/// The answer of a live clone, where want of memory is a fault of the world.
+fn answer_live<B: CrashBanks>(
     alloc: Global,
     clone: &MldClone<B>,
     read: &ReadQuery,
@@ -49,21 +46,5 @@ fn answered<B: CrashBanks>(
     ensures answers { IfOk result (λ reply. AnswersQuery (present clone.now.local.pairs) read.now (reply_value reply)) }
     ensures cause { IfErr result (λ fault. fault ≡ WorldFault.NoMemory) }
 {
-    match clone.query(alloc, &read.query) {
-        Ok(answer) => Ok(Reply::Tells(answer_text(alloc, &answer, read)?)),
-        Err(QueryFault::TooMany) => Ok(Reply::TooMany),
-        Err(QueryFault::NoMemory) => Err(WorldFault::NoMemory),
-        Err(QueryFault::Closed { .. }) => unreachable!(),
-    }
-}
-
-/// The text of an answer.
-fn answer_text(alloc: Global, answer: &Answer, read: &ReadQuery) -> Result<Vec<u8>, AllocError>
-    requires form { IsQueryInForm read.now.query }
-    requires kind { IsAnswerTo read.now.query.what answer.now }
-    ensures { IfOk result (λ text. SpellsAnswer read.now.context read.now.query answer.now text.items) }
-{
-    let mut text = Vec::new(alloc);
-    reply(&mut text, answer, read)?;
-    Ok(text)
+    Ok(reply_to_query(alloc, clone, read)?)
 }

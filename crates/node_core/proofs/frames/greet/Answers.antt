@@ -2,6 +2,7 @@ use Rattle.std.proofs.Common.{sym, ◌∙◌, ap}
 use Rattle.wire_frames.specs.declared.kinds.Frame.TheVariants as kinds
 use Rattle.node_exchange.specs.declared.connections.Connection.{Connection}
 use Rattle.node_exchange.specs.Exchanges.{holding, refusing, telling}
+use Rattle.node_exchange.specs.RefusalCodes.{misplaced_code}
 use Rattle.node_keeper.specs.NodeStates.{keeper_of}
 use Rattle.node_model.specs.Keepers.{question_of}
 use Rattle.node_core.proofs.KindLaws.{quiet_done, hello_misplaced, hello_refused, hello_welcome}
@@ -9,7 +10,7 @@ use Rattle.node_core.proofs.frames.greet.Goals as goal
 
 pub returns-then-not-is_fresh-clause-done : goal.returns-then-not-is_fresh-clause-done
 returns-then-not-is_fresh-clause-done g c =
-    quiet_done g.B.Banks.log c.args.state c.args.one (kinds.Hello c.args.format c.args.id.now c.args.domain.now) (holding c.args.one c.args.exchange.now) c.misplace.new.exchange (refusing 6 (holding c.args.one c.args.exchange.now)) c.misplace.result c.misplace.ensures.sent c.misplace.ensures.same
+    quiet_done g.B.Banks.log c.args.state c.args.one (kinds.Hello c.args.format c.args.id.now c.args.domain.now) (holding c.args.one c.args.exchange.now) c.misplace.new.exchange (refusing misplaced_code (holding c.args.one c.args.exchange.now)) c.misplace.result c.misplace.ensures.sent c.misplace.ensures.same
     (λ sent. hello_misplaced (keeper_of c.args.state) c.args.one (holding c.args.one c.args.exchange.now) c.misplace.new.exchange sent c.args.one.role c.args.format c.args.id.now c.args.domain.now
     (sym c.is_fresh.ensures ∙ c.if-not-is_fresh.true))
 

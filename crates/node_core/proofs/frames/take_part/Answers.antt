@@ -2,6 +2,7 @@ use Rattle.std.proofs.Common.{refl}
 use Rattle.node_exchange.specs.Exchanges.{holding, refusing}
 use Rattle.node_keeper.specs.NodeStates.{state_banks, keeper_of}
 use Rattle.wire_frames.specs.declared.kinds.Frame.TheVariants as kinds
+use Rattle.node_exchange.specs.RefusalCodes.{bad_frame_code, misplaced_code}
 use Rattle.node_model.specs.Keepers.{keeper_found}
 use Rattle.node_core.specs.NodeEvents.{IsDueByFrame}
 use Rattle.node_core.proofs.KindLaws.{keeps_all, quiet_done, part_none, part_waits, part_is_bad, message_answered, message_refused}
@@ -10,7 +11,7 @@ use Rattle.node_core.proofs.frames.take_part.Goals as goal
 
 pub returns-in-None-clause-done : goal.returns-in-None-clause-done
 returns-in-None-clause-done g c =
-    quiet_done g.B.Banks.log c.args.state c.args.one (kinds.Part c.args.number c.args.index c.args.count c.args.piece) (holding c.args.one c.args.exchange.now) c.refuse.new.exchange (refusing 6 c.hold.new.self) c.refuse.result c.refuse.ensures.sent c.refuse.ensures.same
+    quiet_done g.B.Banks.log c.args.state c.args.one (kinds.Part c.args.number c.args.index c.args.count c.args.piece) (holding c.args.one c.args.exchange.now) c.refuse.new.exchange (refusing misplaced_code c.hold.new.self) c.refuse.result c.refuse.ensures.sent c.refuse.ensures.same
     (λ sent. part_none (keeper_of c.args.state) c.args.one c.add_part-added.new.one c.args.number c.args.index c.args.count c.args.piece (holding c.args.one c.args.exchange.now) c.hold.new.self c.hold.ensures c.refuse.new.exchange c.in-None.ensures sent)
 
 pub returns-in-Some-Ok-Waiting-clause-done : goal.returns-in-Some-Ok-Waiting-clause-done
@@ -31,7 +32,7 @@ returns-in-Some-Ok-Whole-clause-stopped g c =
 
 pub returns-in-Some-Err-BadPart-clause-done : goal.returns-in-Some-Err-BadPart-clause-done
 returns-in-Some-Err-BadPart-clause-done g c =
-    quiet_done g.B.Banks.log c.args.state c.args.one (kinds.Part c.args.number c.args.index c.args.count c.args.piece) (holding c.args.one c.args.exchange.now) c.refuse-in-Some-Err-BadPart.new.exchange (refusing 1 c.hold.new.self) c.refuse-in-Some-Err-BadPart.result c.refuse-in-Some-Err-BadPart.ensures.sent c.refuse-in-Some-Err-BadPart.ensures.same
+    quiet_done g.B.Banks.log c.args.state c.args.one (kinds.Part c.args.number c.args.index c.args.count c.args.piece) (holding c.args.one c.args.exchange.now) c.refuse-in-Some-Err-BadPart.new.exchange (refusing bad_frame_code c.hold.new.self) c.refuse-in-Some-Err-BadPart.result c.refuse-in-Some-Err-BadPart.ensures.sent c.refuse-in-Some-Err-BadPart.ensures.same
     (λ sent. part_is_bad (keeper_of c.args.state) c.args.one c.add_part-added.new.one c.args.number c.args.index c.args.count c.args.piece (holding c.args.one c.args.exchange.now) c.hold.new.self c.hold.ensures c.in-Some-Err-BadPart.field-0 c.in-Some-Err-BadPart.field-0-0
     c.in-Some-Err-BadPart.field-0-is c.in-Some-Err-BadPart.field-0-0-is c.in-Some-Err-BadPart.ensures c.refuse-in-Some-Err-BadPart.new.exchange sent)
 

@@ -6,7 +6,7 @@ use Rattle.node_keeper.proofs.CallLaws.{node_goes, node_stops}
 use Rattle.node_keeper.proofs.messages.receive_live.Goals as goal
 
 pub returns-in-Ok-clause-done : goal.returns-in-Ok-clause-done
-returns-in-Ok-clause-done g c = node_goes g.B.Banks.log g.B.Banks.meter c.args.clone _ c.receive_loan.new.clone c.in-Ok.ensures.done c.tell_kept.ensures
+returns-in-Ok-clause-done g c = node_goes g.B.Banks.log g.B.Banks.meter c.args.clone _ c.receive_loan.new.clone c.in-Ok.ensures.done c.tell_banks_keep.ensures
 
 pub returns-in-Err-clause-stopped : goal.returns-in-Err-clause-stopped
 returns-in-Err-clause-stopped g c =

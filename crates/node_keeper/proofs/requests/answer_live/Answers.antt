@@ -7,7 +7,7 @@ use Rattle.node_keeper.proofs.requests.answer_live.Goals as goal
 
 pub returns-in-Ok-clause-done : goal.returns-in-Ok-clause-done
 returns-in-Ok-clause-done g c = λ one at.
-    node_goes g.B.Banks.log g.B.Banks.meter c.args.clone _ c.answer_loan.new.clone (c.in-Ok.ensures.done one at) c.tell_kept.ensures
+    node_goes g.B.Banks.log g.B.Banks.meter c.args.clone _ c.answer_loan.new.clone (c.in-Ok.ensures.done one at) c.tell_banks_keep.ensures
 
 pub returns-in-Err-clause-stopped : goal.returns-in-Err-clause-stopped
 returns-in-Err-clause-stopped g c =

@@ -9,7 +9,7 @@ pub returns-in-Ok-clause-begun : goal.returns-in-Ok-clause-begun
 returns-in-Ok-clause-begun g c = λ log told nothing.
     let at = c.in-Ok in
     founds_clone g.B.Banks.log g.B.Banks.meter c.args.words c.args.blank at.clone at.ensures.durable.0 c.if-join.false at.ensures.durable.1 at.ensures.kept at.ensures.blank at.ensures.opened
-    at.ensures.generation (c.tell_kept.ensures at.ensures.opened) at.ensures.durable.2 log told
+    at.ensures.generation (c.tell_banks_keep.ensures at.ensures.opened) at.ensures.durable.2 log told
 
 pub returns-clause-short : goal.returns-clause-short
 returns-clause-short g c = λ log told.

@@ -9,7 +9,7 @@ use Rattle.shell_session.proofs.sessions.stay_live.Goals as goal
 pub returns-in-Ok-clause-done : goal.returns-in-Ok-clause-done
 returns-in-Ok-clause-done g c =
     live_does g.B.Banks.log g.B.Banks.meter c.args.clone c.do_live.new.clone c.args.command.now c.args.out.now.items c.do_live.new.out.items
-    c.requires.stays.stays c.in-Ok.ensures.done c.in-Ok.ensures.told c.tell_kept.ensures
+    c.requires.stays.stays c.in-Ok.ensures.done c.in-Ok.ensures.told c.tell_banks_keep.ensures
 
 pub returns-in-Err-clause-stopped : goal.returns-in-Err-clause-stopped
 returns-in-Err-clause-stopped g c =

@@ -26,7 +26,7 @@ returns-in-Ok-clause-done g c =
     c.answer.result (sessions.Live at.clone) c.answer.ensures.same c.answer.ensures.text
     (λ written. founds_clone log g.B.Banks.meter c.args.id c.args.domain c.args.properties.items c.args.blank command at.clone kept before after
     (λ steps next creates becomes. record { kept = kept; each = at.ensures.durable.1; replies = refl; creates = creates; becomes = becomes })
-    local at.ensures.opened at.ensures.generation (c.tell_kept.ensures at.ensures.opened) at.ensures.durable.2 written)
+    local at.ensures.opened at.ensures.generation (c.tell_banks_keep.ensures at.ensures.opened) at.ensures.durable.2 written)
 
 pub returns-in-Ok-clause-stopped : goal.returns-in-Ok-clause-stopped
 returns-in-Ok-clause-stopped g c =

@@ -8,8 +8,8 @@ use Rattle.world_commands.proofs.LookLemmas.{query_done, query_missing_done}
 use Rattle.world_commands.proofs.WorldLemmas.{is_open}
 use Rattle.world_commands.proofs.query.query.Goals as goal
 
-pub answered-requires : goal.answered-requires
-answered-requires g c =
+pub answer_live-requires : goal.answer_live-requires
+answer_live-requires g c =
     let P : List (BankedState g.row.B.Denot) → Type 0 = λ clones. HasState clones c.args.number (states.Live c.in-Ok.clone.now) in
     record {
       opened = is_open g.B.Banks.log c.args.parts.now c.args.number c.in-Ok.clone.now c.requires.left (subst P c.as_slice.ensures.value c.in-Ok.ensures);
@@ -21,9 +21,9 @@ returns-in-Ok g c =
     let P : List (BankedState g.row.B.Denot) → Type 0 = λ clones. HasState clones c.args.number (states.Live c.in-Ok.clone.now) in
     let banks = map banks_of_state c.args.parts.now.clones.items in
     record {
-      done = query_done g.B.Banks.log g.B.Banks.meter c.args.parts.now c.args.number c.args.read.now c.in-Ok.clone.now c.answered.result
-          (subst P c.as_slice.ensures.value c.in-Ok.ensures) c.answered.ensures.answers;
-      faults = faults_memory g.B.Banks.meter c.args.number banks banks c.answered.result (quiet_same g.B.Banks.meter banks) c.answered.ensures.cause;
+      done = query_done g.B.Banks.log g.B.Banks.meter c.args.parts.now c.args.number c.args.read.now c.in-Ok.clone.now c.answer_live.result
+          (subst P c.as_slice.ensures.value c.in-Ok.ensures) c.answer_live.ensures.answers;
+      faults = faults_memory g.B.Banks.meter c.args.number banks banks c.answer_live.result (quiet_same g.B.Banks.meter banks) c.answer_live.ensures.cause;
     }
 
 pub returns-in-Err : goal.returns-in-Err
