@@ -6,8 +6,8 @@ use Rattle.mld_io.specs.declared.faults.LineFault.{LineFault}
 use Rattle.mld_io.specs.declared.faults.LineFault.TheVariants as line_faults
 use Rattle.mld_io.specs.Lines.{LinesValue, NextLine, IsTooLarge, IsCutShort, HasNoEnd, line_break, ended_lines, lines_of, first_line, after_line, line_size}
 use Rattle.mld_io.proofs.LinesLaws.{first_of_lines_lem, first_line_ends, after_line_none, ended_lines-append, ended_lines_none, HasNoEnd-first_line}
-use Rattle.input_lines.specs.TooLarge.{left_after, size_of_lines, BreaksLimits, IsTooLargeLine, IsUnderLimits, line_limit, input_limit}
-use Rattle.input_lines.specs.Taken.{WhereTold, TakesLine, TellsEnd, Advances, ReadsLines, IsLeft, KnowsEnd}
+use Rattle.input_lines.specs.TooLarge.{left_after, size_of_lines, BreaksLimits, IsTooLargeLine, IsUnderLimits, input_limit}
+use Rattle.input_lines.specs.Taken.{TakesLine, TellsEnd, Advances, ReadsLines, IsLeft, KnowsEnd}
 use Rattle.input_lines.specs.InputFaults.{HasReadCause}
 use Rattle.input_lines.specs.declared.faults.InputFault.{InputFault}
 

@@ -10,5 +10,6 @@ pub record RoseJustWhere (Failed : Type 0) (before now : ℕ) : Type 0 where
   pub quiet : ¬ Failed → now ≡ before
 
 -- the count of the source's faults rose where the fault is one of reading, and else it is what it was
-abbrev pub HasReadCause : {T : Type 0} → ℕ → ℕ → Result T InputFault → Type 0
-HasReadCause before now result = RoseJustWhere (IsErrOf result faults.ReadFault) before now
+pub record HasReadCause {T : Type 0} (before now : ℕ) (result : Result T InputFault) : Type 0 where
+  pub failed : IsErrOf result faults.ReadFault → Rose before now
+  pub quiet : ¬ IsErrOf result faults.ReadFault → now ≡ before

@@ -1,9 +1,12 @@
 -- The clauses of a run of a generated schedule, from those of the replay of its text and of the report of its counts.
 use Rattle.std.specs.Prelude.{IfSome, IsTrue}
 use Rattle.std.proofs.lemmas.Fmt.{decimal_injective}
-use Rattle.std.proofs.Common.{◌≡◌, ◌≢◌, ◌∙◌, ◌<◌, ◌≤◌, ◌^◌, refl, sym, ap, subst, arith, ℕ, zero, suc, ◌+◌, List, [], ◌∷◌, length, Option, Some, None}
+use Rattle.std.proofs.Common.{◌≡◌, ◌≢◌, ◌∙◌, ◌<◌, ◌≤◌, ◌^◌, refl, sym, ap, subst, arith, ℕ, zero, suc, ◌+◌, List, [], ◌∷◌, length, Option, Some, None, Err}
 use Rattle.mld_io.specs.Arm.{Meter}
 use Rattle.mld_io.specs.Disk.{Log}
+use Rattle.mld_io.specs.Faults.{HasWriteCause}
+use Rattle.mld_io.specs.declared.faults.WriteFault.{WriteFault}
+use Rattle.mld_io.specs.declared.faults.WriteFault.TheVariants as writes
 use Rattle.mld_io.specs.Lines.{lines_of, after_line}
 use Rattle.mld_io.proofs.LinesLaws.{length-line_size, length-first_line}
 use Rattle.schedule_generator.specs.Generated.{drawn_line, lines_from, generated, text_of}
@@ -22,11 +25,18 @@ use Rattle.mld_replay.specs.RunSummaries.{TellsOf}
 use Rattle.input_lines.specs.TooLarge.{left_after, size_of_lines, IsTooLargeLine}
 use Rattle.input_lines.specs.Untouched.{AreUntouched}
 use Rattle.mld_replay.specs.ReplayWords.{IsGenerate, command_limit}
+use Rattle.mld_replay.specs.Replaying.{run_fault_of_write}
 use Rattle.mld_replay.proofs.BlankLemmas.{stay_less}
 use Rattle.mld_replay.proofs.SpelledLines.{never_bad}
 use Rattle.mld_replay.specs.declared.run.Ran.{Ran}
 use Rattle.mld_replay.specs.declared.run.RunFault.{RunFault}
 use Rattle.mld_replay.specs.declared.run.RunFault.TheVariants as faults
+
+-- ---- why counts were not written
+
+pub count_fault : {T : Type 0} (fault : WriteFault) (before now : ℕ) → HasWriteCause {T = T} before now (Err fault) → IsCountFault before now (run_fault_of_write fault)
+count_fault writes.Failed before now cause = failed refl (cause.failed refl)
+count_fault writes.NoMemory before now cause = no_memory refl
 
 -- ---- a replay of a text
 

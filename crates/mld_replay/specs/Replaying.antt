@@ -1,6 +1,6 @@
 -- The parts of a replay: why one of them fails (`replay`, `do_line`, `end_lines`, the `From`s of `RunFault`), and what is said of its end (`replay`,
 -- `end_at_stage`).
-use Rattle.std.specs.Prelude.{◌≡◌, ◌⊎◌, List, [], IsTrue, Option, None, Some}
+use Rattle.std.specs.Prelude.{◌≡◌, ◌⊎◌, [], IsTrue, Option, None, Some}
 use Rattle.mld_io.specs.Disk.{Log}
 use Rattle.mld_io.specs.declared.faults.WriteFault.{WriteFault}
 use Rattle.mld_io.specs.declared.faults.WriteFault.TheVariants as writes

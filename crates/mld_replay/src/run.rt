@@ -1,5 +1,5 @@
 //! The run: all that the program does, over the words, the source and the sink that it is handed.
-ghost use Rattle.std.specs.Prelude.{◌≡◌, ◌≢◌, ◌↔◌, ◌≤◌, ◌<◌, ◌+◌, ◌∷◌, ℕ, List, [], None, vec_len, IsTrue, IfErr, OnOk, IsErrOf};
+ghost use Rattle.std.specs.Prelude.{◌≡◌, ◌≢◌, ◌↔◌, ◌≤◌, ◌<◌, ◌+◌, ℕ, List, [], None, vec_len, IsTrue, IfErr, OnOk, IsErrOf};
 ghost use Rattle.std.specs.Result.{result_err};
 ghost use Rattle.mld_io.specs.Lines.{lines_of};
 ghost use Rattle.input_lines.specs.Taken.{WhereTold};

@@ -11,7 +11,7 @@ ghost use Rattle.mld_replay.specs.BankFaults.{ComeBackWell};
 ghost use Rattle.mld_replay.specs.BanksLeft.{IsDueAt};
 ghost use Rattle.mld_replay.specs.Stops.{StopBringsBack, StopLeaves, StopLeavesAtLine, LeavesAtStop};
 ghost use Rattle.net_world.specs.SettledWorlds.{SettlesWorld};
-ghost use Rattle.mld_replay.specs.Stages.{StageStands, SpellsAt, IsStandingStage, IsSetUpState, GetsProperty, GetsNone, IsWorldStop, LeavesRefusedCommand, steps_of_stage, banks_of_stage, ActsWell, EndsWell, ActsFrom, EndsFrom, IsBadFrom, OnlyWaits};
+ghost use Rattle.mld_replay.specs.Stages.{StageStands, SpellsAt, IsStandingStage, IsSetUpState, GetsProperty, GetsNone, IsWorldStop, LeavesRefusedCommand, steps_of_stage, banks_of_stage, ActsWell, ActsFrom, EndsFrom, IsBadFrom, OnlyWaits};
 ghost use Rattle.mld_replay.specs.declared.stages.Stage.TheVariants as stages;
 
 use crate::stops::LineStop;

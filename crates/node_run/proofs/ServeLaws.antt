@@ -15,7 +15,7 @@ use Rattle.node_run.specs.declared.stops.NodeStop.{NodeStop}
 use Rattle.node_run.specs.declared.stops.NodeStop.TheVariants as stops
 use Rattle.node_run.specs.ServiceStatuses.{stop_of_words, IsOfTurns, IsAtFirst, CountsWire}
 use Rattle.node_run.specs.NodeBegun.{BeginsShort}
-use Rattle.node_run.specs.ServiceEnds.{ServiceEdges, ServiceEnds, unread, on_banks, at_first}
+use Rattle.node_run.specs.ServiceEnds.{ServiceEnds, unread, on_banks, at_first}
 
 -- the words were not read
 pub not_read : (fault : NodeWordsFault) (found : FoundOnBanks) (texts : List (List ℕ)) (before : Option WireLog) (old : Option Log)

@@ -1,5 +1,5 @@
 -- The faults of the parts of a run, and the counts of faults.
-use Rattle.std.proofs.Common.{◌≡◌, ◌≢◌, ℕ, ◌∙◌, refl, ap, arith, subst, Option, Some, Result, Err}
+use Rattle.std.proofs.Common.{◌≡◌, ◌≢◌, ℕ, ◌∙◌, refl, ap, arith, subst, Some, Result, Err}
 use Rattle.mld_io.specs.Faults.{counted, Rose, HasWriteCause}
 use Rattle.mld_io.specs.declared.faults.WriteFault.{WriteFault}
 use Rattle.mld_io.specs.declared.faults.WriteFault.TheVariants as writes
@@ -19,19 +19,17 @@ use Rattle.shell_run.specs.ShellStatuses.{fault_of_words, fault_of_line, shell_f
 -- ---- the counts of faults of source and sink
 
 -- no part of a run but the reading of a line calls the source, and none but the writing of a reply the sink
-pub none_rose : (Failed : Type 0) (before now : ℕ) → ¬ Failed → now ≡ before → RoseJustWhere Failed before now
-none_rose Failed before now none same = record { failed = λ is. absurd (none is); quiet = λ _. same }
 
 pub read_rose : {T : Type 0} (fault : InputFault) (first before now : ℕ) → HasReadCause {T = T} before now (Err fault) → before ≡ first
     → RoseJustWhere (Some (shell_fault_of_input fault) ≡ Some faults.ReadFault) first now
 read_rose inputs.ReadFault first before now cause same = record { failed = λ _. subst (λ (n : ℕ). Rose n now) same (cause.failed refl); quiet = λ none. absurd (none refl) }
-read_rose (inputs.TooLarge line) first before now cause same = none_rose _ first now (λ is. absurd (cc (is))) (cause.quiet (λ is. absurd (cc (is))) ∙ same)
-read_rose inputs.NoMemory first before now cause same = none_rose _ first now (λ is. absurd (cc (is))) (cause.quiet (λ is. absurd (cc (is))) ∙ same)
+read_rose (inputs.TooLarge line) first before now cause same = record { failed = λ is. absurd (cc (is)); quiet = λ _. cause.quiet (λ is. absurd (cc (is))) ∙ same }
+read_rose inputs.NoMemory first before now cause same = record { failed = λ is. absurd (cc (is)); quiet = λ _. cause.quiet (λ is. absurd (cc (is))) ∙ same }
 
 pub write_rose : {T : Type 0} (fault : WriteFault) (first before now : ℕ) → HasWriteCause {T = T} before now (Err fault) → before ≡ first
     → RoseJustWhere (Some (shell_fault_of_write fault) ≡ Some faults.WriteFault) first now
 write_rose writes.Failed first before now cause same = record { failed = λ _. subst (λ (n : ℕ). Rose n now) same (cause.failed refl); quiet = λ none. absurd (none refl) }
-write_rose writes.NoMemory first before now cause same = none_rose _ first now (λ is. absurd (cc (is))) (cause.no_memory refl ∙ same)
+write_rose writes.NoMemory first before now cause same = record { failed = λ is. absurd (cc (is)); quiet = λ _. cause.no_memory refl ∙ same }
 
 -- no part tells of another's failure
 

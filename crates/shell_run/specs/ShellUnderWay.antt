@@ -1,6 +1,6 @@
 -- A run of the shell that is under way: the lines done so far, what they wrote, and the shell that the session stands for. The loop
 -- of `do_lines` keeps `WayTold`.
-use Rattle.std.specs.Prelude.{◌≡◌, ℕ, List, [], Option, Some, length}
+use Rattle.std.specs.Prelude.{◌≡◌, ℕ, List, Option, Some, length}
 use Rattle.std.specs.Io.KnownBytes.{Appends}
 use Rattle.mld_io.specs.Disk.{Log}
 use Rattle.input_lines.specs.Taken.{IsLeft}

@@ -1,5 +1,5 @@
 //! The run: all that the shell does, over the words, the source, the sink and the banks that it is handed.
-ghost use Rattle.std.specs.Prelude.{◌≡◌, ◌≢◌, map, None, Some};
+ghost use Rattle.std.specs.Prelude.{◌≡◌, ◌≢◌, map, Some};
 ghost use Rattle.std.specs.String.{string_bytes};
 ghost use Rattle.input_lines.specs.InputFaults.{RoseJustWhere};
 ghost use Rattle.input_lines.specs.Untouched.{AreUntouched};

@@ -41,14 +41,19 @@ loop-reply-preserved g c = record {
   ends = end_more (g.S.Source.left c.args.source.now) (g.S.Source.left c.loop-reply.source) (g.S.Source.left c.next_line.new.source) c.loop-reply.lines.taken c.next_line.new.lines.taken c.loop-reply.done
       c.loop-reply.invariant.way.lines c.in-Some.line c.loop-reply.lines.ended c.next_line.new.lines.ended c.loop-reply.invariant.ends c.loop-reply.invariant.way.left_of
       (takes_some (g.S.Source.left c.loop-reply.source) (g.S.Source.left c.next_line.new.source) c.in_ok-line.field-0 c.loop-reply.lines.taken c.next_line.new.lines.taken c.in-Some.line c.in-Some.line c.in-Some.is refl c.in_ok-line.ensures.line)
-      (λ bytes told. end_of_line _ bytes c.in_ok-line.field-0 c.in-Some.line c.in-Some.is (c.in_ok-line.ensures.ended bytes told));
+      (λ bytes told. end_of_line c.next_line.new.lines.ended bytes c.in_ok-line.field-0 c.in-Some.line c.in-Some.is (c.in_ok-line.ensures.ended bytes told));
   good = c.in_ok-line.ensures.good;
   limits = c.next_line.ensures.limits;
-  few = omega (arith, c.loop-reply.invariant.few, (advanced _ _ c.in_ok-line.field-0 c.in-Some.line c.in-Some.is c.in_ok-line.ensures.progress).0);
+  few = omega (arith, c.loop-reply.invariant.few, (advanced c.loop-reply.lines.taken c.next_line.new.lines.taken c.in_ok-line.field-0 c.in-Some.line c.in-Some.is c.in_ok-line.ensures.progress).0);
   reads = read_well _ _ _ c.in_ok-line.ensures.cause ∙ c.loop-reply.invariant.reads;
   writes = c.in_ok-write_all.ensures.cause.good ∙ c.loop-reply.invariant.writes;
-  within = omega (arith, c.next_line.ensures.limits.in_all, (advanced _ _ c.in_ok-line.field-0 c.in-Some.line c.in-Some.is c.in_ok-line.ensures.progress).1);
+  within = omega (arith, c.next_line.ensures.limits.in_all, (advanced c.loop-reply.lines.taken c.next_line.new.lines.taken c.in_ok-line.field-0 c.in-Some.line c.in-Some.is c.in_ok-line.ensures.progress).1);
 }
+
+pub loop-reply-smaller : goal.loop-reply-smaller
+loop-reply-smaller g c =
+    let step = advanced c.loop-reply.lines.taken c.next_line.new.lines.taken c.in_ok-line.field-0 c.in-Some.line c.in-Some.is c.in_ok-line.ensures.progress in
+    omega (arith, step.0, step.1)
 
 pub do_line-requires-clause-unarmed : goal.do_line-requires-clause-unarmed
 do_line-requires-clause-unarmed g c =

@@ -6,7 +6,7 @@ use Rattle.shell_model.specs.Shells.{found_in}
 use Rattle.shell_session.specs.Sessions.{session_banks}
 use Rattle.shell_run.specs.Inputs.{AreFirstLines, AreAllLines, AreReadLines, AreLinesBefore}
 use Rattle.shell_run.specs.ShellEnds.{between}
-use Rattle.shell_run.proofs.FaultLemmas.{none_rose, read_rose, write_rose, reading_not_writing, line_not_reading, line_not_writing, writing_not_reading, meters_same, meters_then}
+use Rattle.shell_run.proofs.FaultLemmas.{read_rose, write_rose, reading_not_writing, line_not_reading, line_not_writing, writing_not_reading, meters_same, meters_then}
 use Rattle.shell_run.proofs.WayLemmas.{way_first, way_more, are_first, are_all, are_read, are_before, stops_between, stops_within, stops_writing, ends_reading, ends_line, ends_writing}
 use Rattle.shell_run.proofs.run.do_lines.Goals as goal
 
@@ -48,14 +48,19 @@ loop-line-preserved g c = record {
   ends = λ log told. end_more (g.S.Source.left c.args.source.now) (g.S.Source.left c.loop-line.source) (g.S.Source.left c.next_line.new.source) c.loop-line.lines.taken c.next_line.new.lines.taken c.loop-line.done
       (c.loop-line.invariant.way log told).done.lines c.in-Ok-Some.line c.loop-line.lines.ended c.next_line.new.lines.ended (c.loop-line.invariant.ends log told) (c.loop-line.invariant.way log told).left_of
       (takes_some (g.S.Source.left c.loop-line.source) (g.S.Source.left c.next_line.new.source) c.in-Ok-Some.field-0 c.loop-line.lines.taken c.next_line.new.lines.taken c.in-Ok-Some.line c.in-Ok-Some.line c.in-Ok-Some.field-0-is refl c.in-Ok-Some.ensures.line)
-      (λ bytes left. end_of_line _ bytes c.in-Ok-Some.field-0 c.in-Ok-Some.line c.in-Ok-Some.field-0-is (c.in-Ok-Some.ensures.ended bytes left));
+      (λ bytes left. end_of_line c.next_line.new.lines.ended bytes c.in-Ok-Some.field-0 c.in-Ok-Some.line c.in-Ok-Some.field-0-is (c.in-Ok-Some.ensures.ended bytes left));
   good = c.in-Ok-Some.ensures.good;
   limits = c.next_line.ensures.limits;
-  few = omega (arith, c.loop-line.invariant.few, (advanced _ _ c.in-Ok-Some.field-0 c.in-Ok-Some.line c.in-Ok-Some.field-0-is c.in-Ok-Some.ensures.progress).0);
-  within = omega (arith, c.next_line.ensures.limits.in_all, (advanced _ _ c.in-Ok-Some.field-0 c.in-Ok-Some.line c.in-Ok-Some.field-0-is c.in-Ok-Some.ensures.progress).1);
+  few = omega (arith, c.loop-line.invariant.few, (advanced c.loop-line.lines.taken c.next_line.new.lines.taken c.in-Ok-Some.field-0 c.in-Ok-Some.line c.in-Ok-Some.field-0-is c.in-Ok-Some.ensures.progress).0);
+  within = omega (arith, c.next_line.ensures.limits.in_all, (advanced c.loop-line.lines.taken c.next_line.new.lines.taken c.in-Ok-Some.field-0 c.in-Ok-Some.line c.in-Ok-Some.field-0-is c.in-Ok-Some.ensures.progress).1);
   reads = read_well _ _ _ c.in-Ok-Some.ensures.cause ∙ c.loop-line.invariant.reads;
   writes = c.in_default.ensures.cause.good ∙ c.loop-line.invariant.writes;
 }
+
+pub loop-line-smaller : goal.loop-line-smaller
+loop-line-smaller g c =
+    let step = advanced c.loop-line.lines.taken c.next_line.new.lines.taken c.in-Ok-Some.field-0 c.in-Ok-Some.line c.in-Ok-Some.field-0-is c.in-Ok-Some.ensures.progress in
+    omega (arith, step.0, step.1)
 
 -- ---- there were no more lines
 
@@ -109,17 +114,17 @@ returns-in-Err-write_all-clause-ends g c = λ log told.
 -- ---- the counts of faults
 
 pub returns-in-Err-clause-reads : goal.returns-in-Err-clause-reads
-returns-in-Err-clause-reads g c = rw c.end_run.ensures.fault (none_rose _ _ _ (λ is. absurd (cc (is))) refl)
+returns-in-Err-clause-reads g c = rw c.end_run.ensures.fault (record { failed = λ is. absurd (cc (is)); quiet = λ _. refl })
 
 pub returns-in-Err-clause-writes : goal.returns-in-Err-clause-writes
-returns-in-Err-clause-writes g c = rw c.end_run.ensures.fault (none_rose _ _ _ (λ is. absurd (cc (is))) refl)
+returns-in-Err-clause-writes g c = rw c.end_run.ensures.fault (record { failed = λ is. absurd (cc (is)); quiet = λ _. refl })
 
 pub returns-in-Ok-None-clause-reads : goal.returns-in-Ok-None-clause-reads
 returns-in-Ok-None-clause-reads g c =
-    rw c.end_run-in-Ok-None.ensures.fault (none_rose _ _ _ (λ is. absurd (cc (is))) (read_well _ _ _ c.in-Ok-None.ensures.cause ∙ c.loop-line.invariant.reads))
+    rw c.end_run-in-Ok-None.ensures.fault (record { failed = λ is. absurd (cc (is)); quiet = λ _. read_well _ _ _ c.in-Ok-None.ensures.cause ∙ c.loop-line.invariant.reads })
 
 pub returns-in-Ok-None-clause-writes : goal.returns-in-Ok-None-clause-writes
-returns-in-Ok-None-clause-writes g c = rw c.end_run-in-Ok-None.ensures.fault (none_rose _ _ _ (λ is. absurd (cc (is))) c.loop-line.invariant.writes)
+returns-in-Ok-None-clause-writes g c = rw c.end_run-in-Ok-None.ensures.fault (record { failed = λ is. absurd (cc (is)); quiet = λ _. c.loop-line.invariant.writes })
 
 pub returns-in-Err-next_line-clause-reads : goal.returns-in-Err-next_line-clause-reads
 returns-in-Err-next_line-clause-reads g c =
@@ -127,21 +132,21 @@ returns-in-Err-next_line-clause-reads g c =
 
 pub returns-in-Err-next_line-clause-writes : goal.returns-in-Err-next_line-clause-writes
 returns-in-Err-next_line-clause-writes g c =
-    rw (c.end_run-in-Err-next_line.ensures.fault, c.input_fault.ensures) (none_rose _ _ _ (reading_not_writing c.in-Err-next_line.fault) c.loop-line.invariant.writes)
+    rw (c.end_run-in-Err-next_line.ensures.fault, c.input_fault.ensures) (record { failed = λ is. absurd (reading_not_writing c.in-Err-next_line.fault is); quiet = λ _. c.loop-line.invariant.writes })
 
 pub returns-in-Err-line-clause-reads : goal.returns-in-Err-line-clause-reads
 returns-in-Err-line-clause-reads g c =
     rw (c.end_run-in-Err-line.ensures.fault, c.line_fault.ensures)
-    (none_rose _ _ _ (line_not_reading c.in-Err-line.fault) (read_well _ _ _ c.in-Ok-Some.ensures.cause ∙ c.loop-line.invariant.reads))
+    (record { failed = λ is. absurd (line_not_reading c.in-Err-line.fault is); quiet = λ _. read_well _ _ _ c.in-Ok-Some.ensures.cause ∙ c.loop-line.invariant.reads })
 
 pub returns-in-Err-line-clause-writes : goal.returns-in-Err-line-clause-writes
 returns-in-Err-line-clause-writes g c =
-    rw (c.end_run-in-Err-line.ensures.fault, c.line_fault.ensures) (none_rose _ _ _ (line_not_writing c.in-Err-line.fault) c.loop-line.invariant.writes)
+    rw (c.end_run-in-Err-line.ensures.fault, c.line_fault.ensures) (record { failed = λ is. absurd (line_not_writing c.in-Err-line.fault is); quiet = λ _. c.loop-line.invariant.writes })
 
 pub returns-in-Err-write_all-clause-reads : goal.returns-in-Err-write_all-clause-reads
 returns-in-Err-write_all-clause-reads g c =
     rw (c.end_run-in-Err-write_all.ensures.fault, c.write_fault.ensures)
-    (none_rose _ _ _ (writing_not_reading c.in-Err-write_all.fault) (read_well _ _ _ c.in-Ok-Some.ensures.cause ∙ c.loop-line.invariant.reads))
+    (record { failed = λ is. absurd (writing_not_reading c.in-Err-write_all.fault is); quiet = λ _. read_well _ _ _ c.in-Ok-Some.ensures.cause ∙ c.loop-line.invariant.reads })
 
 pub returns-in-Err-write_all-clause-writes : goal.returns-in-Err-write_all-clause-writes
 returns-in-Err-write_all-clause-writes g c =
