@@ -1,7 +1,7 @@
 -- Texts with their closing marks: what two share, and their first bytes.
 use Rattle.std.proofs.Common.{◌≡◌, ◌∙◌, ℕ, zero, suc, ◌+◌, ◌*◌, ◌^◌, ◌<◌, List, [], ◌∷◌, ◌++◌, take, drop, get_or, refl, sym, ap, inl, inr, arith}
 use Rattle.std.proofs.lemmas.Bool.{cases_eq, eq-eqb, ne_eqb, lt-ltb}
-use Rattle.term_texts.specs.Compare.{common}
+use Rattle.text_rules.specs.Compare.{common}
 use Rattle.chunked_list.specs.ClosedTexts.{closed_text}
 use Rattle.chunked_list.specs.Leading.{leading}
 

@@ -1,6 +1,6 @@
 -- The texts by which pairs are ordered first.
 use Rattle.std.specs.Prelude.{ℕ, List, [], ◌∷◌, ◌++◌}
-use Rattle.term_texts.specs.Marks.{greater}
+use Rattle.text_rules.specs.Marks.{greater}
 
 -- an IRI as it is written, without the mark in front
 abbrev pub closed_text : List ℕ → List ℕ

@@ -6,7 +6,7 @@ ghost use Rattle.chunked_list.specs.Leading.{leading};
 use crate::bounds::Keyed;
 use mld_ops::Tagged;
 use rdf_terms::Iri;
-use term_texts::common_len;
+use text_rules::common_len;
 
 impl Keyed for Tagged {
     ghost use Rattle.chunked_list.specs.ClosedTexts.{closed_text};

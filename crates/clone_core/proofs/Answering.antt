@@ -11,11 +11,11 @@ use Rattle.mld_ops.specs.Messages.{snapshot_value, message_value, IsGoodSnapshot
 use Rattle.mld_ops.specs.Picking.{DropsThose}
 use Rattle.mld_ops.specs.Ready.{IsKnownEntry}
 use Rattle.mld_model.specs.Local.{LocalClone, IsLocal, snapshot_of}
-use Rattle.clone_plans.specs.Carrying.{Carry, CarryUnknown}
+use Rattle.clone_parts.specs.Carrying.{Carry, CarryUnknown}
 use Rattle.clone_core.specs.Joining.{AreGood}
 use Rattle.clone_core.specs.Wants.{sends_entries, sends_snapshot, AnswersWant, SendsWhole}
-use Rattle.clone_answers.specs.declared.answers.Got.{Got}
-use Rattle.clone_answers.specs.declared.answers.Got.TheVariants as got
+use Rattle.clone_parts.specs.declared.answers.Got.{Got}
+use Rattle.clone_parts.specs.declared.answers.Got.TheVariants as got
 use Rattle.clone_core.proofs.Joining.{has_good}
 
 -- the member of a list of one

@@ -17,14 +17,14 @@ use Rattle.journal_store.specs.Closing.{StaysTold, JournalStaysOpen, IsSwapped, 
 use Rattle.journal_store.specs.Standing.{JournalValue, KeepsJust, KeepsNow}
 use Rattle.journal_store.specs.declared.faults.Why.{Why}
 use Rattle.journal_store.specs.declared.faults.Why.TheVariants as why
-use Rattle.clone_plans.specs.Making.{IsNextEntry}
-use Rattle.clone_plans.specs.Plans.{IsPlanFrom}
-use Rattle.clone_plans.specs.declared.plans.Plan.{Plan}
-use Rattle.clone_plans.proofs.MakingLaws.{local_ascends, own_ready}
-use Rattle.clone_plans.proofs.ReadyLaws.{SameTicks, known_leads, leads_ready}
-use Rattle.clone_banks.specs.Appending.{KeepsSome, MayAppendAll, MayForkNow, with_entries}
+use Rattle.clone_parts.specs.Making.{IsNextEntry}
+use Rattle.clone_parts.specs.Plans.{IsPlanFrom}
+use Rattle.clone_parts.specs.declared.plans.Plan.{Plan}
+use Rattle.clone_parts.proofs.MakingLaws.{local_ascends, own_ready}
+use Rattle.clone_parts.proofs.ReadyLaws.{SameTicks, known_leads, leads_ready}
+use Rattle.clone_parts.specs.Appending.{KeepsSome, MayAppendAll, MayForkNow, with_entries}
 use Rattle.clone_core.specs.Banked.{head_of, kept_as, IsOnBanks}
-use Rattle.clone_banks.proofs.RefusedLaws.{none_some}
+use Rattle.clone_parts.proofs.RefusedLaws.{none_some}
 
 pub some_same : {X : Type 0} {x y : X} → ◌≡◌ {A = Option X} (Some x) (Some y) → x ≡ y
 some_same e = cc

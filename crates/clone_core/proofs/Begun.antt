@@ -10,7 +10,7 @@ use Rattle.journal_sides.specs.Heads.{HeadValue}
 use Rattle.mld_model.specs.Local.{IsLocal, IsNamed, LeadsTo}
 use Rattle.suset.specs.SnapshotJoin.{CoversAll}
 use Rattle.clone_core.specs.FoundClone.{found_clone}
-use Rattle.clone_plans.specs.declared.replays.Replayed.{Replayed}
+use Rattle.clone_parts.specs.declared.replays.Replayed.{Replayed}
 
 none_held : 0 ≤ held_limit
 none_held = omega arith

@@ -8,8 +8,8 @@ use Rattle.suset.specs.SnapshotJoin.{CoversAll}
 use Rattle.journal_sides.specs.RecordBytes.{raised_to}
 use Rattle.mld_model.specs.Local.{LocalClone, IsLocal, LeadsTo, LocallyTruncates}
 use Rattle.mld_model.proofs.TruncatedStands.{truncated_local}
-use Rattle.clone_plans.specs.Replays.{AreReadyEntries}
-use Rattle.clone_plans.proofs.ReadyLaws.{leads_ready}
+use Rattle.clone_parts.specs.Replays.{AreReadyEntries}
+use Rattle.clone_parts.proofs.ReadyLaws.{leads_ready}
 
 -- the first of entries that are ready one after another are, too
 ready_front : (count : ℕ) (ticks : List (List ℕ × ℕ)) (entries : List EntryValue) → AreReadyEntries ticks entries → AreReadyEntries ticks (take count entries)

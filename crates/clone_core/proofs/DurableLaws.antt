@@ -12,36 +12,36 @@ use Rattle.journal_store.specs.declared.faults.Why.TheVariants as why
 use Rattle.journal_store.proofs.ClosingLaws.{told_same}
 use Rattle.journal_store.proofs.Reading.{metered_as}
 use Rattle.mld_model.specs.Local.{LocalClone, next_dot}
-use Rattle.clone_banks.specs.BankCalls.{append_calls, create_calls}
-use Rattle.clone_banks.specs.KeptSteps.{KeptStep, Created, Appended, calls_of_all, appends, LeavesSome}
-use Rattle.clone_banks.proofs.Appended.{appends_calls}
-use Rattle.clone_banks.proofs.StepLaws.{some_none}
+use Rattle.clone_parts.specs.BankCalls.{append_calls, create_calls}
+use Rattle.clone_parts.specs.KeptSteps.{KeptStep, Created, Appended, calls_of_all, appends, LeavesSome}
+use Rattle.clone_parts.proofs.Appended.{appends_calls}
+use Rattle.clone_parts.proofs.StepLaws.{some_none}
 use Rattle.mld_io.proofs.ArmLaws.{Metered-refused}
 use Rattle.journal_sides.specs.Heads.{HeadValue}
-use Rattle.clone_banks.proofs.MeterLaws.{Metered-none}
-use Rattle.clone_banks.proofs.RefusedLaws.{ok_err}
+use Rattle.clone_parts.proofs.MeterLaws.{Metered-none}
+use Rattle.clone_parts.proofs.RefusedLaws.{ok_err}
 use Rattle.clone_core.specs.Banked.{BankedClone, kept_as}
 use Rattle.clone_core.specs.CloneClosing.{update_stop, receive_stop}
 use Rattle.causal_buffer.specs.declared.faults.HeldFault.{HeldFault}
 use Rattle.causal_buffer.specs.declared.faults.HeldFault.TheVariants as held
 use Rattle.mld_ops.specs.declared.messages.Message.TheVariants as message
-use Rattle.clone_answers.specs.declared.answers.Got.{Got}
+use Rattle.clone_parts.specs.declared.answers.Got.{Got}
 use Rattle.jrql_eval.specs.declared.faults.EvalFault.{EvalFault}
 use Rattle.jrql_eval.specs.declared.faults.EvalFault.TheVariants as eval
-use Rattle.clone_answers.specs.CloneFaults.{fault_of_held, update_fault_of, update_fault_of_effect, receive_fault_of, keep_fault_of}
+use Rattle.clone_parts.specs.CloneFaults.{fault_of_held, update_fault_of, update_fault_of_effect, receive_fault_of, keep_fault_of}
 use Rattle.mld_ops.specs.Effects.{EffectValue}
-use Rattle.clone_plans.specs.Making.{IsEntryOf}
+use Rattle.clone_parts.specs.Making.{IsEntryOf}
 use Rattle.jrql_ast.specs.declared.plans.UpdatePlan.{UpdatePlan}
 use Rattle.clone_core.specs.CloneUpdates.{HasEffect, IsMakeable}
 use Rattle.clone_core.specs.DurableCalls.{Changes, Creates, RefusedSteps, AppendsOwn, AppendsPlanned, EffectSteps, UpdateSteps, WouldReceive}
 use Rattle.clone_core.specs.CallParts.{MakesDone, MakeSteps}
-use Rattle.clone_answers.specs.declared.answers.Done.{Done}
-use Rattle.clone_answers.specs.declared.answers.Done.TheVariants as done
-use Rattle.clone_answers.specs.declared.faults.KeepFault.TheVariants as keep
-use Rattle.clone_answers.specs.declared.faults.ReceiveFault.{ReceiveFault}
-use Rattle.clone_answers.specs.declared.faults.ReceiveFault.TheVariants as receive
-use Rattle.clone_answers.specs.declared.faults.UpdateFault.{UpdateFault}
-use Rattle.clone_answers.specs.declared.faults.UpdateFault.TheVariants as update
+use Rattle.clone_parts.specs.declared.answers.Done.{Done}
+use Rattle.clone_parts.specs.declared.answers.Done.TheVariants as done
+use Rattle.clone_parts.specs.declared.faults.KeepFault.TheVariants as keep
+use Rattle.clone_parts.specs.declared.faults.ReceiveFault.{ReceiveFault}
+use Rattle.clone_parts.specs.declared.faults.ReceiveFault.TheVariants as receive
+use Rattle.clone_parts.specs.declared.faults.UpdateFault.{UpdateFault}
+use Rattle.clone_parts.specs.declared.faults.UpdateFault.TheVariants as update
 use Rattle.clone_core.proofs.AppendLaws.{OnJournal, kept_by}
 use Rattle.clone_core.proofs.StopLaws.{banked}
 

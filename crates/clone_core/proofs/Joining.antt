@@ -9,7 +9,7 @@ use Rattle.tree_clock.specs.Limits.{path_limit}
 use Rattle.tree_clock.specs.Path.{zero_letter, one_letter}
 use Rattle.tree_clock.specs.Lists.{Has}
 use Rattle.mld_model.specs.Local.{LocalClone, LocalAsker, IsLocal, snapshot_of, joined_clone}
-use Rattle.clone_plans.proofs.MakingLaws.{local_ascends}
+use Rattle.clone_parts.proofs.MakingLaws.{local_ascends}
 use Rattle.clone_core.specs.Banked.{BankedAsker}
 use Rattle.clone_core.specs.Joining.{LocallyGives, AreGood, IsGiveFor, LocallyAdopts, TakesGive}
 use Rattle.clone_core.specs.declared.askers.Adopted.{Adopted}

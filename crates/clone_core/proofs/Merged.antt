@@ -7,17 +7,17 @@ use Rattle.journal_store.specs.declared.faults.Why.{Why}
 use Rattle.journal_store.specs.declared.faults.Why.TheVariants as why
 use Rattle.mld_model.specs.Local.{LocalClone, IsLocal, LocallyReleases, LocallyMerges, KnowsSnapshot}
 use Rattle.mld_model.proofs.MergedStands.{merged_local}
-use Rattle.clone_plans.specs.Merges.{IsMergeOf}
-use Rattle.clone_plans.specs.Plans.{left_of}
-use Rattle.clone_plans.specs.Replays.{AreReadyEntries}
-use Rattle.clone_plans.specs.declared.merges.Merge.{Merge}
-use Rattle.clone_plans.proofs.ReadyLaws.{leads_ready}
+use Rattle.clone_parts.specs.Merges.{IsMergeOf}
+use Rattle.clone_parts.specs.Plans.{left_of}
+use Rattle.clone_parts.specs.Replays.{AreReadyEntries}
+use Rattle.clone_parts.specs.declared.merges.Merge.{Merge}
+use Rattle.clone_parts.proofs.ReadyLaws.{leads_ready}
 use Rattle.journal_sides.specs.Heads.{HeadValue}
-use Rattle.clone_banks.specs.KeptSteps.{Swapped, appends}
+use Rattle.clone_parts.specs.KeptSteps.{Swapped, appends}
 use Rattle.clone_core.specs.Banked.{head_over}
 use Rattle.clone_core.specs.DurableCalls.{merged_steps}
-use Rattle.clone_answers.specs.CloneFaults.{receive_fault_of}
-use Rattle.clone_answers.specs.declared.faults.ReceiveFault.TheVariants as fault
+use Rattle.clone_parts.specs.CloneFaults.{receive_fault_of}
+use Rattle.clone_parts.specs.declared.faults.ReceiveFault.TheVariants as fault
 use Rattle.clone_core.proofs.DurableLaws.{err_same}
 use Rattle.clone_core.proofs.Taking.{releases_shorter}
 

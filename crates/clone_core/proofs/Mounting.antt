@@ -12,7 +12,7 @@ use Rattle.journal_store.specs.Standing.{JournalValue, KeepsJust}
 use Rattle.mld_model.specs.Local.{LocalClone}
 use Rattle.clone_core.specs.Banked.{kept_as, IsOnBanks}
 use Rattle.clone_core.specs.FoundClone.{found_clone}
-use Rattle.clone_plans.specs.declared.replays.Replayed.{Replayed}
+use Rattle.clone_parts.specs.declared.replays.Replayed.{Replayed}
 use Rattle.clone_core.specs.CallParts.{BeginsJournal}
 use Rattle.clone_core.proofs.AppendLaws.{some_same, told_before}
 

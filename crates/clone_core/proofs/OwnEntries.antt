@@ -9,10 +9,10 @@ use Rattle.mld_ops.specs.Entry.{EntryValue, IsEntry}
 use Rattle.mld_model.specs.Local.{LocalClone, LeadsTo, IsLocal, next_dot}
 use Rattle.op_fusion.specs.Cutting.{AreCuts}
 use Rattle.op_fusion.proofs.CutPairs.{cut_is_applied}
-use Rattle.clone_plans.proofs.MakingLaws.{own_ready, own_last, path_is, local_taken, taken_by}
-use Rattle.clone_plans.specs.Making.{IsNextEntry}
+use Rattle.clone_parts.proofs.MakingLaws.{own_ready, own_last, path_is, local_taken, taken_by}
+use Rattle.clone_parts.specs.Making.{IsNextEntry}
 use Rattle.clone_core.specs.CallParts.{MakesDone}
-use Rattle.clone_answers.specs.declared.answers.Done.TheVariants as done
+use Rattle.clone_parts.specs.declared.answers.Done.TheVariants as done
 
 -- its entry leads to the raised clock
 made_leads : (ticks after : List (List ℕ × ℕ)) (old new : List Tagged) (dot : Dot) (entry : EntryValue) → IsNextEntry ticks dot entry

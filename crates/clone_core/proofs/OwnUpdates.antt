@@ -11,8 +11,8 @@ use Rattle.mld_ops.specs.Entry.{EntryValue}
 use Rattle.mld_ops.specs.Cut.{IsCutOf}
 use Rattle.mld_ops.specs.History.{dot_at}
 use Rattle.mld_model.specs.Local.{LocalClone, LocallyMakes, next_dot}
-use Rattle.clone_plans.specs.Making.{IsEntryOf}
-use Rattle.clone_plans.proofs.MakingLaws.{effect_cut}
+use Rattle.clone_parts.specs.Making.{IsEntryOf}
+use Rattle.clone_parts.proofs.MakingLaws.{effect_cut}
 use Rattle.jrql_ast.specs.declared.plans.UpdatePlan.{UpdatePlan}
 use Rattle.jrql_eval.specs.declared.faults.EvalFault.{EvalFault}
 use Rattle.jrql_eval.specs.declared.faults.EvalFault.TheVariants as eval
@@ -21,11 +21,11 @@ use Rattle.clone_core.specs.Banked.{BankedClone}
 use Rattle.clone_core.specs.CloneClosing.{LeavesClone, update_stop}
 use Rattle.clone_core.specs.CloneUpdates.{BreaksSingle, DeletesOwn, HasEffect, IsMakeable, LocallyUpdates, LocallyUpdatesBy, RefusesUpdate}
 use Rattle.clone_core.specs.CallParts.{MakesEntry, MakesDone, StopsClone}
-use Rattle.clone_answers.specs.CloneFaults.{update_fault_of_effect}
-use Rattle.clone_answers.specs.declared.answers.Done.{Done}
-use Rattle.clone_answers.specs.declared.answers.Done.TheVariants as done
-use Rattle.clone_answers.specs.declared.faults.UpdateFault.{UpdateFault}
-use Rattle.clone_answers.specs.declared.faults.UpdateFault.TheVariants as update
+use Rattle.clone_parts.specs.CloneFaults.{update_fault_of_effect}
+use Rattle.clone_parts.specs.declared.answers.Done.{Done}
+use Rattle.clone_parts.specs.declared.answers.Done.TheVariants as done
+use Rattle.clone_parts.specs.declared.faults.UpdateFault.{UpdateFault}
+use Rattle.clone_parts.specs.declared.faults.UpdateFault.TheVariants as update
 
 -- the entry of an effect at the next dot, once it is taken, is the operation
 makes_by : (old : LocalClone) (effect : EffectValue) (entry : EntryValue) (new : LocalClone) → IsEntryOf old.ticks (next_dot old) effect entry

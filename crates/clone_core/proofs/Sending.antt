@@ -3,7 +3,7 @@ use Rattle.std.proofs.Common.{◌≡◌, List, [], ◌∷◌, inl, inr, sym, sub
 use Rattle.mld_ops.specs.declared.messages.Message.{Message}
 use Rattle.mld_ops.specs.Entry.{EntryValue}
 use Rattle.mld_ops.specs.Messages.{CarriesEntry, IsGoodMessage, message_value}
-use Rattle.clone_plans.specs.Carrying.{Carry}
+use Rattle.clone_parts.specs.Carrying.{Carry}
 use Rattle.clone_core.specs.Joining.{AreGood}
 
 first_carries : (one : Message) (messages : List Message) (entry : EntryValue) (entries : List EntryValue) → Carry (one ∷ messages) (entry ∷ entries)

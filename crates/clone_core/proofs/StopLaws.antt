@@ -8,7 +8,7 @@ use Rattle.journal_store.specs.declared.faults.Why.{Why}
 use Rattle.journal_store.specs.declared.faults.Why.TheVariants as why
 use Rattle.mld_model.specs.Local.{LocalClone}
 use Rattle.clone_core.specs.Banked.{BankedClone}
-use Rattle.clone_answers.specs.CloneFaults.{update_fault_of, receive_fault_of, keep_fault_of}
+use Rattle.clone_parts.specs.CloneFaults.{update_fault_of, receive_fault_of, keep_fault_of}
 use Rattle.clone_core.specs.CloneClosing.{ShutsClone, LeavesClone, update_stop, receive_stop, keep_stop}
 use Rattle.clone_core.specs.CallParts.{StopsClone}
 

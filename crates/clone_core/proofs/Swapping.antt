@@ -5,8 +5,8 @@ use Rattle.mld_ops.specs.Entry.{EntryValue, IsEntry}
 use Rattle.op_fusion.specs.Compacting.{AreFusedRuns}
 use Rattle.mld_model.specs.Local.{LocalClone, IsLocal, LocallyCompacts}
 use Rattle.mld_model.proofs.CompactedStands.{compacted_local}
-use Rattle.clone_plans.specs.Replays.{AreReadyEntries}
-use Rattle.clone_plans.proofs.ReadyLaws.{leads_ready}
+use Rattle.clone_parts.specs.Replays.{AreReadyEntries}
+use Rattle.clone_parts.proofs.ReadyLaws.{leads_ready}
 
 module _ (old : LocalClone) (entries : List EntryValue) (local : IsLocal old) (fused : AreFusedRuns old.entries entries)
     (are : (entry : EntryValue) → Has old.entries entry → IsEntry entry) where

@@ -16,12 +16,12 @@ use Rattle.causal_buffer.specs.HeldEntries.{IsHeldRange, IsAddedTo, HasNoRoomFor
 use Rattle.mld_model.specs.Local.{LocalClone, IsLocal, LeadsTo, LocallyReleases, LocallyAccepts, LocallyHolds}
 use Rattle.mld_ops.specs.Held.{ranges_of}
 use Rattle.clone_core.specs.CloneCalls.{LacksRange}
-use Rattle.clone_plans.proofs.MakingLaws.{local_ascends, local_taken, taken_by}
-use Rattle.clone_plans.specs.Plans.{IsPlanOf, left_of}
+use Rattle.clone_parts.proofs.MakingLaws.{local_ascends, local_taken, taken_by}
+use Rattle.clone_parts.specs.Plans.{IsPlanOf, left_of}
 use Rattle.clone_core.specs.CallParts.{IsFullAt}
 use Rattle.op_fusion.proofs.Applied.{applied}
-use Rattle.clone_plans.specs.declared.plans.Plan.{Plan}
-use Rattle.clone_plans.proofs.Planning.{drops_shorter, first_shorter}
+use Rattle.clone_parts.specs.declared.plans.Plan.{Plan}
+use Rattle.clone_parts.proofs.Planning.{drops_shorter, first_shorter}
 
 -- ---- an entry that is taken
 

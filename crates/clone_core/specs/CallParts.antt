@@ -11,14 +11,14 @@ use Rattle.causal_buffer.specs.declared.faults.HeldFault.{HeldFault}
 use Rattle.causal_buffer.specs.declared.faults.HeldFault.TheVariants as held
 use Rattle.mld_model.specs.Local.{LocalClone, IsSameClone, IsFullFor, next_dot}
 use Rattle.clone_core.specs.Banked.{BankedClone}
-use Rattle.clone_banks.specs.KeptSteps.{KeptStep, Appended}
+use Rattle.clone_parts.specs.KeptSteps.{KeptStep, Appended}
 use Rattle.clone_core.specs.CloneClosing.{LeavesClone, update_stop, receive_stop}
 use Rattle.clone_core.specs.DurableCalls.{RefusedSteps}
-use Rattle.clone_answers.specs.declared.answers.Done.{Done}
-use Rattle.clone_answers.specs.declared.answers.Done.TheVariants as done
-use Rattle.clone_answers.specs.declared.faults.ReceiveFault.{ReceiveFault}
-use Rattle.clone_answers.specs.declared.faults.ReceiveFault.TheVariants as receive
-use Rattle.clone_answers.specs.declared.faults.UpdateFault.{UpdateFault}
+use Rattle.clone_parts.specs.declared.answers.Done.{Done}
+use Rattle.clone_parts.specs.declared.answers.Done.TheVariants as done
+use Rattle.clone_parts.specs.declared.faults.ReceiveFault.{ReceiveFault}
+use Rattle.clone_parts.specs.declared.faults.ReceiveFault.TheVariants as receive
+use Rattle.clone_parts.specs.declared.faults.UpdateFault.{UpdateFault}
 use Rattle.journal_sides.specs.Heads.{HeadValue}
 use Rattle.journal_store.specs.Calls.{made}
 use Rattle.journal_store.specs.Standing.{JournalValue, KeepsJust}

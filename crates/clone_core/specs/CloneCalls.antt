@@ -14,12 +14,12 @@ use Rattle.mld_model.specs.Reply.{Reply, Same, Less, More, Apart}
 use Rattle.clone_core.specs.Joining.{LocallyGives, RefusesAsk}
 use Rattle.clone_core.specs.Merging.{ReceivesSnapshot, RefusesSnapshot}
 use Rattle.clone_core.specs.Wants.{AnswersWant, RefusesWant}
-use Rattle.clone_answers.specs.declared.answers.Covering.{Covering}
-use Rattle.clone_answers.specs.declared.answers.Covering.TheVariants as covering
-use Rattle.clone_answers.specs.declared.answers.Got.{Got}
-use Rattle.clone_answers.specs.declared.answers.Got.TheVariants as got
-use Rattle.clone_answers.specs.declared.faults.ReceiveFault.{ReceiveFault}
-use Rattle.clone_answers.specs.declared.faults.ReceiveFault.TheVariants as fault
+use Rattle.clone_parts.specs.declared.answers.Covering.{Covering}
+use Rattle.clone_parts.specs.declared.answers.Covering.TheVariants as covering
+use Rattle.clone_parts.specs.declared.answers.Got.{Got}
+use Rattle.clone_parts.specs.declared.answers.Got.TheVariants as got
+use Rattle.clone_parts.specs.declared.faults.ReceiveFault.{ReceiveFault}
+use Rattle.clone_parts.specs.declared.faults.ReceiveFault.TheVariants as fault
 
 -- what became of an entry: it was known; or it was taken with those that it released, whose ranges are told; or it is held, where it is
 -- neither known nor ready

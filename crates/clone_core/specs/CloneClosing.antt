@@ -8,12 +8,12 @@ use Rattle.journal_store.specs.declared.faults.MakeFault.TheVariants as make
 use Rattle.journal_store.specs.declared.faults.Why.{Why}
 use Rattle.journal_store.specs.declared.faults.Why.TheVariants as why
 use Rattle.clone_core.specs.Banked.{BankedClone}
-use Rattle.clone_answers.specs.declared.faults.KeepFault.{KeepFault}
-use Rattle.clone_answers.specs.declared.faults.KeepFault.TheVariants as keep
-use Rattle.clone_answers.specs.declared.faults.ReceiveFault.{ReceiveFault}
-use Rattle.clone_answers.specs.declared.faults.ReceiveFault.TheVariants as receive
-use Rattle.clone_answers.specs.declared.faults.UpdateFault.{UpdateFault}
-use Rattle.clone_answers.specs.declared.faults.UpdateFault.TheVariants as update
+use Rattle.clone_parts.specs.declared.faults.KeepFault.{KeepFault}
+use Rattle.clone_parts.specs.declared.faults.KeepFault.TheVariants as keep
+use Rattle.clone_parts.specs.declared.faults.ReceiveFault.{ReceiveFault}
+use Rattle.clone_parts.specs.declared.faults.ReceiveFault.TheVariants as receive
+use Rattle.clone_parts.specs.declared.faults.UpdateFault.{UpdateFault}
+use Rattle.clone_parts.specs.declared.faults.UpdateFault.TheVariants as update
 
 -- A clone that was open is closed for this reason. There was something to do on its banks (`Due`), and want of memory closes it only where
 -- a call of the device was done. It has in memory what it had; what its banks keep is of the same generation, or of the next one where a

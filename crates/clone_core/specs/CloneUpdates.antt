@@ -7,10 +7,10 @@ use Rattle.mld_ops.specs.Effects.{EffectValue, ChangesNothing}
 use Rattle.jrql_ast.specs.declared.plans.UpdatePlan.{UpdatePlan}
 use Rattle.jrql_eval.specs.PlanEffects.{IsPlanEffect, HasTooMany}
 use Rattle.mld_model.specs.Local.{LocalClone, LocallyMakes, next_dot}
-use Rattle.clone_answers.specs.declared.answers.Done.{Done}
-use Rattle.clone_answers.specs.declared.answers.Done.TheVariants as done
-use Rattle.clone_answers.specs.declared.faults.UpdateFault.{UpdateFault}
-use Rattle.clone_answers.specs.declared.faults.UpdateFault.TheVariants as update
+use Rattle.clone_parts.specs.declared.answers.Done.{Done}
+use Rattle.clone_parts.specs.declared.answers.Done.TheVariants as done
+use Rattle.clone_parts.specs.declared.faults.UpdateFault.{UpdateFault}
+use Rattle.clone_parts.specs.declared.faults.UpdateFault.TheVariants as update
 
 -- the effect deletes pairs that the clone has
 abbrev pub DeletesOwn : LocalClone → EffectValue → Type 0

@@ -17,18 +17,18 @@ use Rattle.journal_store.specs.declared.faults.Why.{Why}
 use Rattle.journal_store.specs.declared.faults.Why.TheVariants as why
 use Rattle.jrql_ast.specs.declared.plans.UpdatePlan.{UpdatePlan}
 use Rattle.mld_model.specs.Local.{LocalClone, LocallyAccepts, LocallyMerges, next_dot}
-use Rattle.clone_plans.specs.Making.{IsEntryOf}
-use Rattle.clone_banks.specs.KeptSteps.{KeptStep, Created, Appended, Forked, Swapped, appends, calls_of_all, LeavesSome}
+use Rattle.clone_parts.specs.Making.{IsEntryOf}
+use Rattle.clone_parts.specs.KeptSteps.{KeptStep, Created, Appended, Forked, Swapped, appends, calls_of_all, LeavesSome}
 use Rattle.clone_core.specs.Banked.{BankedClone, head_of, kept_as}
 use Rattle.clone_core.specs.CloneClosing.{update_stop, receive_stop, keep_stop}
 use Rattle.clone_core.specs.CloneUpdates.{IsDueUpdate}
-use Rattle.clone_answers.specs.declared.answers.Done.{Done}
-use Rattle.clone_answers.specs.declared.answers.Done.TheVariants as done
-use Rattle.clone_answers.specs.declared.answers.Got.{Got}
-use Rattle.clone_answers.specs.declared.answers.Got.TheVariants as got
-use Rattle.clone_answers.specs.declared.faults.KeepFault.{KeepFault}
-use Rattle.clone_answers.specs.declared.faults.ReceiveFault.{ReceiveFault}
-use Rattle.clone_answers.specs.declared.faults.UpdateFault.{UpdateFault}
+use Rattle.clone_parts.specs.declared.answers.Done.{Done}
+use Rattle.clone_parts.specs.declared.answers.Done.TheVariants as done
+use Rattle.clone_parts.specs.declared.answers.Got.{Got}
+use Rattle.clone_parts.specs.declared.answers.Got.TheVariants as got
+use Rattle.clone_parts.specs.declared.faults.KeepFault.{KeepFault}
+use Rattle.clone_parts.specs.declared.faults.ReceiveFault.{ReceiveFault}
+use Rattle.clone_parts.specs.declared.faults.UpdateFault.{UpdateFault}
 
 -- where there are no changes the banks are as they were; else at each moment a crash leaves the old clone after a front of the changes
 abbrev pub LeavesFronts : {B : Type 0} → (B → Option Log) → (B → Meter) → List KeptStep → BankedClone B → B → Type 0

@@ -2,7 +2,7 @@
 use Rattle.std.specs.Prelude.{ℕ, List, []}
 use Rattle.journal_sides.specs.Heads.{HeadValue}
 use Rattle.mld_model.specs.Local.{LocalClone}
-use Rattle.clone_plans.specs.declared.replays.Replayed.{Replayed}
+use Rattle.clone_parts.specs.declared.replays.Replayed.{Replayed}
 
 -- the clone at a path with a head, what was replayed behind it, and nothing held back
 abbrev pub found_clone : HeadValue → List ℕ → Replayed → LocalClone

@@ -10,15 +10,15 @@ use Rattle.mld_ops.specs.declared.messages.Message.TheVariants as message
 use Rattle.mld_ops.specs.Messages.{give_value, message_value, IsGoodMessage}
 use Rattle.journal_store.specs.declared.faults.MakeFault.TheVariants as make
 use Rattle.mld_model.specs.Local.{LocalClone, LocalAsker, LocallyForks, joined_clone}
-use Rattle.clone_banks.specs.BankCalls.{create_calls}
+use Rattle.clone_parts.specs.BankCalls.{create_calls}
 use Rattle.clone_core.specs.Banked.{BankedAsker}
 use Rattle.clone_core.specs.CloneClosing.{GivesBanksBack}
 use Rattle.clone_core.specs.declared.askers.Adopted.{Adopted}
 use Rattle.clone_core.specs.declared.askers.Adopted.TheVariants as adopted
-use Rattle.clone_answers.specs.declared.answers.Got.{Got}
-use Rattle.clone_answers.specs.declared.answers.Got.TheVariants as got
-use Rattle.clone_answers.specs.declared.faults.ReceiveFault.{ReceiveFault}
-use Rattle.clone_answers.specs.declared.faults.ReceiveFault.TheVariants as fault
+use Rattle.clone_parts.specs.declared.answers.Got.{Got}
+use Rattle.clone_parts.specs.declared.answers.Got.TheVariants as got
+use Rattle.clone_parts.specs.declared.faults.ReceiveFault.{ReceiveFault}
+use Rattle.clone_parts.specs.declared.faults.ReceiveFault.TheVariants as fault
 
 -- ---- giving
 

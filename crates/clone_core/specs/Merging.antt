@@ -6,10 +6,10 @@ use Rattle.mld_model.specs.Local.{LocalClone, LocallyMerges, IsForeignSnapshot, 
 use Rattle.clone_core.specs.Banked.{BankedClone}
 use Rattle.clone_core.specs.CloneClosing.{StaysOpen, IsSwappedOpen}
 use Rattle.clone_core.specs.Due.{IsDueSnapshot}
-use Rattle.clone_answers.specs.declared.answers.Got.{Got}
-use Rattle.clone_answers.specs.declared.answers.Got.TheVariants as got
-use Rattle.clone_answers.specs.declared.faults.ReceiveFault.{ReceiveFault}
-use Rattle.clone_answers.specs.declared.faults.ReceiveFault.TheVariants as fault
+use Rattle.clone_parts.specs.declared.answers.Got.{Got}
+use Rattle.clone_parts.specs.declared.answers.Got.TheVariants as got
+use Rattle.clone_parts.specs.declared.faults.ReceiveFault.{ReceiveFault}
+use Rattle.clone_parts.specs.declared.faults.ReceiveFault.TheVariants as fault
 
 -- what became of a snapshot: all its dots were known, or it was merged, and the ranges that this released are told
 abbrev pub ReceivesSnapshot : LocalClone → SnapshotValue → Got → LocalClone → Type 0

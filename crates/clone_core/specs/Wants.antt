@@ -6,11 +6,11 @@ use Rattle.mld_ops.specs.declared.messages.Snapshot.{Snapshot}
 use Rattle.mld_ops.specs.Entry.{EntryValue}
 use Rattle.mld_ops.specs.Messages.{snapshot_value}
 use Rattle.mld_model.specs.Local.{LocalClone, snapshot_of, LocallyAnswersWant, LocallyAnswersBehind}
-use Rattle.clone_plans.specs.Carrying.{Carry}
-use Rattle.clone_answers.specs.declared.answers.Got.{Got}
-use Rattle.clone_answers.specs.declared.answers.Got.TheVariants as got
-use Rattle.clone_answers.specs.declared.faults.ReceiveFault.{ReceiveFault}
-use Rattle.clone_answers.specs.declared.faults.ReceiveFault.TheVariants as fault
+use Rattle.clone_parts.specs.Carrying.{Carry}
+use Rattle.clone_parts.specs.declared.answers.Got.{Got}
+use Rattle.clone_parts.specs.declared.answers.Got.TheVariants as got
+use Rattle.clone_parts.specs.declared.faults.ReceiveFault.{ReceiveFault}
+use Rattle.clone_parts.specs.declared.faults.ReceiveFault.TheVariants as fault
 
 -- what is sent to one who knows these ticks and lacks something: each entry of the journal that isn't known, in a message of its own; or
 -- one snapshot, where a dot of the base is lacked

@@ -1,8 +1,6 @@
 //! Who asks for a leaf, to become a clone.
 use crate::clones::MldClone;
-use clone_banks::create;
-use clone_plans::begun_with;
-use iri_rules::Text;
+use clone_parts::{begun_with, create};
 use journal_store::{Blank, Head, MakeFault};
 use mld_io::{Banks, CrashBanks, Leave};
 use mld_ops::{Give, Message, kept_properties};
@@ -10,6 +8,7 @@ use rdf_terms::Iri;
 use std::alloc::Global;
 use std::marker::Model;
 use std::thread::Threads;
+use text_rules::Text;
 use tree_clock::Leaf;
 use uuid::Uuid;
 
@@ -51,7 +50,7 @@ pub enum Adopted<B: Banks> {
 impl<B: Banks> Asker<B> {
     ghost use Rattle.std.specs.Prelude.{◌≡◌, IsTrue, MatchOption};
     ghost use Rattle.mld_io.specs.Arm.{Metered};
-    ghost use Rattle.iri_rules.specs.Domain.{is_domain};
+    ghost use Rattle.text_rules.specs.Domain.{is_domain};
     ghost use Rattle.journal_store.specs.Standing.{IsBlankLog};
     ghost use Rattle.rdf_terms.specs.Order.{iri_cmp};
     ghost use Rattle.tree_clock.specs.Lists.{IsAscending};
@@ -127,7 +126,7 @@ impl<B: Banks> Asker<B> {
         ensures adopts { LocallyAdopts self message.now result }
         ensures durable { (give : Give) → IsGiveFor self.asker message.now give
             → Creates B.log B.meter (head_of (joined_clone self.asker (give_value give))) self.banks
-                (banks_of_adopted result) (AdoptsWhole result) (FailsToAdopt result) }
+            (banks_of_adopted result) (AdoptsWhole result) (FailsToAdopt result) }
         ensures back { GivesBackAdopted B.log B.meter self.banks result }
         ensures meter { Metered (adopting_calls result) (B.meter self.banks) (B.meter (banks_of_adopted result))
             (AdoptsWhole result) (FailsToAdopt result) }

@@ -1,14 +1,14 @@
 //! The clone.
 ghost use Rattle.std.specs.Prelude.{◌≡◌, MatchOption};
 ghost use Rattle.clone_core.specs.CloneCalls.{HasRange, LacksRange};
-ghost use Rattle.clone_plans.specs.Plans.{left_of};
+ghost use Rattle.clone_parts.specs.Plans.{left_of};
 
 use causal_buffer::{Held, HeldFault, is_known, is_ready};
-use clone_answers::{Covering, Got, ReceiveFault};
-use clone_banks::{append_entries, append_fork, create, push_all};
-use clone_plans::{Replayed, prepare_plan};
+use clone_parts::{
+    Covering, Got, ReceiveFault, Replayed, append_entries, append_fork, create, prepare_plan,
+    push_all,
+};
 use graph_index::Graph;
-use iri_rules::Text;
 use journal_store::{Blank, Head, Journal, MakeFault, Why};
 use mld_io::{Banks, CrashBanks, Leave};
 use mld_ops::{Entry, Give, Message, Messages, Snapshot, Tagged, kept_properties};
@@ -16,6 +16,7 @@ use rdf_terms::Iri;
 use std::alloc::{AllocError, Global};
 use std::marker::Model;
 use std::thread::Threads;
+use text_rules::Text;
 use tree_clock::{Clock, Leaf, PATH_LIMIT, Path, Range};
 use uuid::Uuid;
 
@@ -54,14 +55,14 @@ impl<B: Banks> MldClone<B> {
     ghost use Rattle.mld_io.specs.Disk.{Log};
     ghost use Rattle.journal_sides.specs.Heads.{head_value};
     ghost use Rattle.journal_store.specs.declared.faults.Why.{Why};
-    ghost use Rattle.clone_banks.specs.KeptSteps.{KeptStep};
+    ghost use Rattle.clone_parts.specs.KeptSteps.{KeptStep};
     ghost use Rattle.clone_core.specs.Banked.{IsOnBanks, KeepsClone, head_of};
     ghost use Rattle.clone_core.specs.FoundClone.{begun_clone, found_clone};
     ghost use Rattle.clone_core.specs.CloneClosing.{StaysOpen, LeavesClone, receive_stop, banks_of_made, FailsToFound, GivesBanksBack};
     ghost use Rattle.clone_core.specs.DurableCalls.{Changes, Creates, MessageSteps};
     ghost use Rattle.clone_core.specs.Due.{IsDueEntry, IsDueAsk, IsDueMessage, IsSwapDue, IsMessageSpent};
     ghost use Rattle.clone_core.specs.Joining.{AnswersGood, RefusesAsk};
-    ghost use Rattle.iri_rules.specs.Domain.{is_domain};
+    ghost use Rattle.text_rules.specs.Domain.{is_domain};
     ghost use Rattle.rdf_terms.specs.Order.{iri_cmp};
     ghost use Rattle.mld_ops.specs.declared.messages.Message.TheVariants as kinds;
     ghost use Rattle.mld_ops.specs.Messages.{snapshot_value, message_value, IsGoodSnapshot, IsGoodMessage};
@@ -95,7 +96,7 @@ impl<B: Banks> MldClone<B> {
         ensures generation { IfOk result (λ clone. clone.generation ≡ 1) }
         ensures durable { (kept : List (List ℕ)) × AreKept properties.items kept
             × Creates B.log B.meter (head_of (blank_clone id domain kept [])) blank (banks_of_made result)
-                (IsOk result) (FailsToFound result) }
+            (IsOk result) (FailsToFound result) }
         ensures err { IfErr result (GivesBanksBack B.log B.meter blank) }
     {
         let head = Head {
@@ -158,8 +159,12 @@ impl<B: Banks> MldClone<B> {
         requires opened { journal.closed ≡ None }
         requires banks { IsOnBanks (B.log journal.banks) None journal.side journal.generation
             (found_clone (head_value head) leaf replayed) }
-        ensures { result ≡ record { local = found_clone (head_value head) leaf replayed;
-            generation = journal.generation; closed = None; banks = journal.banks } }
+        ensures { result ≡ record {
+          local = found_clone (head_value head) leaf replayed;
+          generation = journal.generation;
+          closed = None;
+          banks = journal.banks;
+        } }
     {
         let Head {
             id,
@@ -347,7 +352,7 @@ impl<B: Banks> MldClone<B> {
             ↔ (IsMessageSpent self.old message.now × ¬ IsErrOf result ReceiveFault.NoMemory) }
         ensures left { IfErr result (λ fault.
             LeavesClone B.log B.meter (IsDueMessage self.old message.now) (IsSwapDue message.now) self.old self.new
-                (receive_stop fault)) }
+            (receive_stop fault)) }
         ensures durable { (steps : List KeptStep)
             × MessageSteps self.old.local message.now self.new.local result steps
             × Changes B.log B.meter steps self.old self.new.banks (IsOk result) (IsErrOf result ReceiveFault.Device) }

@@ -1,7 +1,6 @@
 //! Compacting a clone's journal, in memory and on its banks.
 use crate::clones::MldClone;
-use clone_answers::KeepFault;
-use clone_banks::swap_kept;
+use clone_parts::{KeepFault, swap_kept};
 use journal_store::Head;
 use mld_io::Banks;
 use mld_ops::{Tagged, copy_pairs, copy_properties};
@@ -11,7 +10,7 @@ use tree_clock::Clock;
 
 impl<B: Banks> MldClone<B> {
     ghost use Rattle.std.specs.Prelude.{◌≡◌, ◌-◌, ◌^◌, ◌↔◌, List, length, None, Some, IfOk, IfErr, IsOk, OnOk, IsErrOf};
-    ghost use Rattle.clone_banks.specs.KeptSteps.{KeptStep};
+    ghost use Rattle.clone_parts.specs.KeptSteps.{KeptStep};
     ghost use Rattle.journal_sides.specs.Heads.{head_value};
     ghost use Rattle.journal_store.specs.declared.faults.Why.{Why};
     ghost use Rattle.clone_core.specs.Banked.{head_over};
@@ -41,10 +40,10 @@ impl<B: Banks> MldClone<B> {
             ↔ (IsSpent (HasNeighbours self.old.local.entries) self.old × ¬ IsErrOf result KeepFault.NoMemory) }
         ensures left { IfErr result (λ fault.
             LeavesClone B.log B.meter (IsDueSwap (HasNeighbours self.old.local.entries) self.old) ⊥ self.old self.new
-                (keep_stop fault)) }
+            (keep_stop fault)) }
         ensures durable { (steps : List KeptStep)
             × KeepSteps (HasNeighbours self.old.local.entries)
-                (LocallyCompacts self.old.local) self.new.local result steps
+            (LocallyCompacts self.old.local) self.new.local result steps
             × Changes B.log B.meter steps self.old self.new.banks (IsOk result) (IsErrOf result KeepFault.Device) }
     {
         if let Some(why) = self.is_closed() {
@@ -68,10 +67,10 @@ impl<B: Banks> MldClone<B> {
         ensures opened { OnOk result (IsSwappedOpen self.old self.new) }
         ensures left { IfErr result (λ fault.
             StopsClone B.log B.meter (IsDueSwap (HasNeighbours self.old.local.entries) self.old) ⊥ self.old self.new
-                (keep_stop fault)) }
+            (keep_stop fault)) }
         ensures durable { (steps : List KeptStep)
             × KeepSteps (HasNeighbours self.old.local.entries)
-                (LocallyCompacts self.old.local) self.new.local result steps
+            (LocallyCompacts self.old.local) self.new.local result steps
             × Changes B.log B.meter steps self.old self.new.banks (IsOk result) (IsErrOf result KeepFault.Device) }
     {
         let entries = compact_entries(alloc, &self.entries)?;

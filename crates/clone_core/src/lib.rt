@@ -12,6 +12,6 @@ mod updating;
 mod wants;
 
 pub use askers::{Adopted, Asker};
-pub use clone_answers::{Covering, Done, Got, KeepFault, QueryFault, ReceiveFault, UpdateFault};
+pub use clone_parts::{Covering, Done, Got, KeepFault, QueryFault, ReceiveFault, UpdateFault};
 pub use clones::MldClone;
 pub use mounts::Mounted;

@@ -1,15 +1,13 @@
 //! Merging a snapshot into a clone, in memory and on its banks.
 use crate::clones::{MldClone, replace_held};
-use clone_answers::{Got, ReceiveFault};
-use clone_banks::{replace_base, swap_and_append};
-use clone_plans::{Merge, prepare_merge};
+use clone_parts::{Got, Merge, ReceiveFault, prepare_merge, replace_base, swap_and_append};
 use mld_io::Banks;
 use mld_ops::Snapshot;
 use std::alloc::Global;
 
 impl<B: Banks> MldClone<B> {
     ghost use Rattle.std.specs.Prelude.{◌≡◌, ◌↔◌, ◌-◌, ◌^◌, List, None, IfOk, IfErr, IsOk, IsErrOf};
-    ghost use Rattle.clone_banks.specs.KeptSteps.{KeptStep};
+    ghost use Rattle.clone_parts.specs.KeptSteps.{KeptStep};
     ghost use Rattle.mld_ops.specs.Messages.{snapshot_value, IsGoodSnapshot};
     ghost use Rattle.mld_ops.specs.declared.messages.Message.TheVariants as kinds;
     ghost use Rattle.mld_model.specs.Local.{IsForeignSnapshot};
@@ -35,7 +33,7 @@ impl<B: Banks> MldClone<B> {
         ensures err { IfErr result (RefusesSnapshot self.old.local (snapshot_value snapshot.now)) }
         ensures spent { IsErrOf result ReceiveFault.GenerationsSpent
             ↔ (IsSpent (IsDueSnapshot self.old.local (snapshot_value snapshot.now)) self.old
-                × ¬ IsErrOf result ReceiveFault.NoMemory) }
+            × ¬ IsErrOf result ReceiveFault.NoMemory) }
         ensures left { IfErr result
             (StopsReceiving B.log B.meter (IsDueSwap (IsDueSnapshot self.old.local (snapshot_value snapshot.now)) self.old)
             (Unit {0}) self.old self.new) }
@@ -71,7 +69,7 @@ impl<B: Banks> MldClone<B> {
         ensures unspent { ¬ IsErrOf result ReceiveFault.GenerationsSpent }
         ensures left { IfErr result (λ fault.
             StopsClone B.log B.meter (IsDueSwap (IsDueSnapshot self.old.local (snapshot_value snapshot.now)) self.old)
-                (Unit {0}) self.old self.new (receive_stop fault)) }
+            (Unit {0}) self.old self.new (receive_stop fault)) }
         ensures durable { (steps : List KeptStep)
             × MessageSteps self.old.local (kinds.Snapshot snapshot.now) self.new.local result steps
             × Changes B.log B.meter steps self.old self.new.banks (IsOk result) (IsErrOf result ReceiveFault.Device) }

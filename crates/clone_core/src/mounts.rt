@@ -9,7 +9,7 @@ ghost use Rattle.journal_store.specs.Mounting.{IsSynced};
 ghost use Rattle.clone_core.specs.Opening.{mount_calls, TellsClone, OpensClone, banks_of_mounted, SyncsBoth, FailsToOpen};
 
 use crate::clones::MldClone;
-use clone_plans::replay;
+use clone_parts::replay;
 use journal_store::{Blank, Journal, JournalMounted, MountFault};
 use mld_io::Banks;
 use std::alloc::{AllocError, Global};

@@ -1,6 +1,6 @@
 //! Queries: what a clone answers over the triples that are present for it.
 use crate::clones::MldClone;
-use clone_answers::QueryFault;
+use clone_parts::QueryFault;
 use jrql_ast::{Answer, Query, What};
 use jrql_eval::{describe, select};
 use mld_io::Banks;

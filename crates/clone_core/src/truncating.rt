@@ -1,14 +1,12 @@
 //! Truncating a clone's journal, in memory and on its banks.
 use crate::clones::MldClone;
-use clone_answers::KeepFault;
-use clone_banks::{drop_front, replace_base, swap_kept};
-use clone_plans::{led_to, tell_clock};
+use clone_parts::{KeepFault, drop_front, led_to, replace_base, swap_kept, tell_clock};
 use mld_io::Banks;
 use std::alloc::Global;
 
 impl<B: Banks> MldClone<B> {
     ghost use Rattle.std.specs.Prelude.{◌≡◌, ◌<◌, ◌-◌, ◌^◌, ◌↔◌, List, length, None, Some, IfOk, IfErr, IsOk, OnOk, IsErrOf};
-    ghost use Rattle.clone_banks.specs.KeptSteps.{KeptStep};
+    ghost use Rattle.clone_parts.specs.KeptSteps.{KeptStep};
     ghost use Rattle.journal_store.specs.declared.faults.Why.{Why};
     ghost use Rattle.mld_model.specs.Local.{LocallyTruncates};
     ghost use Rattle.clone_core.specs.CloneClosing.{LeavesClone, IsSwappedOpen, keep_stop};
@@ -35,10 +33,10 @@ impl<B: Banks> MldClone<B> {
             ↔ (IsSpent (keep < length self.old.local.entries) self.old × ¬ IsErrOf result KeepFault.NoMemory) }
         ensures left { IfErr result (λ fault.
             LeavesClone B.log B.meter (IsDueSwap (keep < length self.old.local.entries) self.old) ⊥ self.old self.new
-                (keep_stop fault)) }
+            (keep_stop fault)) }
         ensures durable { (steps : List KeptStep)
             × KeepSteps (keep < length self.old.local.entries)
-                (LocallyTruncates self.old.local keep) self.new.local result steps
+            (LocallyTruncates self.old.local keep) self.new.local result steps
             × Changes B.log B.meter steps self.old self.new.banks (IsOk result) (IsErrOf result KeepFault.Device) }
     {
         if let Some(why) = self.is_closed() {
@@ -63,10 +61,10 @@ impl<B: Banks> MldClone<B> {
         ensures opened { OnOk result (IsSwappedOpen self.old self.new) }
         ensures left { IfErr result (λ fault.
             StopsClone B.log B.meter (IsDueSwap (keep < length self.old.local.entries) self.old) ⊥ self.old self.new
-                (keep_stop fault)) }
+            (keep_stop fault)) }
         ensures durable { (steps : List KeptStep)
             × KeepSteps (keep < length self.old.local.entries)
-                (LocallyTruncates self.old.local keep) self.new.local result steps
+            (LocallyTruncates self.old.local keep) self.new.local result steps
             × Changes B.log B.meter steps self.old self.new.banks (IsOk result) (IsErrOf result KeepFault.Device) }
     {
         let cut = self.entries.len() - keep;

@@ -1,8 +1,6 @@
 //! Updates: what a clone makes of a plan.
 use crate::clones::MldClone;
-use clone_answers::{Done, UpdateFault};
-use clone_banks::append_entries;
-use clone_plans::{entry_of_effect, prepare_own};
+use clone_parts::{Done, UpdateFault, append_entries, entry_of_effect, prepare_own};
 use jrql_ast::UpdatePlan;
 use jrql_eval::effect;
 use mld_io::Banks;
@@ -17,8 +15,8 @@ impl<B: Banks> MldClone<B> {
     ghost use Rattle.journal_store.specs.declared.faults.Why.{Why};
     ghost use Rattle.jrql_ast.specs.InForm.{IsPlanInForm};
     ghost use Rattle.mld_model.specs.Local.{next_dot};
-    ghost use Rattle.clone_banks.specs.KeptSteps.{KeptStep};
-    ghost use Rattle.clone_plans.specs.Making.{IsNextEntry};
+    ghost use Rattle.clone_parts.specs.KeptSteps.{KeptStep};
+    ghost use Rattle.clone_parts.specs.Making.{IsNextEntry};
     ghost use Rattle.clone_core.specs.CallParts.{StopsClone, MakeSteps, MakesDone};
     ghost use Rattle.clone_core.specs.CloneClosing.{StaysOpen, LeavesClone, update_stop};
     ghost use Rattle.clone_core.specs.DurableCalls.{Changes, EffectSteps, UpdateSteps};

@@ -1,7 +1,6 @@
 //! Wants: what a clone asks others for, and what it answers to one who asks it.
 use crate::clones::MldClone;
-use clone_answers::{Got, ReceiveFault};
-use clone_plans::unknown_by;
+use clone_parts::{Got, ReceiveFault, unknown_by};
 use mld_io::Banks;
 use mld_ops::{Message, Messages};
 use std::alloc::{AllocError, Global};

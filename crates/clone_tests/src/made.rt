@@ -1,12 +1,11 @@
 //! The clones that tests work on, in boxes, which are let go in one step; and what they do, on loans and in plain words.
 ghost use Rattle.std.specs.Prelude.{IfOk, IsTrue};
-ghost use Rattle.iri_rules.specs.Domain.{is_domain};
+ghost use Rattle.text_rules.specs.Domain.{is_domain};
 ghost use Rattle.jrql_ast.specs.InForm.{IsPlanInForm};
 ghost use Rattle.mld_ops.specs.Messages.{message_value, IsGoodMessage};
 
 use clone_core::{Asker, Done, Got, MldClone, Mounted, ReceiveFault, UpdateFault};
 use disk_model::MemoryBanks;
-use iri_rules::{Text, is_domain};
 use journal_store::{Blank, Why};
 use jrql_ast::UpdatePlan;
 use mld_ops::{Entry, Message};
@@ -14,6 +13,7 @@ use rdf_terms::{Iri, Triple, read_triple};
 use std::alloc::{AllocError, Global};
 use std::test::Fail;
 use std::thread::Threads;
+use text_rules::{Text, is_domain};
 use tree_clock::{Clock, Dot, Path, Range};
 use uuid::Uuid;
 

@@ -22,7 +22,7 @@ use Rattle.schedule_model.specs.Step.{IsTaskInForm}
 use Rattle.schedule_model.specs.Tasks.{command_of, number_of_task, IsToOpen}
 use Rattle.schedule_model.proofs.CrashedSteps.{armed_inside, inside_after}
 use Rattle.schedule_model.proofs.ScheduleLaws.{task_has_plan}
-use Rattle.clone_banks.specs.KeptSteps.{KeptStep, calls_of_all, ReadsCaught}
+use Rattle.clone_parts.specs.KeptSteps.{KeptStep, calls_of_all, ReadsCaught}
 use Rattle.crash_laws.specs.CarriedSteps.{owner_at, StandsRead, Carries, StandsAfter, StandsCaught}
 use Rattle.crash_laws.specs.CrashLines.{ImageStands, CrashesTo}
 use Rattle.crash_laws.specs.Deeds.{CarriedDeed, CarriesDone}

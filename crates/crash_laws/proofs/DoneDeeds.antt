@@ -29,12 +29,12 @@ use Rattle.schedule_model.specs.declared.Command.TheVariants.{Deliver, Compact, 
 use Rattle.schedule_model.specs.PlainDurable.{MakesDurably, message_steps}
 use Rattle.schedule_model.specs.Updating.{UpdatesByPlan}
 use Rattle.schedule_model.specs.WorldStep.{IsUpdateOf}
-use Rattle.clone_answers.specs.declared.answers.Got.{Got}
-use Rattle.clone_answers.specs.declared.answers.Got.TheVariants as got
-use Rattle.clone_answers.specs.declared.answers.Done.{Done}
-use Rattle.clone_answers.specs.declared.answers.Done.TheVariants as done
-use Rattle.clone_answers.specs.declared.faults.ReceiveFault.TheVariants as fault
-use Rattle.clone_banks.specs.KeptSteps.{KeptStep, Forked, appends}
+use Rattle.clone_parts.specs.declared.answers.Got.{Got}
+use Rattle.clone_parts.specs.declared.answers.Got.TheVariants as got
+use Rattle.clone_parts.specs.declared.answers.Done.{Done}
+use Rattle.clone_parts.specs.declared.answers.Done.TheVariants as done
+use Rattle.clone_parts.specs.declared.faults.ReceiveFault.TheVariants as fault
+use Rattle.clone_parts.specs.KeptSteps.{KeptStep, Forked, appends}
 use Rattle.clone_core.specs.Banked.{BankedClone, kept_as}
 use Rattle.clone_core.specs.CloneCalls.{LocallyReceives, Refuses}
 use Rattle.clone_core.specs.CloneUpdates.{LocallyUpdatesBy, BreaksSingle}

@@ -24,7 +24,7 @@ use Rattle.schedule_model.proofs.CrashedSteps.{armed_inside, inside_after, caugh
 use Rattle.schedule_model.proofs.FollowsLaws.{ticks_grown, messages_grown, clones_follow}
 use Rattle.schedule_model.proofs.PlainChanges.{Changes}
 use Rattle.schedule_model.proofs.ScheduleLaws.{task_has_plan}
-use Rattle.clone_banks.specs.KeptSteps.{KeptStep, calls_of_all}
+use Rattle.clone_parts.specs.KeptSteps.{KeptStep, calls_of_all}
 use Rattle.crash_laws.specs.CarriedSteps.{owner_at}
 use Rattle.crash_laws.specs.CrashLines.{ImageStands, CrashesTo, FollowsCrash}
 use Rattle.crash_laws.specs.Deeds.{CarriedDeed, CarriesDone}

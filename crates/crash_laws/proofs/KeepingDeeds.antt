@@ -27,7 +27,7 @@ use Rattle.schedule_model.specs.declared.Command.TheVariants.{Compact, Truncate}
 use Rattle.schedule_model.specs.PlainDurable.{SwapsDurably, keeps_the_same, swaps_it}
 use Rattle.schedule_model.specs.PlainStep.{PlainStep}
 use Rattle.clone_core.specs.Banked.{head_of, kept_as}
-use Rattle.clone_banks.specs.KeptSteps.{Swapped}
+use Rattle.clone_parts.specs.KeptSteps.{Swapped}
 use Rattle.crash_laws.specs.CarriedSteps.{owner_at, Carries}
 use Rattle.crash_laws.specs.Deeds.{CarriedDeed}
 use Rattle.crash_laws.proofs.Kept.{live_kept, carried_at}

@@ -17,7 +17,7 @@ use Rattle.mld_model.specs.StandsFor.{kept_by, EntryStandsFor, LiveAt}
 use Rattle.mld_model.specs.World.{World, clone_at}
 use Rattle.mld_model.proofs.StoredLaws.{stored_still_stands}
 use Rattle.clone_core.specs.Banked.{kept_as}
-use Rattle.clone_banks.specs.KeptSteps.{KeptStep, appends}
+use Rattle.clone_parts.specs.KeptSteps.{KeptStep, appends}
 use Rattle.crash_laws.specs.CarriedSteps.{Owner, owner_at, stored_in, IsKeptFor, Carries, AreAppends}
 
 module _ (owner : Owner) (history : List Operation) (kept : Kept) (stored : Stored) (is : IsKeptFor owner history kept stored) where

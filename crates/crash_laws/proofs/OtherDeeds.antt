@@ -17,7 +17,7 @@ use Rattle.schedule_model.specs.PlainDurable.{keeps_the_same, MakesDurably, taki
 use Rattle.schedule_model.specs.PlainStep.{PlainStep}
 use Rattle.schedule_model.proofs.ScheduleLaws.{HasPlanInForm}
 use Rattle.schedule_model.proofs.StepLaws.{plain_once}
-use Rattle.clone_banks.specs.KeptSteps.{KeptStep}
+use Rattle.clone_parts.specs.KeptSteps.{KeptStep}
 use Rattle.crash_laws.specs.CarriedSteps.{owner_at, StandsRead}
 use Rattle.crash_laws.specs.Deeds.{CarriedDeed, CarriesDone, TellsOfNone, TakesNoMessage}
 

@@ -40,7 +40,7 @@ use Rattle.schedule_model.specs.PlainStep.{PlainStep}
 use Rattle.schedule_model.specs.Updating.{UpdatesByPlan}
 use Rattle.schedule_model.specs.WorldStep.{IsUpdateOf}
 use Rattle.clone_core.specs.Banked.{kept_as}
-use Rattle.clone_banks.specs.KeptSteps.{Appended}
+use Rattle.clone_parts.specs.KeptSteps.{Appended}
 use Rattle.crash_laws.specs.CarriedSteps.{owner_at, IsKeptFor}
 use Rattle.crash_laws.specs.Deeds.{CarriedDeed}
 use Rattle.crash_laws.proofs.Kept.{entry_kept, longer_kept, live_kept, carried_at}

@@ -31,7 +31,7 @@ use Rattle.mld_model.proofs.SoundLaws.{live_sound}
 use Rattle.schedule_model.specs.declared.Command.TheVariants.{Deliver}
 use Rattle.schedule_model.specs.PlainDurable.{message_steps, merging_steps}
 use Rattle.clone_core.specs.Banked.{head_of, kept_as}
-use Rattle.clone_banks.specs.KeptSteps.{KeptStep, Created, Forked, Swapped, appends}
+use Rattle.clone_parts.specs.KeptSteps.{KeptStep, Created, Forked, Swapped, appends}
 use Rattle.crash_laws.specs.CarriedSteps.{owner_at, IsKeptFor, Carries, WritesOnce}
 use Rattle.crash_laws.specs.Deeds.{CarriedDeed}
 use Rattle.crash_laws.proofs.Kept.{fork_kept, appends_carried, appends_are, live_kept, carried_at}

@@ -12,7 +12,7 @@ use Rattle.mld_model.specs.CloneStep.{left_half}
 use Rattle.mld_model.specs.Durable.{AppendsMade, AppendsTaken, AppendsFork, Creates}
 use Rattle.mld_model.specs.CrashFronts.{standing_front}
 use Rattle.mld_ops.specs.Effect.{range_of}
-use Rattle.clone_banks.specs.KeptSteps.{Created, Appended, Forked}
+use Rattle.clone_parts.specs.KeptSteps.{Created, Appended, Forked}
 use Rattle.crash_laws.specs.CarriedSteps.{Owner, IsKeptFor, StandsRead, Carries, StandsAfter}
 
 module _ (owner : Owner) (history : List Operation) (kept : Kept) (stored : Stored) (head : HeadValue) (entry : EntryValue) (operation : Operation) (first second : Range)

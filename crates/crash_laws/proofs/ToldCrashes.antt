@@ -14,7 +14,7 @@ use Rattle.schedule_model.specs.declared.CrashTask.{CrashTask}
 use Rattle.schedule_model.specs.declared.CrashTask.TheVariants as tasks
 use Rattle.schedule_model.specs.Crashing.{IsArmed}
 use Rattle.schedule_model.specs.Tasks.{command_of, number_of_task}
-use Rattle.clone_banks.specs.KeptSteps.{KeptStep, Created, calls_of_all, ReadsCaught, LeavesSome}
+use Rattle.clone_parts.specs.KeptSteps.{KeptStep, Created, calls_of_all, ReadsCaught, LeavesSome}
 use Rattle.clone_core.specs.Banked.{BankedClone, kept_as}
 use Rattle.journal_store.specs.Crashes.{LeavesNothingNew}
 use Rattle.clone_core.specs.DurableCalls.{Changes, Creates}

@@ -21,8 +21,8 @@ use Rattle.mld_model.proofs.LocalSteps.{local_steps}
 use Rattle.schedule_model.specs.declared.Command.{Command}
 use Rattle.schedule_model.specs.declared.Command.TheVariants.{Deliver, Compact, Truncate}
 use Rattle.schedule_model.specs.WorldStep.{IsUpdateOf}
-use Rattle.clone_answers.specs.declared.answers.Done.TheVariants as done
-use Rattle.clone_banks.specs.KeptSteps.{KeptStep, Created, Appended, Forked, Swapped, appends}
+use Rattle.clone_parts.specs.declared.answers.Done.TheVariants as done
+use Rattle.clone_parts.specs.KeptSteps.{KeptStep, Created, Appended, Forked, Swapped, appends}
 use Rattle.clone_core.specs.Banked.{BankedClone, head_of, kept_as}
 use Rattle.clone_core.specs.CloneUpdates.{LocallyUpdatesBy}
 use Rattle.clone_core.specs.Due.{IsDueMessage}

@@ -10,7 +10,7 @@ use Rattle.mld_model.specs.CrashFronts.{step_calls, standing_front}
 use Rattle.mld_model.specs.Local.{LocalStored}
 use Rattle.mld_model.specs.StandsFor.{StoredStandsFor, id_of}
 use Rattle.mld_model.specs.World.{World}
-use Rattle.clone_banks.specs.KeptSteps.{KeptStep, Appended, Forked, after_step, calls_of}
+use Rattle.clone_parts.specs.KeptSteps.{KeptStep, Appended, Forked, after_step, calls_of}
 
 -- ---- at one moment
 

@@ -31,10 +31,10 @@ use Rattle.schedule_model.specs.PlainStep.{PlainStep}
 use Rattle.schedule_model.specs.Step.{IsTaskInForm}
 use Rattle.schedule_model.specs.Tasks.{command_of, number_of_task}
 use Rattle.schedule_model.specs.WorldStep.{IsUpdateOf, stepped_into}
-use Rattle.clone_answers.specs.declared.answers.Done.{Done}
-use Rattle.clone_answers.specs.declared.answers.Got.{Got}
-use Rattle.clone_answers.specs.declared.faults.ReceiveFault.TheVariants as fault
-use Rattle.clone_banks.specs.KeptSteps.{KeptStep, Created, calls_of_all, ReadsSome, ReadsCaught}
+use Rattle.clone_parts.specs.declared.answers.Done.{Done}
+use Rattle.clone_parts.specs.declared.answers.Got.{Got}
+use Rattle.clone_parts.specs.declared.faults.ReceiveFault.TheVariants as fault
+use Rattle.clone_parts.specs.KeptSteps.{KeptStep, Created, calls_of_all, ReadsSome, ReadsCaught}
 use Rattle.clone_core.specs.Banked.{head_of, kept_as}
 use Rattle.clone_core.specs.CloneCalls.{LocallyReceives, Refuses}
 use Rattle.clone_core.specs.CloneUpdates.{LocallyUpdatesBy, BreaksSingle}

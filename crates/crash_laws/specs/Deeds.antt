@@ -14,7 +14,7 @@ use Rattle.schedule_model.specs.declared.CrashTask.{CrashTask}
 use Rattle.schedule_model.specs.declared.CrashTask.TheVariants as tasks
 use Rattle.schedule_model.specs.Crashing.{Deed}
 use Rattle.schedule_model.specs.PlainDurable.{PlainDurableSteps}
-use Rattle.clone_banks.specs.KeptSteps.{KeptStep}
+use Rattle.clone_parts.specs.KeptSteps.{KeptStep}
 use Rattle.crash_laws.specs.CarriedSteps.{Carries, owner_at, WritesOnce}
 
 -- a plain command of the clone of the number does this in the model, and these changes of its banks, which read to this, carry its durable steps

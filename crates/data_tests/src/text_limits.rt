@@ -1,9 +1,9 @@
 //! How long texts may be, by numbers of their own.
 use crate::term_refusals::{iri_refusal, tagged_refusal, typed_refusal};
-use iri_rules::{IriFault, is_absolute, is_domain, is_iri, resolve};
 use rdf_terms::{TermFault, TripleFault, read_iri, read_triple};
 use std::alloc::Global;
 use std::test::Fail;
+use text_rules::{IriFault, is_absolute, is_domain, is_iri, resolve};
 
 /// So many bytes of a text of ASCII, from its start.
 fn front(text: &str, count: usize) -> &str {

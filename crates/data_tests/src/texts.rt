@@ -1,9 +1,8 @@
 //! Texts, their bytes, and single characters.
-use iri_rules::Text;
-use iri_rules::characters::{is_digit, is_excluded, is_letter, is_scheme_character};
 use std::alloc::Global;
 use std::test::Fail;
-use term_texts::{byte_at, has_byte};
+use text_rules::characters::{is_digit, is_excluded, is_letter, is_scheme_character};
+use text_rules::{Text, byte_at, has_byte};
 
 #[test]
 fn characters_and_bytes_are_told(rt: HostRuntime) {

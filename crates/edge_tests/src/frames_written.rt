@@ -3,11 +3,11 @@ ghost use Rattle.std.specs.Prelude.{IfOk};
 ghost use Rattle.wire_frames.specs.Frames.{IsFrame};
 
 use crate::frame_vectors::{ASKED, GREETING, node_id};
-use iri_rules::{Text, is_domain};
 use mld_io::Piece;
 use mld_ops::Message;
 use std::alloc::{AllocError, Global};
 use std::test::Fail;
+use text_rules::{Text, is_domain};
 use wire_frames::{Frame, are_kept, parts, reply_frames, write_frame};
 
 /// The Hello of the node.

@@ -1,7 +1,7 @@
 -- What is written for a head is read as it, and what is read was written so.
 use Rattle.std.proofs.Common.{◌≡◌, ℕ, ◌+◌, List, [], ◌++◌, length, sym, ap, ◌∙◌, subst}
-use Rattle.iri_rules.specs.Domain.{is_domain}
-use Rattle.iri_rules.specs.Iri.{is_absolute}
+use Rattle.text_rules.specs.Domain.{is_domain}
+use Rattle.text_rules.specs.Iri.{is_absolute}
 use Rattle.mld_bytes.specs.Bytes.{u64_bytes, piece_bytes}
 use Rattle.mld_ops.specs.Messages.{SnapshotValue}
 use Rattle.op_codec.specs.CodecLaws.{IsReadBack, IsWritten, IsOneSpelling}

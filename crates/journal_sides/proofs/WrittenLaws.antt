@@ -5,7 +5,7 @@ use Rattle.std.proofs.Common.{refl, sym, ◌∙◌, ap, subst, inl, inr, arith, 
 use Rattle.std.proofs.lemmas.List.{append-nil, map_more, take_all}
 use Rattle.std.specs.List.{list_all}
 use Rattle.std.proofs.lemmas.Bool.{and_parts, leb-true}
-use Rattle.iri_rules.specs.Domain.{is_domain, is_domain_byte, domain_limit}
+use Rattle.text_rules.specs.Domain.{is_domain, is_domain_byte, domain_limit}
 use Rattle.mld_ops.specs.Entry.{EntryValue}
 use Rattle.mld_ops.specs.Messages.{SnapshotValue, IsGoodSnapshot}
 use Rattle.mld_ops.specs.declared.tagged.Tagged.{Tagged}

@@ -3,8 +3,8 @@
 use Rattle.std.specs.Prelude.{ℕ, ◌&&◌, Bool, List, ◌++◌, nat_eq, length, if◌then◌else◌}
 use Rattle.std.specs.Cmp.Lexicographic.{pointwise}
 use Rattle.std.specs.Str.{is_utf8}
-use Rattle.iri_rules.specs.Domain.{is_domain}
-use Rattle.iri_rules.specs.Iri.{is_absolute}
+use Rattle.text_rules.specs.Domain.{is_domain}
+use Rattle.text_rules.specs.Iri.{is_absolute}
 use Rattle.mld_bytes.specs.Bytes.{u64_bytes, piece_bytes}
 use Rattle.mld_ops.specs.Messages.{SnapshotValue}
 use Rattle.op_codec.specs.StoredLists.{list_bytes, is_above, read_list}

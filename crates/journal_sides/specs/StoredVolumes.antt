@@ -1,8 +1,8 @@
 -- The values that have a spelling on a side, those that a caller may have written, and the bytes of a side that has one.
 use Rattle.std.specs.Prelude.{◌≡◌, ◌≢◌, ℕ, ◌<◌, ◌^◌, Bool, List, [], ◌∷◌, ◌++◌, IsTrue, length}
 use Rattle.std.specs.Str.{IsUtf8}
-use Rattle.iri_rules.specs.Domain.{is_domain}
-use Rattle.iri_rules.specs.Iri.{is_absolute}
+use Rattle.text_rules.specs.Domain.{is_domain}
+use Rattle.text_rules.specs.Iri.{is_absolute}
 use Rattle.mld_ops.specs.Entry.{EntryValue}
 use Rattle.mld_ops.specs.Messages.{IsGoodSnapshot}
 use Rattle.mld_ops.specs.Ready.{last_dot, IsReadyEntry}

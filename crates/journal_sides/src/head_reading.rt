@@ -1,7 +1,7 @@
 //! The reading of heads.
 ghost use Rattle.std.specs.Prelude.{◌≡◌, ◌≤◌, ◌++◌, ◌∷◌, [], length, drop, OnOk, MatchResult};
-ghost use Rattle.iri_rules.specs.Domain.{is_domain};
-ghost use Rattle.iri_rules.specs.Iri.{is_absolute};
+ghost use Rattle.text_rules.specs.Domain.{is_domain};
+ghost use Rattle.text_rules.specs.Iri.{is_absolute};
 ghost use Rattle.op_codec.specs.Agreement.{IsRead, IsRefused, TakesItem, MissesItem};
 ghost use Rattle.op_codec.specs.StoredLists.{is_above};
 ghost use Rattle.rdf_terms.specs.Order.{iri_cmp};
@@ -11,12 +11,12 @@ ghost use Rattle.journal_sides.specs.Heads.{read_mark, read_generation, read_tex
 ghost use Rattle.journal_sides.specs.Openings.{opening_value};
 
 use crate::heads::Head;
-use iri_rules::{Text, is_domain};
 use mld_bytes::take_u64;
 use mld_ops::Snapshot;
 use op_codec::{CodecFault, pass_piece, read_id, read_path, read_snapshot, read_u32};
 use rdf_terms::{Iri, TermFault, cmp_iris};
 use std::alloc::{AllocError, Global};
+use text_rules::{Text, is_domain};
 
 /// The first bytes of a head.
 pub(crate) const HEAD_MARK: &[u8; 4] = b"mld1";

@@ -1,8 +1,8 @@
 //! Heads and records as they are written.
 ghost use Rattle.std.specs.Prelude.{◌≡◌, ◌<◌, ◌^◌, ◌++◌, ◌∷◌, [], All, IsTrue, OnOk, IfOk};
 ghost use Rattle.std.specs.List.{AllByRecursion};
-ghost use Rattle.iri_rules.specs.Domain.{is_domain};
-ghost use Rattle.iri_rules.specs.Iri.{is_absolute};
+ghost use Rattle.text_rules.specs.Domain.{is_domain};
+ghost use Rattle.text_rules.specs.Iri.{is_absolute};
 ghost use Rattle.mld_bytes.specs.Bytes.{piece_bytes};
 ghost use Rattle.mld_ops.specs.Messages.{IsGoodSnapshot};
 ghost use Rattle.op_codec.specs.MessageBytes.{snapshot_bytes};
@@ -18,12 +18,12 @@ ghost use Rattle.journal_sides.specs.WrittenRecords.{entry_records, volume_of};
 use crate::head_reading::HEAD_MARK;
 use crate::heads::Head;
 use crate::record_reading::{ENTRY_KIND, FORK_KIND, OPEN_GATE};
-use iri_rules::Text;
 use mld_bytes::{put_bytes, put_u8, put_u32, put_u64};
 use mld_ops::{Entry, Tagged};
 use op_codec::{append_path, write_clock, write_entry, write_tagged};
 use rdf_terms::Iri;
 use std::alloc::{AllocError, Global};
+use text_rules::Text;
 use tree_clock::{Clock, Path};
 use uuid::Uuid;
 

@@ -1,7 +1,7 @@
 //! What a journal begins with.
-use iri_rules::Text;
 use mld_ops::Tagged;
 use rdf_terms::Iri;
+use text_rules::Text;
 use tree_clock::{Clock, Path};
 use uuid::Uuid;
 

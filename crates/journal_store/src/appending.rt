@@ -62,11 +62,11 @@ pub(crate) fn write_side<B: Banks>(
     ensures stored { OnOk result (IsVolume (volume_of generation (head_value head.now) entries.now)) }
     ensures done { (l : Log) → B.log banks.old ≡ Some l → IsSettled l
         → IfOk result (λ end.
-            HasVolume side (volume_of generation (head_value head.now) entries.now) end l (B.log banks.new)) }
+        HasVolume side (volume_of generation (head_value head.now) entries.now) end l (B.log banks.new)) }
     ensures moments { (l : Log) → B.log banks.old ≡ Some l → IsSettled l
         → LeavesMeanwhile l (B.log banks.new)
-            (IsWritingTo (B.meter banks.old).arm side (volume_of generation (head_value head.now) entries.now)
-                (seen l)) }
+        (IsWritingTo (B.meter banks.old).arm side (volume_of generation (head_value head.now) entries.now)
+        (seen l)) }
     ensures before { IsErrOf result Stop.Before → banks.new ≡ banks.old }
     ensures called { EndsBehindFirst result → WasCalled B.log B.meter banks.old banks.new }
     ensures told { StaysTold (B.log banks.old) (B.log banks.new) }
@@ -119,7 +119,7 @@ pub(crate) fn append_at<B: Banks>(
         → HasEndAt side volume stop.old l (B.log banks.old) → body.now ≡ record_body next
         → IsVolume volume → IsVolume (with_record next volume)
         → LeavesMeanwhile l (B.log banks.new)
-            (IsAppendingTo (B.meter banks.old).arm side stop.old volume next (seen l)) }
+        (IsAppendingTo (B.meter banks.old).arm side stop.old volume next (seen l)) }
     ensures told { StaysTold (B.log banks.old) (B.log banks.new) }
     ensures meter { Metered 4 (B.meter banks.old) (B.meter banks.new) (IsOk result) (IsErrOf result Why.Device) }
 {
@@ -149,11 +149,11 @@ pub(crate) fn swap_at<B: Banks>(
     ensures stored { OnOk result (IsVolume (volume_of generation (head_value head.now) entries.now)) }
     ensures done { (l : Log) → B.log banks.old ≡ Some l → IsSettled l
         → OnOk result
-            (HasVolume side (volume_of generation (head_value head.now) entries.now) stop.new l (B.log banks.new)) }
+        (HasVolume side (volume_of generation (head_value head.now) entries.now) stop.new l (B.log banks.new)) }
     ensures moments { (l : Log) → B.log banks.old ≡ Some l → IsSettled l
         → LeavesMeanwhile l (B.log banks.new)
-            (IsWritingTo (B.meter banks.old).arm side (volume_of generation (head_value head.now) entries.now)
-                (seen l)) }
+        (IsWritingTo (B.meter banks.old).arm side (volume_of generation (head_value head.now) entries.now)
+        (seen l)) }
     ensures told { StaysTold (B.log banks.old) (B.log banks.new) }
     ensures meter { Metered 6 (B.meter banks.old) (B.meter banks.new) (IsOk result) (IsErrOf result Why.Device) }
 {

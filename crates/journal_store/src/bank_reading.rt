@@ -32,8 +32,8 @@ fn read_piece<B: Banks>(
         → length bytes.old.items + count ≤ length (bytes_of side (seen l)) }
     ensures bytes { (l : Log) → B.log banks.old ≡ Some l
         → OnOk result
-            (bytes.new.items ≡ bytes.old.items ++ take count
-                (drop (length bytes.old.items) (bytes_of side (seen l)))) }
+        (bytes.new.items ≡ bytes.old.items ++ take count
+        (drop (length bytes.old.items) (bytes_of side (seen l)))) }
     ensures size { OnOk result (length bytes.new.items ≡ length bytes.old.items + count) }
     ensures log { B.log banks.new ≡ B.log banks.old }
     ensures meter { Metered 0 (B.meter banks.old) (B.meter banks.new) (IsOk result) (IsErrOf result IoFault.Failed) }

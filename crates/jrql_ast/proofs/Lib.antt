@@ -6,3 +6,5 @@ pub mod Permuted
 pub mod Rearranging
 pub mod Sortings
 mod WorkedRows
+pub mod FreshIris
+pub mod MadeLaws

@@ -3,3 +3,5 @@ pub mod Solutions
 pub mod Templates
 pub mod FilterMeaning
 pub mod QueryAnswers
+pub mod FreshNames
+pub mod Naming

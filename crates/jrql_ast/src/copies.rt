@@ -5,8 +5,8 @@ use crate::patterns::{Filter, Group, PatternTriple};
 use crate::plans::UpdatePlan;
 use crate::queries::{Query, Select, Target, What};
 use crate::sequences::Sequence;
-use iri_rules::Text;
 use std::alloc::{AllocError, Global};
+use text_rules::Text;
 
 /// What can be copied in an allocator.
 pub trait CopyIn: Drop {

@@ -1,10 +1,12 @@
-//! Patterns, queries, updates and their answers as plain types, after SPARQL 1.1, and which of them are in form.
+//! Queries and updates of json-rql as plain types: patterns, groups, filters, plans and answers; and what templates make for solutions.
 #![tactic(auto)]
 
 mod answers;
 mod copies;
 mod laws;
 mod limits;
+mod making;
+mod naming;
 mod patterns;
 mod plans;
 mod queries;
@@ -14,6 +16,7 @@ pub use answers::{Answer, Described, Row};
 pub use copies::CopyIn;
 pub use laws::{one_answer, patterns_in_any_order};
 pub use limits::VARIABLE_LIMIT;
+pub use making::made_triples;
 pub use patterns::{Compare, Filter, Group, PatternTriple, Slot};
 pub use plans::UpdatePlan;
 pub use queries::{Query, Select, Target, What};

@@ -1,9 +1,9 @@
 //! Patterns of triples, filters, and groups of both (SPARQL 1.1 Query Language, sections 5, 7 and 17).
 
 use crate::sequences::Sequence;
-use iri_rules::Text;
 use rdf_terms::Term;
 use std::alloc::AllocError;
+use text_rules::Text;
 
 /// What stands in a place of a pattern.
 #[derive(Debug, PartialEq, Eq, Drop)]

@@ -22,7 +22,7 @@ use Rattle.jrql_ast.specs.declared.plans.UpdatePlan.{UpdatePlan}
 use Rattle.jrql_ast.specs.QueryAnswers.{IsSolutions, found, solution_limit}
 use Rattle.jrql_ast.specs.Templates.{made_from}
 use Rattle.jrql_ast.proofs.OneSolutions.{one_solutions}
-use Rattle.jrql_templates.specs.FreshNames.{fresh_name}
+use Rattle.jrql_ast.specs.FreshNames.{fresh_name}
 use Rattle.jrql_eval.specs.PlanEffects.{ArePairsOfAny, IsEffectBy, OneEffect}
 
 -- the pairs of triples, one triple after another

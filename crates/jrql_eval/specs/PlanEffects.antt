@@ -16,7 +16,7 @@ use Rattle.jrql_ast.specs.declared.plans.UpdatePlan.{UpdatePlan}
 use Rattle.jrql_ast.specs.InForm.{IsPlanInForm}
 use Rattle.jrql_ast.specs.QueryAnswers.{solution_limit, found, IsSolutions}
 use Rattle.jrql_ast.specs.Templates.{made_from}
-use Rattle.jrql_templates.specs.FreshNames.{fresh_name}
+use Rattle.jrql_ast.specs.FreshNames.{fresh_name}
 
 -- of a list of pairs those of some triples, ascending
 pub record ArePairsOfAny (triples : List Triple) (pairs chosen : List Tagged) : Type 0 where

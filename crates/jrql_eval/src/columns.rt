@@ -6,8 +6,8 @@ ghost use Rattle.std.specs.List.Sorted.{IsPermutation, IsSortedBy};
 ghost use Rattle.std.specs.Ordering.{is_lt, nat_cmp};
 ghost use Rattle.jrql_eval.specs.ColumnOrder.{AreColumnsOf};
 
-use iri_rules::Text;
 use std::alloc::{AllocError, Global};
+use text_rules::Text;
 
 // A named variable, with its name in front.
 fn one_named<'a>(names: &'a [Text], number: usize) -> (&'a str, u16)

@@ -2,7 +2,7 @@
 ghost use Rattle.std.specs.Prelude.{◌≡◌, ◌≤◌, length, IfOk, IsErrOf, IsTrue};
 ghost use Rattle.std.specs.List.{filter, flat_map};
 ghost use Rattle.graph_index.specs.Matching.{is_of};
-ghost use Rattle.iri_rules.specs.Domain.{is_domain};
+ghost use Rattle.text_rules.specs.Domain.{is_domain};
 ghost use Rattle.jrql_ast.specs.InForm.{IsPlanInForm};
 ghost use Rattle.jrql_ast.specs.QueryAnswers.{solution_limit};
 ghost use Rattle.mld_ops.specs.InOrder.{IsPutInOrder};
@@ -12,8 +12,7 @@ ghost use Rattle.jrql_eval.specs.PlanEffects.{HasTooMany, IsEffectBy, IsPlanEffe
 use crate::faults::EvalFault;
 use crate::solving::solutions;
 use graph_index::Graph;
-use jrql_ast::{Row, UpdatePlan};
-use jrql_templates::made_triples;
+use jrql_ast::{Row, UpdatePlan, made_triples};
 use mld_ops::{Effect, Tagged};
 use rdf_terms::{Triple, cmp_triples};
 use std::alloc::{AllocError, Global};

@@ -5,10 +5,10 @@ ghost use Rattle.jsonld_context.specs.Telling.{IsFaultOf};
 ghost use Rattle.jsonld_context.specs.declared.faults.JsonFault.TheVariants as faults;
 ghost use Rattle.jrql_patterns.specs.OpenGroups.{not_under};
 
-use iri_rules::Text;
 use jsonld_context::JsonFault;
 use serde_json::Value;
 use std::alloc::Global;
+use text_rules::Text;
 
 /// The fault of a query that breaks a rule at a key; or want of memory.
 pub fn bad_query(alloc: Global, key: &str) -> JsonFault

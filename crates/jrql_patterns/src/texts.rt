@@ -1,6 +1,6 @@
 //! JSON texts, and the context of an object (RFC 8259; JSON-LD 1.1, section 3.1).
 ghost use Rattle.std.specs.Prelude.{◌≡◌, Ok, IfOk, IfErr, IsTrue};
-ghost use Rattle.iri_rules.specs.Domain.{is_domain};
+ghost use Rattle.text_rules.specs.Domain.{is_domain};
 ghost use Rattle.serde_json.specs.View.{view, members_view};
 ghost use Rattle.jsonld_context.specs.Telling.{IsToldBy};
 ghost use Rattle.jrql_patterns.specs.QueryReading.{json_of, context_said};

@@ -8,13 +8,13 @@ ghost use Rattle.jsonld_values.specs.TermWriting.{term_data};
 ghost use Rattle.jrql_reply.specs.AnswerText.{row_data, row_members, with_variable, name_of};
 
 use crate::items::push_item;
-use iri_rules::Text;
 use jrql_ast::Row;
 use jsonld_context::Context;
 use jsonld_subjects::write_term;
 use rdf_terms::Term;
 use serde_json::{Map, Value};
 use std::alloc::{AllocError, Global};
+use text_rules::Text;
 
 /// Adds rows to an output as an array of objects, each with the listed variables that are bound in it. Where memory is wanting, what stood
 /// there still stands in front.

@@ -1,6 +1,6 @@
 //! Updates read from JSON.
 ghost use Rattle.std.specs.Prelude.{◌≡◌, codes, Ok, IfOk, IfErr, IsTrue};
-ghost use Rattle.iri_rules.specs.Domain.{is_domain};
+ghost use Rattle.text_rules.specs.Domain.{is_domain};
 ghost use Rattle.serde_json.specs.Data.{object};
 ghost use Rattle.serde_json.specs.View.{view, members_view};
 ghost use Rattle.jsonld_context.specs.Telling.{IsToldBy};

@@ -10,7 +10,7 @@ use Rattle.std.proofs.lemmas.Slice.Eq.{starts_is}
 use Rattle.rdf_terms.specs.Literal.{is_same}
 use Rattle.jsonld_context.specs.FormsFound.{label_for, least_label, compact_behind, least_behind, IsDelimited}
 use Rattle.jsonld_context.specs.ShortForms.{if_passes, is_rest, rest_behind, compact_by, least_with, least_compact}
-use Rattle.jsonld_texts.specs.TextForms.{ends_in_delimiter, is_term_name}
+use Rattle.text_rules.specs.TextForms.{ends_in_delimiter, is_term_name}
 use Rattle.jsonld_context.specs.declared.definitions.Definition.{Definition}
 use Rattle.jsonld_context.proofs.Labels.{IfLabel, is_label, are_labels, least_behind_labels}
 use Rattle.jsonld_context.proofs.LeastTexts.{with_none, crossed, least_first}

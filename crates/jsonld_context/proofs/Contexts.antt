@@ -3,8 +3,8 @@ use Rattle.std.proofs.Common.{◌≡◌, ℕ, List, [], Bool, true, false, cond,
 use Rattle.std.specs.Option.{option_and_then}
 use Rattle.std.specs.Cmp.Lexicographic.{slice_cmp}
 use Rattle.std.specs.List.Sorted.{IsStrictlySortedBy}
-use Rattle.iri_rules.specs.Domain.{is_domain}
-use Rattle.iri_rules.specs.Iri.{is_absolute}
+use Rattle.text_rules.specs.Domain.{is_domain}
+use Rattle.text_rules.specs.Iri.{is_absolute}
 use Rattle.serde_json.specs.Data.{Data, null, boolean, number, string, array, object, Members}
 use Rattle.serde_json.specs.Find.{as_str, get_member}
 use Rattle.jsonld_context.specs.ContextReading.{string_at, domain_base, domain_vocabulary, vocabulary_of, vocabulary_given, known_vocabulary, first_fault, fault_of_iri, fault_of_keyword, fault_of_member, fault_of_members, definitions, context_of, unless_fault, read_context}

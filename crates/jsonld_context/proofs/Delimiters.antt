@@ -4,7 +4,7 @@ use Rattle.std.specs.List.{slice_get}
 use Rattle.std.specs.Option.{option_map_or}
 use Rattle.std.proofs.lemmas.List.{length-take-le}
 use Rattle.std.proofs.lemmas.Bool.Decides.{nat_tests}
-use Rattle.jsonld_texts.specs.TextForms.{is_delimiter, ends_in_delimiter}
+use Rattle.text_rules.specs.TextForms.{is_delimiter, ends_in_delimiter}
 
 last_taken : (text : List ℕ) (place d : ℕ) → place < length text → slice_get (take (suc place) text) place ≡ Some (get_or text place d)
 last_taken [] place d within = absurd (omega arith)

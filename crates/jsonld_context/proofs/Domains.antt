@@ -4,8 +4,8 @@ use Rattle.std.specs.List.{list_all}
 use Rattle.std.proofs.lemmas.Bool.{and_parts, and_from}
 use Rattle.std.proofs.lemmas.Bool.Decides.{nat_tests}
 use Rattle.std.proofs.lemmas.List.Folds.{list_all-append}
-use Rattle.iri_rules.specs.Domain.{is_domain, is_domain_byte}
-use Rattle.iri_rules.specs.Iri.{is_excluded, is_iri, is_absolute}
+use Rattle.text_rules.specs.Domain.{is_domain, is_domain_byte}
+use Rattle.text_rules.specs.Iri.{is_excluded, is_iri, is_absolute}
 
 abbrev is_allowed : ℕ → Bool
 is_allowed byte = not (is_excluded byte)

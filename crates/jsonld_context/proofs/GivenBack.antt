@@ -6,15 +6,15 @@ use Rattle.std.specs.List.Sorted.{IsStrictlySortedBy}
 use Rattle.std.specs.Option.{option_map, option_map_or, option_and_then, option_or, is_none}
 use Rattle.std.specs.Ordering.{is_lt}
 use Rattle.std.proofs.lemmas.Bool.{and_parts, and_from, not-true, not_from_false, both_ways}
-use Rattle.iri_rules.specs.Iri.{is_absolute}
-use Rattle.iri_rules.specs.References.{begins_authority}
-use Rattle.iri_rules.specs.Resolution.{is_empty, resolved}
+use Rattle.text_rules.specs.Iri.{is_absolute}
+use Rattle.text_rules.specs.References.{begins_authority}
+use Rattle.text_rules.specs.Resolution.{is_empty, resolved}
 use Rattle.rdf_terms.specs.Literal.{is_same}
 use Rattle.jsonld_context.specs.ShortForms.{rest_behind, if_passes, term_for, plain_key, plain_id, is_rest, compact_by, compact_key, compact_id, lesser, least_compact, key_form, id_form}
 use Rattle.jsonld_context.specs.Context.{ContextValue, IsContext, find_term, prefix_iri, prefix_of}
 use Rattle.jsonld_context.specs.Expanding.{expand_key, expand_id, key_without_term, key_meant, id_meant, absolute_or_fault, key_iri, id_iri}
 use Rattle.jsonld_context.specs.Prefixes.{prefix_at, expanded}
-use Rattle.jsonld_texts.specs.TextForms.{has_colon, before_colon, behind_colon, is_term_name, is_plain, plain_end}
+use Rattle.text_rules.specs.TextForms.{has_colon, before_colon, behind_colon, is_term_name, is_plain, plain_end}
 use Rattle.jsonld_context.specs.declared.definitions.Definition.{Definition}
 use Rattle.jsonld_context.specs.declared.faults.JsonFault.{JsonFault}
 use Rattle.jsonld_context.specs.declared.faults.JsonFault.TheVariants as faults

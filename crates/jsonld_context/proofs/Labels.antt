@@ -6,11 +6,11 @@ use Rattle.std.specs.Ordering.{is_lt, ordering_reverse, ordering_then}
 use Rattle.std.proofs.lemmas.Bool.{or_parts}
 use Rattle.std.proofs.lemmas.Cmp.{nat_list_cmp_total}
 use Rattle.std.proofs.lemmas.Map.Lookups.{exact_unsigned}
-use Rattle.iri_rules.specs.References.{is_colon}
+use Rattle.text_rules.specs.References.{is_colon}
 use Rattle.rdf_terms.specs.Literal.{is_same}
 use Rattle.jsonld_context.specs.FormsFound.{label_for, least_label}
 use Rattle.jsonld_context.specs.ShortForms.{lesser, least_with}
-use Rattle.jsonld_texts.specs.TextForms.{has_colon, is_term_name}
+use Rattle.text_rules.specs.TextForms.{has_colon, is_term_name}
 use Rattle.jsonld_context.specs.declared.definitions.Definition.{Definition}
 use Rattle.jsonld_context.proofs.LeastTexts.{least_first}
 use Rattle.jsonld_context.proofs.TermNames.{AreTerms}

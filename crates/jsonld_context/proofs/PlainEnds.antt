@@ -6,17 +6,17 @@ use Rattle.std.proofs.lemmas.List.Sums.{AllPass-from_list_all, suffix_len_is}
 use Rattle.std.proofs.lemmas.Bool.{and_parts, and_from, or_parts, or_from}
 use Rattle.std.proofs.lemmas.Bool.Decides.{nat_tests}
 use Rattle.std.proofs.Math.Seq.{drop-append-add, get_or-append_seam}
-use Rattle.iri_rules.proofs.Slashes.{directory-append, directory-none, no_colon}
+use Rattle.text_rules.proofs.Slashes.{directory-append, directory-none, no_colon}
 use Rattle.std.specs.Option.{option_map}
 use Rattle.std.proofs.lemmas.List.{take_all}
-use Rattle.iri_rules.specs.Iri.{has_scheme}
-use Rattle.iri_rules.specs.Dots.{segments, is_dot, is_two_dots, is_dots, without_front, keep, keep_all, kept_text, remove_dot_segments}
-use Rattle.iri_rules.specs.References.{Parts, is_slash, is_colon, is_hash, is_question_mark, split, scheme_of, authority_of, path_of, behind_scheme, begins_authority, recomposed, behind as found_behind, delimited as delimited_by}
-use Rattle.iri_rules.specs.Resolution.{is_empty, directory, merged, transformed, resolved}
+use Rattle.text_rules.specs.Iri.{has_scheme}
+use Rattle.text_rules.specs.Dots.{segments, is_dot, is_two_dots, is_dots, without_front, keep, keep_all, kept_text, remove_dot_segments}
+use Rattle.text_rules.specs.References.{Parts, is_slash, is_colon, is_hash, is_question_mark, split, scheme_of, authority_of, path_of, behind_scheme, begins_authority, recomposed, behind as found_behind, delimited as delimited_by}
+use Rattle.text_rules.specs.Resolution.{is_empty, directory, merged, transformed, resolved}
 use Rattle.rdf_terms.specs.Literal.{is_same}
 use Rattle.jsonld_context.proofs.TextLaws.{itself}
 use Rattle.jsonld_context.specs.ShortForms.{if_passes, plain_id}
-use Rattle.jsonld_texts.specs.TextForms.{is_plain_letter, is_plain, plain_end}
+use Rattle.text_rules.specs.TextForms.{is_plain_letter, is_plain, plain_end}
 
 -- ---- plain ends
 

@@ -6,14 +6,14 @@ use Rattle.std.specs.List.Sorted.{IsStrictlySortedBy}
 use Rattle.std.specs.Map.{keys_of}
 use Rattle.std.specs.Option.{option_map_or, is_some}
 use Rattle.std.specs.String.{string_cmp}
-use Rattle.iri_rules.specs.Iri.{is_absolute}
+use Rattle.text_rules.specs.Iri.{is_absolute}
 use Rattle.serde_json.specs.Data.{Data, null, boolean, number, string, array, object, Members, no_members, member}
 use Rattle.serde_json.specs.View.{view, members_view}
 use Rattle.serde_json.proofs.Views.{Entry}
 use Rattle.jsonld_context.specs.ContextReading.{is_base_key, is_vocabulary_key, prefix_among, meant, definition, definitions, first_fault, fault_of_iri, fault_of_string, fault_of_value, fault_of_member}
 use Rattle.jsonld_context.specs.FormsFound.{IsDelimited}
 use Rattle.jsonld_context.specs.Prefixes.{prefix_at}
-use Rattle.jsonld_texts.specs.TextForms.{has_colon, behind_colon, ends_in_delimiter, is_term_name}
+use Rattle.text_rules.specs.TextForms.{has_colon, behind_colon, ends_in_delimiter, is_term_name}
 use Rattle.jsonld_context.specs.declared.definitions.Definition.{Definition}
 use Rattle.jsonld_context.specs.declared.faults.JsonFault.{JsonFault}
 use Rattle.jsonld_context.specs.declared.faults.JsonFault.TheVariants as faults

@@ -8,13 +8,13 @@ use Rattle.std.proofs.lemmas.Bool.{and_parts, or_parts, or_from, or_right, not-t
 use Rattle.std.proofs.lemmas.Bool.Decides.{Decides-eqb, nat_tests}
 use Rattle.std.proofs.lemmas.Map.Text.{is_eq-slice_cmp}
 use Rattle.std.proofs.lemmas.Slice.Eq.{slice_eq-Decides, starts_is}
-use Rattle.iri_rules.specs.Iri.{has_scheme, ends_scheme, is_letter, is_scheme_byte, is_excluded, is_iri, is_absolute, iri_limit}
-use Rattle.iri_rules.specs.References.{is_colon, is_slash}
-use Rattle.iri_rules.specs.Resolution.{is_empty}
+use Rattle.text_rules.specs.Iri.{has_scheme, ends_scheme, is_letter, is_scheme_byte, is_excluded, is_iri, is_absolute, iri_limit}
+use Rattle.text_rules.specs.References.{is_colon, is_slash}
+use Rattle.text_rules.specs.Resolution.{is_empty}
 use Rattle.rdf_terms.specs.Literal.{is_same}
 use Rattle.std.specs.List.{list_any}
 use Rattle.jsonld_context.specs.ShortForms.{rest_behind}
-use Rattle.jsonld_texts.specs.TextForms.{has_colon, before_colon, behind_colon, begins_as_keyword, is_variable, is_term_name, is_plain_letter, is_plain}
+use Rattle.text_rules.specs.TextForms.{has_colon, before_colon, behind_colon, begins_as_keyword, is_variable, is_term_name, is_plain_letter, is_plain}
 
 -- two texts that are the same are equal
 pub same : (text other : List ℕ) → is_same text other ≡ true → text ≡ other

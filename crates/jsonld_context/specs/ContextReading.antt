@@ -3,13 +3,13 @@
 -- the byte order of their keys.
 use Rattle.std.specs.Prelude.{ℕ, List, [], ◌∷◌, ◌++◌, Bool, false, ◌&&◌, ◌||◌, not, Option, Some, None, Result, Ok, Err, codes, if◌then◌else◌}
 use Rattle.std.specs.Option.{option_map, option_map_or, option_and_then, option_or, is_some, unwrap_or}
-use Rattle.iri_rules.specs.Iri.{is_absolute}
+use Rattle.text_rules.specs.Iri.{is_absolute}
 use Rattle.rdf_terms.specs.Literal.{is_same, rdf_lang_string}
 use Rattle.serde_json.specs.Data.{Data, string, object, Members, no_members, member}
 use Rattle.serde_json.specs.Find.{as_str, get_member}
 use Rattle.jsonld_context.specs.Context.{ContextValue}
 use Rattle.jsonld_context.specs.Prefixes.{prefix_at, expanded}
-use Rattle.jsonld_texts.specs.TextForms.{has_colon, ends_in_delimiter, is_term_name}
+use Rattle.text_rules.specs.TextForms.{has_colon, ends_in_delimiter, is_term_name}
 use Rattle.jsonld_context.specs.declared.definitions.Definition.{Definition}
 use Rattle.jsonld_context.specs.declared.definitions.TermType.{TermType}
 use Rattle.jsonld_context.specs.declared.definitions.TermType.TheVariants as types

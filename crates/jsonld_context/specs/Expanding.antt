@@ -1,11 +1,11 @@
 -- What keys and ids stand for (JSON-LD 1.1 API section 5.2, IRI Expansion; JSON-LD 1.1 sections 4.1.2, 4.1.3 and 4.1.5).
 use Rattle.std.specs.Prelude.{ℕ, List, ◌++◌, Result, Ok, Err, if◌then◌else◌}
 use Rattle.std.specs.Option.{option_map_or}
-use Rattle.iri_rules.specs.Iri.{is_absolute}
-use Rattle.iri_rules.specs.Resolution.{resolved}
+use Rattle.text_rules.specs.Iri.{is_absolute}
+use Rattle.text_rules.specs.Resolution.{resolved}
 use Rattle.jsonld_context.specs.Context.{ContextValue, find_term, prefix_of}
 use Rattle.jsonld_context.specs.Prefixes.{expanded}
-use Rattle.jsonld_texts.specs.TextForms.{has_colon}
+use Rattle.text_rules.specs.TextForms.{has_colon}
 use Rattle.jsonld_context.specs.declared.definitions.Definition.{Definition}
 use Rattle.jsonld_context.specs.declared.faults.JsonFault.{JsonFault}
 use Rattle.jsonld_context.specs.declared.faults.JsonFault.TheVariants as faults

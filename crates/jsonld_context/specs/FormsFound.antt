@@ -8,7 +8,7 @@ use Rattle.std.specs.Ordering.{nat_cmp, is_lt}
 use Rattle.rdf_terms.specs.Literal.{is_same}
 use Rattle.jsonld_context.specs.Context.{ContextValue, IsContext}
 use Rattle.jsonld_context.specs.ShortForms.{term_for, is_rest, lesser, least_with, least_compact}
-use Rattle.jsonld_texts.specs.TextForms.{ends_in_delimiter}
+use Rattle.text_rules.specs.TextForms.{ends_in_delimiter}
 use Rattle.jsonld_context.specs.declared.by_iri.FormsByIri.{FormsByIri}
 use Rattle.jsonld_context.specs.declared.definitions.Definition.{Definition}
 

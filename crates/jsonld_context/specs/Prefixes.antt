@@ -2,8 +2,8 @@
 -- (JSON-LD 1.1 section 4.1.5; JSON-LD 1.1 API section 5.2, IRI Expansion).
 use Rattle.std.specs.Prelude.{ℕ, List, ◌++◌, ◌&&◌, not, Option, None, if◌then◌else◌}
 use Rattle.std.specs.Option.{option_map_or}
-use Rattle.iri_rules.specs.References.{begins_authority}
-use Rattle.jsonld_texts.specs.TextForms.{has_colon, before_colon, behind_colon}
+use Rattle.text_rules.specs.References.{begins_authority}
+use Rattle.text_rules.specs.TextForms.{has_colon, before_colon, behind_colon}
 
 -- the IRI of the prefix that stands before a text's first `:`, where the text is a compact IRI; prefixes are looked up by name
 abbrev pub prefix_at : (List ℕ → Option (List ℕ)) → List ℕ → Option (List ℕ)

@@ -4,11 +4,11 @@ use Rattle.std.specs.Cmp.Lexicographic.{slice_cmp}
 use Rattle.std.specs.List.{starts_with, find, filter_map, reduce}
 use Rattle.std.specs.Option.{is_none, option_map, option_and_then, option_or, unwrap_or}
 use Rattle.std.specs.Ordering.{nat_cmp, is_lt}
-use Rattle.iri_rules.specs.References.{begins_authority}
-use Rattle.iri_rules.specs.Resolution.{is_empty, resolved}
+use Rattle.text_rules.specs.References.{begins_authority}
+use Rattle.text_rules.specs.Resolution.{is_empty, resolved}
 use Rattle.rdf_terms.specs.Literal.{is_same}
 use Rattle.jsonld_context.specs.Context.{ContextValue, find_term, prefix_iri}
-use Rattle.jsonld_texts.specs.TextForms.{is_plain, plain_end}
+use Rattle.text_rules.specs.TextForms.{is_plain, plain_end}
 use Rattle.jsonld_context.specs.declared.definitions.Definition.{Definition}
 
 -- what stands in a text behind a front

@@ -6,13 +6,13 @@ ghost use Rattle.std.specs.Option.{option_or, option_copied};
 ghost use Rattle.rdf_terms.specs.Literal.{is_same};
 ghost use Rattle.jsonld_context.specs.FormsFound.{AreFormsOf, IsDelimited, is_lesser, name_for, label_for};
 ghost use Rattle.jsonld_context.specs.ShortForms.{least_with};
-ghost use Rattle.jsonld_texts.specs.TextForms.{is_term_name};
+ghost use Rattle.text_rules.specs.TextForms.{is_term_name};
 
 use crate::definitions::Definition;
 use crate::prefixes::joined;
-use iri_rules::Text;
 use std::alloc::{AllocError, Global};
 use std::collections::BTreeMap;
+use text_rules::Text;
 
 /// Texts by an IRI.
 pub(crate) type TextsByIri = BTreeMap<String, Text>;

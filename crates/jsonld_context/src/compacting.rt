@@ -4,22 +4,21 @@ ghost use Rattle.std.specs.BTreeMap.{get_by_text};
 ghost use Rattle.std.specs.List.{starts_with};
 ghost use Rattle.std.specs.Option.{option_copied, option_map, unwrap_or};
 ghost use Rattle.std.specs.String.{string_bytes};
-ghost use Rattle.iri_rules.specs.Iri.{is_absolute};
-ghost use Rattle.iri_rules.specs.Resolution.{resolved};
+ghost use Rattle.text_rules.specs.Iri.{is_absolute};
+ghost use Rattle.text_rules.specs.Resolution.{resolved};
 ghost use Rattle.rdf_terms.specs.Literal.{is_same};
 ghost use Rattle.jsonld_context.specs.ShortForms.{plain_key, plain_id, rest_behind, lesser, least_with, key_form, id_form};
 ghost use Rattle.jsonld_context.specs.FormsFound.{AreFormsOf, compact_behind, least_behind};
 ghost use Rattle.jsonld_context.specs.Context.{AscendByName};
-ghost use Rattle.jsonld_texts.specs.TextForms.{ends_in_delimiter};
+ghost use Rattle.text_rules.specs.TextForms.{ends_in_delimiter};
 ghost use Rattle.jsonld_context.specs.declared.definitions.Definition.{Definition};
 
 use crate::by_iri::{FormsByIri, TextsByIri};
 use crate::definitions::Definition;
 use crate::expanding::find_term;
 use crate::prefixes::joined;
-use iri_rules::{IriFault, Text, resolve};
-use jsonld_texts::{begins_authority, is_delimiter, is_plain, plain_end};
 use std::alloc::{AllocError, Global};
+use text_rules::{IriFault, Text, begins_authority, is_delimiter, is_plain, plain_end, resolve};
 
 /// The plain text behind the vocabulary, which is no term.
 fn plain_key<'a>(vocabulary: &str, terms: &[Definition], iri: &'a str) -> Option<&'a str>

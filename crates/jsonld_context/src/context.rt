@@ -1,8 +1,8 @@
 //! Contexts.
 ghost use Rattle.std.specs.Prelude.{◌≡◌, Ok, Some, false, codes, IsTrue, IfOk, IfErr};
 ghost use Rattle.std.specs.Option.{option_copied, is_some};
-ghost use Rattle.iri_rules.specs.Domain.{is_domain};
-ghost use Rattle.iri_rules.specs.Iri.{is_absolute};
+ghost use Rattle.text_rules.specs.Domain.{is_domain};
+ghost use Rattle.text_rules.specs.Iri.{is_absolute};
 ghost use Rattle.serde_json.specs.Data.{object};
 ghost use Rattle.serde_json.specs.Find.{get_member};
 ghost use Rattle.serde_json.specs.View.{view, members_view};
@@ -17,11 +17,11 @@ use crate::by_iri::{FormsByIri, forms_of};
 use crate::definitions::{Definition, TermType, share_all};
 use crate::faults::JsonFault;
 use crate::{compacting, expanding, reading};
-use iri_rules::Text;
 use rdf_terms::Iri;
 use serde_json::{Map, Value};
 use std::alloc::{AllocError, Global};
 use std::marker::Model;
+use text_rules::Text;
 
 /// How keys and ids are read: a base, a vocabulary and terms (JSON-LD 1.1, section 3.1).
 #[derive(Debug, Drop)]

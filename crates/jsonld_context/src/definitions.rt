@@ -4,9 +4,9 @@ ghost use Rattle.std.specs.Cmp.{partial_equiv_from_equiv};
 ghost use Rattle.jsonld_context.specs.ContextEquality.{same_type, same_type_equiv};
 
 use crate::datatypes::Datatype;
-use iri_rules::Text;
 use rdf_terms::Iri;
 use std::alloc::{AllocError, Global};
+use text_rules::Text;
 
 /// The type of a term's values (JSON-LD 1.1, section 4.2.3).
 #[derive(Debug, Drop)]

@@ -2,8 +2,8 @@
 ghost use Rattle.std.specs.Prelude.{◌≡◌, Ok, IsTrue, IfOk, IfErr};
 ghost use Rattle.std.specs.Option.{option_copied};
 ghost use Rattle.std.specs.String.{string_bytes};
-ghost use Rattle.iri_rules.specs.Iri.{is_absolute};
-ghost use Rattle.iri_rules.specs.Resolution.{resolved};
+ghost use Rattle.text_rules.specs.Iri.{is_absolute};
+ghost use Rattle.text_rules.specs.Resolution.{resolved};
 ghost use Rattle.jsonld_context.specs.Context.{AscendByName, find_term, prefix_of, type_of};
 ghost use Rattle.jsonld_context.specs.Expanding.{absolute_or_fault, key_without_term, key_iri, id_iri};
 ghost use Rattle.jsonld_context.specs.Prefixes.{expanded};
@@ -13,11 +13,10 @@ ghost use Rattle.jsonld_context.specs.declared.faults.JsonFault.TheVariants as f
 use crate::definitions::{Definition, TermType};
 use crate::faults::JsonFault;
 use crate::prefixes::{cut_prefix, joined};
-use iri_rules::{IriFault, Text, resolve};
-use jsonld_texts::has_colon;
 use rdf_terms::{Iri, TermFault};
 use std::alloc::{AllocError, Global};
 use std::cmp::Ordering;
+use text_rules::{IriFault, Text, has_colon, resolve};
 
 /// The term of a name, looked for by halves.
 pub(crate) fn find_term<'a>(terms: &'a [Definition], name: &str) -> Option<&'a Definition>

@@ -2,8 +2,8 @@
 ghost use Rattle.std.specs.Prelude.{◌≡◌};
 ghost use Rattle.jsonld_context.specs.declared.faults.JsonFault.TheVariants as faults;
 
-use iri_rules::Text;
 use std::alloc::AllocError;
+use text_rules::Text;
 use thiserror::Error;
 
 /// Why a JSON text isn't a context, a subject, a query or an update: the first fault in reading order. Within an object `@context` is

@@ -1,12 +1,12 @@
 //! Laws of contexts. They hold for all contexts and IRIs.
 ghost use Rattle.std.specs.Prelude.{◌≡◌, ◌↔◌, ℕ, List, None, Some, Ok, true, IsTrue};
-ghost use Rattle.iri_rules.specs.Iri.{is_absolute};
-ghost use Rattle.iri_rules.specs.Resolution.{resolved};
+ghost use Rattle.text_rules.specs.Iri.{is_absolute};
+ghost use Rattle.text_rules.specs.Resolution.{resolved};
 ghost use Rattle.jsonld_context.specs.ShortForms.{compact_key, compact_id, plain_id};
 ghost use Rattle.jsonld_context.specs.Context.{ContextValue, IsContext, prefix_of};
 ghost use Rattle.jsonld_context.specs.ContextEquality.{same_context};
 ghost use Rattle.jsonld_context.specs.Expanding.{expand_key, expand_id};
-ghost use Rattle.jsonld_texts.specs.TextForms.{before_colon, is_plain, plain_end};
+ghost use Rattle.text_rules.specs.TextForms.{before_colon, is_plain, plain_end};
 
 /// Expanding gives an IRI back that was compacted, as a key and as an id, wherever its scheme is no prefix of the context.
 pub fn expanding_gives_back()

@@ -2,11 +2,11 @@
 ghost use Rattle.std.specs.Prelude.{◌≡◌, ◌++◌, ◌&&◌, not, true, false, MatchOption, IfOk};
 ghost use Rattle.std.specs.Option.{option_copied, option_map_or};
 ghost use Rattle.std.specs.String.{string_bytes};
-ghost use Rattle.iri_rules.specs.References.{begins_authority};
-ghost use Rattle.jsonld_texts.specs.TextForms.{has_colon, before_colon, behind_colon};
+ghost use Rattle.text_rules.specs.References.{begins_authority};
+ghost use Rattle.text_rules.specs.TextForms.{has_colon, before_colon, behind_colon};
 
-use jsonld_texts::{begins_authority, cut_colon};
 use std::alloc::{AllocError, Global};
+use text_rules::{begins_authority, cut_colon};
 
 /// The parts of a text that may be a compact IRI: what stands before its first colon, and what behind it.
 pub(crate) fn cut_prefix(text: &str) -> Option<(&str, &str)>

@@ -4,9 +4,9 @@ use Rattle.std.specs.List.{AllByRecursion, find, filter_map, cons_option, list_a
 use Rattle.std.specs.Option.{option_and_then, is_none}
 use Rattle.std.proofs.lemmas.Bool.{and_parts, and_left, or_from, not-true, false_from_ne_true, both_ways}
 use Rattle.std.proofs.lemmas.Bool.Decides.{nat_tests}
-use Rattle.iri_rules.specs.Iri.{is_letter, has_scheme, ends_scheme, is_excluded, is_iri, is_absolute, iri_limit}
-use Rattle.iri_rules.specs.References.{is_colon, is_slash}
-use Rattle.iri_rules.specs.Resolution.{is_empty, resolved}
+use Rattle.text_rules.specs.Iri.{is_letter, has_scheme, ends_scheme, is_excluded, is_iri, is_absolute, iri_limit}
+use Rattle.text_rules.specs.References.{is_colon, is_slash}
+use Rattle.text_rules.specs.Resolution.{is_empty, resolved}
 use Rattle.rdf_terms.specs.Literal.{is_same}
 use Rattle.jsonld_context.specs.ShortForms.{rest_behind, if_passes, term_for, plain_key, plain_id, is_rest, compact_by, compact_key, compact_id, least_compact, key_form, id_form}
 use Rattle.jsonld_context.specs.Context.{ContextValue, IsContext, find_term, prefix_iri, type_of}

@@ -6,7 +6,7 @@ use Rattle.std.specs.Str.{str_to_ascii_lowercase}
 use Rattle.std.proofs.lemmas.Bool.{not-true}
 use Rattle.jrql_ast.specs.declared.patterns.Slot.{Slot}
 use Rattle.jrql_ast.specs.declared.patterns.Slot.TheVariants as slots
-use Rattle.term_texts.specs.Tags.{is_language_tag}
+use Rattle.text_rules.specs.Tags.{is_language_tag}
 use Rattle.rdf_terms.specs.Literal.{LiteralValue, Typed, Tagged, xsd_string, rdf_lang_string, is_same, lexical_limit}
 use Rattle.rdf_terms.specs.declared.terms.Term.{Term}
 use Rattle.rdf_terms.specs.declared.terms.Term.TheVariants as terms

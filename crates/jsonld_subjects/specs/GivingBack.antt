@@ -1,6 +1,6 @@
 -- A subject that was written and is read again under the same context.
 use Rattle.std.specs.Prelude.{◌≡◌, ℕ, List, IsPermutation, None, Ok, IsTrue, map}
-use Rattle.iri_rules.specs.Iri.{is_absolute}
+use Rattle.text_rules.specs.Iri.{is_absolute}
 use Rattle.jrql_ast.specs.declared.answers.Described.{Described}
 use Rattle.jrql_ast.specs.declared.patterns.PatternTriple.{PatternTriple}
 use Rattle.jrql_ast.specs.declared.patterns.Slot.TheVariants as slots

@@ -1,6 +1,6 @@
 //! What a subject is: its id and its types (JSON-LD 1.1, sections 3.3 and 3.5).
 ghost use Rattle.std.specs.Prelude.{◌≡◌, Ok, IfOk, IfErr, IsTrue};
-ghost use Rattle.iri_rules.specs.Iri.{is_absolute};
+ghost use Rattle.text_rules.specs.Iri.{is_absolute};
 ghost use Rattle.serde_json.specs.View.{view, items_view};
 ghost use Rattle.jsonld_context.specs.Expanding.{expand_id};
 ghost use Rattle.jsonld_context.specs.Telling.{IsToldBy};

@@ -8,7 +8,6 @@ ghost use Rattle.jsonld_subjects.specs.SubjectReading.{rdf_type};
 ghost use Rattle.jsonld_subjects.specs.SubjectWriting.{key_of, keyed_of, keyed_cmp, data_under};
 
 use crate::ids::RDF_TYPE;
-use iri_rules::Text;
 use jsonld_context::Context;
 use jsonld_values::write_term;
 use rdf_terms::{Iri, Term, Triple, cmp_terms};
@@ -16,6 +15,7 @@ use serde_json::Value;
 use std::alloc::{AllocError, Global};
 use std::cmp::Ordering;
 use std::marker::Model;
+use text_rules::Text;
 
 /// The key of types.
 const TYPE_KEY: &str = "@type";

@@ -1,8 +1,8 @@
 -- What the parts of a value object say, once they are without a fault.
 use Rattle.std.proofs.Common.{◌≡◌, ℕ, ◌≤◌, List, Bool, true, false, ◌||◌, not, cond, nat_le, IsTrue, length, codes, Option, None, Some, Result, Ok, Err, refl, sym, ap, subst, ◌∙◌, true≢false, leb-true}
 use Rattle.std.proofs.lemmas.Slice.Eq.{bytes_eq-Decides}
-use Rattle.iri_rules.specs.Iri.{is_absolute}
-use Rattle.term_texts.specs.Tags.{is_language_tag}
+use Rattle.text_rules.specs.Iri.{is_absolute}
+use Rattle.text_rules.specs.Tags.{is_language_tag}
 use Rattle.rdf_terms.specs.Literal.{is_same, rdf_lang_string, lexical_limit}
 use Rattle.serde_json.specs.Data.{Data, string, Members}
 use Rattle.serde_json.specs.Find.{get_member}

@@ -4,7 +4,7 @@ use Rattle.std.specs.Prelude.{ℕ, List, [], Bool, ◌||◌, nat_le, length, Opt
 use Rattle.std.specs.Option.{option_map_or, is_some, unwrap_or}
 use Rattle.std.specs.Str.{str_to_ascii_lowercase}
 use Rattle.jrql_ast.specs.declared.patterns.Slot.{Slot}
-use Rattle.term_texts.specs.Tags.{is_language_tag}
+use Rattle.text_rules.specs.Tags.{is_language_tag}
 use Rattle.rdf_terms.specs.Literal.{LiteralValue, Typed, Tagged, xsd_string, rdf_lang_string, is_same, lexical_limit}
 use Rattle.serde_json.specs.Data.{Data, null, boolean, number, string, Num, Members}
 use Rattle.serde_json.specs.Find.{get_member, is_float}

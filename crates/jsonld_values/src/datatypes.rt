@@ -1,7 +1,7 @@
 //! The datatypes of literals that are made from JSON, and the literals (XML Schema Part 2; JSON-LD 1.1 API, section 8.2.2).
 ghost use Rattle.std.specs.Prelude.{◌≡◌, ◌≤◌, length, not, IsTrue, IfOk};
 ghost use Rattle.std.specs.Option.{option_copied};
-ghost use Rattle.iri_rules.specs.Iri.{is_absolute};
+ghost use Rattle.text_rules.specs.Iri.{is_absolute};
 ghost use Rattle.rdf_terms.specs.Literal.{Typed, is_same, rdf_lang_string, xsd_string, lexical_limit};
 ghost use Rattle.jsonld_values.specs.Literals.{IsDatatype, datatype_under, xsd_boolean, xsd_double};
 ghost use Rattle.jrql_ast.specs.FilterMeaning.{xsd_integer};

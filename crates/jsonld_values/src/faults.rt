@@ -3,9 +3,9 @@ ghost use Rattle.std.specs.Prelude.{Some};
 ghost use Rattle.jsonld_context.specs.Telling.{IsFaultOf};
 ghost use Rattle.jsonld_context.specs.declared.faults.JsonFault.TheVariants as faults;
 
-use iri_rules::Text;
 use jsonld_context::JsonFault;
 use std::alloc::Global;
+use text_rules::Text;
 
 /// The fault of a subject that breaks a rule at a key; or want of memory.
 pub fn bad_subject(alloc: Global, key: &str) -> JsonFault

@@ -10,11 +10,11 @@ ghost use Rattle.jsonld_values.specs.VariableNames.{no_names, meet_variable, mee
 
 use crate::faults::bad_query;
 use indexmap::IndexSet;
-use iri_rules::Text;
 use jrql_ast::{Slot, VARIABLE_LIMIT};
 use jsonld_context::JsonFault;
 use std::alloc::{AllocError, Global};
 use std::marker::Model;
+use text_rules::Text;
 
 /// The place of a name among others.
 fn place_of(named: &IndexSet<String>, name: &str) -> Option<usize>

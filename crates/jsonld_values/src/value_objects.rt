@@ -1,7 +1,7 @@
 //! Value objects (JSON-LD 1.1, section 9.5).
 ghost use Rattle.std.specs.Prelude.{◌≡◌, ◌≢◌, ◌≤◌, length, not, codes, None, Some, Ok, IfOk, IfErr, IsTrue};
 ghost use Rattle.std.specs.Str.{str_to_ascii_lowercase};
-ghost use Rattle.term_texts.specs.Tags.{is_language_tag};
+ghost use Rattle.text_rules.specs.Tags.{is_language_tag};
 ghost use Rattle.rdf_terms.specs.Literal.{Tagged, is_same, lexical_limit, rdf_lang_string};
 ghost use Rattle.serde_json.specs.Data.{number};
 ghost use Rattle.serde_json.specs.View.{view, members_view, number_view};
@@ -24,7 +24,7 @@ use jsonld_context::{Context, JsonFault, is_type_key, is_variable, member_at, st
 use rdf_terms::{Iri, LEXICAL_LIMIT, Literal, Term, TermFault};
 use serde_json::{Map, Number, Value};
 use std::alloc::{AllocError, Global};
-use term_texts::is_language_tag;
+use text_rules::is_language_tag;
 
 /// The members of a JSON object.
 type Members = Map<String, Value>;

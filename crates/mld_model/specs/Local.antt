@@ -1,7 +1,7 @@
 -- One clone alone: what it has of its own, without the history, and its steps.
 -- The calls of a clone cite it, as `MldClone::genesis`, `MldClone::compact` and `Asker::receive`.
 use Rattle.std.specs.Prelude.{◌≡◌, ℕ, ◌+◌, ◌-◌, ◌<◌, ◌≤◌, List, [], ◌∷◌, ◌++◌, ◌⊎◌, IsTrue, length, take, drop}
-use Rattle.iri_rules.specs.Domain.{is_domain}
+use Rattle.text_rules.specs.Domain.{is_domain}
 use Rattle.rdf_terms.specs.Order.{iri_cmp}
 use Rattle.tree_clock.specs.Limits.{path_limit}
 use Rattle.tree_clock.specs.Path.{zero_letter, one_letter}

@@ -2,8 +2,8 @@
 //! keeps one clone in a folder, and serves it to clients and to other nodes over TCP.
 #![tactic(auto)]
 
-use node_program::run_process;
 use std::process::ExitCode;
+use tcp_node::run_process;
 
 fn main(rt: HostRuntime) -> ExitCode {
     ExitCode::from(run_process(&rt))

@@ -3,7 +3,7 @@ use Rattle.std.proofs.Common.{◌≡◌, ◌∙◌, ℕ, ◌+◌, ◌<◌, min, 
 use Rattle.std.proofs.Math.Seq.{drop-cons}
 use Rattle.std.proofs.lemmas.Bool.{cases_lt}
 use Rattle.std.proofs.lemmas.List.{append_assoc, take_all}
-use Rattle.world_summaries.specs.declared.summaries.CloneSummary.{CloneSummary}
+use Rattle.net_world.specs.declared.summaries.CloneSummary.{CloneSummary}
 use Rattle.mld_replay.specs.Counts.{clone_line, clone_lines}
 
 -- the line of a clone was put behind those before it, and those that are left follow it

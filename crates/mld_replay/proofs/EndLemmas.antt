@@ -9,7 +9,7 @@ use Rattle.mld_model.specs.World.{World}
 use Rattle.mld_model.specs.Sound.{IsSound}
 use Rattle.schedule_model.specs.Runs.{Stage, Running}
 use Rattle.world_commands.specs.WorldBanks.{BankedWorld, StandsOnBanks, AllBanksStandFor, KeepsNoneNow}
-use Rattle.world_summaries.specs.declared.summaries.Summary.{Summary}
+use Rattle.net_world.specs.declared.summaries.Summary.{Summary}
 use Rattle.mld_replay.specs.RunSummaries.{TellsOf}
 use Rattle.mld_replay.specs.Replaying.{EndsByFault}
 use Rattle.mld_replay.specs.Ran.{tells}

@@ -14,7 +14,7 @@ use Rattle.schedule_generator.proofs.GeneratedText.{generated_text, generated_sh
 use Rattle.mld_model.specs.World.{World}
 use Rattle.schedule_model.specs.Promises.{KeepsPromises}
 use Rattle.schedule_model.specs.Runs.{Stage, Running, Outcome, Finished, BadLine, Verdict}
-use Rattle.world_summaries.specs.declared.summaries.Summary.{Summary}
+use Rattle.net_world.specs.declared.summaries.Summary.{Summary}
 use Rattle.mld_replay.specs.BankFaults.{ComeBackWell, all_left, ReturnsBanks}
 use Rattle.mld_replay.specs.Counts.{counts_text}
 use Rattle.mld_replay.specs.Filled.{IsFirstFilled, EndsBefore, LogsStay, RefusesFilledBanks}

@@ -11,9 +11,9 @@ use Rattle.std.proofs.lemmas.List.{append_assoc}
 use Rattle.std.proofs.lemmas.List.Elements.{All-head, All-tail}
 use Rattle.std.proofs.lemmas.Str.{IsUtf8-from_ascii, IsAscii-append}
 use Rattle.std.proofs.lemmas.Str.Ascii.{IsAscii-nil, IsAscii-cons}
-use Rattle.iri_rules.specs.Iri.{is_excluded, is_iri, is_absolute, iri_limit}
-use Rattle.iri_rules.specs.Domain.{is_domain}
-use Rattle.term_texts.specs.Escaped.{escaped, escaped_byte}
+use Rattle.text_rules.specs.Iri.{is_excluded, is_iri, is_absolute, iri_limit}
+use Rattle.text_rules.specs.Domain.{is_domain}
+use Rattle.text_rules.specs.Escaped.{escaped, escaped_byte}
 use Rattle.rdf_terms.specs.declared.terms.Term.TheVariants as terms
 use Rattle.rdf_terms.specs.declared.terms.Triple.{Triple}
 use Rattle.rdf_terms.specs.Literal.{Typed, xsd_string}

@@ -1,7 +1,7 @@
 -- The counts of a generated schedule, and their text: the functions of `src/counts.rt`, `write_counts` and the words of `run_generated` cite these.
 use Rattle.std.specs.Prelude.{ℕ, ◌+◌, List, [], ◌∷◌, ◌++◌, length, take, codes}
 use Rattle.std.specs.Fmt.{decimal}
-use Rattle.world_summaries.specs.declared.summaries.CloneSummary.{CloneSummary}
+use Rattle.net_world.specs.declared.summaries.CloneSummary.{CloneSummary}
 
 -- how many dots a clock has: as many of each path as it has ticks
 abbrev pub count_of_dots : List (List ℕ × ℕ) → ℕ

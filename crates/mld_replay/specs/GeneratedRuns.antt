@@ -8,7 +8,7 @@ use Rattle.mld_model.specs.World.{World}
 use Rattle.schedule_model.specs.Runs.{Stage, Running, Finished, Verdict}
 use Rattle.schedule_model.specs.Promises.{KeepsPromises}
 use Rattle.schedule_generator.specs.Generated.{generated, text_of}
-use Rattle.world_summaries.specs.declared.summaries.Summary.{Summary}
+use Rattle.net_world.specs.declared.summaries.Summary.{Summary}
 use Rattle.mld_replay.specs.Counts.{counts_text}
 use Rattle.mld_replay.specs.Ran.{IsReplay, Saying, ReplayEnds}
 use Rattle.mld_replay.specs.RunSummaries.{TellsOf}

@@ -1,8 +1,8 @@
 -- What a run tells of the world that it ends with: `says_of` says it for `run`, and `end_of` and `summary_of` cite it.
 use Rattle.std.specs.Prelude.{Option, None, Some}
 use Rattle.schedule_model.specs.Runs.{Stage, Waiting, SetUp, Running}
-use Rattle.world_summaries.specs.declared.summaries.Summary.{Summary}
-use Rattle.world_summaries.specs.WorldSummary.{TellsOfClones}
+use Rattle.net_world.specs.declared.summaries.Summary.{Summary}
+use Rattle.net_world.specs.WorldSummary.{TellsOfClones}
 
 -- what is told of the stage that a schedule leads to: nothing while no clone is founded, and then each clone of the world
 abbrev pub TellsOf : Option Summary → Stage → Type 0

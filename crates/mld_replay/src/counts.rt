@@ -2,9 +2,9 @@
 ghost use Rattle.std.specs.Prelude.{◌≡◌, ◌++◌, ◌≤◌, ◌*◌, ◌^◌, length, IfOk, OnOk};
 ghost use Rattle.mld_replay.specs.Counts.{count_of_dots, clone_line, clone_lines, counts_text};
 
+use net_world::CloneSummary;
 use std::alloc::{AllocError, Global};
 use tree_clock::Path;
-use world_summaries::CloneSummary;
 
 /// How many clones a generated schedule founds.
 const CLONES: usize = 4;

@@ -11,9 +11,8 @@ ghost use Rattle.mld_replay.specs.KeptBanks.{AllKeepNone, BanksKeep};
 use crate::stages::Stage;
 use journal_store::Blank;
 use mld_io::{Banks, CrashBanks};
-use net_world::World;
+use net_world::{Summary, World};
 use std::alloc::{AllocError, Global};
-use world_summaries::Summary;
 
 /// What is left of a schedule that ended.
 #[derive(Drop)]

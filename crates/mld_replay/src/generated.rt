@@ -17,10 +17,10 @@ use crate::counts::counts_text;
 use crate::edges::{NoSink, TextSource};
 use crate::run::{Ran, RunFault, end_run, run_replay};
 use mld_io::{CrashBanks, Sink, write_all};
+use net_world::CloneSummary;
 use schedule_generator::{generate, text_of};
 use std::alloc::{AllocError, Global};
 use std::thread::Threads;
-use world_summaries::CloneSummary;
 
 /// Runs the schedule of a seed, which has so many commands, and writes its counts once its last line is done.
 pub fn run_generated<R: Threads, K: Sink, B: CrashBanks>(

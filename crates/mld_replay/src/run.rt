@@ -26,11 +26,11 @@ use crate::stops::LineStop;
 use crate::words::{Words, read_words};
 use input_lines::{INPUT_LIMIT, InputFault, LINE_LIMIT, next_line};
 use mld_io::{Banks, CrashBanks, Lines, Sink, Source, WriteFault, write_all};
+use net_world::Summary;
 use std::alloc::{AllocError, Global};
 use std::fmt;
 use std::thread::Threads;
 use thiserror::Error;
-use world_summaries::Summary;
 
 /// Why a run ended before its input did.
 #[derive(Clone, Copy, Debug, PartialEq, Eq, Error)]

@@ -3,8 +3,8 @@
 #![tactic(auto)]
 
 use mld_io::{FileBanks, StdSink, StdSource};
+use shell_run::read_folder;
 use shell_run::run::shell;
-use shell_words::read_folder;
 use std::alloc::{Alloc, AllocError, Global};
 use std::env::{self, Env};
 use std::fs::{File, Files};

@@ -23,7 +23,7 @@ use Rattle.schedule_model.specs.Crashing.{IsArmed, IsUp, opening_calls}
 use Rattle.schedule_model.specs.Tasks.{command_of, number_of_task, IsToOpen}
 use Rattle.schedule_model.specs.declared.CrashTask.{CrashTask}
 use Rattle.schedule_model.specs.declared.CrashTask.TheVariants as tasks
-use Rattle.clone_banks.specs.KeptSteps.{KeptStep, Created, calls_of_all, ReadsCaught, LeavesSome}
+use Rattle.clone_parts.specs.KeptSteps.{KeptStep, Created, calls_of_all, ReadsCaught, LeavesSome}
 use Rattle.clone_core.specs.Banked.{head_of, kept_as}
 use Rattle.clone_core.specs.Opening.{mount_calls}
 use Rattle.crash_laws.specs.CarriedSteps.{owner_at, StandsRead, IsUpTo}

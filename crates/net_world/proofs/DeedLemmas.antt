@@ -23,8 +23,8 @@ use Rattle.schedule_model.specs.declared.CrashTask.{CrashTask}
 use Rattle.schedule_model.specs.declared.CrashTask.TheVariants as tasks
 use Rattle.schedule_model.proofs.FollowsLaws.{SentAs, sent_as}
 use Rattle.schedule_model.proofs.WorldLaws.{no_message}
-use Rattle.clone_answers.specs.declared.answers.Done.TheVariants as done
-use Rattle.clone_banks.specs.KeptSteps.{KeptStep, Created, Appended}
+use Rattle.clone_parts.specs.declared.answers.Done.TheVariants as done
+use Rattle.clone_parts.specs.KeptSteps.{KeptStep, Created, Appended}
 use Rattle.clone_core.specs.Banked.{head_of, kept_as}
 use Rattle.clone_core.specs.DurableCalls.{AppendsPlanned}
 use Rattle.clone_core.specs.Joining.{GivesNone}

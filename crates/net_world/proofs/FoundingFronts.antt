@@ -30,10 +30,10 @@ use Rattle.mld_model.proofs.FoundingLaws.{founding_leads}
 use Rattle.mld_model.proofs.StandsForLaws.{live_at, absent_at}
 use Rattle.schedule_model.specs.Schedule.{Setup, KeepsEachOnce}
 use Rattle.schedule_model.proofs.WorldLaws.{founded_stands}
-use Rattle.clone_banks.specs.KeptSteps.{KeptStep, Created, Forked, ReadsSome, LeavesMade}
+use Rattle.clone_parts.specs.KeptSteps.{KeptStep, Created, Forked, ReadsSome, LeavesMade}
 use Rattle.clone_core.specs.Banked.{BankedAsker, BankedClone, head_of, kept_as}
-use Rattle.clone_answers.specs.declared.faults.ReceiveFault.{ReceiveFault}
-use Rattle.clone_answers.specs.declared.faults.ReceiveFault.TheVariants as receive
+use Rattle.clone_parts.specs.declared.faults.ReceiveFault.{ReceiveFault}
+use Rattle.clone_parts.specs.declared.faults.ReceiveFault.TheVariants as receive
 use Rattle.clone_core.specs.CloneClosing.{StaysOpen}
 use Rattle.clone_core.specs.DurableCalls.{LeavesFronts, MessageSteps}
 use Rattle.clone_core.specs.Joining.{IsGiveFor}

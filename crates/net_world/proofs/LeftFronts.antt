@@ -19,7 +19,7 @@ use Rattle.schedule_model.specs.Tasks.{command_of, command_done, number_of_task}
 use Rattle.schedule_model.specs.declared.Command.{Command}
 use Rattle.schedule_model.specs.declared.CrashTask.{CrashTask}
 use Rattle.schedule_replies.specs.declared.replies.Reply.{Reply}
-use Rattle.clone_banks.specs.KeptSteps.{KeptStep, Created, ReadsSome, LeavesSome}
+use Rattle.clone_parts.specs.KeptSteps.{KeptStep, Created, ReadsSome, LeavesSome}
 use Rattle.clone_core.specs.Banked.{head_of, kept_as}
 use Rattle.crash_laws.specs.CarriedSteps.{owner_at}
 use Rattle.crash_laws.specs.Deeds.{CarriedDeed}

@@ -11,3 +11,5 @@ pub mod LeftFronts
 pub mod SettledBanks
 pub mod FoundingFronts
 pub mod SettledSteps
+pub mod SummaryLaws
+pub mod SummaryLemmas

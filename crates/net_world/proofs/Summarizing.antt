@@ -2,10 +2,10 @@
 use Rattle.std.proofs.Common.{◌≡◌, ◌<◌, ◌+◌, ℕ, List, [], ◌∷◌, ◌++◌, sym, ◌∙◌, ap, subst, length, map, get_or, take}
 use Rattle.std.proofs.lemmas.List.{map-append, take_more}
 use Rattle.mld_model.specs.StandsFor.{RunningClone}
-use Rattle.world_summaries.specs.declared.summaries.CloneSummary.{CloneSummary}
+use Rattle.net_world.specs.declared.summaries.CloneSummary.{CloneSummary}
 use Rattle.world_commands.specs.WorldBanks.{BankedState, in_memory}
-use Rattle.world_summaries.specs.WorldSummary.{Summarizes, SummarizesAll}
-use Rattle.world_summaries.proofs.SummaryLemmas.{summarizes_one}
+use Rattle.net_world.specs.WorldSummary.{Summarizes, SummarizesAll}
+use Rattle.net_world.proofs.SummaryLemmas.{summarizes_one}
 
 -- one more clone is told of
 pub summarizes_more : {B : Type 0} (clones : List (BankedState B)) (i : ℕ) (summaries more : List CloneSummary) (clone : BankedState B) (summary : CloneSummary)

@@ -12,7 +12,7 @@ use Rattle.mld_model.specs.World.{World, founded}
 use Rattle.mld_model.specs.declared.CloneState.TheVariants as states
 use Rattle.schedule_model.specs.Schedule.{Setup}
 use Rattle.schedule_model.specs.Runs.{IsFoundedBy}
-use Rattle.clone_banks.specs.KeptSteps.{Forked, LeavesMade}
+use Rattle.clone_parts.specs.KeptSteps.{Forked, LeavesMade}
 use Rattle.clone_core.specs.Banked.{BankedAsker, BankedClone, head_of}
 use Rattle.clone_core.specs.CloneClosing.{StaysOpen}
 use Rattle.clone_core.specs.DurableCalls.{LeavesFronts}

@@ -4,3 +4,4 @@ pub mod CrashedWorlds
 pub mod LeftBehind
 pub mod SettledWorlds
 pub mod Commands
+pub mod WorldSummary

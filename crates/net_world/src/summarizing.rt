@@ -1,13 +1,13 @@
 //! What a run tells of the world that it ends with: of each clone, by its state.
 ghost use Rattle.std.specs.Prelude.{map, IfOk};
 ghost use Rattle.world_commands.specs.WorldBanks.{in_memory};
-ghost use Rattle.world_summaries.specs.WorldSummary.{Summarizes, SummarizesAll};
+ghost use Rattle.net_world.specs.WorldSummary.{Summarizes, SummarizesAll};
 
+use crate::summaries::{CloneSummary, State, Summary, summary_of_live, summary_of_state};
 use mld_io::Banks;
 use mld_model::CloneState;
 use std::alloc::{AllocError, Global};
 use world_commands::RunningClone;
-use world_summaries::{CloneSummary, State, Summary, summary_of_live, summary_of_state};
 
 /// What there is to tell of the clones of a world.
 pub fn summarize<B: Banks>(alloc: Global, clones: &[RunningClone<B>]) -> Result<Summary, AllocError>

@@ -3,6 +3,7 @@
 use crate::commands::answer;
 use crate::founding::found_clones;
 use crate::settling::{ask_live, number_of};
+use crate::summaries::Summary;
 use crate::summarizing::summarize;
 use journal_store::Blank;
 use mld_io::{Banks, CrashBanks};
@@ -15,7 +16,6 @@ use std::marker::Model;
 use std::thread::Threads;
 use world_commands::stopping::stop_all;
 use world_commands::{Parts, WorldFault, copy_named};
-use world_summaries::Summary;
 
 /// A world that runs, each clone on banks of its own.
 #[derive(Drop)]
@@ -41,7 +41,7 @@ impl<B: CrashBanks> Model for World<B> {
 impl<B: CrashBanks> World<B> {
     ghost use Rattle.std.specs.Prelude.{◌≡◌, ◌+◌, ◌<◌, vec_len, IsTrue, IfOk, IfErr, OnOk, OnErr};
     ghost use Rattle.schedule_model.specs.WorldStep.{step_limit};
-    ghost use Rattle.iri_rules.specs.Domain.{is_domain};
+    ghost use Rattle.text_rules.specs.Domain.{is_domain};
     ghost use Rattle.mld_model.specs.World.{World as ModelWorld, clone_count};
     ghost use Rattle.world_commands.specs.WorldBanks.{StandsOnBanks, AllBanksStandFor, banks_of, MetersGoOn, HadNoFaults, RefusesFounding, HasFaultsFor, OthersStay, memory_of};
     ghost use Rattle.schedule_model.specs.Schedule.{IsSetup};
@@ -53,7 +53,7 @@ impl<B: CrashBanks> World<B> {
     ghost use Rattle.net_world.specs.LeftBehind.{LeavesBanks};
     ghost use Rattle.net_world.specs.SettledWorlds.{SettlesWorld, SettlesFounded};
     ghost use Rattle.world_commands.specs.Worlds.{IsStanding, Stepped};
-    ghost use Rattle.world_summaries.specs.WorldSummary.{Tells};
+    ghost use Rattle.net_world.specs.WorldSummary.{Tells};
 
     /// The founded world: the clones from 0 on are live, each with a leaf of its own, and the others are absent. Each has banks of its
     /// own, of which there are as many as clones; the banks of the live ones keep them from then on.

@@ -2,9 +2,9 @@
 use Rattle.std.proofs.Common.{◌≡◌, List, [], ◌∷◌, ◌++◌, Option, Some, refl, sym, ◌∙◌, ap, subst, append_assoc}
 use Rattle.mld_io.specs.Disk.{Log, Call, Sides, grown_by, AtEachMoment, LeavesMeanwhile}
 use Rattle.mld_io.proofs.DiskLaws.{AtEachMoment-weaken, LeavesMeanwhile-then}
-use Rattle.clone_banks.specs.KeptSteps.{KeptStep}
+use Rattle.clone_parts.specs.KeptSteps.{KeptStep}
 use Rattle.journal_store.specs.Closing.{StaysTold}
-use Rattle.shell_model.specs.Shells.{FoundOnBanks, found_after_step, found_after}
+use Rattle.shell_session.specs.Shells.{FoundOnBanks, found_after_step, found_after}
 use Rattle.shell_session.specs.SessionLines.{ImagesFind, FindsFront, LeavesFront}
 
 -- what comes of some durable steps and then of others

@@ -1,10 +1,10 @@
 -- Frames that are taken, one more, and those that are dropped.
 use Rattle.std.proofs.Common.{◌≡◌, ◌⊎◌, true, false, List, [], ◌∷◌, ◌++◌, Option, None, Some, refl, sym, ◌∙◌, ap, subst, inl, inr, append_assoc, append-nil}
 use Rattle.std.proofs.lemmas.Bool.{false≢true}
-use Rattle.clone_banks.specs.KeptSteps.{KeptStep}
+use Rattle.clone_parts.specs.KeptSteps.{KeptStep}
 use Rattle.wire_frames.specs.declared.kinds.Frame.{Frame}
-use Rattle.node_exchange.specs.declared.connections.Connection.{Connection}
-use Rattle.node_exchange.specs.Exchanges.{ExchangeValue}
+use Rattle.node_model.specs.declared.connections.Connection.{Connection}
+use Rattle.node_model.specs.Exchanges.{ExchangeValue}
 use Rattle.node_model.specs.Keepers.{Keeper}
 use Rattle.node_model.specs.FrameSteps.{FrameStep, FramesStep, no_more, are_dropped, and_then}
 

@@ -5,24 +5,24 @@ use Rattle.std.proofs.lemmas.Bool.Decides.{eqb_tells}
 use Rattle.mld_ops.specs.Messages.{MessageValue, CarriesWant, message_value}
 use Rattle.mld_ops.specs.declared.messages.Message.{Message}
 use Rattle.mld_model.specs.Local.{LocalClone}
-use Rattle.clone_answers.specs.declared.answers.Got.{Got}
-use Rattle.clone_answers.specs.declared.answers.Got.TheVariants as got
-use Rattle.clone_answers.specs.declared.faults.ReceiveFault.{ReceiveFault}
-use Rattle.clone_answers.specs.declared.faults.ReceiveFault.TheVariants as fault
-use Rattle.clone_banks.specs.KeptSteps.{KeptStep}
+use Rattle.clone_parts.specs.declared.answers.Got.{Got}
+use Rattle.clone_parts.specs.declared.answers.Got.TheVariants as got
+use Rattle.clone_parts.specs.declared.faults.ReceiveFault.{ReceiveFault}
+use Rattle.clone_parts.specs.declared.faults.ReceiveFault.TheVariants as fault
+use Rattle.clone_parts.specs.KeptSteps.{KeptStep}
 use Rattle.wire_frames.specs.declared.assembling.Assembled.TheVariants.{Waiting, Whole}
 use Rattle.wire_frames.specs.declared.kinds.Frame.{Frame}
 use Rattle.wire_frames.specs.declared.kinds.Frame.TheVariants as kinds
 use Rattle.wire_frames.specs.Frames.{FramesValue, frames_bytes}
 use Rattle.wire_frames.specs.MessageParts.{AssemblyValue, is_too_long, next_number, reply_parts}
-use Rattle.node_exchange.specs.declared.connections.Connection.{Connection}
-use Rattle.node_exchange.specs.declared.connections.Role.{Role}
-use Rattle.node_exchange.specs.declared.connections.Role.TheVariants as role
-use Rattle.node_exchange.specs.Connections.{AreNumbered, connection_of, without, connections_with, as_client, as_peer, is_peer}
-use Rattle.node_exchange.specs.Exchanges.{ExchangeValue, saying, refusing_at, refusing, telling_at, telling, telling_each, telling_peers, telling_peers_each, after_sending, left_of_peers, connections_left, holding, halting}
-use Rattle.node_exchange.specs.RefusalCodes.{bad_frame_code, deep_leaf_code, foreign_tick_code, misplaced_code, other_domain_code, other_format_code, own_id_code}
-use Rattle.node_requests.specs.declared.requests.Request.{Request}
-use Rattle.node_requests.specs.declared.requests.Request.TheVariants as requests
+use Rattle.node_model.specs.declared.connections.Connection.{Connection}
+use Rattle.node_model.specs.declared.connections.Role.{Role}
+use Rattle.node_model.specs.declared.connections.Role.TheVariants as role
+use Rattle.node_model.specs.Connections.{AreNumbered, connection_of, without, connections_with, as_client, as_peer, is_peer}
+use Rattle.node_model.specs.Exchanges.{ExchangeValue, saying, refusing_at, refusing, telling_at, telling, telling_each, telling_peers, telling_peers_each, after_sending, left_of_peers, connections_left, holding, halting}
+use Rattle.node_model.specs.RefusalCodes.{bad_frame_code, deep_leaf_code, foreign_tick_code, misplaced_code, other_domain_code, other_format_code, own_id_code}
+use Rattle.node_model.specs.declared.requests.Request.{Request}
+use Rattle.node_model.specs.declared.requests.Request.TheVariants as requests
 use Rattle.node_model.specs.Keepers.{Keeper, Lives, Asks, carried, question_of}
 use Rattle.node_model.specs.Requests.{AnswersRequest, TakesRequest}
 use Rattle.node_model.specs.NodeMessages.{Receives, AskerReceives, joins, ignores, sending_for}

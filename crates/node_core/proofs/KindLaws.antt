@@ -3,9 +3,9 @@ use Rattle.std.proofs.Common.{◌≡◌, ◌≢◌, ◌⊎◌, ℕ, Bool, true, 
 use Rattle.std.proofs.lemmas.Bool.{true≢false, false≢true}
 use Rattle.mld_io.specs.Disk.{Log}
 use Rattle.mld_ops.specs.declared.messages.Message.{Message}
-use Rattle.clone_banks.specs.KeptSteps.{KeptStep}
+use Rattle.clone_parts.specs.KeptSteps.{KeptStep}
 use Rattle.shell_session.specs.SessionLines.{LeavesFrontOfDue}
-use Rattle.shell_model.specs.Shells.{FoundOnBanks}
+use Rattle.shell_session.specs.Shells.{FoundOnBanks}
 use Rattle.wire_frames.specs.declared.assembling.Assembled.TheVariants.{Waiting, Whole}
 use Rattle.wire_frames.specs.declared.assembling.Assembled.{Assembled}
 use Rattle.wire_frames.specs.declared.faults.AssemblyFault.{AssemblyFault}
@@ -14,16 +14,16 @@ use Rattle.wire_frames.specs.declared.kinds.Frame.{Frame}
 use Rattle.wire_frames.specs.declared.kinds.Frame.TheVariants as kinds
 use Rattle.wire_frames.specs.Frames.{hello_format}
 use Rattle.wire_frames.specs.MessageParts.{AssemblyValue, Assembles}
-use Rattle.node_exchange.specs.declared.connections.Connection.{Connection}
-use Rattle.node_exchange.specs.declared.connections.Role.{Role}
-use Rattle.node_exchange.specs.declared.connections.Role.TheVariants as role
-use Rattle.node_exchange.specs.Connections.{as_peer, is_peer}
-use Rattle.node_exchange.specs.Exchanges.{ExchangeValue, refusing, telling, holding}
-use Rattle.node_exchange.specs.RefusalCodes.{bad_frame_code, misplaced_code}
-use Rattle.node_keeper.specs.NodeDeeds.{NodeDoesBy, AnswersOn, ReceivesOn, IsDueByRequest, IsDueByMessage}
-use Rattle.node_keeper.specs.NodeStates.{state_banks, keeper_of}
-use Rattle.node_keeper.specs.declared.faults.NodeFault.{NodeFault}
-use Rattle.node_keeper.specs.declared.states.NodeState.{NodeState}
+use Rattle.node_model.specs.declared.connections.Connection.{Connection}
+use Rattle.node_model.specs.declared.connections.Role.{Role}
+use Rattle.node_model.specs.declared.connections.Role.TheVariants as role
+use Rattle.node_model.specs.Connections.{as_peer, is_peer}
+use Rattle.node_model.specs.Exchanges.{ExchangeValue, refusing, telling, holding}
+use Rattle.node_model.specs.RefusalCodes.{bad_frame_code, misplaced_code}
+use Rattle.node_core.specs.NodeDeeds.{NodeDoesBy, AnswersOn, ReceivesOn, IsDueByRequest, IsDueByMessage}
+use Rattle.node_core.specs.NodeStates.{state_banks, keeper_of}
+use Rattle.node_core.specs.declared.faults.NodeFault.{NodeFault}
+use Rattle.node_core.specs.declared.states.NodeState.{NodeState}
 use Rattle.node_model.specs.Keepers.{Keeper, keeper_id, keeper_domain, question_of, keeper_found}
 use Rattle.node_model.specs.NodeMessages.{Receives}
 use Rattle.node_model.specs.Requests.{TakesRequest}

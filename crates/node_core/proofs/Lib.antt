@@ -1,3 +1,7 @@
+pub mod Moments
+pub mod MeterLaws
+pub mod CommandLaws
+pub mod CallLaws
 mod EventMoments
 mod EventMeters
 mod FrameLaws

@@ -5,22 +5,22 @@ use Rattle.mld_io.specs.Arm.{Meter}
 use Rattle.mld_io.specs.Disk.{Log}
 use Rattle.mld_io.specs.declared.events.Event.{Event}
 use Rattle.mld_io.specs.declared.events.Event.TheVariants as events
-use Rattle.clone_banks.specs.KeptSteps.{KeptStep}
+use Rattle.clone_parts.specs.KeptSteps.{KeptStep}
 use Rattle.journal_store.specs.Closing.{StaysTold}
-use Rattle.shell_model.specs.Shells.{FoundOnBanks}
+use Rattle.shell_session.specs.Shells.{FoundOnBanks}
 use Rattle.shell_session.specs.SessionLines.{ImagesFind, LeavesFront, LeavesFrontOfDue, Meters}
 use Rattle.wire_frames.specs.declared.faults.FrameFault.{FrameFault}
 use Rattle.wire_frames.specs.declared.kinds.Fed.{Fed}
 use Rattle.wire_frames.specs.declared.kinds.Frame.{Frame}
 use Rattle.wire_frames.specs.Frames.{FramesValue, Feeds}
-use Rattle.node_exchange.specs.declared.connections.Connection.{Connection}
-use Rattle.node_exchange.specs.declared.connections.Sent.{Sent}
-use Rattle.node_exchange.specs.Connections.{AreNumbered, IsRidOf, StaysNumbered, connection_of, without, connections_with, opened}
-use Rattle.node_exchange.specs.Exchanges.{ExchangeValue, refusing_at, refusing}
-use Rattle.node_keeper.specs.declared.faults.NodeFault.{NodeFault}
-use Rattle.node_keeper.specs.declared.faults.NodeFault.TheVariants.{NoMemory}
-use Rattle.node_keeper.specs.NodeStates.{IsOpen, state_banks, keeper_of}
-use Rattle.node_keeper.specs.declared.states.NodeState.{NodeState}
+use Rattle.node_model.specs.declared.connections.Connection.{Connection}
+use Rattle.node_model.specs.declared.connections.Sent.{Sent}
+use Rattle.node_model.specs.Connections.{AreNumbered, IsRidOf, StaysNumbered, connection_of, without, connections_with, opened}
+use Rattle.node_model.specs.Exchanges.{ExchangeValue, refusing_at, refusing}
+use Rattle.node_core.specs.declared.faults.NodeFault.{NodeFault}
+use Rattle.node_core.specs.declared.faults.NodeFault.TheVariants.{NoMemory}
+use Rattle.node_core.specs.NodeStates.{IsOpen, state_banks, keeper_of}
+use Rattle.node_core.specs.declared.states.NodeState.{NodeState}
 use Rattle.node_model.specs.Keepers.{Keeper, keeper_found}
 use Rattle.node_model.specs.FrameSteps.{FramesStep, refusal_code, faulting, forgetting}
 use Rattle.node_model.specs.Events.{NodeValue, NodeStep, PieceStep, TakesPiece, beginning, put_back, node_after}

@@ -2,14 +2,14 @@
 use Rattle.std.proofs.Common.{◌≡◌, ◌⊎◌, ℕ, List, [], Option, Result, Ok, Err, IfOk, IfErr, refl, sym, ◌∙◌, ap, subst, inl}
 use Rattle.mld_io.specs.Arm.{Meter}
 use Rattle.mld_io.specs.Disk.{Log}
-use Rattle.clone_banks.specs.KeptSteps.{KeptStep}
+use Rattle.clone_parts.specs.KeptSteps.{KeptStep}
 use Rattle.journal_store.specs.Closing.{StaysTold}
-use Rattle.shell_model.specs.Shells.{FoundOnBanks}
+use Rattle.shell_session.specs.Shells.{FoundOnBanks}
 use Rattle.shell_session.specs.SessionLines.{LeavesFront, LeavesFrontOfDue, Meters}
-use Rattle.node_keeper.specs.declared.faults.NodeFault.{NodeFault}
-use Rattle.node_keeper.specs.declared.faults.NodeFault.TheVariants.{Device, NoMemory}
-use Rattle.node_keeper.specs.declared.states.NodeState.{NodeState}
-use Rattle.node_keeper.specs.NodeStates.{IsOpen, state_banks, state_banks_after, StateFailsOnDevice}
+use Rattle.node_core.specs.declared.faults.NodeFault.{NodeFault}
+use Rattle.node_core.specs.declared.faults.NodeFault.TheVariants.{Device, NoMemory}
+use Rattle.node_core.specs.declared.states.NodeState.{NodeState}
+use Rattle.node_core.specs.NodeStates.{IsOpen, state_banks, state_banks_after, StateFailsOnDevice}
 use Rattle.node_core.specs.Nodes.{banks_left, IsDeviceFault}
 use Rattle.node_core.proofs.EventMoments.{no_steps, told_same}
 use Rattle.node_core.proofs.EventMeters.{meters_none}

@@ -2,15 +2,15 @@
 use Rattle.std.proofs.Common.{◌≡◌, ◌⊎◌, ℕ, true, false, List, [], ◌∷◌, ◌++◌, Option, None, Some, refl, sym, ◌∙◌, ap, subst, inl, inr, append-nil, append_assoc}
 use Rattle.mld_io.specs.Arm.{Meter}
 use Rattle.mld_io.specs.Disk.{Log}
-use Rattle.clone_banks.specs.KeptSteps.{KeptStep}
+use Rattle.clone_parts.specs.KeptSteps.{KeptStep}
 use Rattle.journal_store.specs.Closing.{StaysTold}
 use Rattle.shell_session.specs.SessionLines.{ImagesFind, LeavesFront, LeavesFrontOfDue, Meters}
 use Rattle.wire_frames.specs.declared.kinds.Frame.{Frame}
 use Rattle.wire_frames.specs.Frames.{FramesValue}
-use Rattle.node_exchange.specs.declared.connections.Connection.{Connection}
-use Rattle.node_exchange.specs.Exchanges.{ExchangeValue, holding}
-use Rattle.node_keeper.specs.NodeStates.{IsOpen, state_banks, keeper_of}
-use Rattle.node_keeper.specs.declared.states.NodeState.{NodeState}
+use Rattle.node_model.specs.declared.connections.Connection.{Connection}
+use Rattle.node_model.specs.Exchanges.{ExchangeValue, holding}
+use Rattle.node_core.specs.NodeStates.{IsOpen, state_banks, keeper_of}
+use Rattle.node_core.specs.declared.states.NodeState.{NodeState}
 use Rattle.node_model.specs.Keepers.{keeper_found}
 use Rattle.node_model.specs.FrameSteps.{FrameStep, FramesStep, no_more}
 use Rattle.node_core.specs.NodeEvents.{IsDueByFrame, IsDueNext, IsDueByFrames}

@@ -4,7 +4,7 @@ use Rattle.mld_io.specs.declared.events.Event.{Event}
 use Rattle.mld_io.specs.declared.events.Event.TheVariants.{Opened, Bytes, Shut, End}
 use Rattle.mld_io.specs.Disk.{Log}
 use Rattle.mld_ops.specs.declared.messages.Message.{Message}
-use Rattle.clone_banks.specs.KeptSteps.{KeptStep}
+use Rattle.clone_parts.specs.KeptSteps.{KeptStep}
 use Rattle.shell_session.specs.SessionLines.{ImagesFind, LeavesFront, LeavesFrontOfDue}
 use Rattle.wire_frames.specs.declared.assembling.Assembled.TheVariants.{Whole}
 use Rattle.wire_frames.specs.declared.faults.FrameFault.{FrameFault}
@@ -12,16 +12,16 @@ use Rattle.wire_frames.specs.declared.kinds.Frame.{Frame}
 use Rattle.wire_frames.specs.declared.kinds.Frame.TheVariants.{Request, Part}
 use Rattle.wire_frames.specs.Frames.{FramesValue, Feeds}
 use Rattle.wire_frames.specs.MessageParts.{AssemblyValue, Assembles}
-use Rattle.node_exchange.specs.declared.connections.Connection.{Connection}
-use Rattle.node_exchange.specs.declared.connections.Role.{Role}
-use Rattle.node_exchange.specs.declared.connections.Role.TheVariants as role
-use Rattle.node_exchange.specs.declared.connections.Sent.{Sent}
-use Rattle.node_exchange.specs.Connections.{connection_of, without}
-use Rattle.node_exchange.specs.Exchanges.{ExchangeValue}
-use Rattle.node_keeper.specs.NodeDeeds.{IsDueByRequest, IsDueByMessage}
-use Rattle.node_keeper.specs.NodeStates.{keeper_of}
-use Rattle.node_keeper.specs.NodeStates as states
-use Rattle.node_keeper.specs.declared.states.NodeState.{NodeState}
+use Rattle.node_model.specs.declared.connections.Connection.{Connection}
+use Rattle.node_model.specs.declared.connections.Role.{Role}
+use Rattle.node_model.specs.declared.connections.Role.TheVariants as role
+use Rattle.node_model.specs.declared.connections.Sent.{Sent}
+use Rattle.node_model.specs.Connections.{connection_of, without}
+use Rattle.node_model.specs.Exchanges.{ExchangeValue}
+use Rattle.node_core.specs.NodeDeeds.{IsDueByRequest, IsDueByMessage}
+use Rattle.node_core.specs.NodeStates.{keeper_of}
+use Rattle.node_core.specs.NodeStates as states
+use Rattle.node_core.specs.declared.states.NodeState.{NodeState}
 use Rattle.node_model.specs.Keepers.{Keeper, keeper_found}
 use Rattle.node_model.specs.FrameSteps.{FramesStep}
 use Rattle.node_model.specs.Events.{NodeValue, NodeStep, beginning}

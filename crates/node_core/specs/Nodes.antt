@@ -1,14 +1,14 @@
 -- A node on its banks, and what it is in the model. `Node::on_event` and `Node::stop` cite it.
 use Rattle.std.specs.Prelude.{◌≡◌, Bool, List, IsTrue, Result, Ok, Err}
 use Rattle.std.specs.List.{AllByRecursion}
-use Rattle.node_exchange.specs.declared.connections.Connection.{Connection}
-use Rattle.node_exchange.specs.declared.connections.Role.{Role}
-use Rattle.node_exchange.specs.declared.connections.Role.TheVariants.{Fresh, Client, Peer}
-use Rattle.node_exchange.specs.Connections.{AreNumbered}
-use Rattle.node_keeper.specs.declared.faults.NodeFault.{NodeFault}
-use Rattle.node_keeper.specs.declared.faults.NodeFault.TheVariants.{Device}
-use Rattle.node_keeper.specs.declared.states.NodeState.{NodeState}
-use Rattle.node_keeper.specs.NodeStates as states
+use Rattle.node_model.specs.declared.connections.Connection.{Connection}
+use Rattle.node_model.specs.declared.connections.Role.{Role}
+use Rattle.node_model.specs.declared.connections.Role.TheVariants.{Fresh, Client, Peer}
+use Rattle.node_model.specs.Connections.{AreNumbered}
+use Rattle.node_core.specs.declared.faults.NodeFault.{NodeFault}
+use Rattle.node_core.specs.declared.faults.NodeFault.TheVariants.{Device}
+use Rattle.node_core.specs.declared.states.NodeState.{NodeState}
+use Rattle.node_core.specs.NodeStates as states
 use Rattle.node_model.specs.Events.{NodeValue}
 
 -- what contracts see of a node: what it has on its banks, its connections, and whether it has ended

@@ -2,7 +2,7 @@
 use Rattle.std.specs.Prelude.{◌≡◌, ◌≢◌, ◌⊎◌, ℕ, Bool, true, false, List, [], ◌∷◌, Option, None, Some, Result, IsTrue}
 use Rattle.std.specs.List.{AllByRecursion}
 use Rattle.mld_io.specs.Disk.{Log}
-use Rattle.clone_banks.specs.KeptSteps.{KeptStep}
+use Rattle.clone_parts.specs.KeptSteps.{KeptStep}
 use Rattle.wire_frames.specs.declared.assembling.Assembled.{Assembled}
 use Rattle.wire_frames.specs.declared.faults.AssemblyFault.{AssemblyFault}
 use Rattle.wire_frames.specs.declared.kinds.Fed.{Fed}
@@ -11,15 +11,15 @@ use Rattle.wire_frames.specs.declared.kinds.Frame.TheVariants.{Hello}
 use Rattle.wire_frames.specs.declared.faults.FrameFault.{FrameFault}
 use Rattle.wire_frames.specs.Frames.{FramesValue, Feeds, frame_bytes, hello_format}
 use Rattle.wire_frames.specs.MessageParts.{AssemblyValue, Assembles}
-use Rattle.node_exchange.specs.declared.connections.Connection.{Connection}
-use Rattle.node_exchange.specs.declared.connections.Role.{Role}
-use Rattle.node_exchange.specs.declared.connections.Role.TheVariants as role
-use Rattle.node_exchange.specs.declared.connections.Sent.{Sent}
-use Rattle.node_exchange.specs.Connections.{AreNumbered, connection_of, without, connections_with, opened, is_peer}
-use Rattle.node_exchange.specs.Exchanges.{ExchangeValue, says}
-use Rattle.node_keeper.specs.NodeDeeds.{NodeDoesBy}
-use Rattle.node_keeper.specs.NodeStates.{keeper_of}
-use Rattle.node_keeper.specs.declared.states.NodeState.{NodeState}
+use Rattle.node_model.specs.declared.connections.Connection.{Connection}
+use Rattle.node_model.specs.declared.connections.Role.{Role}
+use Rattle.node_model.specs.declared.connections.Role.TheVariants as role
+use Rattle.node_model.specs.declared.connections.Sent.{Sent}
+use Rattle.node_model.specs.Connections.{AreNumbered, connection_of, without, connections_with, opened, is_peer}
+use Rattle.node_model.specs.Exchanges.{ExchangeValue, says}
+use Rattle.node_core.specs.NodeDeeds.{NodeDoesBy}
+use Rattle.node_core.specs.NodeStates.{keeper_of}
+use Rattle.node_core.specs.declared.states.NodeState.{NodeState}
 use Rattle.node_model.specs.Keepers.{Keeper, keeper_id, keeper_domain}
 use Rattle.node_model.specs.FrameSteps.{FrameStep, FramesStep, with_parts, faulting}
 use Rattle.node_model.specs.Events.{beginning, put_back}

@@ -1,16 +1,16 @@
 //! What a node says first on a connection, and what it makes of a Hello.
 ghost use Rattle.std.specs.Prelude.{◌≡◌, IfOk};
-ghost use Rattle.node_keeper.specs.NodeStates.{keeper_of};
+ghost use Rattle.node_core.specs.NodeStates.{keeper_of};
 ghost use Rattle.node_model.specs.Keepers.{keeper_id, keeper_domain};
 ghost use Rattle.node_core.specs.Steps.{IsJudged};
 ghost use Rattle.wire_frames.specs.Frames.{hello_format, frame_bytes};
 ghost use Rattle.wire_frames.specs.declared.kinds.Frame.TheVariants.{Hello};
 
-use iri_rules::Text;
+use crate::states::NodeState;
 use mld_io::{Banks, Piece};
-use node_exchange::{OTHER_DOMAIN, OTHER_FORMAT, OWN_ID};
-use node_keeper::NodeState;
+use node_model::{OTHER_DOMAIN, OTHER_FORMAT, OWN_ID};
 use std::alloc::{AllocError, Global};
+use text_rules::Text;
 use uuid::Uuid;
 use wire_frames::{Frame, are_kept, write_frame};
 

@@ -2,20 +2,21 @@
 ghost use Rattle.std.specs.Prelude.{◌≡◌, [], None, false, IfOk, IfErr};
 ghost use Rattle.journal_store.specs.Closing.{StaysTold};
 ghost use Rattle.shell_session.specs.SessionLines.{Meters};
-ghost use Rattle.node_exchange.specs.Connections.{opened, without};
+ghost use Rattle.node_model.specs.Connections.{opened, without};
 ghost use Rattle.mld_io.specs.declared.events.Event.TheVariants as events;
-ghost use Rattle.node_keeper.specs.NodeStates.{FindsNow, IsOpen, keeper_of};
-ghost use Rattle.node_keeper.specs.NodeStates as states;
+ghost use Rattle.node_core.specs.NodeStates.{FindsNow, IsOpen, keeper_of};
+ghost use Rattle.node_core.specs.NodeStates as states;
 ghost use Rattle.node_model.specs.Keepers.{keeper_found};
 ghost use Rattle.node_core.specs.Nodes.{MayGoOn, node_value, node_banks, banks_left, IsDeviceFault};
 ghost use Rattle.node_core.specs.NodeEvents.{DoesEvent, StopsEvent};
 ghost use Rattle.node_core.specs.Steps.{node_with, taken_node, GreetsOn};
 
+use crate::faults::NodeFault;
 use crate::greeting::hello;
 use crate::pieces::{Rest, Taken, take_piece};
+use crate::states::NodeState;
 use mld_io::{Banks, Event};
-use node_exchange::{Connection, Role, Sent, place_connection, take_connection};
-use node_keeper::{NodeFault, NodeState};
+use node_model::{Connection, Role, Sent, place_connection, take_connection};
 use std::alloc::{AllocError, Global};
 use std::marker::Model;
 use std::thread::Threads;

@@ -2,18 +2,19 @@
 ghost use Rattle.std.specs.Prelude.{◌≡◌, None, IfOk, IfErr, OnOk};
 ghost use Rattle.journal_store.specs.Closing.{StaysTold};
 ghost use Rattle.shell_session.specs.SessionLines.{Meters};
-ghost use Rattle.node_exchange.specs.Connections.{AreNumbered, connection_of};
-ghost use Rattle.node_keeper.specs.NodeStates.{IsOpen, state_banks};
+ghost use Rattle.node_model.specs.Connections.{AreNumbered, connection_of};
+ghost use Rattle.node_core.specs.NodeStates.{IsOpen, state_banks};
 ghost use Rattle.node_model.specs.FrameSteps.{refusal_code, faulting};
 ghost use Rattle.node_core.specs.Nodes.{IsGood, MayGoOn, banks_left, IsDeviceFault};
 ghost use Rattle.node_model.specs.Events.{put_back};
 ghost use Rattle.node_core.specs.NodeEvents.{StopsFrames, StopsPiece};
 ghost use Rattle.node_core.specs.Steps.{MayEnd, ExchangeEnds, MayPutBack, TakesFed, TakesPieceOn};
 
+use crate::faults::NodeFault;
 use crate::frames::take_frames;
+use crate::states::NodeState;
 use mld_io::Banks;
-use node_exchange::{BAD_FRAME, Connection, Exchange, LONG_FRAME, Sent, place_connection};
-use node_keeper::{NodeFault, NodeState};
+use node_model::{BAD_FRAME, Connection, Exchange, LONG_FRAME, Sent, place_connection};
 use std::alloc::{AllocError, Global};
 use std::thread::Threads;
 use wire_frames::{Fed, FrameFault};

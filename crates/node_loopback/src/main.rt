@@ -7,7 +7,6 @@ mod client;
 mod nodes;
 
 use client::Client;
-use node_program::run_process;
 use nodes::{RunningNode, random_number};
 use std::alloc::{Alloc, Global};
 use std::env::{self, Env};
@@ -18,6 +17,7 @@ use std::process::{ExitCode, OpenProcess, Processes};
 use std::random::RandomSource;
 use std::thread;
 use std::time::{Clock, Duration};
+use tcp_node::run_process;
 
 /// The triple that is added at one node and found at the other.
 const TRIPLE: &str = "<http://d/a> <http://d/#p> \"x\" .";

@@ -1,1 +1,4 @@
 pub mod StepLaws
+mod RequestLaws
+mod PlaceLaws
+mod TellingLaws

@@ -8,26 +8,26 @@ use Rattle.mld_ops.specs.declared.messages.Message.{Message}
 use Rattle.mld_ops.specs.declared.messages.Message.TheVariants as kind
 use Rattle.journal_sides.specs.Heads.{HeadValue}
 use Rattle.mld_model.specs.Local.{LocalClone, LocalAsker, IsSameClone, LocallyHolds}
-use Rattle.clone_banks.specs.KeptSteps.{KeptStep, Appended, appends}
-use Rattle.clone_answers.specs.declared.answers.Got.{Got}
-use Rattle.clone_answers.specs.declared.answers.Got.TheVariants as got
-use Rattle.clone_answers.specs.declared.faults.ReceiveFault.{ReceiveFault}
-use Rattle.clone_answers.specs.declared.faults.ReceiveFault.TheVariants as fault
+use Rattle.clone_parts.specs.KeptSteps.{KeptStep, Appended, appends}
+use Rattle.clone_parts.specs.declared.answers.Got.{Got}
+use Rattle.clone_parts.specs.declared.answers.Got.TheVariants as got
+use Rattle.clone_parts.specs.declared.faults.ReceiveFault.{ReceiveFault}
+use Rattle.clone_parts.specs.declared.faults.ReceiveFault.TheVariants as fault
 use Rattle.clone_core.specs.Banked.{head_of}
 use Rattle.clone_core.specs.CloneCalls.{LocallyReceives}
 use Rattle.clone_core.specs.DurableCalls.{ReceivedSteps, merged_steps}
-use Rattle.shell_model.specs.Shells.{FoundOnBanks, Stored, found_after, generation_after}
-use Rattle.shell_model.proofs.RunLaws.{live_step, live_found, found_both}
+use Rattle.shell_session.specs.Shells.{FoundOnBanks, Stored, found_after, generation_after}
+use Rattle.shell_session.proofs.RunLaws.{live_step, live_found, found_both}
 use Rattle.wire_frames.specs.declared.kinds.Frame.{Frame}
 use Rattle.wire_frames.specs.declared.kinds.Frame.TheVariants.{Hello, Part, Request, Reply, Refuse}
-use Rattle.node_requests.specs.declared.requests.Request.TheVariants as request
-use Rattle.node_requests.specs.declared.requests.Request.{Request as RequestValue}
-use Rattle.node_exchange.specs.declared.connections.Connection.{Connection}
-use Rattle.node_exchange.specs.declared.connections.Role.{Role}
-use Rattle.node_exchange.specs.declared.connections.Role.TheVariants as role
-use Rattle.node_exchange.specs.declared.connections.Sent.{Sent}
-use Rattle.node_exchange.specs.Connections.{connection_of, as_client, without}
-use Rattle.node_exchange.specs.Exchanges.{ExchangeValue, holding}
+use Rattle.node_model.specs.declared.requests.Request.TheVariants as request
+use Rattle.node_model.specs.declared.requests.Request.{Request as RequestValue}
+use Rattle.node_model.specs.declared.connections.Connection.{Connection}
+use Rattle.node_model.specs.declared.connections.Role.{Role}
+use Rattle.node_model.specs.declared.connections.Role.TheVariants as role
+use Rattle.node_model.specs.declared.connections.Sent.{Sent}
+use Rattle.node_model.specs.Connections.{connection_of, as_client, without}
+use Rattle.node_model.specs.Exchanges.{ExchangeValue, holding}
 use Rattle.wire_frames.specs.MessageParts.{AssemblyValue}
 use Rattle.node_model.specs.Keepers.{Keeper, Lives, Asks, keeper_found}
 use Rattle.node_model.specs.Requests.{NodeOnlyReplies, AnswersRequest, TakesRequest}

@@ -4,15 +4,15 @@ use Rattle.mld_io.specs.declared.events.Event.{Event}
 use Rattle.mld_io.specs.declared.events.Event.TheVariants.{Opened, Bytes, Shut, End}
 use Rattle.mld_io.specs.declared.events.WireCall.TheVariants as call
 use Rattle.mld_io.specs.Wires.{WireLog, after_shut}
-use Rattle.clone_banks.specs.KeptSteps.{KeptStep}
+use Rattle.clone_parts.specs.KeptSteps.{KeptStep}
 use Rattle.wire_frames.specs.declared.faults.FrameFault.{FrameFault}
 use Rattle.wire_frames.specs.declared.kinds.Frame.{Frame}
 use Rattle.wire_frames.specs.declared.kinds.Frame.TheVariants.{Hello}
 use Rattle.wire_frames.specs.Frames.{FramesValue, Feeds, frame_bytes, hello_format}
-use Rattle.node_exchange.specs.declared.connections.Connection.{Connection}
-use Rattle.node_exchange.specs.declared.connections.Sent.{Sent}
-use Rattle.node_exchange.specs.Connections.{connection_of, without, connections_with, opened}
-use Rattle.node_exchange.specs.Exchanges.{ExchangeValue, says}
+use Rattle.node_model.specs.declared.connections.Connection.{Connection}
+use Rattle.node_model.specs.declared.connections.Sent.{Sent}
+use Rattle.node_model.specs.Connections.{connection_of, without, connections_with, opened}
+use Rattle.node_model.specs.Exchanges.{ExchangeValue, says}
 use Rattle.node_model.specs.Keepers.{Keeper, keeper_id, keeper_domain}
 use Rattle.node_model.specs.FrameSteps.{FramesStep, faulting}
 

@@ -1,7 +1,7 @@
 -- What a node does with the frames of a connection, one after another.
 use Rattle.std.specs.Prelude.{◌≡◌, ◌≢◌, ℕ, if◌then◌else◌, ◌⊎◌, Bool, true, false, List, [], ◌∷◌, ◌++◌, Option, None, Some, Result, Ok, Err}
 use Rattle.mld_ops.specs.declared.messages.Message.{Message}
-use Rattle.clone_banks.specs.KeptSteps.{KeptStep}
+use Rattle.clone_parts.specs.KeptSteps.{KeptStep}
 use Rattle.wire_frames.specs.declared.faults.AssemblyFault.TheVariants.{BadPart}
 use Rattle.wire_frames.specs.declared.faults.FrameFault.{FrameFault}
 use Rattle.wire_frames.specs.declared.faults.FrameFault.TheVariants.{BadFrame, TooLong}
@@ -10,12 +10,12 @@ use Rattle.wire_frames.specs.declared.kinds.Frame.TheVariants.{Hello, Part, Requ
 use Rattle.wire_frames.specs.declared.assembling.Assembled.TheVariants.{Waiting, Whole}
 use Rattle.wire_frames.specs.Frames.{hello_format}
 use Rattle.wire_frames.specs.MessageParts.{AssemblyValue, Assembles}
-use Rattle.node_exchange.specs.declared.connections.Connection.{Connection}
-use Rattle.node_exchange.specs.declared.connections.Role.{Role}
-use Rattle.node_exchange.specs.declared.connections.Role.TheVariants as role
-use Rattle.node_exchange.specs.Connections.{as_peer}
-use Rattle.node_exchange.specs.Exchanges.{ExchangeValue, refusing, telling, holding}
-use Rattle.node_exchange.specs.RefusalCodes.{bad_frame_code, long_frame_code, misplaced_code, other_domain_code, other_format_code, own_id_code}
+use Rattle.node_model.specs.declared.connections.Connection.{Connection}
+use Rattle.node_model.specs.declared.connections.Role.{Role}
+use Rattle.node_model.specs.declared.connections.Role.TheVariants as role
+use Rattle.node_model.specs.Connections.{as_peer}
+use Rattle.node_model.specs.Exchanges.{ExchangeValue, refusing, telling, holding}
+use Rattle.node_model.specs.RefusalCodes.{bad_frame_code, long_frame_code, misplaced_code, other_domain_code, other_format_code, own_id_code}
 use Rattle.node_model.specs.Keepers.{Keeper, keeper_id, keeper_domain, question_of}
 use Rattle.node_model.specs.Requests.{TakesRequest}
 use Rattle.node_model.specs.NodeMessages.{Receives}

@@ -2,9 +2,9 @@
 use Rattle.std.specs.Prelude.{ℕ, List, [], ◌∷◌, ◌++◌}
 use Rattle.mld_ops.specs.Messages.{MessageValue, CarriesEntry, CarriesWant, CarriesAsk}
 use Rattle.mld_model.specs.Local.{LocalClone, LocalAsker}
-use Rattle.clone_banks.specs.KeptSteps.{KeptStep, Created, Appended, Forked, Swapped}
+use Rattle.clone_parts.specs.KeptSteps.{KeptStep, Created, Appended, Forked, Swapped}
 use Rattle.clone_core.specs.Banked.{head_of}
-use Rattle.shell_model.specs.Shells.{FoundOnBanks, Nothing, Stored}
+use Rattle.shell_session.specs.Shells.{FoundOnBanks, Nothing, Stored}
 
 pub data Keeper : Type 0 where
   -- the clone is live, and what its banks keep has this generation

@@ -4,3 +4,8 @@ pub mod Requests
 pub mod NodeMessages
 pub mod FrameSteps
 pub mod Events
+pub mod RequestLines
+pub mod Connections
+pub mod Exchanges
+pub mod RefusalCodes
+pub mod Sending

@@ -4,19 +4,19 @@ use Rattle.mld_ops.specs.declared.messages.Give.{Give}
 use Rattle.mld_ops.specs.declared.messages.Message.{Message}
 use Rattle.mld_ops.specs.Messages.{CarriesWant, message_value, give_value}
 use Rattle.mld_model.specs.Local.{LocalClone, LocalAsker, joined_clone}
-use Rattle.clone_banks.specs.KeptSteps.{KeptStep, Created}
-use Rattle.clone_answers.specs.declared.answers.Got.{Got}
-use Rattle.clone_answers.specs.declared.answers.Got.TheVariants as got
-use Rattle.clone_answers.specs.declared.faults.ReceiveFault.{ReceiveFault}
-use Rattle.clone_answers.specs.declared.faults.ReceiveFault.TheVariants as fault
+use Rattle.clone_parts.specs.KeptSteps.{KeptStep, Created}
+use Rattle.clone_parts.specs.declared.answers.Got.{Got}
+use Rattle.clone_parts.specs.declared.answers.Got.TheVariants as got
+use Rattle.clone_parts.specs.declared.faults.ReceiveFault.{ReceiveFault}
+use Rattle.clone_parts.specs.declared.faults.ReceiveFault.TheVariants as fault
 use Rattle.clone_core.specs.Banked.{head_of}
 use Rattle.clone_core.specs.CloneCalls.{LocallyReceives, Refuses}
 use Rattle.clone_core.specs.DurableCalls.{ReceivedSteps}
 use Rattle.clone_core.specs.Joining.{IsGiveFor, GivesNone}
-use Rattle.shell_model.specs.Shells.{generation_after}
-use Rattle.shell_model.specs.ShellStep.{IsLast}
-use Rattle.node_exchange.specs.Exchanges.{ExchangeValue, refusing, telling, telling_each, telling_peers_each}
-use Rattle.node_exchange.specs.RefusalCodes.{deep_leaf_code, foreign_tick_code}
+use Rattle.shell_session.specs.Shells.{generation_after}
+use Rattle.shell_session.specs.ShellStep.{IsLast}
+use Rattle.node_model.specs.Exchanges.{ExchangeValue, refusing, telling, telling_each, telling_peers_each}
+use Rattle.node_model.specs.RefusalCodes.{deep_leaf_code, foreign_tick_code}
 use Rattle.node_model.specs.Keepers.{Keeper, Lives, Asks, carried}
 
 -- ---- a live clone

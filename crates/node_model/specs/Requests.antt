@@ -2,19 +2,19 @@
 use Rattle.std.specs.Prelude.{◌≡◌, ℕ, List, [], ◌∷◌, ◌++◌, Some, codes}
 use Rattle.mld_ops.specs.Messages.{CarriesWant}
 use Rattle.mld_model.specs.Local.{LocalClone}
-use Rattle.clone_banks.specs.KeptSteps.{KeptStep}
-use Rattle.shell_text.specs.declared.commands.ShellCommand.{ShellCommand}
-use Rattle.shell_model.specs.Shells.{generation_after}
-use Rattle.shell_model.specs.ShellReply.{ShellReply, shell_text}
-use Rattle.shell_model.specs.ShellStep.{LiveStep}
+use Rattle.clone_parts.specs.KeptSteps.{KeptStep}
+use Rattle.shell_session.specs.declared.commands.ShellCommand.{ShellCommand}
+use Rattle.shell_session.specs.Shells.{generation_after}
+use Rattle.shell_session.specs.ShellReply.{ShellReply, shell_text}
+use Rattle.shell_session.specs.ShellStep.{LiveStep}
 use Rattle.wire_frames.specs.Frames.{frames_bytes}
 use Rattle.wire_frames.specs.MessageParts.{reply_parts}
-use Rattle.node_requests.specs.declared.requests.Request.{Request}
-use Rattle.node_requests.specs.declared.requests.Request.TheVariants.{Command, Ask, Halt, Bad}
-use Rattle.node_requests.specs.RequestLines.{SpellsRequest}
-use Rattle.node_exchange.specs.declared.connections.Connection.{Connection}
-use Rattle.node_exchange.specs.Connections.{as_client}
-use Rattle.node_exchange.specs.Exchanges.{ExchangeValue, saying, telling_peers, telling_peers_each, holding, halting}
+use Rattle.node_model.specs.declared.requests.Request.{Request}
+use Rattle.node_model.specs.declared.requests.Request.TheVariants.{Command, Ask, Halt, Bad}
+use Rattle.node_model.specs.RequestLines.{SpellsRequest}
+use Rattle.node_model.specs.declared.connections.Connection.{Connection}
+use Rattle.node_model.specs.Connections.{as_client}
+use Rattle.node_model.specs.Exchanges.{ExchangeValue, saying, telling_peers, telling_peers_each, holding, halting}
 use Rattle.node_model.specs.Keepers.{Keeper, Lives, Asks, keeper_domain, carried}
 
 -- replies of a node's own

@@ -1,7 +1,22 @@
-//! What a node is: one clone, or one who asks for a leaf, with connections to peers and clients. Its functions have no code: each
-//! carries a law as its contract.
+//! The model of a node, with what it rests on: what a client may ask for, connections, and what is sent on them.
 #![tactic(auto)]
 
+mod connections;
+mod exchanges;
+mod lists;
+mod parts;
+mod refusals;
+mod request_laws;
+mod requests;
 mod run_laws;
+mod sending;
 
+pub use connections::{Connection, Role, Sent};
+pub use exchanges::Exchange;
+pub use lists::{place_connection, take_connection};
+pub use refusals::{
+    BAD_FRAME, DEEP_LEAF, FOREIGN_TICK, LONG_FRAME, MISPLACED, OTHER_DOMAIN, OTHER_FORMAT, OWN_ID,
+};
+pub use request_laws::one_request;
+pub use requests::{Request, read_request};
 pub use run_laws::node_steps_lead;

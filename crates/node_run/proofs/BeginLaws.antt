@@ -16,20 +16,20 @@ use Rattle.journal_store.specs.declared.faults.MakeFault.TheVariants as make
 use Rattle.journal_store.specs.declared.faults.MountFault.{MountFault}
 use Rattle.journal_store.specs.declared.faults.MountFault.TheVariants as mount
 use Rattle.mld_model.specs.Local.{LocalClone, LocalAsker}
-use Rattle.clone_banks.specs.KeptSteps.{KeptStep, Created}
+use Rattle.clone_parts.specs.KeptSteps.{KeptStep, Created}
 use Rattle.clone_core.specs.Banked.{BankedClone, BankedAsker, KeepsClone, head_of}
 use Rattle.clone_core.specs.DurableCalls.{Creates}
 use Rattle.clone_core.specs.Opening.{IsFoundAs, RunsAgain, TellsClone, SyncsBoth, mount_calls}
 use Rattle.clone_core.specs.declared.mounts.Mounted.TheVariants.{Refused}
-use Rattle.shell_model.specs.Shells.{FoundOnBanks, Nothing, Damage, found_in}
-use Rattle.shell_model.specs.ShellStep.{first_clone}
+use Rattle.shell_session.specs.Shells.{FoundOnBanks, Nothing, Damage, found_in}
+use Rattle.shell_session.specs.ShellStep.{first_clone}
 use Rattle.shell_session.specs.Sessions.{HasFound, HasKept}
 use Rattle.shell_session.specs.SessionLines.{ImagesFind, LeavesFront, Meters}
 use Rattle.node_run.proofs.Moments.{found_with, same_front, no_more_front, later_front, images_later, made_front, kept_images}
-use Rattle.node_words.specs.declared.node.NodeWords.{NodeWords}
-use Rattle.node_keeper.specs.declared.states.NodeState.{NodeState}
-use Rattle.node_keeper.specs.declared.states.NodeState.TheVariants as states
-use Rattle.node_keeper.specs.NodeStates.{state_banks, keeper_of, IsOpen}
+use Rattle.node_run.specs.declared.node.NodeWords.{NodeWords}
+use Rattle.node_core.specs.declared.states.NodeState.{NodeState}
+use Rattle.node_core.specs.declared.states.NodeState.TheVariants as states
+use Rattle.node_core.specs.NodeStates.{state_banks, keeper_of, IsOpen}
 use Rattle.node_model.specs.Keepers.{Keeper, Lives, Asks}
 use Rattle.node_run.specs.declared.stops.NodeStop.{NodeStop}
 use Rattle.node_run.specs.declared.stops.NodeStop.TheVariants as stops

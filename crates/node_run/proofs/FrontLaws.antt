@@ -2,9 +2,9 @@
 use Rattle.std.proofs.Common.{◌≡◌, List, [], ◌++◌, refl, sym, ◌∙◌, ap, subst, Option, Some, append_assoc, append-nil}
 use Rattle.mld_io.specs.Disk.{Log, Call, Sides, grown_by, MayLeave, LeavesOnly, LeavesMeanwhile}
 use Rattle.mld_io.proofs.DiskLaws.{AtEachMoment-weaken, AtEachMoment-last, LeavesMeanwhile-then}
-use Rattle.clone_banks.specs.KeptSteps.{KeptStep}
-use Rattle.shell_model.specs.Shells.{FoundOnBanks, found_after}
-use Rattle.shell_model.proofs.RunLaws.{found_both}
+use Rattle.clone_parts.specs.KeptSteps.{KeptStep}
+use Rattle.shell_session.specs.Shells.{FoundOnBanks, found_after}
+use Rattle.shell_session.proofs.RunLaws.{found_both}
 use Rattle.shell_session.specs.SessionLines.{ImagesFind, FindsFront, LeavesFront}
 use Rattle.shell_session.specs.RunEnds.{LeavesDone}
 

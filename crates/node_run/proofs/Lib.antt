@@ -7,3 +7,8 @@ mod TurnLaws
 mod WayLemmas
 mod ServeLaws
 mod BeginLaws
+mod Finding
+mod Iris
+mod Passing
+mod Reading
+mod TurnNumerals

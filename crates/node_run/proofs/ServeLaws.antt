@@ -3,13 +3,13 @@ use Rattle.std.proofs.Common.{◌≡◌, ℕ, List, [], ◌∷◌, Option, None,
 use Rattle.mld_io.specs.Arm.{Meter}
 use Rattle.mld_io.specs.Disk.{Log}
 use Rattle.mld_io.specs.Wires.{WireLog}
-use Rattle.shell_model.specs.Shells.{FoundOnBanks}
+use Rattle.shell_session.specs.Shells.{FoundOnBanks}
 use Rattle.shell_session.specs.SessionLines.{Meters}
 use Rattle.shell_session.specs.RunEnds.{TellsUsage}
-use Rattle.node_words.specs.declared.node.NodeWords.{NodeWords}
-use Rattle.node_words.specs.declared.faults.NodeWordsFault.{NodeWordsFault}
-use Rattle.node_words.specs.declared.faults.NodeWordsFault.TheVariants as words_faults
-use Rattle.node_words.specs.Words.{AreWords}
+use Rattle.node_run.specs.declared.node.NodeWords.{NodeWords}
+use Rattle.node_run.specs.declared.faults.NodeWordsFault.{NodeWordsFault}
+use Rattle.node_run.specs.declared.faults.NodeWordsFault.TheVariants as words_faults
+use Rattle.node_run.specs.Words.{AreWords}
 use Rattle.node_run.proofs.MeterLaws.{meters_as}
 use Rattle.node_run.specs.declared.stops.NodeStop.{NodeStop}
 use Rattle.node_run.specs.declared.stops.NodeStop.TheVariants as stops

@@ -6,19 +6,19 @@ use Rattle.mld_io.specs.declared.events.WireCall.TheVariants.{Took}
 use Rattle.mld_io.specs.Disk.{Log}
 use Rattle.mld_io.specs.Wires.{WireLog}
 use Rattle.journal_store.specs.Closing.{StaysTold}
-use Rattle.clone_banks.specs.KeptSteps.{KeptStep}
-use Rattle.shell_model.specs.Shells.{FoundOnBanks, Stored, found_after}
-use Rattle.shell_model.proofs.RunLaws.{found_both}
+use Rattle.clone_parts.specs.KeptSteps.{KeptStep}
+use Rattle.shell_session.specs.Shells.{FoundOnBanks, Stored, found_after}
+use Rattle.shell_session.proofs.RunLaws.{found_both}
 use Rattle.shell_session.specs.SessionLines.{ImagesFind, LeavesFront, LeavesFrontOfDue}
-use Rattle.node_words.specs.declared.node.NodeWords.{NodeWords}
-use Rattle.node_words.specs.Words.{AreWords}
-use Rattle.node_exchange.specs.declared.connections.Sent.{Sent}
-use Rattle.node_keeper.specs.declared.states.NodeState.{NodeState}
-use Rattle.node_keeper.specs.NodeStates as states
+use Rattle.node_run.specs.declared.node.NodeWords.{NodeWords}
+use Rattle.node_run.specs.Words.{AreWords}
+use Rattle.node_model.specs.declared.connections.Sent.{Sent}
+use Rattle.node_core.specs.declared.states.NodeState.{NodeState}
+use Rattle.node_core.specs.NodeStates as states
 use Rattle.node_model.specs.Keepers.{Keeper, keeper_found}
 use Rattle.node_model.specs.Events.{NodeValue, NodeStep, NodeRuns, log_after}
 use Rattle.node_model.specs.NodeLaws.{NodeStepsLead}
-use Rattle.node_keeper.specs.NodeStates.{FindsNow}
+use Rattle.node_core.specs.NodeStates.{FindsNow}
 use Rattle.node_core.specs.Nodes.{BankedNode, node_value, node_banks}
 use Rattle.node_core.specs.NodeEvents.{IsDueByEvent}
 use Rattle.node_run.specs.declared.stops.NodeStop.{NodeStop}

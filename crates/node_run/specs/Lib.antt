@@ -3,3 +3,5 @@ pub mod Start
 pub mod ServiceEnds
 pub mod NodeBegun
 pub mod ServiceUnderWay
+pub mod WordSpelling
+pub mod Words

@@ -3,16 +3,16 @@ use Rattle.std.specs.Prelude.{◌≡◌, ◌⊎◌, ℕ, List, [], Option, Some,
 use Rattle.mld_io.specs.Disk.{Log, seen}
 use Rattle.journal_sides.specs.Pairs.{read_banks}
 use Rattle.mld_model.specs.Local.{LocalClone}
-use Rattle.clone_banks.specs.KeptSteps.{KeptStep}
+use Rattle.clone_parts.specs.KeptSteps.{KeptStep}
 use Rattle.clone_core.specs.Banked.{BankedClone}
-use Rattle.shell_model.specs.Shells.{FoundOnBanks, Damage, found_in}
+use Rattle.shell_session.specs.Shells.{FoundOnBanks, Damage, found_in}
 use Rattle.shell_session.specs.Sessions.{HasFound}
 use Rattle.shell_session.specs.SessionLines.{ImagesFind, LeavesFront}
 use Rattle.shell_session.specs.RunEnds.{LeavesDone}
-use Rattle.node_words.specs.declared.node.NodeWords.{NodeWords}
-use Rattle.node_keeper.specs.declared.states.NodeState.{NodeState}
-use Rattle.node_keeper.specs.declared.states.NodeState.TheVariants as states
-use Rattle.node_keeper.specs.NodeStates.{state_banks, keeper_of}
+use Rattle.node_run.specs.declared.node.NodeWords.{NodeWords}
+use Rattle.node_core.specs.declared.states.NodeState.{NodeState}
+use Rattle.node_core.specs.declared.states.NodeState.TheVariants as states
+use Rattle.node_core.specs.NodeStates.{state_banks, keeper_of}
 use Rattle.node_model.specs.Keepers.{keeper_found}
 use Rattle.node_run.specs.Start.{Begins, IsDueAtFirst, IsOther}
 use Rattle.node_run.specs.declared.stops.NodeStop.{NodeStop}

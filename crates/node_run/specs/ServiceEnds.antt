@@ -6,13 +6,13 @@ use Rattle.mld_io.specs.declared.events.Event.{Event}
 use Rattle.mld_io.specs.declared.events.WireCall.TheVariants.{Took}
 use Rattle.mld_io.specs.Disk.{Log}
 use Rattle.mld_io.specs.Wires.{WireLog}
-use Rattle.clone_banks.specs.KeptSteps.{KeptStep}
-use Rattle.shell_model.specs.Shells.{FoundOnBanks, Damage}
+use Rattle.clone_parts.specs.KeptSteps.{KeptStep}
+use Rattle.shell_session.specs.Shells.{FoundOnBanks, Damage}
 use Rattle.shell_session.specs.Sessions.{HasFound}
 use Rattle.shell_session.specs.RunEnds.{LeavesDone}
-use Rattle.node_words.specs.declared.node.NodeWords.{NodeWords}
-use Rattle.node_words.specs.Words.{AreWords}
-use Rattle.node_exchange.specs.declared.connections.Sent.{Sent}
+use Rattle.node_run.specs.declared.node.NodeWords.{NodeWords}
+use Rattle.node_run.specs.Words.{AreWords}
+use Rattle.node_model.specs.declared.connections.Sent.{Sent}
 use Rattle.node_model.specs.Keepers.{Keeper, keeper_found}
 use Rattle.node_model.specs.Events.{NodeValue, NodeStep, NodeRuns, log_after}
 use Rattle.node_core.specs.NodeEvents.{IsDueByEvent}

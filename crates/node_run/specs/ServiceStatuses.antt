@@ -8,10 +8,10 @@ use Rattle.journal_store.specs.declared.faults.MakeFault.{MakeFault}
 use Rattle.journal_store.specs.declared.faults.MakeFault.TheVariants as make
 use Rattle.journal_store.specs.declared.faults.MountFault.{MountFault}
 use Rattle.journal_store.specs.declared.faults.MountFault.TheVariants as mount
-use Rattle.node_words.specs.declared.faults.NodeWordsFault.{NodeWordsFault}
-use Rattle.node_words.specs.declared.faults.NodeWordsFault.TheVariants as words
-use Rattle.node_keeper.specs.declared.faults.NodeFault.{NodeFault}
-use Rattle.node_keeper.specs.declared.faults.NodeFault.TheVariants as node
+use Rattle.node_run.specs.declared.faults.NodeWordsFault.{NodeWordsFault}
+use Rattle.node_run.specs.declared.faults.NodeWordsFault.TheVariants as words
+use Rattle.node_core.specs.declared.faults.NodeFault.{NodeFault}
+use Rattle.node_core.specs.declared.faults.NodeFault.TheVariants as node
 use Rattle.node_run.specs.declared.stops.NodeStop.{NodeStop}
 use Rattle.node_run.specs.declared.stops.NodeStop.TheVariants as stops
 

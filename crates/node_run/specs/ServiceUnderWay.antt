@@ -5,13 +5,13 @@ use Rattle.mld_io.specs.declared.events.Event.{Event}
 use Rattle.mld_io.specs.Disk.{Log}
 use Rattle.mld_io.specs.Faults.{Rose}
 use Rattle.mld_io.specs.Wires.{WireLog}
-use Rattle.shell_model.specs.Shells.{FoundOnBanks}
+use Rattle.shell_session.specs.Shells.{FoundOnBanks}
 use Rattle.shell_session.specs.Sessions.{HasFound}
 use Rattle.shell_session.specs.SessionLines.{ImagesFind, LeavesFront, LeavesFrontOfDue}
-use Rattle.node_exchange.specs.declared.connections.Sent.{Sent}
+use Rattle.node_model.specs.declared.connections.Sent.{Sent}
 use Rattle.node_model.specs.Keepers.{keeper_found}
 use Rattle.node_model.specs.Events.{log_after}
-use Rattle.node_keeper.specs.NodeStates.{FindsNow}
+use Rattle.node_core.specs.NodeStates.{FindsNow}
 use Rattle.node_core.specs.Nodes.{BankedNode, node_value, node_banks}
 use Rattle.node_core.specs.NodeEvents.{DoesEvent, IsDueByEvent}
 use Rattle.node_run.specs.ServiceEnds.{EventsDone, durable_steps_of}

@@ -4,11 +4,11 @@ use Rattle.mld_ops.specs.Entry.{EntryValue}
 use Rattle.mld_ops.specs.Properties.{AreKept}
 use Rattle.journal_sides.specs.Heads.{HeadValue}
 use Rattle.mld_model.specs.Local.{LocalClone}
-use Rattle.clone_banks.specs.KeptSteps.{KeptStep, Created}
+use Rattle.clone_parts.specs.KeptSteps.{KeptStep, Created}
 use Rattle.clone_core.specs.Banked.{head_of}
-use Rattle.shell_model.specs.Shells.{FoundOnBanks, Nothing, Stored}
-use Rattle.shell_model.specs.ShellStep.{RunsFrom, MakesFirst, first_clone}
-use Rattle.node_words.specs.declared.node.NodeWords.{NodeWords}
+use Rattle.shell_session.specs.Shells.{FoundOnBanks, Nothing, Stored}
+use Rattle.shell_session.specs.ShellStep.{RunsFrom, MakesFirst, first_clone}
+use Rattle.node_run.specs.declared.node.NodeWords.{NodeWords}
 use Rattle.node_model.specs.Keepers.{Keeper, Lives, Asks}
 use Rattle.node_model.specs.Events.{NodeValue}
 

@@ -1,20 +1,20 @@
 //! How a node begins over its banks: the clone that they keep runs again, or one is made, or a leaf is asked for.
 ghost use Rattle.std.specs.Prelude.{◌≡◌, ◌↔◌, Some, IsTrue, IfOk, IfErr};
-ghost use Rattle.iri_rules.specs.Domain.{is_domain};
+ghost use Rattle.text_rules.specs.Domain.{is_domain};
 ghost use Rattle.mld_io.specs.Disk.{Log};
 ghost use Rattle.shell_session.specs.SessionLines.{Meters};
-ghost use Rattle.node_keeper.specs.NodeStates.{IsOpen};
+ghost use Rattle.node_core.specs.NodeStates.{IsOpen};
 ghost use Rattle.journal_store.specs.Standing.{KeepsNothing};
-ghost use Rattle.shell_model.specs.Shells.{Nothing};
+ghost use Rattle.shell_session.specs.Shells.{Nothing};
 ghost use Rattle.node_run.specs.ServiceStatuses.{IsAtFirst};
 ghost use Rattle.node_run.specs.NodeBegun.{BeginsOn, BeginsShort, IsOfWords, RunsAsFound, RefusesOther, banks_begun, found_on, FailsToBegin};
 
+use crate::node::NodeWords;
 use crate::stops::{NodeStop, make_stop, mount_stop};
 use clone_core::{Asker, MldClone, Mounted};
 use journal_store::Blank;
 use mld_io::Banks;
-use node_keeper::NodeState;
-use node_words::NodeWords;
+use node_core::NodeState;
 use std::alloc::Global;
 use std::thread::Threads;
 

@@ -3,15 +3,15 @@ ghost use Rattle.std.specs.Prelude.{◌≡◌, Some, map};
 ghost use Rattle.std.specs.String.{string_bytes};
 ghost use Rattle.shell_session.specs.SessionLines.{Meters};
 ghost use Rattle.shell_session.specs.RunEnds.{TellsUsage, IfFound};
-ghost use Rattle.node_words.specs.Words.{AreRefused};
+ghost use Rattle.node_run.specs.Words.{AreRefused};
 ghost use Rattle.node_run.specs.ServiceStatuses.{service_status, damaged_of, LeavesWireAndBanks, CountsWire};
 ghost use Rattle.node_run.specs.ServiceEnds.{ServiceEnds};
 
 use crate::begins::begin;
+use crate::node::read_words;
 use crate::stops::{NodeRan, NodeStop, end_run, words_stop};
 use crate::turns::take_turns;
 use mld_io::{Banks, Wire};
-use node_words::read_words;
 use std::alloc::Global;
 use std::thread::Threads;
 
@@ -51,8 +51,13 @@ pub fn serve<R: Threads, W: Wire, B: Banks>(
     // Where the same was found on all that a crash might have left at first, so it is at each moment of what a front of the run's durable
     // steps makes of that; and in the end of what all steps of the events that were done make, and a front of those of the one under way.
     ensures ends { IfFound (B.log banks) (λ found. ServiceEnds result.fault found (record {
-        texts = map (λ w. string_bytes w) words.now.items; turns = result.turns;
-        before = W.log wire.old; after = W.log wire.new; old = B.log banks; now = B.log result.banks })) }
+      texts = map (λ w. string_bytes w) words.now.items;
+      turns = result.turns;
+      before = W.log wire.old;
+      after = W.log wire.new;
+      old = B.log banks;
+      now = B.log result.banks;
+    })) }
     // 6 comes just where the banks had a fault, which was a real one if they aren't armed.
     ensures meter { Meters (B.meter banks) (B.meter result.banks) (result.fault ≡ Some NodeStop.Device) }
     // 9 comes just where the wire had one.

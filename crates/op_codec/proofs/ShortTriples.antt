@@ -9,8 +9,8 @@ use Rattle.rdf_terms.specs.Spelling.{iri_text, datatype_text, term_text, triple_
 use Rattle.rdf_terms.specs.declared.terms.Term.{Term}
 use Rattle.rdf_terms.specs.declared.terms.Term.TheVariants as terms
 use Rattle.rdf_terms.specs.declared.terms.Triple.{Triple}
-use Rattle.term_texts.specs.Escaped.{escaped, escaped_byte}
-use Rattle.term_texts.specs.Marks.{space, quote, dot, greater, at_sign, line_feed, carriage_return, backslash}
+use Rattle.text_rules.specs.Escaped.{escaped, escaped_byte}
+use Rattle.text_rules.specs.Marks.{space, quote, dot, greater, at_sign, line_feed, carriage_return, backslash}
 use Rattle.op_codec.specs.Stored.{IsShortTriple}
 
 -- at most two bytes for a byte

@@ -7,7 +7,7 @@ ghost use Rattle.rdf_terms.specs.Grammar.{IsTripleWithin};
 ghost use Rattle.rdf_terms.specs.Literal.{lexical_form, lexical_limit};
 ghost use Rattle.rdf_terms.specs.declared.terms.Term.TheVariants as terms;
 ghost use Rattle.rdf_terms.specs.declared.terms.Triple.{Triple};
-ghost use Rattle.term_texts.specs.Escaped.{escaped, escaped_byte};
+ghost use Rattle.text_rules.specs.Escaped.{escaped, escaped_byte};
 
 use mld_ops::{Entry, Message, Snapshot, Tagged};
 use rdf_terms::{Literal, Term, Triple};

@@ -2,7 +2,7 @@
 use Rattle.std.proofs.Common.{◌≡◌, ℕ, ◌+◌, ◌-◌, ◌<◌, ◌≤◌, List, [], ◌∷◌, ◌++◌, length, get_or, take, drop, refl, sym, ap, ◌∙◌, arith, append_assoc}
 use Rattle.std.proofs.lemmas.List.{take_more, append-nil, take-take, take-append-le, length-append, length-take-le, drop-append-le, length-take, drop-take, drop_all, take_all}
 use Rattle.rdf_terms.specs.Kept.{KeepsStart}
-use Rattle.term_texts.specs.Escaped.{escaped, escaped_byte}
+use Rattle.text_rules.specs.Escaped.{escaped, escaped_byte}
 
 pub keeps_same : (old : List ℕ) → KeepsStart old old
 keeps_same [] = refl

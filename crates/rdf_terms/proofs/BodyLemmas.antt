@@ -11,7 +11,7 @@ use Rattle.rdf_terms.specs.declared.faults.TripleFault.TheVariants.{NotTriple}
 use Rattle.rdf_terms.specs.declared.spots.Spot.{Spot}
 use Rattle.rdf_terms.specs.declared.spots.Spot.TheVariants.{SchemeStart, Scheme, IriRest, Lexical}
 use Rattle.rdf_terms.specs.TripleReading.{Slot, Within, Between, Behind, after_plain, closes, closed, within, step, verdict, resume, run, run_from, Leads}
-use Rattle.term_texts.specs.BytePlaces.{HasByte}
+use Rattle.text_rules.specs.BytePlaces.{HasByte}
 use Rattle.rdf_terms.specs.TripleReads.{IsEscape, PassesPlain, StopsBehind, StopsWithin}
 use Rattle.rdf_terms.proofs.Stops.{leads_on, stops_here, stops_at_end, stops_later, byte_is}
 

@@ -8,7 +8,7 @@ use Rattle.rdf_terms.specs.declared.terms.Kind.{Kind}
 use Rattle.rdf_terms.specs.declared.terms.Kind.TheVariants.{Plain, Datatype, Language}
 use Rattle.rdf_terms.specs.Literal.{LiteralValue, Typed, Tagged, xsd_string, is_same}
 use Rattle.rdf_terms.specs.LiteralView.{literal_of}
-use Rattle.term_texts.specs.Escaped.{escaped}
+use Rattle.text_rules.specs.Escaped.{escaped}
 use Rattle.rdf_terms.specs.Spelling.{iri_text, datatype_text, literal_text, suffix_text}
 use Rattle.rdf_terms.proofs.Plain.{xsd_string_unwritten}
 

@@ -6,7 +6,7 @@ use lib.Utf8.{scalar}
 use Rattle.std.proofs.lemmas.Bool.{cases_Bool, and_from, eqb-true}
 use Rattle.std.proofs.lemmas.List.{append-nil}
 use Rattle.std.proofs.lemmas.List.Folds.{list_all-append}
-use Rattle.iri_rules.specs.Iri.{is_letter, is_scheme_byte, is_excluded}
+use Rattle.text_rules.specs.Iri.{is_letter, is_scheme_byte, is_excluded}
 use Rattle.rdf_terms.specs.declared.spots.Spot.{Spot}
 use Rattle.rdf_terms.specs.declared.spots.Spot.TheVariants.{SchemeStart, Scheme, IriRest, Lexical}
 use Rattle.rdf_terms.specs.declared.terms.Triple.{Triple}

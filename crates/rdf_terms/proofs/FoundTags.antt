@@ -3,10 +3,10 @@ use Rattle.std.proofs.Common.{◌≡◌, ℕ, List, [], ◌∷◌, ◌++◌, Boo
 use Rattle.std.specs.Str.{str_to_ascii_lowercase}
 use Rattle.std.proofs.lemmas.Bool.{cases_Bool, and_from}
 use Rattle.std.proofs.lemmas.List.{append-nil}
-use Rattle.iri_rules.specs.Iri.{is_letter, is_digit}
+use Rattle.text_rules.specs.Iri.{is_letter, is_digit}
 use Rattle.rdf_terms.specs.declared.terms.Term.TheVariants as terms
 use Rattle.rdf_terms.specs.declared.terms.Triple.{Triple}
-use Rattle.term_texts.specs.Tags.{is_language_tag, is_primary, is_subtags}
+use Rattle.text_rules.specs.Tags.{is_language_tag, is_primary, is_subtags}
 use Rattle.rdf_terms.specs.Literal.{Tagged}
 use Rattle.rdf_terms.specs.TripleReading.{Tag, Closed, Spelled, step, run, verdict}
 use Rattle.rdf_terms.proofs.FoundPieces.{stopped_spelled}

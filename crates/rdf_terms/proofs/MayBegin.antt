@@ -8,7 +8,7 @@ use Rattle.std.proofs.Math.Utf8.{scalar_cases, low_scalar}
 use lib.Utf8.{scalar}
 use lib.Dec.{ltb}
 use Rattle.std.specs.List.{list_all}
-use Rattle.iri_rules.specs.Iri.{is_letter, is_scheme_byte, is_excluded}
+use Rattle.text_rules.specs.Iri.{is_letter, is_scheme_byte, is_excluded}
 use Rattle.rdf_terms.specs.declared.spots.Spot.{Spot}
 use Rattle.rdf_terms.specs.declared.spots.Spot.TheVariants.{SchemeStart, Scheme, IriRest, Lexical}
 use Rattle.rdf_terms.specs.Escapes.{code_with, is_hexadecimal}

@@ -4,7 +4,7 @@ use Rattle.std.specs.Char.{digit_value}
 use Rattle.std.specs.Str.{str_to_ascii_lowercase}
 use lib.Utf8.{scalar}
 use Rattle.std.proofs.lemmas.Bool.{cond_both}
-use Rattle.iri_rules.specs.Iri.{is_letter, is_digit}
+use Rattle.text_rules.specs.Iri.{is_letter, is_digit}
 use Rattle.rdf_terms.specs.declared.spots.Spot.{Spot}
 use Rattle.rdf_terms.specs.declared.spots.Spot.TheVariants.{SchemeStart, Scheme, IriRest, Lexical}
 use Rattle.rdf_terms.specs.declared.terms.Term.{Term}

@@ -5,7 +5,7 @@ use Rattle.std.specs.List.{list_all, AllByRecursion, flat_map}
 use Rattle.std.proofs.lemmas.Bool.{cases_Bool, and_parts}
 use Rattle.std.proofs.lemmas.Bool.Decides.{nat_tests}
 use Rattle.std.proofs.lemmas.List.{append-nil}
-use Rattle.iri_rules.specs.Iri.{is_letter, is_scheme_byte, is_excluded}
+use Rattle.text_rules.specs.Iri.{is_letter, is_scheme_byte, is_excluded}
 use Rattle.rdf_terms.specs.declared.spots.Spot.{Spot}
 use Rattle.rdf_terms.specs.declared.spots.Spot.TheVariants.{SchemeStart, Scheme, IriRest, Lexical}
 use Rattle.rdf_terms.specs.Escapes.{Piece, Plain, Letter, Short, Long, NamesScalar, piece_text, piece_value, letter_value, code_with, code_of, is_hexadecimal, is_plain_byte, is_escape_letter, IsIriPiece, IsLexicalPiece}

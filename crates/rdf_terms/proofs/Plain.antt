@@ -7,7 +7,7 @@ use Rattle.std.proofs.lemmas.Bool.Decides.{nat_tests}
 use Rattle.std.proofs.lemmas.Slice.Eq.{bytes_eq-Decides}
 use Rattle.std.proofs.lemmas.Str.{IsUtf8-from_ascii}
 use Rattle.std.specs.Str.{IsAscii, IsUtf8}
-use Rattle.iri_rules.specs.Iri.{is_iri, is_absolute, iri_limit}
+use Rattle.text_rules.specs.Iri.{is_iri, is_absolute, iri_limit}
 use Rattle.rdf_terms.specs.declared.terms.Term.TheVariants as terms
 use Rattle.rdf_terms.specs.Building.{is_term_within}
 use Rattle.rdf_terms.specs.Literal.{Typed, IsLiteral, xsd_string, rdf_lang_string, is_same, lexical_limit}

@@ -4,7 +4,7 @@ use Rattle.std.specs.Char.{digit_value}
 use lib.Utf8.{scalar, scalar_cases, low_scalar}
 use Rattle.std.proofs.lemmas.Bool.{and_parts, and_from, cases_lt}
 use Rattle.std.proofs.lemmas.Bool.Decides.{nat_tests}
-use Rattle.iri_rules.specs.Iri.{is_letter, is_scheme_byte, is_excluded}
+use Rattle.text_rules.specs.Iri.{is_letter, is_scheme_byte, is_excluded}
 use Rattle.rdf_terms.specs.declared.spots.Spot.{Spot}
 use Rattle.rdf_terms.specs.declared.spots.Spot.TheVariants.{SchemeStart, Scheme, IriRest, Lexical}
 use Rattle.rdf_terms.specs.Escapes.{is_hexadecimal}

@@ -12,7 +12,7 @@ use Rattle.rdf_terms.specs.declared.terms.Term.TheVariants as terms
 use Rattle.rdf_terms.specs.Grammar.{is_blank}
 use Rattle.rdf_terms.specs.Literal.{Typed, xsd_string, rdf_lang_string, is_same}
 use Rattle.rdf_terms.specs.TripleReading.{Slot, Alone, Subject, Predicate, Object, LexicalForm, Datatype, State, Before, Within, Between, Quoted, Hat, Tag, Closed, Ended, Stopped, step, verdict, resume, run, run_from, Leads, StopsAt}
-use Rattle.term_texts.specs.BytePlaces.{HasByte, LacksByte}
+use Rattle.text_rules.specs.BytePlaces.{HasByte, LacksByte}
 use Rattle.rdf_terms.specs.TripleReads.{SkipsBlanks, PassesBlanks, PassesMark, MissesMark, NeedsIri, TakesIri, IsIri, IsBody, StopsWithin, IsObject, StopsObject, ReadsEnd}
 use Rattle.rdf_terms.proofs.Stops.{leads_on, stops_here, stops_at_end, stops_later, byte_is, byte_here}
 

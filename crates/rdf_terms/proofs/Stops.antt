@@ -4,7 +4,7 @@ use Rattle.std.proofs.lemmas.List.{drop_more, drop_all, length-drop}
 use Rattle.rdf_terms.specs.declared.faults.TripleFault.{TripleFault}
 use Rattle.rdf_terms.specs.declared.faults.TripleFault.TheVariants.{NotTriple, TooLong, NoMemory}
 use Rattle.rdf_terms.specs.TripleReading.{State, Stopped, step, run, verdict, Leads, StopsAt}
-use Rattle.term_texts.specs.BytePlaces.{HasByte}
+use Rattle.text_rules.specs.BytePlaces.{HasByte}
 use Rattle.rdf_terms.proofs.Steps.{run_step, run_stop}
 
 -- a byte that is read

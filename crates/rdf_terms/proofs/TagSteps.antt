@@ -4,14 +4,14 @@ use Rattle.std.specs.Str.{str_to_ascii_lowercase}
 use Rattle.std.proofs.lemmas.Bool.{ne_eqb, false≢true}
 use Rattle.std.proofs.lemmas.Bool.Decides.{nat_tests}
 use Rattle.std.proofs.lemmas.List.{append-nil, drop_all}
-use Rattle.iri_rules.specs.Iri.{is_letter, is_digit}
+use Rattle.text_rules.specs.Iri.{is_letter, is_digit}
 use Rattle.rdf_terms.specs.declared.faults.TripleFault.{TripleFault}
 use Rattle.rdf_terms.specs.declared.faults.TripleFault.TheVariants.{NotTriple}
 use Rattle.rdf_terms.specs.declared.terms.Term.TheVariants as terms
-use Rattle.term_texts.specs.Tags.{is_language_tag, is_subtags, is_primary}
+use Rattle.text_rules.specs.Tags.{is_language_tag, is_subtags, is_primary}
 use Rattle.rdf_terms.specs.Literal.{Tagged}
 use Rattle.rdf_terms.specs.TripleReading.{Tag, Closed, step, verdict, resume, run, Leads, StopsAt}
-use Rattle.term_texts.specs.BytePlaces.{HasByte}
+use Rattle.text_rules.specs.BytePlaces.{HasByte}
 use Rattle.rdf_terms.specs.TripleReads.{IsTagEnd, EndsTag}
 use Rattle.rdf_terms.proofs.BodyLemmas.{run_longer}
 use Rattle.rdf_terms.proofs.Stops.{leads_on, stops_here, stops_at_end, stops_later, byte_is}

@@ -4,10 +4,10 @@ use Rattle.std.specs.Str.{str_to_ascii_lowercase}
 use Rattle.std.proofs.lemmas.Bool.{cases_Bool, and_parts, or_left}
 use Rattle.std.proofs.lemmas.Bool.Decides.{nat_tests}
 use Rattle.std.proofs.lemmas.List.{append-nil}
-use Rattle.iri_rules.specs.Iri.{is_letter, is_digit}
+use Rattle.text_rules.specs.Iri.{is_letter, is_digit}
 use Rattle.rdf_terms.specs.declared.terms.Term.TheVariants as terms
 use Rattle.rdf_terms.specs.Grammar.{is_blank}
-use Rattle.term_texts.specs.Tags.{is_language_tag, is_primary, is_subtags}
+use Rattle.text_rules.specs.Tags.{is_language_tag, is_primary, is_subtags}
 use Rattle.rdf_terms.specs.Literal.{Tagged}
 use Rattle.rdf_terms.specs.TripleReading.{State, Tag, Closed, step, resume, run}
 use Rattle.rdf_terms.proofs.Steps.{run_step}

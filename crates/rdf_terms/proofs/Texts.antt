@@ -6,14 +6,14 @@ use Rattle.std.specs.Str.{IsUtf8}
 use Rattle.std.proofs.lemmas.Bool.Decides.{nat_tests}
 use Rattle.std.proofs.lemmas.Bool.{and_parts, leb-true, cases_lt}
 use Rattle.std.proofs.lemmas.Str.{IsUtf8-append, IsUtf8-from_ascii, IsUtf8-encode, IsUtf8-nil, encode_ascii, inside_one}
-use Rattle.iri_rules.specs.Iri.{is_iri, is_absolute, iri_limit}
+use Rattle.text_rules.specs.Iri.{is_iri, is_absolute, iri_limit}
 use Rattle.rdf_terms.specs.declared.terms.Term.{Term}
 use Rattle.rdf_terms.specs.declared.terms.Term.TheVariants as terms
 use Rattle.rdf_terms.specs.declared.terms.Triple.{Triple}
 use Rattle.rdf_terms.specs.Building.{IsSoundTerm}
 use Rattle.rdf_terms.specs.Grammar.{SpellsTriple, IsTermWithin}
 use Rattle.rdf_terms.specs.Literal.{Typed, Tagged, xsd_string, is_same, lexical_limit}
-use Rattle.term_texts.specs.Escaped.{escaped, escaped_byte}
+use Rattle.text_rules.specs.Escaped.{escaped, escaped_byte}
 use Rattle.rdf_terms.specs.Spelling.{iri_text, datatype_text, term_text, triple_text}
 use Rattle.rdf_terms.specs.Written.{IsWritableTerm, IsUtf8Term, IsWrittenSo}
 use Rattle.rdf_terms.proofs.Written.{written_spelled}

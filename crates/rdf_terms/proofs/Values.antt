@@ -2,7 +2,7 @@
 use Rattle.std.proofs.Common.{◌≡◌, ℕ, ◌-◌, ◌≤◌, List, length, true, false, ◌&&◌, not, IsTrue, sym, subst, ap, ◌∙◌, leb, inl, inr, arith}
 use Rattle.std.specs.Str.{str_to_ascii_lowercase}
 use Rattle.std.proofs.lemmas.Bool.{and_parts, and_from, leb-true, le-leb, false≢true}
-use Rattle.iri_rules.specs.Iri.{is_iri, is_absolute, iri_limit}
+use Rattle.text_rules.specs.Iri.{is_iri, is_absolute, iri_limit}
 use Rattle.rdf_terms.specs.declared.faults.TripleFault.{TripleFault}
 use Rattle.rdf_terms.specs.declared.faults.TripleFault.TheVariants.{NotTriple, TooLong, NoMemory}
 use Rattle.rdf_terms.specs.declared.terms.Term.{Term}
@@ -10,13 +10,13 @@ use Rattle.rdf_terms.specs.declared.terms.Term.TheVariants as terms
 use Rattle.rdf_terms.specs.declared.terms.Triple.{Triple}
 use Rattle.rdf_terms.specs.Building.{is_term_within, is_within, IsSoundTerm, IsSoundTriple, IsNoTriple, RefusesTriple}
 use Rattle.rdf_terms.specs.Grammar.{SpellsObject, SpellsTriple, IsTripleWithin, IsTermWithin}
-use Rattle.term_texts.specs.Tags.{is_language_tag}
+use Rattle.text_rules.specs.Tags.{is_language_tag}
 use Rattle.rdf_terms.specs.Literal.{Typed, Tagged, rdf_lang_string, is_same, lexical_limit}
 use Rattle.rdf_terms.specs.TripleReading.{run, Before, Subject, Spelled, StopsAt}
 use Rattle.rdf_terms.proofs.Plain.{string_absolute, string_typed}
 use Rattle.rdf_terms.proofs.Sound.{read_spelled}
 use Rattle.rdf_terms.proofs.Stopping.{stopped_exactly}
-use Rattle.term_texts.proofs.TagLemmas.{lower_tag, lower_lower}
+use Rattle.text_rules.proofs.TagLemmas.{lower_tag, lower_lower}
 
 term_within : (o : Term) → is_term_within o ≡ true → IsTermWithin o
 term_within (terms.Iri iri) h = leb-true (length iri) iri_limit h

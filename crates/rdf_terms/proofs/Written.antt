@@ -2,14 +2,14 @@
 use Rattle.std.proofs.Common.{◌≡◌, ℕ, List, [], ◌∷◌, ◌++◌, not, eqb, IsTrue, refl, sym, ap, ◌∙◌, subst, inl, inr, append_assoc, eqb-true}
 use Rattle.std.proofs.lemmas.Bool.{cases_Bool}
 use Rattle.std.proofs.lemmas.Slice.Eq.{bytes_eq-Decides}
-use Rattle.iri_rules.specs.Iri.{is_iri}
+use Rattle.text_rules.specs.Iri.{is_iri}
 use Rattle.rdf_terms.specs.declared.terms.Term.{Term}
 use Rattle.rdf_terms.specs.declared.terms.Term.TheVariants as terms
 use Rattle.rdf_terms.specs.declared.terms.Triple.{Triple}
 use Rattle.rdf_terms.specs.Escapes.{Piece, Plain, Letter, piece_text, piece_value, IsIriPiece, IsLexicalPiece, SpellsPieces}
 use Rattle.rdf_terms.specs.Grammar.{is_blanks, SpellsIri, SpellsLexical, SpellsDatatype, SpellsObject, SpellsTriple}
 use Rattle.rdf_terms.specs.Literal.{Typed, Tagged, xsd_string, rdf_lang_string, is_same}
-use Rattle.term_texts.specs.Escaped.{escaped, escaped_byte}
+use Rattle.text_rules.specs.Escaped.{escaped, escaped_byte}
 use Rattle.rdf_terms.specs.Spelling.{iri_text, datatype_text, term_text, triple_text}
 use Rattle.rdf_terms.specs.Written.{IsWritable, IsWritableTerm}
 

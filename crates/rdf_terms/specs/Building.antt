@@ -1,6 +1,6 @@
 -- What a triple must be for its value to be made, and when a text is refused.
 use Rattle.std.specs.Prelude.{ℕ, List, Bool, ◌&&◌, nat_le, IsTrue, length}
-use Rattle.iri_rules.specs.Iri.{is_absolute, iri_limit}
+use Rattle.text_rules.specs.Iri.{is_absolute, iri_limit}
 use Rattle.rdf_terms.specs.declared.faults.TripleFault.{TripleFault}
 use Rattle.rdf_terms.specs.declared.faults.TripleFault.TheVariants.{NotTriple, TooLong, NoMemory}
 use Rattle.rdf_terms.specs.declared.terms.Term.{Term}

@@ -2,7 +2,7 @@
 use Rattle.std.specs.Prelude.{◌≡◌, ℕ, ◌+◌, ◌*◌, List, [], ◌∷◌, Bool, ◌||◌, not, ◌==◌, nat_lt, IsTrue, length, if◌then◌else◌, encode_utf8}
 use Rattle.std.specs.List.{list_all, AllByRecursion, flat_map}
 use Rattle.std.specs.Char.{IsScalar, digit_value}
-use Rattle.term_texts.specs.Marks.{line_feed, carriage_return, quote, apostrophe, backslash, capital_u, small_b, small_f, small_n, small_r, small_t, small_u}
+use Rattle.text_rules.specs.Marks.{line_feed, carriage_return, quote, apostrophe, backslash, capital_u, small_b, small_f, small_n, small_r, small_t, small_u}
 
 -- a part of what stands between the marks of a term: a byte as it is, a backslash and a letter (ECHAR), or `\u` or `\U` and digits (UCHAR)
 pub data Piece : Type 0 where

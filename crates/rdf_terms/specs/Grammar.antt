@@ -3,14 +3,14 @@
 use Rattle.std.specs.Prelude.{◌≡◌, ℕ, List, [], ◌∷◌, ◌++◌, ◌⊎◌, Bool, ◌||◌, not, ◌==◌, ◌≤◌, IsTrue, length}
 use Rattle.std.specs.List.{list_all}
 use Rattle.std.specs.Str.{str_to_ascii_lowercase}
-use Rattle.iri_rules.specs.Iri.{is_iri, iri_limit}
+use Rattle.text_rules.specs.Iri.{is_iri, iri_limit}
 use Rattle.rdf_terms.specs.declared.terms.Term.{Term}
 use Rattle.rdf_terms.specs.declared.terms.Term.TheVariants as terms
 use Rattle.rdf_terms.specs.declared.terms.Triple.{Triple}
 use Rattle.rdf_terms.specs.Escapes.{SpellsPieces, IsIriPiece, IsLexicalPiece}
-use Rattle.term_texts.specs.Tags.{is_language_tag}
+use Rattle.text_rules.specs.Tags.{is_language_tag}
 use Rattle.rdf_terms.specs.Literal.{LiteralValue, Typed, Tagged, xsd_string, rdf_lang_string, is_same, lexical_limit}
-use Rattle.term_texts.specs.Marks.{tab, space, quote, dot, less, greater, at_sign, hat}
+use Rattle.text_rules.specs.Marks.{tab, space, quote, dot, less, greater, at_sign, hat}
 
 -- a space or a tab
 abbrev pub is_blank : ℕ → Bool

@@ -4,8 +4,8 @@ use Rattle.std.specs.Prelude.{◌≡◌, ℕ, List, Bool, not, nat_le, nat_eq, I
 use Rattle.std.specs.Cmp.Lexicographic.{pointwise}
 use Rattle.std.specs.Str.{str_to_ascii_lowercase}
 use Rattle.rdf_terms.specs.declared.limits.TheConstants.{LEXICAL_LIMIT}
-use Rattle.iri_rules.specs.Iri.{is_absolute}
-use Rattle.term_texts.specs.Tags.{is_language_tag}
+use Rattle.text_rules.specs.Iri.{is_absolute}
+use Rattle.text_rules.specs.Tags.{is_language_tag}
 
 -- a literal: a lexical form with its datatype, or a lexical form with its language tag
 pub data LiteralValue : Type 0 where

@@ -14,8 +14,8 @@ use Rattle.std.proofs.lemmas.Slice.Eq.{bytes_eq-Decides}
 use Rattle.rdf_terms.specs.declared.terms.Term.TheVariants as terms
 use Rattle.rdf_terms.specs.declared.terms.Triple.{Triple}
 use Rattle.rdf_terms.specs.Literal.{LiteralValue, Typed, Tagged, xsd_string, is_same}
-use Rattle.term_texts.specs.CompareLaws.{escaped_cmp, same_from_rank}
-use Rattle.term_texts.specs.Escaped.{escaped}
+use Rattle.text_rules.specs.CompareLaws.{escaped_cmp, same_from_rank}
+use Rattle.text_rules.specs.Escaped.{escaped}
 use Rattle.rdf_terms.specs.Spelling.{iri_text, datatype_text, literal_text, term_text}
 use Rattle.rdf_terms.specs.Order.{term_cmp, triple_cmp}
 

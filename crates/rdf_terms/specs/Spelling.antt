@@ -6,8 +6,8 @@ use Rattle.rdf_terms.specs.declared.terms.Term.{Term}
 use Rattle.rdf_terms.specs.declared.terms.Term.TheVariants as terms
 use Rattle.rdf_terms.specs.declared.terms.Triple.{Triple}
 use Rattle.rdf_terms.specs.Literal.{LiteralValue, Typed, Tagged, xsd_string, is_same}
-use Rattle.term_texts.specs.Escaped.{escaped}
-use Rattle.term_texts.specs.Marks.{space, quote, dot, less, greater, at_sign, hat}
+use Rattle.text_rules.specs.Escaped.{escaped}
+use Rattle.text_rules.specs.Marks.{space, quote, dot, less, greater, at_sign, hat}
 
 -- an IRI as it is written
 abbrev pub iri_text : List ℕ → List ℕ

@@ -4,7 +4,7 @@ use Rattle.std.specs.Prelude.{ℕ, zero, suc, ◌+◌, ◌-◌, ◌*◌, ◌^◌
 use Rattle.std.specs.Char.{digit_value}
 use Rattle.std.specs.Str.{str_to_ascii_lowercase}
 use lib.Utf8.{scalar}
-use Rattle.iri_rules.specs.Iri.{is_letter, is_digit, is_scheme_byte, is_excluded}
+use Rattle.text_rules.specs.Iri.{is_letter, is_digit, is_scheme_byte, is_excluded}
 use Rattle.rdf_terms.specs.declared.faults.TripleFault.{TripleFault}
 use Rattle.rdf_terms.specs.declared.faults.TripleFault.TheVariants.{NotTriple, TooLong, NoMemory}
 use Rattle.rdf_terms.specs.declared.spots.Spot.{Spot}
@@ -15,7 +15,7 @@ use Rattle.rdf_terms.specs.declared.terms.Triple.{Triple}
 use Rattle.rdf_terms.specs.Escapes.{is_hexadecimal, is_escape_letter, letter_value, is_plain_byte}
 use Rattle.rdf_terms.specs.Grammar.{is_blank}
 use Rattle.rdf_terms.specs.Literal.{Typed, Tagged, xsd_string, rdf_lang_string, is_same}
-use Rattle.term_texts.specs.Marks.{quote, dash, dot, colon, less, greater, at_sign, backslash, hat, capital_u, small_u}
+use Rattle.text_rules.specs.Marks.{quote, dash, dot, colon, less, greater, at_sign, backslash, hat, capital_u, small_u}
 
 -- ---- within a term
 

@@ -10,10 +10,10 @@ use Rattle.rdf_terms.specs.declared.terms.Term.{Term}
 use Rattle.rdf_terms.specs.declared.terms.Term.TheVariants as terms
 use Rattle.rdf_terms.specs.Escapes.{is_hexadecimal}
 use Rattle.rdf_terms.specs.Grammar.{is_blank}
-use Rattle.term_texts.specs.BytePlaces.{HasByte, LacksByte}
-use Rattle.term_texts.specs.Tags.{is_language_tag}
+use Rattle.text_rules.specs.BytePlaces.{HasByte, LacksByte}
+use Rattle.text_rules.specs.Tags.{is_language_tag}
 use Rattle.rdf_terms.specs.Literal.{Tagged}
-use Rattle.term_texts.specs.Marks.{less, backslash}
+use Rattle.text_rules.specs.Marks.{less, backslash}
 use Rattle.rdf_terms.specs.TripleReading.{Slot, LexicalForm, Part, Between, State, Before, Within, Tag, Closed, Spelled, after_plain, closes, closed, with_letter, step, step_before, run, run_from, Leads, StopsAt}
 
 -- a hexadecimal digit of this value stands at a place

@@ -1,13 +1,13 @@
 -- Triples that are spelled as they are written.
 use Rattle.std.specs.Prelude.{◌≡◌, not, IsTrue}
 use Rattle.std.specs.Str.{IsUtf8, str_to_ascii_lowercase}
-use Rattle.iri_rules.specs.Iri.{is_iri}
+use Rattle.text_rules.specs.Iri.{is_iri}
 use Rattle.rdf_terms.specs.declared.terms.Term.{Term}
 use Rattle.rdf_terms.specs.declared.terms.Term.TheVariants as terms
 use Rattle.rdf_terms.specs.declared.terms.Triple.{Triple}
 use Rattle.rdf_terms.specs.Grammar.{SpellsTriple, IsTripleWithin}
 use Rattle.rdf_terms.specs.Spelling.{triple_text}
-use Rattle.term_texts.specs.Tags.{is_language_tag}
+use Rattle.text_rules.specs.Tags.{is_language_tag}
 use Rattle.rdf_terms.specs.Literal.{LiteralValue, Typed, Tagged, rdf_lang_string, is_same}
 
 -- a term that keeps what terms keep, of any length

@@ -7,9 +7,8 @@ ghost use Rattle.rdf_terms.specs.TripleReads.{PassesPlain, IsBody, StopsWithin};
 use crate::escapes::read_escape;
 use crate::faults::TripleFault;
 use crate::spots::Spot;
-use iri_rules::Text;
 use std::alloc::Global;
-use term_texts::byte_at;
+use text_rules::{Text, byte_at};
 
 /// Passes bytes that stand for themselves: the place of the first other byte, or of the end, and where that one stands.
 fn pass_plain(text: &str, at: usize, spot: Spot) -> (usize, Spot)

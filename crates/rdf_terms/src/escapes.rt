@@ -7,7 +7,7 @@ ghost use Rattle.rdf_terms.specs.TripleReads.{HasDigit, HasNoDigit, HasLetter, H
 
 use crate::faults::TripleFault;
 use crate::spots::Spot;
-use term_texts::byte_at;
+use text_rules::byte_at;
 
 /// An escape that was read: its character, where the next one stands, and the place behind it.
 #[derive(Clone, Copy, Debug)]

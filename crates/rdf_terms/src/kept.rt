@@ -1,7 +1,7 @@
 //! What terms and triples keep, told to a caller, who sees their values alone. These functions do nothing.
 ghost use Rattle.std.specs.Prelude.{IsTrue};
 ghost use Rattle.std.specs.Str.{IsUtf8};
-ghost use Rattle.iri_rules.specs.Iri.{is_absolute};
+ghost use Rattle.text_rules.specs.Iri.{is_absolute};
 ghost use Rattle.rdf_terms.specs.Building.{IsSoundTerm};
 ghost use Rattle.rdf_terms.specs.Literal.{IsLiteral};
 ghost use Rattle.rdf_terms.specs.Written.{IsUtf8Literal, IsUtf8Term, IsWrittenSo};

@@ -7,13 +7,13 @@ ghost use Rattle.std.proofs.Common.{rules};
 ghost use Rattle.std.proofs.lemmas.Map.Lookups.{CmpEqualImpliesEq};
 ghost use Rattle.std.specs.Ordering.{nat_cmp, eq_by_cmp, as_partial_cmp};
 ghost use Rattle.rdf_terms.specs.Spelling.{suffix_text, iri_text, datatype_text, literal_text};
-ghost use Rattle.term_texts.specs.Marks.{at_sign};
+ghost use Rattle.text_rules.specs.Marks.{at_sign};
 ghost use Rattle.rdf_terms.specs.Order.{iri_cmp, term_cmp, triple_cmp};
 ghost use Rattle.rdf_terms.specs.OrderLaws.{term_total, triple_total};
 
 use crate::terms::{Iri, Kind, Literal, Term, Triple, is_string_type};
 use std::cmp::Ordering;
-use term_texts::{cmp_closed, cmp_escaped};
+use text_rules::{cmp_closed, cmp_escaped};
 
 /// Compares two IRIs by their bytes as they are written, so that `<http://d/a#>` comes before `<http://d/a>`.
 pub fn cmp_iris(a: &Iri, b: &Iri) -> Ordering

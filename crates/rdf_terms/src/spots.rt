@@ -4,7 +4,7 @@ ghost use lib.Utf8.{scalar};
 ghost use Rattle.rdf_terms.specs.Escapes.{is_plain_byte};
 ghost use Rattle.rdf_terms.specs.TripleReading.{spot_behind, after_plain, closes, may_hold};
 
-use iri_rules::characters::{is_excluded, is_letter, is_scheme_character};
+use text_rules::characters::{is_excluded, is_letter, is_scheme_character};
 
 /// Where in a term's text a character stands.
 #[derive(Clone, Copy, Debug, PartialEq, Eq)]

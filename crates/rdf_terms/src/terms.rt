@@ -4,10 +4,9 @@ ghost use Rattle.rdf_terms.specs.Literal.{is_same, rdf_lang_string, xsd_string};
 
 use crate::faults::TermFault;
 use crate::limits::LEXICAL_LIMIT;
-use iri_rules::{Text, is_absolute};
 use std::alloc::{AllocError, Global};
 use std::marker::Model;
-use term_texts::{is_language_tag, lower_tag};
+use text_rules::{Text, is_absolute, is_language_tag, lower_tag};
 
 /// An absolute IRI of at most 2,048 bytes.
 #[derive(Debug, Drop)]
@@ -17,7 +16,7 @@ pub struct Iri {
 
 impl Model for Iri {
     ghost use Rattle.std.specs.Prelude.{List, ℕ, IsTrue};
-    ghost use Rattle.iri_rules.specs.Iri.{is_absolute};
+    ghost use Rattle.text_rules.specs.Iri.{is_absolute};
 
     ghost Value = { List ℕ };
 
@@ -29,7 +28,7 @@ impl Model for Iri {
 impl Iri {
     ghost use Rattle.std.specs.Prelude.{◌≡◌, ◌↔◌, IsTrue, IfOk, IfErr, IsErrOf, not};
     ghost use Rattle.rdf_terms.specs.TermFaults.{MayRefuseIri};
-    ghost use Rattle.iri_rules.specs.Iri.{is_absolute};
+    ghost use Rattle.text_rules.specs.Iri.{is_absolute};
 
     /// The IRI of a text, refused with `BadIri` where the text is no absolute IRI of at most 2,048 bytes.
     pub fn new(alloc: Global, text: &str) -> Result<Iri, TermFault>
@@ -159,7 +158,7 @@ impl Literal {
     ghost use Rattle.std.specs.Str.{str_to_ascii_lowercase};
     ghost use Rattle.rdf_terms.specs.TermFaults.{MayRefuseTyped, MayRefuseTagged};
     ghost use Rattle.std.specs.Option.{option_copied};
-    ghost use Rattle.term_texts.specs.Tags.{is_language_tag};
+    ghost use Rattle.text_rules.specs.Tags.{is_language_tag};
     ghost use Rattle.rdf_terms.specs.Literal.{Typed, Tagged, IsLiteral, lexical_form, datatype_of, language_of, is_same, xsd_string, rdf_lang_string, lexical_limit};
 
     /// The literal of a lexical form and a datatype, refused with `BadType` where the datatype is rdf:langString,
@@ -187,7 +186,7 @@ impl Literal {
 
     /// The literal of a lexical form and a language tag, which it keeps in lower case, refused with `BadTag`
     /// where the text is no language tag, else with `TooLong` where the lexical form has more than 1,048,576 bytes.
-    #[tactic(auto, using(term_texts::proofs::TagLemmas::lower_lower, term_texts::proofs::TagLemmas::lower_tag))]
+    #[tactic(auto, using(text_rules::proofs::TagLemmas::lower_lower, text_rules::proofs::TagLemmas::lower_tag))]
     pub fn tagged(alloc: Global, lexical: &str, tag: &str) -> Result<Literal, TermFault>
         ensures ok { IfOk result (λ literal. literal ≡ Tagged lexical.now (str_to_ascii_lowercase tag.now)) }
         ensures bad_tag { IsErrOf result TermFault.BadTag ↔ IsTrue (not (is_language_tag tag.now)) }

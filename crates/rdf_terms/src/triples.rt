@@ -10,8 +10,8 @@ use crate::faults::TripleFault;
 use crate::limits::LEXICAL_LIMIT;
 use crate::read::{self, ObjectParts, TripleParts, read_parts};
 use crate::terms::{Iri, Literal, Term, Triple};
-use iri_rules::IRI_LIMIT;
 use std::alloc::{AllocError, Global};
+use text_rules::IRI_LIMIT;
 
 /// Whether no IRI of an object and no lexical form is too long.
 fn is_object_within(object: &ObjectParts) -> bool

@@ -4,8 +4,8 @@
 ghost use Rattle.std.specs.Prelude.{◌≡◌, [], ◌∷◌, ◌++◌, OnOk, OnErr, MatchOption};
 ghost use Rattle.rdf_terms.specs.Spelling.{suffix_text, iri_text, datatype_text, literal_text, term_text, triple_text};
 ghost use Rattle.rdf_terms.specs.Kept.{KeepsStart};
-ghost use Rattle.term_texts.specs.Marks.{space, backslash};
-ghost use Rattle.term_texts.specs.Escaped.{escaped, escaped_byte};
+ghost use Rattle.text_rules.specs.Marks.{space, backslash};
+ghost use Rattle.text_rules.specs.Escaped.{escaped, escaped_byte};
 
 use crate::terms::{Iri, Kind, Literal, Term, Triple, is_string_type};
 use std::alloc::AllocError;

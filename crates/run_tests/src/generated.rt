@@ -2,11 +2,11 @@
 use crate::replays::{Given, Odd, banks, ended, replay, words};
 use mld_io::{MemorySink, MemorySource, Piece};
 use mld_replay::run::run;
+use net_world::{CloneSummary, Summary};
 use schedule_generator::{generate, text_of};
 use std::alloc::{AllocError, Global};
 use std::test::Fail;
 use std::thread::Threads;
-use world_summaries::{CloneSummary, Summary};
 
 /// The lines of seed 0, as another program worked them out from `docs/FORMATS.md`.
 const OF_ZERO: &[&str] = &[

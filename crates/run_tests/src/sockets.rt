@@ -1,14 +1,14 @@
 //! The wire over TCP, with clients and a peer in the same process. Its owners stand in boxes, and what is done with them is told in plain
 //! words by helpers that they are lent to.
 ghost use Rattle.std.specs.Prelude.{◌≡◌, ◌+◌, ◌-◌, ◌^◌, ◌<◌, ◌≤◌, IfOk};
-ghost use Rattle.tcp_wire.specs.TcpWires.{count_of_taken};
+ghost use Rattle.tcp_node.specs.TcpWires.{count_of_taken};
 
 use mld_io::{Event, IoFault, Wire};
 use std::alloc::Global;
 use std::io::{self, Read, Write};
 use std::net::{Shutdown, SocketAddr, TcpListener, TcpStream};
 use std::test::Fail;
-use tcp_wire::TcpWire;
+use tcp_node::TcpWire;
 
 /// A wire over the sockets of the machine.
 type TestWire = TcpWire<HostRuntime>;

@@ -3,11 +3,11 @@ use crate::replays::{Odd, banks, ended, replay, words};
 use mld_io::{MemorySink, MemorySource};
 use mld_ops::Tagged;
 use mld_replay::run::{RunFault, run};
+use net_world::{CloneSummary, State, Summary};
 use std::alloc::{AllocError, Global};
 use std::test::Fail;
 use std::thread::Threads;
 use tree_clock::{Dot, Path, Range};
-use world_summaries::{CloneSummary, State, Summary};
 
 /// A triple is added at both clones and removed at one, and all of that comes to the other, which adds it once more.
 const REMOVED: &[u8] = b"domain d clones 2\n\

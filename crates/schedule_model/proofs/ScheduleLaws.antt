@@ -7,9 +7,9 @@ use Rattle.std.proofs.lemmas.Bool.{and_parts}
 use Rattle.std.proofs.lemmas.Fmt.{decimal_injective}
 use Rattle.mld_io.specs.declared.banks.Leave.{Leave}
 use Rattle.mld_io.specs.declared.banks.Leave.TheVariants.{Lose, Keep, Torn}
-use Rattle.iri_rules.specs.Domain.{is_domain, is_domain_byte, domain_limit}
+use Rattle.text_rules.specs.Domain.{is_domain, is_domain_byte, domain_limit}
 use Rattle.rdf_terms.specs.Grammar.{SpellsIri, SpellsTriple}
-use Rattle.term_texts.specs.Marks.{dot}
+use Rattle.text_rules.specs.Marks.{dot}
 use Rattle.rdf_terms.specs.declared.terms.Term.TheVariants as terms
 use Rattle.rdf_terms.specs.declared.terms.Triple.{Triple}
 use Rattle.jrql_ast.specs.declared.plans.UpdatePlan.{UpdatePlan}

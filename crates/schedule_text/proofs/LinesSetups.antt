@@ -8,7 +8,7 @@ use Rattle.std.proofs.lemmas.Str.{IsUtf8-from_ascii}
 use Rattle.std.proofs.lemmas.Bool.Decides.{nat_tests}
 use Rattle.std.specs.List.{list_all}
 use Rattle.std.proofs.lemmas.Bool.{and_parts}
-use Rattle.iri_rules.specs.Domain.{is_domain, is_domain_byte}
+use Rattle.text_rules.specs.Domain.{is_domain, is_domain_byte}
 use Rattle.rdf_terms.specs.Grammar.{IsIriText}
 use Rattle.schedule_model.specs.Characters.{space}
 use Rattle.mld_model.specs.World.{clone_count}

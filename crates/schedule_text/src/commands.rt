@@ -1,6 +1,6 @@
 //! Lines that are commands, each in its form.
 ghost use Rattle.std.specs.Prelude.{ℕ, IsTrue, IfOk, IsErrOf, MatchOption};
-ghost use Rattle.iri_rules.specs.Domain.{is_domain};
+ghost use Rattle.text_rules.specs.Domain.{is_domain};
 ghost use Rattle.rdf_terms.specs.declared.terms.Triple.{Triple};
 ghost use Rattle.schedule_model.specs.Schedule.{SpellsAnywhere, SpellsPlain, SpellsCommand};
 ghost use Rattle.schedule_model.specs.declared.Command.{Command};

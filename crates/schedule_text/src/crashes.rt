@@ -1,6 +1,6 @@
 //! Lines that crash a device.
 ghost use Rattle.std.specs.Prelude.{◌≡◌, ◌≢◌, ℕ, List, IsTrue, IfOk, MatchOption};
-ghost use Rattle.iri_rules.specs.Domain.{is_domain};
+ghost use Rattle.text_rules.specs.Domain.{is_domain};
 ghost use Rattle.mld_io.specs.declared.banks.Leave.{Leave};
 ghost use Rattle.schedule_model.specs.Schedule.{SpellsPlain, leave_word};
 ghost use Rattle.schedule_model.specs.Step.{IsTaskInForm};

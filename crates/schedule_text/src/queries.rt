@@ -1,6 +1,6 @@
 //! Lines that are queries.
 ghost use Rattle.std.specs.Prelude.{◌≢◌, IsTrue, IfOk, OnOk, MatchOption};
-ghost use Rattle.iri_rules.specs.Domain.{is_domain};
+ghost use Rattle.text_rules.specs.Domain.{is_domain};
 ghost use Rattle.jrql_ast.specs.InForm.{IsQueryInForm};
 ghost use Rattle.jrql_patterns.specs.declared.queries.ReadQuery.{ReadQuery};
 ghost use Rattle.jsonld_context.specs.declared.faults.JsonFault.TheVariants as faults;

@@ -1,15 +1,15 @@
 //! The domain line, which sets up.
 ghost use Rattle.std.specs.Prelude.{◌≡◌, Some, IsTrue, IfOk, IfErr, IsErrOf, MatchOption};
-ghost use Rattle.iri_rules.specs.Domain.{is_domain};
+ghost use Rattle.text_rules.specs.Domain.{is_domain};
 ghost use Rattle.schedule_model.specs.Schedule.{Setup as ModelSetup, SpellsSetup, SpellsSingle, with_property};
 ghost use Rattle.schedule_text.specs.ReadLines.{Finds, setup_of, SetupIs, IsBadSetup};
 
 use crate::numbers::read_count;
 use crate::refusals::LineRefusal;
 use crate::words::{behind, is_nothing, split_at_space};
-use iri_rules::{Text, is_domain};
 use rdf_terms::{Iri, read_iri};
 use std::alloc::{AllocError, Global};
+use text_rules::{Text, is_domain};
 
 /// How many lines may set a single-valued property, repeats included.
 const SINGLE_LIMIT: usize = 16;

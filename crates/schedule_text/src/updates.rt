@@ -1,6 +1,6 @@
 //! Lines that are updates.
 ghost use Rattle.std.specs.Prelude.{IsTrue, IfOk, MatchOption};
-ghost use Rattle.iri_rules.specs.Domain.{is_domain};
+ghost use Rattle.text_rules.specs.Domain.{is_domain};
 ghost use Rattle.jrql_ast.specs.InForm.{IsPlanInForm};
 ghost use Rattle.jrql_ast.specs.declared.plans.UpdatePlan.{UpdatePlan};
 ghost use Rattle.schedule_model.specs.declared.Command.{Command};

@@ -6,8 +6,8 @@ use Rattle.mld_io.specs.declared.faults.WriteFault.TheVariants as writes
 use Rattle.input_lines.specs.InputFaults.{RoseJustWhere, HasReadCause}
 use Rattle.input_lines.specs.declared.faults.InputFault.{InputFault}
 use Rattle.input_lines.specs.declared.faults.InputFault.TheVariants as inputs
-use Rattle.shell_words.specs.declared.faults.FolderFault.{FolderFault}
-use Rattle.shell_words.specs.declared.faults.FolderFault.TheVariants as words
+use Rattle.shell_run.specs.declared.faults.FolderFault.{FolderFault}
+use Rattle.shell_run.specs.declared.faults.FolderFault.TheVariants as words
 use Rattle.shell_session.specs.declared.faults.SessionFault.{SessionFault}
 use Rattle.shell_session.specs.declared.faults.SessionFault.TheVariants as sessions
 use Rattle.shell_session.specs.RunEnds.{TellsUsage}

@@ -1,3 +1,4 @@
 pub mod WayLemmas
 mod StandingLemmas
 mod FaultLemmas
+mod FolderReading

@@ -1,7 +1,7 @@
 -- What is found on the banks of a session.
 use Rattle.std.proofs.Common.{Option, ap}
 use Rattle.mld_io.specs.Disk.{Log}
-use Rattle.shell_model.specs.Shells.{Shell, Shut, Live, found_in, found_of}
+use Rattle.shell_session.specs.Shells.{Shell, Shut, Live, found_in, found_of}
 use Rattle.shell_session.specs.declared.sessions.Session.{Session}
 use Rattle.shell_session.specs.declared.sessions.Session.TheVariants as sessions
 use Rattle.shell_session.specs.Sessions.{session_banks, HasFound, SessionStands}

@@ -8,13 +8,13 @@ use Rattle.mld_io.proofs.DiskLaws.{AtEachMoment-weaken, AtEachMoment-last, Leave
 use Rattle.mld_io.specs.Lines.{lines_of, after_line, IsCutShort}
 use Rattle.mld_io.proofs.LinesLaws.{first_of_lines_lem}
 use Rattle.journal_sides.specs.Pairs.{read_banks}
-use Rattle.clone_banks.specs.KeptSteps.{KeptStep}
+use Rattle.clone_parts.specs.KeptSteps.{KeptStep}
 use Rattle.input_lines.specs.TooLarge.{left_after, BreaksLimits, IsTooLargeLine}
 use Rattle.input_lines.specs.Taken.{TakesLine, IsLeft, KnowsEnd, ReadsLines}
 use Rattle.input_lines.proofs.TakenLemmas.{left_first, taken_left, taken_fit, all_fit, large_next}
-use Rattle.shell_model.specs.Shells.{Shell, Shut, Live, FoundOnBanks, found_in, found_of, found_after}
-use Rattle.shell_model.specs.ShellRuns.{ShellLine, ShellRuns, IsDueByLine}
-use Rattle.shell_model.proofs.RunLaws.{steps_lead, found_both}
+use Rattle.shell_session.specs.Shells.{Shell, Shut, Live, FoundOnBanks, found_in, found_of, found_after}
+use Rattle.shell_session.specs.ShellRuns.{ShellLine, ShellRuns, IsDueByLine}
+use Rattle.shell_session.proofs.RunLaws.{steps_lead, found_both}
 use Rattle.shell_session.specs.declared.sessions.Session.{Session}
 use Rattle.shell_session.specs.declared.sessions.Session.TheVariants as sessions
 use Rattle.shell_session.specs.Sessions.{session_banks, HasFound, SessionStands}
@@ -22,8 +22,8 @@ use Rattle.shell_session.specs.SessionLines.{ImagesFind, FindsFront, LeavesFront
 use Rattle.shell_session.specs.RunEnds.{LeavesDone}
 use Rattle.shell_run.specs.Inputs.{AreFirstLines, AreAllLines, AreReadLines, AreLinesBefore, AreLinesUpTo, IfTold}
 use Rattle.shell_run.specs.ShellEnds.{LinesDone, ShellEdges, StopsBetweenLines, StopsWithinLine, StopsWriting, between, within, writing, ShellEnds}
-use Rattle.shell_words.specs.declared.faults.FolderFault.{FolderFault}
-use Rattle.shell_words.specs.declared.faults.FolderFault.TheVariants as words_faults
+use Rattle.shell_run.specs.declared.faults.FolderFault.{FolderFault}
+use Rattle.shell_run.specs.declared.faults.FolderFault.TheVariants as words_faults
 use Rattle.shell_run.specs.ShellStatuses.{fault_of_line, fault_of_words, shell_fault_of_input, shell_fault_of_write}
 use Rattle.input_lines.specs.declared.faults.InputFault.{InputFault}
 use Rattle.input_lines.specs.declared.faults.InputFault.TheVariants as inputs

@@ -2,3 +2,4 @@ pub mod ShellStatuses
 pub mod Inputs
 pub mod ShellEnds
 pub mod ShellUnderWay
+pub mod FolderWords

@@ -4,9 +4,9 @@ use Rattle.std.specs.Prelude.{◌≡◌, ◌⊎◌, ℕ, List, [], ◌++◌, tak
 use Rattle.std.specs.Io.KnownBytes.{Appends}
 use Rattle.mld_io.specs.Disk.{Log}
 use Rattle.input_lines.specs.Untouched.{HasNotBegun}
-use Rattle.clone_banks.specs.KeptSteps.{KeptStep}
-use Rattle.shell_model.specs.Shells.{Shell, Shut, FoundOnBanks, found_of}
-use Rattle.shell_model.specs.ShellRuns.{ShellLine, ShellRuns, IsDueByLine}
+use Rattle.clone_parts.specs.KeptSteps.{KeptStep}
+use Rattle.shell_session.specs.Shells.{Shell, Shut, FoundOnBanks, found_of}
+use Rattle.shell_session.specs.ShellRuns.{ShellLine, ShellRuns, IsDueByLine}
 use Rattle.shell_session.specs.Sessions.{HasFound}
 use Rattle.shell_session.specs.RunEnds.{LeavesDone}
 use Rattle.shell_run.specs.Inputs.{AreFirstLines, AreAllLines, AreReadLines, AreLinesBefore, AreLinesUpTo, IfTold}

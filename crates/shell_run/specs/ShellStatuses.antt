@@ -7,8 +7,8 @@ use Rattle.input_lines.specs.declared.faults.InputFault.{InputFault}
 use Rattle.input_lines.specs.declared.faults.InputFault.TheVariants as inputs
 use Rattle.shell_run.specs.declared.run.ShellFault.{ShellFault}
 use Rattle.shell_run.specs.declared.run.ShellFault.TheVariants as faults
-use Rattle.shell_words.specs.declared.faults.FolderFault.{FolderFault}
-use Rattle.shell_words.specs.declared.faults.FolderFault.TheVariants as words
+use Rattle.shell_run.specs.declared.faults.FolderFault.{FolderFault}
+use Rattle.shell_run.specs.declared.faults.FolderFault.TheVariants as words
 use Rattle.shell_session.specs.declared.faults.SessionFault.{SessionFault}
 use Rattle.shell_session.specs.declared.faults.SessionFault.TheVariants as sessions
 

@@ -4,7 +4,7 @@ use Rattle.std.specs.Prelude.{◌≡◌, ℕ, List, Option, Some, length}
 use Rattle.std.specs.Io.KnownBytes.{Appends}
 use Rattle.mld_io.specs.Disk.{Log}
 use Rattle.input_lines.specs.Taken.{IsLeft}
-use Rattle.shell_model.specs.Shells.{FoundOnBanks, found_of}
+use Rattle.shell_session.specs.Shells.{FoundOnBanks, found_of}
 use Rattle.shell_session.specs.declared.sessions.Session.{Session}
 use Rattle.shell_session.specs.Sessions.{session_banks, SessionStands}
 use Rattle.shell_session.specs.SessionLines.{ImagesFind, LeavesFront}

@@ -1,4 +1,9 @@
-//! The run of the shell over a source, a sink and the banks of its clone: its statuses, its text, and what its banks keep.
+//! The run of the shell over the words, the source, the sink and the banks that it is handed.
 #![tactic(auto)]
 
+mod faults;
+mod folder;
 pub mod run;
+
+pub use faults::FolderFault;
+pub use folder::read_folder;

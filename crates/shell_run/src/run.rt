@@ -3,16 +3,17 @@ ghost use Rattle.std.specs.Prelude.{◌≡◌, ◌≢◌, map, Some};
 ghost use Rattle.std.specs.String.{string_bytes};
 ghost use Rattle.input_lines.specs.InputFaults.{RoseJustWhere};
 ghost use Rattle.input_lines.specs.Untouched.{AreUntouched};
-ghost use Rattle.shell_words.specs.FolderWords.{AreRefusedWords};
+ghost use Rattle.shell_run.specs.FolderWords.{AreRefusedWords};
 ghost use Rattle.shell_session.specs.SessionLines.{Meters};
 ghost use Rattle.shell_session.specs.RunEnds.{TellsUsage, IfFound};
 ghost use Rattle.shell_run.specs.ShellEnds.{ShellEnds};
 ghost use Rattle.shell_run.specs.ShellStatuses.{shell_status, fault_of_words, fault_of_line, shell_fault_of_input, shell_fault_of_write};
 
+use crate::faults::FolderFault;
+use crate::folder::read_folder;
 use input_lines::{INPUT_LIMIT, InputFault, LINE_LIMIT, next_line};
 use mld_io::{Banks, Lines, Sink, Source, WriteFault, write_all};
 use shell_session::{Session, SessionFault};
-use shell_words::{FolderFault, read_folder};
 use std::alloc::{AllocError, Global};
 use std::thread::Threads;
 use thiserror::Error;
@@ -83,8 +84,12 @@ pub fn shell<R: Threads, S: Source, K: Sink, B: Banks>(
     // Where the same was found on all that a crash might have left at first, so it is at each moment of what a front of the run's durable
     // steps makes of that; and in the end of what all steps of the lines that were answered make, and a front of those under way.
     ensures ends { IfFound (B.log banks) (λ found. ShellEnds result.fault found (S.left source.new) (record {
-        given = S.left source.old; before = K.held sink.old; after = K.held sink.new;
-        old = B.log banks; now = B.log result.banks })) }
+      given = S.left source.old;
+      before = K.held sink.old;
+      after = K.held sink.new;
+      old = B.log banks;
+      now = B.log result.banks;
+    })) }
     // 6 comes just where the banks had a fault, which was a real one if they aren't armed.
     ensures meter { Meters (B.meter banks) (B.meter result.banks) (result.fault ≡ Some ShellFault.Device) }
     // 2 comes just where the source had a fault, and 3 where the sink had one.
@@ -148,8 +153,12 @@ fn do_lines<R: Threads, S: Source, K: Sink, B: Banks>(
     ensures status { result.status ≡ shell_status result.fault }
     ensures begun { result.fault ≢ Some ShellFault.Usage }
     ensures ends { IfFound (B.log banks) (λ found. ShellEnds result.fault found (S.left source.new) (record {
-        given = S.left source.old; before = K.held sink.old; after = K.held sink.new;
-        old = B.log banks; now = B.log result.banks })) }
+      given = S.left source.old;
+      before = K.held sink.old;
+      after = K.held sink.new;
+      old = B.log banks;
+      now = B.log result.banks;
+    })) }
     ensures meter { Meters (B.meter banks) (B.meter result.banks) (result.fault ≡ Some ShellFault.Device) }
     ensures reads { RoseJustWhere (result.fault ≡ Some ShellFault.ReadFault)
         (S.faults source.old) (S.faults source.new) }

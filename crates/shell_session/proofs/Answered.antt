@@ -3,7 +3,7 @@ use Rattle.std.proofs.Common.{◌≡◌, ◌≢◌, ℕ, Vec, Global, List, [], 
 use Rattle.uuid.specs.declared.Uuid.{Uuid}
 use Rattle.mld_io.specs.Arm.{Meter}
 use Rattle.mld_io.specs.Disk.{Log, seen}
-use Rattle.iri_rules.specs.declared.texts.Text.{Text}
+use Rattle.text_rules.specs.declared.texts.Text.{Text}
 use Rattle.rdf_terms.specs.declared.terms.Iri.{Iri}
 use Rattle.mld_io.specs.declared.banks.Side.{Side}
 use Rattle.rdf_terms.specs.Order.{iri_cmp}
@@ -18,11 +18,11 @@ use Rattle.journal_store.specs.Mounting.{IsSynced}
 use Rattle.journal_store.specs.declared.faults.MountFault.{MountFault}
 use Rattle.clone_core.specs.Opening.{TellsClone, SyncsBoth}
 use Rattle.clone_core.specs.declared.mounts.Mounted.TheVariants.{Refused}
-use Rattle.shell_text.specs.declared.commands.ShellCommand.{ShellCommand}
-use Rattle.shell_text.specs.declared.commands.ShellCommand.TheVariants as shell
-use Rattle.shell_model.specs.Shells.{FoundOnBanks, Nothing, Damage, found_of, Shell, Shut}
-use Rattle.shell_model.specs.ShellReply.{FoundDamage, IsClosed, shell_text}
-use Rattle.shell_model.specs.ShellStep.{ShutStep, IsDue}
+use Rattle.shell_session.specs.declared.commands.ShellCommand.{ShellCommand}
+use Rattle.shell_session.specs.declared.commands.ShellCommand.TheVariants as shell
+use Rattle.shell_session.specs.Shells.{FoundOnBanks, Nothing, Damage, found_of, Shell, Shut}
+use Rattle.shell_session.specs.ShellReply.{FoundDamage, IsClosed, shell_text}
+use Rattle.shell_session.specs.ShellStep.{ShutStep, IsDue}
 use Rattle.shell_session.specs.declared.faults.SessionFault.{SessionFault}
 use Rattle.shell_session.specs.declared.faults.SessionFault.TheVariants as faults
 use Rattle.shell_session.specs.declared.sessions.Session.{Session}

@@ -1,3 +1,8 @@
+mod ShellWords
+mod ShellIris
+mod ShellCommands
+mod OneShell
+pub mod RunLaws
 mod Moments
 mod MeterLaws
 mod LiveLaws

@@ -6,16 +6,16 @@ use Rattle.journal_store.specs.Closing.{StaysTold}
 use Rattle.mld_model.specs.Local.{LocalClone}
 use Rattle.mld_model.specs.Reply.{Stopped}
 use Rattle.schedule_model.specs.Schedule.{IsNothing}
-use Rattle.clone_banks.specs.KeptSteps.{KeptStep}
+use Rattle.clone_parts.specs.KeptSteps.{KeptStep}
 use Rattle.clone_core.specs.Banked.{BankedClone, KeepsClone}
-use Rattle.shell_text.specs.declared.commands.ShellCommand.{ShellCommand}
-use Rattle.shell_text.specs.declared.commands.ShellCommand.TheVariants as shell
-use Rattle.shell_text.specs.ReadShell.{IsBadShell, IsShellInForm}
-use Rattle.shell_text.specs.ShellLines.{SpellsShell}
-use Rattle.shell_model.specs.Shells.{FoundOnBanks, Shell, Shut, Live, domain_of, found_of, generation_after}
-use Rattle.shell_model.specs.ShellRuns.{ShellLine, says_nothing, is_bad, commands, IsDueByLine}
-use Rattle.shell_model.specs.ShellReply.{ShellReply, Says, BadLine, shell_text}
-use Rattle.shell_model.specs.ShellStep.{LiveStep, StaysLive, ShellStep, IsDue, IsDueLive}
+use Rattle.shell_session.specs.declared.commands.ShellCommand.{ShellCommand}
+use Rattle.shell_session.specs.declared.commands.ShellCommand.TheVariants as shell
+use Rattle.shell_session.specs.ReadShell.{IsBadShell, IsShellInForm}
+use Rattle.shell_session.specs.ShellLines.{SpellsShell}
+use Rattle.shell_session.specs.Shells.{FoundOnBanks, Shell, Shut, Live, domain_of, found_of, generation_after}
+use Rattle.shell_session.specs.ShellRuns.{ShellLine, says_nothing, is_bad, commands, IsDueByLine}
+use Rattle.shell_session.specs.ShellReply.{ShellReply, Says, BadLine, shell_text}
+use Rattle.shell_session.specs.ShellStep.{LiveStep, StaysLive, ShellStep, IsDue, IsDueLive}
 use Rattle.shell_session.specs.declared.sessions.Session.{Session}
 use Rattle.shell_session.specs.declared.sessions.Session.TheVariants as sessions
 use Rattle.shell_session.specs.SessionLines.{ImagesFind, DoesBy, DoesLine, DoesShellCommand, LeavesFrontOfDue, StopsLine, StopsShellCommand, IsUsable, IsLiveCommand}

@@ -7,10 +7,10 @@ use Rattle.journal_sides.specs.Pairs.{PairReading, KeepsNone, Keeps, Damages, re
 use Rattle.journal_store.specs.Crashes.{LeavesNothingNew}
 use Rattle.journal_store.proofs.DeviceLaws.{weaken_moments, no_moments}
 use Rattle.mld_model.specs.Local.{LocalClone}
-use Rattle.clone_banks.specs.KeptSteps.{KeptStep, Created, Appended, Forked, Swapped, after_step, after_steps, ReadsSome, LeavesSome}
+use Rattle.clone_parts.specs.KeptSteps.{KeptStep, Created, Appended, Forked, Swapped, after_step, after_steps, ReadsSome, LeavesSome}
 use Rattle.clone_core.specs.Banked.{BankedClone, head_of, kept_as, KeepsClone}
 use Rattle.clone_core.specs.DurableCalls.{LeavesFronts}
-use Rattle.shell_model.specs.Shells.{FoundOnBanks, Stored, found_in, found_after_step, found_after}
+use Rattle.shell_session.specs.Shells.{FoundOnBanks, Stored, found_in, found_after_step, found_after}
 use Rattle.shell_session.specs.SessionLines.{ImagesFind, FindsFront, LeavesFront}
 use Rattle.shell_session.specs.Sessions.{HasKept}
 

@@ -8,15 +8,15 @@ use Rattle.journal_store.specs.Crashes.{LeavesNothingNew}
 use Rattle.journal_store.specs.Mounting.{IsSynced}
 use Rattle.mld_model.specs.Local.{LocalClone}
 use Rattle.mld_model.specs.Reply.{Opened}
-use Rattle.clone_banks.specs.KeptSteps.{KeptStep, Created}
+use Rattle.clone_parts.specs.KeptSteps.{KeptStep, Created}
 use Rattle.clone_core.specs.Banked.{BankedClone, KeepsClone, head_of, kept_as}
 use Rattle.clone_core.specs.DurableCalls.{Creates}
 use Rattle.clone_core.specs.Opening.{IsFoundAs, RunsAgain}
-use Rattle.shell_text.specs.declared.commands.ShellCommand.{ShellCommand}
-use Rattle.shell_text.specs.declared.commands.ShellCommand.TheVariants as shell
-use Rattle.shell_model.specs.Shells.{FoundOnBanks, Nothing, Damage, found_in, Shell, Shut, Live}
-use Rattle.shell_model.specs.ShellReply.{ShellReply, Says, FoundNothing, FoundDamage, NotEmpty, MadeClone, shell_text}
-use Rattle.shell_model.specs.ShellStep.{ShutStep, IsDue, first_clone}
+use Rattle.shell_session.specs.declared.commands.ShellCommand.{ShellCommand}
+use Rattle.shell_session.specs.declared.commands.ShellCommand.TheVariants as shell
+use Rattle.shell_session.specs.Shells.{FoundOnBanks, Nothing, Damage, found_in, Shell, Shut, Live}
+use Rattle.shell_session.specs.ShellReply.{ShellReply, Says, FoundNothing, FoundDamage, NotEmpty, MadeClone, shell_text}
+use Rattle.shell_session.specs.ShellStep.{ShutStep, IsDue, first_clone}
 use Rattle.shell_session.specs.declared.sessions.Session.{Session}
 use Rattle.shell_session.specs.declared.sessions.Session.TheVariants as sessions
 use Rattle.shell_session.specs.SessionLines.{ImagesFind, DoesBy, DoesShellCommand, LeavesFrontOfDue}

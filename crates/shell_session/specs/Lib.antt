@@ -1,3 +1,11 @@
+pub mod ShellLines
+pub mod ReadShell
+pub mod ShellLaws
+pub mod ShellRunLaws
+pub mod ShellRuns
+pub mod ShellReply
+pub mod Shells
+pub mod ShellStep
 pub mod SessionLines
 pub mod LiveCalls
 pub mod SessionReplies

@@ -7,11 +7,11 @@ use Rattle.jrql_patterns.specs.declared.queries.ReadQuery.{ReadQuery}
 use Rattle.mld_model.specs.Local.{LocalClone}
 use Rattle.mld_model.specs.Reply.{Reply}
 use Rattle.schedule_model.specs.Querying.{AnswersQuery}
-use Rattle.clone_banks.specs.KeptSteps.{KeptStep}
+use Rattle.clone_parts.specs.KeptSteps.{KeptStep}
 use Rattle.clone_core.specs.Banked.{BankedClone}
 use Rattle.clone_core.specs.DurableCalls.{LeavesFronts}
-use Rattle.shell_model.specs.Shells.{generation_after}
-use Rattle.shell_model.specs.ShellReply.{ShellReply, Says, shell_text}
+use Rattle.shell_session.specs.Shells.{generation_after}
+use Rattle.shell_session.specs.ShellReply.{ShellReply, Says, shell_text}
 
 -- a clone went on by a rule of the model, with this reply: it is open, and at each moment since a crash leaves the old clone after a front of the
 -- durable steps

@@ -3,8 +3,8 @@
 use Rattle.std.specs.Prelude.{◌≡◌, ◌≢◌, ◌++◌, List, Option, Some}
 use Rattle.mld_io.specs.Disk.{Log, seen, LeavesOnly}
 use Rattle.journal_sides.specs.Pairs.{read_banks}
-use Rattle.clone_banks.specs.KeptSteps.{KeptStep}
-use Rattle.shell_model.specs.Shells.{FoundOnBanks, found_in, found_after}
+use Rattle.clone_parts.specs.KeptSteps.{KeptStep}
+use Rattle.shell_session.specs.Shells.{FoundOnBanks, found_in, found_after}
 use Rattle.shell_session.specs.SessionLines.{ImagesFind, FindsFront, LeavesFront}
 
 -- usage is told where the words are refused, and only there; but for want of memory they may not have been read

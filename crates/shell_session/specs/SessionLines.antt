@@ -3,16 +3,16 @@ use Rattle.std.specs.Prelude.{◌≡◌, ◌≢◌, ◌⊎◌, ℕ, ◌≤◌, L
 use Rattle.mld_io.specs.Arm.{Meter, Unarmed}
 use Rattle.mld_io.specs.Disk.{Log, Sides, LeavesOnly, LeavesMeanwhile}
 use Rattle.mld_io.specs.Faults.{counted}
-use Rattle.iri_rules.specs.Domain.{is_domain}
+use Rattle.text_rules.specs.Domain.{is_domain}
 use Rattle.journal_sides.specs.Pairs.{read_banks}
-use Rattle.clone_banks.specs.KeptSteps.{KeptStep}
-use Rattle.shell_text.specs.declared.commands.ShellCommand.{ShellCommand}
-use Rattle.shell_text.specs.declared.commands.ShellCommand.TheVariants as shell
-use Rattle.shell_text.specs.ReadShell.{IsShellInForm}
-use Rattle.shell_model.specs.Shells.{FoundOnBanks, found_in, found_after, Shell, found_of}
-use Rattle.shell_model.specs.ShellReply.{ShellReply, shell_text}
-use Rattle.shell_model.specs.ShellStep.{ShellStep, IsDue}
-use Rattle.shell_model.specs.ShellRuns.{ShellLine, IsDueByLine}
+use Rattle.clone_parts.specs.KeptSteps.{KeptStep}
+use Rattle.shell_session.specs.declared.commands.ShellCommand.{ShellCommand}
+use Rattle.shell_session.specs.declared.commands.ShellCommand.TheVariants as shell
+use Rattle.shell_session.specs.ReadShell.{IsShellInForm}
+use Rattle.shell_session.specs.Shells.{FoundOnBanks, found_in, found_after, Shell, found_of}
+use Rattle.shell_session.specs.ShellReply.{ShellReply, shell_text}
+use Rattle.shell_session.specs.ShellStep.{ShellStep, IsDue}
+use Rattle.shell_session.specs.ShellRuns.{ShellLine, IsDueByLine}
 use Rattle.shell_session.specs.declared.faults.SessionFault.{SessionFault}
 use Rattle.shell_session.specs.declared.faults.SessionFault.TheVariants.{Device}
 use Rattle.shell_session.specs.declared.sessions.Session.{Session}

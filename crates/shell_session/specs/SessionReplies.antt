@@ -1,6 +1,6 @@
 -- What a reply is in the model. The private calls that write replies cite it.
 use Rattle.schedule_replies.specs.Replies.{reply_value}
-use Rattle.shell_model.specs.ShellReply as model
+use Rattle.shell_session.specs.ShellReply as model
 use Rattle.shell_session.specs.declared.replies.ShellReply.{ShellReply}
 use Rattle.shell_session.specs.declared.replies.ShellReply.TheVariants as replies
 

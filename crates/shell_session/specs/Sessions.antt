@@ -4,7 +4,7 @@ use Rattle.mld_io.specs.Disk.{Log, seen}
 use Rattle.journal_sides.specs.Pairs.{read_banks}
 use Rattle.mld_model.specs.Local.{LocalClone}
 use Rattle.clone_core.specs.Banked.{BankedClone, KeepsClone}
-use Rattle.shell_model.specs.Shells.{FoundOnBanks, found_in, Shell, Shut, Live}
+use Rattle.shell_session.specs.Shells.{FoundOnBanks, found_in, Shell, Shut, Live}
 use Rattle.shell_session.specs.declared.sessions.Session.{Session}
 use Rattle.shell_session.specs.declared.sessions.Session.TheVariants as sessions
 

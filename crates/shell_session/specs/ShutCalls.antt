@@ -3,7 +3,7 @@ use Rattle.std.specs.Prelude.{◌≡◌, ℕ, List, ◌++◌}
 use Rattle.mld_io.specs.declared.banks.Side.{Side}
 use Rattle.journal_store.specs.declared.faults.MountFault.{MountFault}
 use Rattle.journal_store.specs.declared.faults.MountFault.TheVariants.{Damaged, Device}
-use Rattle.shell_model.specs.ShellReply.{FoundDamage, shell_text}
+use Rattle.shell_session.specs.ShellReply.{FoundDamage, shell_text}
 use Rattle.shell_session.specs.declared.faults.SessionFault.{SessionFault}
 use Rattle.shell_session.specs.declared.faults.SessionFault.TheVariants as faults
 use Rattle.shell_session.specs.declared.sessions.Session.{Session}

@@ -1,12 +1,23 @@
-//! What the shell does with one line: it is read, done on one clone or on the banks of none, and answered.
+//! The shell of one clone: its lines and what they spell, the model of its steps and runs, and a session on banks that does one line after another.
 #![tactic(auto)]
 
+mod commands;
+mod creations;
 mod faults;
+mod laws;
+mod lines;
 mod live;
 mod replies;
+mod runs;
 mod sessions;
 mod shut;
+mod words;
 
+pub use commands::ShellCommand;
 pub use faults::SessionFault;
+pub use laws::one_shell_command;
+pub use lines::read_shell;
 pub use live::do_live;
+pub use runs::steps_lead;
+pub use schedule_text::LineRefusal;
 pub use sessions::Session;

@@ -4,12 +4,13 @@ ghost use Rattle.jrql_ast.specs.InForm.{IsPlanInForm, IsQueryInForm};
 ghost use Rattle.journal_store.specs.Closing.{StaysTold};
 ghost use Rattle.mld_ops.specs.Ready.{last_dot};
 ghost use Rattle.jrql_ast.specs.Templates.{insertion_of, deletion_of};
-ghost use Rattle.shell_model.specs.ShellReply.{shell_text};
-ghost use Rattle.shell_model.specs.ShellStep.{LiveStep, IsDueLive, AnswersUpdate, AppendsUpdate, CompactsAs, IsDueCompaction, TruncatesAs, IsDueTruncation};
+ghost use Rattle.shell_session.specs.ShellReply.{shell_text};
+ghost use Rattle.shell_session.specs.ShellStep.{LiveStep, IsDueLive, AnswersUpdate, AppendsUpdate, CompactsAs, IsDueCompaction, TruncatesAs, IsDueTruncation};
 ghost use Rattle.shell_session.specs.SessionLines.{Meters, IsUsable, KeepsLive};
 ghost use Rattle.shell_session.specs.LiveCalls.{CloneAnswers, CloneGoesOn, CloneLeavesFrontOfDue, TellsQuery};
 ghost use Rattle.shell_session.specs.SessionReplies.{shell_value};
 
+use crate::commands::ShellCommand;
 use crate::faults::SessionFault;
 use crate::replies::{ShellReply, push_shell_reply};
 use clone_core::{Done, KeepFault, MldClone, UpdateFault};
@@ -19,7 +20,6 @@ use mld_io::Banks;
 use mld_ops::Entry;
 use rdf_terms::Triple;
 use schedule_replies::{Reply, reply_to_query};
-use shell_text::ShellCommand;
 use std::alloc::Global;
 use tree_clock::{Dot, Range};
 

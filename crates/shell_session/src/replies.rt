@@ -2,7 +2,7 @@
 ghost use Rattle.std.specs.Prelude.{◌≡◌, ◌++◌, ◌∷◌, [], codes, OnOk, OnErr};
 ghost use Rattle.std.specs.Fmt.{decimal};
 ghost use Rattle.schedule_model.specs.Characters.{line_end};
-ghost use Rattle.shell_model.specs.ShellReply.{shell_text, DidAt, FoundDamage};
+ghost use Rattle.shell_session.specs.ShellReply.{shell_text, DidAt, FoundDamage};
 ghost use Rattle.shell_session.specs.SessionReplies.{shell_value};
 
 use mld_io::Side;

@@ -1,23 +1,25 @@
 //! A session of the shell: the banks of one clone, and the clone where it is live.
 ghost use Rattle.std.specs.Prelude.{◌≡◌, ◌↔◌, ◌++◌, None, Some, Option, MatchOption, option_map, IsTrue, IfOk, IfErr, OnErr};
-ghost use Rattle.iri_rules.specs.Domain.{is_domain};
+ghost use Rattle.text_rules.specs.Domain.{is_domain};
 ghost use Rattle.journal_store.specs.Closing.{StaysTold};
-ghost use Rattle.shell_text.specs.declared.commands.ShellCommand.TheVariants as commands;
-ghost use Rattle.shell_model.specs.Shells.{Shell};
-ghost use Rattle.shell_model.specs.ShellReply.{shell_text};
+ghost use Rattle.shell_session.specs.declared.commands.ShellCommand.TheVariants as commands;
+ghost use Rattle.shell_session.specs.Shells.{Shell};
+ghost use Rattle.shell_session.specs.ShellReply.{shell_text};
 ghost use Rattle.shell_session.specs.SessionReplies.{shell_value};
 ghost use Rattle.shell_session.specs.Sessions.{session_banks, domain_in, MayDoLine, SessionStands};
 ghost use Rattle.shell_session.specs.SessionLines.{DoesLine, DoesShellCommand, StopsLine, StopsShellCommand, banks_after, FailsOnDevice, Meters, IsUsable, IsLiveCommand, KeepsLive};
 ghost use Rattle.shell_session.specs.declared.sessions.Session.TheVariants as sessions;
 
+use crate::commands::ShellCommand;
 use crate::faults::SessionFault;
+use crate::lines::read_shell;
 use crate::live::do_live;
 use crate::replies::{ShellReply, push_shell_reply};
 use crate::shut::do_shut;
 use clone_core::MldClone;
 use mld_io::Banks;
 use schedule_replies::Reply;
-use shell_text::{LineRefusal, ShellCommand, read_shell};
+use schedule_text::LineRefusal;
 use std::alloc::{AllocError, Global};
 use std::thread::Threads;
 

@@ -1,26 +1,26 @@
 //! Commands while no clone is live: banks are opened, or a clone is made on them.
 ghost use Rattle.std.specs.Prelude.{◌≡◌, IsTrue, IfOk, IfErr, OnErr};
-ghost use Rattle.iri_rules.specs.Domain.{is_domain};
+ghost use Rattle.text_rules.specs.Domain.{is_domain};
 ghost use Rattle.journal_store.specs.Closing.{StaysTold};
-ghost use Rattle.shell_text.specs.declared.commands.ShellCommand.TheVariants as commands;
-ghost use Rattle.shell_model.specs.Shells.{Nothing, Shell, Shut};
+ghost use Rattle.shell_session.specs.declared.commands.ShellCommand.TheVariants as commands;
+ghost use Rattle.shell_session.specs.Shells.{Nothing, Shell, Shut};
 ghost use Rattle.shell_session.specs.Sessions.{MayDoLine, SessionStands};
 ghost use Rattle.shell_session.specs.SessionLines.{DoesShellCommand, StopsShellCommand, banks_after, FailsOnDevice, Meters, IsUsable};
 ghost use Rattle.shell_session.specs.ShutCalls.{TellsDamage, GivesBackUnmounted};
 ghost use Rattle.shell_session.specs.declared.sessions.Session.TheVariants as sessions;
 
+use crate::commands::ShellCommand;
 use crate::faults::SessionFault;
 use crate::replies::ShellReply;
 use crate::sessions::{Session, answer};
 use clone_core::{MldClone, Mounted};
-use iri_rules::Text;
 use journal_store::{Blank, MakeFault, MountFault};
 use mld_io::Banks;
 use rdf_terms::Iri;
 use schedule_replies::Reply;
-use shell_text::ShellCommand;
 use std::alloc::Global;
 use std::thread::Threads;
+use text_rules::Text;
 use uuid::Uuid;
 
 /// Does a command while no clone is live on the banks.

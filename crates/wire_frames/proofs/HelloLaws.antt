@@ -3,7 +3,7 @@ use Rattle.std.proofs.Common.{ℕ, ◌≤◌, ◌&&◌, leb, IsTrue, List, lengt
 use Rattle.std.proofs.lemmas.Bool.{and_parts, leb-true}
 use Rattle.std.specs.List.{list_all}
 use Rattle.std.specs.Str.{IsUtf8}
-use Rattle.iri_rules.specs.Domain.{is_domain, domain_limit, is_domain_byte}
+use Rattle.text_rules.specs.Domain.{is_domain, domain_limit, is_domain_byte}
 use Rattle.mld_bytes.specs.Bytes.{u32_bytes, piece_bytes}
 use Rattle.mld_bytes.proofs.Numbers.{length-u32_bytes}
 use Rattle.op_codec.specs.Stored.{IsId}

@@ -8,10 +8,10 @@ use crate::kinds::{
     Frame, HELLO_KIND, LAST_KIND, MORE_KIND, PART_KIND, PART_SIZE, PAYLOAD_LIMIT, REFUSE_KIND,
     REQUEST_KIND,
 };
-use iri_rules::Text;
 use mld_bytes::{take_bytes, take_u8, take_u32};
 use mld_io::Piece;
 use std::alloc::{AllocError, Global};
+use text_rules::Text;
 use uuid::Uuid;
 
 /// How many bytes of a Hello's payload come before its domain.

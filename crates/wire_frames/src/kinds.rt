@@ -1,13 +1,13 @@
 //! Frames, and what a reader of frames gives.
 ghost use Rattle.std.specs.Prelude.{IsTrue};
 ghost use Rattle.std.specs.Str.{IsUtf8};
-ghost use Rattle.iri_rules.specs.Domain.{is_domain};
+ghost use Rattle.text_rules.specs.Domain.{is_domain};
 ghost use Rattle.op_codec.specs.Stored.{IsId};
 ghost use Rattle.wire_frames.specs.Frames.{IsHello, hello_format};
 
 use crate::faults::FrameFault;
-use iri_rules::Text;
 use mld_io::Piece;
+use text_rules::Text;
 use uuid::Uuid;
 
 /// The kind of a Hello.

@@ -6,10 +6,10 @@ ghost use Rattle.wire_frames.specs.Frames.{IsFrame, IsHello, IsPart, payload, fr
 ghost use Rattle.wire_frames.specs.declared.kinds.Frame.TheVariants as frames;
 
 use crate::kinds::{Frame, HELLO_KIND, LAST_KIND, MORE_KIND, PART_KIND, REFUSE_KIND, REQUEST_KIND};
-use iri_rules::Text;
 use mld_bytes::{put_bytes, put_u8, put_u32};
 use op_codec::append_id;
 use std::alloc::AllocError;
+use text_rules::Text;
 use uuid::Uuid;
 
 /// How many bytes of a part's payload come before its piece.

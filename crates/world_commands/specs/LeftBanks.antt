@@ -8,7 +8,7 @@ use Rattle.journal_store.specs.Crashes.{LeavesNothingNew}
 use Rattle.mld_model.specs.Local.{LocalAsker, LocalClone, joined_clone}
 use Rattle.mld_model.specs.StandsFor.{RunningClone}
 use Rattle.mld_model.specs.declared.CloneState.TheVariants as states
-use Rattle.clone_banks.specs.KeptSteps.{KeptStep, Created, calls_of_all, LeavesMade}
+use Rattle.clone_parts.specs.KeptSteps.{KeptStep, Created, calls_of_all, LeavesMade}
 use Rattle.clone_core.specs.Banked.{BankedAsker, BankedClone, head_of}
 use Rattle.clone_core.specs.DurableCalls.{LeavesFronts}
 use Rattle.clone_core.specs.Opening.{mount_calls}

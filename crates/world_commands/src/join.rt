@@ -1,6 +1,6 @@
 //! The command `join`.
 ghost use Rattle.std.specs.Prelude.{◌≡◌, ◌<◌, vec_len, map, IsTrue, IfOk, IfErr, IsOk};
-ghost use Rattle.iri_rules.specs.Domain.{is_domain};
+ghost use Rattle.text_rules.specs.Domain.{is_domain};
 ghost use Rattle.mld_ops.specs.Messages.{message_value};
 ghost use Rattle.mld_model.specs.Local.{IsNamed};
 ghost use Rattle.mld_model.specs.declared.CloneState.TheVariants as kinds;

@@ -1,6 +1,6 @@
 //! The command `open`.
 ghost use Rattle.std.specs.Prelude.{◌<◌, vec_len, map, IsTrue, IfOk, IsOk};
-ghost use Rattle.iri_rules.specs.Domain.{is_domain};
+ghost use Rattle.text_rules.specs.Domain.{is_domain};
 ghost use Rattle.mld_model.specs.Local.{IsNamed};
 ghost use Rattle.schedule_model.specs.declared.Command.TheVariants as commands;
 ghost use Rattle.world_commands.specs.OpeningBanks.{IsWholeAt, IsUndamaged, IsOpenedAs, OpensBanks};

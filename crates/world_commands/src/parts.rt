@@ -3,11 +3,11 @@ ghost use Rattle.std.specs.Prelude.{◌≡◌, ◌+◌, ◌++◌, ◌∷◌, [],
 ghost use Rattle.mld_ops.specs.Messages.{message_value};
 
 use crate::states::RunningClone;
-use iri_rules::Text;
 use mld_io::Banks;
 use mld_ops::Message;
 use rdf_terms::Iri;
 use std::alloc::AllocError;
+use text_rules::Text;
 
 /// All that a world has beside the number of its steps.
 #[derive(Drop)]

@@ -1,6 +1,6 @@
 //! The states of a world's clones.
 ghost use Rattle.std.specs.Prelude.{◌≡◌, ◌+◌, ◌<◌, ◌≤◌, insert, length, map, slice_set, vec_len, vec_capacity, IsTrue, IfOk, MatchResult};
-ghost use Rattle.iri_rules.specs.Domain.{is_domain};
+ghost use Rattle.text_rules.specs.Domain.{is_domain};
 ghost use Rattle.mld_model.specs.StandsFor.{id_of};
 ghost use Rattle.mld_model.specs.declared.CloneState.TheVariants as kinds;
 ghost use Rattle.world_commands.specs.States.{IsNewAsker, HasState, IsMissingAt, reply_of_state};
@@ -8,7 +8,6 @@ ghost use Rattle.schedule_replies.specs.Replies.{reply_value};
 ghost use Rattle.world_commands.specs.WorldBanks.{BankedState, in_memory};
 
 use clone_core::{Asker, MldClone};
-use iri_rules::Text;
 use journal_store::Blank;
 use mld_io::Banks;
 use mld_model::CloneState;
@@ -16,6 +15,7 @@ use mld_ops::copy_properties;
 use rdf_terms::Iri;
 use schedule_replies::Reply;
 use std::alloc::{AllocError, Global};
+use text_rules::Text;
 use uuid::Uuid;
 
 /// A clone of a world that runs, in its state, with its banks.

@@ -1,7 +1,7 @@
 use Rattle.std.proofs.Common.{sym, ◌∙◌, subst}
 use Rattle.std.proofs.lemmas.Result.{err_from_is_err_and}
 use Rattle.std.specs.Str.{IsUtf8}
-use Rattle.iri_rules.specs.Domain.{is_domain}
+use Rattle.text_rules.specs.Domain.{is_domain}
 use Rattle.journal_sides.proofs.FieldReading.{text_read, text_unfit, text_no_utf8}
 use Rattle.journal_sides.proofs.head_reading.read_domain.Goals as goal
 

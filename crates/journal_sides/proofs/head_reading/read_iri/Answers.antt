@@ -2,7 +2,7 @@ use Rattle.std.proofs.Common.{not, inl, inr, sym, ap, subst}
 use Rattle.std.proofs.lemmas.Result.{err_from_is_err_and}
 use Rattle.std.proofs.lemmas.Bool.{cases_Bool}
 use Rattle.std.specs.Str.{IsUtf8}
-use Rattle.iri_rules.specs.Iri.{is_absolute}
+use Rattle.text_rules.specs.Iri.{is_absolute}
 use Rattle.journal_sides.proofs.FieldReading.{text_read, text_no_utf8}
 use Rattle.journal_sides.proofs.head_reading.read_iri.Goals as goal
 

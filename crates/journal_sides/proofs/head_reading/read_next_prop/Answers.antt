@@ -1,6 +1,6 @@
 use Rattle.std.proofs.Common.{ℕ, List, sym, ap, ◌∙◌}
 use Rattle.std.proofs.lemmas.Result.{err_from_is_err_and}
-use Rattle.iri_rules.specs.Iri.{is_absolute}
+use Rattle.text_rules.specs.Iri.{is_absolute}
 use Rattle.op_codec.specs.StoredLists.{is_above}
 use Rattle.op_codec.proofs.ListLaws.{item_taken, item_unfit, item_refused}
 use Rattle.rdf_terms.specs.Order.{iri_cmp}

@@ -1,6 +1,6 @@
 use Rattle.std.proofs.Common.{drop}
 use Rattle.std.proofs.lemmas.Result.{err_from_is_err_and}
-use Rattle.iri_rules.specs.Iri.{is_absolute}
+use Rattle.text_rules.specs.Iri.{is_absolute}
 use Rattle.op_codec.specs.StoredLists.{is_above, read_list}
 use Rattle.op_codec.specs.Reading.{read_u32}
 use Rattle.op_codec.proofs.ListLaws.{list_begins, under_way_more, under_way_missed, under_way_done, refused_later}

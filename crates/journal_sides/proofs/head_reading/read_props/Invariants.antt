@@ -1,5 +1,5 @@
 use Rattle.std.proofs.Common.{drop}
-use Rattle.iri_rules.specs.Iri.{is_absolute}
+use Rattle.text_rules.specs.Iri.{is_absolute}
 use Rattle.op_codec.proofs.ListLaws.{IsUnderWay}
 use Rattle.op_codec.specs.StoredLists.{is_above, read_list}
 use Rattle.rdf_terms.specs.Order.{iri_cmp}

@@ -1,7 +1,7 @@
 -- A head, piece by piece.
 use Rattle.std.proofs.Common.{◌∙◌, ◌++◌, ap, subst, List, ℕ}
 use Rattle.std.specs.List.{AllByRecursion}
-use Rattle.iri_rules.specs.Iri.{is_absolute}
+use Rattle.text_rules.specs.Iri.{is_absolute}
 use Rattle.mld_bytes.specs.Bytes.{u64_bytes, piece_bytes}
 use Rattle.mld_ops.specs.declared.tagged.Tagged.{Tagged}
 use Rattle.op_codec.proofs.Appending.{on_ok}

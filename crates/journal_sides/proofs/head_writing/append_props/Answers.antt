@@ -1,5 +1,5 @@
 -- The properties so far, each with a text that is an IRI.
-use Rattle.iri_rules.specs.Iri.{is_absolute}
+use Rattle.text_rules.specs.Iri.{is_absolute}
 use Rattle.mld_bytes.specs.Bytes.{piece_bytes}
 use Rattle.op_codec.proofs.Appending.{count_appended, item_appended, all_appended}
 use Rattle.op_codec.proofs.Shapes.{each_none, each_more, each_all}

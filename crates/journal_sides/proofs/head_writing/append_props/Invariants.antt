@@ -1,4 +1,4 @@
-use Rattle.iri_rules.specs.Iri.{is_absolute}
+use Rattle.text_rules.specs.Iri.{is_absolute}
 use Rattle.mld_bytes.specs.Bytes.{piece_bytes}
 use Rattle.op_codec.proofs.Appending.{HasItems}
 use Rattle.op_codec.proofs.Shapes.{EachBelow}

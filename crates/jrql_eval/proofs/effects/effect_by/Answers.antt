@@ -1,7 +1,7 @@
 use Rattle.std.proofs.Common.{◌∙◌, List, ap}
 use Rattle.jrql_ast.specs.declared.patterns.PatternTriple.{PatternTriple}
 use Rattle.jrql_ast.specs.Templates.{made_from}
-use Rattle.jrql_templates.specs.FreshNames.{fresh_name}
+use Rattle.jrql_ast.specs.FreshNames.{fresh_name}
 use Rattle.jrql_eval.proofs.EffectsByPlan.{effect_of_made, pairs_of_each}
 use Rattle.jrql_eval.proofs.effects.effect_by.Goals as goal
 

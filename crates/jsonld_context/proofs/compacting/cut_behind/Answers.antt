@@ -1,6 +1,6 @@
 use Rattle.std.proofs.Common.{◌≡◌, ◌∙◌, ℕ, List, Bool, true, false, get_or, rules, sym, ap}
 use Rattle.std.proofs.lemmas.Str.{IsCharBoundary-after_ascii}
-use Rattle.jsonld_texts.specs.TextForms.{is_delimiter}
+use Rattle.text_rules.specs.TextForms.{is_delimiter}
 use Rattle.jsonld_context.proofs.Delimiters.{front_ends, delimiter_ascii}
 use Rattle.jsonld_context.proofs.compacting.cut_behind.Goals as goal
 

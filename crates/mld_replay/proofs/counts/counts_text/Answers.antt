@@ -1,6 +1,6 @@
 use Rattle.std.proofs.Common.{◌≡◌, ◌∙◌, ◌++◌, ℕ, List, ap, codes, take}
 use Rattle.std.specs.Fmt.{decimal}
-use Rattle.world_summaries.specs.declared.summaries.CloneSummary.{CloneSummary}
+use Rattle.net_world.specs.declared.summaries.CloneSummary.{CloneSummary}
 use Rattle.mld_replay.specs.Counts.{clone_lines}
 use Rattle.mld_replay.proofs.Counting.{least_front}
 use Rattle.mld_replay.proofs.counts.counts_text.Goals as goal

@@ -1,6 +1,6 @@
 use Rattle.std.proofs.Common.{map, take}
 use Rattle.world_commands.specs.WorldBanks.{in_memory}
-use Rattle.world_summaries.specs.WorldSummary.{SummarizesAll}
+use Rattle.net_world.specs.WorldSummary.{SummarizesAll}
 use Rattle.net_world.proofs.summarizing.summarize.Given as goal
 
 abbrev pub invariant-loop-clone : goal.invariant-loop-clone

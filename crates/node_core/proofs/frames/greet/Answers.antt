@@ -1,9 +1,9 @@
 use Rattle.std.proofs.Common.{sym, ◌∙◌, ap}
 use Rattle.wire_frames.specs.declared.kinds.Frame.TheVariants as kinds
-use Rattle.node_exchange.specs.declared.connections.Connection.{Connection}
-use Rattle.node_exchange.specs.Exchanges.{holding, refusing, telling}
-use Rattle.node_exchange.specs.RefusalCodes.{misplaced_code}
-use Rattle.node_keeper.specs.NodeStates.{keeper_of}
+use Rattle.node_model.specs.declared.connections.Connection.{Connection}
+use Rattle.node_model.specs.Exchanges.{holding, refusing, telling}
+use Rattle.node_model.specs.RefusalCodes.{misplaced_code}
+use Rattle.node_core.specs.NodeStates.{keeper_of}
 use Rattle.node_model.specs.Keepers.{question_of}
 use Rattle.node_core.proofs.KindLaws.{quiet_done, hello_misplaced, hello_refused, hello_welcome}
 use Rattle.node_core.proofs.frames.greet.Goals as goal

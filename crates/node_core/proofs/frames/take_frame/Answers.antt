@@ -1,6 +1,6 @@
-use Rattle.node_exchange.specs.Exchanges.{holding, refusing}
-use Rattle.node_exchange.specs.RefusalCodes.{misplaced_code}
-use Rattle.node_keeper.specs.NodeStates.{keeper_of}
+use Rattle.node_model.specs.Exchanges.{holding, refusing}
+use Rattle.node_model.specs.RefusalCodes.{misplaced_code}
+use Rattle.node_core.specs.NodeStates.{keeper_of}
 use Rattle.node_core.proofs.KindLaws.{quiet_done, reply_step, refuse_step}
 use Rattle.node_core.proofs.QuietLaws.{quiet_told}
 use Rattle.node_core.proofs.frames.take_frame.Goals as goal

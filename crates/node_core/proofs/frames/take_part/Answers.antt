@@ -1,8 +1,8 @@
 use Rattle.std.proofs.Common.{refl}
-use Rattle.node_exchange.specs.Exchanges.{holding, refusing}
-use Rattle.node_keeper.specs.NodeStates.{state_banks, keeper_of}
+use Rattle.node_model.specs.Exchanges.{holding, refusing}
+use Rattle.node_core.specs.NodeStates.{state_banks, keeper_of}
 use Rattle.wire_frames.specs.declared.kinds.Frame.TheVariants as kinds
-use Rattle.node_exchange.specs.RefusalCodes.{bad_frame_code, misplaced_code}
+use Rattle.node_model.specs.RefusalCodes.{bad_frame_code, misplaced_code}
 use Rattle.node_model.specs.Keepers.{keeper_found}
 use Rattle.node_core.specs.NodeEvents.{IsDueByFrame}
 use Rattle.node_core.proofs.KindLaws.{keeps_all, quiet_done, part_none, part_waits, part_is_bad, message_answered, message_refused}

@@ -1,8 +1,8 @@
 use Rattle.std.proofs.Common.{sym, ◌∙◌, ap}
 use Rattle.wire_frames.specs.declared.kinds.Frame.TheVariants as kinds
-use Rattle.node_exchange.specs.Exchanges.{ExchangeValue, holding, refusing}
-use Rattle.node_exchange.specs.RefusalCodes.{misplaced_code}
-use Rattle.node_keeper.specs.NodeStates.{keeper_of}
+use Rattle.node_model.specs.Exchanges.{ExchangeValue, holding, refusing}
+use Rattle.node_model.specs.RefusalCodes.{misplaced_code}
+use Rattle.node_core.specs.NodeStates.{keeper_of}
 use Rattle.node_core.proofs.KindLaws.{quiet_done, request_misplaced, request_answered}
 use Rattle.node_core.proofs.frames.take_request.Goals as goal
 

@@ -1,5 +1,5 @@
 use Rattle.std.proofs.Common.{List, ℕ, IsTrue, subst, sym}
-use Rattle.iri_rules.specs.Domain.{is_domain}
+use Rattle.text_rules.specs.Domain.{is_domain}
 use Rattle.node_core.proofs.greeting.hello.Goals as goal
 
 pub write_frame-requires : goal.write_frame-requires

@@ -1,4 +1,4 @@
-use Rattle.node_keeper.specs.NodeStates.{state_banks, keeper_of}
+use Rattle.node_core.specs.NodeStates.{state_banks, keeper_of}
 use Rattle.node_model.specs.Keepers.{keeper_found}
 use Rattle.node_core.specs.NodeEvents.{IsDueByPiece}
 use Rattle.node_core.proofs.PieceLaws.{piece_may}

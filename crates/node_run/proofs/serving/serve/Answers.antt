@@ -1,6 +1,6 @@
 use Rattle.std.proofs.Common.{map, refl}
 use Rattle.std.specs.String.{string_bytes}
-use Rattle.node_words.specs.Words.{AreRefused, never_both}
+use Rattle.node_run.specs.Words.{AreRefused, never_both}
 use Rattle.node_run.specs.NodeBegun.{found_on}
 use Rattle.node_run.proofs.ServeLaws.{words_usage, tells_turns, tells_first, short_ends}
 use Rattle.node_run.proofs.serving.serve.Goals as goal

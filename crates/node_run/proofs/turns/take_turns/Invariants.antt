@@ -1,11 +1,11 @@
 use Rattle.std.proofs.Common.{◌≡◌, ℕ, ◌-◌, ◌≤◌, List, Option, Some}
 use Rattle.mld_io.specs.Disk.{Log}
-use Rattle.shell_model.specs.Shells.{FoundOnBanks}
+use Rattle.shell_session.specs.Shells.{FoundOnBanks}
 use Rattle.shell_session.specs.SessionLines.{Meters}
-use Rattle.node_words.specs.declared.node.NodeWords.{NodeWords}
-use Rattle.node_words.specs.Words.{AreWords}
-use Rattle.node_keeper.specs.NodeStates.{IsOpen}
-use Rattle.node_keeper.specs.NodeStates as states
+use Rattle.node_run.specs.declared.node.NodeWords.{NodeWords}
+use Rattle.node_run.specs.Words.{AreWords}
+use Rattle.node_core.specs.NodeStates.{IsOpen}
+use Rattle.node_core.specs.NodeStates as states
 use Rattle.node_core.specs.Nodes.{node_banks}
 use Rattle.node_run.specs.NodeBegun.{BeginsOn}
 use Rattle.node_run.specs.ServiceUnderWay.{IsServiceUnderWay}

@@ -1,5 +1,5 @@
 use Rattle.std.proofs.Common.{◌≡◌, length, take}
-use Rattle.term_texts.specs.Escaped.{escaped}
+use Rattle.text_rules.specs.Escaped.{escaped}
 use Rattle.op_codec.proofs.short.lexical_count.Given as goal
 
 abbrev pub invariant-loop-byte : goal.invariant-loop-byte

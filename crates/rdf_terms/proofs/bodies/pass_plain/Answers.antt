@@ -1,5 +1,5 @@
 use Rattle.std.proofs.Common.{ℕ, List, length, get_or, ◌<◌, sym, subst, ◌∙◌, arith}
-use Rattle.term_texts.specs.BytePlaces.{HasByte}
+use Rattle.text_rules.specs.BytePlaces.{HasByte}
 use Rattle.rdf_terms.proofs.BodyLemmas.{pass_more}
 use Rattle.rdf_terms.proofs.Stops.{byte_here}
 use Rattle.rdf_terms.proofs.bodies.pass_plain.Goals as goal

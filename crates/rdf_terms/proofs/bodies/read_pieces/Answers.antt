@@ -3,7 +3,7 @@ use Rattle.std.specs.String.{string_bytes}
 use Rattle.std.proofs.lemmas.Result.{err_from_is_err_and}
 use lib.Utf8.{encode}
 use Rattle.rdf_terms.specs.declared.faults.TripleFault.TheVariants.{NotTriple}
-use Rattle.term_texts.specs.BytePlaces.{HasByte}
+use Rattle.text_rules.specs.BytePlaces.{HasByte}
 use Rattle.rdf_terms.proofs.BodyLemmas.{LeadsWithin, body_end, body_stops, body_refused, run_passed, escape_passed, escape_stops, closing_leads, boundary_behind}
 use Rattle.rdf_terms.proofs.bodies.read_pieces.Goals as goal
 

@@ -1,6 +1,6 @@
 use Rattle.std.proofs.Common.{ℕ, ◌+◌, subst, arith}
 use Rattle.rdf_terms.specs.TripleReading.{Behind, Digits}
-use Rattle.term_texts.specs.BytePlaces.{HasByte}
+use Rattle.text_rules.specs.BytePlaces.{HasByte}
 use Rattle.rdf_terms.proofs.EscapeLemmas.{behind_end, short_leads, long_leads, ends_within, letter_stops, letter_escape}
 use Rattle.rdf_terms.proofs.escapes.read_escape.Goals as goal
 

@@ -1,5 +1,5 @@
 use Rattle.std.proofs.Common.{◌≡◌, ℕ, length, get_or, Bool, ◌<◌, sym, ap, subst, ◌∙◌, arith}
-use Rattle.term_texts.specs.BytePlaces.{HasByte}
+use Rattle.text_rules.specs.BytePlaces.{HasByte}
 use Rattle.rdf_terms.proofs.Stops.{byte_of}
 use Rattle.rdf_terms.proofs.TagSteps.{IsTagSoFar, tag_begun, dash_more, dash_stops, character_more, ends_at, ends_all}
 use Rattle.rdf_terms.proofs.read.pass_tag.Goals as goal

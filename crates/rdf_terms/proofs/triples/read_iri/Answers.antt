@@ -1,5 +1,5 @@
 use Rattle.std.proofs.Common.{ℕ, ◌≤◌, ◌<◌, length, arith, sym, subst}
-use Rattle.iri_rules.specs.Iri.{iri_limit}
+use Rattle.text_rules.specs.Iri.{iri_limit}
 use Rattle.rdf_terms.specs.Grammar.{IsIriText}
 use Rattle.rdf_terms.proofs.IriAlone.{iri_text_read, absolute_read, iri_long, iri_ends_early, iri_refused, iri_unlimited}
 use Rattle.rdf_terms.proofs.triples.read_iri.Goals as goal

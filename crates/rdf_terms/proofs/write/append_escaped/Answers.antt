@@ -1,7 +1,7 @@
 use Rattle.std.proofs.Common.{◌≡◌, ℕ, ◌-◌, List, [], ◌∷◌, ◌++◌, length, take, drop, ap, ◌∙◌, arith, Result, is_ok, Ok, Err, if◌then◌else◌}
 use Rattle.std.proofs.lemmas.List.{take_rest}
 use Rattle.std.specs.Result.{OnOk}
-use Rattle.term_texts.specs.Escaped.{escaped}
+use Rattle.text_rules.specs.Escaped.{escaped}
 use Rattle.rdf_terms.proofs.Appending.{plain_step, escape_step, last_piece, keeps_on}
 use Rattle.rdf_terms.proofs.write.append_escaped.Goals as goal
 use Rattle.rdf_terms.proofs.write.append_escaped.Goals.{in-Some+in_ok-append_escape, in_default}

@@ -1,6 +1,6 @@
 use Rattle.std.proofs.Common.{◌≡◌, ◌≤◌, ◌++◌, drop, take}
 use Rattle.rdf_terms.specs.Kept.{KeepsStart}
-use Rattle.term_texts.specs.Escaped.{escaped}
+use Rattle.text_rules.specs.Escaped.{escaped}
 use Rattle.rdf_terms.proofs.write.append_escaped.Given as goal
 
 -- what is written, with the piece that is not copied yet, is the front with its escapes

@@ -2,7 +2,7 @@ use Rattle.std.proofs.Common.{◌∙◌, refl, sym, ap, arith, Some}
 use Rattle.mld_io.specs.Disk.{seen}
 use Rattle.journal_sides.specs.Pairs.{read_banks}
 use Rattle.input_lines.proofs.TakenLemmas.{end_first, end_more, end_cut, end_none, takes_some, end_of_line, advanced, err_same, read_well}
-use Rattle.shell_model.specs.Shells.{found_in}
+use Rattle.shell_session.specs.Shells.{found_in}
 use Rattle.shell_session.specs.Sessions.{session_banks}
 use Rattle.shell_run.specs.Inputs.{AreFirstLines, AreAllLines, AreReadLines, AreLinesBefore}
 use Rattle.shell_run.specs.ShellEnds.{between}

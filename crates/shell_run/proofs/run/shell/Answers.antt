@@ -1,6 +1,6 @@
 use Rattle.std.proofs.Common.{map}
 use Rattle.std.specs.String.{string_bytes}
-use Rattle.shell_words.specs.FolderWords.{AreRefusedWords}
+use Rattle.shell_run.specs.FolderWords.{AreRefusedWords}
 use Rattle.shell_run.proofs.FaultLemmas.{words_usage}
 use Rattle.shell_run.proofs.WayLemmas.{not_read}
 use Rattle.shell_run.proofs.run.shell.Goals as goal

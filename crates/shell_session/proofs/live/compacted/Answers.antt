@@ -2,8 +2,8 @@ use Rattle.std.proofs.Common.{Ok, Err, refl, sym, subst}
 use Rattle.op_fusion.specs.Compacting.{HasNeighbours}
 use Rattle.mld_model.specs.Local.{LocallyCompacts}
 use Rattle.mld_model.specs.Reply.{Kept}
-use Rattle.clone_answers.specs.declared.faults.KeepFault.{KeepFault}
-use Rattle.shell_model.specs.ShellReply.{Says, GenerationsSpent}
+use Rattle.clone_parts.specs.declared.faults.KeepFault.{KeepFault}
+use Rattle.shell_session.specs.ShellReply.{Says, GenerationsSpent}
 use Rattle.shell_session.proofs.LiveLaws.{IsKeepReply, keep_goes, compacts_either}
 use Rattle.shell_session.proofs.live.compacted.Goals as goal
 

@@ -1,5 +1,5 @@
 use Rattle.std.proofs.Common.{[]}
-use Rattle.shell_model.specs.ShellStep.{TruncatesAs, IsDueTruncation}
+use Rattle.shell_session.specs.ShellStep.{TruncatesAs, IsDueTruncation}
 use Rattle.shell_session.specs.SessionReplies.{shell_value}
 use Rattle.shell_session.proofs.LiveLaws.{short, journal_due}
 use Rattle.shell_session.proofs.live.truncate.Goals as goal

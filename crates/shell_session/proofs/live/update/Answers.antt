@@ -1,5 +1,5 @@
 use Rattle.std.proofs.Common.{[]}
-use Rattle.shell_model.specs.ShellStep.{AnswersUpdate, AppendsUpdate}
+use Rattle.shell_session.specs.ShellStep.{AnswersUpdate, AppendsUpdate}
 use Rattle.shell_session.specs.SessionReplies.{shell_value}
 use Rattle.shell_session.proofs.LiveLaws.{short, update_due}
 use Rattle.shell_session.proofs.live.update.Goals as goal

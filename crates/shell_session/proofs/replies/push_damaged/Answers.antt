@@ -1,5 +1,5 @@
 use Rattle.std.proofs.Common.{rules}
-use Rattle.shell_model.specs.ShellReply.{shell_text}
+use Rattle.shell_session.specs.ShellReply.{shell_text}
 use Rattle.shell_session.proofs.replies.push_damaged.Goals as goal
 
 pub returns-in-A-clause-ok : goal.returns-in-A-clause-ok

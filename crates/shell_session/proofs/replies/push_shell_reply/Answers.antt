@@ -1,6 +1,6 @@
 use Rattle.std.proofs.Common.{ap, rules, sym}
 use Rattle.schedule_replies.proofs.RepliesShown.{word_pushed}
-use Rattle.shell_model.specs.ShellReply.{shell_text}
+use Rattle.shell_session.specs.ShellReply.{shell_text}
 use Rattle.shell_session.specs.SessionReplies.{shell_value}
 use Rattle.shell_session.proofs.replies.push_shell_reply.Goals as goal
 

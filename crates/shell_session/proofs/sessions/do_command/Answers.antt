@@ -1,7 +1,7 @@
 use Rattle.std.proofs.Common.{◌≡◌, IfOk, IfErr, sym, subst}
-use Rattle.shell_text.specs.declared.commands.ShellCommand.{ShellCommand}
-use Rattle.shell_text.specs.declared.commands.ShellCommand.TheVariants as commands
-use Rattle.shell_model.specs.Shells.{Shell}
+use Rattle.shell_session.specs.declared.commands.ShellCommand.{ShellCommand}
+use Rattle.shell_session.specs.declared.commands.ShellCommand.TheVariants as commands
+use Rattle.shell_session.specs.Shells.{Shell}
 use Rattle.shell_session.specs.declared.sessions.Session.{Session}
 use Rattle.shell_session.specs.declared.sessions.Session.TheVariants as sessions
 use Rattle.shell_session.specs.SessionLines.{DoesShellCommand, StopsShellCommand}

@@ -1,5 +1,5 @@
 use Rattle.std.proofs.Common.{sym, subst}
-use Rattle.shell_model.specs.Shells.{Shell}
+use Rattle.shell_session.specs.Shells.{Shell}
 use Rattle.shell_session.specs.declared.sessions.Session.TheVariants as sessions
 use Rattle.shell_session.specs.SessionLines.{StopsShellCommand}
 use Rattle.shell_session.specs.Sessions.{SessionStands}

@@ -1,8 +1,8 @@
 use Rattle.std.proofs.Common.{◌≡◌, ◌++◌}
 use Rattle.mld_model.specs.Reply.{Stopped}
-use Rattle.shell_text.specs.declared.commands.ShellCommand.TheVariants as commands
-use Rattle.shell_model.specs.Shells.{Shell}
-use Rattle.shell_model.specs.ShellReply.{Says, shell_text}
+use Rattle.shell_session.specs.declared.commands.ShellCommand.TheVariants as commands
+use Rattle.shell_session.specs.Shells.{Shell}
+use Rattle.shell_session.specs.ShellReply.{Says, shell_text}
 use Rattle.shell_session.specs.declared.sessions.Session.{Session}
 use Rattle.shell_session.specs.declared.sessions.Session.TheVariants as sessions
 use Rattle.shell_session.specs.SessionLines.{DoesShellCommand}

@@ -1,8 +1,8 @@
 use Rattle.std.proofs.Common.{◌≡◌, ◌++◌, refl, sym, subst}
 use Rattle.journal_store.proofs.ClosingLaws.{told_then}
-use Rattle.shell_text.specs.declared.commands.ShellCommand.TheVariants as commands
-use Rattle.shell_model.specs.Shells.{Shell}
-use Rattle.shell_model.specs.ShellReply.{NotEmpty, shell_text}
+use Rattle.shell_session.specs.declared.commands.ShellCommand.TheVariants as commands
+use Rattle.shell_session.specs.Shells.{Shell}
+use Rattle.shell_session.specs.ShellReply.{NotEmpty, shell_text}
 use Rattle.shell_session.specs.declared.sessions.Session.{Session}
 use Rattle.shell_session.specs.declared.sessions.Session.TheVariants as sessions
 use Rattle.shell_session.specs.SessionLines.{DoesShellCommand, StopsShellCommand, banks_after}

@@ -1,5 +1,5 @@
 use Rattle.std.proofs.Common.{◌≡◌, ◌++◌}
-use Rattle.shell_model.specs.ShellReply.{IsClosed, shell_text}
+use Rattle.shell_session.specs.ShellReply.{IsClosed, shell_text}
 use Rattle.shell_session.specs.declared.sessions.Session.{Session}
 use Rattle.shell_session.specs.declared.sessions.Session.TheVariants as sessions
 use Rattle.shell_session.specs.Sessions.{MayDoLine}

@@ -1,8 +1,8 @@
 use Rattle.std.proofs.Common.{◌≡◌, ◌++◌, refl, ◌∙◌}
-use Rattle.shell_text.specs.declared.commands.ShellCommand.TheVariants as commands
-use Rattle.shell_model.specs.Shells.{Nothing, Shut}
-use Rattle.shell_model.specs.ShellReply.{MadeClone, shell_text}
-use Rattle.shell_model.specs.ShellStep.{IsDueShut, first_clone}
+use Rattle.shell_session.specs.declared.commands.ShellCommand.TheVariants as commands
+use Rattle.shell_session.specs.Shells.{Nothing, Shut}
+use Rattle.shell_session.specs.ShellReply.{MadeClone, shell_text}
+use Rattle.shell_session.specs.ShellStep.{IsDueShut, first_clone}
 use Rattle.shell_session.specs.declared.sessions.Session.{Session}
 use Rattle.shell_session.specs.declared.sessions.Session.TheVariants as sessions
 use Rattle.shell_session.specs.SessionLines.{DoesShellCommand, StopsShellCommand}

@@ -1,8 +1,8 @@
 use Rattle.std.proofs.Common.{◌≡◌, ◌++◌, refl, sym, subst}
 use Rattle.mld_model.specs.Reply.{Opened}
-use Rattle.shell_text.specs.declared.commands.ShellCommand.TheVariants as commands
-use Rattle.shell_model.specs.Shells.{Shell}
-use Rattle.shell_model.specs.ShellReply.{Says, FoundNothing, shell_text}
+use Rattle.shell_session.specs.declared.commands.ShellCommand.TheVariants as commands
+use Rattle.shell_session.specs.Shells.{Shell}
+use Rattle.shell_session.specs.ShellReply.{Says, FoundNothing, shell_text}
 use Rattle.shell_session.specs.declared.sessions.Session.{Session}
 use Rattle.shell_session.specs.declared.sessions.Session.TheVariants as sessions
 use Rattle.shell_session.specs.SessionLines.{DoesShellCommand, StopsShellCommand}

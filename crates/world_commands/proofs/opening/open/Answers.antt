@@ -1,6 +1,6 @@
 use Rattle.std.proofs.Common.{◌∙◌, arith, refl, sym, subst, List, ℕ, IsTrue, map}
 use Rattle.std.proofs.lemmas.Result.{IfOk-weaker}
-use Rattle.iri_rules.specs.Domain.{is_domain}
+use Rattle.text_rules.specs.Domain.{is_domain}
 use Rattle.mld_model.specs.declared.CloneState.TheVariants as states
 use Rattle.world_commands.specs.OpeningBanks.{OpensBanks}
 use Rattle.schedule_replies.specs.Replies.{reply_value}

@@ -4,7 +4,7 @@ use Rattle.journal_store.specs.Standing.{IsBlankLog}
 use Rattle.journal_store.proofs.Reading.{metered_as}
 use Rattle.mld_ops.specs.Messages.{SnapshotValue, IsGoodSnapshot, give_value}
 use Rattle.mld_model.specs.Local.{joined_clone}
-use Rattle.clone_banks.specs.BankCalls.{create_calls}
+use Rattle.clone_parts.specs.BankCalls.{create_calls}
 use Rattle.clone_core.specs.Banked.{head_of}
 use Rattle.clone_core.specs.DurableCalls.{Creates}
 use Rattle.clone_core.proofs.DurableLaws.{creates_as, creates_none}

@@ -8,21 +8,21 @@ use Rattle.mld_ops.specs.Ready.{IsReadyEntry}
 use Rattle.journal_store.specs.declared.faults.Why.{Why}
 use Rattle.journal_store.specs.declared.faults.Why.TheVariants as why
 use Rattle.mld_model.specs.Local.{LocallyAccepts}
-use Rattle.clone_banks.specs.Appending.{MayAppendAll}
-use Rattle.clone_banks.specs.BankCalls.{append_calls}
-use Rattle.clone_banks.specs.KeptSteps.{appends}
+use Rattle.clone_parts.specs.Appending.{MayAppendAll}
+use Rattle.clone_parts.specs.BankCalls.{append_calls}
+use Rattle.clone_parts.specs.KeptSteps.{appends}
 use Rattle.clone_core.specs.Banked.{BankedClone}
-use Rattle.clone_answers.specs.CloneFaults.{receive_fault_of}
+use Rattle.clone_parts.specs.CloneFaults.{receive_fault_of}
 use Rattle.clone_core.specs.DurableCalls.{WouldReceive}
 use Rattle.clone_core.specs.View.{local_of}
-use Rattle.clone_answers.specs.declared.answers.Got.{Got}
-use Rattle.clone_answers.specs.declared.answers.Got.TheVariants as got
-use Rattle.clone_answers.specs.declared.faults.ReceiveFault.{ReceiveFault}
-use Rattle.clone_answers.specs.declared.faults.ReceiveFault.TheVariants as receive
+use Rattle.clone_parts.specs.declared.answers.Got.{Got}
+use Rattle.clone_parts.specs.declared.answers.Got.TheVariants as got
+use Rattle.clone_parts.specs.declared.faults.ReceiveFault.{ReceiveFault}
+use Rattle.clone_parts.specs.declared.faults.ReceiveFault.TheVariants as receive
 use Rattle.clone_core.proofs.AppendLaws.{plan_may, taken_on_banks, refused_on_banks}
 use Rattle.clone_core.proofs.DurableLaws.{changes_none, appends_made, done_metered, stopped_metered, receive_tells, receive_would}
 use Rattle.clone_core.proofs.StopLaws.{receive_stops}
-use Rattle.clone_plans.proofs.MakingLaws.{local_ascends, taken_by}
+use Rattle.clone_parts.proofs.MakingLaws.{local_ascends, taken_by}
 use Rattle.clone_core.proofs.Taking.{planned, planned_local, planned_accepts, planned_step}
 use Rattle.clone_core.proofs.clones.MldClone.accept.Goals as goal
 

@@ -2,7 +2,7 @@ use Rattle.std.proofs.Common.{◌≡◌, [], refl, sym, ap, subst}
 use Rattle.journal_sides.specs.Heads.{HeadValue}
 use Rattle.journal_store.proofs.Reading.{metered_as}
 use Rattle.mld_model.specs.Local.{blank_clone}
-use Rattle.clone_banks.specs.BankCalls.{create_calls}
+use Rattle.clone_parts.specs.BankCalls.{create_calls}
 use Rattle.clone_core.specs.Banked.{head_of}
 use Rattle.clone_core.specs.DurableCalls.{Creates}
 use Rattle.clone_core.proofs.DurableLaws.{creates_as}

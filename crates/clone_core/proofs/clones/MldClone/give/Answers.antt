@@ -7,16 +7,16 @@ use Rattle.mld_model.specs.Local.{LocalClone, snapshot_of}
 use Rattle.tree_clock.specs.Limits.{path_limit}
 use Rattle.journal_store.specs.declared.faults.Why.{Why}
 use Rattle.journal_store.specs.declared.faults.Why.TheVariants as why
-use Rattle.clone_banks.specs.KeptSteps.{Forked}
+use Rattle.clone_parts.specs.KeptSteps.{Forked}
 use Rattle.clone_core.specs.Banked.{BankedClone}
-use Rattle.clone_answers.specs.CloneFaults.{receive_fault_of}
+use Rattle.clone_parts.specs.CloneFaults.{receive_fault_of}
 use Rattle.clone_core.specs.DurableCalls.{WouldReceive}
 use Rattle.clone_core.specs.Joining.{LocallyGives}
 use Rattle.clone_core.specs.View.{local_of}
-use Rattle.clone_answers.specs.declared.answers.Got.{Got}
-use Rattle.clone_answers.specs.declared.answers.Got.TheVariants as got
-use Rattle.clone_answers.specs.declared.faults.ReceiveFault.{ReceiveFault}
-use Rattle.clone_answers.specs.declared.faults.ReceiveFault.TheVariants as receive
+use Rattle.clone_parts.specs.declared.answers.Got.{Got}
+use Rattle.clone_parts.specs.declared.answers.Got.TheVariants as got
+use Rattle.clone_parts.specs.declared.faults.ReceiveFault.{ReceiveFault}
+use Rattle.clone_parts.specs.declared.faults.ReceiveFault.TheVariants as receive
 use Rattle.clone_core.proofs.AppendLaws.{fork_may, forked_on_banks, refused_on_banks}
 use Rattle.clone_core.proofs.DurableLaws.{changes_none, changes_made, done_metered, stopped_metered, receive_tells, receive_would}
 use Rattle.clone_core.proofs.Joining.{forks_as, forked_local, gives_good}

@@ -7,22 +7,22 @@ use Rattle.mld_ops.specs.Entry.{EntryValue}
 use Rattle.journal_store.specs.declared.faults.Why.{Why}
 use Rattle.journal_store.specs.declared.faults.Why.TheVariants as why
 use Rattle.mld_model.specs.Local.{LocalClone, next_dot}
-use Rattle.clone_banks.specs.Appending.{MayAppendAll}
-use Rattle.clone_banks.specs.BankCalls.{append_calls}
-use Rattle.clone_banks.specs.KeptSteps.{KeptStep, Appended}
+use Rattle.clone_parts.specs.Appending.{MayAppendAll}
+use Rattle.clone_parts.specs.BankCalls.{append_calls}
+use Rattle.clone_parts.specs.KeptSteps.{KeptStep, Appended}
 use Rattle.clone_core.specs.Banked.{BankedClone}
-use Rattle.clone_answers.specs.CloneFaults.{update_fault_of}
-use Rattle.clone_plans.specs.Making.{IsNextEntry}
+use Rattle.clone_parts.specs.CloneFaults.{update_fault_of}
+use Rattle.clone_parts.specs.Making.{IsNextEntry}
 use Rattle.clone_core.specs.CallParts.{MakesDone}
 use Rattle.clone_core.specs.View.{local_of}
-use Rattle.clone_answers.specs.declared.answers.Done.{Done}
-use Rattle.clone_answers.specs.declared.answers.Done.TheVariants as done
-use Rattle.clone_answers.specs.declared.faults.UpdateFault.{UpdateFault}
-use Rattle.clone_answers.specs.declared.faults.UpdateFault.TheVariants as update
+use Rattle.clone_parts.specs.declared.answers.Done.{Done}
+use Rattle.clone_parts.specs.declared.answers.Done.TheVariants as done
+use Rattle.clone_parts.specs.declared.faults.UpdateFault.{UpdateFault}
+use Rattle.clone_parts.specs.declared.faults.UpdateFault.TheVariants as update
 use Rattle.clone_core.proofs.AppendLaws.{own_may, taken_on_banks, refused_on_banks}
 use Rattle.clone_core.proofs.DurableLaws.{changes_none, appends_made, done_metered, stopped_metered, update_tells, update_would}
 use Rattle.clone_core.proofs.StopLaws.{update_stops}
-use Rattle.clone_plans.proofs.MakingLaws.{path_is, taken_by}
+use Rattle.clone_parts.proofs.MakingLaws.{path_is, taken_by}
 use Rattle.clone_core.proofs.OwnEntries.{made_local, makes_done}
 use Rattle.clone_core.proofs.clones.MldClone.make.Goals as goal
 

@@ -3,8 +3,8 @@ use Rattle.std.proofs.lemmas.Result.{err_from_is_err_and, IfOk-weaker, IfErr-wea
 use Rattle.tree_clock.specs.declared.dots.Dot.{Dot}
 use Rattle.tree_clock.specs.Clock.{ticks_of, Covers}
 use Rattle.mld_model.specs.Local.{next_dot}
-use Rattle.clone_plans.specs.Making.{IsEntryOf, IsNextEntry}
-use Rattle.clone_plans.proofs.MakingLaws.{next_entry}
+use Rattle.clone_parts.specs.Making.{IsEntryOf, IsNextEntry}
+use Rattle.clone_parts.proofs.MakingLaws.{next_entry}
 use Rattle.clone_core.specs.CloneUpdates.{IsMakeable, LocallyUpdates}
 use Rattle.clone_core.specs.CloneClosing.{update_stop}
 use Rattle.clone_core.specs.CallParts.{MakesDone, StopsClone}

@@ -11,19 +11,19 @@ use Rattle.journal_store.specs.Calls.{KeptBy, swapped}
 use Rattle.journal_store.specs.Standing.{KeepsNow}
 use Rattle.journal_store.specs.declared.faults.Why.{Why}
 use Rattle.journal_store.specs.declared.faults.Why.TheVariants as why
-use Rattle.clone_plans.specs.Replays.{AreReadyEntries}
-use Rattle.clone_banks.specs.BankCalls.{append_calls, swap_calls}
-use Rattle.clone_banks.specs.KeptSteps.{Swapped, appends}
-use Rattle.clone_banks.proofs.Appended.{appends_calls}
+use Rattle.clone_parts.specs.Replays.{AreReadyEntries}
+use Rattle.clone_parts.specs.BankCalls.{append_calls, swap_calls}
+use Rattle.clone_parts.specs.KeptSteps.{Swapped, appends}
+use Rattle.clone_parts.proofs.Appended.{appends_calls}
 use Rattle.clone_core.specs.Banked.{BankedClone, head_over}
-use Rattle.clone_answers.specs.CloneFaults.{receive_fault_of}
+use Rattle.clone_parts.specs.CloneFaults.{receive_fault_of}
 use Rattle.clone_core.specs.CloneClosing.{receive_stop}
 use Rattle.clone_core.specs.DurableCalls.{WouldReceive}
 use Rattle.clone_core.specs.View.{local_of}
-use Rattle.clone_answers.specs.declared.answers.Got.{Got}
-use Rattle.clone_answers.specs.declared.answers.Got.TheVariants as got
-use Rattle.clone_answers.specs.declared.faults.ReceiveFault.{ReceiveFault}
-use Rattle.clone_answers.specs.declared.faults.ReceiveFault.TheVariants as receive
+use Rattle.clone_parts.specs.declared.answers.Got.{Got}
+use Rattle.clone_parts.specs.declared.answers.Got.TheVariants as got
+use Rattle.clone_parts.specs.declared.faults.ReceiveFault.{ReceiveFault}
+use Rattle.clone_parts.specs.declared.faults.ReceiveFault.TheVariants as receive
 use Rattle.clone_core.proofs.AppendLaws.{keeps_some, swapped_on_banks, refused_on_banks}
 use Rattle.clone_core.proofs.DurableLaws.{changes_none, changes_made, done_metered, err_same, receive_tells, swap_refused}
 use Rattle.clone_core.proofs.Merged.{released_ready, merged_clone, merged_is_local, merged_step, never_spent}

@@ -1,7 +1,7 @@
 use Rattle.std.proofs.Common.{subst}
 use Rattle.tree_clock.specs.Lists.{IsAscending}
 use Rattle.mld_ops.specs.Tagged.{tagged_cmp}
-use Rattle.clone_plans.proofs.MakingLaws.{local_ascends}
+use Rattle.clone_parts.proofs.MakingLaws.{local_ascends}
 use Rattle.clone_core.specs.Banked.{BankedClone}
 use Rattle.clone_core.specs.View.{local_of}
 use Rattle.clone_core.proofs.clones.MldClone.pairs.Goals as goal

@@ -7,15 +7,15 @@ use Rattle.journal_store.specs.Calls.{KeptBy, swapped}
 use Rattle.journal_store.specs.Standing.{KeepsNow}
 use Rattle.journal_store.specs.declared.faults.Why.{Why}
 use Rattle.journal_store.specs.declared.faults.Why.TheVariants as why
-use Rattle.clone_plans.specs.Replays.{AreReadyEntries}
-use Rattle.clone_banks.specs.BankCalls.{swap_calls}
-use Rattle.clone_banks.specs.KeptSteps.{KeptStep, Swapped}
-use Rattle.clone_answers.specs.CloneFaults.{keep_fault_of}
+use Rattle.clone_parts.specs.Replays.{AreReadyEntries}
+use Rattle.clone_parts.specs.BankCalls.{swap_calls}
+use Rattle.clone_parts.specs.KeptSteps.{KeptStep, Swapped}
+use Rattle.clone_parts.specs.CloneFaults.{keep_fault_of}
 use Rattle.clone_core.specs.CloneClosing.{keep_stop}
 use Rattle.clone_core.specs.DurableCalls.{SwapsTo}
 use Rattle.clone_core.specs.View.{local_of}
-use Rattle.clone_answers.specs.declared.faults.KeepFault.{KeepFault}
-use Rattle.clone_answers.specs.declared.faults.KeepFault.TheVariants as keep
+use Rattle.clone_parts.specs.declared.faults.KeepFault.{KeepFault}
+use Rattle.clone_parts.specs.declared.faults.KeepFault.TheVariants as keep
 use Rattle.clone_core.proofs.AppendLaws.{swapped_on_banks, refused_on_banks}
 use Rattle.clone_core.proofs.DurableLaws.{changes_none, changes_made, done_metered, keep_tells, swap_refused}
 use Rattle.clone_core.proofs.StopLaws.{keep_stops}

@@ -2,7 +2,7 @@ use Rattle.std.proofs.Common.{◌≡◌, ◌∙◌, List, ℕ, Err, [], ap, inl,
 use Rattle.std.specs.Prelude.{IsTrue}
 use Rattle.std.proofs.lemmas.Bool.{false≢true}
 use Rattle.std.proofs.lemmas.Result.{err_from_is_err_and, IfOk-weaker, IfErr-weaker}
-use Rattle.iri_rules.specs.Domain.{is_domain}
+use Rattle.text_rules.specs.Domain.{is_domain}
 use Rattle.mld_ops.specs.declared.tagged.Tagged.{Tagged}
 use Rattle.mld_ops.specs.Effects.{ChangesNothing}
 use Rattle.jrql_eval.specs.PlanEffects.{HasTooMany}

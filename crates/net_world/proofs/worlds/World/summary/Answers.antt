@@ -1,8 +1,8 @@
 use Rattle.std.proofs.Common.{List, map, subst, ap, ◌∙◌}
 use Rattle.std.proofs.lemmas.Result.{IfOk-weaker}
 use Rattle.world_commands.specs.WorldBanks.{BankedState, BankedWorld, in_memory, memory_of}
-use Rattle.world_summaries.specs.WorldSummary.{SummarizesAll}
-use Rattle.world_summaries.proofs.SummaryLaws.{world_told}
+use Rattle.net_world.specs.WorldSummary.{SummarizesAll}
+use Rattle.net_world.proofs.SummaryLaws.{world_told}
 use Rattle.net_world.proofs.worlds.World.summary.Goals as goal
 
 pub returns : goal.returns

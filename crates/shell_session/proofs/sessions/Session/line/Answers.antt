@@ -1,9 +1,9 @@
 use Rattle.std.proofs.Common.{◌≡◌, ◌++◌, ℕ, List, Option, Err, Bor, subst}
 use Rattle.std.specs.Prelude.{option_map}
-use Rattle.shell_text.specs.declared.commands.ShellCommand.{ShellCommand}
-use Rattle.shell_text.specs.ReadShell.{ShellIs}
-use Rattle.shell_model.specs.Shells.{Shell}
-use Rattle.shell_model.specs.ShellReply.{BadLine, shell_text}
+use Rattle.shell_session.specs.declared.commands.ShellCommand.{ShellCommand}
+use Rattle.shell_session.specs.ReadShell.{ShellIs}
+use Rattle.shell_session.specs.Shells.{Shell}
+use Rattle.shell_session.specs.ShellReply.{BadLine, shell_text}
 use Rattle.shell_session.specs.declared.sessions.Session.{Session}
 use Rattle.shell_session.specs.SessionLines.{DoesShellCommand, DoesLine, StopsShellCommand, StopsLine}
 use Rattle.shell_session.specs.Sessions.{session_banks, SessionStands}

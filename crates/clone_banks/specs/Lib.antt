@@ -1,4 +1,0 @@
-pub mod Appending
-pub mod BankCalls
-pub mod Beginning
-pub mod KeptSteps

@@ -1,0 +1,13 @@
+pub mod MakingLaws
+pub mod Deleting
+pub mod Planning
+pub mod ReadyLaws
+pub mod Replaying
+pub mod Carried
+pub mod Merging
+pub mod StepLaws
+pub mod MeterLaws
+pub mod RefusedLaws
+pub mod Appended
+pub mod SwapLaws
+pub mod Turning

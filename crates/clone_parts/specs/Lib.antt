@@ -1,0 +1,11 @@
+pub mod CloneFaults
+pub mod Begun
+pub mod Carrying
+pub mod Making
+pub mod Merges
+pub mod Plans
+pub mod Replays
+pub mod Appending
+pub mod BankCalls
+pub mod Beginning
+pub mod KeptSteps

@@ -1,5 +1,0 @@
-use Rattle.clone_plans.proofs.Replaying.{IsReplaying}
-use Rattle.clone_plans.proofs.replays.take_all.Given as goal
-
-abbrev pub invariant-loop-entry : goal.invariant-loop-entry
-invariant-loop-entry l = IsReplaying l.initial.clock.ticks l.initial.pairs.pairs l.entries l.entry-index l.clock.ticks l.pairs.pairs

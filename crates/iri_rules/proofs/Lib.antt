@@ -1,2 +1,0 @@
-pub mod Slashes
-pub mod Kept

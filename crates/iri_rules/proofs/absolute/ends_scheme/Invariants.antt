@@ -1,7 +1,0 @@
-use Rattle.std.proofs.Common.{◌≡◌, drop}
-use Rattle.iri_rules.specs.Iri.{ends_scheme}
-use Rattle.iri_rules.proofs.absolute.ends_scheme.Given as goal
-
--- what is left decides
-abbrev pub invariant-loop-byte : goal.invariant-loop-byte
-invariant-loop-byte l = ends_scheme l.text ≡ ends_scheme (drop l.byte-index l.text)

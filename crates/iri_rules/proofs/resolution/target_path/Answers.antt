@@ -1,7 +1,0 @@
-use Rattle.std.proofs.Common.{rules}
-use Rattle.iri_rules.specs.Resolution.{transformed}
-use Rattle.iri_rules.proofs.resolution.target_path.Goals as goal
-
-pub returns-then-is_empty : goal.returns-then-is_empty
-unfolding transformed
-returns-then-is_empty c = search rules

@@ -1,4 +1,0 @@
-use Rattle.journal_costs.proofs.plain_banks.PlainBanksBanks.read_at.Goals as goal
-
-pub returns-clause-meter : goal.returns-clause-meter
-returns-clause-meter c = c.answer.ensures.meter 0

@@ -1,2 +1,0 @@
-pub mod FreshIris
-pub mod MadeLaws

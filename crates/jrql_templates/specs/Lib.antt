@@ -1,2 +1,0 @@
-pub mod FreshNames
-pub mod Naming

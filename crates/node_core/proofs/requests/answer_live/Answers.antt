@@ -1,0 +1,21 @@
+use Rattle.std.proofs.Common.{sym, subst}
+use Rattle.shell_session.specs.SessionLines.{LeavesFrontOfDue}
+use Rattle.node_model.specs.Keepers.{Lives, keeper_found}
+use Rattle.node_core.specs.NodeDeeds.{IsDueByRequest}
+use Rattle.node_core.proofs.CallLaws.{node_goes, node_stops}
+use Rattle.node_core.proofs.requests.answer_live.Goals as goal
+
+pub returns-in-Ok-clause-done : goal.returns-in-Ok-clause-done
+returns-in-Ok-clause-done g c = λ one at.
+    node_goes g.B.Banks.log g.B.Banks.meter c.args.clone _ c.answer_loan.new.clone (c.in-Ok.ensures.done one at) c.tell_banks_keep.ensures
+
+pub returns-in-Err-clause-stopped : goal.returns-in-Err-clause-stopped
+returns-in-Err-clause-stopped g c =
+    let log = g.B.Banks.log in
+    let old = c.args.clone in
+    let keeper = Lives old.generation old.local in
+    subst (λ (b : g.row.B.Denot). LeavesFrontOfDue (IsDueByRequest keeper c.args.line.now) log (keeper_found keeper) old.banks b) (sym c.stop.ensures.banks)
+    (node_stops log g.B.Banks.meter old (IsDueByRequest keeper c.args.line.now) c.answer_loan.new.clone.banks c.in-Err.ensures.stopped)
+
+pub returns-in-Ok-clause-opened : goal.returns-in-Ok-clause-opened
+returns-in-Ok-clause-opened g c = (c.in-Ok.ensures.done c.requires.at_hand.0 c.requires.at_hand.1).opened

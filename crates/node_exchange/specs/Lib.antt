@@ -1,4 +1,0 @@
-pub mod Connections
-pub mod Exchanges
-pub mod RefusalCodes
-pub mod Sending

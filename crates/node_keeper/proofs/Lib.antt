@@ -1,4 +1,0 @@
-pub mod Moments
-pub mod MeterLaws
-pub mod CommandLaws
-pub mod CallLaws

@@ -1,4 +1,0 @@
-pub mod NodeStates
-pub mod NodeDeeds
-pub mod NodeFaults
-pub mod LoanCalls

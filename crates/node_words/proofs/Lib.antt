@@ -1,5 +1,0 @@
-mod Finding
-mod Iris
-mod Passing
-mod Reading
-mod TurnNumerals

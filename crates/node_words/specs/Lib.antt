@@ -1,2 +1,0 @@
-pub mod WordSpelling
-pub mod Words

@@ -1,5 +1,0 @@
-use Rattle.shell_model.proofs.RunLaws as laws
-use Rattle.shell_model.proofs.runs.steps_lead.Goals as goal
-
-pub returns : goal.returns
-returns c = laws.steps_lead

@@ -1,4 +1,0 @@
-mod ShellWords
-mod ShellIris
-mod ShellCommands
-mod OneShell

@@ -1,3 +1,0 @@
-pub mod ShellLines
-pub mod ReadShell
-pub mod ShellLaws

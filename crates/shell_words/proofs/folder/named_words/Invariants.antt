@@ -1,7 +1,0 @@
-use Rattle.std.specs.Prelude.{◌≡◌, ◌∷◌, map, take}
-use Rattle.std.specs.String.{string_bytes}
-use Rattle.shell_words.specs.FolderWords.{shell_name}
-use Rattle.shell_words.proofs.folder.named_words.Given as goal
-
-abbrev pub invariant-loop-word : goal.invariant-loop-word
-invariant-loop-word l = map (λ w. w.now) l.named.items ≡ shell_name ∷ map (λ w. string_bytes w) (take l.word-index l.words.items)

@@ -1,0 +1,131 @@
+//! The sockets, once they are open.
+ghost use Rattle.std.specs.Prelude.{IfOk};
+ghost use Rattle.tcp_node.specs.TcpWires.{IsSizedEvent};
+
+use crate::peer::Peer;
+use crate::table::{LISTENER, Table, both_ways, token};
+use mio::net::TcpListener;
+use mio::{Events, Poll};
+use mld_io::{Event, IoFault};
+use std::alloc::{AllocError, Global};
+use std::io::{self, ErrorKind};
+use std::net::{Net, ToSocketAddrs};
+use std::time::{Clock, Duration, Instant};
+
+/// How many sockets one wait tells of.
+const EVENTS: usize = 256;
+
+/// How many seconds the end waits until something comes.
+const QUIET: u64 = 1;
+
+/// How many seconds the end lasts at most.
+const FAREWELL: u64 = 10;
+
+/// A listener, the connections, and what waits for them.
+#[derive(Drop)]
+pub(crate) struct Sockets {
+    poll: Poll,
+    events: Events,
+    table: Table,
+}
+
+impl Sockets {
+    /// Listens on the first of the addresses that the text names and that can be listened on. The
+    /// text of a peer has to name an address, where nobody needs to be yet.
+    pub(crate) fn open<R: Net>(
+        rt: &R,
+        alloc: Global,
+        listen: &str,
+        peer: Option<&str>,
+    ) -> Result<Sockets, IoFault> {
+        let events = Events::with_capacity(alloc, EVENTS)?;
+        let peer = match peer {
+            Some(address) => {
+                address.to_socket_addrs(rt).map_err(failed)?;
+                Some(Peer::new(alloc, format!(in alloc; "{address}")?))
+            }
+            None => None,
+        };
+        let poll = Poll::new(rt).map_err(failed)?;
+        let mut listener = listen_on(rt, listen).map_err(failed)?;
+        let registry = poll.registry().try_clone().map_err(failed)?;
+        registry
+            .register(&mut listener, token(LISTENER), both_ways())
+            .map_err(failed)?;
+        Ok(Sockets {
+            poll,
+            events,
+            table: Table::new(alloc, registry, listener, peer),
+        })
+    }
+
+    /// Waits for the next event.
+    pub(crate) fn next<R: Net + Clock>(&mut self, rt: &R) -> Result<Event, IoFault>
+        ensures sized { IfOk result IsSizedEvent }
+    {
+        for _ in 0..u64::MAX {
+            self.table.try_again(rt)?;
+            let timeout = self.table.timeout();
+            self.wait(timeout)?;
+            if let Some(event) = self.table.take_turns()? {
+                return Ok(event);
+            }
+        }
+        Err(IoFault::Failed)
+    }
+
+    /// Waits until there is something to do, or the time is up.
+    fn wait(&mut self, timeout: Option<Duration>) -> Result<(), IoFault> {
+        self.poll.poll(&mut self.events, timeout).map_err(failed)?;
+        for event in &self.events {
+            if let Ok(number) = u32::try_from(event.token().0) {
+                self.table.queue(number)?;
+            }
+        }
+        Ok(())
+    }
+
+    /// Sends the piece on a connection, or keeps it until it can be sent.
+    pub(crate) fn send(&mut self, number: u32, piece: &[u8]) -> Result<(), IoFault> {
+        Ok(self.table.send(number, piece)?)
+    }
+
+    /// Shuts a connection behind what was sent on it.
+    pub(crate) fn shut(&mut self, number: u32) {
+        self.table.shut(number);
+    }
+
+    /// Sends what still waits, for as long as it is taken.
+    pub(crate) fn finish<R: Clock>(&mut self, rt: &R) {
+        let Ok(start) = Instant::now(rt) else {
+            return;
+        };
+        for _ in 0..u64::MAX {
+            if self.table.flush() == 0 || self.wait(Some(Duration::from_secs(QUIET))).is_err() {
+                return;
+            }
+            let late = start
+                .elapsed(rt)
+                .map_or(true, |elapsed| elapsed.as_secs() >= FAREWELL);
+            if late || self.events.is_empty() {
+                return;
+            }
+        }
+    }
+}
+
+/// A listener on the first of these addresses that can be listened on.
+fn listen_on<R: Net>(rt: &R, listen: &str) -> io::Result<TcpListener> {
+    let mut listener = Err(ErrorKind::NotFound.into());
+    for address in listen.to_socket_addrs(rt)? {
+        if listener.is_err() {
+            listener = TcpListener::bind(rt, address);
+        }
+    }
+    listener
+}
+
+/// A failure of the wire.
+fn failed(_error: io::Error) -> IoFault {
+    IoFault::Failed
+}

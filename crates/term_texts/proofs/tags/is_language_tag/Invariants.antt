@@ -1,7 +1,0 @@
-use Rattle.std.proofs.Common.{◌≡◌, drop, false}
-use Rattle.term_texts.specs.Tags.{is_primary}
-use Rattle.term_texts.proofs.tags.is_language_tag.Given as goal
-
--- what is left decides, given whether a letter stands before it
-abbrev pub invariant-loop-i : goal.invariant-loop-i
-invariant-loop-i l = is_primary false l.bytes ≡ is_primary l.full (drop l.i l.bytes)

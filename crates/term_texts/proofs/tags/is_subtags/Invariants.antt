@@ -1,7 +1,0 @@
-use Rattle.std.proofs.Common.{◌≡◌, drop, false}
-use Rattle.term_texts.specs.Tags.{is_subtags}
-use Rattle.term_texts.proofs.tags.is_subtags.Given as goal
-
--- what is left decides, given whether a letter or a digit stands before it
-abbrev pub invariant-loop-byte : goal.invariant-loop-byte
-invariant-loop-byte l = is_subtags false l.text ≡ is_subtags l.full (drop l.byte-index l.text)

@@ -1,0 +1,6 @@
+pub mod Slashes
+pub mod Kept
+pub mod Comparing
+pub mod Blocks
+pub mod TagLemmas
+pub mod Colons

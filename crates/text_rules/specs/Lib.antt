@@ -1,0 +1,14 @@
+pub mod Iri
+pub mod Domain
+pub mod References
+pub mod Dots
+pub mod Output
+pub mod Resolution
+pub mod Values
+pub mod Marks
+pub mod Escaped
+pub mod Tags
+pub mod BytePlaces
+pub mod Compare
+pub mod CompareLaws
+pub mod TextForms

@@ -1,2 +1,0 @@
-pub mod SummaryLaws
-pub mod SummaryLemmas
