@@ -1,3 +1,6 @@
+pub use Rattle.clone_parts.proofs as of_clone_parts
+pub use Rattle.journal_store.proofs as of_journal_store
+pub use Rattle.journal_sides.proofs as of_journal_sides
 pub mod OwnEntries
 pub mod Taking
 pub mod Joining

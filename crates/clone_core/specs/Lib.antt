@@ -1,3 +1,6 @@
+pub use Rattle.clone_parts.specs as clone_parts
+pub use Rattle.journal_store.specs as journal_store
+pub use Rattle.journal_sides.specs as journal_sides
 pub mod Banked
 pub mod FoundClone
 pub mod CloneCalls

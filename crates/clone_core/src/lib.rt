@@ -12,6 +12,9 @@ mod updating;
 mod wants;
 
 pub use askers::{Adopted, Asker};
+pub use clone_parts;
 pub use clone_parts::{Covering, Done, Got, KeepFault, QueryFault, ReceiveFault, UpdateFault};
 pub use clones::MldClone;
+pub use journal_sides;
+pub use journal_store;
 pub use mounts::Mounted;

@@ -7,8 +7,8 @@ use Rattle.mld_io.proofs.ArmLaws.{LowersAtMost-then}
 use Rattle.mld_io.specs.Disk.{Log}
 use Rattle.mld_ops.specs.Entry.{EntryValue}
 use Rattle.op_codec.specs.Stored.{IsShortEntry}
-use Rattle.journal_sides.proofs.RecordReading.{known_more}
-use Rattle.journal_sides.specs.Pairs.{Kept, PairReading, Keeps, with_entry}
+use Rattle.journal_store.proofs.of_journal_sides.RecordReading.{known_more}
+use Rattle.journal_store.specs.journal_sides.Pairs.{Kept, PairReading, Keeps, with_entry}
 use Rattle.journal_store.specs.Calls.{KeptBy}
 use Rattle.journal_store.specs.Closing.{StaysTold, JournalStaysOpen, IsAppended}
 use Rattle.journal_store.specs.Standing.{JournalValue, KeepsJust, KeepsNow}

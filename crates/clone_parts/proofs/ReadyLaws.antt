@@ -11,9 +11,9 @@ use Rattle.mld_model.specs.Local.{LeadsTo}
 use Rattle.tree_clock.specs.Clock.{ticks_of, RaisesTo}
 use Rattle.tree_clock.specs.declared.dots.Dot.{Dot}
 use Rattle.tree_clock.proofs.ClockLaws.{same_test, apart_test}
-use Rattle.journal_sides.proofs.Ready.{ready_same}
-use Rattle.journal_sides.specs.RecordBytes.{raised_to, known_after}
-use Rattle.journal_sides.specs.StoredVolumes.{AreGoodEntries}
+use Rattle.journal_store.proofs.of_journal_sides.Ready.{ready_same}
+use Rattle.journal_store.specs.journal_sides.RecordBytes.{raised_to, known_after}
+use Rattle.journal_store.specs.journal_sides.StoredVolumes.{AreGoodEntries}
 use Rattle.clone_parts.specs.Replays.{AreReadyEntries}
 
 -- ticks that are the same at each path

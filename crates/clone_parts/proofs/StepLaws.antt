@@ -5,7 +5,7 @@ use Rattle.mld_io.specs.Arm.{Arm, Unarmed, Armed, Caught, LowersAtMost, LowersBy
 use Rattle.mld_io.specs.Disk.{Call, Log, Sides, grown_by, seen, MayLeave, IsSettled, LeavesMeanwhile}
 use Rattle.mld_io.proofs.DiskLaws.{AtEachMoment-weaken, AtEachMoment-last, LeavesMeanwhile-then}
 use Rattle.mld_ops.specs.Entry.{EntryValue}
-use Rattle.journal_sides.specs.Pairs.{PairReading, read_banks}
+use Rattle.journal_store.specs.journal_sides.Pairs.{PairReading, read_banks}
 use Rattle.journal_store.specs.Crashes.{Gate, Allows, LeavesEither, ReadsEither}
 use Rattle.journal_store.proofs.DeviceLaws.{allows_then}
 use Rattle.clone_parts.specs.KeptSteps.{KeptStep, Appended, after_step, after_steps, calls_of, calls_of_all, appends, ReadsSome, CatchesIn, ReadsCaught, LeavesSome}

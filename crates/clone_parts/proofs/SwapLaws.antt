@@ -4,8 +4,8 @@ use Rattle.std.specs.List.{AllByRecursion}
 use Rattle.mld_ops.specs.Entry.{EntryValue}
 use Rattle.mld_ops.specs.Ready.{last_dot}
 use Rattle.op_codec.specs.Stored.{IsShortEntry}
-use Rattle.journal_sides.specs.RecordBytes.{raised_to}
-use Rattle.journal_sides.specs.StoredVolumes.{AreGoodEntries}
+use Rattle.journal_store.specs.journal_sides.RecordBytes.{raised_to}
+use Rattle.journal_store.specs.journal_sides.StoredVolumes.{AreGoodEntries}
 use Rattle.clone_parts.specs.Replays.{AreReadyEntries}
 
 -- entries that are ready and short may be written

@@ -8,9 +8,9 @@ use Rattle.mld_ops.specs.Messages.{IsGoodSnapshot}
 use Rattle.op_codec.specs.Stored.{IsShort, IsShortSnapshot}
 use Rattle.rdf_terms.specs.Order.{iri_cmp}
 use Rattle.tree_clock.specs.Lists.{IsAscending}
-use Rattle.journal_sides.specs.Heads.{HeadValue}
-use Rattle.journal_sides.specs.Pairs.{Kept}
-use Rattle.journal_sides.specs.RecordBytes.{known_after}
+use Rattle.journal_store.specs.journal_sides.Heads.{HeadValue}
+use Rattle.journal_store.specs.journal_sides.Pairs.{Kept}
+use Rattle.journal_store.specs.journal_sides.RecordBytes.{known_after}
 use Rattle.journal_store.specs.Calls.{MayFork}
 use Rattle.journal_store.specs.Standing.{JournalValue, KeepsJust}
 use Rattle.clone_parts.specs.Replays.{AreReadyEntries}

@@ -4,8 +4,8 @@ use Rattle.std.specs.Prelude.{◌≡◌, ℕ, ◌+◌, ◌-◌, ◌<◌, List, [
 use Rattle.mld_io.specs.Arm.{Arm, Unarmed, Armed, Caught, Meter}
 use Rattle.mld_io.specs.Disk.{Log, Sides, LeavesOnly, LeavesMeanwhile}
 use Rattle.mld_ops.specs.Entry.{EntryValue}
-use Rattle.journal_sides.specs.Heads.{HeadValue}
-use Rattle.journal_sides.specs.Pairs.{Kept, PairReading, KeepsNone, Keeps, Damages, read_banks, with_entry, with_fork}
+use Rattle.journal_store.specs.journal_sides.Heads.{HeadValue}
+use Rattle.journal_store.specs.journal_sides.Pairs.{Kept, PairReading, KeepsNone, Keeps, Damages, read_banks, with_entry, with_fork}
 use Rattle.journal_store.specs.Calls.{KeptBy, made, swapped}
 use Rattle.journal_store.specs.Crashes.{Allows}
 use Rattle.journal_store.specs.Standing.{JournalValue}

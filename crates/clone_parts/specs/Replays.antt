@@ -2,7 +2,7 @@
 use Rattle.std.specs.Prelude.{ℕ, List, [], ◌∷◌}
 use Rattle.mld_ops.specs.Entry.{EntryValue}
 use Rattle.mld_ops.specs.Ready.{last_dot, IsReadyEntry}
-use Rattle.journal_sides.specs.RecordBytes.{raised_to}
+use Rattle.journal_store.specs.journal_sides.RecordBytes.{raised_to}
 
 -- entries each of which is ready, and not known, once those before it are taken
 abbrev pub AreReadyEntries : List (List ℕ × ℕ) → List EntryValue → Type 0

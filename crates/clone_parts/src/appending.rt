@@ -3,8 +3,8 @@ ghost use Rattle.std.specs.Prelude.{◌≡◌, ◌*◌, ◌∷◌, [], Bool, fal
 ghost use Rattle.std.specs.List.{AllByRecursion};
 ghost use Rattle.mld_io.specs.Arm.{Metered};
 ghost use Rattle.op_codec.specs.Stored.{IsShortEntry};
-ghost use Rattle.journal_sides.specs.Heads.{head_value};
-ghost use Rattle.journal_sides.specs.Pairs.{Kept, with_entry, with_fork};
+ghost use Rattle.journal_store.specs.journal_sides.Heads.{head_value};
+ghost use Rattle.journal_store.specs.journal_sides.Pairs.{Kept, with_entry, with_fork};
 ghost use Rattle.journal_store.specs.Calls.{KeptBy, made_banks, FailsToMake};
 ghost use Rattle.journal_store.specs.Closing.{StaysTold, JournalStaysOpen, IsAppended, IsMade, LeavesRefused, LeavesUnmade};
 ghost use Rattle.journal_store.specs.Standing.{JournalValue, KeepsNow};

@@ -1,8 +1,8 @@
 //! What the entries of a journal lead to, taken one after another.
 ghost use Rattle.std.specs.Prelude.{◌≡◌, IfOk, OnOk};
 ghost use Rattle.clone_parts.specs.Replays.{AreReadyEntries};
-ghost use Rattle.journal_sides.specs.Heads.{head_value};
-ghost use Rattle.journal_sides.specs.StoredVolumes.{IsGoodHead, AreGoodEntries};
+ghost use Rattle.journal_store.specs.journal_sides.Heads.{head_value};
+ghost use Rattle.journal_store.specs.journal_sides.StoredVolumes.{IsGoodHead, AreGoodEntries};
 ghost use Rattle.mld_model.specs.Local.{LeadsTo};
 ghost use Rattle.mld_ops.specs.Tagged.{tagged_cmp};
 ghost use Rattle.suset.specs.SnapshotJoin.{CoversAll};
@@ -10,7 +10,7 @@ ghost use Rattle.tree_clock.specs.Clock.{IsClock};
 ghost use Rattle.tree_clock.specs.Lists.{IsAscending};
 
 use graph_index::Graph;
-use journal_sides::Head;
+use journal_store::journal_sides::Head;
 use mld_ops::{Entry, Tagged, copy_pairs};
 use op_fusion::cut;
 use std::alloc::{AllocError, Global};

@@ -3,8 +3,8 @@ ghost use Rattle.std.specs.Prelude.{◌≡◌, ◌≢◌, ◌+◌, ◌*◌, ◌-
 ghost use Rattle.std.specs.List.{AllByRecursion};
 ghost use Rattle.mld_io.specs.Arm.{Metered};
 ghost use Rattle.op_codec.specs.Stored.{IsShortEntry};
-ghost use Rattle.journal_sides.specs.Heads.{head_value};
-ghost use Rattle.journal_sides.specs.Pairs.{Kept};
+ghost use Rattle.journal_store.specs.journal_sides.Heads.{head_value};
+ghost use Rattle.journal_store.specs.journal_sides.Pairs.{Kept};
 ghost use Rattle.journal_store.specs.Calls.{KeptBy, swapped};
 ghost use Rattle.journal_store.specs.Closing.{StaysTold, IsSwapped, LeavesRefused};
 ghost use Rattle.journal_store.specs.Standing.{KeepsNow};

@@ -4,7 +4,7 @@ use Rattle.std.proofs.lemmas.List.{get_or-set_same}
 use Rattle.mld_io.specs.Arm.{Armed}
 use Rattle.mld_io.specs.Disk.{Sides}
 use Rattle.mld_io.specs.declared.banks.Leave.{Leave}
-use Rattle.journal_sides.specs.Pairs.{PairReading, read_banks}
+use Rattle.clone_core.specs.journal_sides.Pairs.{PairReading, read_banks}
 use Rattle.mld_model.specs.declared.CloneState.TheVariants as states
 use Rattle.mld_model.specs.Clone.{Clone, Absent, Empty, Down, Stored, kept_of}
 use Rattle.mld_model.specs.CrashFronts.{durable_calls, standing_front, down_with, with_clone_down, after_crash}
@@ -22,7 +22,7 @@ use Rattle.schedule_model.specs.Step.{IsTaskInForm}
 use Rattle.schedule_model.specs.Tasks.{command_of, number_of_task, IsToOpen}
 use Rattle.schedule_model.proofs.CrashedSteps.{armed_inside, inside_after}
 use Rattle.schedule_model.proofs.ScheduleLaws.{task_has_plan}
-use Rattle.clone_parts.specs.KeptSteps.{KeptStep, calls_of_all, ReadsCaught}
+use Rattle.clone_core.specs.clone_parts.KeptSteps.{KeptStep, calls_of_all, ReadsCaught}
 use Rattle.crash_laws.specs.CarriedSteps.{owner_at, StandsRead, Carries, StandsAfter, StandsCaught}
 use Rattle.crash_laws.specs.CrashLines.{ImageStands, CrashesTo}
 use Rattle.crash_laws.specs.Deeds.{CarriedDeed, CarriesDone}

@@ -9,7 +9,7 @@ use Rattle.mld_ops.specs.Held.{ranges_of}
 use Rattle.mld_ops.specs.Messages.{MessageValue, CarriesEntry, CarriesWant, CarriesSnapshot, CarriesAsk, CarriesGive, message_value, snapshot_value, give_value}
 use Rattle.op_fusion.specs.Compacting.{AreCompacted, AreFusedRuns, HasNeighbours}
 use Rattle.op_fusion.proofs.Runs.{fused_runs_are_compacted}
-use Rattle.journal_sides.specs.Pairs.{Keeps}
+use Rattle.clone_core.specs.journal_sides.Pairs.{Keeps}
 use Rattle.jrql_ast.specs.declared.plans.UpdatePlan.{UpdatePlan}
 use Rattle.jrql_eval.specs.PlanEffects.{IsPlanEffect, HasTooMany}
 use Rattle.mld_model.specs.declared.CloneState.TheVariants as states
@@ -29,12 +29,12 @@ use Rattle.schedule_model.specs.declared.Command.TheVariants.{Deliver, Compact, 
 use Rattle.schedule_model.specs.PlainDurable.{MakesDurably, message_steps}
 use Rattle.schedule_model.specs.Updating.{UpdatesByPlan}
 use Rattle.schedule_model.specs.WorldStep.{IsUpdateOf}
-use Rattle.clone_parts.specs.declared.answers.Got.{Got}
-use Rattle.clone_parts.specs.declared.answers.Got.TheVariants as got
-use Rattle.clone_parts.specs.declared.answers.Done.{Done}
-use Rattle.clone_parts.specs.declared.answers.Done.TheVariants as done
-use Rattle.clone_parts.specs.declared.faults.ReceiveFault.TheVariants as fault
-use Rattle.clone_parts.specs.KeptSteps.{KeptStep, Forked, appends}
+use Rattle.clone_core.specs.clone_parts.declared.answers.Got.{Got}
+use Rattle.clone_core.specs.clone_parts.declared.answers.Got.TheVariants as got
+use Rattle.clone_core.specs.clone_parts.declared.answers.Done.{Done}
+use Rattle.clone_core.specs.clone_parts.declared.answers.Done.TheVariants as done
+use Rattle.clone_core.specs.clone_parts.declared.faults.ReceiveFault.TheVariants as fault
+use Rattle.clone_core.specs.clone_parts.KeptSteps.{KeptStep, Forked, appends}
 use Rattle.clone_core.specs.Banked.{BankedClone, kept_as}
 use Rattle.clone_core.specs.CloneCalls.{LocallyReceives, Refuses}
 use Rattle.clone_core.specs.CloneUpdates.{LocallyUpdatesBy, BreaksSingle}

@@ -3,7 +3,7 @@ use Rattle.std.proofs.Common.{◌≡◌, ℕ, ◌+◌, ◌<◌, ◌≤◌, List,
 use Rattle.std.proofs.lemmas.List.{get_or-set_same, length-set}
 use Rattle.mld_io.specs.Disk.{Sides}
 use Rattle.mld_io.specs.declared.banks.Leave.{Leave}
-use Rattle.journal_sides.specs.Pairs.{PairReading}
+use Rattle.clone_core.specs.journal_sides.Pairs.{PairReading}
 use Rattle.mld_model.specs.declared.CloneState.TheVariants as states
 use Rattle.mld_model.specs.Clone.{Clone, Absent, Stored, kept_of}
 use Rattle.mld_model.specs.CrashFronts.{standing_front, down_with, with_clone_down, after_crash}
@@ -24,7 +24,7 @@ use Rattle.schedule_model.proofs.CrashedSteps.{armed_inside, inside_after, caugh
 use Rattle.schedule_model.proofs.FollowsLaws.{ticks_grown, messages_grown, clones_follow}
 use Rattle.schedule_model.proofs.PlainChanges.{Changes}
 use Rattle.schedule_model.proofs.ScheduleLaws.{task_has_plan}
-use Rattle.clone_parts.specs.KeptSteps.{KeptStep, calls_of_all}
+use Rattle.clone_core.specs.clone_parts.KeptSteps.{KeptStep, calls_of_all}
 use Rattle.crash_laws.specs.CarriedSteps.{owner_at}
 use Rattle.crash_laws.specs.CrashLines.{ImageStands, CrashesTo, FollowsCrash}
 use Rattle.crash_laws.specs.Deeds.{CarriedDeed, CarriesDone}

@@ -4,12 +4,12 @@ use Rattle.mld_io.specs.Arm.{Arm, Armed}
 use Rattle.mld_io.specs.Disk.{Sides}
 use Rattle.mld_io.specs.declared.banks.Leave.{Leave}
 use Rattle.mld_ops.specs.History.{Operation}
-use Rattle.journal_sides.specs.Pairs.{PairReading, read_banks}
+use Rattle.clone_core.specs.journal_sides.Pairs.{PairReading, read_banks}
 use Rattle.mld_model.specs.Clone.{Stored}
 use Rattle.mld_model.specs.Durable.{DurableStep, AppendsMade, AppendsTaken, AppendsFork, Creates, Swaps, kept_after_step, kept_after, history_after}
 use Rattle.mld_model.specs.CrashFronts.{durable_calls, standing_front}
 use Rattle.mld_model.proofs.FrontLaws.{IsChosen, ComesWithin, front_chosen}
-use Rattle.clone_parts.specs.KeptSteps.{KeptStep, after_step, after_steps, calls_of_all, ReadsSome, CatchesIn, ReadsCaught}
+use Rattle.clone_core.specs.clone_parts.KeptSteps.{KeptStep, after_step, after_steps, calls_of_all, ReadsSome, CatchesIn, ReadsCaught}
 use Rattle.crash_laws.specs.CarriedSteps.{Owner, StandsRead, Carries, StandsAfter, StandsSome, StandsCaught}
 
 -- the history after one step and those behind it

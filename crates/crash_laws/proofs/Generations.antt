@@ -2,9 +2,9 @@
 use Rattle.std.proofs.Common.{ℕ, ◌+◌, ◌≤◌, List, [], ◌∷◌, ◌++◌, sym, arith, subst}
 use Rattle.mld_io.specs.Arm.{Arm}
 use Rattle.mld_io.specs.Disk.{Sides}
-use Rattle.journal_sides.specs.Pairs.{Kept, PairReading, KeepsNone, Keeps, Damages, read_banks, with_entry, with_fork}
-use Rattle.journal_store.specs.Calls.{swapped}
-use Rattle.clone_parts.specs.KeptSteps.{KeptStep, Created, Appended, Forked, Swapped, changed, after_step, after_steps, ReadsSome}
+use Rattle.clone_core.specs.journal_sides.Pairs.{Kept, PairReading, KeepsNone, Keeps, Damages, read_banks, with_entry, with_fork}
+use Rattle.clone_core.specs.journal_store.Calls.{swapped}
+use Rattle.clone_core.specs.clone_parts.KeptSteps.{KeptStep, Created, Appended, Forked, Swapped, changed, after_step, after_steps, ReadsSome}
 use Rattle.crash_laws.specs.CarriedSteps.{IsUpTo, AreAppends, WritesOnce}
 
 -- a change of what is kept

@@ -3,10 +3,10 @@ use Rattle.std.proofs.Common.{◌≡◌, List, inl, inr, refl, subst, sym, ap, O
 use Rattle.mld_io.specs.Disk.{Log, Sides, grown, seen, MayLeave, IsSettled, Revives}
 use Rattle.mld_io.specs.Disk.Call.{Cut}
 use Rattle.mld_ops.specs.History.{Operation}
-use Rattle.journal_sides.specs.Pairs.{Kept, PairReading, KeepsNone, Keeps, Damages, read_banks}
+use Rattle.clone_core.specs.journal_sides.Pairs.{Kept, PairReading, KeepsNone, Keeps, Damages, read_banks}
 use Rattle.mld_model.specs.Clone.{Stored, kept_of}
 use Rattle.mld_io.specs.declared.banks.Side.{Side}
-use Rattle.journal_store.specs.Standing.{KeepsJust}
+use Rattle.clone_core.specs.journal_store.Standing.{KeepsJust}
 use Rattle.mld_model.specs.Local.{LocalClone}
 use Rattle.mld_model.specs.StandsFor.{kept_by, LiveAt}
 use Rattle.mld_model.specs.World.{World, clone_at}

@@ -8,7 +8,7 @@ use Rattle.mld_ops.specs.Entry.{EntryValue}
 use Rattle.mld_ops.specs.Held.{ranges_of}
 use Rattle.op_fusion.specs.Compacting.{AreCompacted, AreFusedRuns, EndsRun, HasNeighbours}
 use Rattle.op_fusion.specs.Fusion.{AreNeighbours}
-use Rattle.journal_sides.specs.Pairs.{Keeps}
+use Rattle.clone_core.specs.journal_sides.Pairs.{Keeps}
 use Rattle.mld_model.specs.Clone.{Absent, Live, Stored, kept_of, truncated_to}
 use Rattle.mld_model.specs.Durable.{Swaps}
 use Rattle.mld_model.specs.Local.{LocalClone, stored_of, LocallyCompacts, LocallyTruncates}
@@ -27,7 +27,7 @@ use Rattle.schedule_model.specs.declared.Command.TheVariants.{Compact, Truncate}
 use Rattle.schedule_model.specs.PlainDurable.{SwapsDurably, keeps_the_same, swaps_it}
 use Rattle.schedule_model.specs.PlainStep.{PlainStep}
 use Rattle.clone_core.specs.Banked.{head_of, kept_as}
-use Rattle.clone_parts.specs.KeptSteps.{Swapped}
+use Rattle.clone_core.specs.clone_parts.KeptSteps.{Swapped}
 use Rattle.crash_laws.specs.CarriedSteps.{owner_at, Carries}
 use Rattle.crash_laws.specs.Deeds.{CarriedDeed}
 use Rattle.crash_laws.proofs.Kept.{live_kept, carried_at}

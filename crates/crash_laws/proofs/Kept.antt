@@ -7,7 +7,7 @@ use Rattle.tree_clock.specs.declared.dots.Range.{Range}
 use Rattle.mld_ops.specs.Entry.{EntryValue}
 use Rattle.mld_ops.specs.History.{Operation, IsNext}
 use Rattle.mld_ops.proofs.PickingLaws.{pairs_more}
-use Rattle.journal_sides.specs.Pairs.{Kept, PairReading, Keeps, with_entry, with_fork}
+use Rattle.clone_core.specs.journal_sides.Pairs.{Kept, PairReading, Keeps, with_entry, with_fork}
 use Rattle.mld_model.specs.Clone.{Clone, Stored, kept_of, with_range}
 use Rattle.mld_model.specs.CloneStep.{left_half}
 use Rattle.mld_model.specs.Durable.{DurableStep, AppendsTaken}
@@ -17,7 +17,7 @@ use Rattle.mld_model.specs.StandsFor.{kept_by, EntryStandsFor, LiveAt}
 use Rattle.mld_model.specs.World.{World, clone_at}
 use Rattle.mld_model.proofs.StoredLaws.{stored_still_stands}
 use Rattle.clone_core.specs.Banked.{kept_as}
-use Rattle.clone_parts.specs.KeptSteps.{KeptStep, appends}
+use Rattle.clone_core.specs.clone_parts.KeptSteps.{KeptStep, appends}
 use Rattle.crash_laws.specs.CarriedSteps.{Owner, owner_at, stored_in, IsKeptFor, Carries, AreAppends}
 
 module _ (owner : Owner) (history : List Operation) (kept : Kept) (stored : Stored) (is : IsKeptFor owner history kept stored) where

@@ -2,7 +2,7 @@
 use Rattle.std.proofs.Common.{◌≡◌, ℕ, List, [], refl, sym, subst, Option, Some, None}
 use Rattle.std.specs.Prelude.{MatchOption}
 use Rattle.tree_clock.specs.declared.dots.Range.{Range}
-use Rattle.journal_sides.specs.Pairs.{PairReading, KeepsNone}
+use Rattle.clone_core.specs.journal_sides.Pairs.{PairReading, KeepsNone}
 use Rattle.mld_model.specs.Clone.{Clone, Absent, Asking, Empty, Down, Live, Stored, kept_of}
 use Rattle.mld_model.specs.CloneStep.{Answers, IfLive, Takes, Reopens}
 use Rattle.mld_model.specs.Durable.{DurableStep}
@@ -17,7 +17,7 @@ use Rattle.schedule_model.specs.PlainDurable.{keeps_the_same, MakesDurably, taki
 use Rattle.schedule_model.specs.PlainStep.{PlainStep}
 use Rattle.schedule_model.proofs.ScheduleLaws.{HasPlanInForm}
 use Rattle.schedule_model.proofs.StepLaws.{plain_once}
-use Rattle.clone_parts.specs.KeptSteps.{KeptStep}
+use Rattle.clone_core.specs.clone_parts.KeptSteps.{KeptStep}
 use Rattle.crash_laws.specs.CarriedSteps.{owner_at, StandsRead}
 use Rattle.crash_laws.specs.Deeds.{CarriedDeed, CarriesDone, TellsOfNone, TakesNoMessage}
 

@@ -18,7 +18,7 @@ use Rattle.mld_ops.specs.Tagged.{tagged_cmp, insert_cmp}
 use Rattle.mld_ops.proofs.EffectLaws.{effect_carried, ticks_ascend}
 use Rattle.mld_ops.proofs.NetLaws.{net_of_one}
 use Rattle.mld_ops.proofs.OperationLaws.{same_dot}
-use Rattle.journal_sides.specs.Pairs.{Keeps, with_entry}
+use Rattle.clone_core.specs.journal_sides.Pairs.{Keeps, with_entry}
 use Rattle.jrql_ast.specs.declared.plans.UpdatePlan.{UpdatePlan}
 use Rattle.jrql_ast.specs.Templates.{insertion_of, deletion_of}
 use Rattle.jrql_eval.specs.PlanEffects.{IsPlanEffect}
@@ -40,7 +40,7 @@ use Rattle.schedule_model.specs.PlainStep.{PlainStep}
 use Rattle.schedule_model.specs.Updating.{UpdatesByPlan}
 use Rattle.schedule_model.specs.WorldStep.{IsUpdateOf}
 use Rattle.clone_core.specs.Banked.{kept_as}
-use Rattle.clone_parts.specs.KeptSteps.{Appended}
+use Rattle.clone_core.specs.clone_parts.KeptSteps.{Appended}
 use Rattle.crash_laws.specs.CarriedSteps.{owner_at, IsKeptFor}
 use Rattle.crash_laws.specs.Deeds.{CarriedDeed}
 use Rattle.crash_laws.proofs.Kept.{entry_kept, longer_kept, live_kept, carried_at}

@@ -11,8 +11,8 @@ use Rattle.tree_clock.specs.declared.dots.Range.{Range}
 use Rattle.mld_ops.specs.Entry.{EntryValue}
 use Rattle.mld_ops.specs.History.{IsClosed}
 use Rattle.mld_ops.specs.Messages.{SnapshotValue, GiveValue, CarriesEntry, CarriesSnapshot, CarriesAsk, CarriesGive}
-use Rattle.journal_sides.specs.Pairs.{PairReading, KeepsNone, Keeps}
-use Rattle.journal_store.specs.Calls.{swapped}
+use Rattle.clone_core.specs.journal_sides.Pairs.{PairReading, KeepsNone, Keeps}
+use Rattle.clone_core.specs.journal_store.Calls.{swapped}
 use Rattle.mld_model.specs.declared.CloneState.TheVariants as states
 use Rattle.mld_model.specs.Clone.{Clone, Asking, Live, Stored, kept_of, with_range, merged_with}
 use Rattle.mld_model.specs.CloneStep.{Answers, Takes, joined_with}
@@ -31,7 +31,7 @@ use Rattle.mld_model.proofs.SoundLaws.{live_sound}
 use Rattle.schedule_model.specs.declared.Command.TheVariants.{Deliver}
 use Rattle.schedule_model.specs.PlainDurable.{message_steps, merging_steps}
 use Rattle.clone_core.specs.Banked.{head_of, kept_as}
-use Rattle.clone_parts.specs.KeptSteps.{KeptStep, Created, Forked, Swapped, appends}
+use Rattle.clone_core.specs.clone_parts.KeptSteps.{KeptStep, Created, Forked, Swapped, appends}
 use Rattle.crash_laws.specs.CarriedSteps.{owner_at, IsKeptFor, Carries, WritesOnce}
 use Rattle.crash_laws.specs.Deeds.{CarriedDeed}
 use Rattle.crash_laws.proofs.Kept.{fork_kept, appends_carried, appends_are, live_kept, carried_at}

@@ -5,14 +5,14 @@ use Rattle.mld_io.specs.declared.banks.Side.{Side}
 use Rattle.tree_clock.specs.declared.dots.Range.{Range}
 use Rattle.mld_ops.specs.Entry.{EntryValue}
 use Rattle.mld_ops.specs.History.{Operation}
-use Rattle.journal_sides.specs.Heads.{HeadValue}
-use Rattle.journal_sides.specs.Pairs.{Kept, PairReading, Keeps, Damages, read_banks, with_entry, with_fork}
+use Rattle.clone_core.specs.journal_sides.Heads.{HeadValue}
+use Rattle.clone_core.specs.journal_sides.Pairs.{Kept, PairReading, Keeps, Damages, read_banks, with_entry, with_fork}
 use Rattle.mld_model.specs.Clone.{Stored, with_range}
 use Rattle.mld_model.specs.CloneStep.{left_half}
 use Rattle.mld_model.specs.Durable.{AppendsMade, AppendsTaken, AppendsFork, Creates}
 use Rattle.mld_model.specs.CrashFronts.{standing_front}
 use Rattle.mld_ops.specs.Effect.{range_of}
-use Rattle.clone_parts.specs.KeptSteps.{Created, Appended, Forked}
+use Rattle.clone_core.specs.clone_parts.KeptSteps.{Created, Appended, Forked}
 use Rattle.crash_laws.specs.CarriedSteps.{Owner, IsKeptFor, StandsRead, Carries, StandsAfter}
 
 module _ (owner : Owner) (history : List Operation) (kept : Kept) (stored : Stored) (head : HeadValue) (entry : EntryValue) (operation : Operation) (first second : Range)

@@ -4,8 +4,8 @@ use Rattle.mld_io.specs.Arm.{Arm, Armed, Caught, Meter, LowersAtMost, Metered}
 use Rattle.mld_io.specs.Disk.{Call, Log, Sides, grown_by, seen, MayLeave, IsSettled, AtEachMoment}
 use Rattle.mld_io.specs.declared.banks.Leave.{Leave}
 use Rattle.mld_io.specs.declared.banks.Side.{Side}
-use Rattle.journal_sides.specs.Heads.{HeadValue}
-use Rattle.journal_sides.specs.Pairs.{PairReading, KeepsNone, Keeps, read_banks}
+use Rattle.clone_core.specs.journal_sides.Heads.{HeadValue}
+use Rattle.clone_core.specs.journal_sides.Pairs.{PairReading, KeepsNone, Keeps, read_banks}
 use Rattle.mld_model.specs.declared.CloneState.TheVariants as states
 use Rattle.mld_model.specs.Reply.{Crashed}
 use Rattle.mld_model.specs.StandsFor.{CloneStandsFor}
@@ -14,9 +14,9 @@ use Rattle.schedule_model.specs.declared.CrashTask.{CrashTask}
 use Rattle.schedule_model.specs.declared.CrashTask.TheVariants as tasks
 use Rattle.schedule_model.specs.Crashing.{IsArmed}
 use Rattle.schedule_model.specs.Tasks.{command_of, number_of_task}
-use Rattle.clone_parts.specs.KeptSteps.{KeptStep, Created, calls_of_all, ReadsCaught, LeavesSome}
+use Rattle.clone_core.specs.clone_parts.KeptSteps.{KeptStep, Created, calls_of_all, ReadsCaught, LeavesSome}
 use Rattle.clone_core.specs.Banked.{BankedClone, kept_as}
-use Rattle.journal_store.specs.Crashes.{LeavesNothingNew}
+use Rattle.clone_core.specs.journal_store.Crashes.{LeavesNothingNew}
 use Rattle.clone_core.specs.DurableCalls.{Changes, Creates}
 use Rattle.clone_core.specs.Opening.{mount_calls}
 use Rattle.crash_laws.specs.CarriedSteps.{IsUpTo}

@@ -7,7 +7,7 @@ use Rattle.mld_ops.specs.declared.messages.Message.TheVariants as message
 use Rattle.mld_ops.specs.declared.messages.Message.{Message as Told}
 use Rattle.mld_ops.specs.Messages.{MessageValue, message_value, snapshot_value, give_value}
 use Rattle.op_fusion.specs.Compacting.{HasNeighbours}
-use Rattle.journal_sides.specs.Pairs.{KeepsNone, Keeps}
+use Rattle.clone_core.specs.journal_sides.Pairs.{KeepsNone, Keeps}
 use Rattle.jrql_ast.specs.declared.plans.UpdatePlan.{UpdatePlan}
 use Rattle.mld_model.specs.Local.{LocalAsker, LocalClone, joined_clone, LocallyCompacts, LocallyTruncates}
 use Rattle.mld_model.specs.declared.CloneState.TheVariants as states
@@ -21,8 +21,8 @@ use Rattle.mld_model.proofs.LocalSteps.{local_steps}
 use Rattle.schedule_model.specs.declared.Command.{Command}
 use Rattle.schedule_model.specs.declared.Command.TheVariants.{Deliver, Compact, Truncate}
 use Rattle.schedule_model.specs.WorldStep.{IsUpdateOf}
-use Rattle.clone_parts.specs.declared.answers.Done.TheVariants as done
-use Rattle.clone_parts.specs.KeptSteps.{KeptStep, Created, Appended, Forked, Swapped, appends}
+use Rattle.clone_core.specs.clone_parts.declared.answers.Done.TheVariants as done
+use Rattle.clone_core.specs.clone_parts.KeptSteps.{KeptStep, Created, Appended, Forked, Swapped, appends}
 use Rattle.clone_core.specs.Banked.{BankedClone, head_of, kept_as}
 use Rattle.clone_core.specs.CloneUpdates.{LocallyUpdatesBy}
 use Rattle.clone_core.specs.Due.{IsDueMessage}

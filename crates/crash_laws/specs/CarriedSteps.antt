@@ -3,14 +3,14 @@
 use Rattle.std.specs.Prelude.{◌≡◌, ℕ, ◌≤◌, List, [], ◌∷◌, ◌++◌, Bool, Option, Some, None}
 use Rattle.mld_io.specs.Disk.{Sides}
 use Rattle.mld_ops.specs.History.{Operation}
-use Rattle.journal_sides.specs.Pairs.{Kept, PairReading, KeepsNone, Keeps, Damages, read_banks}
+use Rattle.clone_core.specs.journal_sides.Pairs.{Kept, PairReading, KeepsNone, Keeps, Damages, read_banks}
 use Rattle.mld_model.specs.Clone.{Stored}
 use Rattle.mld_model.specs.Durable.{DurableStep, kept_after_step, kept_after, history_after}
 use Rattle.mld_model.specs.CrashFronts.{step_calls, standing_front}
 use Rattle.mld_model.specs.Local.{LocalStored}
 use Rattle.mld_model.specs.StandsFor.{StoredStandsFor, id_of}
 use Rattle.mld_model.specs.World.{World}
-use Rattle.clone_parts.specs.KeptSteps.{KeptStep, Appended, Forked, after_step, calls_of}
+use Rattle.clone_core.specs.clone_parts.KeptSteps.{KeptStep, Appended, Forked, after_step, calls_of}
 
 -- ---- at one moment
 

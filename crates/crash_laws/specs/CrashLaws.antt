@@ -9,7 +9,7 @@ use Rattle.mld_ops.specs.declared.messages.Message.{Message as Told}
 use Rattle.mld_ops.specs.History.{Operation}
 use Rattle.mld_ops.specs.Messages.{MessageValue, message_value, give_value}
 use Rattle.op_fusion.specs.Compacting.{AreFusedRuns, HasNeighbours}
-use Rattle.journal_sides.specs.Pairs.{PairReading, KeepsNone, Keeps, read_banks}
+use Rattle.clone_core.specs.journal_sides.Pairs.{PairReading, KeepsNone, Keeps, read_banks}
 use Rattle.jrql_ast.specs.declared.plans.UpdatePlan.{UpdatePlan}
 use Rattle.jrql_eval.specs.PlanEffects.{HasTooMany}
 use Rattle.mld_model.specs.Clone.{Asking, Stored, kept_of}
@@ -31,10 +31,10 @@ use Rattle.schedule_model.specs.PlainStep.{PlainStep}
 use Rattle.schedule_model.specs.Step.{IsTaskInForm}
 use Rattle.schedule_model.specs.Tasks.{command_of, number_of_task}
 use Rattle.schedule_model.specs.WorldStep.{IsUpdateOf, stepped_into}
-use Rattle.clone_parts.specs.declared.answers.Done.{Done}
-use Rattle.clone_parts.specs.declared.answers.Got.{Got}
-use Rattle.clone_parts.specs.declared.faults.ReceiveFault.TheVariants as fault
-use Rattle.clone_parts.specs.KeptSteps.{KeptStep, Created, calls_of_all, ReadsSome, ReadsCaught}
+use Rattle.clone_core.specs.clone_parts.declared.answers.Done.{Done}
+use Rattle.clone_core.specs.clone_parts.declared.answers.Got.{Got}
+use Rattle.clone_core.specs.clone_parts.declared.faults.ReceiveFault.TheVariants as fault
+use Rattle.clone_core.specs.clone_parts.KeptSteps.{KeptStep, Created, calls_of_all, ReadsSome, ReadsCaught}
 use Rattle.clone_core.specs.Banked.{head_of, kept_as}
 use Rattle.clone_core.specs.CloneCalls.{LocallyReceives, Refuses}
 use Rattle.clone_core.specs.CloneUpdates.{LocallyUpdatesBy, BreaksSingle}

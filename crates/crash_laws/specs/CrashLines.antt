@@ -2,7 +2,7 @@
 use Rattle.std.specs.Prelude.{ℕ, ◌+◌, List, Bool}
 use Rattle.mld_io.specs.Disk.{Sides}
 use Rattle.mld_io.specs.declared.banks.Leave.{Leave}
-use Rattle.journal_sides.specs.Pairs.{read_banks}
+use Rattle.clone_core.specs.journal_sides.Pairs.{read_banks}
 use Rattle.mld_model.specs.Clone.{kept_of}
 use Rattle.mld_model.specs.Durable.{DurableStep}
 use Rattle.mld_model.specs.Reply.{Reply, Crashed}

@@ -1,6 +1,6 @@
 -- What a plain command does in the model, beside the changes that its clone would make of its banks.
 use Rattle.std.specs.Prelude.{ℕ, List}
-use Rattle.journal_sides.specs.Pairs.{PairReading}
+use Rattle.clone_core.specs.journal_sides.Pairs.{PairReading}
 use Rattle.mld_ops.specs.declared.messages.Message.{Message}
 use Rattle.mld_ops.specs.declared.messages.Message.TheVariants as message
 use Rattle.mld_model.specs.Local.{LocalClone}
@@ -14,7 +14,7 @@ use Rattle.schedule_model.specs.declared.CrashTask.{CrashTask}
 use Rattle.schedule_model.specs.declared.CrashTask.TheVariants as tasks
 use Rattle.schedule_model.specs.Crashing.{Deed}
 use Rattle.schedule_model.specs.PlainDurable.{PlainDurableSteps}
-use Rattle.clone_parts.specs.KeptSteps.{KeptStep}
+use Rattle.clone_core.specs.clone_parts.KeptSteps.{KeptStep}
 use Rattle.crash_laws.specs.CarriedSteps.{Carries, owner_at, WritesOnce}
 
 -- a plain command of the clone of the number does this in the model, and these changes of its banks, which read to this, carry its durable steps

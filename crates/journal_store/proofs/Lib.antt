@@ -1,3 +1,4 @@
+pub use Rattle.journal_sides.proofs as of_journal_sides
 pub mod Reading
 pub mod Mounted
 pub mod Choosing

@@ -1,3 +1,4 @@
+pub use Rattle.journal_sides.specs as journal_sides
 pub mod Found
 pub mod Standing
 pub mod Crashes

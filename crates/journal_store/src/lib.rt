@@ -10,6 +10,7 @@ mod mounting;
 mod writing;
 
 pub use faults::{AppendFault, MakeFault, MountFault, SwapFault, Why};
+pub use journal_sides;
 pub use journal_sides::Head;
 pub use journals::{Blank, Journal};
 pub use mounting::JournalMounted;

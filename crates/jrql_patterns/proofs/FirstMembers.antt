@@ -2,7 +2,7 @@
 use Rattle.std.proofs.Common.{◌≡◌, ◌∙◌, Result, sym, ap}
 use Rattle.jsonld_context.specs.Telling.{IsToldBy}
 use Rattle.jsonld_context.specs.declared.faults.JsonFault.{JsonFault}
-use Rattle.jsonld_values.specs.Literals.{followed_by}
+use Rattle.jsonld_subjects.specs.jsonld_values.Literals.{followed_by}
 
 pub first_told : {X Y : Type 0} (read : Result X JsonFault) (next : X → Result Y JsonFault) (whole : Result Y JsonFault) (fault : JsonFault)
     → followed_by read next ≡ whole → IsToldBy read fault → IsToldBy whole fault

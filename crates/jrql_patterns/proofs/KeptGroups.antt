@@ -12,11 +12,11 @@ use Rattle.serde_json.specs.Data.{Data, null, boolean, number, string, array, ob
 use Rattle.jsonld_context.specs.Context.{ContextValue}
 use Rattle.jsonld_context.specs.declared.faults.JsonFault.{JsonFault}
 use Rattle.jsonld_context.specs.declared.faults.JsonFault.TheVariants as faults
-use Rattle.jsonld_values.specs.Literals.{made_of}
-use Rattle.jsonld_values.specs.Numbering.{IsSlotOf, IsPatternOf, IsFilterOf, HasGrown}
-use Rattle.jsonld_values.specs.ValueObjects.{has_member}
-use Rattle.jsonld_values.specs.VariableNames.{NamesValue, IsNames}
-use Rattle.jsonld_values.proofs.NumberingLaws.{grown_begins, grown_on, slot_keeps, patterns_keep, filters_keep}
+use Rattle.jsonld_subjects.specs.jsonld_values.Literals.{made_of}
+use Rattle.jsonld_subjects.specs.jsonld_values.Numbering.{IsSlotOf, IsPatternOf, IsFilterOf, HasGrown}
+use Rattle.jsonld_subjects.specs.jsonld_values.ValueObjects.{has_member}
+use Rattle.jsonld_subjects.specs.jsonld_values.VariableNames.{NamesValue, IsNames}
+use Rattle.jsonld_subjects.proofs.of_jsonld_values.NumberingLaws.{grown_begins, grown_on, slot_keeps, patterns_keep, filters_keep}
 use Rattle.jsonld_subjects.specs.NamesKept.{KeepsToNames}
 use Rattle.jsonld_subjects.specs.ObjectReading.{stands_alone, object_read}
 use Rattle.jsonld_subjects.specs.SubjectReading.{Found, subjects_read}

@@ -17,11 +17,11 @@ use Rattle.jsonld_context.specs.Expanding.{expand_id}
 use Rattle.jsonld_context.specs.Texts.{is_variable}
 use Rattle.jsonld_context.specs.declared.faults.JsonFault.{JsonFault}
 use Rattle.jsonld_context.specs.declared.faults.JsonFault.TheVariants as faults
-use Rattle.jsonld_values.specs.Numbering.{HasGrown, IsPatternOf, IsFilterOf}
-use Rattle.jsonld_values.specs.ValueObjects.{has_member}
-use Rattle.jsonld_values.specs.VariableNames.{NamesValue, IsNames, no_names, meet_variable, marked}
-use Rattle.jsonld_values.proofs.Meeting.{met_behind}
-use Rattle.jsonld_values.proofs.NumberingLaws.{grown_named, group_in_form}
+use Rattle.jsonld_subjects.specs.jsonld_values.Numbering.{HasGrown, IsPatternOf, IsFilterOf}
+use Rattle.jsonld_subjects.specs.jsonld_values.ValueObjects.{has_member}
+use Rattle.jsonld_subjects.specs.jsonld_values.VariableNames.{NamesValue, IsNames, no_names, meet_variable, marked}
+use Rattle.jsonld_subjects.proofs.of_jsonld_values.Meeting.{met_behind}
+use Rattle.jsonld_subjects.proofs.of_jsonld_values.NumberingLaws.{grown_named, group_in_form}
 use Rattle.jsonld_subjects.proofs.KeptNames.{ok_same, no_fault, made_is, followed_is, either_is}
 use Rattle.jrql_patterns.specs.OpenGroups.{OpenGroup, with_group_names, meet_number, group_of, not_under}
 use Rattle.jrql_patterns.specs.GroupsKept.{IsGroupKept, ReadsOn}

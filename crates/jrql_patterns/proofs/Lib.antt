@@ -1,3 +1,5 @@
+pub use Rattle.jsonld_subjects.proofs as of_jsonld_subjects
+pub use Rattle.jsonld_subjects.proofs.of_jsonld_values as of_jsonld_values
 mod FirstMembers
 mod Marked
 mod Placing

@@ -8,10 +8,10 @@ use Rattle.rdf_terms.specs.Literal.{is_same}
 use Rattle.rdf_terms.specs.declared.terms.Term.{Term}
 use Rattle.jsonld_context.specs.declared.faults.JsonFault.{JsonFault}
 use Rattle.jsonld_context.specs.declared.faults.JsonFault.TheVariants as faults
-use Rattle.jsonld_values.specs.Literals.{made_of}
-use Rattle.jsonld_values.specs.VariableNames.{NamesValue, variables_met, is_named, name_number, met_again, named_too, meet_variable}
-use Rattle.jsonld_values.proofs.Meeting.{place_found}
-use Rattle.jsonld_values.proofs.Naming.{short_place}
+use Rattle.jsonld_subjects.specs.jsonld_values.Literals.{made_of}
+use Rattle.jsonld_subjects.specs.jsonld_values.VariableNames.{NamesValue, variables_met, is_named, name_number, met_again, named_too, meet_variable}
+use Rattle.jsonld_subjects.proofs.of_jsonld_values.Meeting.{place_found}
+use Rattle.jsonld_subjects.proofs.of_jsonld_values.Naming.{short_place}
 use Rattle.jsonld_subjects.proofs.KeptNames.{ok_same, no_fault}
 use Rattle.jrql_patterns.specs.OpenGroups.{meet_number}
 

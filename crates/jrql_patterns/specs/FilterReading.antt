@@ -11,9 +11,9 @@ use Rattle.serde_json.specs.Data.{Data, array, object, Items, no_items, item, Me
 use Rattle.jsonld_context.specs.Context.{ContextValue}
 use Rattle.jsonld_context.specs.declared.faults.JsonFault.{JsonFault}
 use Rattle.jsonld_context.specs.declared.faults.JsonFault.TheVariants as faults
-use Rattle.jsonld_values.specs.Literals.{followed_by, made_of}
-use Rattle.jsonld_values.specs.ValueObjects.{has_member}
-use Rattle.jsonld_values.specs.VariableNames.{NamesValue}
+use Rattle.jsonld_subjects.specs.jsonld_values.Literals.{followed_by, made_of}
+use Rattle.jsonld_subjects.specs.jsonld_values.ValueObjects.{has_member}
+use Rattle.jsonld_subjects.specs.jsonld_values.VariableNames.{NamesValue}
 use Rattle.jsonld_subjects.specs.ObjectReading.{stands_alone, object_read}
 use Rattle.jsonld_subjects.specs.declared.places.Place.TheVariants.{Pattern}
 use Rattle.jrql_patterns.specs.OpenGroups.{OpenGroup, not_under, has_one}

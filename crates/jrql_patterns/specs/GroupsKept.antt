@@ -1,7 +1,7 @@
 -- What is read of a group keeps to the names that are met.
 use Rattle.std.specs.List.{All}
-use Rattle.jsonld_values.specs.Numbering.{IsPatternOf, IsFilterOf, HasGrown}
-use Rattle.jsonld_values.specs.VariableNames.{IsNames}
+use Rattle.jsonld_subjects.specs.jsonld_values.Numbering.{IsPatternOf, IsFilterOf, HasGrown}
+use Rattle.jsonld_subjects.specs.jsonld_values.VariableNames.{IsNames}
 use Rattle.jrql_patterns.specs.OpenGroups.{OpenGroup}
 
 -- what was read of a group has the variables that were met, and no fresh subject: so the group is in form (`numbering_gives_form`)

@@ -7,9 +7,9 @@ use Rattle.serde_json.specs.Data.{Data, number, Members, no_members, member}
 use Rattle.serde_json.specs.Find.{is_float}
 use Rattle.jsonld_context.specs.declared.faults.JsonFault.{JsonFault}
 use Rattle.jsonld_context.specs.declared.faults.JsonFault.TheVariants as faults
-use Rattle.jsonld_values.specs.Literals.{made_of}
-use Rattle.jsonld_values.specs.Numbering.{group_read}
-use Rattle.jsonld_values.specs.VariableNames.{NamesValue, name_number, meet_variable}
+use Rattle.jsonld_subjects.specs.jsonld_values.Literals.{made_of}
+use Rattle.jsonld_subjects.specs.jsonld_values.Numbering.{group_read}
+use Rattle.jsonld_subjects.specs.jsonld_values.VariableNames.{NamesValue, name_number, meet_variable}
 
 -- what was read of a group so far: the names that its text has met, its patterns, its filters, and the branches of its union, where it
 -- has one

@@ -28,9 +28,9 @@ use Rattle.jsonld_context.specs.Expanding.{expand_id}
 use Rattle.jsonld_context.specs.Texts.{is_variable}
 use Rattle.jsonld_context.specs.declared.faults.JsonFault.{JsonFault}
 use Rattle.jsonld_context.specs.declared.faults.JsonFault.TheVariants as faults
-use Rattle.jsonld_values.specs.Literals.{followed_by, made_of}
-use Rattle.jsonld_values.specs.ValueObjects.{has_member}
-use Rattle.jsonld_values.specs.VariableNames.{NamesValue, no_names, marked, was_met}
+use Rattle.jsonld_subjects.specs.jsonld_values.Literals.{followed_by, made_of}
+use Rattle.jsonld_subjects.specs.jsonld_values.ValueObjects.{has_member}
+use Rattle.jsonld_subjects.specs.jsonld_values.VariableNames.{NamesValue, no_names, marked, was_met}
 use Rattle.jrql_patterns.specs.OpenGroups.{OpenGroup, empty_group, with_group_names, meet_number, group_of, not_under}
 use Rattle.jrql_patterns.specs.WhereReading.{read_where}
 use Rattle.jrql_patterns.specs.declared.queries.ReadQuery.{ReadQuery}

@@ -9,7 +9,7 @@ use crate::faults::bad_query;
 use crate::open_queries::OpenQuery;
 use jrql_ast::Target;
 use jsonld_context::JsonFault;
-use jsonld_values::{Names, has_member};
+use jsonld_subjects::jsonld_values::{Names, has_member};
 use serde_json::{Map, Value};
 use std::alloc::Global;
 

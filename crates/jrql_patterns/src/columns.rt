@@ -7,7 +7,7 @@ ghost use Rattle.jrql_patterns.specs.QueryReading.{standing_variables, is_before
 
 use crate::open_groups::OpenGroup;
 use jrql_ast::{PatternTriple, Sequence, Slot};
-use jsonld_values::Names;
+use jsonld_subjects::jsonld_values::Names;
 use std::alloc::{AllocError, Global};
 
 /// Marks the variable that a slot is, where it is one of those that are marked.

@@ -10,8 +10,8 @@ use crate::lists::has_one;
 use crate::open_groups::OpenGroup;
 use jrql_ast::{Compare, Filter, Slot};
 use jsonld_context::{Context, JsonFault};
+use jsonld_subjects::jsonld_values::{Names, has_member};
 use jsonld_subjects::{ObjectRead, Place, read_object, stands_alone};
-use jsonld_values::{Names, has_member};
 use serde_json::{Map, Value};
 use std::alloc::Global;
 

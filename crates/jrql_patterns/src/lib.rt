@@ -15,6 +15,8 @@ mod texts;
 mod wheres;
 
 pub use faults::{bad_query, not_under};
+pub use jsonld_subjects;
+pub use jsonld_subjects::jsonld_values;
 pub use laws::{every_column_in_order, reading_where_keeps_to_names};
 pub use open_groups::OpenGroup;
 pub use queries::{ReadQuery, read_query};

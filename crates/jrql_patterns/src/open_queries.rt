@@ -12,7 +12,7 @@ use crate::open_groups::OpenGroup;
 use crate::wheres::read_where;
 use jrql_ast::{Query, Select, Sequence, Target, What};
 use jsonld_context::{Context, JsonFault};
-use jsonld_values::Names;
+use jsonld_subjects::jsonld_values::Names;
 use serde_json::Value;
 use std::alloc::{AllocError, Global};
 use std::marker::Model;

@@ -3,7 +3,7 @@ ghost use Rattle.std.specs.Prelude.{◌≡◌, Ok, IfOk, IfErr};
 ghost use Rattle.serde_json.specs.Data.{array};
 ghost use Rattle.serde_json.specs.View.{view, items_view, members_view};
 ghost use Rattle.jsonld_context.specs.Telling.{IsToldBy};
-ghost use Rattle.jsonld_values.specs.Literals.{made_of};
+ghost use Rattle.jsonld_subjects.specs.jsonld_values.Literals.{made_of};
 ghost use Rattle.jrql_patterns.specs.QueryReading.{read_target, read_each_target, read_describe, read_column, read_columns, read_select, read_distinct, read_count, with_limit, with_offset, read_part, read_parts};
 
 use crate::faults::{bad_query, not_under};

@@ -14,7 +14,7 @@ use crate::parts::read_parts;
 use crate::texts::{read_json, said_context};
 use jrql_ast::{CopyIn, Query};
 use jsonld_context::{Context, JsonFault};
-use jsonld_values::has_member;
+use jsonld_subjects::jsonld_values::has_member;
 use serde_json::{Map, Value};
 use std::alloc::{AllocError, Global};
 

@@ -10,7 +10,7 @@ use crate::lists::has_one;
 use crate::open_groups::OpenGroup;
 use jsonld_context::{Context, JsonFault, member_at};
 use jsonld_subjects::Place;
-use jsonld_values::bad_subject;
+use jsonld_subjects::jsonld_values::bad_subject;
 use serde_json::{Map, Value};
 use std::alloc::Global;
 

@@ -17,8 +17,8 @@ use Rattle.jrql_ast.specs.declared.queries.Select.{Select}
 use Rattle.jrql_ast.specs.declared.queries.What.{What}
 use Rattle.jrql_ast.specs.declared.queries.What.TheVariants as kinds
 use Rattle.jsonld_context.specs.Context.{ContextValue}
-use Rattle.jsonld_values.specs.TermWriting.{term_data}
-use Rattle.jsonld_subjects.specs.SubjectWriting.{SaysSubject}
+use Rattle.jrql_patterns.specs.jsonld_values.TermWriting.{term_data}
+use Rattle.jrql_patterns.specs.jsonld_subjects.SubjectWriting.{SaysSubject}
 use Rattle.jrql_reply.specs.AnswerText.{name_of, with_variable, row_members, row_data, SaysEach, SaysRows, SaysAnswer, SpellsAnswer}
 
 -- ---- items

@@ -19,9 +19,9 @@ use Rattle.jsonld_context.specs.Context.{ContextValue}
 use Rattle.jsonld_context.specs.Texts.{is_variable}
 use Rattle.jsonld_context.specs.ShortForms.{compact_id}
 use Rattle.jrql_ast.specs.FilterMeaning.{xsd_integer}
-use Rattle.jsonld_values.specs.Literals.{xsd_boolean}
-use Rattle.jsonld_values.specs.TermWriting.{plain_number, plain_unsigned, plain_negative, negated, digits_from, typed_data, string_data, boolean_data, integer_data, literal_data, term_data}
-use Rattle.jsonld_subjects.specs.SubjectWriting.{KeyedTerm, SaysSubject, data_under, with_value, with_keyed, members_of_keyed}
+use Rattle.jrql_patterns.specs.jsonld_values.Literals.{xsd_boolean}
+use Rattle.jrql_patterns.specs.jsonld_values.TermWriting.{plain_number, plain_unsigned, plain_negative, negated, digits_from, typed_data, string_data, boolean_data, integer_data, literal_data, term_data}
+use Rattle.jrql_patterns.specs.jsonld_subjects.SubjectWriting.{KeyedTerm, SaysSubject, data_under, with_value, with_keyed, members_of_keyed}
 use Rattle.jrql_reply.specs.AnswerText.{row_members, row_data, with_variable, name_of}
 
 -- a value that is chosen by a test is whole where both are

@@ -12,8 +12,8 @@ use Rattle.jrql_ast.specs.declared.queries.Query.{Query}
 use Rattle.jrql_ast.specs.declared.queries.What.{What}
 use Rattle.jrql_ast.specs.declared.queries.What.TheVariants.{Select, Describe}
 use Rattle.jsonld_context.specs.Context.{ContextValue}
-use Rattle.jsonld_values.specs.TermWriting.{term_data}
-use Rattle.jsonld_subjects.specs.SubjectWriting.{SaysSubject}
+use Rattle.jrql_patterns.specs.jsonld_values.TermWriting.{term_data}
+use Rattle.jrql_patterns.specs.jsonld_subjects.SubjectWriting.{SaysSubject}
 
 -- the name of the variable of a number
 abbrev pub name_of : List (List ℕ) → ℕ → List ℕ

@@ -4,13 +4,13 @@ ghost use Rattle.serde_json.specs.View.{view, members_view, items_of};
 ghost use Rattle.serde_json.specs.Data.{array, put};
 ghost use Rattle.serde_json.specs.Written.{compact_text};
 ghost use Rattle.rdf_terms.specs.Kept.{KeepsStart};
-ghost use Rattle.jsonld_values.specs.TermWriting.{term_data};
+ghost use Rattle.jrql_patterns.specs.jsonld_values.TermWriting.{term_data};
 ghost use Rattle.jrql_reply.specs.AnswerText.{row_data, row_members, with_variable, name_of};
 
 use crate::items::push_item;
 use jrql_ast::Row;
+use jrql_patterns::jsonld_subjects::write_term;
 use jsonld_context::Context;
-use jsonld_subjects::write_term;
 use rdf_terms::Term;
 use serde_json::{Map, Value};
 use std::alloc::{AllocError, Global};

@@ -8,8 +8,8 @@ ghost use Rattle.jrql_reply.specs.AnswerText.{SaysEach};
 
 use crate::items::push_item;
 use jrql_ast::Described;
+use jrql_patterns::jsonld_subjects::write_subject;
 use jsonld_context::Context;
-use jsonld_subjects::write_subject;
 use std::alloc::AllocError;
 
 /// Adds subjects to an output as an array of objects, each with its id and its triples. Where memory is wanting, what stood there still

@@ -11,14 +11,14 @@ use Rattle.jsonld_context.specs.Context.{ContextValue}
 use Rattle.jsonld_context.specs.ContextReading.{unless_fault}
 use Rattle.jsonld_context.specs.declared.faults.JsonFault.{JsonFault}
 use Rattle.jsonld_context.specs.declared.faults.JsonFault.TheVariants as faults
-use Rattle.jsonld_values.specs.Numbering.{IsPatternOf, IsFilterOf, plan_read}
-use Rattle.jsonld_values.specs.ValueObjects.{has_member}
-use Rattle.jsonld_values.specs.VariableNames.{no_names}
-use Rattle.jsonld_values.proofs.NumberingLaws.{none_named, patterns_keep, plan_in_form}
-use Rattle.jsonld_subjects.specs.NamesKept.{KeepsToNames}
-use Rattle.jsonld_subjects.specs.SubjectReading.{Found, subjects_read}
-use Rattle.jsonld_subjects.specs.declared.places.Place.TheVariants.{Pattern, Insert}
-use Rattle.jsonld_subjects.proofs.KeptNames.{ok_same, no_fault, made_is, followed_is, either_is, subjects_keep}
+use Rattle.jrql_patterns.specs.jsonld_values.Numbering.{IsPatternOf, IsFilterOf, plan_read}
+use Rattle.jrql_patterns.specs.jsonld_values.ValueObjects.{has_member}
+use Rattle.jrql_patterns.specs.jsonld_values.VariableNames.{no_names}
+use Rattle.jrql_patterns.proofs.of_jsonld_values.NumberingLaws.{none_named, patterns_keep, plan_in_form}
+use Rattle.jrql_patterns.specs.jsonld_subjects.NamesKept.{KeepsToNames}
+use Rattle.jrql_patterns.specs.jsonld_subjects.SubjectReading.{Found, subjects_read}
+use Rattle.jrql_patterns.specs.jsonld_subjects.declared.places.Place.TheVariants.{Pattern, Insert}
+use Rattle.jrql_patterns.proofs.of_jsonld_subjects.KeptNames.{ok_same, no_fault, made_is, followed_is, either_is, subjects_keep}
 use Rattle.jrql_patterns.specs.OpenGroups.{OpenGroup, with_group_names, group_of, not_under}
 use Rattle.jrql_patterns.specs.GroupsKept.{IsGroupKept, ReadsOn}
 use Rattle.jrql_patterns.specs.QueryReading.{context_said}

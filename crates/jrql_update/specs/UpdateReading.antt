@@ -11,12 +11,12 @@ use Rattle.jsonld_context.specs.Context.{ContextValue}
 use Rattle.jsonld_context.specs.ContextReading.{unless_fault}
 use Rattle.jsonld_context.specs.declared.faults.JsonFault.{JsonFault}
 use Rattle.jsonld_context.specs.declared.faults.JsonFault.TheVariants as faults
-use Rattle.jsonld_values.specs.Literals.{followed_by, made_of}
-use Rattle.jsonld_values.specs.Numbering.{plan_read}
-use Rattle.jsonld_values.specs.ValueObjects.{has_member}
-use Rattle.jsonld_values.specs.VariableNames.{no_names, variables_met}
-use Rattle.jsonld_subjects.specs.SubjectReading.{Found, subjects_read}
-use Rattle.jsonld_subjects.specs.declared.places.Place.TheVariants.{Pattern, Insert}
+use Rattle.jrql_patterns.specs.jsonld_values.Literals.{followed_by, made_of}
+use Rattle.jrql_patterns.specs.jsonld_values.Numbering.{plan_read}
+use Rattle.jrql_patterns.specs.jsonld_values.ValueObjects.{has_member}
+use Rattle.jrql_patterns.specs.jsonld_values.VariableNames.{no_names, variables_met}
+use Rattle.jrql_patterns.specs.jsonld_subjects.SubjectReading.{Found, subjects_read}
+use Rattle.jrql_patterns.specs.jsonld_subjects.declared.places.Place.TheVariants.{Pattern, Insert}
 use Rattle.jrql_patterns.specs.OpenGroups.{OpenGroup, empty_group, with_group_names, group_of, not_under}
 use Rattle.jrql_patterns.specs.QueryReading.{context_said, fault_where, json_of}
 use Rattle.jrql_patterns.specs.WhereReading.{read_where}

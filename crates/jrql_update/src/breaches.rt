@@ -6,8 +6,8 @@ ghost use Rattle.jrql_update.specs.UpdateReading.{breaks_delete, breaks_insert, 
 
 use crate::open_updates::OpenUpdate;
 use jrql_patterns::bad_query;
+use jrql_patterns::jsonld_values::has_member;
 use jsonld_context::JsonFault;
-use jsonld_values::has_member;
 use serde_json::{Map, Value};
 use std::alloc::Global;
 

@@ -6,4 +6,6 @@ mod clauses;
 mod open_updates;
 mod updates;
 
+pub use jrql_patterns;
+pub use jrql_patterns::jsonld_subjects;
 pub use updates::read_update;

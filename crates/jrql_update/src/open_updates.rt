@@ -3,15 +3,15 @@ ghost use Rattle.std.specs.Prelude.{◌≡◌, ◌≤◌, nat_lt, map, Ok, IfOk,
 ghost use Rattle.serde_json.specs.View.{view};
 ghost use Rattle.jrql_ast.specs.InForm.{variable_limit};
 ghost use Rattle.jsonld_context.specs.Telling.{IsToldBy};
-ghost use Rattle.jsonld_values.specs.Numbering.{numbered_triple};
-ghost use Rattle.jsonld_values.specs.VariableNames.{variables_met};
+ghost use Rattle.jrql_patterns.specs.jsonld_values.Numbering.{numbered_triple};
+ghost use Rattle.jrql_patterns.specs.jsonld_values.VariableNames.{variables_met};
 ghost use Rattle.jrql_update.specs.UpdateReading.{empty_update, read_deleted, read_inserted, read_matched, plan_said};
 
 use jrql_ast::{CopyIn, PatternTriple, Sequence, UpdatePlan};
+use jrql_patterns::jsonld_subjects::Place;
+use jrql_patterns::jsonld_values::{Names, number_triples};
 use jrql_patterns::{OpenGroup, read_where};
 use jsonld_context::{Context, JsonFault};
-use jsonld_subjects::Place;
-use jsonld_values::{Names, number_triples};
 use serde_json::Value;
 use std::alloc::{AllocError, Global};
 use std::marker::Model;

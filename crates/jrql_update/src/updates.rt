@@ -11,9 +11,9 @@ use crate::breaches::{check_breaches, is_subject_alone};
 use crate::clauses::read_clauses;
 use crate::open_updates::OpenUpdate;
 use jrql_ast::UpdatePlan;
+use jrql_patterns::jsonld_values::has_member;
 use jrql_patterns::{not_under, read_json, said_context};
 use jsonld_context::{Context, JsonFault};
-use jsonld_values::has_member;
 use serde_json::{Map, Value};
 use std::alloc::Global;
 

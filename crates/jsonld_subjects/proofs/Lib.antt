@@ -1,3 +1,4 @@
+pub use Rattle.jsonld_values.proofs as of_jsonld_values
 pub mod ShortKeys
 pub mod WholeNumbers
 pub mod WrittenTerms

@@ -1,3 +1,4 @@
+pub use Rattle.jsonld_values.specs as jsonld_values
 pub mod SubjectReading
 pub mod SubjectWriting
 pub mod GivingBack

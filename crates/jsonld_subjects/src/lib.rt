@@ -14,6 +14,7 @@ mod plain_values;
 mod reading;
 mod writing;
 
+pub use jsonld_values;
 pub use jsonld_values::{Names, write_term};
 pub use laws::{
     object_is_a_value, one_object_says_a_subject, reading_gives_back, reading_keeps_to_names,

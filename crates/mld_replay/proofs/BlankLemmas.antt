@@ -6,19 +6,19 @@ use Rattle.std.proofs.lemmas.List.{nil_from_length, append-nil, length-append}
 use Rattle.std.proofs.lemmas.Option.{slice_get_within, slice_get-get_or}
 use Rattle.mld_io.specs.Arm.{Meter}
 use Rattle.mld_io.specs.Disk.{Log, Sides, seen, MayLeave}
-use Rattle.journal_sides.specs.Pairs.{PairReading, KeepsNone, Keeps, Damages, read_banks}
-use Rattle.journal_sides.specs.SideReadings.{read_side}
-use Rattle.journal_store.specs.declared.faults.MountFault.TheVariants.{Damaged, Device, NoMemory}
-use Rattle.journal_store.specs.Crashes.{LeavesNothingNew}
-use Rattle.journal_store.specs.Mounting.{IsSynced}
-use Rattle.journal_store.specs.Standing.{KeepsNothing, IsBlankLog}
+use Rattle.clone_core.specs.journal_sides.Pairs.{PairReading, KeepsNone, Keeps, Damages, read_banks}
+use Rattle.clone_core.specs.journal_sides.SideReadings.{read_side}
+use Rattle.clone_core.specs.journal_store.declared.faults.MountFault.TheVariants.{Damaged, Device, NoMemory}
+use Rattle.clone_core.specs.journal_store.Crashes.{LeavesNothingNew}
+use Rattle.clone_core.specs.journal_store.Mounting.{IsSynced}
+use Rattle.clone_core.specs.journal_store.Standing.{KeepsNothing, IsBlankLog}
 use Rattle.clone_core.specs.Opening.{TellsClone}
 use Rattle.clone_core.specs.declared.mounts.Mounted.{Mounted}
 use Rattle.clone_core.specs.declared.mounts.Mounted.TheVariants.{Live, Empty, Refused}
-use Rattle.world_commands.specs.WorldBanks.{MeterGoesOn, MetersGoOn, HadNoFault, HadNoFaults, HasFailed, HadFault}
+use Rattle.net_world.specs.world_commands.WorldBanks.{MeterGoesOn, MetersGoOn, HadNoFault, HadNoFaults, HasFailed, HadFault}
 use Rattle.mld_replay.specs.Filled.{IsFilled, IsFirstFilled, LogsStay}
 use Rattle.mld_replay.specs.Looking.{AreEmpty, AreEmptyBefore, StopsLookingAt, StopsLooking}
-use Rattle.world_commands.proofs.StopLemmas.{told_log}
+use Rattle.net_world.proofs.of_world_commands.StopLemmas.{told_log}
 use Rattle.net_world.specs.SettledWorlds.{AreBlank}
 use Rattle.net_world.proofs.CaughtLemmas.{now_left}
 use Rattle.mld_replay.specs.BanksLeft.{LeavesLess, LeaveNoMore}

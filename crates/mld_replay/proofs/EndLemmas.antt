@@ -4,11 +4,11 @@ use Rattle.std.specs.Prelude.{IsSome, IsTrue, Result, Ok, IfOk}
 use Rattle.std.specs.declared.alloc.AllocError.{AllocError}
 use Rattle.std.proofs.lemmas.Bool.{false≢true}
 use Rattle.mld_io.specs.Disk.{Log}
-use Rattle.journal_store.specs.Standing.{IsBlankLog}
+use Rattle.clone_core.specs.journal_store.Standing.{IsBlankLog}
 use Rattle.mld_model.specs.World.{World}
 use Rattle.mld_model.specs.Sound.{IsSound}
 use Rattle.schedule_model.specs.Runs.{Stage, Running}
-use Rattle.world_commands.specs.WorldBanks.{BankedWorld, StandsOnBanks, AllBanksStandFor, KeepsNoneNow}
+use Rattle.net_world.specs.world_commands.WorldBanks.{BankedWorld, StandsOnBanks, AllBanksStandFor, KeepsNoneNow}
 use Rattle.net_world.specs.declared.summaries.Summary.{Summary}
 use Rattle.mld_replay.specs.RunSummaries.{TellsOf}
 use Rattle.mld_replay.specs.Replaying.{EndsByFault}

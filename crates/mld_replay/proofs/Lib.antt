@@ -1,3 +1,4 @@
+pub use Rattle.net_world.proofs as of_net_world
 pub mod Counting
 pub mod BlankLemmas
 pub mod EndLemmas

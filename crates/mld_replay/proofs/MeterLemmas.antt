@@ -3,10 +3,10 @@ use Rattle.std.proofs.Common.{◌≡◌, ◌≢◌, ℕ, List, refl, sym, ◌∙
 use Rattle.std.specs.Prelude.{slice_get}
 use Rattle.std.proofs.lemmas.Option.{slice_get_within, slice_get-get_or}
 use Rattle.mld_io.specs.Arm.{Meter, Unarmed}
-use Rattle.world_commands.specs.WorldBanks.{MeterGoesOn, MetersGoOn, HadNoFaults, HasFailed, HasFaultsFor, RefusesFounding}
+use Rattle.net_world.specs.world_commands.WorldBanks.{MeterGoesOn, MetersGoOn, HadNoFaults, HasFailed, HasFaultsFor, RefusesFounding}
 use Rattle.net_world.specs.CrashedWorlds.{AreUnarmed}
-use Rattle.world_commands.specs.declared.faults.WorldFault.{WorldFault}
-use Rattle.world_commands.specs.declared.faults.WorldFault.TheVariants as worlds
+use Rattle.net_world.specs.world_commands.declared.faults.WorldFault.{WorldFault}
+use Rattle.net_world.specs.world_commands.declared.faults.WorldFault.TheVariants as worlds
 use Rattle.net_world.proofs.FaultLemmas.{goes_then, fault_later}
 use Rattle.schedule_text.specs.declared.refusals.LineRefusal.{LineRefusal}
 use Rattle.schedule_text.specs.declared.refusals.LineRefusal.TheVariants as refusals

@@ -18,12 +18,12 @@ use Rattle.schedule_model.specs.Schedule.{Setup as ModelSetup, SpellsSetup, Sets
 use Rattle.schedule_text.specs.ReadLines.{setup_of, SetupIs, CommandIs, IsBadCommand}
 use Rattle.net_world.specs.Founding.{StandsFounded}
 use Rattle.net_world.specs.SettledWorlds.{AllImagesStand, AreBlank, SettlesWorld, SettlesFounded}
-use Rattle.world_commands.specs.WorldBanks.{BankedWorld, StandsOnBanks, banks_of}
+use Rattle.net_world.specs.world_commands.WorldBanks.{BankedWorld, StandsOnBanks, banks_of}
 use Rattle.mld_replay.specs.BankFaults.{ComeBackWell, all_left}
 use Rattle.mld_replay.specs.Stops.{StopBringsBack}
 use Rattle.mld_replay.specs.declared.stops.LineStop.TheVariants as stops
 use Rattle.mld_replay.proofs.MeterLemmas.{well_same, well_then, stop_later}
-use Rattle.world_commands.specs.Worlds.{Stepped, FollowsOnBanks}
+use Rattle.net_world.specs.world_commands.Worlds.{Stepped, FollowsOnBanks}
 use Rattle.mld_replay.specs.Stages.{StageStands, SpellsAt, steps_of_stage, GetsProperty, GetsNone, IsStandingStage, ActsWell, EndsWell}
 use Rattle.mld_replay.specs.declared.stops.LineStop.{LineStop}
 use Rattle.mld_replay.specs.declared.stages.Stage.{Stage as RunningStage}

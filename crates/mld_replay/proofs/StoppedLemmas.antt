@@ -14,10 +14,10 @@ use Rattle.schedule_model.specs.Step.{HasCloneNumbers, number_of_clone}
 use Rattle.schedule_model.proofs.ScheduleLaws.{spells_numbers}
 use Rattle.schedule_text.specs.declared.setups.Setup.{Setup}
 use Rattle.schedule_text.specs.ReadLines.{setup_of, CommandIs}
-use Rattle.world_commands.specs.declared.faults.WorldFault.{WorldFault}
-use Rattle.world_commands.specs.declared.faults.WorldFault.TheVariants as worlds
-use Rattle.world_commands.specs.WorldBanks.{BankedWorld, in_memory, banks_of, banks_of_state, StandsOnBanks}
-use Rattle.world_commands.proofs.StopLemmas.{told_log}
+use Rattle.net_world.specs.world_commands.declared.faults.WorldFault.{WorldFault}
+use Rattle.net_world.specs.world_commands.declared.faults.WorldFault.TheVariants as worlds
+use Rattle.net_world.specs.world_commands.WorldBanks.{BankedWorld, in_memory, banks_of, banks_of_state, StandsOnBanks}
+use Rattle.net_world.proofs.of_world_commands.StopLemmas.{told_log}
 use Rattle.net_world.specs.FoundingLeft.{LeavesFounded}
 use Rattle.net_world.specs.SettledWorlds.{AllImagesStand, AreBlank}
 use Rattle.net_world.proofs.SettledBanks.{nothing_left}

@@ -2,7 +2,7 @@
 use Rattle.std.specs.Prelude.{◌≡◌, ◌≢◌, ℕ, List, [], Option, Some, slice_get}
 use Rattle.mld_io.specs.Arm.{Meter}
 use Rattle.mld_io.specs.Faults.{counted}
-use Rattle.world_commands.specs.WorldBanks.{MetersGoOn, HadNoFault, HadNoFaults, HasFailed}
+use Rattle.net_world.specs.world_commands.WorldBanks.{MetersGoOn, HadNoFault, HadNoFaults, HasFailed}
 use Rattle.mld_replay.specs.declared.run.RunFault.{RunFault}
 use Rattle.mld_replay.specs.declared.run.RunFault.TheVariants as faults
 

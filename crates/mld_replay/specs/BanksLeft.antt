@@ -2,7 +2,7 @@
 -- `says_of` and the words of `Stops.antt` say it for `run`, `act` and `finish`; `blanks_of` cites `LeaveNoMore`.
 use Rattle.std.specs.Prelude.{◌≡◌, ◌⊎◌, ℕ, List, [], ◌∷◌, Option, Some, slice_get}
 use Rattle.mld_io.specs.Disk.{Log, Sides, MayLeave, LeavesOnly}
-use Rattle.journal_sides.specs.Pairs.{KeepsNone, read_banks}
+use Rattle.clone_core.specs.journal_sides.Pairs.{KeepsNone, read_banks}
 use Rattle.mld_model.specs.Clone.{kept_of}
 use Rattle.mld_model.specs.World.{World, clone_at}
 use Rattle.schedule_model.specs.declared.Command.{Command}
@@ -11,8 +11,8 @@ use Rattle.schedule_model.specs.Runs.{Stage, Waiting, SetUp, Running, IsWorldOf}
 use Rattle.schedule_model.specs.Schedule.{Setup, SpellsCommand}
 use Rattle.schedule_model.specs.Step.{number_of_clone}
 use Rattle.schedule_model.specs.Tasks.{command_done}
-use Rattle.crash_laws.specs.CarriedSteps.{owner_at, StandsSome}
-use Rattle.crash_laws.specs.CrashLines.{ImageStands}
+use Rattle.net_world.specs.crash_laws.CarriedSteps.{owner_at, StandsSome}
+use Rattle.net_world.specs.crash_laws.CrashLines.{ImageStands}
 use Rattle.net_world.specs.FoundingLeft.{LeavesFounding}
 use Rattle.net_world.specs.SettledWorlds.{AllImagesStand}
 

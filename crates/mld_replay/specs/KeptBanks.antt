@@ -2,7 +2,7 @@
 use Rattle.std.specs.Prelude.{◌≡◌, ℕ, List, Option, Some, slice_get}
 use Rattle.mld_io.specs.Disk.{Log}
 use Rattle.schedule_model.specs.Runs.{Stage, Waiting, SetUp, Running}
-use Rattle.world_commands.specs.WorldBanks.{KeepsNoneNow, AllBanksStandFor}
+use Rattle.net_world.specs.world_commands.WorldBanks.{KeepsNoneNow, AllBanksStandFor}
 
 -- all of them keep nothing
 abbrev pub AllKeepNone : {B : Type 0} → (B → Option Log) → List B → Type 0

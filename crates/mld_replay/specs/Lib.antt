@@ -1,3 +1,4 @@
+pub use Rattle.net_world.specs as net_world
 pub mod RunSummaries
 pub mod Stages
 pub mod KeptBanks

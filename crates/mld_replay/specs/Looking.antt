@@ -2,7 +2,7 @@
 use Rattle.std.specs.Prelude.{◌≡◌, ◌<◌, ℕ, List, [], Option, Some, slice_get}
 use Rattle.mld_io.specs.Arm.{Meter}
 use Rattle.mld_io.specs.Disk.{Log}
-use Rattle.world_commands.specs.WorldBanks.{HadNoFault, HadFault}
+use Rattle.net_world.specs.world_commands.WorldBanks.{HadNoFault, HadFault}
 use Rattle.mld_replay.specs.BankFaults.{HaveFailed}
 use Rattle.mld_replay.specs.Filled.{IsFilled, IsFirstFilled}
 use Rattle.mld_replay.specs.declared.run.RunFault.{RunFault}

@@ -12,7 +12,7 @@ use Rattle.schedule_text.specs.declared.setups.SetupLine.TheVariants as lines
 use Rattle.net_world.specs.SettledWorlds.{AllImagesStand, AreBlank}
 use Rattle.net_world.specs.LeftBehind.{LeavesBanks}
 use Rattle.schedule_model.specs.Step.{number_of_clone}
-use Rattle.world_commands.specs.WorldBanks.{BankedWorld, StandsOnBanks, OthersStay, banks_of}
+use Rattle.net_world.specs.world_commands.WorldBanks.{BankedWorld, StandsOnBanks, OthersStay, banks_of}
 use Rattle.mld_replay.specs.declared.stages.Stage.{Stage as RunningStage}
 use Rattle.mld_replay.specs.declared.stages.Stage.TheVariants as stages
 use Rattle.mld_replay.specs.declared.stops.LineStop.{LineStop}

@@ -6,8 +6,8 @@ use Rattle.mld_io.specs.Disk.{Log}
 use Rattle.schedule_model.specs.Runs.{Stage}
 use Rattle.schedule_text.specs.declared.refusals.LineRefusal.{LineRefusal}
 use Rattle.schedule_text.specs.declared.refusals.LineRefusal.TheVariants as refusals
-use Rattle.world_commands.specs.declared.faults.WorldFault.{WorldFault}
-use Rattle.world_commands.specs.declared.faults.WorldFault.TheVariants as worlds
+use Rattle.net_world.specs.world_commands.declared.faults.WorldFault.{WorldFault}
+use Rattle.net_world.specs.world_commands.declared.faults.WorldFault.TheVariants as worlds
 use Rattle.mld_replay.specs.declared.stops.LineStop.{LineStop}
 use Rattle.mld_replay.specs.declared.stops.LineStop.TheVariants as stops
 use Rattle.mld_replay.specs.declared.run.RunFault.{RunFault}

@@ -3,8 +3,8 @@ ghost use Rattle.std.specs.Prelude.{◌≡◌, ◌<◌, ◌+◌, ◌≤◌, ◌+
 ghost use Rattle.std.specs.Result.{result_err};
 ghost use Rattle.mld_io.specs.Disk.{Log, bytes_of, seen};
 ghost use Rattle.mld_model.specs.World.{clone_count};
-ghost use Rattle.world_commands.specs.WorldBanks.{MeterGoesOn, MetersGoOn, HadNoFault, HadFault};
-ghost use Rattle.journal_store.specs.Standing.{IsBlankLog};
+ghost use Rattle.net_world.specs.world_commands.WorldBanks.{MeterGoesOn, MetersGoOn, HadNoFault, HadFault};
+ghost use Rattle.clone_core.specs.journal_store.Standing.{IsBlankLog};
 ghost use Rattle.net_world.specs.SettledWorlds.{AreBlank};
 ghost use Rattle.mld_replay.specs.BanksLeft.{LeavesLess, LeaveNoMore};
 ghost use Rattle.mld_replay.specs.BankFaults.{ComeBackWell, BringsBack};
@@ -12,8 +12,8 @@ ghost use Rattle.mld_replay.specs.Filled.{IsFilled, LogsStay};
 ghost use Rattle.mld_replay.specs.Looking.{AreEmpty, StopsLookingAt, StopsLooking, StopsBlanking};
 
 use crate::run::RunFault;
+use clone_core::journal_store::{Blank, MountFault};
 use clone_core::{MldClone, Mounted};
-use journal_store::{Blank, MountFault};
 use mld_io::{Banks, CrashBanks, IoFault, Side};
 use std::alloc::{AllocError, Global};
 use std::collections::VecDeque;

@@ -3,13 +3,13 @@ ghost use Rattle.std.specs.Prelude.{◌≡◌, ◌+◌, ◌≤◌, ◌++◌, Non
 ghost use Rattle.mld_model.specs.World.{World as ModelWorld};
 ghost use Rattle.mld_model.specs.Sound.{IsSound};
 ghost use Rattle.schedule_model.specs.Runs.{Stage as ModelStage, Running};
-ghost use Rattle.world_commands.specs.WorldBanks.{StandsOnBanks, AllBanksStandFor, banks_of};
+ghost use Rattle.net_world.specs.world_commands.WorldBanks.{StandsOnBanks, AllBanksStandFor, banks_of};
 ghost use Rattle.mld_replay.specs.RunSummaries.{TellsOf};
 ghost use Rattle.mld_replay.specs.Stages.{StageStands, banks_of_stage};
 ghost use Rattle.mld_replay.specs.KeptBanks.{AllKeepNone, BanksKeep};
 
 use crate::stages::Stage;
-use journal_store::Blank;
+use clone_core::journal_store::Blank;
 use mld_io::{Banks, CrashBanks};
 use net_world::{Summary, World};
 use std::alloc::{AllocError, Global};

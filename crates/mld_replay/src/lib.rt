@@ -11,3 +11,5 @@ pub mod run;
 mod stages;
 mod stops;
 mod words;
+
+pub use net_world;

@@ -1,11 +1,11 @@
 //! How far a schedule has come, and what a line makes of that.
 ghost use Rattle.std.specs.Prelude.{◌≡◌, ◌<◌, ◌≤◌, ◌+◌, ◌∷◌, [], ℕ, List, IsTrue, IfOk, IfErr, OnOk, OnErr, IsErrOf};
 ghost use Rattle.mld_model.specs.World.{World as ModelWorld};
-ghost use Rattle.world_commands.specs.WorldBanks.{StandsOnBanks, banks_of};
+ghost use Rattle.net_world.specs.world_commands.WorldBanks.{StandsOnBanks, banks_of};
 ghost use Rattle.net_world.specs.CrashedWorlds.{AreUnarmed};
 ghost use Rattle.schedule_model.specs.Runs.{Stage as ModelStage, Waiting, Running, IsBad};
 ghost use Rattle.schedule_model.specs.Step.{HasCloneNumbers, IsCommandInForm};
-ghost use Rattle.world_commands.specs.Worlds.{IsStanding, Stepped};
+ghost use Rattle.net_world.specs.world_commands.Worlds.{IsStanding, Stepped};
 ghost use Rattle.schedule_model.specs.WorldStep.{step_limit};
 ghost use Rattle.mld_replay.specs.BankFaults.{ComeBackWell};
 ghost use Rattle.mld_replay.specs.BanksLeft.{IsDueAt};
@@ -15,10 +15,10 @@ ghost use Rattle.mld_replay.specs.Stages.{StageStands, SpellsAt, IsStandingStage
 ghost use Rattle.mld_replay.specs.declared.stages.Stage.TheVariants as stages;
 
 use crate::stops::LineStop;
-use journal_store::Blank;
+use clone_core::journal_store::Blank;
 use mld_io::{Banks, CrashBanks};
 use net_world::World;
-use schedule_replies::{push_property_set, push_ready};
+use net_world::schedule_replies::{push_property_set, push_ready};
 use schedule_text::{Command, Setup, SetupLine, read_command, read_setup};
 use std::alloc::Global;
 use std::mem;

@@ -6,8 +6,8 @@ use Rattle.mld_io.specs.Disk.{Log, Sides, grown_by, seen, MayLeave}
 use Rattle.mld_io.proofs.DiskLaws.{AtEachMoment-last}
 use Rattle.mld_io.specs.declared.banks.Leave.{Leave}
 use Rattle.mld_io.specs.declared.banks.Side.TheVariants as sides
-use Rattle.journal_sides.specs.Pairs.{PairReading, KeepsNone, Keeps, read_banks}
-use Rattle.journal_store.specs.Crashes.{LeavesNothingNew}
+use Rattle.clone_core.specs.journal_sides.Pairs.{PairReading, KeepsNone, Keeps, read_banks}
+use Rattle.clone_core.specs.journal_store.Crashes.{LeavesNothingNew}
 use Rattle.mld_ops.specs.Messages.{message_value}
 use Rattle.mld_ops.specs.declared.messages.Message.{Message}
 use Rattle.mld_model.specs.Clone.{Clone}
@@ -23,15 +23,15 @@ use Rattle.schedule_model.specs.Crashing.{IsArmed, IsUp, opening_calls}
 use Rattle.schedule_model.specs.Tasks.{command_of, number_of_task, IsToOpen}
 use Rattle.schedule_model.specs.declared.CrashTask.{CrashTask}
 use Rattle.schedule_model.specs.declared.CrashTask.TheVariants as tasks
-use Rattle.clone_parts.specs.KeptSteps.{KeptStep, Created, calls_of_all, ReadsCaught, LeavesSome}
+use Rattle.clone_core.specs.clone_parts.KeptSteps.{KeptStep, Created, calls_of_all, ReadsCaught, LeavesSome}
 use Rattle.clone_core.specs.Banked.{head_of, kept_as}
 use Rattle.clone_core.specs.Opening.{mount_calls}
-use Rattle.crash_laws.specs.CarriedSteps.{owner_at, StandsRead, IsUpTo}
-use Rattle.crash_laws.specs.CrashLines.{CrashesTo}
-use Rattle.crash_laws.specs.Deeds.{CarriedDeed}
-use Rattle.crash_laws.proofs.CrashedLines.{opens_nothing, opening_of, caught_crash, caught_opening}
-use Rattle.crash_laws.proofs.Generations.{image_up_to}
-use Rattle.crash_laws.proofs.OtherDeeds.{opened_deed}
+use Rattle.world_commands.specs.crash_laws.CarriedSteps.{owner_at, StandsRead, IsUpTo}
+use Rattle.world_commands.specs.crash_laws.CrashLines.{CrashesTo}
+use Rattle.world_commands.specs.crash_laws.Deeds.{CarriedDeed}
+use Rattle.world_commands.proofs.of_crash_laws.CrashedLines.{opens_nothing, opening_of, caught_crash, caught_opening}
+use Rattle.world_commands.proofs.of_crash_laws.Generations.{image_up_to}
+use Rattle.world_commands.proofs.of_crash_laws.OtherDeeds.{opened_deed}
 use Rattle.world_commands.specs.LeftBanks.{WorkOnBanks, LeavesState, leaves_same, leaves_live, leaves_made, leaves_opened}
 use Rattle.world_commands.specs.States.{HasState}
 use Rattle.world_commands.specs.WorldBanks.{BankedState, BankedWorld, in_memory, banks_of_state, memory_of, IsDownOn, StandsOnBanks, HadNoFault}

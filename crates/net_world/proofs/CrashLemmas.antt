@@ -21,13 +21,13 @@ use Rattle.schedule_model.specs.WorldStep.{stepped_into}
 use Rattle.schedule_model.specs.declared.Command.TheVariants.{Crash}
 use Rattle.schedule_model.specs.declared.CrashTask.{CrashTask}
 use Rattle.schedule_model.proofs.CrashFollows.{plain_step, deed_of}
-use Rattle.schedule_replies.specs.declared.replies.Reply.{Reply}
-use Rattle.schedule_replies.specs.Replies.{reply_value}
-use Rattle.journal_sides.specs.Pairs.{read_banks}
-use Rattle.crash_laws.specs.CarriedSteps.{IsUpTo}
-use Rattle.crash_laws.specs.CrashLines.{FollowsCrash}
-use Rattle.crash_laws.proofs.FollowedLines.{crash_step, caught_followed, done_followed}
-use Rattle.crash_laws.proofs.Images.{IsRevived, revived_reads}
+use Rattle.world_commands.specs.schedule_replies.declared.replies.Reply.{Reply}
+use Rattle.world_commands.specs.schedule_replies.Replies.{reply_value}
+use Rattle.clone_core.specs.journal_sides.Pairs.{read_banks}
+use Rattle.world_commands.specs.crash_laws.CarriedSteps.{IsUpTo}
+use Rattle.world_commands.specs.crash_laws.CrashLines.{FollowsCrash}
+use Rattle.world_commands.proofs.of_crash_laws.FollowedLines.{crash_step, caught_followed, done_followed}
+use Rattle.world_commands.proofs.of_crash_laws.Images.{IsRevived, revived_reads}
 use Rattle.world_commands.specs.declared.faults.WorldFault.{WorldFault}
 use Rattle.world_commands.specs.declared.faults.WorldFault.TheVariants as faults
 use Rattle.world_commands.specs.declared.parts.Parts.{Parts}

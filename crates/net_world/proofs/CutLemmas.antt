@@ -2,16 +2,16 @@
 use Rattle.std.proofs.Common.{◌≡◌, ℕ, ◌+◌, ◌≤◌, Option, Some, None, MatchOption, refl, sym, ◌∙◌, arith, subst, ap}
 use Rattle.std.specs.Prelude.{IsSome}
 use Rattle.mld_io.specs.Disk.{Log, Sides, seen, MayLeave, IsSettled}
-use Rattle.journal_sides.specs.Pairs.{Kept, PairReading, KeepsNone, Keeps, Damages, read_banks}
-use Rattle.journal_store.specs.Standing.{KeepsJust}
+use Rattle.clone_core.specs.journal_sides.Pairs.{Kept, PairReading, KeepsNone, Keeps, Damages, read_banks}
+use Rattle.clone_core.specs.journal_store.Standing.{KeepsJust}
 use Rattle.mld_model.specs.Clone.{Stored, kept_of}
 use Rattle.mld_model.specs.StandsFor.{CloneStandsFor}
 use Rattle.mld_model.specs.World.{World, clone_at}
 use Rattle.mld_model.specs.declared.CloneState.TheVariants as states
 use Rattle.clone_core.specs.Banked.{kept_as}
-use Rattle.crash_laws.specs.CarriedSteps.{owner_at, StandsRead, IsUpTo}
-use Rattle.crash_laws.specs.CrashLines.{ImageStands}
-use Rattle.crash_laws.proofs.Images.{stands_nothing, stands_kept}
+use Rattle.world_commands.specs.crash_laws.CarriedSteps.{owner_at, StandsRead, IsUpTo}
+use Rattle.world_commands.specs.crash_laws.CrashLines.{ImageStands}
+use Rattle.world_commands.proofs.of_crash_laws.Images.{stands_nothing, stands_kept}
 use Rattle.world_commands.specs.WorldBanks.{BankedState, in_memory, banks_of_state, KeepsNoneNow, KeepsStored, IsReached, IsDownOn, IsBacked}
 use Rattle.world_commands.specs.WorldEnds.{KeepsState}
 use Rattle.net_world.proofs.EndLemmas.{stopped_stands}

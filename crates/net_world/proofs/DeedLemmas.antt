@@ -1,7 +1,7 @@
 -- What the clone of a crash line may do on its banks is the deed of its command in the model.
 use Rattle.std.proofs.Common.{◌≡◌, ℕ, zero, suc, List, [], ◌∷◌, Some, None, inl, inr, refl, sym, ◌∙◌, ap, subst, map}
 use Rattle.mld_io.specs.declared.banks.Side.{Side}
-use Rattle.journal_sides.specs.Pairs.{KeepsNone, Keeps}
+use Rattle.clone_core.specs.journal_sides.Pairs.{KeepsNone, Keeps}
 use Rattle.jrql_ast.specs.declared.plans.UpdatePlan.{UpdatePlan}
 use Rattle.jrql_ast.specs.Templates.{insertion_of, deletion_of}
 use Rattle.mld_ops.specs.Messages.{GiveValue, MessageValue, message_value, give_value}
@@ -23,19 +23,19 @@ use Rattle.schedule_model.specs.declared.CrashTask.{CrashTask}
 use Rattle.schedule_model.specs.declared.CrashTask.TheVariants as tasks
 use Rattle.schedule_model.proofs.FollowsLaws.{SentAs, sent_as}
 use Rattle.schedule_model.proofs.WorldLaws.{no_message}
-use Rattle.clone_parts.specs.declared.answers.Done.TheVariants as done
-use Rattle.clone_parts.specs.KeptSteps.{KeptStep, Created, Appended}
+use Rattle.clone_core.specs.clone_parts.declared.answers.Done.TheVariants as done
+use Rattle.clone_core.specs.clone_parts.KeptSteps.{KeptStep, Created, Appended}
 use Rattle.clone_core.specs.Banked.{head_of, kept_as}
 use Rattle.clone_core.specs.DurableCalls.{AppendsPlanned}
 use Rattle.clone_core.specs.Joining.{GivesNone}
-use Rattle.crash_laws.specs.CarriedSteps.{owner_at, StandsRead}
-use Rattle.crash_laws.specs.Deeds.{CarriedDeed}
-use Rattle.crash_laws.proofs.DoneDeeds.{updated_deed, too_many_deed, single_deed, answered_deed, full_deed, deep_deed}
-use Rattle.crash_laws.proofs.Kept.{carried_at}
-use Rattle.crash_laws.proofs.KeepingDeeds.{none_carried, uncompacted_deed, untruncated_deed}
-use Rattle.crash_laws.proofs.OtherDeeds.{opened_deed, unsent_deed, asking_deed}
-use Rattle.crash_laws.proofs.OwnDeeds.{update_deed}
-use Rattle.crash_laws.proofs.ToldDeeds.{named_as, received_deed, compacts_deed, truncates_deed, adopts_deed, passed_deed}
+use Rattle.world_commands.specs.crash_laws.CarriedSteps.{owner_at, StandsRead}
+use Rattle.world_commands.specs.crash_laws.Deeds.{CarriedDeed}
+use Rattle.world_commands.proofs.of_crash_laws.DoneDeeds.{updated_deed, too_many_deed, single_deed, answered_deed, full_deed, deep_deed}
+use Rattle.world_commands.proofs.of_crash_laws.Kept.{carried_at}
+use Rattle.world_commands.proofs.of_crash_laws.KeepingDeeds.{none_carried, uncompacted_deed, untruncated_deed}
+use Rattle.world_commands.proofs.of_crash_laws.OtherDeeds.{opened_deed, unsent_deed, asking_deed}
+use Rattle.world_commands.proofs.of_crash_laws.OwnDeeds.{update_deed}
+use Rattle.world_commands.proofs.of_crash_laws.ToldDeeds.{named_as, received_deed, compacts_deed, truncates_deed, adopts_deed, passed_deed}
 use Rattle.world_commands.specs.Doings.{AppendsDue, UpdatesNone, changes_nothing, has_too_many, breaks_single, ReceivesNone, received_none, held_full, too_deep}
 use Rattle.world_commands.proofs.DeliverLemmas.{value_at, no_value_at}
 use Rattle.net_world.specs.CrashedWorlds.{doing_task}

@@ -3,7 +3,7 @@ use Rattle.std.proofs.Common.{◌≡◌, ℕ, zero, suc, List, [], ◌∷◌, Op
 use Rattle.std.specs.Prelude.{slice_get, IsSome}
 use Rattle.std.proofs.lemmas.Option.{slice_get-map}
 use Rattle.mld_io.specs.Disk.{Log}
-use Rattle.journal_store.specs.Standing.{KeepsNothing}
+use Rattle.clone_core.specs.journal_store.Standing.{KeepsNothing}
 use Rattle.tree_clock.specs.Lists.{Has}
 use Rattle.mld_model.specs.Clone.{Clone, Stored, kept_of}
 use Rattle.mld_model.specs.Clone as model

@@ -4,7 +4,7 @@ use Rattle.std.specs.Prelude.{slice_get}
 use Rattle.std.proofs.lemmas.Option.{slice_get_cases, slice_get_within}
 use Rattle.mld_io.specs.Arm.{Meter, Metered}
 use Rattle.mld_io.specs.Faults.{counted}
-use Rattle.journal_store.specs.declared.faults.MakeFault.{MakeFault}
+use Rattle.clone_core.specs.journal_store.declared.faults.MakeFault.{MakeFault}
 use Rattle.mld_model.specs.declared.CloneState.TheVariants as states
 use Rattle.clone_core.specs.Banked.{BankedClone}
 use Rattle.clone_core.specs.CloneClosing.{FailsToFound}

@@ -7,12 +7,12 @@ use Rattle.std.proofs.lemmas.List.FromFn.{get_or-map-range_with_len, length-map-
 use Rattle.std.proofs.lemmas.Option.{slice_get-map, slice_get_cases, slice_get_within, get_or_from_slice_get}
 use Rattle.mld_io.specs.Arm.{Meter}
 use Rattle.mld_io.specs.Disk.{Log, Sides, LeavesOnly}
-use Rattle.journal_sides.specs.Heads.{HeadValue}
-use Rattle.journal_sides.specs.Pairs.{PairReading, KeepsNone, Keeps, read_banks}
-use Rattle.journal_store.specs.Calls.{made}
-use Rattle.journal_store.specs.Standing.{KeepsNothing}
-use Rattle.journal_store.specs.declared.faults.MakeFault.{MakeFault}
-use Rattle.journal_store.specs.declared.faults.MakeFault.TheVariants as make
+use Rattle.clone_core.specs.journal_sides.Heads.{HeadValue}
+use Rattle.clone_core.specs.journal_sides.Pairs.{PairReading, KeepsNone, Keeps, read_banks}
+use Rattle.clone_core.specs.journal_store.Calls.{made}
+use Rattle.clone_core.specs.journal_store.Standing.{KeepsNothing}
+use Rattle.clone_core.specs.journal_store.declared.faults.MakeFault.{MakeFault}
+use Rattle.clone_core.specs.journal_store.declared.faults.MakeFault.TheVariants as make
 use Rattle.mld_ops.specs.History.{Operation}
 use Rattle.mld_ops.specs.Messages.{GiveValue}
 use Rattle.mld_ops.specs.Properties.{AreKept}
@@ -30,16 +30,16 @@ use Rattle.mld_model.proofs.FoundingLaws.{founding_leads}
 use Rattle.mld_model.proofs.StandsForLaws.{live_at, absent_at}
 use Rattle.schedule_model.specs.Schedule.{Setup, KeepsEachOnce}
 use Rattle.schedule_model.proofs.WorldLaws.{founded_stands}
-use Rattle.clone_parts.specs.KeptSteps.{KeptStep, Created, Forked, ReadsSome, LeavesMade}
+use Rattle.clone_core.specs.clone_parts.KeptSteps.{KeptStep, Created, Forked, ReadsSome, LeavesMade}
 use Rattle.clone_core.specs.Banked.{BankedAsker, BankedClone, head_of, kept_as}
-use Rattle.clone_parts.specs.declared.faults.ReceiveFault.{ReceiveFault}
-use Rattle.clone_parts.specs.declared.faults.ReceiveFault.TheVariants as receive
+use Rattle.clone_core.specs.clone_parts.declared.faults.ReceiveFault.{ReceiveFault}
+use Rattle.clone_core.specs.clone_parts.declared.faults.ReceiveFault.TheVariants as receive
 use Rattle.clone_core.specs.CloneClosing.{StaysOpen}
 use Rattle.clone_core.specs.DurableCalls.{LeavesFronts, MessageSteps}
 use Rattle.clone_core.specs.Joining.{IsGiveFor}
-use Rattle.crash_laws.specs.CarriedSteps.{owner_at, IsKeptFor, StandsRead, StandsAfter, StandsSome}
-use Rattle.crash_laws.proofs.Fronts.{carried_some}
-use Rattle.crash_laws.proofs.Kept.{fork_kept, live_kept}
+use Rattle.world_commands.specs.crash_laws.CarriedSteps.{owner_at, IsKeptFor, StandsRead, StandsAfter, StandsSome}
+use Rattle.world_commands.proofs.of_crash_laws.Fronts.{carried_some}
+use Rattle.world_commands.proofs.of_crash_laws.Kept.{fork_kept, live_kept}
 use Rattle.world_commands.specs.declared.faults.WorldFault.{WorldFault}
 use Rattle.world_commands.specs.declared.faults.WorldFault.TheVariants as faults
 use Rattle.world_commands.specs.States.{HasState, IsNewAsker}

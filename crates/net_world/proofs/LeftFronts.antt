@@ -5,7 +5,7 @@ use Rattle.mld_io.specs.Arm.{Arm, Meter}
 use Rattle.mld_io.specs.Disk.{Log, Sides, grown_by, seen, MayLeave, LeavesOnly}
 use Rattle.mld_io.specs.declared.banks.Leave.{Leave}
 use Rattle.mld_io.proofs.DiskLaws.{AtEachMoment-last}
-use Rattle.journal_sides.specs.Pairs.{PairReading, KeepsNone, Keeps}
+use Rattle.clone_core.specs.journal_sides.Pairs.{PairReading, KeepsNone, Keeps}
 use Rattle.mld_ops.specs.Messages.{message_value}
 use Rattle.mld_ops.specs.declared.messages.Message.{Message}
 use Rattle.mld_model.specs.Clone.{kept_of}
@@ -18,13 +18,13 @@ use Rattle.schedule_model.specs.Step.{number_of_clone}
 use Rattle.schedule_model.specs.Tasks.{command_of, command_done, number_of_task}
 use Rattle.schedule_model.specs.declared.Command.{Command}
 use Rattle.schedule_model.specs.declared.CrashTask.{CrashTask}
-use Rattle.schedule_replies.specs.declared.replies.Reply.{Reply}
-use Rattle.clone_parts.specs.KeptSteps.{KeptStep, Created, ReadsSome, LeavesSome}
+use Rattle.world_commands.specs.schedule_replies.declared.replies.Reply.{Reply}
+use Rattle.clone_core.specs.clone_parts.KeptSteps.{KeptStep, Created, ReadsSome, LeavesSome}
 use Rattle.clone_core.specs.Banked.{head_of, kept_as}
-use Rattle.crash_laws.specs.CarriedSteps.{owner_at}
-use Rattle.crash_laws.specs.Deeds.{CarriedDeed}
-use Rattle.crash_laws.proofs.Fronts.{carried_some}
-use Rattle.crash_laws.proofs.Images.{IsRevived, revived_reads}
+use Rattle.world_commands.specs.crash_laws.CarriedSteps.{owner_at}
+use Rattle.world_commands.specs.crash_laws.Deeds.{CarriedDeed}
+use Rattle.world_commands.proofs.of_crash_laws.Fronts.{carried_some}
+use Rattle.world_commands.proofs.of_crash_laws.Images.{IsRevived, revived_reads}
 use Rattle.world_commands.specs.declared.faults.WorldFault.{WorldFault}
 use Rattle.world_commands.specs.declared.parts.Parts.{Parts}
 use Rattle.world_commands.specs.Doings.{doing_nothing}

@@ -1,3 +1,6 @@
+pub use Rattle.world_commands.proofs.of_schedule_replies as of_schedule_replies
+pub use Rattle.world_commands.proofs as of_world_commands
+pub use Rattle.world_commands.proofs.of_crash_laws as of_crash_laws
 pub mod FaultLemmas
 pub mod FoundingLemmas
 pub mod EndLemmas

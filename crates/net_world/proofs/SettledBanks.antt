@@ -1,12 +1,12 @@
 -- Banks that stand for a clone of the model: a crash leaves what stands for it too.
 use Rattle.std.proofs.Common.{◌≡◌, ℕ, Option, Some, None, MatchOption, ◌∙◌, sym, ap, subst}
 use Rattle.mld_io.specs.Disk.{Log, Sides, seen, MayLeave, LeavesOnly}
-use Rattle.journal_sides.specs.Pairs.{PairReading, KeepsNone, Keeps, read_banks}
-use Rattle.journal_store.specs.Standing.{KeepsNothing, KeepsJust}
+use Rattle.clone_core.specs.journal_sides.Pairs.{PairReading, KeepsNone, Keeps, read_banks}
+use Rattle.clone_core.specs.journal_store.Standing.{KeepsNothing, KeepsJust}
 use Rattle.mld_model.specs.Clone.{Stored, kept_of}
 use Rattle.mld_model.specs.World.{World, clone_at}
-use Rattle.crash_laws.specs.CarriedSteps.{owner_at, StandsRead}
-use Rattle.crash_laws.specs.CrashLines.{ImageStands}
+use Rattle.world_commands.specs.crash_laws.CarriedSteps.{owner_at, StandsRead}
+use Rattle.world_commands.specs.crash_laws.CrashLines.{ImageStands}
 use Rattle.world_commands.specs.WorldBanks.{KeepsNoneNow, KeepsStored, BanksStandFor}
 
 same_log : (first second : Log) (now : Option Log) → now ≡ Some first → now ≡ Some second → first ≡ second

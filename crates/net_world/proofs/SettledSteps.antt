@@ -5,7 +5,7 @@ use Rattle.std.proofs.lemmas.Bool.{cases_eq, cases_lt}
 use Rattle.std.proofs.lemmas.List.{get_or-set_same, length-map}
 use Rattle.std.proofs.lemmas.Option.{slice_get-map, slice_get_cases}
 use Rattle.mld_io.specs.Disk.{Log, Sides, MayLeave, LeavesOnly}
-use Rattle.journal_sides.specs.Pairs.{PairReading, KeepsNone, Keeps, Damages, read_banks}
+use Rattle.clone_core.specs.journal_sides.Pairs.{PairReading, KeepsNone, Keeps, Damages, read_banks}
 use Rattle.mld_ops.specs.History.{Operation}
 use Rattle.mld_model.specs.Clone.{Clone, Absent, Asking, Empty, Down, Live, Stored, kept_of}
 use Rattle.mld_model.specs.CrashFronts.{down_with}
@@ -31,9 +31,9 @@ use Rattle.schedule_model.proofs.CrashedSteps.{task_number_is}
 use Rattle.schedule_model.proofs.DurableLaws.{plain_leads, plain_list_once}
 use Rattle.schedule_model.proofs.ScheduleLaws.{HasPlanInForm, task_has_plan}
 use Rattle.schedule_model.proofs.StepLaws.{plain_once}
-use Rattle.crash_laws.specs.CarriedSteps.{Owner, owner_at, stored_in, StandsRead, StandsSome}
-use Rattle.crash_laws.specs.CrashLines.{ImageStands}
-use Rattle.crash_laws.proofs.Images.{stands_nothing, image_live}
+use Rattle.world_commands.specs.crash_laws.CarriedSteps.{Owner, owner_at, stored_in, StandsRead, StandsSome}
+use Rattle.world_commands.specs.crash_laws.CrashLines.{ImageStands}
+use Rattle.world_commands.proofs.of_crash_laws.Images.{stands_nothing, image_live}
 use Rattle.world_commands.specs.States.{HasState}
 use Rattle.world_commands.specs.WorldBanks.{BankedState, BankedWorld, in_memory, banks_of, banks_of_state, memory_of, StandsOnBanks, OthersStay}
 use Rattle.world_commands.specs.WorldEnds.{KeepsState, KeepAll}

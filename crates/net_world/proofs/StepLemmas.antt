@@ -4,9 +4,9 @@ use Rattle.mld_io.specs.Arm.{Meter}
 use Rattle.mld_io.specs.Disk.{Log}
 use Rattle.schedule_model.specs.declared.Command.{Command}
 use Rattle.world_commands.specs.declared.parts.Parts.{Parts}
-use Rattle.schedule_replies.specs.declared.replies.Reply.{Reply as CodeReply}
+use Rattle.world_commands.specs.schedule_replies.declared.replies.Reply.{Reply as CodeReply}
 use Rattle.world_commands.specs.WorldParts.{running_of, KeepsDomain}
-use Rattle.schedule_replies.specs.Replies.{reply_value}
+use Rattle.world_commands.specs.schedule_replies.Replies.{reply_value}
 use Rattle.world_commands.specs.WorldBanks.{BankedWorld, banks_of_state, banks_of}
 use Rattle.world_commands.specs.OneCall.{UsesBanksOf}
 use Rattle.world_commands.specs.Worlds.{IsStanding, FollowsOnBanks, Stepped}

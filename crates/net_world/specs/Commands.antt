@@ -4,8 +4,8 @@ use Rattle.mld_io.specs.Disk.{Log}
 use Rattle.mld_model.specs.Reply as model
 use Rattle.schedule_model.specs.declared.Command.{Command}
 use Rattle.schedule_model.specs.ReplyText.{reply_text}
-use Rattle.schedule_replies.specs.Replies.{reply_value}
-use Rattle.schedule_replies.specs.declared.replies.Reply.{Reply}
+use Rattle.world_commands.specs.schedule_replies.Replies.{reply_value}
+use Rattle.world_commands.specs.schedule_replies.declared.replies.Reply.{Reply}
 use Rattle.world_commands.specs.declared.faults.WorldFault.{WorldFault}
 use Rattle.world_commands.specs.declared.faults.WorldFault.TheVariants as faults
 use Rattle.world_commands.specs.declared.parts.Parts.{Parts}

@@ -11,8 +11,8 @@ use Rattle.schedule_model.specs.declared.Command.TheVariants as commands
 use Rattle.schedule_model.specs.declared.CrashTask.{CrashTask}
 use Rattle.schedule_model.specs.declared.CrashTask.TheVariants as tasks
 use Rattle.schedule_model.specs.Tasks.{IsToOpen}
-use Rattle.schedule_replies.specs.declared.replies.Reply.{Reply}
-use Rattle.schedule_replies.specs.Replies.{reply_value}
+use Rattle.world_commands.specs.schedule_replies.declared.replies.Reply.{Reply}
+use Rattle.world_commands.specs.schedule_replies.Replies.{reply_value}
 use Rattle.world_commands.specs.declared.faults.WorldFault.{WorldFault}
 use Rattle.world_commands.specs.declared.faults.WorldFault.TheVariants as faults
 use Rattle.world_commands.specs.declared.keeping.Keeping.TheVariants as keepings

@@ -6,7 +6,7 @@ use Rattle.mld_io.specs.Disk.{Log}
 use Rattle.text_rules.specs.Domain.{is_domain}
 use Rattle.rdf_terms.specs.Order.{iri_cmp}
 use Rattle.tree_clock.specs.Limits.{path_limit}
-use Rattle.journal_store.specs.declared.faults.MakeFault.{MakeFault}
+use Rattle.clone_core.specs.journal_store.declared.faults.MakeFault.{MakeFault}
 use Rattle.mld_ops.specs.Messages.{GiveValue, give_value, IsGoodSnapshot}
 use Rattle.mld_ops.specs.declared.messages.Give.{Give}
 use Rattle.mld_ops.specs.declared.messages.Message.{Message}

@@ -3,7 +3,7 @@
 use Rattle.std.specs.Prelude.{◌≡◌, ◌⊎◌, ℕ, List, [], ◌∷◌, ◌++◌, Option, Some, None, slice_get}
 use Rattle.mld_io.specs.Arm.{Meter}
 use Rattle.mld_io.specs.Disk.{Log, Sides, LeavesOnly}
-use Rattle.journal_sides.specs.Pairs.{read_banks}
+use Rattle.clone_core.specs.journal_sides.Pairs.{read_banks}
 use Rattle.mld_ops.specs.Messages.{GiveValue}
 use Rattle.mld_model.specs.Durable.{kept_after}
 use Rattle.mld_model.specs.FoundingSteps.{StepAt, founding_steps, steps_at}
@@ -12,11 +12,11 @@ use Rattle.mld_model.specs.World.{World, founded}
 use Rattle.mld_model.specs.declared.CloneState.TheVariants as states
 use Rattle.schedule_model.specs.Schedule.{Setup}
 use Rattle.schedule_model.specs.Runs.{IsFoundedBy}
-use Rattle.clone_parts.specs.KeptSteps.{Forked, LeavesMade}
+use Rattle.clone_core.specs.clone_parts.KeptSteps.{Forked, LeavesMade}
 use Rattle.clone_core.specs.Banked.{BankedAsker, BankedClone, head_of}
 use Rattle.clone_core.specs.CloneClosing.{StaysOpen}
 use Rattle.clone_core.specs.DurableCalls.{LeavesFronts}
-use Rattle.crash_laws.specs.CarriedSteps.{owner_at, StandsRead}
+use Rattle.world_commands.specs.crash_laws.CarriedSteps.{owner_at, StandsRead}
 use Rattle.world_commands.specs.declared.faults.WorldFault.{WorldFault}
 use Rattle.world_commands.specs.declared.faults.WorldFault.TheVariants as faults
 use Rattle.world_commands.specs.States.{HasState}

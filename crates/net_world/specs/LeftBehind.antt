@@ -8,7 +8,7 @@ use Rattle.schedule_model.specs.Crashing.{Deed}
 use Rattle.schedule_model.specs.Step.{number_of_clone}
 use Rattle.schedule_model.specs.Tasks.{command_done}
 use Rattle.schedule_model.specs.declared.Command.{Command}
-use Rattle.crash_laws.specs.CarriedSteps.{owner_at, StandsSome}
+use Rattle.world_commands.specs.crash_laws.CarriedSteps.{owner_at, StandsSome}
 use Rattle.world_commands.specs.declared.parts.Parts.{Parts}
 use Rattle.world_commands.specs.WorldBanks.{BankedWorld, banks_of, banks_of_state, StandsOnBanks}
 use Rattle.world_commands.specs.WorldParts.{running_of}

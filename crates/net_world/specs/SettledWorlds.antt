@@ -1,7 +1,7 @@
 -- Banks between two commands: whatever a crash leaves of them stands for what their clones keep. `World::found` and `World::step` cite it.
 use Rattle.std.specs.Prelude.{◌≡◌, ℕ, List, Option, Some, slice_get}
 use Rattle.mld_io.specs.Disk.{Log, LeavesOnly}
-use Rattle.journal_store.specs.Standing.{IsBlankLog}
+use Rattle.clone_core.specs.journal_store.Standing.{IsBlankLog}
 use Rattle.mld_model.specs.Reply.{Reply}
 use Rattle.mld_model.specs.Sound.{IsSound}
 use Rattle.mld_model.specs.World.{World}
@@ -9,7 +9,7 @@ use Rattle.mld_model.specs.declared.CloneState.TheVariants as states
 use Rattle.schedule_model.specs.Step.{Step}
 use Rattle.schedule_model.specs.declared.Command.{Command}
 use Rattle.clone_core.specs.Banked.{BankedClone}
-use Rattle.crash_laws.specs.CrashLines.{ImageStands}
+use Rattle.world_commands.specs.crash_laws.CrashLines.{ImageStands}
 use Rattle.world_commands.specs.States.{HasState}
 use Rattle.world_commands.specs.WorldBanks.{BankedState, BankedWorld, banks_of, StandsOnBanks}
 use Rattle.world_commands.specs.WorldEnds.{KeepsState}

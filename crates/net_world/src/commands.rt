@@ -13,7 +13,6 @@ ghost use Rattle.world_commands.specs.WorldParts.{HasStepLeft, KeepsDomain, HasF
 use crate::crash::{Crashed, crash};
 use mld_io::{Banks, CrashBanks};
 use schedule_model::Command;
-use schedule_replies::{Reply, push_reply, push_then_crashed};
 use std::alloc::Global;
 use std::thread::Threads;
 use world_commands::ask::ask;
@@ -24,6 +23,7 @@ use world_commands::join::join;
 use world_commands::keeping::{Keeping, keep};
 use world_commands::opening::open;
 use world_commands::query::query;
+use world_commands::schedule_replies::{Reply, push_reply, push_then_crashed};
 use world_commands::show::show;
 use world_commands::stopping::stop;
 use world_commands::{Parts, WorldFault};

@@ -13,13 +13,13 @@ ghost use Rattle.net_world.specs.CrashedWorlds.{AreUnarmed, IsArmedIn, IsArmedAs
 use mld_io::{Banks, CrashBanks, Leave};
 use mld_model::CloneState;
 use schedule_model::CrashTask;
-use schedule_replies::Reply;
 use std::alloc::Global;
 use std::thread::Threads;
 use world_commands::changes::{add, remove, update};
 use world_commands::deliver::deliver;
 use world_commands::keeping::{Keeping, keep};
 use world_commands::opening::open;
+use world_commands::schedule_replies::Reply;
 use world_commands::stopping::banks_of_state;
 use world_commands::{Parts, RunningClone, WorldFault, put_state, take_state};
 

@@ -15,8 +15,8 @@ ghost use Rattle.world_commands.specs.States.{HasState};
 ghost use Rattle.world_commands.specs.OneCall.{HasFaultsAt};
 
 use crate::settling::ask_first;
+use clone_core::journal_store::{Blank, MakeFault};
 use clone_core::{Adopted, Asker, Got, MldClone, ReceiveFault};
-use journal_store::{Blank, MakeFault};
 use mld_io::{Banks, CrashBanks};
 use mld_model::CloneState;
 use mld_ops::Messages;

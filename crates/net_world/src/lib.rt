@@ -11,5 +11,6 @@ mod worlds;
 
 pub use schedule_model::Command;
 pub use summaries::{CloneSummary, State, Summary, summary_of_live, summary_of_state};
-pub use world_commands::WorldFault;
+pub use world_commands;
+pub use world_commands::{WorldFault, crash_laws, schedule_replies};
 pub use worlds::World;

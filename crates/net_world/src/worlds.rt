@@ -5,7 +5,7 @@ use crate::founding::found_clones;
 use crate::settling::{ask_live, number_of};
 use crate::summaries::Summary;
 use crate::summarizing::summarize;
-use journal_store::Blank;
+use clone_core::journal_store::Blank;
 use mld_io::{Banks, CrashBanks};
 use mld_model::CloneState;
 use mld_ops::kept_properties;

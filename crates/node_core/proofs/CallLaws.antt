@@ -6,25 +6,25 @@ use Rattle.mld_ops.specs.declared.messages.Give.{Give}
 use Rattle.mld_ops.specs.declared.messages.Message.{Message}
 use Rattle.mld_ops.specs.declared.messages.Message.TheVariants as kind
 use Rattle.mld_ops.specs.Messages.{MessageValue, CarriesWant, give_value}
-use Rattle.journal_store.specs.declared.faults.Why.{Why}
+use Rattle.node_model.specs.journal_store.declared.faults.Why.{Why}
 use Rattle.mld_model.specs.Local.{LocalClone, joined_clone}
-use Rattle.clone_parts.specs.KeptSteps.{KeptStep, Created, Forked, appends}
-use Rattle.clone_parts.specs.declared.answers.Got.{Got}
-use Rattle.clone_parts.specs.declared.answers.Got.TheVariants as got
-use Rattle.clone_parts.specs.declared.faults.ReceiveFault.{ReceiveFault}
-use Rattle.clone_parts.specs.declared.faults.ReceiveFault.TheVariants as fault
-use Rattle.clone_core.specs.Banked.{BankedClone, BankedAsker, KeepsClone, head_of}
-use Rattle.clone_core.specs.CloneCalls.{LocallyReceives, Refuses}
-use Rattle.clone_core.specs.CloneClosing.{LeavesClone, receive_stop}
-use Rattle.clone_core.specs.Due.{IsDueMessage, IsSwapDue, IsMessageSpent}
-use Rattle.clone_core.specs.DurableCalls.{LeavesFronts, Changes, MessageSteps, ReceivedSteps, WouldReceive, merged_steps, Creates}
-use Rattle.clone_core.specs.Joining.{IsGiveFor}
-use Rattle.clone_core.specs.Merging.{StaysOpenBy}
-use Rattle.shell_session.specs.Shells.{generation_after}
-use Rattle.shell_session.specs.declared.commands.ShellCommand.{ShellCommand}
-use Rattle.shell_session.specs.ShellStep.{IsLast, LiveStep, IsDueLive}
-use Rattle.shell_session.specs.SessionLines.{LeavesFrontOfDue}
-use Rattle.shell_session.specs.LiveCalls.{CloneAnswers, CloneLeavesFrontOfDue}
+use Rattle.node_model.specs.clone_parts.KeptSteps.{KeptStep, Created, Forked, appends}
+use Rattle.node_model.specs.clone_parts.declared.answers.Got.{Got}
+use Rattle.node_model.specs.clone_parts.declared.answers.Got.TheVariants as got
+use Rattle.node_model.specs.clone_parts.declared.faults.ReceiveFault.{ReceiveFault}
+use Rattle.node_model.specs.clone_parts.declared.faults.ReceiveFault.TheVariants as fault
+use Rattle.node_model.specs.clone_core.Banked.{BankedClone, BankedAsker, KeepsClone, head_of}
+use Rattle.node_model.specs.clone_core.CloneCalls.{LocallyReceives, Refuses}
+use Rattle.node_model.specs.clone_core.CloneClosing.{LeavesClone, receive_stop}
+use Rattle.node_model.specs.clone_core.Due.{IsDueMessage, IsSwapDue, IsMessageSpent}
+use Rattle.node_model.specs.clone_core.DurableCalls.{LeavesFronts, Changes, MessageSteps, ReceivedSteps, WouldReceive, merged_steps, Creates}
+use Rattle.node_model.specs.clone_core.Joining.{IsGiveFor}
+use Rattle.node_model.specs.clone_core.Merging.{StaysOpenBy}
+use Rattle.node_model.specs.shell_session.Shells.{generation_after}
+use Rattle.node_model.specs.shell_session.declared.commands.ShellCommand.{ShellCommand}
+use Rattle.node_model.specs.shell_session.ShellStep.{IsLast, LiveStep, IsDueLive}
+use Rattle.node_model.specs.shell_session.SessionLines.{LeavesFrontOfDue}
+use Rattle.node_model.specs.shell_session.LiveCalls.{CloneAnswers, CloneLeavesFrontOfDue}
 use Rattle.wire_frames.specs.Frames.{frames_bytes}
 use Rattle.wire_frames.specs.MessageParts.{reply_parts}
 use Rattle.node_model.specs.declared.requests.Request.{Request}

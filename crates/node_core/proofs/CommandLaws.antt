@@ -11,11 +11,11 @@ use Rattle.mld_model.specs.Reply.{Reply}
 use Rattle.mld_model.specs.Reply as model
 use Rattle.schedule_model.specs.Characters.{line_end}
 use Rattle.schedule_model.specs.ReplyText.{reply_text}
-use Rattle.clone_parts.specs.KeptSteps.{KeptStep, Appended, appends}
-use Rattle.shell_session.specs.declared.commands.ShellCommand.{ShellCommand}
-use Rattle.shell_session.specs.declared.commands.ShellCommand.TheVariants as shell
-use Rattle.shell_session.specs.ShellReply.{ShellReply, Says, DidAt, BadLine, IsClosed, FoundNothing, FoundDamage, NotEmpty, MadeClone, TicksSpent, GenerationsSpent, shell_text}
-use Rattle.shell_session.specs.ShellStep.{AnswersUpdate, no_tick_is_left, is_too_large, changes_nothing, breaks_single, makes_operation, KeepsJournal, is_kept_so, no_generation_is_left, swaps_journal, AppendsUpdate, SwapsJournal, LiveStep, IsDueLive}
+use Rattle.node_model.specs.clone_parts.KeptSteps.{KeptStep, Appended, appends}
+use Rattle.node_model.specs.shell_session.declared.commands.ShellCommand.{ShellCommand}
+use Rattle.node_model.specs.shell_session.declared.commands.ShellCommand.TheVariants as shell
+use Rattle.node_model.specs.shell_session.ShellReply.{ShellReply, Says, DidAt, BadLine, IsClosed, FoundNothing, FoundDamage, NotEmpty, MadeClone, TicksSpent, GenerationsSpent, shell_text}
+use Rattle.node_model.specs.shell_session.ShellStep.{AnswersUpdate, no_tick_is_left, is_too_large, changes_nothing, breaks_single, makes_operation, KeepsJournal, is_kept_so, no_generation_is_left, swaps_journal, AppendsUpdate, SwapsJournal, LiveStep, IsDueLive}
 use Rattle.node_model.specs.Keepers.{carried}
 use Rattle.node_core.specs.LoanCalls.{is_update, AppendsBehind, told_by}
 

@@ -2,7 +2,7 @@
 use Rattle.std.proofs.Common.{◌≡◌, ℕ, ◌∙◌, ap, arith, refl}
 use Rattle.mld_io.specs.Arm.{Meter}
 use Rattle.mld_io.specs.Faults.{counted}
-use Rattle.shell_session.specs.SessionLines.{Meters}
+use Rattle.node_model.specs.shell_session.SessionLines.{Meters}
 
 -- no call of a device
 pub meters_none : {Told : Type 0} (now : Meter) → ¬ Told → Meters now now Told

@@ -2,10 +2,10 @@
 use Rattle.std.proofs.Common.{◌≡◌, List, [], ◌∷◌, ◌++◌, Option, Some, refl, sym, ◌∙◌, ap, subst, append_assoc}
 use Rattle.mld_io.specs.Disk.{Log, Call, Sides, grown_by, AtEachMoment, LeavesMeanwhile}
 use Rattle.mld_io.proofs.DiskLaws.{AtEachMoment-weaken, LeavesMeanwhile-then}
-use Rattle.clone_parts.specs.KeptSteps.{KeptStep}
-use Rattle.journal_store.specs.Closing.{StaysTold}
-use Rattle.shell_session.specs.Shells.{FoundOnBanks, found_after_step, found_after}
-use Rattle.shell_session.specs.SessionLines.{ImagesFind, FindsFront, LeavesFront}
+use Rattle.node_model.specs.clone_parts.KeptSteps.{KeptStep}
+use Rattle.node_model.specs.journal_store.Closing.{StaysTold}
+use Rattle.node_model.specs.shell_session.Shells.{FoundOnBanks, found_after_step, found_after}
+use Rattle.node_model.specs.shell_session.SessionLines.{ImagesFind, FindsFront, LeavesFront}
 
 -- what comes of some durable steps and then of others
 pub found_both : (first later : List KeptStep) (found : FoundOnBanks) → found_after (first ++ later) found ≡ found_after later (found_after first found)

@@ -1,7 +1,7 @@
 -- Frames that are taken, one more, and those that are dropped.
 use Rattle.std.proofs.Common.{◌≡◌, ◌⊎◌, true, false, List, [], ◌∷◌, ◌++◌, Option, None, Some, refl, sym, ◌∙◌, ap, subst, inl, inr, append_assoc, append-nil}
 use Rattle.std.proofs.lemmas.Bool.{false≢true}
-use Rattle.clone_parts.specs.KeptSteps.{KeptStep}
+use Rattle.node_model.specs.clone_parts.KeptSteps.{KeptStep}
 use Rattle.wire_frames.specs.declared.kinds.Frame.{Frame}
 use Rattle.node_model.specs.declared.connections.Connection.{Connection}
 use Rattle.node_model.specs.Exchanges.{ExchangeValue}

@@ -5,11 +5,11 @@ use Rattle.std.proofs.lemmas.Bool.Decides.{eqb_tells}
 use Rattle.mld_ops.specs.Messages.{MessageValue, CarriesWant, message_value}
 use Rattle.mld_ops.specs.declared.messages.Message.{Message}
 use Rattle.mld_model.specs.Local.{LocalClone}
-use Rattle.clone_parts.specs.declared.answers.Got.{Got}
-use Rattle.clone_parts.specs.declared.answers.Got.TheVariants as got
-use Rattle.clone_parts.specs.declared.faults.ReceiveFault.{ReceiveFault}
-use Rattle.clone_parts.specs.declared.faults.ReceiveFault.TheVariants as fault
-use Rattle.clone_parts.specs.KeptSteps.{KeptStep}
+use Rattle.node_model.specs.clone_parts.declared.answers.Got.{Got}
+use Rattle.node_model.specs.clone_parts.declared.answers.Got.TheVariants as got
+use Rattle.node_model.specs.clone_parts.declared.faults.ReceiveFault.{ReceiveFault}
+use Rattle.node_model.specs.clone_parts.declared.faults.ReceiveFault.TheVariants as fault
+use Rattle.node_model.specs.clone_parts.KeptSteps.{KeptStep}
 use Rattle.wire_frames.specs.declared.assembling.Assembled.TheVariants.{Waiting, Whole}
 use Rattle.wire_frames.specs.declared.kinds.Frame.{Frame}
 use Rattle.wire_frames.specs.declared.kinds.Frame.TheVariants as kinds

@@ -3,9 +3,9 @@ use Rattle.std.proofs.Common.{◌≡◌, ◌≢◌, ◌⊎◌, ℕ, Bool, true, 
 use Rattle.std.proofs.lemmas.Bool.{true≢false, false≢true}
 use Rattle.mld_io.specs.Disk.{Log}
 use Rattle.mld_ops.specs.declared.messages.Message.{Message}
-use Rattle.clone_parts.specs.KeptSteps.{KeptStep}
-use Rattle.shell_session.specs.SessionLines.{LeavesFrontOfDue}
-use Rattle.shell_session.specs.Shells.{FoundOnBanks}
+use Rattle.node_model.specs.clone_parts.KeptSteps.{KeptStep}
+use Rattle.node_model.specs.shell_session.SessionLines.{LeavesFrontOfDue}
+use Rattle.node_model.specs.shell_session.Shells.{FoundOnBanks}
 use Rattle.wire_frames.specs.declared.assembling.Assembled.TheVariants.{Waiting, Whole}
 use Rattle.wire_frames.specs.declared.assembling.Assembled.{Assembled}
 use Rattle.wire_frames.specs.declared.faults.AssemblyFault.{AssemblyFault}

@@ -2,14 +2,14 @@
 use Rattle.std.proofs.Common.{◌≡◌, ℕ, List, [], ◌∷◌, Option, Some, refl, ◌∙◌, ap}
 use Rattle.mld_io.specs.Arm.{Arm, Meter}
 use Rattle.mld_io.specs.Disk.{Log, Sides, LeavesMeanwhile}
-use Rattle.journal_sides.specs.Pairs.{PairReading, KeepsNone, Keeps, Damages, read_banks}
-use Rattle.journal_store.proofs.DeviceLaws.{weaken_moments, no_moments}
+use Rattle.node_model.specs.journal_sides.Pairs.{PairReading, KeepsNone, Keeps, Damages, read_banks}
+use Rattle.node_model.proofs.of_journal_store.DeviceLaws.{weaken_moments, no_moments}
 use Rattle.mld_model.specs.Local.{LocalClone}
-use Rattle.clone_parts.specs.KeptSteps.{KeptStep, Created, Appended, Forked, Swapped, after_step, after_steps, ReadsSome, LeavesSome}
-use Rattle.clone_core.specs.Banked.{BankedClone, kept_as, KeepsClone}
-use Rattle.clone_core.specs.DurableCalls.{LeavesFronts}
-use Rattle.shell_session.specs.Shells.{FoundOnBanks, Nothing, found_in, found_after_step, found_after}
-use Rattle.shell_session.specs.SessionLines.{ImagesFind, FindsFront, LeavesFront}
+use Rattle.node_model.specs.clone_parts.KeptSteps.{KeptStep, Created, Appended, Forked, Swapped, after_step, after_steps, ReadsSome, LeavesSome}
+use Rattle.node_model.specs.clone_core.Banked.{BankedClone, kept_as, KeepsClone}
+use Rattle.node_model.specs.clone_core.DurableCalls.{LeavesFronts}
+use Rattle.node_model.specs.shell_session.Shells.{FoundOnBanks, Nothing, found_in, found_after_step, found_after}
+use Rattle.node_model.specs.shell_session.SessionLines.{ImagesFind, FindsFront, LeavesFront}
 use Rattle.node_model.specs.Keepers.{Lives, keeper_found}
 
 -- ---- what is found after durable steps

@@ -5,10 +5,10 @@ use Rattle.mld_io.specs.Arm.{Meter}
 use Rattle.mld_io.specs.Disk.{Log}
 use Rattle.mld_io.specs.declared.events.Event.{Event}
 use Rattle.mld_io.specs.declared.events.Event.TheVariants as events
-use Rattle.clone_parts.specs.KeptSteps.{KeptStep}
-use Rattle.journal_store.specs.Closing.{StaysTold}
-use Rattle.shell_session.specs.Shells.{FoundOnBanks}
-use Rattle.shell_session.specs.SessionLines.{ImagesFind, LeavesFront, LeavesFrontOfDue, Meters}
+use Rattle.node_model.specs.clone_parts.KeptSteps.{KeptStep}
+use Rattle.node_model.specs.journal_store.Closing.{StaysTold}
+use Rattle.node_model.specs.shell_session.Shells.{FoundOnBanks}
+use Rattle.node_model.specs.shell_session.SessionLines.{ImagesFind, LeavesFront, LeavesFrontOfDue, Meters}
 use Rattle.wire_frames.specs.declared.faults.FrameFault.{FrameFault}
 use Rattle.wire_frames.specs.declared.kinds.Fed.{Fed}
 use Rattle.wire_frames.specs.declared.kinds.Frame.{Frame}

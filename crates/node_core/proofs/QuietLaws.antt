@@ -2,10 +2,10 @@
 use Rattle.std.proofs.Common.{◌≡◌, ◌⊎◌, ℕ, List, [], Option, Result, Ok, Err, IfOk, IfErr, refl, sym, ◌∙◌, ap, subst, inl}
 use Rattle.mld_io.specs.Arm.{Meter}
 use Rattle.mld_io.specs.Disk.{Log}
-use Rattle.clone_parts.specs.KeptSteps.{KeptStep}
-use Rattle.journal_store.specs.Closing.{StaysTold}
-use Rattle.shell_session.specs.Shells.{FoundOnBanks}
-use Rattle.shell_session.specs.SessionLines.{LeavesFront, LeavesFrontOfDue, Meters}
+use Rattle.node_model.specs.clone_parts.KeptSteps.{KeptStep}
+use Rattle.node_model.specs.journal_store.Closing.{StaysTold}
+use Rattle.node_model.specs.shell_session.Shells.{FoundOnBanks}
+use Rattle.node_model.specs.shell_session.SessionLines.{LeavesFront, LeavesFrontOfDue, Meters}
 use Rattle.node_core.specs.declared.faults.NodeFault.{NodeFault}
 use Rattle.node_core.specs.declared.faults.NodeFault.TheVariants.{Device, NoMemory}
 use Rattle.node_core.specs.declared.states.NodeState.{NodeState}

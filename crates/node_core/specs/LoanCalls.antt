@@ -5,15 +5,15 @@ use Rattle.mld_io.specs.Disk.{Log}
 use Rattle.mld_ops.specs.Entry.{EntryValue}
 use Rattle.mld_ops.specs.Messages.{MessageValue, CarriesEntry}
 use Rattle.mld_model.specs.Local.{LocalClone}
-use Rattle.clone_parts.specs.KeptSteps.{KeptStep}
-use Rattle.clone_parts.specs.declared.answers.Got.{Got}
-use Rattle.clone_parts.specs.declared.answers.Got.TheVariants as got
-use Rattle.clone_parts.specs.declared.faults.ReceiveFault.{ReceiveFault}
-use Rattle.clone_parts.specs.declared.faults.ReceiveFault.TheVariants as fault
-use Rattle.clone_core.specs.Banked.{BankedClone}
-use Rattle.clone_core.specs.DurableCalls.{LeavesFronts}
-use Rattle.shell_session.specs.declared.commands.ShellCommand.{ShellCommand}
-use Rattle.shell_session.specs.declared.commands.ShellCommand.TheVariants as shell
+use Rattle.node_model.specs.clone_parts.KeptSteps.{KeptStep}
+use Rattle.node_model.specs.clone_parts.declared.answers.Got.{Got}
+use Rattle.node_model.specs.clone_parts.declared.answers.Got.TheVariants as got
+use Rattle.node_model.specs.clone_parts.declared.faults.ReceiveFault.{ReceiveFault}
+use Rattle.node_model.specs.clone_parts.declared.faults.ReceiveFault.TheVariants as fault
+use Rattle.node_model.specs.clone_core.Banked.{BankedClone}
+use Rattle.node_model.specs.clone_core.DurableCalls.{LeavesFronts}
+use Rattle.node_model.specs.shell_session.declared.commands.ShellCommand.{ShellCommand}
+use Rattle.node_model.specs.shell_session.declared.commands.ShellCommand.TheVariants as shell
 use Rattle.wire_frames.specs.Frames.{frames_bytes}
 use Rattle.wire_frames.specs.MessageParts.{reply_parts}
 use Rattle.node_model.specs.declared.requests.Request.{Request}

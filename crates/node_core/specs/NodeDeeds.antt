@@ -3,14 +3,14 @@ use Rattle.std.specs.Prelude.{◌≡◌, ℕ, List, [], ◌∷◌, Option, None,
 use Rattle.mld_io.specs.Disk.{Log}
 use Rattle.mld_ops.specs.declared.messages.Give.{Give}
 use Rattle.mld_ops.specs.declared.messages.Message.{Message}
-use Rattle.clone_parts.specs.KeptSteps.{KeptStep, Created}
-use Rattle.clone_core.specs.Banked.{head_of}
-use Rattle.clone_core.specs.DurableCalls.{WouldReceive}
-use Rattle.clone_core.specs.Joining.{IsGiveFor}
-use Rattle.shell_session.specs.declared.commands.ShellCommand.{ShellCommand}
-use Rattle.shell_session.specs.Shells.{FoundOnBanks}
-use Rattle.shell_session.specs.ShellStep.{IsDueLive}
-use Rattle.shell_session.specs.SessionLines.{ImagesFind, LeavesFront, LeavesFrontOfDue}
+use Rattle.node_model.specs.clone_parts.KeptSteps.{KeptStep, Created}
+use Rattle.node_model.specs.clone_core.Banked.{head_of}
+use Rattle.node_model.specs.clone_core.DurableCalls.{WouldReceive}
+use Rattle.node_model.specs.clone_core.Joining.{IsGiveFor}
+use Rattle.node_model.specs.shell_session.declared.commands.ShellCommand.{ShellCommand}
+use Rattle.node_model.specs.shell_session.Shells.{FoundOnBanks}
+use Rattle.node_model.specs.shell_session.ShellStep.{IsDueLive}
+use Rattle.node_model.specs.shell_session.SessionLines.{ImagesFind, LeavesFront, LeavesFrontOfDue}
 use Rattle.node_model.specs.declared.requests.Request.{Request}
 use Rattle.node_model.specs.declared.requests.Request.TheVariants.{Command}
 use Rattle.node_model.specs.RequestLines.{SpellsRequest}

@@ -1,9 +1,9 @@
 -- What a node has on its banks, and what it is in the model. `answer_request` and `receive_message` cite it, and the calls of `NodeState`.
 use Rattle.std.specs.Prelude.{◌≡◌, Option, None, Some, Result, Ok, Err}
 use Rattle.mld_io.specs.Disk.{Log, seen}
-use Rattle.journal_sides.specs.Pairs.{read_banks}
-use Rattle.clone_core.specs.Banked.{BankedClone, BankedAsker}
-use Rattle.shell_session.specs.Shells.{FoundOnBanks, found_in}
+use Rattle.node_model.specs.journal_sides.Pairs.{read_banks}
+use Rattle.node_model.specs.clone_core.Banked.{BankedClone, BankedAsker}
+use Rattle.node_model.specs.shell_session.Shells.{FoundOnBanks, found_in}
 use Rattle.node_core.specs.declared.faults.NodeFault.{NodeFault}
 use Rattle.node_core.specs.declared.faults.NodeFault.TheVariants.{Device}
 use Rattle.node_core.specs.declared.states.NodeState.{NodeState}

@@ -2,7 +2,7 @@
 use Rattle.std.specs.Prelude.{◌≡◌, ◌≢◌, ◌⊎◌, ℕ, Bool, true, false, List, [], ◌∷◌, Option, None, Some, Result, IsTrue}
 use Rattle.std.specs.List.{AllByRecursion}
 use Rattle.mld_io.specs.Disk.{Log}
-use Rattle.clone_parts.specs.KeptSteps.{KeptStep}
+use Rattle.node_model.specs.clone_parts.KeptSteps.{KeptStep}
 use Rattle.wire_frames.specs.declared.assembling.Assembled.{Assembled}
 use Rattle.wire_frames.specs.declared.faults.AssemblyFault.{AssemblyFault}
 use Rattle.wire_frames.specs.declared.kinds.Fed.{Fed}

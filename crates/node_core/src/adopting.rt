@@ -1,10 +1,10 @@
 //! Messages that come to one who asks for a leaf.
 ghost use Rattle.std.specs.Prelude.{◌≡◌, None, Some, IfOk, IfErr};
 ghost use Rattle.mld_io.specs.Disk.{Log};
-ghost use Rattle.journal_store.specs.Closing.{StaysTold};
+ghost use Rattle.node_model.specs.journal_store.Closing.{StaysTold};
 ghost use Rattle.mld_ops.specs.Messages.{CarriesWant, message_value, IsGoodMessage};
-ghost use Rattle.clone_core.specs.Banked.{KeepsClone};
-ghost use Rattle.shell_session.specs.SessionLines.{Meters};
+ghost use Rattle.node_model.specs.clone_core.Banked.{KeepsClone};
+ghost use Rattle.node_model.specs.shell_session.SessionLines.{Meters};
 ghost use Rattle.node_model.specs.Exchanges.{telling};
 ghost use Rattle.node_core.specs.NodeStates.{IsOpen, state_banks_after, StateFailsOnDevice};
 ghost use Rattle.node_core.specs.NodeDeeds.{ReceivesOn, StopsMessage};
@@ -13,11 +13,11 @@ ghost use Rattle.node_core.specs.declared.states.NodeState.TheVariants as states
 use crate::faults::NodeFault;
 use crate::states::NodeState;
 use crate::telling::tell_want;
-use clone_core::{Adopted, Asker, MldClone};
-use journal_store::MakeFault;
 use mld_io::Banks;
 use mld_ops::Message;
 use node_model::Exchange;
+use node_model::clone_core::{Adopted, Asker, MldClone};
+use node_model::journal_store::MakeFault;
 use std::alloc::{AllocError, Global};
 use std::thread::Threads;
 

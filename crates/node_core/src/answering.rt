@@ -1,9 +1,9 @@
 //! Requests that a live clone answers.
 ghost use Rattle.std.specs.Prelude.{◌≡◌, ◌≤◌, [], None, Some, length, OnOk, OnErr, IsErrOf};
-ghost use Rattle.journal_store.specs.Closing.{StaysTold};
-ghost use Rattle.shell_session.specs.ReadShell.{IsShellInForm};
-ghost use Rattle.shell_session.specs.SessionLines.{Meters};
-ghost use Rattle.shell_session.specs.LiveCalls.{CloneLeavesFrontOfDue};
+ghost use Rattle.node_model.specs.journal_store.Closing.{StaysTold};
+ghost use Rattle.node_model.specs.shell_session.ReadShell.{IsShellInForm};
+ghost use Rattle.node_model.specs.shell_session.SessionLines.{Meters};
+ghost use Rattle.node_model.specs.shell_session.LiveCalls.{CloneLeavesFrontOfDue};
 ghost use Rattle.node_model.specs.RequestLines.{IsNodeCommand, IsRequestInForm};
 ghost use Rattle.node_model.specs.declared.requests.Request.TheVariants as requests;
 ghost use Rattle.node_model.specs.declared.connections.Connection.{Connection};
@@ -15,10 +15,10 @@ ghost use Rattle.node_core.specs.NodeStates.{living};
 
 use crate::faults::NodeFault;
 use crate::telling::{greet_client, say_reply};
-use clone_core::MldClone;
 use mld_io::Banks;
+use node_model::clone_core::MldClone;
+use node_model::shell_session::{ShellCommand, do_live};
 use node_model::{Exchange, Request, read_request};
-use shell_session::{ShellCommand, do_live};
 use std::alloc::{AllocError, Global};
 
 /// Answers a request of the connection at hand on a live clone.

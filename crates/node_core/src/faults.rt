@@ -1,6 +1,6 @@
 //! Why an event was not done.
 
-use shell_session::SessionFault;
+use node_model::shell_session::SessionFault;
 use std::alloc::AllocError;
 use thiserror::Error;
 

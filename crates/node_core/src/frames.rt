@@ -1,7 +1,7 @@
 //! What a node does with a frame.
 ghost use Rattle.std.specs.Prelude.{◌≡◌, ℕ, false, Some, IfOk, IfErr, OnOk, IsTrue};
-ghost use Rattle.journal_store.specs.Closing.{StaysTold};
-ghost use Rattle.shell_session.specs.SessionLines.{Meters};
+ghost use Rattle.node_model.specs.journal_store.Closing.{StaysTold};
+ghost use Rattle.node_model.specs.shell_session.SessionLines.{Meters};
 ghost use Rattle.wire_frames.specs.declared.kinds.Frame.TheVariants as kinds;
 ghost use Rattle.wire_frames.specs.Frames.{FramesValue};
 ghost use Rattle.node_model.specs.Connections.{is_peer, as_peer};

@@ -15,6 +15,8 @@ mod telling;
 
 pub use faults::NodeFault;
 pub use messages::receive_message;
+pub use node_model;
+pub use node_model::{clone_core, clone_parts, journal_sides, journal_store, shell_session};
 pub use nodes::Node;
 pub use requests::answer_request;
 pub use states::NodeState;

@@ -1,9 +1,9 @@
 //! Messages of peers.
 ghost use Rattle.std.specs.Prelude.{◌≡◌, ◌↔◌, None, IfOk, IfErr, OnOk, OnErr, IsErrOf};
-ghost use Rattle.journal_store.specs.Closing.{StaysTold};
+ghost use Rattle.node_model.specs.journal_store.Closing.{StaysTold};
 ghost use Rattle.mld_ops.specs.Messages.{message_value, IsGoodMessage};
-ghost use Rattle.shell_session.specs.SessionLines.{Meters};
-ghost use Rattle.shell_session.specs.LiveCalls.{CloneLeavesFrontOfDue};
+ghost use Rattle.node_model.specs.shell_session.SessionLines.{Meters};
+ghost use Rattle.node_model.specs.shell_session.LiveCalls.{CloneLeavesFrontOfDue};
 ghost use Rattle.node_model.specs.NodeMessages.{LiveReceives};
 ghost use Rattle.node_core.specs.NodeStates.{IsOpen, state_banks, living, state_banks_after, StateFailsOnDevice};
 ghost use Rattle.node_core.specs.NodeDeeds.{ReceivesOn, StopsMessage, IsDueByMessage};
@@ -14,10 +14,10 @@ use crate::adopting::receive_asking;
 use crate::faults::NodeFault;
 use crate::states::NodeState;
 use crate::telling::tell_want;
-use clone_core::MldClone;
-use clone_parts::{Got, ReceiveFault};
 use mld_io::Banks;
 use mld_ops::Message;
+use node_model::clone_core::MldClone;
+use node_model::clone_parts::{Got, ReceiveFault};
 use node_model::{DEEP_LEAF, Exchange, FOREIGN_TICK};
 use std::alloc::{AllocError, Global};
 use std::thread::Threads;

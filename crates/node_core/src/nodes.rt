@@ -1,7 +1,7 @@
 //! The node.
 ghost use Rattle.std.specs.Prelude.{◌≡◌, [], None, false, IfOk, IfErr};
-ghost use Rattle.journal_store.specs.Closing.{StaysTold};
-ghost use Rattle.shell_session.specs.SessionLines.{Meters};
+ghost use Rattle.node_model.specs.journal_store.Closing.{StaysTold};
+ghost use Rattle.node_model.specs.shell_session.SessionLines.{Meters};
 ghost use Rattle.node_model.specs.Connections.{opened, without};
 ghost use Rattle.mld_io.specs.declared.events.Event.TheVariants as events;
 ghost use Rattle.node_core.specs.NodeStates.{FindsNow, IsOpen, keeper_of};

@@ -1,7 +1,7 @@
 //! What a node does with a piece of a connection.
 ghost use Rattle.std.specs.Prelude.{◌≡◌, None, IfOk, IfErr, OnOk};
-ghost use Rattle.journal_store.specs.Closing.{StaysTold};
-ghost use Rattle.shell_session.specs.SessionLines.{Meters};
+ghost use Rattle.node_model.specs.journal_store.Closing.{StaysTold};
+ghost use Rattle.node_model.specs.shell_session.SessionLines.{Meters};
 ghost use Rattle.node_model.specs.Connections.{AreNumbered, connection_of};
 ghost use Rattle.node_core.specs.NodeStates.{IsOpen, state_banks};
 ghost use Rattle.node_model.specs.FrameSteps.{refusal_code, faulting};

@@ -1,7 +1,7 @@
 //! Requests of clients.
 ghost use Rattle.std.specs.Prelude.{◌≡◌, [], None, Some, IfOk, IfErr, OnOk};
-ghost use Rattle.journal_store.specs.Closing.{StaysTold};
-ghost use Rattle.shell_session.specs.SessionLines.{Meters};
+ghost use Rattle.node_model.specs.journal_store.Closing.{StaysTold};
+ghost use Rattle.node_model.specs.shell_session.SessionLines.{Meters};
 ghost use Rattle.node_model.specs.declared.connections.Connection.{Connection};
 ghost use Rattle.mld_model.specs.Local.{LocalAsker};
 ghost use Rattle.node_model.specs.Keepers.{Asks};
@@ -15,8 +15,8 @@ use crate::answering::answer_loan;
 use crate::faults::NodeFault;
 use crate::states::NodeState;
 use crate::telling::{greet_client, say_reply};
-use clone_core::{Asker, MldClone};
 use mld_io::Banks;
+use node_model::clone_core::{Asker, MldClone};
 use node_model::{Exchange, Request, read_request};
 use std::alloc::{AllocError, Global};
 

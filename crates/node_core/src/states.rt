@@ -1,8 +1,8 @@
 //! What a node has on its banks.
 
-use clone_core::{Asker, MldClone};
 use mld_io::Banks;
 use mld_ops::Message;
+use node_model::clone_core::{Asker, MldClone};
 use std::alloc::{AllocError, Global};
 use uuid::Uuid;
 

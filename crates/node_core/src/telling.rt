@@ -8,8 +8,8 @@ ghost use Rattle.node_model.specs.Connections.{as_client};
 ghost use Rattle.node_model.specs.Exchanges.{saying, telling};
 ghost use Rattle.node_core.specs.LoanCalls.{GreetsClient};
 
-use clone_core::MldClone;
 use mld_io::Banks;
+use node_model::clone_core::MldClone;
 use node_model::{Connection, Exchange, Role};
 use std::alloc::{AllocError, Global};
 use wire_frames::reply_frames;

@@ -6,16 +6,16 @@ use Rattle.mld_io.specs.declared.events.WireCall.TheVariants as call
 use Rattle.mld_ops.specs.Entry.{EntryValue}
 use Rattle.mld_ops.specs.declared.messages.Message.{Message}
 use Rattle.mld_ops.specs.declared.messages.Message.TheVariants as kind
-use Rattle.journal_sides.specs.Heads.{HeadValue}
+use Rattle.shell_session.specs.journal_sides.Heads.{HeadValue}
 use Rattle.mld_model.specs.Local.{LocalClone, LocalAsker, IsSameClone, LocallyHolds}
-use Rattle.clone_parts.specs.KeptSteps.{KeptStep, Appended, appends}
-use Rattle.clone_parts.specs.declared.answers.Got.{Got}
-use Rattle.clone_parts.specs.declared.answers.Got.TheVariants as got
-use Rattle.clone_parts.specs.declared.faults.ReceiveFault.{ReceiveFault}
-use Rattle.clone_parts.specs.declared.faults.ReceiveFault.TheVariants as fault
-use Rattle.clone_core.specs.Banked.{head_of}
-use Rattle.clone_core.specs.CloneCalls.{LocallyReceives}
-use Rattle.clone_core.specs.DurableCalls.{ReceivedSteps, merged_steps}
+use Rattle.shell_session.specs.clone_parts.KeptSteps.{KeptStep, Appended, appends}
+use Rattle.shell_session.specs.clone_parts.declared.answers.Got.{Got}
+use Rattle.shell_session.specs.clone_parts.declared.answers.Got.TheVariants as got
+use Rattle.shell_session.specs.clone_parts.declared.faults.ReceiveFault.{ReceiveFault}
+use Rattle.shell_session.specs.clone_parts.declared.faults.ReceiveFault.TheVariants as fault
+use Rattle.shell_session.specs.clone_core.Banked.{head_of}
+use Rattle.shell_session.specs.clone_core.CloneCalls.{LocallyReceives}
+use Rattle.shell_session.specs.clone_core.DurableCalls.{ReceivedSteps, merged_steps}
 use Rattle.shell_session.specs.Shells.{FoundOnBanks, Stored, found_after, generation_after}
 use Rattle.shell_session.proofs.RunLaws.{live_step, live_found, found_both}
 use Rattle.wire_frames.specs.declared.kinds.Frame.{Frame}

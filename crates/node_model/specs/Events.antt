@@ -4,7 +4,7 @@ use Rattle.mld_io.specs.declared.events.Event.{Event}
 use Rattle.mld_io.specs.declared.events.Event.TheVariants.{Opened, Bytes, Shut, End}
 use Rattle.mld_io.specs.declared.events.WireCall.TheVariants as call
 use Rattle.mld_io.specs.Wires.{WireLog, after_shut}
-use Rattle.clone_parts.specs.KeptSteps.{KeptStep}
+use Rattle.shell_session.specs.clone_parts.KeptSteps.{KeptStep}
 use Rattle.wire_frames.specs.declared.faults.FrameFault.{FrameFault}
 use Rattle.wire_frames.specs.declared.kinds.Frame.{Frame}
 use Rattle.wire_frames.specs.declared.kinds.Frame.TheVariants.{Hello}

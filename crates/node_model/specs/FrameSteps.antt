@@ -1,7 +1,7 @@
 -- What a node does with the frames of a connection, one after another.
 use Rattle.std.specs.Prelude.{◌≡◌, ◌≢◌, ℕ, if◌then◌else◌, ◌⊎◌, Bool, true, false, List, [], ◌∷◌, ◌++◌, Option, None, Some, Result, Ok, Err}
 use Rattle.mld_ops.specs.declared.messages.Message.{Message}
-use Rattle.clone_parts.specs.KeptSteps.{KeptStep}
+use Rattle.shell_session.specs.clone_parts.KeptSteps.{KeptStep}
 use Rattle.wire_frames.specs.declared.faults.AssemblyFault.TheVariants.{BadPart}
 use Rattle.wire_frames.specs.declared.faults.FrameFault.{FrameFault}
 use Rattle.wire_frames.specs.declared.faults.FrameFault.TheVariants.{BadFrame, TooLong}

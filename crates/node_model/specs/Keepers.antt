@@ -2,8 +2,8 @@
 use Rattle.std.specs.Prelude.{ℕ, List, [], ◌∷◌, ◌++◌}
 use Rattle.mld_ops.specs.Messages.{MessageValue, CarriesEntry, CarriesWant, CarriesAsk}
 use Rattle.mld_model.specs.Local.{LocalClone, LocalAsker}
-use Rattle.clone_parts.specs.KeptSteps.{KeptStep, Created, Appended, Forked, Swapped}
-use Rattle.clone_core.specs.Banked.{head_of}
+use Rattle.shell_session.specs.clone_parts.KeptSteps.{KeptStep, Created, Appended, Forked, Swapped}
+use Rattle.shell_session.specs.clone_core.Banked.{head_of}
 use Rattle.shell_session.specs.Shells.{FoundOnBanks, Nothing, Stored}
 
 pub data Keeper : Type 0 where

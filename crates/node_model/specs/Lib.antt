@@ -1,3 +1,8 @@
+pub use Rattle.shell_session.specs.journal_sides as journal_sides
+pub use Rattle.shell_session.specs.journal_store as journal_store
+pub use Rattle.shell_session.specs.clone_parts as clone_parts
+pub use Rattle.shell_session.specs.clone_core as clone_core
+pub use Rattle.shell_session.specs as shell_session
 pub mod NodeLaws
 pub mod Keepers
 pub mod Requests

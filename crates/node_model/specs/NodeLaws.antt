@@ -2,7 +2,7 @@
 use Rattle.std.specs.Prelude.{◌≡◌, List}
 use Rattle.mld_io.specs.declared.events.Event.{Event}
 use Rattle.mld_io.specs.Wires.{WireLog}
-use Rattle.clone_parts.specs.KeptSteps.{KeptStep}
+use Rattle.shell_session.specs.clone_parts.KeptSteps.{KeptStep}
 use Rattle.shell_session.specs.Shells.{found_after}
 use Rattle.node_model.specs.Keepers.{keeper_found}
 use Rattle.node_model.specs.Events.{NodeValue, NodeRuns}

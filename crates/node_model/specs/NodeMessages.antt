@@ -4,15 +4,15 @@ use Rattle.mld_ops.specs.declared.messages.Give.{Give}
 use Rattle.mld_ops.specs.declared.messages.Message.{Message}
 use Rattle.mld_ops.specs.Messages.{CarriesWant, message_value, give_value}
 use Rattle.mld_model.specs.Local.{LocalClone, LocalAsker, joined_clone}
-use Rattle.clone_parts.specs.KeptSteps.{KeptStep, Created}
-use Rattle.clone_parts.specs.declared.answers.Got.{Got}
-use Rattle.clone_parts.specs.declared.answers.Got.TheVariants as got
-use Rattle.clone_parts.specs.declared.faults.ReceiveFault.{ReceiveFault}
-use Rattle.clone_parts.specs.declared.faults.ReceiveFault.TheVariants as fault
-use Rattle.clone_core.specs.Banked.{head_of}
-use Rattle.clone_core.specs.CloneCalls.{LocallyReceives, Refuses}
-use Rattle.clone_core.specs.DurableCalls.{ReceivedSteps}
-use Rattle.clone_core.specs.Joining.{IsGiveFor, GivesNone}
+use Rattle.shell_session.specs.clone_parts.KeptSteps.{KeptStep, Created}
+use Rattle.shell_session.specs.clone_parts.declared.answers.Got.{Got}
+use Rattle.shell_session.specs.clone_parts.declared.answers.Got.TheVariants as got
+use Rattle.shell_session.specs.clone_parts.declared.faults.ReceiveFault.{ReceiveFault}
+use Rattle.shell_session.specs.clone_parts.declared.faults.ReceiveFault.TheVariants as fault
+use Rattle.shell_session.specs.clone_core.Banked.{head_of}
+use Rattle.shell_session.specs.clone_core.CloneCalls.{LocallyReceives, Refuses}
+use Rattle.shell_session.specs.clone_core.DurableCalls.{ReceivedSteps}
+use Rattle.shell_session.specs.clone_core.Joining.{IsGiveFor, GivesNone}
 use Rattle.shell_session.specs.Shells.{generation_after}
 use Rattle.shell_session.specs.ShellStep.{IsLast}
 use Rattle.node_model.specs.Exchanges.{ExchangeValue, refusing, telling, telling_each, telling_peers_each}

@@ -2,7 +2,7 @@
 use Rattle.std.specs.Prelude.{◌≡◌, ℕ, List, [], ◌∷◌, ◌++◌, Some, codes}
 use Rattle.mld_ops.specs.Messages.{CarriesWant}
 use Rattle.mld_model.specs.Local.{LocalClone}
-use Rattle.clone_parts.specs.KeptSteps.{KeptStep}
+use Rattle.shell_session.specs.clone_parts.KeptSteps.{KeptStep}
 use Rattle.shell_session.specs.declared.commands.ShellCommand.{ShellCommand}
 use Rattle.shell_session.specs.Shells.{generation_after}
 use Rattle.shell_session.specs.ShellReply.{ShellReply, shell_text}

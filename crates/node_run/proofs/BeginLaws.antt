@@ -7,35 +7,35 @@ use Rattle.rdf_terms.specs.Order.{iri_cmp}
 use Rattle.mld_ops.specs.Properties.{AreKept}
 use Rattle.mld_ops.proofs.AscendingLaws.{same_ascending}
 use Rattle.mld_ops.proofs.PropertiesLaws.{iri_total, iri_exact}
-use Rattle.journal_sides.specs.Pairs.{KeepsNone, Damages, read_banks}
-use Rattle.journal_store.specs.Crashes.{LeavesNothingNew}
-use Rattle.journal_store.specs.Mounting.{IsSynced}
-use Rattle.journal_store.specs.Standing.{KeepsNothing}
-use Rattle.journal_store.specs.declared.faults.MakeFault.{MakeFault}
-use Rattle.journal_store.specs.declared.faults.MakeFault.TheVariants as make
-use Rattle.journal_store.specs.declared.faults.MountFault.{MountFault}
-use Rattle.journal_store.specs.declared.faults.MountFault.TheVariants as mount
+use Rattle.node_core.specs.journal_sides.Pairs.{KeepsNone, Damages, read_banks}
+use Rattle.node_core.specs.journal_store.Crashes.{LeavesNothingNew}
+use Rattle.node_core.specs.journal_store.Mounting.{IsSynced}
+use Rattle.node_core.specs.journal_store.Standing.{KeepsNothing}
+use Rattle.node_core.specs.journal_store.declared.faults.MakeFault.{MakeFault}
+use Rattle.node_core.specs.journal_store.declared.faults.MakeFault.TheVariants as make
+use Rattle.node_core.specs.journal_store.declared.faults.MountFault.{MountFault}
+use Rattle.node_core.specs.journal_store.declared.faults.MountFault.TheVariants as mount
 use Rattle.mld_model.specs.Local.{LocalClone, LocalAsker}
-use Rattle.clone_parts.specs.KeptSteps.{KeptStep, Created}
-use Rattle.clone_core.specs.Banked.{BankedClone, BankedAsker, KeepsClone, head_of}
-use Rattle.clone_core.specs.DurableCalls.{Creates}
-use Rattle.clone_core.specs.Opening.{IsFoundAs, RunsAgain, TellsClone, SyncsBoth, mount_calls}
-use Rattle.clone_core.specs.declared.mounts.Mounted.TheVariants.{Refused}
-use Rattle.shell_session.specs.Shells.{FoundOnBanks, Nothing, Damage, found_in}
-use Rattle.shell_session.specs.ShellStep.{first_clone}
-use Rattle.shell_session.specs.Sessions.{HasFound, HasKept}
-use Rattle.shell_session.specs.SessionLines.{ImagesFind, LeavesFront, Meters}
+use Rattle.node_core.specs.clone_parts.KeptSteps.{KeptStep, Created}
+use Rattle.node_core.specs.clone_core.Banked.{BankedClone, BankedAsker, KeepsClone, head_of}
+use Rattle.node_core.specs.clone_core.DurableCalls.{Creates}
+use Rattle.node_core.specs.clone_core.Opening.{IsFoundAs, RunsAgain, TellsClone, SyncsBoth, mount_calls}
+use Rattle.node_core.specs.clone_core.declared.mounts.Mounted.TheVariants.{Refused}
+use Rattle.node_core.specs.shell_session.Shells.{FoundOnBanks, Nothing, Damage, found_in}
+use Rattle.node_core.specs.shell_session.ShellStep.{first_clone}
+use Rattle.node_core.specs.shell_session.Sessions.{HasFound, HasKept}
+use Rattle.node_core.specs.shell_session.SessionLines.{ImagesFind, LeavesFront, Meters}
 use Rattle.node_run.proofs.Moments.{found_with, same_front, no_more_front, later_front, images_later, made_front, kept_images}
 use Rattle.node_run.specs.declared.node.NodeWords.{NodeWords}
 use Rattle.node_core.specs.declared.states.NodeState.{NodeState}
 use Rattle.node_core.specs.declared.states.NodeState.TheVariants as states
 use Rattle.node_core.specs.NodeStates.{state_banks, keeper_of, IsOpen}
-use Rattle.node_model.specs.Keepers.{Keeper, Lives, Asks}
+use Rattle.node_core.specs.node_model.Keepers.{Keeper, Lives, Asks}
 use Rattle.node_run.specs.declared.stops.NodeStop.{NodeStop}
 use Rattle.node_run.specs.declared.stops.NodeStop.TheVariants as stops
 use Rattle.node_run.specs.ServiceStatuses.{stop_of_make, stop_of_mount, IsAtFirst}
 use Rattle.node_run.specs.Start.{Begins, founds, asks, runs_again, IsDueAtFirst, IsOther}
-use Rattle.shell_session.specs.RunEnds.{LeavesDone}
+use Rattle.node_core.specs.shell_session.RunEnds.{LeavesDone}
 use Rattle.node_run.specs.NodeBegun.{BeginsOn, FallsShort, StaysFound, BeginsShort, IsOfWords, RunsAsFound, RefusesOther, found_on, banks_begun, FailsToBegin}
 use Rattle.node_run.proofs.MeterLaws.{meters_of, meters_as}
 use Rattle.node_run.proofs.FrontLaws.{leaves_first}

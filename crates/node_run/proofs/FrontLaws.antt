@@ -2,11 +2,11 @@
 use Rattle.std.proofs.Common.{◌≡◌, List, [], ◌++◌, refl, sym, ◌∙◌, ap, subst, Option, Some, append_assoc, append-nil}
 use Rattle.mld_io.specs.Disk.{Log, Call, Sides, grown_by, MayLeave, LeavesOnly, LeavesMeanwhile}
 use Rattle.mld_io.proofs.DiskLaws.{AtEachMoment-weaken, AtEachMoment-last, LeavesMeanwhile-then}
-use Rattle.clone_parts.specs.KeptSteps.{KeptStep}
-use Rattle.shell_session.specs.Shells.{FoundOnBanks, found_after}
-use Rattle.shell_session.proofs.RunLaws.{found_both}
-use Rattle.shell_session.specs.SessionLines.{ImagesFind, FindsFront, LeavesFront}
-use Rattle.shell_session.specs.RunEnds.{LeavesDone}
+use Rattle.node_core.specs.clone_parts.KeptSteps.{KeptStep}
+use Rattle.node_core.specs.shell_session.Shells.{FoundOnBanks, found_after}
+use Rattle.node_core.proofs.of_shell_session.RunLaws.{found_both}
+use Rattle.node_core.specs.shell_session.SessionLines.{ImagesFind, FindsFront, LeavesFront}
+use Rattle.node_core.specs.shell_session.RunEnds.{LeavesDone}
 
 -- a front of some steps is one of more
 front_longer : (found : FoundOnBanks) (steps more : List KeptStep) (image : Sides) → FindsFront found steps image → FindsFront found (steps ++ more) image

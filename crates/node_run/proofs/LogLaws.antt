@@ -4,8 +4,8 @@ use Rattle.std.proofs.lemmas.List.{take_all, take_more}
 use Rattle.std.specs.Prelude.{option_map}
 use Rattle.mld_io.specs.declared.events.WireCall.TheVariants as call
 use Rattle.mld_io.specs.Wires.{WireLog, after_shut}
-use Rattle.node_model.specs.declared.connections.Sent.{Sent}
-use Rattle.node_model.specs.Events.{log_with, log_after}
+use Rattle.node_core.specs.node_model.declared.connections.Sent.{Sent}
+use Rattle.node_core.specs.node_model.Events.{log_with, log_after}
 use Rattle.node_run.specs.ServiceUnderWay.{Sends, SendsFront}
 
 -- what is told where a log was told, and nothing where none was

@@ -2,7 +2,7 @@
 use Rattle.std.proofs.Common.{◌≡◌, ◌⊎◌, ℕ, inl, inr, sym, ◌∙◌, ap, arith, subst}
 use Rattle.mld_io.specs.Arm.{Arm, Unarmed, Armed, Caught, Meter, LowersAtMost, Metered}
 use Rattle.mld_io.specs.Faults.{counted}
-use Rattle.shell_session.specs.SessionLines.{Meters}
+use Rattle.node_core.specs.shell_session.SessionLines.{Meters}
 
 lowers_unarmed : (calls : ℕ) (before now : Arm) → before ≡ Unarmed → LowersAtMost calls before now → now ≡ Unarmed
 lowers_unarmed calls before now is lowers = let at : LowersAtMost calls Unarmed now = subst (λ (a : Arm). LowersAtMost calls a now) is lowers in at

@@ -3,15 +3,15 @@ use Rattle.std.proofs.Common.{◌≡◌, ℕ, List, [], ◌∷◌, Option, Some,
 use Rattle.mld_io.specs.Arm.{Arm, Meter}
 use Rattle.mld_io.specs.Disk.{Log, Sides, seen, grown_by, MayLeave, LeavesOnly, LeavesMeanwhile}
 use Rattle.mld_io.proofs.DiskLaws.{AtEachMoment-last, AtEachMoment-weaken, LeavesMeanwhile-then}
-use Rattle.journal_sides.specs.Pairs.{PairReading, KeepsNone, Keeps, Damages, read_banks}
-use Rattle.journal_store.specs.Crashes.{LeavesNothingNew}
-use Rattle.journal_store.proofs.DeviceLaws.{weaken_moments, no_moments}
+use Rattle.node_core.specs.journal_sides.Pairs.{PairReading, KeepsNone, Keeps, Damages, read_banks}
+use Rattle.node_core.specs.journal_store.Crashes.{LeavesNothingNew}
+use Rattle.node_core.proofs.of_journal_store.DeviceLaws.{weaken_moments, no_moments}
 use Rattle.mld_model.specs.Local.{LocalClone}
-use Rattle.clone_parts.specs.KeptSteps.{KeptStep, Created, Appended, Forked, Swapped, after_step, after_steps, ReadsSome, LeavesSome}
-use Rattle.clone_core.specs.Banked.{head_of}
-use Rattle.shell_session.specs.Shells.{FoundOnBanks, Stored, found_in, found_after_step, found_after}
-use Rattle.shell_session.specs.SessionLines.{ImagesFind, FindsFront, LeavesFront}
-use Rattle.shell_session.specs.Sessions.{HasKept}
+use Rattle.node_core.specs.clone_parts.KeptSteps.{KeptStep, Created, Appended, Forked, Swapped, after_step, after_steps, ReadsSome, LeavesSome}
+use Rattle.node_core.specs.clone_core.Banked.{head_of}
+use Rattle.node_core.specs.shell_session.Shells.{FoundOnBanks, Stored, found_in, found_after_step, found_after}
+use Rattle.node_core.specs.shell_session.SessionLines.{ImagesFind, FindsFront, LeavesFront}
+use Rattle.node_core.specs.shell_session.Sessions.{HasKept}
 
 -- what the banks of a clone keep of it
 abbrev pub found_with : ℕ → LocalClone → FoundOnBanks

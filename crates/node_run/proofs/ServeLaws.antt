@@ -3,9 +3,9 @@ use Rattle.std.proofs.Common.{◌≡◌, ℕ, List, [], ◌∷◌, Option, None,
 use Rattle.mld_io.specs.Arm.{Meter}
 use Rattle.mld_io.specs.Disk.{Log}
 use Rattle.mld_io.specs.Wires.{WireLog}
-use Rattle.shell_session.specs.Shells.{FoundOnBanks}
-use Rattle.shell_session.specs.SessionLines.{Meters}
-use Rattle.shell_session.specs.RunEnds.{TellsUsage}
+use Rattle.node_core.specs.shell_session.Shells.{FoundOnBanks}
+use Rattle.node_core.specs.shell_session.SessionLines.{Meters}
+use Rattle.node_core.specs.shell_session.RunEnds.{TellsUsage}
 use Rattle.node_run.specs.declared.node.NodeWords.{NodeWords}
 use Rattle.node_run.specs.declared.faults.NodeWordsFault.{NodeWordsFault}
 use Rattle.node_run.specs.declared.faults.NodeWordsFault.TheVariants as words_faults

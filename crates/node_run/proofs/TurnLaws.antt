@@ -6,11 +6,11 @@ use Rattle.mld_io.specs.declared.faults.IoFault.TheVariants as io
 use Rattle.mld_io.specs.Arm.{Meter}
 use Rattle.mld_io.specs.Disk.{Log}
 use Rattle.mld_io.specs.Wires.{WireLog}
-use Rattle.shell_session.specs.SessionLines.{Meters, LeavesFrontOfDue}
+use Rattle.node_core.specs.shell_session.SessionLines.{Meters, LeavesFrontOfDue}
 use Rattle.node_run.proofs.MeterLaws.{meters_as}
 use Rattle.node_core.specs.declared.faults.NodeFault.{NodeFault}
 use Rattle.node_core.specs.declared.faults.NodeFault.TheVariants as node_faults
-use Rattle.node_model.specs.Keepers.{keeper_found}
+use Rattle.node_core.specs.node_model.Keepers.{keeper_found}
 use Rattle.node_core.specs.Nodes.{BankedNode, node_value, node_banks}
 use Rattle.node_core.specs.NodeEvents.{IsDueByEvent}
 use Rattle.node_run.specs.declared.stops.NodeStop.{NodeStop}

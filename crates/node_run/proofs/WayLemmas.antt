@@ -5,19 +5,19 @@ use Rattle.mld_io.specs.declared.events.Event.{Event}
 use Rattle.mld_io.specs.declared.events.WireCall.TheVariants.{Took}
 use Rattle.mld_io.specs.Disk.{Log}
 use Rattle.mld_io.specs.Wires.{WireLog}
-use Rattle.journal_store.specs.Closing.{StaysTold}
-use Rattle.clone_parts.specs.KeptSteps.{KeptStep}
-use Rattle.shell_session.specs.Shells.{FoundOnBanks, Stored, found_after}
-use Rattle.shell_session.proofs.RunLaws.{found_both}
-use Rattle.shell_session.specs.SessionLines.{ImagesFind, LeavesFront, LeavesFrontOfDue}
+use Rattle.node_core.specs.journal_store.Closing.{StaysTold}
+use Rattle.node_core.specs.clone_parts.KeptSteps.{KeptStep}
+use Rattle.node_core.specs.shell_session.Shells.{FoundOnBanks, Stored, found_after}
+use Rattle.node_core.proofs.of_shell_session.RunLaws.{found_both}
+use Rattle.node_core.specs.shell_session.SessionLines.{ImagesFind, LeavesFront, LeavesFrontOfDue}
 use Rattle.node_run.specs.declared.node.NodeWords.{NodeWords}
 use Rattle.node_run.specs.Words.{AreWords}
-use Rattle.node_model.specs.declared.connections.Sent.{Sent}
+use Rattle.node_core.specs.node_model.declared.connections.Sent.{Sent}
 use Rattle.node_core.specs.declared.states.NodeState.{NodeState}
 use Rattle.node_core.specs.NodeStates as states
-use Rattle.node_model.specs.Keepers.{Keeper, keeper_found}
-use Rattle.node_model.specs.Events.{NodeValue, NodeStep, NodeRuns, log_after}
-use Rattle.node_model.specs.NodeLaws.{NodeStepsLead}
+use Rattle.node_core.specs.node_model.Keepers.{Keeper, keeper_found}
+use Rattle.node_core.specs.node_model.Events.{NodeValue, NodeStep, NodeRuns, log_after}
+use Rattle.node_core.specs.node_model.NodeLaws.{NodeStepsLead}
 use Rattle.node_core.specs.NodeStates.{FindsNow}
 use Rattle.node_core.specs.Nodes.{BankedNode, node_value, node_banks}
 use Rattle.node_core.specs.NodeEvents.{IsDueByEvent}

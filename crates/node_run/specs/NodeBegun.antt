@@ -1,19 +1,19 @@
 -- What became of the banks of a node that was to begin. The private calls behind `serve` cite it.
 use Rattle.std.specs.Prelude.{◌≡◌, ◌⊎◌, ℕ, List, [], Option, Some, Result, Ok, Err}
 use Rattle.mld_io.specs.Disk.{Log, seen}
-use Rattle.journal_sides.specs.Pairs.{read_banks}
+use Rattle.node_core.specs.journal_sides.Pairs.{read_banks}
 use Rattle.mld_model.specs.Local.{LocalClone}
-use Rattle.clone_parts.specs.KeptSteps.{KeptStep}
-use Rattle.clone_core.specs.Banked.{BankedClone}
-use Rattle.shell_session.specs.Shells.{FoundOnBanks, Damage, found_in}
-use Rattle.shell_session.specs.Sessions.{HasFound}
-use Rattle.shell_session.specs.SessionLines.{ImagesFind, LeavesFront}
-use Rattle.shell_session.specs.RunEnds.{LeavesDone}
+use Rattle.node_core.specs.clone_parts.KeptSteps.{KeptStep}
+use Rattle.node_core.specs.clone_core.Banked.{BankedClone}
+use Rattle.node_core.specs.shell_session.Shells.{FoundOnBanks, Damage, found_in}
+use Rattle.node_core.specs.shell_session.Sessions.{HasFound}
+use Rattle.node_core.specs.shell_session.SessionLines.{ImagesFind, LeavesFront}
+use Rattle.node_core.specs.shell_session.RunEnds.{LeavesDone}
 use Rattle.node_run.specs.declared.node.NodeWords.{NodeWords}
 use Rattle.node_core.specs.declared.states.NodeState.{NodeState}
 use Rattle.node_core.specs.declared.states.NodeState.TheVariants as states
 use Rattle.node_core.specs.NodeStates.{state_banks, keeper_of}
-use Rattle.node_model.specs.Keepers.{keeper_found}
+use Rattle.node_core.specs.node_model.Keepers.{keeper_found}
 use Rattle.node_run.specs.Start.{Begins, IsDueAtFirst, IsOther}
 use Rattle.node_run.specs.declared.stops.NodeStop.{NodeStop}
 use Rattle.node_run.specs.declared.stops.NodeStop.TheVariants as stops

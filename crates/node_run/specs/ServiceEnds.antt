@@ -6,15 +6,15 @@ use Rattle.mld_io.specs.declared.events.Event.{Event}
 use Rattle.mld_io.specs.declared.events.WireCall.TheVariants.{Took}
 use Rattle.mld_io.specs.Disk.{Log}
 use Rattle.mld_io.specs.Wires.{WireLog}
-use Rattle.clone_parts.specs.KeptSteps.{KeptStep}
-use Rattle.shell_session.specs.Shells.{FoundOnBanks, Damage}
-use Rattle.shell_session.specs.Sessions.{HasFound}
-use Rattle.shell_session.specs.RunEnds.{LeavesDone}
+use Rattle.node_core.specs.clone_parts.KeptSteps.{KeptStep}
+use Rattle.node_core.specs.shell_session.Shells.{FoundOnBanks, Damage}
+use Rattle.node_core.specs.shell_session.Sessions.{HasFound}
+use Rattle.node_core.specs.shell_session.RunEnds.{LeavesDone}
 use Rattle.node_run.specs.declared.node.NodeWords.{NodeWords}
 use Rattle.node_run.specs.Words.{AreWords}
-use Rattle.node_model.specs.declared.connections.Sent.{Sent}
-use Rattle.node_model.specs.Keepers.{Keeper, keeper_found}
-use Rattle.node_model.specs.Events.{NodeValue, NodeStep, NodeRuns, log_after}
+use Rattle.node_core.specs.node_model.declared.connections.Sent.{Sent}
+use Rattle.node_core.specs.node_model.Keepers.{Keeper, keeper_found}
+use Rattle.node_core.specs.node_model.Events.{NodeValue, NodeStep, NodeRuns, log_after}
 use Rattle.node_core.specs.NodeEvents.{IsDueByEvent}
 use Rattle.node_run.specs.Start.{Begins, IsDueAtFirst, IsOther, fresh_node}
 use Rattle.node_run.specs.declared.stops.NodeStop.{NodeStop}

@@ -4,10 +4,10 @@ use Rattle.mld_io.specs.Faults.{Rose}
 use Rattle.mld_io.specs.declared.banks.Side.{Side}
 use Rattle.mld_io.specs.declared.faults.IoFault.{IoFault}
 use Rattle.mld_io.specs.declared.faults.IoFault.TheVariants as io
-use Rattle.journal_store.specs.declared.faults.MakeFault.{MakeFault}
-use Rattle.journal_store.specs.declared.faults.MakeFault.TheVariants as make
-use Rattle.journal_store.specs.declared.faults.MountFault.{MountFault}
-use Rattle.journal_store.specs.declared.faults.MountFault.TheVariants as mount
+use Rattle.node_core.specs.journal_store.declared.faults.MakeFault.{MakeFault}
+use Rattle.node_core.specs.journal_store.declared.faults.MakeFault.TheVariants as make
+use Rattle.node_core.specs.journal_store.declared.faults.MountFault.{MountFault}
+use Rattle.node_core.specs.journal_store.declared.faults.MountFault.TheVariants as mount
 use Rattle.node_run.specs.declared.faults.NodeWordsFault.{NodeWordsFault}
 use Rattle.node_run.specs.declared.faults.NodeWordsFault.TheVariants as words
 use Rattle.node_core.specs.declared.faults.NodeFault.{NodeFault}

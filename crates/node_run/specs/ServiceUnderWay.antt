@@ -5,12 +5,12 @@ use Rattle.mld_io.specs.declared.events.Event.{Event}
 use Rattle.mld_io.specs.Disk.{Log}
 use Rattle.mld_io.specs.Faults.{Rose}
 use Rattle.mld_io.specs.Wires.{WireLog}
-use Rattle.shell_session.specs.Shells.{FoundOnBanks}
-use Rattle.shell_session.specs.Sessions.{HasFound}
-use Rattle.shell_session.specs.SessionLines.{ImagesFind, LeavesFront, LeavesFrontOfDue}
-use Rattle.node_model.specs.declared.connections.Sent.{Sent}
-use Rattle.node_model.specs.Keepers.{keeper_found}
-use Rattle.node_model.specs.Events.{log_after}
+use Rattle.node_core.specs.shell_session.Shells.{FoundOnBanks}
+use Rattle.node_core.specs.shell_session.Sessions.{HasFound}
+use Rattle.node_core.specs.shell_session.SessionLines.{ImagesFind, LeavesFront, LeavesFrontOfDue}
+use Rattle.node_core.specs.node_model.declared.connections.Sent.{Sent}
+use Rattle.node_core.specs.node_model.Keepers.{keeper_found}
+use Rattle.node_core.specs.node_model.Events.{log_after}
 use Rattle.node_core.specs.NodeStates.{FindsNow}
 use Rattle.node_core.specs.Nodes.{BankedNode, node_value, node_banks}
 use Rattle.node_core.specs.NodeEvents.{DoesEvent, IsDueByEvent}

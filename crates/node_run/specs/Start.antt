@@ -2,15 +2,15 @@
 use Rattle.std.specs.Prelude.{◌≡◌, ℕ, List, [], ◌∷◌, true, false}
 use Rattle.mld_ops.specs.Entry.{EntryValue}
 use Rattle.mld_ops.specs.Properties.{AreKept}
-use Rattle.journal_sides.specs.Heads.{HeadValue}
+use Rattle.node_core.specs.journal_sides.Heads.{HeadValue}
 use Rattle.mld_model.specs.Local.{LocalClone}
-use Rattle.clone_parts.specs.KeptSteps.{KeptStep, Created}
-use Rattle.clone_core.specs.Banked.{head_of}
-use Rattle.shell_session.specs.Shells.{FoundOnBanks, Nothing, Stored}
-use Rattle.shell_session.specs.ShellStep.{RunsFrom, MakesFirst, first_clone}
+use Rattle.node_core.specs.clone_parts.KeptSteps.{KeptStep, Created}
+use Rattle.node_core.specs.clone_core.Banked.{head_of}
+use Rattle.node_core.specs.shell_session.Shells.{FoundOnBanks, Nothing, Stored}
+use Rattle.node_core.specs.shell_session.ShellStep.{RunsFrom, MakesFirst, first_clone}
 use Rattle.node_run.specs.declared.node.NodeWords.{NodeWords}
-use Rattle.node_model.specs.Keepers.{Keeper, Lives, Asks}
-use Rattle.node_model.specs.Events.{NodeValue}
+use Rattle.node_core.specs.node_model.Keepers.{Keeper, Lives, Asks}
+use Rattle.node_core.specs.node_model.Events.{NodeValue}
 
 -- the durable steps by which it begins, and what it has then: on banks that keep nothing it makes the first clone of the domain, or asks for a
 -- leaf, with the properties of the words; a clone of the id and the domain of the words runs again as it is kept, whatever the role is

@@ -2,19 +2,19 @@
 ghost use Rattle.std.specs.Prelude.{◌≡◌, ◌↔◌, Some, IsTrue, IfOk, IfErr};
 ghost use Rattle.text_rules.specs.Domain.{is_domain};
 ghost use Rattle.mld_io.specs.Disk.{Log};
-ghost use Rattle.shell_session.specs.SessionLines.{Meters};
+ghost use Rattle.node_core.specs.shell_session.SessionLines.{Meters};
 ghost use Rattle.node_core.specs.NodeStates.{IsOpen};
-ghost use Rattle.journal_store.specs.Standing.{KeepsNothing};
-ghost use Rattle.shell_session.specs.Shells.{Nothing};
+ghost use Rattle.node_core.specs.journal_store.Standing.{KeepsNothing};
+ghost use Rattle.node_core.specs.shell_session.Shells.{Nothing};
 ghost use Rattle.node_run.specs.ServiceStatuses.{IsAtFirst};
 ghost use Rattle.node_run.specs.NodeBegun.{BeginsOn, BeginsShort, IsOfWords, RunsAsFound, RefusesOther, banks_begun, found_on, FailsToBegin};
 
 use crate::node::NodeWords;
 use crate::stops::{NodeStop, make_stop, mount_stop};
-use clone_core::{Asker, MldClone, Mounted};
-use journal_store::Blank;
 use mld_io::Banks;
 use node_core::NodeState;
+use node_core::clone_core::{Asker, MldClone, Mounted};
+use node_core::journal_store::Blank;
 use std::alloc::Global;
 use std::thread::Threads;
 

@@ -1,8 +1,8 @@
 //! The run: all that the node does, over the words, the wire and the banks that it is handed.
 ghost use Rattle.std.specs.Prelude.{◌≡◌, Some, map};
 ghost use Rattle.std.specs.String.{string_bytes};
-ghost use Rattle.shell_session.specs.SessionLines.{Meters};
-ghost use Rattle.shell_session.specs.RunEnds.{TellsUsage, IfFound};
+ghost use Rattle.node_core.specs.shell_session.SessionLines.{Meters};
+ghost use Rattle.node_core.specs.shell_session.RunEnds.{TellsUsage, IfFound};
 ghost use Rattle.node_run.specs.Words.{AreRefused};
 ghost use Rattle.node_run.specs.ServiceStatuses.{service_status, damaged_of, LeavesWireAndBanks, CountsWire};
 ghost use Rattle.node_run.specs.ServiceEnds.{ServiceEnds};

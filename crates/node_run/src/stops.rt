@@ -3,9 +3,9 @@ ghost use Rattle.std.specs.Prelude.{◌≡◌};
 ghost use Rattle.node_run.specs.ServiceStatuses.{service_status, damaged_of, stop_of_words, stop_of_mount, stop_of_make, stop_of_event, stop_of_wire};
 
 use crate::faults::NodeWordsFault;
-use journal_store::{MakeFault, MountFault};
 use mld_io::{IoFault, Side};
 use node_core::NodeFault;
+use node_core::journal_store::{MakeFault, MountFault};
 use thiserror::Error;
 
 /// Why a run of the node ended before `End` came or a request to halt was answered.

@@ -2,13 +2,13 @@
 ghost use Rattle.std.specs.Prelude.{◌≡◌, ℕ, List, false, IfOk, IfErr, OnOk, OnErr, Option, Some, option_map};
 ghost use Rattle.mld_io.specs.Faults.{HasSinkCause};
 ghost use Rattle.mld_io.specs.Disk.{Log};
-ghost use Rattle.journal_store.specs.Closing.{StaysTold};
-ghost use Rattle.shell_session.specs.SessionLines.{Meters};
-ghost use Rattle.shell_session.specs.Shells.{FoundOnBanks};
+ghost use Rattle.node_core.specs.journal_store.Closing.{StaysTold};
+ghost use Rattle.node_core.specs.shell_session.SessionLines.{Meters};
+ghost use Rattle.node_core.specs.shell_session.Shells.{FoundOnBanks};
 ghost use Rattle.node_core.specs.NodeStates.{IsOpen};
 ghost use Rattle.node_core.specs.NodeStates as states;
 ghost use Rattle.node_core.specs.Nodes.{node_banks};
-ghost use Rattle.node_model.specs.Events.{log_with};
+ghost use Rattle.node_core.specs.node_model.Events.{log_with};
 ghost use Rattle.node_run.specs.Words.{AreWords};
 ghost use Rattle.node_run.specs.declared.node.NodeWords.{NodeWords};
 ghost use Rattle.node_run.specs.ServiceStatuses.{service_status, damaged_of, IsOfTurns, CountsWire};
@@ -18,8 +18,8 @@ ghost use Rattle.node_run.specs.ServiceUnderWay.{Sends, SendsFront, DoesTurn, St
 
 use crate::stops::{NodeRan, NodeStop, end_run, event_stop, wire_stop};
 use mld_io::{Banks, Event, IoFault, Wire};
+use node_core::node_model::{Sent, node_steps_lead};
 use node_core::{Node, NodeState};
-use node_model::{Sent, node_steps_lead};
 use std::alloc::Global;
 use std::thread::Threads;
 

@@ -1,8 +1,8 @@
 //! Generated schedules: the lines that a seed gives, and the counts of a run of them.
 use crate::replays::{Given, Odd, banks, ended, replay, words};
 use mld_io::{MemorySink, MemorySource, Piece};
+use mld_replay::net_world::{CloneSummary, Summary};
 use mld_replay::run::run;
-use net_world::{CloneSummary, Summary};
 use schedule_generator::{generate, text_of};
 use std::alloc::{AllocError, Global};
 use std::test::Fail;

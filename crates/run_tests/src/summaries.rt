@@ -2,8 +2,8 @@
 use crate::replays::{Odd, banks, ended, replay, words};
 use mld_io::{MemorySink, MemorySource};
 use mld_ops::Tagged;
+use mld_replay::net_world::{CloneSummary, State, Summary};
 use mld_replay::run::{RunFault, run};
-use net_world::{CloneSummary, State, Summary};
 use std::alloc::{AllocError, Global};
 use std::test::Fail;
 use std::thread::Threads;

@@ -1,5 +1,5 @@
 //! Clones that know the same dots have the same pairs.
-use net_world::{CloneSummary, State, Summary};
+use mld_replay::net_world::{CloneSummary, State, Summary};
 
 /// Two clones aren't both live, know different dots, or have the same pairs.
 fn agree(one: &CloneSummary, other: &CloneSummary) -> bool {

@@ -1,3 +1,4 @@
+pub use Rattle.jrql_update.proofs.of_jrql_patterns as of_jrql_patterns
 pub mod LackingLaws
 mod PlansRead
 pub mod PlanLaws

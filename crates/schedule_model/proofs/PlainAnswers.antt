@@ -39,7 +39,7 @@ use Rattle.schedule_model.specs.Updating.{UpdatesByPlan, AddsTriple}
 use Rattle.schedule_model.proofs.PlanLaws.{insertion_effect, deletion_effect, if_planned}
 use Rattle.schedule_model.proofs.StepLaws.{one_next_tick}
 use Rattle.schedule_model.proofs.PlainSound.{lists_same, queries_same, weighs_same}
-use Rattle.jrql_patterns.specs.declared.queries.ReadQuery.{ReadQuery}
+use Rattle.jrql_update.specs.jrql_patterns.declared.queries.ReadQuery.{ReadQuery}
 use Rattle.schedule_model.specs.Querying.{AnswersQuery, Queries}
 use Rattle.schedule_model.specs.Answers.{Remembers, RemembersUpdate, TellsOfDot, Survives}
 

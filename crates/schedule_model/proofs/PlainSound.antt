@@ -16,7 +16,7 @@ use Rattle.mld_model.specs.World.{World, Message, RangeOf, Want, SnapshotOf, Joi
 use Rattle.mld_model.specs.Reply.{Reply, NoMessage}
 use Rattle.mld_model.specs.CloneStep.{Answers, Updates, changes_nothing, breaks_single, makes_operation, holds_already, holds_too_many, holds_from_now, TakesRange, knows_already, accepts, holds_back, Asks, Joins, TakesAsk, asked_itself, is_too_deep, forks, TakesLeaf, becomes_live, leaves_it, AskerTakes, LiveTakes, Takes, Stops, Reopens, Lists, ComparesWith, Weighs, TakesWant, lacks_nothing, sends_ranges, sends_snapshot, TakesSnapshot, knows_all, merges, Wants, Compacts, Truncates}
 use Rattle.mld_model.proofs.StateLaws.{by_state, if_live, if_opens}
-use Rattle.jrql_patterns.specs.declared.queries.ReadQuery.{ReadQuery}
+use Rattle.jrql_update.specs.jrql_patterns.declared.queries.ReadQuery.{ReadQuery}
 use Rattle.schedule_model.specs.Querying.{Queries}
 use Rattle.schedule_model.specs.Updating.{UpdatesByPlan}
 use Rattle.schedule_model.specs.Step.{HasCloneNumbers}

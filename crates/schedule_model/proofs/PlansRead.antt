@@ -3,8 +3,8 @@ use Rattle.std.specs.Prelude.{◌≡◌, ℕ, List, Result, Ok}
 use Rattle.jrql_ast.specs.InForm.{IsPlanInForm}
 use Rattle.jrql_ast.specs.declared.plans.UpdatePlan.{UpdatePlan}
 use Rattle.jsonld_context.specs.declared.faults.JsonFault.{JsonFault}
-use Rattle.jsonld_subjects.proofs.KeptNames.{followed_is}
-use Rattle.jrql_patterns.specs.QueryReading.{json_of}
+use Rattle.jrql_update.proofs.of_jsonld_subjects.KeptNames.{followed_is}
+use Rattle.jrql_update.specs.jrql_patterns.QueryReading.{json_of}
 use Rattle.jrql_update.specs.UpdateReading.{update_said, update_read}
 use Rattle.jrql_update.proofs.KeptUpdates.{ok_in_form}
 

@@ -6,7 +6,7 @@ use Rattle.mld_ops.specs.declared.tagged.Tagged.{Tagged}
 use Rattle.mld_ops.specs.Present.{present}
 use Rattle.mld_ops.proofs.MeaningLaws.{one_meaning, same_known}
 use Rattle.jrql_ast.specs.declared.answers.Answer.{Answer}
-use Rattle.jrql_patterns.specs.declared.queries.ReadQuery.{ReadQuery}
+use Rattle.jrql_update.specs.jrql_patterns.declared.queries.ReadQuery.{ReadQuery}
 use Rattle.jrql_reply.specs.AnswerText.{SpellsAnswer}
 use Rattle.mld_model.specs.Clone.{Clone, known_of}
 use Rattle.mld_model.specs.Reply.{Reply, Tells, TooMany}

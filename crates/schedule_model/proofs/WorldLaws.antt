@@ -29,7 +29,7 @@ use Rattle.mld_ops.specs.Present.{present}
 use Rattle.jrql_ast.specs.declared.plans.UpdatePlan.{UpdatePlan}
 use Rattle.jrql_ast.specs.Templates.{insertion_of, deletion_of}
 use Rattle.jrql_eval.specs.PlanEffects.{IsPlanEffect, HasTooMany}
-use Rattle.jrql_patterns.specs.declared.queries.ReadQuery.{ReadQuery}
+use Rattle.jrql_update.specs.jrql_patterns.declared.queries.ReadQuery.{ReadQuery}
 use Rattle.schedule_model.specs.Updating.{UpdatesByPlan}
 use Rattle.schedule_model.specs.Querying.{AnswersQuery}
 use Rattle.schedule_model.specs.Step.{Step, number_of_clone}

@@ -1,3 +1,4 @@
+pub use Rattle.jrql_update.specs.jrql_patterns as jrql_patterns
 pub mod Characters
 pub mod ReplyText
 pub mod Querying

@@ -5,7 +5,7 @@ use Rattle.tree_clock.specs.declared.dots.Dot.{Dot}
 use Rattle.tree_clock.specs.declared.dots.Range.{Range}
 use Rattle.mld_ops.specs.declared.tagged.Tagged.{Tagged}
 use Rattle.mld_ops.specs.Meaning.{IsMeaning}
-use Rattle.jrql_patterns.specs.declared.queries.ReadQuery.{ReadQuery}
+use Rattle.jrql_update.specs.jrql_patterns.declared.queries.ReadQuery.{ReadQuery}
 use Rattle.schedule_model.specs.declared.Command.TheVariants.{Query}
 use Rattle.schedule_model.specs.Answers.{IsAnswered, Survives}
 use Rattle.schedule_model.specs.Step.{Step}

@@ -7,7 +7,7 @@ use Rattle.mld_ops.specs.Meaning.{IsMeaning}
 use Rattle.mld_ops.specs.Present.{present}
 use Rattle.jrql_ast.specs.declared.answers.Answer.{Answer}
 use Rattle.jrql_ast.specs.QueryAnswers.{solution_limit, found, IsAnswer}
-use Rattle.jrql_patterns.specs.declared.queries.ReadQuery.{ReadQuery}
+use Rattle.jrql_update.specs.jrql_patterns.declared.queries.ReadQuery.{ReadQuery}
 use Rattle.jrql_reply.specs.AnswerText.{SpellsAnswer}
 use Rattle.mld_model.specs.Clone.{Clone, known_of}
 use Rattle.mld_model.specs.CloneStep.{IfLive}

@@ -8,8 +8,8 @@ use Rattle.text_rules.specs.Domain.{is_domain}
 use Rattle.rdf_terms.specs.Grammar.{SpellsTriple, IsTripleWithin, IsIriText}
 use Rattle.jrql_ast.specs.declared.plans.UpdatePlan.{UpdatePlan}
 use Rattle.jrql_update.specs.UpdateReading.{update_read}
-use Rattle.jrql_patterns.specs.QueryReading.{query_read}
-use Rattle.jrql_patterns.specs.declared.queries.ReadQuery.{ReadQuery}
+use Rattle.jrql_update.specs.jrql_patterns.QueryReading.{query_read}
+use Rattle.jrql_update.specs.jrql_patterns.declared.queries.ReadQuery.{ReadQuery}
 use Rattle.schedule_model.specs.Characters.{space, hash_mark}
 use Rattle.mld_ops.specs.Properties.{AreKept}
 use Rattle.mld_model.specs.World.{clone_count}

@@ -3,7 +3,7 @@ use Rattle.std.proofs.Common.{◌≡◌, ◌≢◌, ◌↔◌, ℕ, ◌<◌, Lis
 use Rattle.std.specs.Fmt.{decimal}
 use Rattle.std.specs.declared.result.Result.{Result}
 use Rattle.std.specs.declared.result.Result.TheVariants.{Ok, Err}
-use Rattle.jrql_patterns.specs.declared.queries.ReadQuery.{ReadQuery}
+use Rattle.schedule_model.specs.jrql_patterns.declared.queries.ReadQuery.{ReadQuery}
 use Rattle.mld_model.specs.World.{clone_count}
 use Rattle.schedule_model.specs.Characters.{space}
 use Rattle.schedule_model.specs.declared.Command.{Command}

@@ -2,16 +2,16 @@
 ghost use Rattle.std.specs.Prelude.{◌≢◌, IsTrue, IfOk, OnOk, MatchOption};
 ghost use Rattle.text_rules.specs.Domain.{is_domain};
 ghost use Rattle.jrql_ast.specs.InForm.{IsQueryInForm};
-ghost use Rattle.jrql_patterns.specs.declared.queries.ReadQuery.{ReadQuery};
+ghost use Rattle.schedule_model.specs.jrql_patterns.declared.queries.ReadQuery.{ReadQuery};
 ghost use Rattle.jsonld_context.specs.declared.faults.JsonFault.TheVariants as faults;
 ghost use Rattle.schedule_model.specs.declared.Command.{Command};
 ghost use Rattle.schedule_text.specs.ReadLines.{Finds, IsQueryText, IsQueryRest, IsFoundInForm};
 
 use crate::numbers::read_clone;
 use crate::words::split_at_space;
-use jrql_patterns::{ReadQuery, read_query};
 use jsonld_context::JsonFault;
 use schedule_model::Command;
+use schedule_model::jrql_patterns::{ReadQuery, read_query};
 use std::alloc::{AllocError, Global};
 
 /// What follows `query` and a space, in the domain of this name: a clone's number, a space, and a JSON text that is a query.

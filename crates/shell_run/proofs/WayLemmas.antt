@@ -7,8 +7,8 @@ use Rattle.mld_io.specs.Disk.{Log, Call, Sides, seen, grown_by, MayLeave, Leaves
 use Rattle.mld_io.proofs.DiskLaws.{AtEachMoment-weaken, AtEachMoment-last, LeavesMeanwhile-then}
 use Rattle.mld_io.specs.Lines.{lines_of, after_line, IsCutShort}
 use Rattle.mld_io.proofs.LinesLaws.{first_of_lines_lem}
-use Rattle.journal_sides.specs.Pairs.{read_banks}
-use Rattle.clone_parts.specs.KeptSteps.{KeptStep}
+use Rattle.shell_session.specs.journal_sides.Pairs.{read_banks}
+use Rattle.shell_session.specs.clone_parts.KeptSteps.{KeptStep}
 use Rattle.input_lines.specs.TooLarge.{left_after, BreaksLimits, IsTooLargeLine}
 use Rattle.input_lines.specs.Taken.{TakesLine, IsLeft, KnowsEnd, ReadsLines}
 use Rattle.input_lines.proofs.TakenLemmas.{left_first, taken_left, taken_fit, all_fit, large_next}

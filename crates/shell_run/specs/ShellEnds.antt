@@ -4,7 +4,7 @@ use Rattle.std.specs.Prelude.{◌≡◌, ◌⊎◌, ℕ, List, [], ◌++◌, tak
 use Rattle.std.specs.Io.KnownBytes.{Appends}
 use Rattle.mld_io.specs.Disk.{Log}
 use Rattle.input_lines.specs.Untouched.{HasNotBegun}
-use Rattle.clone_parts.specs.KeptSteps.{KeptStep}
+use Rattle.shell_session.specs.clone_parts.KeptSteps.{KeptStep}
 use Rattle.shell_session.specs.Shells.{Shell, Shut, FoundOnBanks, found_of}
 use Rattle.shell_session.specs.ShellRuns.{ShellLine, ShellRuns, IsDueByLine}
 use Rattle.shell_session.specs.Sessions.{HasFound}

@@ -10,12 +10,12 @@ use Rattle.rdf_terms.specs.Order.{iri_cmp}
 use Rattle.mld_ops.specs.Properties.{AreKept}
 use Rattle.mld_ops.proofs.AscendingLaws.{same_ascending}
 use Rattle.mld_ops.proofs.PropertiesLaws.{iri_total, iri_exact}
-use Rattle.journal_sides.specs.Pairs.{KeepsNone, read_banks}
-use Rattle.journal_store.specs.Closing.{StaysTold}
-use Rattle.journal_store.proofs.ClosingLaws.{told_same}
-use Rattle.journal_store.specs.Crashes.{LeavesNothingNew}
-use Rattle.journal_store.specs.Mounting.{IsSynced}
-use Rattle.journal_store.specs.declared.faults.MountFault.{MountFault}
+use Rattle.clone_core.specs.journal_sides.Pairs.{KeepsNone, read_banks}
+use Rattle.clone_core.specs.journal_store.Closing.{StaysTold}
+use Rattle.clone_core.proofs.of_journal_store.ClosingLaws.{told_same}
+use Rattle.clone_core.specs.journal_store.Crashes.{LeavesNothingNew}
+use Rattle.clone_core.specs.journal_store.Mounting.{IsSynced}
+use Rattle.clone_core.specs.journal_store.declared.faults.MountFault.{MountFault}
 use Rattle.clone_core.specs.Opening.{TellsClone, SyncsBoth}
 use Rattle.clone_core.specs.declared.mounts.Mounted.TheVariants.{Refused}
 use Rattle.shell_session.specs.declared.commands.ShellCommand.{ShellCommand}

@@ -12,13 +12,13 @@ use Rattle.op_fusion.proofs.Runs.{fused_runs_are_compacted}
 use Rattle.jrql_ast.specs.declared.plans.UpdatePlan.{UpdatePlan}
 use Rattle.mld_model.specs.Local.{LocalClone, next_dot, LocallyCompacts, LocallyTruncates}
 use Rattle.mld_model.specs.Reply.{NoOperation, Single, TooMany, Kept}
-use Rattle.clone_parts.specs.KeptSteps.{KeptStep, Appended, Swapped}
-use Rattle.clone_parts.specs.declared.answers.Done.{Done}
-use Rattle.clone_parts.specs.declared.answers.Done.TheVariants as done
-use Rattle.clone_parts.specs.declared.faults.KeepFault.{KeepFault}
-use Rattle.clone_parts.specs.declared.faults.KeepFault.TheVariants as keep
-use Rattle.clone_parts.specs.declared.faults.UpdateFault.{UpdateFault}
-use Rattle.clone_parts.specs.declared.faults.UpdateFault.TheVariants as update
+use Rattle.clone_core.specs.clone_parts.KeptSteps.{KeptStep, Appended, Swapped}
+use Rattle.clone_core.specs.clone_parts.declared.answers.Done.{Done}
+use Rattle.clone_core.specs.clone_parts.declared.answers.Done.TheVariants as done
+use Rattle.clone_core.specs.clone_parts.declared.faults.KeepFault.{KeepFault}
+use Rattle.clone_core.specs.clone_parts.declared.faults.KeepFault.TheVariants as keep
+use Rattle.clone_core.specs.clone_parts.declared.faults.UpdateFault.{UpdateFault}
+use Rattle.clone_core.specs.clone_parts.declared.faults.UpdateFault.TheVariants as update
 use Rattle.clone_core.specs.Banked.{BankedClone, head_of}
 use Rattle.clone_core.specs.CloneClosing.{LeavesClone, StaysOpen, update_stop, keep_stop}
 use Rattle.clone_core.specs.CloneUpdates.{LocallyUpdatesBy, RefusesUpdate, IsDueUpdate}

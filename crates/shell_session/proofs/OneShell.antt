@@ -6,7 +6,7 @@ use Rattle.rdf_terms.proofs.Complete.{one_spelled}
 use Rattle.rdf_terms.specs.Grammar.{SpellsTriple}
 use Rattle.rdf_terms.specs.declared.terms.Triple.{Triple}
 use Rattle.jrql_ast.specs.declared.plans.UpdatePlan.{UpdatePlan}
-use Rattle.jrql_patterns.specs.declared.queries.ReadQuery.{ReadQuery}
+use Rattle.schedule_model.specs.jrql_patterns.declared.queries.ReadQuery.{ReadQuery}
 use Rattle.schedule_model.specs.Characters.{space, hash_mark}
 use Rattle.schedule_model.specs.Schedule.{IsNothing, empty, comment}
 use Rattle.schedule_model.proofs.LackingLaws.{apart}

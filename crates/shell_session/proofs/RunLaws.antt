@@ -1,11 +1,11 @@
 -- What is found on the banks of a shell after a step, a line and a run.
 use Rattle.std.proofs.Common.{◌≡◌, ℕ, ◌+◌, List, [], ◌∷◌, ◌++◌, refl, sym, ◌∙◌, ap, subst}
 use Rattle.mld_ops.specs.Entry.{EntryValue}
-use Rattle.journal_sides.specs.Heads.{HeadValue}
+use Rattle.clone_core.specs.journal_sides.Heads.{HeadValue}
 use Rattle.jrql_ast.specs.declared.plans.UpdatePlan.{UpdatePlan}
 use Rattle.mld_model.specs.Local.{LocalClone, IsSameClone}
 use Rattle.mld_model.specs.Reply.{Reply}
-use Rattle.clone_parts.specs.KeptSteps.{KeptStep, Created, Appended, Swapped}
+use Rattle.clone_core.specs.clone_parts.KeptSteps.{KeptStep, Created, Appended, Swapped}
 use Rattle.clone_core.specs.Banked.{head_of}
 use Rattle.jrql_ast.specs.Templates.{insertion_of, deletion_of}
 use Rattle.shell_session.specs.declared.commands.ShellCommand.{ShellCommand}

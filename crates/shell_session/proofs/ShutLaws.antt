@@ -3,12 +3,12 @@ use Rattle.std.proofs.Common.{◌≡◌, ℕ, List, [], ◌∷◌, ◌++◌, Opt
 use Rattle.mld_io.specs.Arm.{Meter}
 use Rattle.mld_io.specs.Disk.{Log, Sides, seen}
 use Rattle.mld_io.specs.declared.banks.Side.{Side}
-use Rattle.journal_sides.specs.Pairs.{PairReading, KeepsNone, Keeps, Damages, read_banks}
-use Rattle.journal_store.specs.Crashes.{LeavesNothingNew}
-use Rattle.journal_store.specs.Mounting.{IsSynced}
+use Rattle.clone_core.specs.journal_sides.Pairs.{PairReading, KeepsNone, Keeps, Damages, read_banks}
+use Rattle.clone_core.specs.journal_store.Crashes.{LeavesNothingNew}
+use Rattle.clone_core.specs.journal_store.Mounting.{IsSynced}
 use Rattle.mld_model.specs.Local.{LocalClone}
 use Rattle.mld_model.specs.Reply.{Opened}
-use Rattle.clone_parts.specs.KeptSteps.{KeptStep, Created}
+use Rattle.clone_core.specs.clone_parts.KeptSteps.{KeptStep, Created}
 use Rattle.clone_core.specs.Banked.{BankedClone, KeepsClone, head_of, kept_as}
 use Rattle.clone_core.specs.DurableCalls.{Creates}
 use Rattle.clone_core.specs.Opening.{IsFoundAs, RunsAgain}

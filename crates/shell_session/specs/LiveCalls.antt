@@ -3,11 +3,11 @@ use Rattle.std.specs.Prelude.{◌≡◌, ◌⊎◌, ℕ, List, [], ◌++◌, Opt
 use Rattle.mld_io.specs.Arm.{Meter}
 use Rattle.mld_io.specs.Disk.{Log}
 use Rattle.mld_ops.specs.Present.{present}
-use Rattle.jrql_patterns.specs.declared.queries.ReadQuery.{ReadQuery}
+use Rattle.schedule_model.specs.jrql_patterns.declared.queries.ReadQuery.{ReadQuery}
 use Rattle.mld_model.specs.Local.{LocalClone}
 use Rattle.mld_model.specs.Reply.{Reply}
 use Rattle.schedule_model.specs.Querying.{AnswersQuery}
-use Rattle.clone_parts.specs.KeptSteps.{KeptStep}
+use Rattle.clone_core.specs.clone_parts.KeptSteps.{KeptStep}
 use Rattle.clone_core.specs.Banked.{BankedClone}
 use Rattle.clone_core.specs.DurableCalls.{LeavesFronts}
 use Rattle.shell_session.specs.Shells.{generation_after}

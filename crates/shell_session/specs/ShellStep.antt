@@ -10,13 +10,13 @@ use Rattle.op_fusion.specs.Compacting.{HasNeighbours}
 use Rattle.jrql_ast.specs.declared.plans.UpdatePlan.{UpdatePlan}
 use Rattle.jrql_ast.specs.Templates.{insertion_of, deletion_of}
 use Rattle.jrql_eval.specs.PlanEffects.{HasTooMany}
-use Rattle.jrql_patterns.specs.declared.queries.ReadQuery.{ReadQuery}
-use Rattle.journal_sides.specs.Heads.{HeadValue}
+use Rattle.schedule_model.specs.jrql_patterns.declared.queries.ReadQuery.{ReadQuery}
+use Rattle.clone_core.specs.journal_sides.Heads.{HeadValue}
 use Rattle.mld_model.specs.Local.{LocalClone, IsLocal, blank_clone, next_dot, LocallyCompacts, LocallyTruncates}
 use Rattle.mld_model.specs.Reply.{Reply, NoOperation, Single, TooMany, Shows, Kept, IsLive, Stopped, Opened}
 use Rattle.schedule_model.specs.Querying.{AnswersQuery}
-use Rattle.clone_parts.specs.KeptSteps.{KeptStep, Created, Appended, Swapped}
-use Rattle.clone_parts.specs.declared.answers.Done.TheVariants as done
+use Rattle.clone_core.specs.clone_parts.KeptSteps.{KeptStep, Created, Appended, Swapped}
+use Rattle.clone_core.specs.clone_parts.declared.answers.Done.TheVariants as done
 use Rattle.clone_core.specs.Banked.{head_of}
 use Rattle.clone_core.specs.CloneUpdates.{LocallyUpdatesBy, BreaksSingle, HasEffect, IsMakeable}
 use Rattle.clone_core.specs.DurableCalls.{SwapsTo}

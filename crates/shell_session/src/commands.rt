@@ -1,8 +1,8 @@
 //! What a line of the shell asks for.
 
 use jrql_ast::UpdatePlan;
-use jrql_patterns::ReadQuery;
 use rdf_terms::{Iri, Triple};
+use schedule_model::jrql_patterns::ReadQuery;
 use text_rules::Text;
 use uuid::Uuid;
 

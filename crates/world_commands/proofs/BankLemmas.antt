@@ -6,8 +6,8 @@ use Rattle.std.proofs.lemmas.List.{map-set, length-set}
 use Rattle.std.proofs.lemmas.Option.{slice_get-map}
 use Rattle.mld_io.specs.Arm.{Arm, Meter, Metered, LowersAtMost}
 use Rattle.mld_io.specs.Disk.{Log}
-use Rattle.journal_store.specs.declared.faults.MakeFault.{MakeFault}
-use Rattle.journal_store.specs.declared.faults.MakeFault.TheVariants as make
+use Rattle.clone_core.specs.journal_store.declared.faults.MakeFault.{MakeFault}
+use Rattle.clone_core.specs.journal_store.declared.faults.MakeFault.TheVariants as make
 use Rattle.mld_model.specs.declared.CloneState.TheVariants as states
 use Rattle.mld_model.specs.Clone.{Clone, Stored, kept_of}
 use Rattle.mld_model.specs.Clone as model

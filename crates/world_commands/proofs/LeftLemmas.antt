@@ -3,10 +3,10 @@ use Rattle.std.proofs.Common.{◌≡◌, ◌≢◌, ◌⊎◌, ℕ, zero, suc, �
 use Rattle.std.specs.Prelude.{slice_get}
 use Rattle.mld_io.specs.Arm.{Meter, Metered}
 use Rattle.mld_io.specs.Disk.{Log}
-use Rattle.journal_store.specs.Crashes.{LeavesNothingNew}
-use Rattle.journal_store.specs.declared.faults.MountFault.TheVariants as mount
-use Rattle.journal_store.specs.declared.faults.Why.{Why}
-use Rattle.journal_store.specs.declared.faults.Why.TheVariants as why
+use Rattle.clone_core.specs.journal_store.Crashes.{LeavesNothingNew}
+use Rattle.clone_core.specs.journal_store.declared.faults.MountFault.TheVariants as mount
+use Rattle.clone_core.specs.journal_store.declared.faults.Why.{Why}
+use Rattle.clone_core.specs.journal_store.declared.faults.Why.TheVariants as why
 use Rattle.jrql_ast.specs.declared.plans.UpdatePlan.{UpdatePlan}
 use Rattle.mld_ops.specs.declared.messages.Give.{Give}
 use Rattle.mld_ops.specs.declared.messages.Message.{Message}
@@ -16,7 +16,7 @@ use Rattle.mld_model.specs.Local.{LocalAsker, LocalClone, joined_clone}
 use Rattle.mld_model.specs.StandsFor.{RunningClone}
 use Rattle.mld_model.specs.World.{numbered}
 use Rattle.mld_model.specs.declared.CloneState.TheVariants as states
-use Rattle.clone_parts.specs.KeptSteps.{KeptStep}
+use Rattle.clone_core.specs.clone_parts.KeptSteps.{KeptStep}
 use Rattle.clone_core.specs.Banked.{BankedAsker, BankedClone, head_of}
 use Rattle.clone_core.specs.CloneCalls.{LocallyReceives, Refuses}
 use Rattle.clone_core.specs.CloneClosing.{LeavesClone, update_stop, receive_stop, keep_stop}
@@ -30,16 +30,16 @@ use Rattle.clone_core.specs.declared.askers.Adopted.{Adopted}
 use Rattle.clone_core.specs.declared.askers.Adopted.TheVariants as adopted
 use Rattle.clone_core.specs.declared.mounts.Mounted.{Mounted}
 use Rattle.clone_core.specs.declared.mounts.Mounted.TheVariants as mounted
-use Rattle.clone_parts.specs.declared.answers.Done.{Done}
-use Rattle.clone_parts.specs.declared.answers.Done.TheVariants as done
-use Rattle.clone_parts.specs.declared.answers.Got.{Got}
-use Rattle.clone_parts.specs.declared.answers.Got.TheVariants as got
-use Rattle.clone_parts.specs.declared.faults.KeepFault.{KeepFault}
-use Rattle.clone_parts.specs.declared.faults.KeepFault.TheVariants as keep
-use Rattle.clone_parts.specs.declared.faults.ReceiveFault.{ReceiveFault}
-use Rattle.clone_parts.specs.declared.faults.ReceiveFault.TheVariants as receive
-use Rattle.clone_parts.specs.declared.faults.UpdateFault.{UpdateFault}
-use Rattle.clone_parts.specs.declared.faults.UpdateFault.TheVariants as update
+use Rattle.clone_core.specs.clone_parts.declared.answers.Done.{Done}
+use Rattle.clone_core.specs.clone_parts.declared.answers.Done.TheVariants as done
+use Rattle.clone_core.specs.clone_parts.declared.answers.Got.{Got}
+use Rattle.clone_core.specs.clone_parts.declared.answers.Got.TheVariants as got
+use Rattle.clone_core.specs.clone_parts.declared.faults.KeepFault.{KeepFault}
+use Rattle.clone_core.specs.clone_parts.declared.faults.KeepFault.TheVariants as keep
+use Rattle.clone_core.specs.clone_parts.declared.faults.ReceiveFault.{ReceiveFault}
+use Rattle.clone_core.specs.clone_parts.declared.faults.ReceiveFault.TheVariants as receive
+use Rattle.clone_core.specs.clone_parts.declared.faults.UpdateFault.{UpdateFault}
+use Rattle.clone_core.specs.clone_parts.declared.faults.UpdateFault.TheVariants as update
 use Rattle.crash_laws.specs.Deeds.{HasLeafToGive}
 use Rattle.crash_laws.proofs.ToldDeeds.{may_give}
 use Rattle.schedule_replies.specs.declared.replies.Reply.{Reply}

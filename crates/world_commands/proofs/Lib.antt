@@ -1,3 +1,5 @@
+pub use Rattle.schedule_replies.proofs as of_schedule_replies
+pub use Rattle.crash_laws.proofs as of_crash_laws
 pub mod Places
 pub mod BankLemmas
 pub mod WorldLemmas

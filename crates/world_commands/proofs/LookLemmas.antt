@@ -9,7 +9,7 @@ use Rattle.mld_model.specs.Reply.{Reply, Shows}
 use Rattle.mld_model.specs.Local.{LocalClone}
 use Rattle.mld_model.specs.StandsFor.{RunningWorld}
 use Rattle.mld_ops.specs.Present.{present}
-use Rattle.jrql_patterns.specs.declared.queries.ReadQuery.{ReadQuery}
+use Rattle.schedule_model.specs.jrql_patterns.declared.queries.ReadQuery.{ReadQuery}
 use Rattle.schedule_model.specs.Querying.{AnswersQuery}
 use Rattle.schedule_model.specs.declared.Command.{Command}
 use Rattle.schedule_model.specs.declared.Command.TheVariants.{Show, Query, Compare}

@@ -10,9 +10,9 @@ use Rattle.mld_ops.specs.History.{Operation}
 use Rattle.mld_ops.specs.Messages.{message_value}
 use Rattle.mld_ops.specs.declared.messages.Message.{Message}
 use Rattle.tree_clock.specs.declared.dots.Range.{Range}
-use Rattle.journal_sides.specs.Pairs.{Kept, Damages, read_banks}
-use Rattle.journal_store.specs.Standing.{KeepsJust}
-use Rattle.journal_store.specs.declared.faults.MountFault.TheVariants as mount
+use Rattle.clone_core.specs.journal_sides.Pairs.{Kept, Damages, read_banks}
+use Rattle.clone_core.specs.journal_store.Standing.{KeepsJust}
+use Rattle.clone_core.specs.journal_store.declared.faults.MountFault.TheVariants as mount
 use Rattle.mld_model.specs.declared.CloneState.TheVariants as states
 use Rattle.mld_model.specs.Clone.{Clone, Stored, kept_of}
 use Rattle.mld_model.specs.Clone as model

@@ -13,8 +13,8 @@ use Rattle.clone_core.specs.CloneCalls.{LocallyReceives, Refuses}
 use Rattle.clone_core.specs.Joining.{IsGiveFor, GivesNone}
 use Rattle.clone_core.specs.declared.askers.Adopted.{Adopted}
 use Rattle.clone_core.specs.declared.askers.Adopted.TheVariants as adopted
-use Rattle.clone_parts.specs.declared.answers.Got.TheVariants as got
-use Rattle.clone_parts.specs.declared.faults.ReceiveFault.TheVariants as fault
+use Rattle.clone_core.specs.clone_parts.declared.answers.Got.TheVariants as got
+use Rattle.clone_core.specs.clone_parts.declared.faults.ReceiveFault.TheVariants as fault
 use Rattle.world_commands.specs.declared.deliver.Received.{Received}
 use Rattle.world_commands.specs.declared.deliver.Received.TheVariants as received
 use Rattle.world_commands.specs.declared.faults.WorldFault.{WorldFault}

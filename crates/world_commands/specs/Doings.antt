@@ -14,10 +14,10 @@ use Rattle.mld_model.specs.Local.{LocalAsker, LocalClone, LocallyCompacts, Local
 use Rattle.mld_model.specs.StandsFor.{RunningClone}
 use Rattle.mld_model.specs.World.{numbered}
 use Rattle.mld_model.specs.declared.CloneState.TheVariants as states
-use Rattle.clone_parts.specs.KeptSteps.{KeptStep, Appended}
-use Rattle.clone_parts.specs.declared.answers.Done.TheVariants as done
-use Rattle.clone_parts.specs.declared.answers.Got.{Got}
-use Rattle.clone_parts.specs.declared.faults.ReceiveFault.TheVariants as fault
+use Rattle.clone_core.specs.clone_parts.KeptSteps.{KeptStep, Appended}
+use Rattle.clone_core.specs.clone_parts.declared.answers.Done.TheVariants as done
+use Rattle.clone_core.specs.clone_parts.declared.answers.Got.{Got}
+use Rattle.clone_core.specs.clone_parts.declared.faults.ReceiveFault.TheVariants as fault
 use Rattle.clone_core.specs.CloneCalls.{LocallyReceives, Refuses}
 use Rattle.clone_core.specs.CloneUpdates.{IsDueUpdate, LocallyUpdatesBy, BreaksSingle}
 use Rattle.clone_core.specs.DurableCalls.{ReceivedSteps, WouldReceive, SwapsTo}

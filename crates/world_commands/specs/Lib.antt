@@ -1,3 +1,5 @@
+pub use Rattle.schedule_replies.specs as schedule_replies
+pub use Rattle.crash_laws.specs as crash_laws
 pub mod States
 pub mod WorldBanks
 pub mod OneCall

@@ -2,8 +2,8 @@
 use Rattle.std.specs.Prelude.{◌≡◌, ◌≢◌, ℕ, List, Option, Some, Result, Ok, Err}
 use Rattle.mld_io.specs.Disk.{Log, seen}
 use Rattle.mld_io.specs.declared.banks.Side.{Side}
-use Rattle.journal_sides.specs.Pairs.{KeepsNone, Damages, read_banks}
-use Rattle.journal_store.specs.declared.faults.MountFault.TheVariants as mount
+use Rattle.clone_core.specs.journal_sides.Pairs.{KeepsNone, Damages, read_banks}
+use Rattle.clone_core.specs.journal_store.declared.faults.MountFault.TheVariants as mount
 use Rattle.mld_model.specs.declared.CloneState.TheVariants as states
 use Rattle.clone_core.specs.Banked.{BankedAsker, BankedClone}
 use Rattle.clone_core.specs.Opening.{IsFoundAs, RunsAgain}

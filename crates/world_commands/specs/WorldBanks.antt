@@ -3,8 +3,8 @@ use Rattle.std.specs.Prelude.{◌≡◌, ◌≢◌, ◌+◌, ◌≤◌, ◌⊎�
 use Rattle.mld_io.specs.Arm.{Meter, Unarmed, Caught}
 use Rattle.mld_io.specs.Disk.{Log}
 use Rattle.mld_io.specs.Faults.{counted}
-use Rattle.journal_sides.specs.Pairs.{Kept}
-use Rattle.journal_store.specs.Standing.{KeepsJust, KeepsNothing}
+use Rattle.clone_core.specs.journal_sides.Pairs.{Kept}
+use Rattle.clone_core.specs.journal_store.Standing.{KeepsJust, KeepsNothing}
 use Rattle.mld_ops.specs.Messages.{MessageValue}
 use Rattle.mld_model.specs.Clone.{Stored, kept_of}
 use Rattle.mld_model.specs.StandsFor.{RunningClone, RunningWorld, StandsFor, StoredStandsFor, id_of}

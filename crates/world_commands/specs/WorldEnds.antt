@@ -1,7 +1,7 @@
 -- The end of a world: its clones stop, and their banks keep them. `stop_all` cites it.
 use Rattle.std.specs.Prelude.{◌≡◌, List, Option, Some, None}
 use Rattle.mld_io.specs.Disk.{Log}
-use Rattle.journal_store.specs.Standing.{IsBlankLog}
+use Rattle.clone_core.specs.journal_store.Standing.{IsBlankLog}
 use Rattle.mld_model.specs.declared.CloneState.TheVariants as states
 use Rattle.tree_clock.specs.Lists.{Has}
 use Rattle.clone_core.specs.Banked.{KeepsClone}

@@ -1,7 +1,7 @@
 //! The commands `compact` and `truncate`: what a clone keeps of its journal.
 ghost use Rattle.std.specs.Prelude.{◌≡◌, ◌≢◌, ◌<◌, ◌^◌, ◌-◌, ℕ, length, vec_len, None, IfOk, IsOk, IsErrOf, OnOk};
 ghost use Rattle.mld_io.specs.Arm.{Metered};
-ghost use Rattle.journal_store.specs.declared.faults.Why.{Why};
+ghost use Rattle.clone_core.specs.journal_store.declared.faults.Why.{Why};
 ghost use Rattle.mld_model.specs.declared.CloneState.TheVariants as kinds;
 ghost use Rattle.world_commands.specs.KeptJournals.{keeping_command, KeepsBy, KeepsAs};
 ghost use Rattle.world_commands.specs.WorldBanks.{MeterGoesOn};

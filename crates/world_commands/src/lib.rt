@@ -15,6 +15,8 @@ pub mod show;
 mod states;
 pub mod stopping;
 
+pub use crash_laws;
 pub use faults::{WorldFault, made_fault};
 pub use parts::Parts;
+pub use schedule_replies;
 pub use states::{RunningClone, copy_named, id_of, new_asker, put_state, take_state};

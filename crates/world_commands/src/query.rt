@@ -11,8 +11,8 @@ use crate::faults::WorldFault;
 use crate::parts::Parts;
 use crate::states::live_at;
 use clone_core::MldClone;
-use jrql_patterns::ReadQuery;
 use mld_io::{Banks, CrashBanks};
+use schedule_model::jrql_patterns::ReadQuery;
 use schedule_replies::{Reply, reply_to_query};
 use std::alloc::Global;
 

@@ -1,6 +1,6 @@
 -- A fork is appended: what a crash leaves.
 use Rattle.std.proofs.Common.{refl}
-use Rattle.journal_sides.specs.Pairs.{Keeps}
+use Rattle.journal_store.specs.journal_sides.Pairs.{Keeps}
 use Rattle.journal_store.specs.Crashes.{gate_behind}
 use Rattle.clone_parts.specs.KeptSteps.{Forked}
 use Rattle.clone_parts.proofs.StepLaws.{some_one}

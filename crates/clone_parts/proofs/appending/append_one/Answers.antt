@@ -1,6 +1,6 @@
 -- An entry is appended behind calls that were done, or first: what a crash leaves, and what a refusal does.
 use Rattle.std.proofs.Common.{[], ◌∷◌, refl, sym, subst}
-use Rattle.journal_sides.specs.Pairs.{Keeps}
+use Rattle.journal_store.specs.journal_sides.Pairs.{Keeps}
 use Rattle.journal_store.specs.Crashes.{gate_behind}
 use Rattle.clone_parts.specs.KeptSteps.{Appended, LeavesSome}
 use Rattle.clone_parts.proofs.RefusedLaws.{refused_leaves}

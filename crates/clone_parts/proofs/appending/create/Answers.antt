@@ -1,8 +1,8 @@
 -- A journal is made, or isn't: what a crash leaves.
 use Rattle.std.proofs.Common.{◌≡◌, ◌∙◌, [], ◌∷◌, Some, refl, ap, subst, inl}
 use Rattle.mld_io.specs.declared.banks.Side.TheVariants.{A}
-use Rattle.journal_sides.specs.Heads.{head_value}
-use Rattle.journal_sides.specs.Pairs.{KeepsNone, read_banks}
+use Rattle.journal_store.specs.journal_sides.Heads.{head_value}
+use Rattle.journal_store.specs.journal_sides.Pairs.{KeepsNone, read_banks}
 use Rattle.journal_store.specs.Calls.{made_banks}
 use Rattle.journal_store.specs.Crashes.{first_gate}
 use Rattle.journal_store.proofs.ClosingLaws.{told_same}

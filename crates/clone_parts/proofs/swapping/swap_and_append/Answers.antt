@@ -2,8 +2,8 @@
 use Rattle.std.proofs.Common.{◌≡◌, ◌∙◌, ◌*◌, [], ◌∷◌, Option, length, true, false, refl, subst, inr}
 use Rattle.std.proofs.lemmas.Result.{err_from_is_err_and}
 use Rattle.mld_io.specs.Disk.{Log, other_side}
-use Rattle.journal_sides.specs.Heads.{head_value}
-use Rattle.journal_sides.specs.Pairs.{Keeps}
+use Rattle.journal_store.specs.journal_sides.Heads.{head_value}
+use Rattle.journal_store.specs.journal_sides.Pairs.{Keeps}
 use Rattle.journal_store.specs.Calls.{swapped}
 use Rattle.journal_store.specs.Crashes.{first_gate}
 use Rattle.journal_store.proofs.ClosingLaws.{called_then, told_then}

@@ -1,8 +1,8 @@
 -- What is kept is swapped: what may be written, and what a crash leaves.
 use Rattle.std.proofs.Common.{refl}
 use Rattle.mld_io.specs.Disk.{other_side}
-use Rattle.journal_sides.specs.Heads.{head_value}
-use Rattle.journal_sides.specs.Pairs.{Keeps}
+use Rattle.journal_store.specs.journal_sides.Heads.{head_value}
+use Rattle.journal_store.specs.journal_sides.Pairs.{Keeps}
 use Rattle.journal_store.specs.Crashes.{first_gate}
 use Rattle.clone_parts.specs.KeptSteps.{Swapped}
 use Rattle.clone_parts.proofs.StepLaws.{some_one}

@@ -1,6 +1,6 @@
 use Rattle.std.proofs.Common.{◌<◌, length, arith}
-use Rattle.jsonld_values.specs.Numbering.{numbered_filter}
-use Rattle.jsonld_values.proofs.Mapped.{more_changed}
+use Rattle.jsonld_subjects.specs.jsonld_values.Numbering.{numbered_filter}
+use Rattle.jsonld_subjects.proofs.of_jsonld_values.Mapped.{more_changed}
 use Rattle.jrql_patterns.proofs.open_groups.number_filters.Goals as goal
 
 pub loop-filter-preserved : goal.loop-filter-preserved

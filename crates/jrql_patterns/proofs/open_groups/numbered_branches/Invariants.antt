@@ -1,5 +1,5 @@
 use Rattle.std.proofs.Common.{◌≡◌, ◌++◌, map}
-use Rattle.jsonld_values.specs.Numbering.{numbered_triple}
+use Rattle.jsonld_subjects.specs.jsonld_values.Numbering.{numbered_triple}
 use Rattle.jrql_patterns.proofs.open_groups.numbered_branches.Given as goal
 
 abbrev pub invariant-loop-branch : goal.invariant-loop-branch

@@ -1,7 +1,7 @@
 use Rattle.std.proofs.Common.{◌∙◌, ap}
 use Rattle.serde_json.specs.Data.{Data, put}
 use Rattle.serde_json.specs.View.{members_view}
-use Rattle.jsonld_subjects.proofs.Putting.{put_inserted}
+use Rattle.jrql_patterns.proofs.of_jsonld_subjects.Putting.{put_inserted}
 use Rattle.jrql_reply.proofs.rows.put_term.Goals as goal
 
 pub returns : goal.returns

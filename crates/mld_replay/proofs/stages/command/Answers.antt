@@ -1,7 +1,7 @@
 use Rattle.schedule_model.specs.Runs.{Running}
 use Rattle.mld_replay.specs.declared.stages.Stage.TheVariants as stages
 use Rattle.mld_replay.proofs.StageLemmas.{commanded_all, spells_read, nothing_said}
-use Rattle.world_commands.specs.WorldBanks.{banks_of}
+use Rattle.net_world.specs.world_commands.WorldBanks.{banks_of}
 use Rattle.std.proofs.Common.{refl}
 use Rattle.std.proofs.lemmas.Result.{err_from_is_err_and}
 use Rattle.mld_replay.proofs.StoppedLemmas.{stops_still, commanded_left}

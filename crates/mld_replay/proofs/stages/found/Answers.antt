@@ -1,5 +1,5 @@
 use Rattle.std.proofs.Common.{ap, sym, subst}
-use Rattle.world_commands.specs.WorldBanks.{banks_of}
+use Rattle.net_world.specs.world_commands.WorldBanks.{banks_of}
 use Rattle.mld_replay.specs.BankFaults.{ComeBackWell}
 use Rattle.mld_replay.specs.Stops.{StopBringsBack, LeavesAtStop, stop_of_world}
 use Rattle.mld_replay.specs.Stages.{EndsWell, banks_of_stage}

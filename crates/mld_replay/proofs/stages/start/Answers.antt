@@ -1,4 +1,4 @@
-use Rattle.world_commands.specs.WorldBanks.{banks_of}
+use Rattle.net_world.specs.world_commands.WorldBanks.{banks_of}
 use Rattle.mld_replay.specs.Stages.{banks_of_stage}
 use Rattle.mld_replay.proofs.MeterLemmas.{unarmed_later}
 use Rattle.mld_replay.proofs.StageLemmas.{started_all, well_after, stops_after}

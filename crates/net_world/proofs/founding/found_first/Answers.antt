@@ -1,7 +1,7 @@
 use Rattle.std.proofs.Common.{◌∙◌, [], arith, ap, sym, subst, set, map}
 use Rattle.std.proofs.lemmas.Result.{on_ok_weaker, IfOk-at_ok}
 use Rattle.mld_model.specs.declared.CloneState.TheVariants as kinds
-use Rattle.clone_parts.specs.BankCalls.{create_calls}
+use Rattle.clone_core.specs.clone_parts.BankCalls.{create_calls}
 use Rattle.clone_core.specs.CloneClosing.{banks_of_made}
 use Rattle.schedule_text.specs.ReadLines.{setup_of}
 use Rattle.world_commands.specs.States.{Becomes}
@@ -11,7 +11,7 @@ use Rattle.world_commands.proofs.BankLemmas.{goes_on, meters_set, faults_set}
 use Rattle.net_world.proofs.FaultLemmas.{first_faults, faults_of}
 use Rattle.net_world.proofs.FoundingLemmas.{absent_there, first_founded}
 use Rattle.mld_model.specs.Local.{blank_clone}
-use Rattle.clone_parts.specs.KeptSteps.{LeavesMade}
+use Rattle.clone_core.specs.clone_parts.KeptSteps.{LeavesMade}
 use Rattle.clone_core.specs.Banked.{head_of}
 use Rattle.net_world.proofs.FoundingFronts.{first_left}
 use Rattle.net_world.proofs.SettledSteps.{first_rest}

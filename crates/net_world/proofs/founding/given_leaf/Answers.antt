@@ -1,5 +1,5 @@
 use Rattle.std.proofs.Common.{◌≡◌, List, [], ◌∷◌, Err, refl, subst}
-use Rattle.clone_parts.specs.KeptSteps.{KeptStep, Forked}
+use Rattle.clone_core.specs.clone_parts.KeptSteps.{KeptStep, Forked}
 use Rattle.clone_core.specs.DurableCalls.{LeavesFronts}
 use Rattle.net_world.proofs.FoundingFronts.{forks_alone}
 use Rattle.net_world.proofs.founding.given_leaf.Goals as goal

@@ -2,7 +2,7 @@ use Rattle.std.proofs.Common.{◌≡◌, ◌∙◌, ap, refl, rules, subst}
 use Rattle.mld_ops.specs.Messages.{GiveValue, give_value}
 use Rattle.mld_model.specs.Local.{joined_clone}
 use Rattle.net_world.proofs.FoundingLemmas.{given_is}
-use Rattle.clone_parts.specs.KeptSteps.{LeavesMade}
+use Rattle.clone_core.specs.clone_parts.KeptSteps.{LeavesMade}
 use Rattle.clone_core.specs.Banked.{head_of}
 use Rattle.net_world.proofs.FoundingFronts.{give_for, taking_stops}
 use Rattle.net_world.proofs.founding.taken_leaf.Goals as goal

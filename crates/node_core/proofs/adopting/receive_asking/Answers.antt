@@ -1,8 +1,8 @@
 use Rattle.std.proofs.Common.{◌≡◌, sym, subst}
 use Rattle.mld_ops.specs.Messages.{CarriesWant}
-use Rattle.journal_store.specs.Closing.{StaysTold}
-use Rattle.clone_core.specs.Banked.{BankedAsker}
-use Rattle.shell_session.specs.SessionLines.{LeavesFrontOfDue, Meters}
+use Rattle.node_model.specs.journal_store.Closing.{StaysTold}
+use Rattle.node_model.specs.clone_core.Banked.{BankedAsker}
+use Rattle.node_model.specs.shell_session.SessionLines.{LeavesFrontOfDue, Meters}
 use Rattle.node_model.specs.Exchanges.{telling}
 use Rattle.node_model.specs.Keepers.{Asks, keeper_found}
 use Rattle.node_model.specs.NodeMessages.{ignores}

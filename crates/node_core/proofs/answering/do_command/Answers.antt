@@ -1,7 +1,7 @@
 use Rattle.std.proofs.Common.{◌≡◌, ◌≤◌, ℕ, List, length, sym, ap, subst}
 use Rattle.mld_ops.specs.Entry.{EntryValue}
-use Rattle.shell_session.specs.ShellStep.{LiveStep}
-use Rattle.shell_session.specs.LiveCalls.{CloneAnswers}
+use Rattle.node_model.specs.shell_session.ShellStep.{LiveStep}
+use Rattle.node_model.specs.shell_session.LiveCalls.{CloneAnswers}
 use Rattle.wire_frames.specs.Frames.{frames_bytes}
 use Rattle.wire_frames.specs.MessageParts.{reply_parts}
 use Rattle.node_model.specs.Exchanges.{saying}

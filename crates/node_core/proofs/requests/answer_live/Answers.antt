@@ -1,5 +1,5 @@
 use Rattle.std.proofs.Common.{sym, subst}
-use Rattle.shell_session.specs.SessionLines.{LeavesFrontOfDue}
+use Rattle.node_model.specs.shell_session.SessionLines.{LeavesFrontOfDue}
 use Rattle.node_model.specs.Keepers.{Lives, keeper_found}
 use Rattle.node_core.specs.NodeDeeds.{IsDueByRequest}
 use Rattle.node_core.proofs.CallLaws.{node_goes, node_stops}

@@ -1,6 +1,6 @@
 use Rattle.std.proofs.Common.{List, Option, subst}
 use Rattle.mld_io.specs.Wires.{WireLog}
-use Rattle.node_model.specs.declared.connections.Sent.{Sent}
+use Rattle.node_core.specs.node_model.declared.connections.Sent.{Sent}
 use Rattle.node_run.specs.ServiceUnderWay.{SendsFront}
 use Rattle.node_run.proofs.TurnLaws.{stops_sending}
 use Rattle.node_run.proofs.turns.take_event.Goals as goal

@@ -1,7 +1,7 @@
 use Rattle.std.proofs.Common.{◌≡◌, ℕ, ◌-◌, ◌≤◌, List, Option, Some}
 use Rattle.mld_io.specs.Disk.{Log}
-use Rattle.shell_session.specs.Shells.{FoundOnBanks}
-use Rattle.shell_session.specs.SessionLines.{Meters}
+use Rattle.node_core.specs.shell_session.Shells.{FoundOnBanks}
+use Rattle.node_core.specs.shell_session.SessionLines.{Meters}
 use Rattle.node_run.specs.declared.node.NodeWords.{NodeWords}
 use Rattle.node_run.specs.Words.{AreWords}
 use Rattle.node_core.specs.NodeStates.{IsOpen}

@@ -1,6 +1,6 @@
 use Rattle.std.proofs.Common.{◌∙◌, refl, sym, ap, arith, Some}
 use Rattle.mld_io.specs.Disk.{seen}
-use Rattle.journal_sides.specs.Pairs.{read_banks}
+use Rattle.shell_session.specs.journal_sides.Pairs.{read_banks}
 use Rattle.input_lines.proofs.TakenLemmas.{end_first, end_more, end_cut, end_none, takes_some, end_of_line, advanced, err_same, read_well}
 use Rattle.shell_session.specs.Shells.{found_in}
 use Rattle.shell_session.specs.Sessions.{session_banks}
