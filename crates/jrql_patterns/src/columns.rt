@@ -117,8 +117,7 @@ fn is_before(names: &Names, number: u16, other: u16) -> bool
 /// Where a number is put among others.
 fn place_for(names: &Names, number: u16, others: &[u16]) -> usize
     ensures within { result ≤ length others.now }
-    ensures place { placed names.now.named number others.now
-        ≡ take result others.now ++ number ∷ drop result others.now }
+    ensures place { placed names.now.named number others.now ≡ take result others.now ++ number ∷ drop result others.now }
 {
     for place in 0..others.len() {
         if is_before(names, number, others[place]) {

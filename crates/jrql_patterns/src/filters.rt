@@ -98,8 +98,7 @@ pub(crate) fn read_sides(
     value: &Value,
     names: &mut Names,
 ) -> Result<Filter, JsonFault>
-    ensures ok { IfOk result
-        (λ filter. read_sides context.now compare names.old (view value.now) ≡ Ok (names.new, filter)) }
+    ensures ok { IfOk result (λ filter. read_sides context.now compare names.old (view value.now) ≡ Ok (names.new, filter)) }
     ensures err { IfErr result (IsToldBy (read_sides context.now compare names.old (view value.now))) }
 {
     let Value::Array(items) = value else {
@@ -122,8 +121,7 @@ fn read_comparison(
 ) -> Result<(), JsonFault>
     ensures ok { IfOk result
         (λ _. read_comparison context.now (compare_of key.now) (view value.now) so_far.old ≡ Ok so_far.new) }
-    ensures err { IfErr result
-        (IsToldBy (read_comparison context.now (compare_of key.now) (view value.now) so_far.old)) }
+    ensures err { IfErr result (IsToldBy (read_comparison context.now (compare_of key.now) (view value.now) so_far.old)) }
 {
     match compare_of(key) {
         Some(compare) => so_far.read_filter(alloc, context, compare, value),
@@ -138,8 +136,7 @@ fn read_comparisons(
     members: &Map<String, Value>,
     so_far: &mut OpenGroup,
 ) -> Result<(), JsonFault>
-    ensures ok { IfOk result
-        (λ _. read_comparisons context.now (members_view members.now.entries) so_far.old ≡ Ok so_far.new) }
+    ensures ok { IfOk result (λ _. read_comparisons context.now (members_view members.now.entries) so_far.old ≡ Ok so_far.new) }
     ensures err { IfErr result (IsToldBy (read_comparisons context.now (members_view members.now.entries) so_far.old)) }
 {
     for (key, value) in members.iter() {

@@ -14,7 +14,6 @@ pub fn every_column_in_order()
 
 /// What `@where` adds to a group keeps to the names that are met, and so does the group then.
 pub fn reading_where_keeps_to_names()
-    ensures { (context : ContextValue) (value : Data) (before after : OpenGroup)
-        → read_where context value before ≡ Ok after
+    ensures { (context : ContextValue) (value : Data) (before after : OpenGroup) → read_where context value before ≡ Ok after
         → ReadsOn before after }
 {}

@@ -160,8 +160,7 @@ impl OpenGroup {
         compare: Compare,
         value: &Value,
     ) -> Result<(), JsonFault>
-        ensures ok { IfOk result
-            (λ _. read_comparison context.now (Some compare) (view value.now) self.old ≡ Ok self.new) }
+        ensures ok { IfOk result (λ _. read_comparison context.now (Some compare) (view value.now) self.old ≡ Ok self.new) }
         ensures err { IfErr result (IsToldBy (read_comparison context.now (Some compare) (view value.now) self.old)) }
     {
         let filter = read_sides(alloc, context, compare, value, &mut self.names)?;

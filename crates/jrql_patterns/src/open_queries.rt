@@ -87,8 +87,7 @@ impl OpenQuery {
 
     /// Meets a variable: its number.
     pub(crate) fn meet_number(&mut self, alloc: Global, name: &str) -> Result<u16, JsonFault>
-        ensures ok { IfOk result
-            (λ number. meet_number self.old.group.names name.now ≡ Ok (self.new.group.names, number)) }
+        ensures ok { IfOk result (λ number. meet_number self.old.group.names name.now ≡ Ok (self.new.group.names, number)) }
         ensures err { IfErr result (IsToldBy (meet_number self.old.group.names name.now)) }
         ensures kept { self.new ≡ with_query_names self.old self.new.group.names }
     {

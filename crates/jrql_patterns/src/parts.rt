@@ -154,8 +154,7 @@ fn read_limit(
     value: &Value,
     so_far: &mut OpenQuery,
 ) -> Result<(), JsonFault>
-    ensures ok { IfOk result
-        (λ _. made_of (read_count key.now (view value.now)) (with_limit so_far.old) ≡ Ok so_far.new) }
+    ensures ok { IfOk result (λ _. made_of (read_count key.now (view value.now)) (with_limit so_far.old) ≡ Ok so_far.new) }
     ensures err { IfErr result (IsToldBy (read_count key.now (view value.now))) }
 {
     let count = read_count(alloc, key, value)?;
@@ -170,8 +169,7 @@ fn read_offset(
     value: &Value,
     so_far: &mut OpenQuery,
 ) -> Result<(), JsonFault>
-    ensures ok { IfOk result
-        (λ _. made_of (read_count key.now (view value.now)) (with_offset so_far.old) ≡ Ok so_far.new) }
+    ensures ok { IfOk result (λ _. made_of (read_count key.now (view value.now)) (with_offset so_far.old) ≡ Ok so_far.new) }
     ensures err { IfErr result (IsToldBy (read_count key.now (view value.now))) }
 {
     let count = read_count(alloc, key, value)?;
@@ -221,8 +219,7 @@ pub(crate) fn read_parts(
     members: &Map<String, Value>,
     so_far: &mut OpenQuery,
 ) -> Result<(), JsonFault>
-    ensures ok { IfOk result
-        (λ _. read_parts context.now (members_view members.now.entries) so_far.old ≡ Ok so_far.new) }
+    ensures ok { IfOk result (λ _. read_parts context.now (members_view members.now.entries) so_far.old ≡ Ok so_far.new) }
     ensures err { IfErr result (IsToldBy (read_parts context.now (members_view members.now.entries) so_far.old)) }
 {
     for (key, value) in members.iter() {

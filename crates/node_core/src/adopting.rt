@@ -30,8 +30,7 @@ pub(crate) fn receive_asking<R: Threads, B: Banks>(
     exchange: &mut Exchange,
 ) -> Result<NodeState<B>, (NodeFault, B)>
     requires { IsGoodMessage (message_value message.now) }
-    ensures done { IfOk result
-        (λ next. ReceivesOn B.log message.now (states.Asking asker) exchange.old next exchange.new) }
+    ensures done { IfOk result (λ next. ReceivesOn B.log message.now (states.Asking asker) exchange.old next exchange.new) }
     ensures opened { IfOk result IsOpen }
     ensures stopped { IfErr result (λ refused. StopsMessage B.log message.now (states.Asking asker) refused.1) }
     ensures told { StaysTold (B.log asker.banks) (B.log (state_banks_after result)) }

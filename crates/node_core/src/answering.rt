@@ -106,8 +106,7 @@ fn tell_made<B: Banks>(
     exchange: &mut Exchange,
 ) -> Result<(), AllocError>
     requires { AppendsBehind command.now kept clone.now.local.entries }
-    ensures { OnOk result
-        (exchange.new ≡ telling_peers_each (told_by command.now kept clone.now.local.entries) exchange.old) }
+    ensures { OnOk result (exchange.new ≡ telling_peers_each (told_by command.now kept clone.now.local.entries) exchange.old) }
 {
     if is_update(command) {
         return exchange.tell_peers_each(&clone.journal()[kept..]);
@@ -136,8 +135,7 @@ fn only_reply<B: Banks>(
     exchange: &mut Exchange,
 ) -> Result<(), AllocError>
     requires { IsNoCommand request.now }
-    ensures { OnOk result
-        (Replies (living clone.now) request.now number exchange.old [] (living clone.now) exchange.new) }
+    ensures { OnOk result (Replies (living clone.now) request.now number exchange.old [] (living clone.now) exchange.new) }
 {
     match request {
         Request::Command(_) => unreachable!(),

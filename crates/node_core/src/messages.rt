@@ -60,8 +60,7 @@ fn receive_live<R: Threads, B: Banks>(
 ) -> Result<NodeState<B>, (NodeFault, B)>
     requires opened { clone.closed ≡ None }
     requires good { IsGoodMessage (message_value message.now) }
-    ensures done { IfOk result
-        (λ next. ReceivesOn B.log message.now (states.Live clone) exchange.old next exchange.new) }
+    ensures done { IfOk result (λ next. ReceivesOn B.log message.now (states.Live clone) exchange.old next exchange.new) }
     ensures opened { IfOk result IsOpen }
     ensures stopped { IfErr result (λ refused. StopsMessage B.log message.now (states.Live clone) refused.1) }
     ensures told { StaysTold (B.log clone.banks) (B.log (state_banks_after result)) }

@@ -138,8 +138,7 @@ fn do_event<R: Threads, B: Banks>(
         (taken_node taken) taken.rest.sent.items) }
     ensures well { IfOk result (λ taken. MayGoOn taken.rest.connections.items) }
     ensures opened { IfOk result (λ taken. IsOpen taken.state) }
-    ensures stopped { IfErr result
-        (λ refused. StopsEvent B.log (node_with state connections.items) event.now refused.1) }
+    ensures stopped { IfErr result (λ refused. StopsEvent B.log (node_with state connections.items) event.now refused.1) }
     ensures told { StaysTold (B.log (states.state_banks state))
         (B.log (banks_left (λ taken. states.state_banks taken.state) result)) }
     ensures fault { Meters (B.meter (states.state_banks state))
