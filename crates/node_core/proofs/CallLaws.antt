@@ -43,7 +43,8 @@ use Rattle.node_core.specs.declared.states.NodeState.TheVariants as states
 use Rattle.node_core.specs.NodeStates.{state_banks, state_banks_after, StateFailsOnDevice}
 use Rattle.node_core.specs.LoanCalls.{GoesBy, GreetsClient, Replies, AppendsBehind, told_by, MayAnswer, MayBeSent, CarryTaken, HasSent}
 use Rattle.node_core.specs.NodeDeeds.{NodeDoesBy, ReceivesOn, IsDueByMessage}
-use Rattle.node_core.proofs.Moments.{same_front, fronts, made_front, kept_images}
+use Rattle.node_model.proofs.of_shell_session.Moments.{same_front, fronts, made_front}
+use Rattle.node_core.proofs.Moments.{kept_images}
 use Rattle.node_core.proofs.CommandLaws.{carried_appends, carried_behind, none_lost, command_due, command_carried, command_behind, text_has_byte}
 
 module _ {B : Type 0} (log : B → Option Log) (meter : B → Meter) (old : BankedClone B) where

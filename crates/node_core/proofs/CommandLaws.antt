@@ -15,38 +15,12 @@ use Rattle.node_model.specs.clone_parts.KeptSteps.{KeptStep, Appended, appends}
 use Rattle.node_model.specs.shell_session.declared.commands.ShellCommand.{ShellCommand}
 use Rattle.node_model.specs.shell_session.declared.commands.ShellCommand.TheVariants as shell
 use Rattle.node_model.specs.shell_session.ShellReply.{ShellReply, Says, DidAt, BadLine, IsClosed, FoundNothing, FoundDamage, NotEmpty, MadeClone, TicksSpent, GenerationsSpent, shell_text}
-use Rattle.node_model.specs.shell_session.ShellStep.{AnswersUpdate, no_tick_is_left, is_too_large, changes_nothing, breaks_single, makes_operation, KeepsJournal, is_kept_so, no_generation_is_left, swaps_journal, AppendsUpdate, SwapsJournal, LiveStep, IsDueLive}
+use Rattle.node_model.specs.shell_session.ShellStep.{AnswersUpdate, no_tick_is_left, is_too_large, changes_nothing, breaks_single, makes_operation, KeepsJournal, is_kept_so, no_generation_is_left, swaps_journal, LiveStep, IsDueLive}
+use Rattle.node_model.proofs.of_shell_session.LiveLaws.{update_due, journal_due}
 use Rattle.node_model.specs.Keepers.{carried}
 use Rattle.node_core.specs.LoanCalls.{is_update, AppendsBehind, told_by}
 
--- ---- durable steps that are due
-
--- those of an update that was answered
-update_due : (clone : LocalClone) (plan : UpdatePlan) (reply : ShellReply) (steps : List KeptStep) (new : LocalClone) → AnswersUpdate clone plan reply steps new
-    → (steps ≡ []) ⊎ AppendsUpdate clone plan steps
-update_due clone plan reply steps new (no_tick_is_left spent) = inl refl
-update_due clone plan reply steps new (is_too_large left many) = inl refl
-update_due clone plan reply steps new (changes_nothing left updates) = inl refl
-update_due clone plan reply steps new (breaks_single left place breaks) = inl refl
-update_due clone plan reply steps new (makes_operation left entry made updates) = inr (record {
-  effect = updates.effect;
-  has = updates.has;
-  may = updates.updates.0;
-  entry = entry;
-  time = updates.updates.1.time;
-  carries = updates.updates.1.carries;
-  appends = refl;
-})
-
--- those of a journal that was kept
-journal_due : {Due : Type 0} {Step : LocalClone → Type 0} (generation : ℕ) (clone : LocalClone) (reply : ShellReply) (steps : List KeptStep) (new : LocalClone)
-    → KeepsJournal Due Step generation clone reply steps new → (steps ≡ []) ⊎ SwapsJournal Due Step generation steps
-journal_due generation clone reply steps new (is_kept_so none) = inl refl
-journal_due generation clone reply steps new (no_generation_is_left due last) = inl refl
-journal_due generation clone reply steps new (swaps_journal due left made step) =
-    inr (record { due = due; left = left; new = made; step = step; swaps = refl })
-
--- those of any command
+-- the durable steps of a command are due
 pub command_due : (generation : ℕ) (clone : LocalClone) (command : ShellCommand) (reply : ShellReply) (steps : List KeptStep) (new : LocalClone)
     → LiveStep generation clone command reply steps new → (steps ≡ []) ⊎ IsDueLive generation clone command steps
 command_due generation clone shell.Open reply steps new does = inl does.1

@@ -5,11 +5,9 @@ pub use Rattle.node_model.proofs.of_clone_core as of_clone_core
 pub use Rattle.node_model.proofs.of_shell_session as of_shell_session
 pub use Rattle.node_model.proofs as of_node_model
 pub mod Moments
-pub mod MeterLaws
 pub mod CommandLaws
 pub mod CallLaws
 mod EventMoments
-mod EventMeters
 mod FrameLaws
 mod HoldLaws
 mod UnderWay

@@ -12,7 +12,7 @@ use Rattle.node_core.specs.declared.states.NodeState.{NodeState}
 use Rattle.node_core.specs.NodeStates.{IsOpen, state_banks, state_banks_after, StateFailsOnDevice}
 use Rattle.node_core.specs.Nodes.{banks_left, IsDeviceFault}
 use Rattle.node_core.proofs.EventMoments.{no_steps, told_same}
-use Rattle.node_core.proofs.EventMeters.{meters_none}
+use Rattle.node_model.proofs.of_shell_session.MeterLaws.{meters_none}
 
 not_device : ¬ (◌≡◌ {A = NodeFault} NoMemory Device)
 not_device h = cc
@@ -49,6 +49,6 @@ module _ {B : Type 0} (log : B → Option Log) (meter : B → Meter) (state : No
 
   pub quiet_meters : (result : Result (NodeState B) (NodeFault × B)) → Keeps result → GivesBack result
       → Meters (meter (state_banks state)) (meter (state_banks_after result)) (StateFailsOnDevice result)
-  quiet_meters (Ok next) same back = subst (λ (s : NodeState B). Meters (meter (state_banks state)) (meter (state_banks s)) ⊥) (sym same) (meters_none (meter (state_banks state)) (λ h. h))
+  quiet_meters (Ok next) same back = subst (λ (s : NodeState B). Meters (meter (state_banks state)) (meter (state_banks s)) ⊥) (sym same) (meters_none (meter (state_banks state)) (meter (state_banks state)) refl (λ h. h))
   quiet_meters (Err refused) same back =
-      subst (λ (r : NodeFault × B). Meters (meter (state_banks state)) (meter r.1) (r.0 ≡ Device)) (sym back) (meters_none (meter (state_banks state)) not_device)
+      subst (λ (r : NodeFault × B). Meters (meter (state_banks state)) (meter r.1) (r.0 ≡ Device)) (sym back) (meters_none (meter (state_banks state)) (meter (state_banks state)) refl not_device)

@@ -16,8 +16,9 @@ use Rattle.node_model.specs.FrameSteps.{FrameStep, FramesStep, no_more}
 use Rattle.node_core.specs.NodeEvents.{IsDueByFrame, IsDueNext, IsDueByFrames}
 use Rattle.node_core.specs.Nodes.{IsGoodRole}
 use Rattle.node_core.specs.Steps.{TakesFrame, TakesFrames, IsHeld, ExchangeGoesOn}
-use Rattle.node_core.proofs.EventMoments.{no_steps, moments_then, told_same, told_then}
-use Rattle.node_core.proofs.EventMeters.{meters_none, meters_then}
+use Rattle.node_model.proofs.of_shell_session.FrontLaws.{moments_then}
+use Rattle.node_core.proofs.EventMoments.{no_steps, told_same, told_then}
+use Rattle.node_model.proofs.of_shell_session.MeterLaws.{meters_none, meters_then}
 use Rattle.node_model.proofs.StepLaws.{frames_lead}
 use Rattle.node_core.proofs.FrameLaws.{frames_more, frames_end}
 use Rattle.node_core.proofs.HoldLaws.{frame_well}
@@ -134,7 +135,7 @@ module _ {B : Type 0} (log : B → Option Log) (meter : B → Meter) (old : Node
     opened = opened;
     well = well;
     told = told_same (log (state_banks old));
-    meters = meters_none (meter (state_banks old)) (λ h. h);
+    meters = meters_none (meter (state_banks old)) (meter (state_banks old)) refl (λ h. h);
   }
 
   -- one more was taken

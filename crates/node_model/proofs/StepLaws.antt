@@ -7,7 +7,7 @@ use Rattle.mld_ops.specs.Entry.{EntryValue}
 use Rattle.mld_ops.specs.declared.messages.Message.{Message}
 use Rattle.mld_ops.specs.declared.messages.Message.TheVariants as kind
 use Rattle.shell_session.specs.journal_sides.Heads.{HeadValue}
-use Rattle.mld_model.specs.Local.{LocalClone, LocalAsker, IsSameClone, LocallyHolds}
+use Rattle.mld_model.specs.Local.{LocalClone, LocalAsker, LocallyHolds}
 use Rattle.shell_session.specs.clone_parts.KeptSteps.{KeptStep, Appended, appends}
 use Rattle.shell_session.specs.clone_parts.declared.answers.Got.{Got}
 use Rattle.shell_session.specs.clone_parts.declared.answers.Got.TheVariants as got
@@ -17,7 +17,7 @@ use Rattle.shell_session.specs.clone_core.Banked.{head_of}
 use Rattle.shell_session.specs.clone_core.CloneCalls.{LocallyReceives}
 use Rattle.shell_session.specs.clone_core.DurableCalls.{ReceivedSteps, merged_steps}
 use Rattle.shell_session.specs.Shells.{FoundOnBanks, Stored, found_after, generation_after}
-use Rattle.shell_session.proofs.RunLaws.{live_step, live_found, found_both}
+use Rattle.shell_session.proofs.RunLaws.{live_step, live_found, found_both, same_head}
 use Rattle.wire_frames.specs.declared.kinds.Frame.{Frame}
 use Rattle.wire_frames.specs.declared.kinds.Frame.TheVariants.{Hello, Part, Request, Reply, Refuse}
 use Rattle.node_model.specs.declared.requests.Request.TheVariants as request
@@ -50,15 +50,6 @@ appended_found (entry ∷ taken) generation head entries =
 pub appended_generation : (taken : List EntryValue) (generation : ℕ) → generation_after (appends taken) generation ≡ generation
 appended_generation [] generation = refl
 appended_generation (entry ∷ taken) generation = appended_generation taken generation
-
-same_head : (old new : LocalClone) → IsSameClone old new → head_of new ≡ head_of old
-same_head old new same = λ i. record {
-  id = same.id i;
-  domain = same.domain i;
-  properties = same.properties i;
-  path = same.path i;
-  base = record { ticks = same.base i; pairs = same.base_pairs i };
-}
 
 module _ (generation : ℕ) (old new : LocalClone) where
   -- what is found then is what the durable steps make of what was found

@@ -25,7 +25,7 @@ use Rattle.node_core.specs.shell_session.Shells.{FoundOnBanks, Nothing, Damage, 
 use Rattle.node_core.specs.shell_session.ShellStep.{first_clone}
 use Rattle.node_core.specs.shell_session.Sessions.{HasFound, HasKept}
 use Rattle.node_core.specs.shell_session.SessionLines.{ImagesFind, LeavesFront, Meters}
-use Rattle.node_run.proofs.Moments.{found_with, same_front, no_more_front, later_front, images_later, made_front, kept_images}
+use Rattle.node_core.proofs.of_shell_session.Moments.{found_with, same_front, no_more_front, later_front, images_later, made_front, kept_images}
 use Rattle.node_run.specs.declared.node.NodeWords.{NodeWords}
 use Rattle.node_core.specs.declared.states.NodeState.{NodeState}
 use Rattle.node_core.specs.declared.states.NodeState.TheVariants as states
@@ -37,7 +37,7 @@ use Rattle.node_run.specs.ServiceStatuses.{stop_of_make, stop_of_mount, IsAtFirs
 use Rattle.node_run.specs.Start.{Begins, founds, asks, runs_again, IsDueAtFirst, IsOther}
 use Rattle.node_core.specs.shell_session.RunEnds.{LeavesDone}
 use Rattle.node_run.specs.NodeBegun.{BeginsOn, FallsShort, StaysFound, BeginsShort, IsOfWords, RunsAsFound, RefusesOther, found_on, banks_begun, FailsToBegin}
-use Rattle.node_run.proofs.MeterLaws.{meters_of, meters_as}
+use Rattle.node_core.proofs.of_shell_session.MeterLaws.{meters_of, meters_as}
 use Rattle.node_run.proofs.FrontLaws.{leaves_first}
 
 -- ---- banks that were mounted

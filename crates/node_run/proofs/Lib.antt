@@ -1,5 +1,3 @@
-mod Moments
-mod MeterLaws
 mod FrontLaws
 mod LogLaws
 mod CountLaws

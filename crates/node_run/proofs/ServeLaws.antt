@@ -10,7 +10,7 @@ use Rattle.node_run.specs.declared.node.NodeWords.{NodeWords}
 use Rattle.node_run.specs.declared.faults.NodeWordsFault.{NodeWordsFault}
 use Rattle.node_run.specs.declared.faults.NodeWordsFault.TheVariants as words_faults
 use Rattle.node_run.specs.Words.{AreWords}
-use Rattle.node_run.proofs.MeterLaws.{meters_as}
+use Rattle.node_core.proofs.of_shell_session.MeterLaws.{meters_as}
 use Rattle.node_run.specs.declared.stops.NodeStop.{NodeStop}
 use Rattle.node_run.specs.declared.stops.NodeStop.TheVariants as stops
 use Rattle.node_run.specs.ServiceStatuses.{stop_of_words, IsOfTurns, IsAtFirst, CountsWire}

@@ -7,7 +7,7 @@ use Rattle.mld_io.specs.Arm.{Meter}
 use Rattle.mld_io.specs.Disk.{Log}
 use Rattle.mld_io.specs.Wires.{WireLog}
 use Rattle.node_core.specs.shell_session.SessionLines.{Meters, LeavesFrontOfDue}
-use Rattle.node_run.proofs.MeterLaws.{meters_as}
+use Rattle.node_core.proofs.of_shell_session.MeterLaws.{meters_as}
 use Rattle.node_core.specs.declared.faults.NodeFault.{NodeFault}
 use Rattle.node_core.specs.declared.faults.NodeFault.TheVariants as node_faults
 use Rattle.node_core.specs.node_model.Keepers.{keeper_found}

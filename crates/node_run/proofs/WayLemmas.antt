@@ -30,7 +30,8 @@ use Rattle.node_run.specs.ServiceStatuses.{stop_of_wire}
 use Rattle.node_run.specs.ServiceUnderWay.{IsServiceUnderWay, DoesTurn, StopsTurn, StopsWithinTurn, StopsSendingTurn}
 use Rattle.mld_io.specs.declared.faults.IoFault.{IoFault}
 use Rattle.mld_io.specs.declared.faults.IoFault.TheVariants as io
-use Rattle.node_run.proofs.FrontLaws.{moments_then, leaves_done, leaves_due}
+use Rattle.node_core.proofs.of_shell_session.FrontLaws.{moments_then}
+use Rattle.node_run.proofs.FrontLaws.{leaves_done, leaves_due}
 use Rattle.node_run.proofs.LogLaws.{logged_then}
 
 -- ---- runs
@@ -188,7 +189,7 @@ module _ {B : Type 0} (log : B → Option Log) (found : FoundOnBanks) (old : Opt
             logged = logged_then (Took event ∷ way.done.after) (log_after turn.sent) before taking after taken_log turn.sends;
             told = (_, told.1);
             moments = subst (λ (s : List KeptStep). LeavesFront found s old (log (node_banks next))) (append_assoc way.done.first way.done.steps turn.does.steps)
-                (moments_then found (keeper_found (node_value node).keeper) (durable_steps_of way.done) way_led turn.does.steps old (log (node_banks node)) (log (node_banks next))
+                (moments_then found (keeper_found (node_value node).keeper) (durable_steps_of way.done) turn.does.steps old (log (node_banks node)) (log (node_banks next)) way_led
                 way.moments way.settled turn.does.moments);
             settled = λ images. turn.does.settled (way.settled images);
           }
@@ -232,7 +233,7 @@ module _ {B : Type 0} (log : B → Option Log) (found : FoundOnBanks) (old : Opt
             keeps = record { log = _; now_is = told.1; finds = turn.kept _ told.1 };
             leaves = leaves_done found (keeper_found (node_value turn.next).keeper) (durable_steps_of way.done ++ turn.does.steps) sent_led old (log back)
                 (subst (λ (l : Option Log). LeavesFront found (durable_steps_of way.done ++ turn.does.steps) old l) (sym same)
-                (moments_then found (keeper_found (node_value node).keeper) (durable_steps_of way.done) way_led turn.does.steps old (log (node_banks node)) (log (node_banks turn.next))
+                (moments_then found (keeper_found (node_value node).keeper) (durable_steps_of way.done) turn.does.steps old (log (node_banks node)) (log (node_banks turn.next)) way_led
                 way.moments way.settled turn.does.moments))
                 (subst (λ (l : Option Log). ImagesFind found old → ImagesFind (keeper_found (node_value turn.next).keeper) l) (sym same)
                 (λ images. turn.does.settled (way.settled images)));

@@ -3,8 +3,8 @@ use Rattle.std.proofs.Common.{◌≡◌, ◌⊎◌, ℕ, ◌+◌, ◌<◌, List,
 use Rattle.std.proofs.lemmas.List.{take_all}
 use Rattle.std.proofs.Math.Seq.{take-append-add}
 use Rattle.std.specs.Io.KnownBytes.{Appends}
-use Rattle.mld_io.specs.Disk.{Log, Call, Sides, seen, grown_by, MayLeave, LeavesOnly, AtEachMoment, LeavesMeanwhile}
-use Rattle.mld_io.proofs.DiskLaws.{AtEachMoment-weaken, AtEachMoment-last, LeavesMeanwhile-then}
+use Rattle.mld_io.specs.Disk.{Log, seen, grown_by, MayLeave, LeavesOnly, LeavesMeanwhile}
+use Rattle.mld_io.proofs.DiskLaws.{AtEachMoment-last}
 use Rattle.mld_io.specs.Lines.{lines_of, after_line, IsCutShort}
 use Rattle.mld_io.proofs.LinesLaws.{first_of_lines_lem}
 use Rattle.shell_session.specs.journal_sides.Pairs.{read_banks}
@@ -14,7 +14,8 @@ use Rattle.input_lines.specs.Taken.{TakesLine, IsLeft, KnowsEnd, ReadsLines}
 use Rattle.input_lines.proofs.TakenLemmas.{left_first, taken_left, taken_fit, all_fit, large_next}
 use Rattle.shell_session.specs.Shells.{Shell, Shut, Live, FoundOnBanks, found_in, found_of, found_after}
 use Rattle.shell_session.specs.ShellRuns.{ShellLine, ShellRuns, IsDueByLine}
-use Rattle.shell_session.proofs.RunLaws.{steps_lead, found_both}
+use Rattle.shell_session.proofs.RunLaws.{steps_lead}
+use Rattle.shell_session.proofs.FrontLaws.{moments_then}
 use Rattle.shell_session.specs.declared.sessions.Session.{Session}
 use Rattle.shell_session.specs.declared.sessions.Session.TheVariants as sessions
 use Rattle.shell_session.specs.Sessions.{session_banks, HasFound, SessionStands}
@@ -77,42 +78,6 @@ led : (found : FoundOnBanks) (done : LinesDone found) → found_of done.shell �
 led found done = steps_lead (Shut found) done.lines done.text done.steps done.shell done.runs
 
 -- ---- what a crash leaves
-
--- a front of some steps is one of more
-front_longer : (found : FoundOnBanks) (steps more : List KeptStep) (image : Sides) → FindsFront found steps image → FindsFront found (steps ++ more) image
-front_longer found steps more image finds = record {
-  front = finds.front;
-  rest = finds.rest ++ more;
-  whole = sym (append_assoc finds.front finds.rest more) ∙ ap (λ (s : List KeptStep). s ++ more) finds.whole;
-  finds = finds.finds;
-}
-
--- and a front of more steps, behind all of some, is one of both
-front_behind : (found middle : FoundOnBanks) (steps more : List KeptStep) (image : Sides) → middle ≡ found_after steps found → FindsFront middle more image
-    → FindsFront found (steps ++ more) image
-front_behind found middle steps more image same finds = record {
-  front = steps ++ finds.front;
-  rest = finds.rest;
-  whole = append_assoc steps finds.front finds.rest ∙ ap (λ (s : List KeptStep). steps ++ s) finds.whole;
-  finds = finds.finds ∙ ap (found_after finds.front) same ∙ sym (found_both steps finds.front found);
-}
-
--- the moments of some steps, and then of more
-moments_then : (found middle : FoundOnBanks) (steps more : List KeptStep) (old now after : Option Log) → middle ≡ found_after steps found
-    → LeavesFront found steps old now → (ImagesFind found old → ImagesFind middle now) → LeavesFront middle more now after → LeavesFront found (steps ++ more) old after
-moments_then found middle steps more old now after same first settled second log told images =
-    let one : LeavesMeanwhile log now (λ calls image. FindsFront found steps image) = first log told images in
-    let two : LeavesMeanwhile (grown_by one.added log) after (λ calls image. FindsFront middle more image) =
-    second (grown_by one.added log) one.now_is (settled images) in
-    let P : List Call → Sides → Type 0 = λ calls image. FindsFront found (steps ++ more) image in
-    LeavesMeanwhile-then log one.added P after
-    (AtEachMoment-weaken log one.added (λ calls image. FindsFront found steps image) P (λ calls image finds. front_longer found steps more image finds) one.each)
-    (record {
-      added = two.added;
-      now_is = two.now_is;
-      each = AtEachMoment-weaken (grown_by one.added log) two.added (λ calls image. FindsFront middle more image) (λ calls image. P (calls ++ one.added) image)
-          (λ calls image finds. front_behind found middle steps more image same finds) two.each;
-    })
 
 -- no step is under way
 leaves_done : (found : FoundOnBanks) (done : LinesDone found) (old now : Option Log) → LeavesFront found done.steps old now

@@ -7,9 +7,10 @@ mod ShellIris
 mod ShellCommands
 mod OneShell
 pub mod RunLaws
-mod Moments
-mod MeterLaws
-mod LiveLaws
+pub mod Moments
+pub mod FrontLaws
+pub mod MeterLaws
+pub mod LiveLaws
 mod ShutLaws
 mod LineLaws
 mod Answered

@@ -24,7 +24,7 @@ pub data IsStepTo (old new : LocalClone) : List KeptStep → Type 0 where
   appends : (entry : EntryValue) → new.entries ≡ old.entries ++ entry ∷ [] → head_of new ≡ head_of old → IsStepTo old new (Appended entry ∷ [])
   swaps : IsStepTo old new (Swapped (head_of new) new.entries ∷ [])
 
-same_head : (old new : LocalClone) → IsSameClone old new → head_of new ≡ head_of old
+pub same_head : (old new : LocalClone) → IsSameClone old new → head_of new ≡ head_of old
 same_head old new same = λ i. record {
   id = same.id i;
   domain = same.domain i;

@@ -11,7 +11,7 @@ use Rattle.node_core.specs.declared.states.NodeState.TheVariants as states
 use Rattle.node_core.specs.NodeStates.{StateFailsOnDevice, IsOpen}
 use Rattle.node_core.specs.NodeDeeds.{ReceivesOn, IsDueByMessage}
 use Rattle.node_core.proofs.CallLaws.{handed_on, given_back, joined_node, joined_stops, asks_on, begun_banks, begun_fine}
-use Rattle.node_core.proofs.MeterLaws.{meters_of}
+use Rattle.node_model.proofs.of_shell_session.MeterLaws.{meters_of}
 use Rattle.node_core.proofs.adopting.receive_asking.Goals as goal
 
 pub returns-in-Joined-clause-done : goal.returns-in-Joined-clause-done

@@ -2,7 +2,7 @@ use Rattle.std.proofs.Common.{◌≡◌, ℕ, List, length, sym, ap, subst}
 use Rattle.mld_ops.specs.Entry.{EntryValue}
 use Rattle.node_core.specs.LoanCalls.{MayBeSent, HasSent}
 use Rattle.node_core.proofs.CallLaws.{on_ok, on_err, may_be_sent, receive_goes, receive_stops}
-use Rattle.node_core.proofs.MeterLaws.{meters_of}
+use Rattle.node_model.proofs.of_shell_session.MeterLaws.{meters_of}
 use Rattle.node_core.proofs.messages.receive_loan.Goals as goal
 
 pub send_for-requires : goal.send_for-requires

@@ -5,7 +5,7 @@ use Rattle.node_run.specs.ServiceEnds.{HasEnded, HasTurned}
 use Rattle.node_run.specs.ServiceStatuses.{stop_of_wire}
 use Rattle.node_run.proofs.CountLaws.{counts_next, counts_turn, counts_behind}
 use Rattle.node_run.proofs.LogLaws.{told_map, told_same}
-use Rattle.node_run.proofs.MeterLaws.{meters_none, meters_as, meters_then}
+use Rattle.node_core.proofs.of_shell_session.MeterLaws.{meters_none, meters_as, meters_then}
 use Rattle.node_run.proofs.TurnLaws.{meters_waiting, some_same}
 use Rattle.node_run.proofs.WayLemmas.{below, way_first, way_more, stops_between, ends_waiting, ends_turn}
 use Rattle.node_run.proofs.turns.take_turns.Goals as goal
