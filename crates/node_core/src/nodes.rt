@@ -7,7 +7,7 @@ ghost use Rattle.mld_io.specs.declared.events.Event.TheVariants as events;
 ghost use Rattle.node_core.specs.NodeStates.{FindsNow, IsOpen, keeper_of};
 ghost use Rattle.node_core.specs.NodeStates as states;
 ghost use Rattle.node_model.specs.Keepers.{keeper_found};
-ghost use Rattle.node_core.specs.Nodes.{MayGoOn, node_value, node_banks, banks_left, IsDeviceFault};
+ghost use Rattle.node_core.specs.Nodes.{MayGoOn, node_banks, banks_left, IsDeviceFault};
 ghost use Rattle.node_core.specs.NodeEvents.{DoesEvent, StopsEvent};
 ghost use Rattle.node_core.specs.Steps.{node_with, taken_node, GreetsOn};
 

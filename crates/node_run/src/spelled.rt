@@ -111,7 +111,8 @@ pub fn read_peer(alloc: Global, given: Option<&str>) -> Result<Option<Text>, Nod
 
 /// The IRIs, where these are not too many.
 pub fn read_iris(alloc: Global, given: Option<&[&str]>) -> Result<Vec<Iri>, NodeWordsFault>
-    ensures { ReadsBy (λ iris. AreIris (unwrap_or (option_map (λ texts. map (λ text. text.now) texts.now) given.entry) []) iris.items) result }
+    ensures { ReadsBy (λ iris. AreIris
+        (unwrap_or (option_map (λ texts. map (λ text. text.now) texts.now) given.entry) []) iris.items) result }
 {
     let Some(texts) = given else {
         return Ok(Vec::new(alloc));

@@ -40,8 +40,16 @@ pub fn take_turns<R: Threads, W: Wire, B: Banks>(
     ensures ends { (texts : List (List ℕ)) (words : NodeWords) (found : FoundOnBanks) (old : Option Log) (first : Log)
         → old ≡ Some first → AreWords texts words → words.turns ≡ turns
         → BeginsOn B.log words found old state
-        → ServiceEnds result.fault found (record { texts = texts; turns = result.turns; before = W.log wire.old; after = W.log wire.new; old = old; now = B.log result.banks }) }
-    ensures meter { Meters (B.meter (states.state_banks state)) (B.meter result.banks) (result.fault ≡ Some NodeStop.Device) }
+        → ServiceEnds result.fault found (record {
+          texts = texts;
+          turns = result.turns;
+          before = W.log wire.old;
+          after = W.log wire.new;
+          old = old;
+          now = B.log result.banks;
+        }) }
+    ensures meter { Meters (B.meter (states.state_banks state)) (B.meter result.banks)
+        (result.fault ≡ Some NodeStop.Device) }
     ensures wire { CountsWire (W.faults wire.old) (W.faults wire.new) result.fault }
 {
     node_steps_lead();

@@ -194,7 +194,8 @@ fn compact<B: Banks>(
     ensures done { OnOk result (CloneAnswers B.log B.meter (CompactsAs clone.old.generation clone.old.local)
         clone.old out.old.items clone.new out.new.items) }
     ensures stopped { OnErr result
-        (CloneLeavesFrontOfDue B.log B.meter (IsDueCompaction clone.old.generation clone.old.local) clone.old clone.new.banks) }
+        (CloneLeavesFrontOfDue B.log B.meter (IsDueCompaction clone.old.generation clone.old.local)
+        clone.old clone.new.banks) }
     ensures told { StaysTold (B.log clone.old.banks) (B.log clone.new.banks) }
     ensures fault { Meters (B.meter clone.old.banks) (B.meter clone.new.banks) (IsErrOf result SessionFault.Device) }
     ensures out { OnErr result (out.new.items ≡ out.old.items) }
@@ -212,7 +213,8 @@ fn compacted<B: Banks>(
     ensures done { IfOk result (λ reply. CloneGoesOn B.log B.meter (CompactsAs clone.old.generation clone.old.local)
         clone.old clone.new (shell_value reply)) }
     ensures stopped { OnErr result
-        (CloneLeavesFrontOfDue B.log B.meter (IsDueCompaction clone.old.generation clone.old.local) clone.old clone.new.banks) }
+        (CloneLeavesFrontOfDue B.log B.meter (IsDueCompaction clone.old.generation clone.old.local)
+        clone.old clone.new.banks) }
     ensures told { StaysTold (B.log clone.old.banks) (B.log clone.new.banks) }
     ensures fault { Meters (B.meter clone.old.banks) (B.meter clone.new.banks) (IsErrOf result SessionFault.Device) }
 {
@@ -252,7 +254,8 @@ fn truncated<B: Banks>(
     keep: u64,
 ) -> Result<ShellReply<'static>, SessionFault>
     requires { clone.old.closed ≡ None }
-    ensures done { IfOk result (λ reply. CloneGoesOn B.log B.meter (TruncatesAs keep clone.old.generation clone.old.local)
+    ensures done { IfOk result
+        (λ reply. CloneGoesOn B.log B.meter (TruncatesAs keep clone.old.generation clone.old.local)
         clone.old clone.new (shell_value reply)) }
     ensures stopped { OnErr result (CloneLeavesFrontOfDue B.log B.meter
         (IsDueTruncation keep clone.old.generation clone.old.local) clone.old clone.new.banks) }

@@ -1,5 +1,5 @@
 //! Words of the shell's lines.
-ghost use Rattle.std.specs.Prelude.{IsTrue, IfOk, MatchOption, ◌↔◌, option_map};
+ghost use Rattle.std.specs.Prelude.{IsTrue, IfOk, ◌↔◌, option_map};
 ghost use Rattle.schedule_model.specs.Characters.{space};
 ghost use Rattle.schedule_model.specs.Lacking.{Lacks};
 ghost use Rattle.schedule_text.specs.ReadLines.{Finds};
