@@ -47,14 +47,6 @@ impl Held {
         self.names.take()
     }
 
-    /// These names, to set a mark in them.
-    pub fn names_mut(&mut self) -> Option<&mut Names> {
-        match &mut self.names {
-            Some(names) => Some(names),
-            None => None,
-        }
-    }
-
     /// Holds these names from now on, or none.
     pub fn set_names(&mut self, names: Option<Box<Names>>) {
         self.names = names;

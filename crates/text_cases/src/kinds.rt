@@ -18,7 +18,7 @@ pub fn put(
         "context" => contexts::put(alloc, out, held, input),
         "first" => parts::put_first(alloc, out, held, input),
         "then" => parts::put_then(alloc, out, held, input),
-        "mark" => parts::mark(held, input),
+        "mark" => Ok(parts::mark(held, input)),
         _ => put_under(alloc, out, held, line),
     }
 }

@@ -69,14 +69,18 @@ fn put_part(
     })
 }
 
-/// Sets a mark.
-pub fn mark(held: &mut Held, input: &str) -> Result<bool, AllocError> {
-    match held.names_mut() {
-        Some(names) if input.is_empty() => {
+/// Sets a mark; whether a text was begun, and nothing more is given.
+pub fn mark(held: &mut Held, input: &str) -> bool {
+    if !input.is_empty() {
+        return false;
+    }
+    match held.take_names() {
+        Some(mut names) => {
             names.mark();
-            Ok(true)
+            held.set_names(Some(names));
+            true
         }
-        _ => Ok(false),
+        None => false,
     }
 }
 
