@@ -8,7 +8,7 @@ use thiserror::Error;
 #[derive(Clone, Copy, Debug, PartialEq, Eq, Error)]
 pub enum CostFault {
     /// The words are none that the program knows.
-    #[error("usage: journal_costs [mount] [create|model] [forks=N] [entries=N] [again] < SIDE")]
+    #[error("usage: measure_journals [mount] [create|model] [forks=N] [entries=N] [again] < SIDE")]
     Usage,
     /// Standard input failed.
     #[error("standard input failed")]

@@ -1,4 +1,4 @@
-//! `journal_costs` mounts, makes and appends to a journal in memory, as its words say, so that the difference of two runs is
+//! `measure_journals` mounts, makes and appends to a journal in memory, as its words say, so that the difference of two runs is
 //! what a part costs.
 #![tactic(auto)]
 
@@ -24,7 +24,7 @@ fn main(rt: HostRuntime) -> io::Result<ExitCode> {
     match measured(&rt, &words) {
         Ok(()) => Ok(ExitCode::from(0)),
         Err(fault) => {
-            eprintln!(rt; "journal_costs: {fault}")?;
+            eprintln!(rt; "measure_journals: {fault}")?;
             Ok(ExitCode::from(1))
         }
     }

@@ -1,5 +1,5 @@
 //! What ends a run, with what it writes and whether it tells of its world. What good schedules write is shown by the transcripts of
-//! `mld_schedules`.
+//! `schedule_cases`.
 use crate::replays::{End, Given, Odd, ended, replay};
 use mld_io::MemorySink;
 use mld_replay::run::RunFault;
