@@ -5,7 +5,7 @@ pub mod FaultLemmas
 pub mod FoundingLemmas
 pub mod EndLemmas
 pub mod StepLemmas
-pub mod Summarizing
+pub mod SummarizingLaws
 pub mod CutLemmas
 pub mod DeedLemmas
 pub mod CaughtLemmas

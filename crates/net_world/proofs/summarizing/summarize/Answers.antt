@@ -1,4 +1,4 @@
-use Rattle.net_world.proofs.Summarizing.{summarizes_more}
+use Rattle.net_world.proofs.SummarizingLaws.{summarizes_more}
 use Rattle.net_world.proofs.summarizing.summarize.Goals as goal
 
 pub loop-clone-preserved : goal.loop-clone-preserved
