@@ -51,7 +51,13 @@ fn hold(
 
 /// Puts the fault of a `printed` line as it is printed.
 pub fn put_printed(alloc: Global, out: &mut String, input: &str) -> Result<bool, AllocError> {
-    match &outcome(alloc, input)? {
+    let outcome = outcome(alloc, input)?;
+    put_printed_of(out, &outcome)
+}
+
+/// Puts a fault as it is printed; whether there is one.
+fn put_printed_of(out: &mut String, outcome: &Option<Outcome>) -> Result<bool, AllocError> {
+    match outcome {
         Some(Err(fault)) => {
             write!(out, "{fault}")?;
             Ok(true)

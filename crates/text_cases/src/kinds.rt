@@ -2,7 +2,7 @@
 //! is one of its kind.
 use crate::held::Held;
 use crate::lines::Line;
-use crate::texts::text_of;
+use crate::texts::{text_of, text_value_of};
 use crate::{contexts, pairs, parts, queries, subjects, terms, updates, written};
 use std::alloc::{AllocError, Global};
 
@@ -57,8 +57,11 @@ fn put_of_json(
     held: &Held,
     line: &Line<'_>,
 ) -> Result<bool, AllocError> {
-    match text_of(alloc, line.input) {
-        Some(text) => put_of_text(alloc, out, held, line.word, text.as_str()),
+    let Some(value) = text_value_of(alloc, line.input)? else {
+        return Ok(false);
+    };
+    match text_of(&value) {
+        Some(text) => put_of_text(alloc, out, held, line.word, text),
         None => Ok(false),
     }
 }

@@ -1,8 +1,8 @@
 //! `query DOMAIN JSON`: what a query asks for, its patterns, branches and filters, its named variables in the order of their bytes, and how
 //! many have no name; or a fault.
 use crate::faults::put_fault;
-use crate::slots::{Variables, put_iri, put_slot, put_triples};
-use jrql_ast::{Compare, Filter, Group, PatternTriple, Query, Select, Slot, Target, What};
+use crate::slots::{Variables, put_iri, put_slot, put_triples, put_variable};
+use jrql_ast::{Compare, Filter, Group, PatternTriple, Query, Select, Target, What};
 use jrql_patterns::{ReadQuery, read_query};
 use jsonld_context::JsonFault;
 use std::alloc::{AllocError, Global};
@@ -47,17 +47,28 @@ fn put_query(alloc: Global, out: &mut String, query: &Query) -> Result<(), Alloc
 /// Puts the rows that are asked for.
 fn put_select(text: &mut String, select: &Select, names: &[Text]) -> Result<(), AllocError> {
     text.push_str("select")?;
-    for number in select.vars.as_slice() {
-        text.push(' ')?;
-        put_slot(text, &Slot::Var(*number), Variables::OfGroup(names))?;
-    }
+    put_variables(text, select.vars.as_slice(), names)?;
     if select.distinct {
         text.push_str(" distinct")?;
     }
-    if select.offset > 0 {
-        write!(text, " offset {}", select.offset)?;
+    put_range(text, select.offset, select.limit)
+}
+
+/// Puts variables.
+fn put_variables(text: &mut String, numbers: &[u16], names: &[Text]) -> Result<(), AllocError> {
+    for number in numbers {
+        text.push(' ')?;
+        put_variable(text, usize::from(*number), Variables::OfGroup(names))?;
     }
-    match select.limit {
+    Ok(())
+}
+
+/// Puts how many rows are left out in front, where any are, and how many are given at most.
+fn put_range(text: &mut String, offset: u64, limit: Option<u64>) -> Result<(), AllocError> {
+    if offset > 0 {
+        write!(text, " offset {offset}")?;
+    }
+    match limit {
         Some(limit) => write!(text, " limit {limit}"),
         None => Ok(()),
     }
@@ -77,7 +88,9 @@ fn put_describe(text: &mut String, targets: &[Target], names: &[Text]) -> Result
 fn put_target(text: &mut String, target: &Target, names: &[Text]) -> Result<(), AllocError> {
     match target {
         Target::Iri(iri) => put_iri(text, iri.as_str()),
-        Target::Var(number) => put_slot(text, &Slot::Var(*number), Variables::OfGroup(names)),
+        Target::Var(number) => {
+            put_variable(text, usize::from(*number), Variables::OfGroup(names))
+        }
     }
 }
 

@@ -128,7 +128,7 @@ fn put_literal(line: &mut String, literal: &Literal) -> Result<(), AllocError> {
 }
 
 /// Puts a variable.
-fn put_variable(
+pub fn put_variable(
     line: &mut String,
     number: usize,
     variables: Variables<'_>,

@@ -109,6 +109,7 @@ pub fn put_numbered(
 
 /// Numbers the variables that have no name behind those that have one.
 fn number(outcome: &mut Outcome, names: &Names) {
+    names.kept();
     if let Ok(triples) = outcome {
         number_triples(triples.as_mut_slice(), names.named());
     }

@@ -10,7 +10,7 @@
 //! `iri "TEXT"`: the IRI that a text in angle brackets spells, or `no` where the text spells none that isn't too long.
 //!
 //! `resolve BASE "REFERENCE"`: the target of a reference against a base, which is an absolute IRI. It gives an IRI, or `NotIri`.
-use crate::texts::{put_quoted, text_of};
+use crate::texts::{put_quoted, text_of, text_value_of};
 use jsonld_context::is_variable;
 use rdf_terms::{Triple, TripleFault, read_iri, read_triple, write_triple};
 use std::alloc::{AllocError, Global};
@@ -93,10 +93,13 @@ pub fn put_resolved(alloc: Global, out: &mut String, input: &str) -> Result<bool
     if !is_absolute(base) {
         return Ok(false);
     }
-    let Some(reference) = text_of(alloc, json) else {
+    let Some(value) = text_value_of(alloc, json)? else {
         return Ok(false);
     };
-    put_target(out, &resolve(alloc, base, reference.as_str()))
+    match text_of(&value) {
+        Some(reference) => put_target(out, &resolve(alloc, base, reference)),
+        None => Ok(false),
+    }
 }
 
 /// Puts a target, or why there is none; want of memory is no fault of a line.

@@ -10,13 +10,18 @@ pub fn value_of(alloc: Global, json: &str) -> Result<Option<Box<Value>>, AllocEr
     }
 }
 
-/// The text of a JSON string; `None` where it is no JSON string, or has white space around it.
-pub fn text_of(alloc: Global, json: &str) -> Option<String> {
+/// The value of a JSON text that has no white space around a string; `None` where it is none.
+pub fn text_value_of(alloc: Global, json: &str) -> Result<Option<Box<Value>>, AllocError> {
     if !json.starts_with('"') || !json.ends_with('"') {
-        return None;
+        return Ok(None);
     }
-    match Value::from_str(alloc, json) {
-        Ok(Value::String(text)) => Some(text),
+    value_of(alloc, json)
+}
+
+/// The text of a JSON string.
+pub fn text_of(value: &Value) -> Option<&str> {
+    match value {
+        Value::String(text) => Some(text.as_str()),
         _ => None,
     }
 }
