@@ -1,10 +1,10 @@
 //! A call is stopped at a call of its device, the device crashes, and what it keeps is mounted.
 use crate::faults::{Fault, Tried};
 use crate::lines::{Row, cut_word};
-use crate::making::{NOTHING, begin, blank, made};
+use crate::making::{Begun, NOTHING, banks_of_begun, begin, blank, is_begun, made, start_of};
 use crate::steps::{TestClone, do_step};
 use crate::telling::told;
-use clone_core::{MldClone, Mounted};
+use clone_core::{Adopted, MldClone, Mounted};
 use disk_model::MemoryBanks;
 use mld_io::CrashBanks;
 use std::alloc::Global;
@@ -24,37 +24,83 @@ pub fn crash_call<R: Threads>(
     if steps == NOTHING {
         return beginning(rt, alloc, call, row);
     }
-    let clone = made(rt, alloc, steps)?;
+    let begun = made(rt, alloc, steps)?;
     if call == "mount" {
-        mounting(rt, alloc, clone, row)
+        mounting(rt, alloc, begun, row)
     } else {
-        stepping(rt, alloc, clone, call, row)
+        stepping(rt, alloc, begun, call, row)
     }
 }
 
 /// What comes of the beginning of a clone.
 fn beginning<R: Threads>(rt: &R, alloc: Global, call: &str, row: Row<'_>) -> Tried<String> {
+    let start = start_of(call)?;
     let mut blank = blank(rt, alloc)?;
     blank.arm(row.calls, row.leave);
-    match begin(rt, alloc, blank, call)? {
-        Ok(clone) => left_on(rt, alloc, true, clone.stop()),
-        Err(banks) => left_on(rt, alloc, false, banks),
+    let begun = begin(rt, alloc, blank, start)?;
+    let is_done = is_begun(&begun)?;
+    left_on(rt, alloc, is_done, banks_of_begun(begun))
+}
+
+/// What a mount of banks comes to.
+fn mounted<R: Threads>(
+    rt: &R,
+    alloc: Global,
+    banks: MemoryBanks,
+) -> Tried<Box<Mounted<MemoryBanks>>> {
+    Ok(Box::new(alloc, MldClone::mount(rt, alloc, banks))?)
+}
+
+/// The banks that were mounted, or were not.
+fn banks_of_mounted(mounted: Box<Mounted<MemoryBanks>>) -> MemoryBanks {
+    match Box::into_inner(mounted) {
+        Mounted::Live(clone) => clone.stop(),
+        Mounted::Empty(blank) => blank.into_banks(),
+        Mounted::Refused(_fault, banks) => banks,
     }
 }
 
+/// Whether banks were mounted.
+fn is_mounted(mounted: &Mounted<MemoryBanks>) -> bool {
+    !matches!(mounted, Mounted::Refused(_, _))
+}
+
 /// What comes of a mount of the banks of a clone, which stops before.
-fn mounting<R: Threads>(
+fn mounting<R: Threads>(rt: &R, alloc: Global, begun: Box<Begun>, row: Row<'_>) -> Tried<String> {
+    let mut banks = banks_of_begun(begun);
+    banks.arm(row.calls, row.leave);
+    let mounted = mounted(rt, alloc, banks)?;
+    let is_done = is_mounted(&mounted);
+    left_on(rt, alloc, is_done, banks_of_mounted(mounted))
+}
+
+/// Does a step of a clone, on a device that is armed. Whether it was done, or its device failed.
+fn is_done<R: Threads>(
     rt: &R,
     alloc: Global,
-    clone: Box<TestClone>,
+    clone: &mut TestClone,
+    call: &str,
     row: Row<'_>,
-) -> Tried<String> {
-    let mut banks = Box::into_inner(clone).stop();
-    banks.arm(row.calls, row.leave);
-    match MldClone::mount(rt, alloc, banks) {
-        Mounted::Live(clone) => left_on(rt, alloc, true, clone.stop()),
-        Mounted::Empty(blank) => left_on(rt, alloc, true, blank.into_banks()),
-        Mounted::Refused(_fault, banks) => left_on(rt, alloc, false, banks),
+) -> Tried<bool> {
+    clone.arm(row.calls, row.leave);
+    match do_step(rt, alloc, clone, call) {
+        Ok(()) => Ok(true),
+        Err(Fault::Device) => Ok(false),
+        Err(fault) => Err(fault),
+    }
+}
+
+/// The same of a clone that was begun.
+fn is_stepped<R: Threads>(
+    rt: &R,
+    alloc: Global,
+    begun: &mut Begun,
+    call: &str,
+    row: Row<'_>,
+) -> Tried<bool> {
+    match begun {
+        Adopted::Joined(clone) => is_done(rt, alloc, clone, call, row),
+        Adopted::Refused(_, _) | Adopted::Ignored(_) => Err(Fault::Amiss),
     }
 }
 
@@ -62,19 +108,13 @@ fn mounting<R: Threads>(
 fn stepping<R: Threads>(
     rt: &R,
     alloc: Global,
-    clone: Box<TestClone>,
+    begun: Box<Begun>,
     call: &str,
     row: Row<'_>,
 ) -> Tried<String> {
-    let mut clone = clone;
-    clone.arm(row.calls, row.leave);
-    let ended = do_step(rt, alloc, &mut clone, call);
-    let banks = Box::into_inner(clone).stop();
-    match ended {
-        Ok(()) => left_on(rt, alloc, true, banks),
-        Err(Fault::Device) => left_on(rt, alloc, false, banks),
-        Err(fault) => Err(fault),
-    }
+    let mut begun = begun;
+    let is_done = is_stepped(rt, alloc, &mut begun, call, row)?;
+    left_on(rt, alloc, is_done, banks_of_begun(begun))
 }
 
 /// What comes of a call that was done or refused, and left these banks.
@@ -88,8 +128,14 @@ fn left_on<R: Threads>(rt: &R, alloc: Global, is_done: bool, banks: MemoryBanks)
 
 /// What is mounted.
 fn found_on<R: Threads>(rt: &R, alloc: Global, banks: MemoryBanks) -> Tried<String> {
-    match MldClone::mount(rt, alloc, banks) {
-        Mounted::Live(clone) => Ok(told(alloc, &clone)?),
+    let mounted = mounted(rt, alloc, banks)?;
+    found(alloc, &mounted)
+}
+
+/// What was mounted.
+fn found(alloc: Global, mounted: &Mounted<MemoryBanks>) -> Tried<String> {
+    match mounted {
+        Mounted::Live(clone) => Ok(told(alloc, clone)?),
         Mounted::Empty(_blank) => Ok(String::from_str(alloc, NOTHING)?),
         Mounted::Refused(fault, _banks) => Ok(format!(in alloc; "{fault}")?),
     }

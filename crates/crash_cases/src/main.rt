@@ -109,7 +109,12 @@ fn leaves_what_is_wanted<R: Print + Threads + Alloc<A = Global>>(
     let wanted = format!(in rt.alloc(); "{}, {left}", row.ended)?;
     let came = crash_call(rt, rt.alloc(), table.made, table.call, row);
     let got = text_of(rt.alloc(), came)?;
-    if wanted.as_str() == got.as_str() {
+    is_same(rt, place, wanted.as_str(), got.as_str())
+}
+
+/// Whether what came is what was wanted. What differs is written.
+fn is_same<R: Print>(rt: &R, place: u64, wanted: &str, got: &str) -> io::Result<bool> {
+    if wanted == got {
         return Ok(true);
     }
     println!(rt; "{place}: wanted `{wanted}`, got `{got}`")?;

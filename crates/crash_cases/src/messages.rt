@@ -40,22 +40,33 @@ fn clock_of(alloc: Global, path: Path, tick: u32) -> Result<Clock, AllocError> {
 fn inserts_of(alloc: Global, first: u32, last: u32) -> Tried<Vec<(Triple, u32)>> {
     let mut inserts = Vec::new(alloc);
     for tick in first..=last {
-        let name = format!(in alloc; "{tick}")?;
-        inserts.push((triple_of(alloc, name.as_str())?, tick))?;
+        inserts.push((triple_at(alloc, tick)?, tick))?;
     }
     Ok(inserts)
+}
+
+/// The triple that a tick inserts.
+fn triple_at(alloc: Global, tick: u32) -> Tried<Triple> {
+    let name = format!(in alloc; "{tick}")?;
+    triple_of(alloc, name.as_str())
 }
 
 /// The range of these ticks.
 pub fn range(alloc: Global, first: u32, last: u32) -> Tried<Box<Message>>
     ensures { IfOk result (λ message. IsGoodMessage (message_value message.value)) }
 {
+    let entry = entry_of(alloc, first, last)?;
+    Ok(Box::new(alloc, Message::Range(entry))?)
+}
+
+/// The entry of these ticks.
+fn entry_of(alloc: Global, first: u32, last: u32) -> Tried<Entry> {
     let path = right();
     let range = Range { path, first, last };
     let time = clock_of(alloc, path, last)?;
     let inserts = inserts_of(alloc, first, last)?;
     match Entry::new(range, time, Vec::new(alloc), inserts) {
-        Some(entry) => Ok(Box::new(alloc, Message::Range(entry))?),
+        Some(entry) => Ok(entry),
         None => Err(Fault::Amiss),
     }
 }
@@ -65,8 +76,7 @@ fn snapshot_of(alloc: Global, path: Path, tick: u32) -> Tried<Snapshot>
     ensures { IfOk result (λ snapshot. IsGoodSnapshot (snapshot_value snapshot)) }
 {
     let dot = Dot { path, tick };
-    let name = format!(in alloc; "{tick}")?;
-    let triple = triple_of(alloc, name.as_str())?;
+    let triple = triple_at(alloc, tick)?;
     let clock = clock_of(alloc, path, tick)?;
     if !clock.covers(&dot) {
         return Err(Fault::Amiss);

@@ -1,4 +1,6 @@
 //! The steps of a clone, each a word and what it is done with.
+ghost use Rattle.std.specs.Prelude.{IfOk};
+ghost use Rattle.jrql_ast.specs.InForm.{IsPlanInForm};
 ghost use Rattle.mld_ops.specs.Messages.{message_value, IsGoodMessage};
 
 use crate::faults::{Fault, Tried};
@@ -8,7 +10,8 @@ use clone_core::{Done, KeepFault, MldClone, ReceiveFault, UpdateFault};
 use disk_model::MemoryBanks;
 use jrql_ast::UpdatePlan;
 use mld_ops::Message;
-use std::alloc::Global;
+use rdf_terms::Triple;
+use std::alloc::{AllocError, Global};
 use std::thread::Threads;
 
 /// A clone on banks in memory.
@@ -18,11 +21,11 @@ pub type TestClone = MldClone<MemoryBanks>;
 pub fn do_step<R: Threads>(rt: &R, alloc: Global, clone: &mut TestClone, step: &str) -> Tried<()> {
     let (word, rest) = cut_word(step);
     match word {
-        "add" => add(alloc, clone, rest),
-        "remove" => remove(alloc, clone, rest),
+        "add" => change(alloc, clone, rest, true),
+        "remove" => change(alloc, clone, rest, false),
         "take" => take(rt, alloc, clone, rest),
         "merge" => merge(rt, alloc, clone, rest),
-        "fork" => deliver(rt, alloc, clone, &Message::JoinAsk(second())),
+        "fork" => fork(rt, alloc, clone),
         "compact" => kept(clone.compact(alloc)),
         "truncate" => kept(clone.truncate(alloc, u64::from(number(rest)?))),
         _ => Err(Fault::Amiss),
@@ -42,15 +45,20 @@ pub fn do_steps<R: Threads>(
     Ok(())
 }
 
-/// Makes the update that inserts a triple.
-fn add(alloc: Global, clone: &mut TestClone, name: &str) -> Tried<()> {
-    let plan = UpdatePlan::insertion(alloc, triple_of(alloc, name)?)?;
-    updated(clone.update(alloc, &plan))
+/// The plan that inserts a triple, or the one that deletes it.
+fn plan_of(alloc: Global, triple: Triple, inserts: bool) -> Result<UpdatePlan, AllocError>
+    ensures { IfOk result IsPlanInForm }
+{
+    if inserts {
+        UpdatePlan::insertion(alloc, triple)
+    } else {
+        UpdatePlan::deletion(alloc, triple)
+    }
 }
 
-/// Makes the update that deletes a triple.
-fn remove(alloc: Global, clone: &mut TestClone, name: &str) -> Tried<()> {
-    let plan = UpdatePlan::deletion(alloc, triple_of(alloc, name)?)?;
+/// Makes the update that inserts the triple of a name, or the one that deletes it.
+fn change(alloc: Global, clone: &mut TestClone, name: &str, inserts: bool) -> Tried<()> {
+    let plan = plan_of(alloc, triple_of(alloc, name)?, inserts)?;
     updated(clone.update(alloc, &plan))
 }
 
@@ -72,6 +80,11 @@ fn deliver<R: Threads>(rt: &R, alloc: Global, clone: &mut TestClone, message: &M
         Err(ReceiveFault::Device) => Err(Fault::Device),
         Err(_fault) => Err(Fault::Amiss),
     }
+}
+
+/// Asks a clone for a leaf.
+fn fork<R: Threads>(rt: &R, alloc: Global, clone: &mut TestClone) -> Tried<()> {
+    deliver(rt, alloc, clone, &Message::JoinAsk(second()))
 }
 
 /// Takes the range `TICK` or `FIRST-LAST`, or holds it back.
