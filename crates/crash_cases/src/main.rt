@@ -39,21 +39,30 @@ fn main(rt: HostRuntime) -> io::Result<ExitCode> {
 
 /// Runs the rows of a text. Gives how many there are, and how many of them differ, or are none.
 fn run_lines<R: Print + Threads + Alloc<A = Global>>(rt: &R, text: &str) -> io::Result<(u64, u64)> {
-    let mut crashes = 0u64;
-    let mut differ = 0u64;
-    let mut place = 0u64;
     let mut table = Table {
         made: "",
         call: "",
         left: Vec::new(rt.alloc()),
     };
+    run_in(rt, &mut table, text)
+}
+
+/// The same, with a table for the rows to belong to.
+fn run_in<'a, R: Print + Threads + Alloc<A = Global>>(
+    rt: &R,
+    table: &mut Table<'a>,
+    text: &'a str,
+) -> io::Result<(u64, u64)> {
+    let mut crashes = 0u64;
+    let mut differ = 0u64;
+    let mut place = 0u64;
     for text in text.lines() {
         place = place.saturating_add(1);
         let line = line_of(text);
         if matches!(line, Line::Row(_)) {
             crashes = crashes.saturating_add(1);
         }
-        if !is_as_wanted(rt, place, &mut table, line)? {
+        if !is_as_wanted(rt, place, table, line)? {
             differ = differ.saturating_add(1);
         }
     }

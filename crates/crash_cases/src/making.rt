@@ -46,18 +46,21 @@ pub fn start_of(step: &str) -> Tried<Start> {
     }
 }
 
-/// The banks that a mount found to be blank.
-fn blank_of(mounted: Mounted<MemoryBanks>) -> Tried<BlankBanks> {
+/// The banks that a mount found to be blank, or others.
+fn blank_of(mounted: Mounted<MemoryBanks>) -> Result<BlankBanks, MemoryBanks> {
     match mounted {
         Mounted::Empty(blank) => Ok(blank),
-        Mounted::Live(_) | Mounted::Refused(_, _) => Err(Fault::Amiss),
+        Mounted::Live(clone) => Err(clone.stop()),
+        Mounted::Refused(_fault, banks) => Err(banks),
     }
 }
 
 /// Banks that keep nothing.
 pub fn blank<R: Threads>(rt: &R, alloc: Global) -> Tried<Box<BlankBanks>> {
-    let blank = blank_of(MldClone::mount(rt, alloc, MemoryBanks::blank(alloc)))?;
-    Ok(Box::new(alloc, blank)?)
+    match blank_of(MldClone::mount(rt, alloc, MemoryBanks::blank(alloc))) {
+        Ok(blank) => Ok(Box::new(alloc, blank)?),
+        Err(_banks) => Err(Fault::Amiss),
+    }
 }
 
 /// The domain of all clones.
@@ -132,6 +135,15 @@ pub fn is_begun(begun: &Begun) -> Tried<bool> {
     }
 }
 
+/// Fails where no clone was begun.
+fn need_begun(begun: &Begun) -> Tried<()> {
+    if is_begun(begun)? {
+        Ok(())
+    } else {
+        Err(Fault::Device)
+    }
+}
+
 /// The banks of a clone that was begun, which stops, or those on which it wasn't.
 pub fn banks_of_begun(begun: Box<Begun>) -> MemoryBanks {
     match Box::into_inner(begun) {
@@ -145,11 +157,8 @@ pub fn banks_of_begun(begun: Box<Begun>) -> MemoryBanks {
 fn first_made<R: Threads>(rt: &R, alloc: Global, step: &str) -> Tried<Box<Begun>> {
     let start = start_of(step)?;
     let begun = begin(rt, alloc, blank(rt, alloc)?, start)?;
-    if is_begun(&begun)? {
-        Ok(begun)
-    } else {
-        Err(Fault::Device)
-    }
+    need_begun(&begun)?;
+    Ok(begun)
 }
 
 /// The clone that steps make, on a device of which no call fails.
