@@ -43,11 +43,11 @@ fn failed_at<R: Threads>(rt: &R, alloc: Global, call: u64) -> Result<Failed, All
     let mut sink = Box::new(alloc, MemorySink::new(alloc, &[])?)?;
     let ran = failing_run(rt, alloc, call, &mut sink)?;
     let there = shown_on(rt, alloc, &ran.banks)?;
-    Ok(failed(ran.fault, sink.bytes(), there))
+    Ok(end_of(ran.fault, sink.bytes(), there))
 }
 
 /// How a run ended that ended so, wrote this, and left so many triples.
-fn failed(fault: Option<ShellFault>, text: &[u8], there: usize) -> Failed {
+fn end_of(fault: Option<ShellFault>, text: &[u8], there: usize) -> Failed {
     Failed {
         fault,
         created: count_of(text, b"created") == 1,
