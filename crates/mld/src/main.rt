@@ -5,7 +5,7 @@
 use disk_model::{MemoryBanks, blank_banks};
 use mld_io::{StdSink, StdSource};
 use mld_model::CLONE_COUNT;
-use mld_replay::run::{Ran, RunFault, ended, run};
+use mld_replay::run::{Ran, RunFault, end_run, run};
 use std::alloc::{Alloc, Global};
 use std::env::{self, Env};
 use std::io::{self, ErrorKind, Input, Print};
@@ -16,7 +16,7 @@ use std::thread::Threads;
 fn main(rt: HostRuntime) -> ExitCode {
     let ran = match run_on_standard(&rt) {
         Ok(ran) => ran,
-        Err(error) => ended(Some(fault_before(&error)), Vec::new(rt.alloc()), None),
+        Err(error) => end_run(Some(fault_before(&error)), Vec::new(rt.alloc()), None),
     };
     if let Some(fault) = &ran.fault {
         // Where standard error fails too, the status still tells.
