@@ -1,7 +1,8 @@
 //! Which texts are plain integers. No test takes memory.
-ghost use Rattle.std.specs.Prelude.{◌≡◌};
+ghost use Rattle.std.specs.Prelude.{◌≡◌, Some, IsTrue};
 ghost use Rattle.std.specs.Str.{all_ascii_digits};
-ghost use Rattle.text_rules.specs.Integers.{is_positive_integer, is_plain_integer};
+ghost use Rattle.std.specs.Str.Parse.{signed_digits_value};
+ghost use Rattle.text_rules.specs.Integers.{is_positive_integer, is_plain_integer, plain_integer_value};
 
 /// How many digits a plain integer has at most.
 const DIGIT_LIMIT: usize = 30;
@@ -42,5 +43,24 @@ pub fn is_plain_integer(text: &str) -> bool
                 || (*first == b'-' && is_positive_integer(rest))
                 || (*first == b'0' && rest.is_empty())
         }
+    }
+}
+
+/// The number of a plain integer.
+fn parsed(text: &str) -> Option<i128>
+    requires { IsTrue (is_plain_integer text.now) }
+    ensures { result ≡ Some (signed_digits_value 10 text.now) }
+{
+    text.parse::<i128>().ok()
+}
+
+/// The number of a text, where it is a plain integer.
+pub fn plain_integer_value(text: &str) -> Option<i128>
+    ensures { result ≡ plain_integer_value text.now }
+{
+    if is_plain_integer(text) {
+        parsed(text)
+    } else {
+        None
     }
 }
