@@ -1,5 +1,5 @@
 //! Requests that a live clone answers.
-ghost use Rattle.std.specs.Prelude.{◌≡◌, ◌≤◌, [], None, Some, length, OnOk, OnErr, IsErrOf};
+ghost use Rattle.std.specs.Prelude.{◌≡◌, [], None, Some, OnOk, OnErr, IsErrOf};
 ghost use Rattle.node_model.specs.journal_store.Closing.{StaysTold};
 ghost use Rattle.node_model.specs.shell_session.ReadShell.{IsShellInForm};
 ghost use Rattle.node_model.specs.shell_session.SessionLines.{Meters};
