@@ -1,5 +1,5 @@
 -- The numbers of signs and digits.
-use Rattle.std.proofs.Common.{◌≡◌, ℕ, ℤ, pos, neg_ℤ, zero, suc, ◌<◌, ◌≤◌, ◌^◌, ◌==◌, List, [], ◌∷◌, Bool, true, false, not, ◌&&◌, ◌||◌, cond, Result, Ok, Err, length, nat_le, unsigned_abs, refl, sym, ap, subst, inl, inr, leb-true, true≢false, drop, arith}
+use Rattle.std.proofs.Common.{◌≡◌, ℕ, ℤ, pos, neg_ℤ, zero, suc, ◌<◌, ◌≤◌, ◌^◌, ◌==◌, List, [], ◌∷◌, Bool, true, false, not, ◌&&◌, ◌||◌, cond, Result, Ok, Err, length, nat_le, unsigned_abs, refl, sym, ap, subst, inl, inr, leb-true, true≢false, arith}
 use Rattle.std.specs.Int.{w128}
 use Rattle.std.specs.Prelude.{OkIff}
 use Rattle.std.specs.Str.{all_ascii_digits}
