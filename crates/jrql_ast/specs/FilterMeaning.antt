@@ -1,6 +1,6 @@
 -- When a filter holds (SPARQL 1.1 Query Language, section 17: the operators of section 17.3 over xsd:integer and xsd:string alone,
 -- with =, != as the comparison of terms, and without errors, which here are false).
-use Rattle.std.specs.Prelude.{ℕ, ℤ, List, Bool, false, not, ◌&&◌, nat_le, length, codes, Option, None, Some, if◌then◌else◌}
+use Rattle.std.specs.Prelude.{ℕ, ℤ, List, Bool, false, not, ◌&&◌, nat_le, length, Option, None, Some, if◌then◌else◌}
 use Rattle.std.specs.Cmp.Lexicographic.{slice_cmp}
 use Rattle.std.specs.Option.{option_map, option_map_or, option_or, option_zip}
 use Rattle.std.specs.Ordering.{nat_cmp, int_cmp, is_lt, is_le, is_gt, is_ge, is_some_and}
@@ -9,17 +9,13 @@ use Rattle.std.specs.Str.Parse.{without_leading_sign, signed_digits_value}
 use Rattle.std.specs.declared.cmp.Ordering.{Ordering}
 use Rattle.rdf_terms.specs.declared.terms.Term.{Term}
 use Rattle.rdf_terms.specs.declared.terms.Term.TheVariants as terms
-use Rattle.rdf_terms.specs.Literal.{Typed, Tagged, xsd_string, is_same}
+use Rattle.rdf_terms.specs.Literal.{Typed, Tagged, xsd_string, xsd_integer, is_same}
 use Rattle.jrql_ast.specs.declared.patterns.Compare.{Compare}
 use Rattle.jrql_ast.specs.declared.patterns.Compare.TheVariants as compares
 use Rattle.jrql_ast.specs.declared.patterns.Filter.{Filter}
 use Rattle.jrql_ast.specs.declared.patterns.Slot.{Slot}
 use Rattle.jrql_ast.specs.declared.patterns.Slot.TheVariants as slots
 use Rattle.jrql_ast.specs.Solutions.{is_same_term, value_of}
-
--- xsd:integer (XML Schema Part 2, section 3.4.13)
-unfoldable pub xsd_integer : List ℕ
-xsd_integer = codes "http://www.w3.org/2001/XMLSchema#integer"
 
 -- how many digits a number that is compared has at most
 abbrev pub digit_limit : ℕ

@@ -11,14 +11,13 @@ use Rattle.serde_json.specs.Data.{Data, null, boolean, number, string, array, ob
 use Rattle.serde_json.specs.View.{items_of}
 use Rattle.serde_json.specs.Find.{is_float}
 use Rattle.serde_json.specs.Written.{has_float, items_have_float, members_have_float}
-use Rattle.rdf_terms.specs.Literal.{LiteralValue, Typed, Tagged, xsd_string, is_same}
+use Rattle.rdf_terms.specs.Literal.{LiteralValue, Typed, Tagged, xsd_string, xsd_integer, is_same}
 use Rattle.rdf_terms.specs.declared.terms.Term.{Term}
 use Rattle.rdf_terms.specs.declared.terms.Term.TheVariants as terms
 use Rattle.jrql_ast.specs.declared.answers.Described.{Described}
 use Rattle.jsonld_context.specs.Context.{ContextValue}
 use Rattle.jsonld_context.specs.Texts.{is_variable}
 use Rattle.jsonld_context.specs.ShortForms.{compact_id}
-use Rattle.jrql_ast.specs.FilterMeaning.{xsd_integer}
 use Rattle.jrql_patterns.specs.jsonld_values.Literals.{xsd_boolean}
 use Rattle.jrql_patterns.specs.jsonld_values.TermWriting.{plain_number, plain_unsigned, plain_negative, negated, digits_from, typed_data, string_data, boolean_data, integer_data, literal_data, term_data}
 use Rattle.jrql_patterns.specs.jsonld_subjects.SubjectWriting.{KeyedTerm, SaysSubject, data_under, with_value, with_keyed, members_of_keyed}

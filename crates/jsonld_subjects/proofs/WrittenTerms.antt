@@ -7,7 +7,7 @@ use Rattle.std.proofs.lemmas.Bool.{not-true}
 use Rattle.jrql_ast.specs.declared.patterns.Slot.{Slot}
 use Rattle.jrql_ast.specs.declared.patterns.Slot.TheVariants as slots
 use Rattle.text_rules.specs.Tags.{is_language_tag}
-use Rattle.rdf_terms.specs.Literal.{LiteralValue, Typed, Tagged, xsd_string, rdf_lang_string, is_same, lexical_limit}
+use Rattle.rdf_terms.specs.Literal.{LiteralValue, Typed, Tagged, xsd_string, xsd_integer, rdf_lang_string, is_same, lexical_limit}
 use Rattle.rdf_terms.specs.declared.terms.Term.{Term}
 use Rattle.rdf_terms.specs.declared.terms.Term.TheVariants as terms
 use Rattle.serde_json.specs.Data.{Data, boolean, number, string, Num, no_members, member}
@@ -16,7 +16,6 @@ use Rattle.jsonld_context.specs.ShortForms.{compact_key, compact_id}
 use Rattle.jsonld_context.specs.Texts.{is_variable}
 use Rattle.jsonld_context.proofs.TextLaws.{same}
 use Rattle.jsonld_values.specs.Literals.{xsd_boolean, xsd_double, literal_slot, number_of_text, made_of}
-use Rattle.jrql_ast.specs.FilterMeaning.{xsd_integer}
 use Rattle.jsonld_values.specs.TermWriting.{plain_number, one_member, two_members, typed_data, string_data, boolean_data, integer_data, literal_data, term_data}
 use Rattle.jsonld_values.specs.ValueObjects.{value_object}
 use Rattle.jsonld_subjects.specs.GivingBack.{IsLiteralGivenBack, IsTermGivenBack}

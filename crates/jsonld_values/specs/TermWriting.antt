@@ -1,7 +1,7 @@
 -- Terms as JSON values (JSON-LD 1.1 API section 8.5.2, RDF to Object Conversion; this profile's own choice of forms).
 use Rattle.std.specs.Prelude.{ℕ, zero, suc, negsuc, ◌+◌, ◌*◌, List, [], ◌∷◌, true, false, ◌&&◌, ◌==◌, ◌-◌, ◌^◌, nat_lt, decimal, Option, Some, None, codes, if◌then◌else◌}
 use Rattle.std.specs.Option.{option_map_or}
-use Rattle.rdf_terms.specs.Literal.{LiteralValue, Typed, Tagged, xsd_string, is_same}
+use Rattle.rdf_terms.specs.Literal.{LiteralValue, Typed, Tagged, xsd_string, xsd_integer, is_same}
 use Rattle.rdf_terms.specs.declared.terms.Term.{Term}
 use Rattle.rdf_terms.specs.declared.terms.Term.TheVariants as terms
 use Rattle.serde_json.specs.Data.{Data, boolean, number, string, object, Num, unsigned, negative, no_members, member}
@@ -9,7 +9,6 @@ use Rattle.jsonld_context.specs.Context.{ContextValue}
 use Rattle.jsonld_context.specs.ShortForms.{compact_key, compact_id}
 use Rattle.jsonld_context.specs.Texts.{is_variable}
 use Rattle.jsonld_values.specs.Literals.{xsd_boolean}
-use Rattle.jrql_ast.specs.FilterMeaning.{xsd_integer}
 
 -- the number that digits spell; what is no digit counts as one all the same
 abbrev pub digits_from : ℕ → List ℕ → ℕ

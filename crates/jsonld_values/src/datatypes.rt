@@ -2,9 +2,8 @@
 ghost use Rattle.std.specs.Prelude.{◌≡◌, ◌≤◌, length, not, IsTrue, IfOk};
 ghost use Rattle.std.specs.Option.{option_copied};
 ghost use Rattle.text_rules.specs.Iri.{is_absolute};
-ghost use Rattle.rdf_terms.specs.Literal.{Typed, is_same, rdf_lang_string, xsd_string, lexical_limit};
+ghost use Rattle.rdf_terms.specs.Literal.{Typed, is_same, rdf_lang_string, xsd_string, xsd_integer, lexical_limit};
 ghost use Rattle.jsonld_values.specs.Literals.{IsDatatype, datatype_under, xsd_boolean, xsd_double};
-ghost use Rattle.jrql_ast.specs.FilterMeaning.{xsd_integer};
 
 use jsonld_context::TermType;
 use rdf_terms::{Iri, Literal, TermFault};
@@ -44,7 +43,7 @@ pub(crate) fn boolean_type() -> &'static str
 }
 
 /// The text of xsd:integer.
-#[tactic(auto, unfolding(jrql_ast::specs::FilterMeaning::xsd_integer))]
+#[tactic(auto, unfolding(rdf_terms::specs::Literal::xsd_integer))]
 pub(crate) fn integer_type() -> &'static str
     ensures text { result.now ≡ xsd_integer }
     ensures datatype { IsDatatype result.now }

@@ -2,7 +2,7 @@
 ghost use Rattle.std.specs.Prelude.{◌≡◌, ◌≢◌, ◌≤◌, length, not, codes, None, Some, Ok, IfOk, IfErr, IsTrue};
 ghost use Rattle.std.specs.Str.{str_to_ascii_lowercase};
 ghost use Rattle.text_rules.specs.Tags.{is_language_tag};
-ghost use Rattle.rdf_terms.specs.Literal.{Tagged, is_same, lexical_limit, rdf_lang_string};
+ghost use Rattle.rdf_terms.specs.Literal.{Tagged, is_same, lexical_limit, rdf_lang_string, xsd_integer};
 ghost use Rattle.serde_json.specs.Data.{number};
 ghost use Rattle.serde_json.specs.View.{view, members_view, number_view};
 ghost use Rattle.jsonld_context.specs.ContextReading.{first_fault};
@@ -10,7 +10,6 @@ ghost use Rattle.jsonld_context.specs.Expanding.{key_meant, expand_key};
 ghost use Rattle.jsonld_context.specs.Telling.{IsToldBy, IsReadAs};
 ghost use Rattle.jsonld_context.specs.declared.faults.JsonFault.TheVariants as faults;
 ghost use Rattle.jsonld_values.specs.Literals.{IsDatatype, xsd_double};
-ghost use Rattle.jrql_ast.specs.FilterMeaning.{xsd_integer};
 ghost use Rattle.jsonld_values.specs.ValueObjects.{has_member, is_language_key, is_value_key, datatype_said, fault_of_language, fault_of_datatype, fault_of_typing, fault_of_length, fault_of_boolean, fault_of_written, fault_of_value_part, fault_of_value_object, literal_beside, literal_said, literal_meant, value_object};
 
 use crate::datatypes::{
