@@ -29,7 +29,7 @@ use world_commands::stopping::stop;
 use world_commands::{Parts, WorldFault};
 
 /// Does a command, and adds the text of its reply to the output, which is as it was where the command is refused.
-pub fn answer<R: Threads, B: CrashBanks>(
+pub fn answer<R: Threads + Sync, B: CrashBanks>(
     rt: &R,
     alloc: Global,
     parts: &mut Parts<B>,

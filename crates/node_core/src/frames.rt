@@ -32,7 +32,7 @@ use wire_frames::{Assembled, Assembly, AssemblyFault, Frame};
 /// # Errors
 ///
 /// `Device` where the device failed, and `NoMemory`. The banks are given back.
-pub(crate) fn take_frames<R: Threads, B: Banks>(
+pub(crate) fn take_frames<R: Threads + Sync, B: Banks>(
     rt: &R,
     alloc: Global,
     state: NodeState<B>,
@@ -68,7 +68,7 @@ pub(crate) fn take_frames<R: Threads, B: Banks>(
 /// # Errors
 ///
 /// `Device` where the device failed, and `NoMemory`. The banks are given back.
-fn take_frame<R: Threads, B: Banks>(
+fn take_frame<R: Threads + Sync, B: Banks>(
     rt: &R,
     alloc: Global,
     state: NodeState<B>,
@@ -155,7 +155,7 @@ fn take_request<B: Banks>(
 /// # Errors
 ///
 /// `Device` where the device failed, and `NoMemory`. The banks are given back.
-fn take_part<R: Threads, B: Banks>(
+fn take_part<R: Threads + Sync, B: Banks>(
     rt: &R,
     alloc: Global,
     state: NodeState<B>,

@@ -1,5 +1,6 @@
 pub mod Plain
 pub mod Comparing
+pub mod Replies
 pub mod Appending
 pub mod Steps
 pub mod MayBegin

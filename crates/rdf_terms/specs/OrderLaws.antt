@@ -39,7 +39,7 @@ iri_text_injective a b e = (same_from_push a b 62 62 (tail_of e)).0
     tail_of e = cc
 
 -- what two orders in a row find equal, each finds equal
-both_equal : (o p : Ordering) → ordering_then o p ≡ Equal → (o ≡ Equal) × (p ≡ Equal)
+pub both_equal : (o p : Ordering) → ordering_then o p ≡ Equal → (o ≡ Equal) × (p ≡ Equal)
 both_equal Less p h = cc
 both_equal Equal p h = (refl, h)
 both_equal Greater p h = cc

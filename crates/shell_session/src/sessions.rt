@@ -45,7 +45,7 @@ impl<B: Banks> Session<B> {
     /// # Errors
     ///
     /// `Device` where the device failed, and `NoMemory`. A live clone stops, and the banks are given back; the output is as it was.
-    pub fn line<R: Threads>(
+    pub fn line<R: Threads + Sync>(
         self,
         rt: &R,
         alloc: Global,
@@ -93,7 +93,7 @@ impl<B: Banks> Session<B> {
 }
 
 /// Does a command.
-fn do_command<R: Threads, B: Banks>(
+fn do_command<R: Threads + Sync, B: Banks>(
     rt: &R,
     alloc: Global,
     session: Session<B>,
