@@ -1,13 +1,13 @@
 //! Ticks, dots and clocks as bytes.
-ghost use Rattle.std.specs.Prelude.{◌≡◌, ◌≤◌, ◌<◌, ◌-◌, ◌^◌, ◌++◌, ◌∷◌, [], true, length, drop, OnOk, OnErr, IfOk, MatchResult};
-ghost use Rattle.std.specs.List.{AllByRecursion, slice_get};
+ghost use Rattle.std.specs.Prelude.{◌≡◌, ◌≤◌, ◌++◌, ◌∷◌, [], true, length, drop, OnOk, OnErr, IfOk, MatchResult};
+ghost use Rattle.std.specs.List.{AllByRecursion};
 ghost use Rattle.op_codec.specs.Agreement.{IsRead, IsRefused, TakesItem, MissesItem};
 ghost use Rattle.op_codec.specs.Clocks.{tick_bytes, read_any_tick, read_tick, dot_bytes, read_dot, read_ticks, last_path, clock_bytes, read_clock};
 ghost use Rattle.rdf_terms.specs.Kept.{KeepsStart};
 ghost use Rattle.op_codec.specs.CodecLaws.{IsWrittenIn};
-ghost use Rattle.op_codec.specs.StoredLists.{is_above, is_above_one, list_bytes};
+ghost use Rattle.op_codec.specs.StoredLists.{is_above, is_above_one};
 ghost use Rattle.op_codec.specs.Stored.{IsShort, HasShape, HaveShape, IsStoredClock};
-ghost use Rattle.tree_clock.specs.Clock.{entry_cmp, IsClock};
+ghost use Rattle.tree_clock.specs.Clock.{entry_cmp};
 ghost use Rattle.tree_clock.specs.Path.{path_cmp};
 
 use crate::faults::CodecFault;

@@ -5,6 +5,7 @@ pub mod Order
 pub mod OrderLaws
 pub mod ReplyOrder
 pub mod ReplyLaws
+pub mod Hashed
 pub mod TermFaults
 pub mod Kept
 pub mod Escapes

@@ -4,7 +4,9 @@
 mod bodies;
 mod escapes;
 mod faults;
+mod hashes;
 mod kept;
+mod known;
 mod laws;
 mod limits;
 mod order;
@@ -16,6 +18,7 @@ mod triples;
 mod write;
 
 pub use faults::{TermFault, TripleFault};
+pub use known::{known_iri, tagged_literal, typed_literal};
 pub use laws::{one_place, one_triple, written_again};
 pub use limits::LEXICAL_LIMIT;
 pub use order::{cmp_iris, cmp_terms, cmp_triples, order_is_total};

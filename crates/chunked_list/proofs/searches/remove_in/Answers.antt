@@ -4,7 +4,7 @@ use Rattle.chunked_list.specs.Joined.{joined_chunks, front_of, back_of}
 use Rattle.chunked_list.proofs.Parting.{parted_ascending}
 use Rattle.chunked_list.proofs.Placing.{whole}
 use Rattle.chunked_list.proofs.Standing.{taken_ascends, taken_has}
-use Rattle.chunked_list.proofs.searches.remove_from.Goals as goal
+use Rattle.chunked_list.proofs.searches.remove_in.Goals as goal
 
 pub find-requires-clause-parted : goal.find-requires-clause-parted
 find-requires-clause-parted g c =

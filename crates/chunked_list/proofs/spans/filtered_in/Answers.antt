@@ -3,7 +3,7 @@ use Rattle.std.proofs.lemmas.List.Elements.{filter-append}
 use Rattle.std.specs.List.{filter}
 use Rattle.chunked_list.specs.Joined.{joined_chunks}
 use Rattle.chunked_list.proofs.JoinedLaws.{joined_more}
-use Rattle.chunked_list.proofs.filters.filtered_in.Goals as goal
+use Rattle.chunked_list.proofs.spans.filtered_in.Goals as goal
 
 pub loop-chunk-preserved : goal.loop-chunk-preserved
 loop-chunk-preserved g c =
