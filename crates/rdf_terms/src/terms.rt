@@ -3,10 +3,11 @@ ghost use Rattle.std.specs.Prelude.{◌≡◌, IfOk};
 ghost use Rattle.rdf_terms.specs.Literal.{is_same, rdf_lang_string, xsd_string};
 
 use crate::faults::TermFault;
+use crate::known::{known_iri, tagged_literal, typed_literal};
 use crate::limits::LEXICAL_LIMIT;
 use std::alloc::{AllocError, Global};
 use std::marker::Model;
-use text_rules::{Text, is_absolute, is_language_tag, lower_tag};
+use text_rules::{Text, is_absolute, is_language_tag};
 
 /// An absolute IRI of at most 2,048 bytes.
 #[derive(Debug, Drop)]
@@ -39,7 +40,7 @@ impl Iri {
         if !is_absolute(text) {
             return Err(TermFault::BadIri);
         }
-        Ok(Iri::from_absolute(Text::new(alloc, text)?))
+        Ok(known_iri(alloc, text)?)
     }
 
     /// The IRI of a text that is known to be one.
@@ -163,7 +164,6 @@ impl Literal {
 
     /// The literal of a lexical form and a datatype, refused with `BadType` where the datatype is rdf:langString,
     /// else with `TooLong` where the lexical form has more than 1,048,576 bytes.
-    #[tactic(auto, using(crate::proofs::Plain::is_xsd_string, crate::proofs::Plain::plain_literal))]
     pub fn new(alloc: Global, lexical: &str, datatype: &Iri) -> Result<Literal, TermFault>
         ensures ok { IfOk result (λ literal. literal ≡ Typed lexical.now datatype.now) }
         ensures bad_type { IsErrOf result TermFault.BadType ↔ IsTrue (is_same datatype.now rdf_lang_string) }
@@ -177,16 +177,11 @@ impl Literal {
         if lexical.len() > LEXICAL_LIMIT {
             return Err(TermFault::TooLong);
         }
-        let lexical = Text::new(alloc, lexical)?;
-        if is_string_type(datatype) {
-            return Ok(Literal::plain(lexical));
-        }
-        Ok(Literal::from_typed(lexical, datatype.share()?))
+        Ok(typed_literal(alloc, lexical, datatype)?)
     }
 
     /// The literal of a lexical form and a language tag, which it keeps in lower case, refused with `BadTag`
     /// where the text is no language tag, else with `TooLong` where the lexical form has more than 1,048,576 bytes.
-    #[tactic(auto, using(text_rules::proofs::TagLemmas::lower_lower, text_rules::proofs::TagLemmas::lower_tag))]
     pub fn tagged(alloc: Global, lexical: &str, tag: &str) -> Result<Literal, TermFault>
         ensures ok { IfOk result (λ literal. literal ≡ Tagged lexical.now (str_to_ascii_lowercase tag.now)) }
         ensures bad_tag { IsErrOf result TermFault.BadTag ↔ IsTrue (not (is_language_tag tag.now)) }
@@ -200,8 +195,7 @@ impl Literal {
         if lexical.len() > LEXICAL_LIMIT {
             return Err(TermFault::TooLong);
         }
-        let tag = lower_tag(alloc, tag)?;
-        Ok(Literal::from_tagged(Text::new(alloc, lexical)?, tag))
+        Ok(tagged_literal(alloc, lexical, tag)?)
     }
 
     /// The literal of a lexical form that is not too long and the datatype xsd:string, which takes no memory for it.

@@ -4,3 +4,4 @@ pub mod Comparing
 pub mod Blocks
 pub mod TagLemmas
 pub mod Colons
+pub mod Numbers

@@ -12,3 +12,4 @@ pub mod BytePlaces
 pub mod Compare
 pub mod CompareLaws
 pub mod TextForms
+pub mod Integers

@@ -7,6 +7,7 @@ mod compare;
 mod dots;
 mod faults;
 mod forms;
+mod integers;
 mod places;
 mod references;
 mod resolution;
@@ -20,6 +21,7 @@ pub use forms::{
     begins_as_keyword, begins_authority, cut_colon, ends_in_delimiter, has_colon, is_delimiter,
     is_plain, is_term_name, is_variable, plain_end,
 };
+pub use integers::{is_plain_integer, plain_integer_value};
 pub use places::{byte_at, has_byte};
 pub use resolution::resolve;
 pub use tags::{is_language_tag, lower_tag};
