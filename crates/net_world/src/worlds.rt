@@ -7,7 +7,6 @@ use crate::summaries::Summary;
 use crate::summarizing::summarize;
 use clone_core::journal_store::Blank;
 use mld_io::{Banks, CrashBanks};
-use mld_model::CloneState;
 use mld_ops::kept_properties;
 use schedule_model::Command;
 use schedule_text::Setup;
