@@ -170,8 +170,7 @@ fn read_next(
 
 /// Reads a clock from a place of an input, in bytes from its start and at most its length, and the place behind the clock.
 /// Refused with `NotInGrammar` where no clock is spelled there, with the place of what is wrong in the input: that of a
-/// path with its ticks, where it isn't above the one before it. Memory is taken for the paths that are there, whatever
-/// their count says.
+/// path with its ticks, where it isn't above the one before it.
 pub fn read_clock(alloc: Global, input: &[u8], at: usize) -> Result<(Clock, usize), CodecFault>
     requires { at ≤ length input.now }
     ensures agrees { MatchResult result
@@ -180,6 +179,7 @@ pub fn read_clock(alloc: Global, input: &[u8], at: usize) -> Result<(Clock, usiz
     ensures written { IfOk result (λ read. IsWrittenIn IsStoredClock clock_bytes at input.now (read.0).ticks read.1) }
 {
     let (count, mut place) = read_u32(input, at)?;
+    // Paths are read one by one, so that a count by itself asks for no memory.
     let mut clock = Clock::empty(alloc);
     let mut last = None;
     for _done in 0..count {
