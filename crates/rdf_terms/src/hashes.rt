@@ -1,4 +1,6 @@
 //! Hashes of IRIs, literals and terms, which equal ones have alike.
+ghost use Rattle.std.proofs.Common.{rules};
+ghost use Rattle.std.specs.Cmp.Rules.{hashing};
 ghost use Rattle.std.specs.Cmp.{partial_equiv_from_equiv, eq_by_cmp_equiv};
 ghost use Rattle.std.specs.Hash as fed;
 ghost use Rattle.std.specs.Ordering.{eq_by_cmp};
@@ -11,9 +13,6 @@ use crate::terms::{Iri, Kind, Literal, Term, is_string_type};
 use std::hash::{Hash, Hasher};
 
 impl Hash for Iri {
-    ghost use Rattle.std.proofs.Common.{rules};
-    ghost use Rattle.std.specs.Cmp.Rules.{hashing};
-
     ghost hash_input = { λ iri. fed.str iri };
 
     ghost respects_eq = { Prim.search (hashing, rules) };

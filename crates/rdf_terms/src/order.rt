@@ -9,6 +9,7 @@ ghost use Rattle.std.specs.Ordering.{nat_cmp, eq_by_cmp, as_partial_cmp};
 ghost use Rattle.rdf_terms.specs.Spelling.{suffix_text, datatype_text};
 ghost use Rattle.text_rules.specs.Marks.{at_sign};
 ghost use Rattle.rdf_terms.specs.Order.{iri_cmp, literal_cmp, term_cmp, triple_cmp};
+ghost use Rattle.rdf_terms.specs.ReplyOrder.{reply_cmp};
 ghost use Rattle.rdf_terms.specs.OrderLaws.{term_total, triple_total};
 
 use crate::terms::{Iri, Kind, Literal, Term, Triple, is_string_type};
@@ -185,11 +186,13 @@ impl Ord for Triple {
     }
 }
 
-/// The orders of terms and of triples are total, and values that they find equal are the same.
-#[tactic(auto, using(crate::specs::OrderLaws::term_total, crate::specs::OrderLaws::term_exact, crate::specs::OrderLaws::triple_total, crate::specs::OrderLaws::triple_exact))]
+/// The orders of terms, of triples and of replies are total, and values that they find equal are the same.
+#[tactic(auto, using(crate::specs::OrderLaws::term_total, crate::specs::OrderLaws::term_exact, crate::specs::OrderLaws::triple_total, crate::specs::OrderLaws::triple_exact, crate::specs::ReplyLaws::reply_total, crate::specs::ReplyLaws::reply_exact))]
 pub fn order_is_total()
     ensures terms_total { IsTotalOrder term_cmp }
     ensures terms_exact { CmpEqualImpliesEq term_cmp }
     ensures triples_total { IsTotalOrder triple_cmp }
     ensures triples_exact { CmpEqualImpliesEq triple_cmp }
+    ensures replies_total { IsTotalOrder reply_cmp }
+    ensures replies_exact { CmpEqualImpliesEq reply_cmp }
 {}

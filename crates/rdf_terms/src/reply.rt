@@ -1,8 +1,5 @@
 //! The order in which replies have terms: integers by value, with no memory taken.
-ghost use Rattle.std.specs.Prelude.{◌≡◌, ◌↔◌};
-ghost use Rattle.std.specs.Cmp.{IsTotalOrder};
-ghost use Rattle.std.specs.declared.cmp.Ordering.TheVariants.{Equal};
-ghost use Rattle.rdf_terms.specs.declared.terms.Term.{Term};
+ghost use Rattle.std.specs.Prelude.{◌≡◌};
 ghost use Rattle.rdf_terms.specs.Literal.{has_datatype, xsd_integer};
 ghost use Rattle.rdf_terms.specs.ReplyOrder.{integer_of, reply_cmp};
 
@@ -48,10 +45,3 @@ pub fn cmp_reply(a: &Term, b: &Term) -> Ordering
         (None, None) => cmp_terms(a, b),
     }
 }
-
-/// The order of replies is total, and two terms compare as equal exactly where they are the same.
-#[tactic(auto, using(crate::specs::ReplyLaws::reply_total, crate::specs::ReplyLaws::reply_equal))]
-pub fn reply_order_is_total()
-    ensures total { IsTotalOrder reply_cmp }
-    ensures equal { (a b : Term) → (reply_cmp a b ≡ Equal) ↔ (a ≡ b) }
-{}

@@ -5,3 +5,4 @@ pub mod Blocks
 pub mod TagLemmas
 pub mod Colons
 pub mod Numbers
+pub mod Appending

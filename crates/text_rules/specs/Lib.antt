@@ -13,3 +13,5 @@ pub mod Compare
 pub mod CompareLaws
 pub mod TextForms
 pub mod Integers
+pub mod Spots
+pub mod KeptStart

@@ -2,9 +2,9 @@ use Rattle.std.proofs.Common.{◌≡◌, ℕ, ◌-◌, List, [], ◌∷◌, ◌+
 use Rattle.std.proofs.lemmas.List.{take_rest}
 use Rattle.std.specs.Result.{OnOk}
 use Rattle.text_rules.specs.Escaped.{escaped}
-use Rattle.rdf_terms.proofs.Appending.{plain_step, escape_step, last_piece, keeps_on}
-use Rattle.rdf_terms.proofs.write.append_escaped.Goals as goal
-use Rattle.rdf_terms.proofs.write.append_escaped.Goals.{in-Some+in_ok-append_escape, in_default}
+use Rattle.text_rules.proofs.Appending.{plain_step, escape_step, last_piece, keeps_on}
+use Rattle.text_rules.proofs.escaped.append_escaped.Goals as goal
+use Rattle.text_rules.proofs.escaped.append_escaped.Goals.{in-Some+in_ok-append_escape, in_default}
 
 pub loop-i-preserved : goal.loop-i-preserved
 loop-i-preserved c =

@@ -1,7 +1,7 @@
 use Rattle.std.proofs.Common.{◌≡◌, ◌≤◌, ◌++◌, drop, take}
-use Rattle.rdf_terms.specs.Kept.{KeepsStart}
+use Rattle.text_rules.specs.KeptStart.{KeepsStart}
 use Rattle.text_rules.specs.Escaped.{escaped}
-use Rattle.rdf_terms.proofs.write.append_escaped.Given as goal
+use Rattle.text_rules.proofs.escaped.append_escaped.Given as goal
 
 -- what is written, with the piece that is not copied yet, is the front with its escapes
 abbrev pub invariant-loop-i : goal.invariant-loop-i

@@ -1,10 +1,9 @@
 //! Where in a term's text a character stands, and what may stand there.
 ghost use Rattle.std.specs.Prelude.{◌≡◌};
 ghost use lib.Utf8.{scalar};
-ghost use Rattle.rdf_terms.specs.Escapes.{is_plain_byte};
-ghost use Rattle.rdf_terms.specs.TripleReading.{spot_behind, after_plain, closes, may_hold};
+ghost use Rattle.text_rules.specs.Spots.{is_plain_byte, spot_behind, after_plain, closes, may_hold};
 
-use text_rules::characters::{is_excluded, is_letter, is_scheme_character};
+use crate::characters::{is_excluded, is_letter, is_scheme_character};
 
 /// Where in a term's text a character stands.
 #[derive(Clone, Copy, Debug, PartialEq, Eq)]
