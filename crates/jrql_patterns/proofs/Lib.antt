@@ -9,6 +9,6 @@ mod MetNumbers
 pub mod KeptGroups
 pub mod NoFresh
 mod KeptQueries
-mod MeantQueries
+pub mod MeantQueries
 mod MissedColumns
 mod NameOrder

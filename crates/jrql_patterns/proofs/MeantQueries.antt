@@ -1,5 +1,5 @@
 -- What is meant by a query that was read.
-use Rattle.std.proofs.Common.{◌≡◌, ◌∙◌, ◌⊎◌, ℕ, suc, ◌+◌, ◌-◌, ◌<◌, ◌≤◌, List, [], ◌∷◌, Bool, true, false, ◌&&◌, ◌||◌, ◌==◌, not, nat_lt, length, map, cond, Option, Some, None, Result, Ok, Err, IfOk, refl, sym, ap, subst, inl, inr, ⊎_elim, true≢false, if◌then◌else◌, ltb-false, arith}
+use Rattle.std.proofs.Common.{◌≡◌, ◌∙◌, ◌⊎◌, ℕ, suc, ◌+◌, ◌-◌, ◌<◌, List, [], ◌∷◌, Bool, true, false, ◌&&◌, ◌||◌, not, nat_lt, length, map, cond, Option, Some, None, Result, Ok, Err, IfOk, refl, sym, ap, subst, inl, inr, ⊎_elim, true≢false, if◌then◌else◌, ltb-false, arith}
 use Rattle.std.specs.Prelude.{All, Any, codes}
 use Rattle.std.specs.List.{filter, list_any, range_with_len}
 use Rattle.std.specs.Option.{option_or}
@@ -15,7 +15,7 @@ use Rattle.jsonld_context.specs.Context.{ContextValue}
 use Rattle.jsonld_context.specs.ContextReading.{unless_fault}
 use Rattle.jsonld_context.specs.declared.faults.JsonFault.{JsonFault}
 use Rattle.jsonld_context.specs.declared.faults.JsonFault.TheVariants as faults
-use Rattle.jsonld_subjects.specs.jsonld_values.Numbering.{numbered_variable, numbered_slot, numbered_triple, numbered_triples}
+use Rattle.jsonld_subjects.specs.jsonld_values.Numbering.{numbered_slot, numbered_triple, numbered_triples}
 use Rattle.jsonld_subjects.specs.jsonld_values.ValueObjects.{has_member}
 use Rattle.jsonld_subjects.proofs.KeptNames.{ok_same, no_fault, made_is, followed_is}
 use Rattle.jrql_patterns.specs.OpenGroups.{OpenGroup, group_of, not_under}
@@ -29,15 +29,15 @@ use Rattle.jrql_patterns.proofs.KeptQueries.{IsQueryKept, begins_kept, parts_rea
 some_none : {X : Type 0} (x : X) → ◌≡◌ {A = Option X} (Some x) None → ⊥
 some_none x h = cc
 
-nothing_told : {X : Type 0} (fault : Option JsonFault) (value x : X) → unless_fault fault value ≡ Ok x → (fault ≡ None) × (value ≡ x)
+pub nothing_told : {X : Type 0} (fault : Option JsonFault) (value x : X) → unless_fault fault value ≡ Ok x → (fault ≡ None) × (value ≡ x)
 nothing_told None value x reads = (refl, ok_same value x reads)
 nothing_told (Some fault) value x reads = absurd (no_fault x fault reads)
 
-neither_told : (first second : Option JsonFault) → option_or first second ≡ None → (first ≡ None) × (second ≡ None)
+pub neither_told : (first second : Option JsonFault) → option_or first second ≡ None → (first ≡ None) × (second ≡ None)
 neither_told None second h = (refl, h)
 neither_told (Some fault) second h = absurd (some_none fault h)
 
-not_told : (broken : Bool) (key : List ℕ) → fault_where broken key ≡ None → broken ≡ false
+pub not_told : (broken : Bool) (key : List ℕ) → fault_where broken key ≡ None → broken ≡ false
 not_told true key h = absurd (some_none (faults.BadQuery key) h)
 not_told false key h = refl
 
@@ -81,7 +81,7 @@ is_matched true select asked h is = refl
 is_matched false true asked h is = absurd (true≢false h)
 is_matched false false asked h is = absurd (true≢false (sym is))
 
-none_missed : (matched missed : Bool) → (matched && missed) ≡ false → matched ≡ true → missed ≡ false
+pub none_missed : (matched missed : Bool) → (matched && missed) ≡ false → matched ≡ true → missed ≡ false
 none_missed true missed h is = h
 none_missed false missed h is = absurd (true≢false (sym is))
 

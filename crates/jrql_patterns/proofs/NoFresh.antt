@@ -1,5 +1,5 @@
 -- What is read of a group meets no fresh subject.
-use Rattle.std.proofs.Common.{◌≡◌, ◌∙◌, List, [], ◌∷◌, true, Option, Some, None, Result, Ok, refl, subst}
+use Rattle.std.proofs.Common.{◌≡◌, ◌∙◌, List, [], ◌∷◌, true, Option, Some, None, Ok, refl, subst}
 use Rattle.std.specs.Prelude.{codes}
 use Rattle.jrql_ast.specs.declared.patterns.Compare.{Compare}
 use Rattle.jrql_ast.specs.declared.patterns.Filter.{Filter}
@@ -7,16 +7,15 @@ use Rattle.jrql_ast.specs.declared.patterns.PatternTriple.{PatternTriple}
 use Rattle.jrql_ast.specs.declared.patterns.Slot.{Slot}
 use Rattle.serde_json.specs.Data.{Data, null, boolean, number, string, array, object, Items, no_items, item, Members, no_members, member}
 use Rattle.jsonld_context.specs.Context.{ContextValue}
-use Rattle.jsonld_context.specs.declared.faults.JsonFault.{JsonFault}
 use Rattle.jsonld_context.specs.declared.faults.JsonFault.TheVariants as faults
 use Rattle.jsonld_subjects.specs.jsonld_values.Literals.{made_of}
 use Rattle.jsonld_subjects.specs.jsonld_values.ValueObjects.{has_member}
 use Rattle.jsonld_subjects.specs.jsonld_values.VariableNames.{NamesValue}
 use Rattle.jsonld_subjects.specs.ObjectReading.{stands_alone, object_read}
-use Rattle.jsonld_subjects.specs.SubjectReading.{Found, subjects_read}
+use Rattle.jsonld_subjects.specs.SubjectReading.{subjects_read}
 use Rattle.jsonld_subjects.specs.declared.places.Place.TheVariants.{Pattern}
 use Rattle.jsonld_subjects.proofs.KeptNames.{ok_same, no_fault, made_is, followed_is, either_is, subjects_keep, object_keeps}
-use Rattle.jrql_patterns.specs.OpenGroups.{OpenGroup, not_under, has_one}
+use Rattle.jrql_patterns.specs.OpenGroups.{OpenGroup, not_under}
 use Rattle.jrql_patterns.specs.FilterReading.{compare_of, operand_of, read_operand, read_end, read_right, read_sides, with_filter, read_comparison, read_comparisons, unless_several, read_filter}
 use Rattle.jrql_patterns.specs.WhereReading.{with_patterns, with_branch, read_branches, read_alternatives, read_union, sole_member, read_condition, read_conditions, read_where}
 use Rattle.jrql_patterns.proofs.KeptGroups.{where_some, one_alone}

@@ -1,5 +1,5 @@
 -- Subjects without an id have different numbers, so those that are made anew differ.
-use Rattle.std.proofs.Common.{◌≡◌, ◌∙◌, ◌≢◌, ◌⊎◌, ℕ, ◌+◌, ◌<◌, ◌≤◌, List, [], ◌∷◌, ◌++◌, Bool, true, false, Option, Some, None, refl, sym, ap, subst, inl, inr, if◌then◌else◌, arith}
+use Rattle.std.proofs.Common.{◌≡◌, ◌∙◌, ◌≢◌, ◌⊎◌, ℕ, ◌+◌, ◌<◌, ◌≤◌, List, [], ◌∷◌, ◌++◌, Bool, true, false, Option, Some, None, sym, ap, subst, inl, inr, if◌then◌else◌, arith}
 use Rattle.std.specs.Prelude.{All, codes}
 use Rattle.std.proofs.lemmas.List.Elements.{All-nil, All-cons, All-head, All-tail, All-append, All-weaker}
 use Rattle.jrql_ast.specs.InForm.{variable_limit}
@@ -53,10 +53,11 @@ apart a b c d (inr behind) (Some n) (Some m) is are = λ h. let same = some_same
 differ_append : (a b c d : ℕ) → (b ≤ c) ⊎ (d ≤ a) → (some more : List (Option ℕ)) → AreNumbers a b some → AreNumbers c d more → Differ (some ++ more)
 differ_append a b c d ranges [] more one two = two.differ
 differ_append a b c d ranges (first ∷ some) more one two =
-    let rest : AreNumbers a b some = record { within = All-tail (IsWithin a b) first some one.within; differ = one.differ.1 } in
-    (All-append (DiffersFrom first) some more one.differ.0
-    (All-weaker (IsWithin c d) (DiffersFrom first) (λ other is. apart a b c d ranges first other (All-head (IsWithin a b) first some one.within) is) more two.within),
-    differ_append a b c d ranges some more rest two)
+    let rest : AreNumbers a b some = record { within = All-tail (IsWithin a b) first some one.within; differ = one.differ.1 } in (
+      All-append (DiffersFrom first) some more one.differ.0
+          (All-weaker (IsWithin c d) (DiffersFrom first) (λ other is. apart a b c d ranges first other (All-head (IsWithin a b) first some one.within) is) more two.within),
+      differ_append a b c d ranges some more rest two,
+    )
 
 numbers_append : (a b c d low high : ℕ) → (b ≤ c) ⊎ (d ≤ a) → low ≤ a → low ≤ c → b ≤ high → d ≤ high → (some more : List (Option ℕ)) → AreNumbers a b some → AreNumbers c d more
     → AreNumbers low high (some ++ more)

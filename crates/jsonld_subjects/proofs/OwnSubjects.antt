@@ -1,5 +1,5 @@
 -- Each subject without an id that is read is one of its own.
-use Rattle.std.proofs.Common.{◌≡◌, ◌∙◌, ℕ, ◌+◌, ◌<◌, List, [], ◌∷◌, ◌++◌, Bool, true, false, nat_lt, Option, Some, None, Result, Ok, Err, Ordering, Less, Equal, Greater, nat_cmp, is_eq, true≢false, refl, sym, ap, subst, if◌then◌else◌, arith}
+use Rattle.std.proofs.Common.{◌≡◌, ◌∙◌, ℕ, ◌+◌, List, [], ◌∷◌, ◌++◌, Bool, true, false, nat_lt, Option, Some, None, Result, Ok, Err, Ordering, Less, Equal, Greater, nat_cmp, is_eq, true≢false, refl, sym, ap, subst, if◌then◌else◌, arith}
 use Rattle.std.specs.Prelude.{codes}
 use Rattle.std.specs.Cmp.Lexicographic.{slice_cmp}
 use Rattle.std.specs.Option.{is_some}
@@ -35,7 +35,7 @@ use Rattle.jsonld_subjects.proofs.KeptNames.{ok_same, no_fault, made_is, followe
 use Rattle.jsonld_subjects.proofs.OwnNumbers.{own_fresh}
 
 -- one of two ways, and which it is
-either_so : {X : Type 0} (P : Type 0) (b : Bool) (left right : Result X JsonFault) (x : X) → (if b then left else right) ≡ Ok x
+pub either_so : {X : Type 0} (P : Type 0) (b : Bool) (left right : Result X JsonFault) (x : X) → (if b then left else right) ≡ Ok x
     → (b ≡ true → left ≡ Ok x → P) → (b ≡ false → right ≡ Ok x → P) → P
 either_so P true left right x reads first second = first refl reads
 either_so P false left right x reads first second = second refl reads
