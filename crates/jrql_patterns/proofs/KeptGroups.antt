@@ -164,7 +164,7 @@ comparisons_read context (member key value rest) group after reads =
     followed_is (ReadsOn group after) (read_comparison context (compare_of key) value group) (read_comparisons context rest) after reads
     (λ next found more. more_and_more group next after (comparison_read context (compare_of key) value group next found) (comparisons_read context rest next after more))
 
-one_alone : (members : Members) (read after : OpenGroup) → unless_several members read ≡ Ok after → read ≡ after
+pub one_alone : (members : Members) (read after : OpenGroup) → unless_several members read ≡ Ok after → read ≡ after
 one_alone members read after reads =
     either_is (read ≡ after) (has_one members) _ _ after reads
     (λ h. ok_same read after h)
@@ -217,7 +217,7 @@ union_read context value group after reads =
 -- ---- `@where`
 
 -- one of two ways, by whether there is a value
-where_some : {X Y : Type 0} (P : Type 0) (o : Option X) (next : X → Result Y JsonFault) (other : Result Y JsonFault) (y : Y) → option_map_or next o other ≡ Ok y
+pub where_some : {X Y : Type 0} (P : Type 0) (o : Option X) (next : X → Result Y JsonFault) (other : Result Y JsonFault) (y : Y) → option_map_or next o other ≡ Ok y
     → ((x : X) → next x ≡ Ok y → P) → (other ≡ Ok y → P) → P
 where_some P (Some x) next other y reads first second = first x reads
 where_some P None next other y reads first second = second reads

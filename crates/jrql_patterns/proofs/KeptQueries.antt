@@ -32,18 +32,18 @@ use Rattle.jrql_patterns.proofs.MetNumbers.{met_number}
 use Rattle.jrql_patterns.proofs.KeptGroups.{more_and_more, names_on, where_read}
 
 -- a target is an IRI or a named variable
-abbrev IsTargetOf : NamesValue → Target → Type 0
+abbrev pub IsTargetOf : NamesValue → Target → Type 0
 IsTargetOf names (targets.Iri iri) = Unit {0}
 IsTargetOf names (targets.Var variable) = variable < length names.named
 
-abbrev IsColumnOf : NamesValue → ℕ → Type 0
+abbrev pub IsColumnOf : NamesValue → ℕ → Type 0
 IsColumnOf names variable = variable < length names.named
 
 -- what was read of a query has the variables that were met
-record IsQueryKept (read : OpenQuery) : Type 0 where
-  group : IsGroupKept read.group
-  targets : All (IsTargetOf read.group.names) read.targets
-  columns : All (IsColumnOf read.group.names) read.columns
+pub record IsQueryKept (read : OpenQuery) : Type 0 where
+  pub group : IsGroupKept read.group
+  pub targets : All (IsTargetOf read.group.names) read.targets
+  pub columns : All (IsColumnOf read.group.names) read.columns
 
 target_keeps : (before after : NamesValue) (target : Target) → HasGrown before after → IsTargetOf before target → IsTargetOf after target
 target_keeps before after (targets.Iri iri) grown is = tt
@@ -193,7 +193,7 @@ part_read context key value read after reads kept =
     (λ h. group_read context value read after h kept)
     (λ h. absurd (no_fault after (faults.BadQuery key) h))))))))
 
-parts_read : (context : ContextValue) (members : Members) (read after : OpenQuery) → read_parts context members read ≡ Ok after → IsQueryKept read → IsQueryKept after
+pub parts_read : (context : ContextValue) (members : Members) (read after : OpenQuery) → read_parts context members read ≡ Ok after → IsQueryKept read → IsQueryKept after
 parts_read context no_members read after reads kept = subst IsQueryKept (ok_same read after reads) kept
 parts_read context (member key value rest) read after reads kept =
     followed_is (IsQueryKept after) (read_part context key value read) (read_parts context rest) after reads
@@ -201,7 +201,7 @@ parts_read context (member key value rest) read after reads kept =
 
 -- ---- the query
 
-begins_kept : IsQueryKept empty_query
+pub begins_kept : IsQueryKept empty_query
 begins_kept = record {
   group = record {
     names = record { differ = λ i j d before within. absurd (omega arith); known = refl; limit = omega arith };
@@ -232,7 +232,7 @@ module _ (P : ℕ → Type 0) where
         | false ↦ All-cons P other (placed named variable rest) (All-head P other rest all) more
       ]
 
-  each_placed_all : (named : List (List ℕ)) (numbers others : List ℕ) → All P numbers → All P others → All P (each_placed named numbers others)
+  pub each_placed_all : (named : List (List ℕ)) (numbers others : List ℕ) → All P numbers → All P others → All P (each_placed named numbers others)
   each_placed_all named [] others all each = each
   each_placed_all named (variable ∷ rest) others all each =
       each_placed_all named rest (placed named variable others) (All-tail P variable rest all) (placed_all named variable others (All-head P variable rest all) each)
@@ -248,7 +248,7 @@ every_below group =
     (kept_by (λ variable. variable < size) (stands_in group) (range_with_len 0 size) (range_below 0 size size (omega arith)))
     (All-nil (λ variable. variable < size))
 
-columns_below : (read : OpenQuery) (every : Bool) → IsQueryKept read → All (IsColumnOf read.group.names) (if every then every_column read.group else read.columns)
+pub columns_below : (read : OpenQuery) (every : Bool) → IsQueryKept read → All (IsColumnOf read.group.names) (if every then every_column read.group else read.columns)
 columns_below read true kept = every_below read.group
 columns_below read false kept = kept.columns
 

@@ -7,6 +7,8 @@ mod OneMember
 mod JsonTexts
 mod MetNumbers
 pub mod KeptGroups
+pub mod NoFresh
 mod KeptQueries
+pub mod MeantQueries
 mod MissedColumns
 mod NameOrder

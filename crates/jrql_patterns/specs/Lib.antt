@@ -5,4 +5,5 @@ pub mod FilterReading
 pub mod WhereReading
 pub mod GroupsKept
 pub mod QueryReading
+pub mod WhatIsMeant
 pub mod Marking

@@ -5,6 +5,7 @@ ghost use Rattle.serde_json.specs.View.{view, members_view};
 ghost use Rattle.jsonld_context.specs.Telling.{IsToldBy};
 ghost use Rattle.jrql_ast.specs.InForm.{IsQueryInForm};
 ghost use Rattle.jrql_patterns.specs.QueryReading.{query_under, query_said, query_read};
+ghost use Rattle.jrql_patterns.specs.WhatIsMeant.{MeansQuery};
 
 use crate::breaches::check_breaches;
 use crate::columns::standing;
@@ -78,6 +79,7 @@ pub fn read_query(alloc: Global, bytes: &[u8], domain: &str) -> Result<ReadQuery
     ensures ok { IfOk result (λ read. query_read domain.now bytes.now ≡ Ok read) }
     ensures err { IfErr result (IsToldBy (query_read domain.now bytes.now)) }
     ensures in_form { IfOk result (λ read. IsQueryInForm read.query) }
+    ensures meant { IfOk result (λ read. MeansQuery bytes.now read.query) }
 {
     let value = read_json(alloc, bytes)?;
     query_said(alloc, &value, domain)

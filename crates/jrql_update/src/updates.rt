@@ -6,6 +6,7 @@ ghost use Rattle.serde_json.specs.View.{view, members_view};
 ghost use Rattle.jsonld_context.specs.Telling.{IsToldBy};
 ghost use Rattle.jrql_ast.specs.InForm.{IsPlanInForm};
 ghost use Rattle.jrql_update.specs.UpdateReading.{plan_of_subject, members_beside, update_under, update_said, update_read};
+ghost use Rattle.jrql_update.specs.WhatIsMeant.{MeansUpdate};
 
 use crate::breaches::{check_breaches, is_subject_alone};
 use crate::clauses::read_clauses;
@@ -92,6 +93,7 @@ pub fn read_update(alloc: Global, bytes: &[u8], domain: &str) -> Result<UpdatePl
     ensures ok { IfOk result (λ plan. update_read domain.now bytes.now ≡ Ok plan) }
     ensures err { IfErr result (IsToldBy (update_read domain.now bytes.now)) }
     ensures in_form { IfOk result IsPlanInForm }
+    ensures meant { IfOk result (λ plan. MeansUpdate bytes.now plan) }
 {
     let value = read_json(alloc, bytes)?;
     update_said(alloc, value, domain)

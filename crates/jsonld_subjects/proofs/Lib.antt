@@ -11,3 +11,5 @@ pub mod TypeProperty
 pub mod KeptNames
 pub mod OneObject
 pub mod AloneIsValue
+mod OwnNumbers
+pub mod OwnSubjects

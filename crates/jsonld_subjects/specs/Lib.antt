@@ -6,3 +6,4 @@ pub mod KeyRuns
 pub mod MemberReading
 pub mod ObjectReading
 pub mod NamesKept
+pub mod OwnSubjects

@@ -10,6 +10,7 @@ ghost use Rattle.jsonld_values.specs.VariableNames.{NamesValue};
 ghost use Rattle.jsonld_subjects.specs.GivingBack.{IsGivenBack, IsTripleGivenBack, GivesBack};
 ghost use Rattle.jsonld_subjects.specs.NamesKept.{KeepsToNames, ObjectKeepsToNames};
 ghost use Rattle.jsonld_subjects.specs.ObjectReading.{ObjectFound, stands_alone, object_alone, object_read, put_object};
+ghost use Rattle.jsonld_subjects.specs.OwnSubjects.{HasOwnSubjects};
 ghost use Rattle.jsonld_subjects.specs.SubjectReading.{Found, OpenSubject, read_values, subjects_read};
 ghost use Rattle.jsonld_subjects.specs.SubjectWriting.{SaysSubject};
 ghost use Rattle.jsonld_subjects.specs.declared.places.Place.{Place};
@@ -37,6 +38,13 @@ pub fn reading_keeps_to_names()
         → subjects_read context place names value ≡ Ok found → KeepsToNames place names found }
     ensures objects { (context : ContextValue) (place : Place) (names : NamesValue) (value : Data) (read : ObjectFound)
         → object_read context place names value ≡ Ok read → ObjectKeepsToNames place names read }
+{}
+
+/// Each subject without an id that is read is one of its own, with a number in the order in which they begin: a hidden variable of a pattern,
+/// a fresh subject of an insert.
+pub fn each_subject_is_its_own()
+    ensures { (context : ContextValue) (place : Place) (names : NamesValue) (value : Data) (found : Found)
+        → subjects_read context place names value ≡ Ok found → HasOwnSubjects place names value found }
 {}
 
 /// A subject is said by one object under a context.

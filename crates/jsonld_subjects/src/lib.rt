@@ -17,7 +17,8 @@ mod writing;
 pub use jsonld_values;
 pub use jsonld_values::{Names, write_term};
 pub use laws::{
-    object_is_a_value, one_object_says_a_subject, reading_gives_back, reading_keeps_to_names,
+    each_subject_is_its_own, object_is_a_value, one_object_says_a_subject, reading_gives_back,
+    reading_keeps_to_names,
 };
 pub use objects::{ObjectRead, read_object, stands_alone};
 pub use places::Place;
