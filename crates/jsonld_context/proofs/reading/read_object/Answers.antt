@@ -1,5 +1,5 @@
 -- Where the parts are without a fault, that of the object is the fault of its IRI, and its type has none.
-use Rattle.std.proofs.Common.{◌∙◌, sym, ap, Some, None, Option}
+use Rattle.std.proofs.Common.{◌≡◌, ◌∙◌, sym, ap, Some, None, Option}
 use Rattle.std.proofs.lemmas.Result.{err_from_is_err_and}
 use Rattle.serde_json.specs.View.{members_view}
 use Rattle.jsonld_context.specs.ContextReading.{fault_of_object_iri, fault_of_object_type}
