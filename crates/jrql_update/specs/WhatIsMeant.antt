@@ -1,8 +1,11 @@
 -- What is meant by an update, in words of its text: this holds of each text that is read as one, beside the order in which it is read
 -- (SPARQL 1.1 Update section 3.1.3, DELETE/INSERT). An object has members (RFC 8259 section 4, Objects).
-use Rattle.std.specs.Prelude.{◌≡◌, ◌⊎◌, ℕ, ◌+◌, List, Ok, IsTrue, codes, if◌then◌else◌}
+use Rattle.std.specs.Prelude.{◌≡◌, ◌⊎◌, ℕ, ◌+◌, ◌<◌, List, Ok, IsTrue, codes, if◌then◌else◌}
+use Rattle.jrql_ast.specs.FreshNames.{fresh_name}
+use Rattle.jrql_ast.specs.QueryAnswers.{solution_limit}
 use Rattle.jrql_ast.specs.declared.plans.UpdatePlan.{UpdatePlan}
 use Rattle.rdf_terms.specs.Literal.{is_same}
+use Rattle.tree_clock.specs.declared.dots.Dot.{Dot}
 use Rattle.serde_json.specs.Data.{object, Members, no_members, member}
 use Rattle.jrql_patterns.specs.jsonld_subjects.OwnSubjects.{missing_ids}
 use Rattle.jrql_patterns.specs.QueryReading.{json_of}
@@ -26,6 +29,14 @@ DeletesByIds members = Has (codes "@where") members → missing_at (codes "@dele
 abbrev pub missing_inserted : Members → ℕ
 missing_inserted members =
     if is_subject_alone members then missing_ids (object (members_beside (codes "@context") members)) else missing_at (codes "@insert") members
+
+-- ---- names of fresh subjects (RDF 1.1 Concepts section 3.5, Replacing Blank Nodes with IRIs)
+
+-- where an update has so many fresh subjects, two that have one name are one subject, of one solution
+abbrev pub HaveOwnNames : List ℕ → Dot → ℕ → Type 0
+HaveOwnNames domain dot count =
+    (solution other subject another : ℕ) → solution < solution_limit → other < solution_limit → subject < count → another < count
+    → fresh_name domain dot count solution subject ≡ fresh_name domain dot count other another → (solution ≡ other) × (subject ≡ another)
 
 -- ---- a text
 
