@@ -4,6 +4,7 @@ pub mod BranchLaws
 pub mod ColumnLaws
 pub mod DescribeLaws
 pub mod EffectsByPlan
+pub mod FirstMost
 pub mod Integers
 pub mod PlanSteps
 pub mod Planned

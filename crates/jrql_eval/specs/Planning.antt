@@ -1,6 +1,7 @@
 -- Which places are bound behind the patterns of a plan: that doesn't depend on the graph. The private calls that plan the order of patterns cite it.
 use Rattle.std.specs.Borrow.{Bor}
-use Rattle.std.specs.Prelude.{◌≡◌, ℕ, ◌<◌, not, List, [], ◌∷◌, ◌++◌, Bool, true, false, ◌&&◌, None, length, map, replicate, IsTrue}
+use Rattle.std.specs.Prelude.{◌≡◌, ℕ, ◌+◌, ◌<◌, ◌≤◌, not, List, [], ◌∷◌, ◌++◌, Bool, true, false, ◌&&◌, None, length, map, replicate, IsTrue}
+use Rattle.std.specs.Int.{from_bool}
 use Rattle.std.specs.List.{All, filter, remove, slice_index_or, slice_set}
 use Rattle.std.specs.List.Sorted.{IsPermutation}
 use Rattle.jrql_ast.specs.declared.patterns.PatternTriple.{PatternTriple}
@@ -20,6 +21,17 @@ is_bound_slot bound (slots.Fresh subject) = true
 -- all places of a pattern are bound
 abbrev pub is_whole : List Bool → PatternTriple → Bool
 is_whole bound pattern = is_bound_slot bound pattern.s && (is_bound_slot bound pattern.p && is_bound_slot bound pattern.o)
+
+-- how many places of a pattern are bound
+abbrev pub places_bound : List Bool → PatternTriple → ℕ
+places_bound bound pattern =
+    from_bool (is_bound_slot bound pattern.s) + from_bool (is_bound_slot bound pattern.p) + from_bool (is_bound_slot bound pattern.o)
+
+-- the first member with the most of what is counted stands at this place
+pub record IsFirstMost {X : Type 0} (count : X → ℕ) (items : List X) (place : ℕ) : Type 0 where
+  pub there : place < length items
+  pub most : (default : X) (other : ℕ) → other < length items → count (slice_index_or items other default) ≤ count (slice_index_or items place default)
+  pub first : (default : X) (other : ℕ) → other < place → count (slice_index_or items other default) < count (slice_index_or items place default)
 
 -- which variables are bound once a slot is, and once a pattern is a triple
 abbrev pub bound_with : Slot → List Bool → List Bool

@@ -3,7 +3,7 @@ ghost use Rattle.std.specs.Prelude.{◌≡◌, ◌+◌, ◌<◌, ◌≤◌, ◌+
 ghost use Rattle.std.specs.List.{All, filter};
 ghost use Rattle.jrql_ast.specs.declared.patterns.PatternTriple.{PatternTriple};
 ghost use Rattle.jrql_ast.specs.InForm.{IsSlotWithin, IsPatternWithin};
-ghost use Rattle.jrql_eval.specs.Planning.{is_bound_slot, is_whole, bound_with, bound_behind, IsPlanFor, IsTakenStage};
+ghost use Rattle.jrql_eval.specs.Planning.{is_bound_slot, is_whole, places_bound, IsFirstMost, bound_with, bound_behind, IsPlanFor, IsTakenStage};
 
 use jrql_ast::{PatternTriple, Slot};
 use std::alloc::{AllocError, Global};
@@ -49,7 +49,7 @@ fn is_whole(pattern: &PatternTriple, bound: &[bool]) -> bool
 // How many places of a pattern are bound.
 fn places_bound(pattern: &PatternTriple, bound: &[bool]) -> u8
     requires { IsPatternWithin (length bound.now) 0 pattern.now }
-    ensures { result ≤ 3 }
+    ensures { result ≡ places_bound bound.now pattern.now }
 {
     let subject = u8::from(is_bound(&pattern.s, bound));
     let predicate = u8::from(is_bound(&pattern.p, bound));
@@ -119,7 +119,7 @@ fn others_of<'a>(
 fn best_place(left: &[&PatternTriple], bound: &[bool]) -> usize
     requires some { 0 < length left.now }
     requires within { All (λ pattern. IsPatternWithin (length bound.now) 0 pattern.now) left.now }
-    ensures { result < length left.now }
+    ensures { IsFirstMost (λ pattern. places_bound bound.now pattern.now) left.now result }
 {
     let mut best = 0;
     let mut most = 0;
@@ -190,8 +190,7 @@ fn take_stage<'a>(
     Ok(Stage { pattern, checks })
 }
 
-/// The order in which the patterns of a group and those of a branch are matched: at each turn one with the most bound places, the first
-/// on a tie.
+/// The order in which the patterns of a group and those of a branch are matched: each stage is the one that `take_stage` takes.
 pub(crate) fn plan_of<'a>(
     alloc: Global,
     patterns: &'a [PatternTriple],

@@ -8,7 +8,7 @@ use Rattle.jrql_eval.proofs.plans.take_stage.Goals as goal
 pub whole_of-requires : goal.whole_of-requires
 whole_of-requires c =
     let left = c.args.left.now.items in
-    let there = subst (λ (xs : List (Bor PatternTriple)). c.best_place-place.result < length xs) c.deref.ensures.value c.best_place-place.ensures in
+    let there = subst (λ (xs : List (Bor PatternTriple)). c.best_place-place.result < length xs) c.deref.ensures.value c.best_place-place.ensures.there in
     let within = within_rest left c.remove-pattern.new.self.items c.args.bound.now.items c.mark.new.bound.items c.remove-pattern.result c.best_place-place.result there
     c.remove-pattern.ensures.value c.remove-pattern.ensures.items c.mark.ensures.places c.requires.within in
     subst (λ (xs : List (Bor PatternTriple)). All (λ p. IsPatternWithin (length c.deref-4.result.now) 0 p.now) xs) (sym c.deref-3.ensures.value)
@@ -17,7 +17,7 @@ whole_of-requires c =
 pub others_of-requires : goal.others_of-requires
 others_of-requires c =
     let left = c.args.left.now.items in
-    let there = subst (λ (xs : List (Bor PatternTriple)). c.best_place-place.result < length xs) c.deref.ensures.value c.best_place-place.ensures in
+    let there = subst (λ (xs : List (Bor PatternTriple)). c.best_place-place.result < length xs) c.deref.ensures.value c.best_place-place.ensures.there in
     let within = within_rest left c.remove-pattern.new.self.items c.args.bound.now.items c.mark.new.bound.items c.remove-pattern.result c.best_place-place.result there
     c.remove-pattern.ensures.value c.remove-pattern.ensures.items c.mark.ensures.places c.requires.within in
     subst (λ (xs : List (Bor PatternTriple)). All (λ p. IsPatternWithin (length c.deref-6.result.now) 0 p.now) xs) (sym c.deref-5.ensures.value)
@@ -26,7 +26,7 @@ others_of-requires c =
 pub returns : goal.returns
 returns c =
     let left = c.args.left.now.items in
-    let there = subst (λ (xs : List (Bor PatternTriple)). c.best_place-place.result < length xs) c.deref.ensures.value c.best_place-place.ensures in
+    let there = subst (λ (xs : List (Bor PatternTriple)). c.best_place-place.result < length xs) c.deref.ensures.value c.best_place-place.ensures.there in
     let rest = c.in_ok-others.ensures
     ∙ (λ i. filter (λ pattern. not (is_whole (c.deref-6.ensures.value i) pattern.now)) ((c.deref-5.ensures.value ∙ c.remove-pattern.ensures.items) i)) in record {
       place = c.best_place-place.result;
