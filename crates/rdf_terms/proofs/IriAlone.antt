@@ -1,5 +1,5 @@
 -- The text of an IRI alone: what is read is spelled, and what is spelled is read.
-use Rattle.std.proofs.Common.{◌≡◌, ◌≢◌, ℕ, suc, ◌-◌, ◌<◌, ◌≤◌, List, [], ◌∷◌, ◌++◌, length, drop, refl, sym, ap, subst, ◌∙◌, inl, inr, arith, eqb, IsTrue, Result, Err, MatchResult}
+use Rattle.std.proofs.Common.{◌≡◌, ◌≢◌, ℕ, ◌<◌, ◌≤◌, List, [], ◌∷◌, ◌++◌, length, drop, refl, sym, ap, subst, ◌∙◌, inl, inr, arith, eqb, IsTrue, Result, Err, MatchResult}
 use Rattle.std.proofs.lemmas.Bool.{cases_Bool, eqb-true, ne_eqb}
 use Rattle.std.proofs.lemmas.List.{append-nil, drop_all, length-drop}
 use Rattle.text_rules.specs.Iri.{is_absolute, iri_limit}
@@ -7,7 +7,7 @@ use Rattle.rdf_terms.specs.declared.faults.TripleFault.{TripleFault}
 use Rattle.rdf_terms.specs.declared.faults.TripleFault.TheVariants.{NotTriple, TooLong}
 use Rattle.rdf_terms.specs.declared.terms.Triple.{Triple}
 use Rattle.rdf_terms.specs.Grammar.{SpellsIri, IsIriText}
-use Rattle.rdf_terms.specs.TripleReading.{Slot, Alone, Before, Single, Spelled, Stopped, thrice, step, run, verdict, StopsAt}
+use Rattle.rdf_terms.specs.TripleReading.{Slot, Alone, Before, Single, Spelled, thrice, step, run, verdict, StopsAt}
 use Rattle.rdf_terms.specs.TripleReads.{IsIri, NeedsIri, TakesIri}
 use Rattle.rdf_terms.proofs.FoundPieces.{stopped_spelled}
 use Rattle.rdf_terms.proofs.Sound.{ReadsIri, iri_found}

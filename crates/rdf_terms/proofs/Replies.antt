@@ -1,8 +1,8 @@
 -- Terms in the order of replies, by whether each is an integer.
-use Rattle.std.proofs.Common.{◌≡◌, ℤ, Option, None, Some, true, false, true≢false, refl, sym, ap, ◌∙◌}
+use Rattle.std.proofs.Common.{◌≡◌, ℤ, None, Some, true≢false, refl, sym, ap}
 use Rattle.std.specs.Option.{is_some}
 use Rattle.std.specs.Ordering.{int_cmp, ordering_then}
-use Rattle.std.specs.declared.cmp.Ordering.TheVariants.{Less, Equal, Greater}
+use Rattle.std.specs.declared.cmp.Ordering.TheVariants.{Less, Greater}
 use Rattle.rdf_terms.specs.declared.terms.Term.{Term}
 use Rattle.rdf_terms.specs.declared.terms.Term.TheVariants as terms
 use Rattle.rdf_terms.specs.Order.{term_cmp}

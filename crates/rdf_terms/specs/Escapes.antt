@@ -1,8 +1,8 @@
 -- Escapes: what may stand for a character between the marks of a term (N-Triples 1.1, ECHAR and UCHAR).
-use Rattle.std.specs.Prelude.{◌≡◌, ℕ, ◌+◌, ◌*◌, List, [], ◌∷◌, Bool, ◌||◌, not, ◌==◌, nat_lt, IsTrue, length, if◌then◌else◌, encode_utf8}
+use Rattle.std.specs.Prelude.{◌≡◌, ℕ, ◌+◌, ◌*◌, List, [], ◌∷◌, Bool, nat_lt, IsTrue, length, encode_utf8}
 use Rattle.std.specs.List.{list_all, AllByRecursion, flat_map}
 use Rattle.std.specs.Char.{IsScalar, digit_value}
-use Rattle.text_rules.specs.Marks.{line_feed, carriage_return, quote, apostrophe, backslash, capital_u, small_b, small_f, small_n, small_r, small_t, small_u}
+use Rattle.text_rules.specs.Marks.{backslash, capital_u, small_u}
 -- what the letters of escapes stand for, and which bytes need none
 pub use Rattle.text_rules.specs.Escaped.{is_escape_letter, letter_value}
 pub use Rattle.text_rules.specs.Spots.{is_plain_byte}

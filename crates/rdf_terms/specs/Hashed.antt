@@ -1,7 +1,6 @@
 -- What literals and terms feed a hasher, and that equal ones feed it alike.
 use Rattle.std.specs.Prelude.{◌≡◌, ℕ, List, [], ◌++◌, IsTrue, if◌then◌else◌}
 use Rattle.std.proofs.Common.{ap, refl, sym, true≢false}
-use Rattle.std.specs.Cmp.{IsTotalOrder}
 use Rattle.std.specs.Hash as fed
 use Rattle.std.specs.Ordering.{eq_by_cmp, is_eq}
 use Rattle.std.specs.declared.cmp.Ordering.{Ordering}

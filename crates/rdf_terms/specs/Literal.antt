@@ -15,7 +15,7 @@ pub data LiteralValue : Type 0 where
 unfoldable pub xsd_string : List ℕ
 xsd_string = codes "http://www.w3.org/2001/XMLSchema#string"
 
--- xsd:integer (XML Schema Part 2, section 3.3.13)
+-- xsd:integer (XML Schema Part 2, section 3.4.13)
 unfoldable pub xsd_integer : List ℕ
 xsd_integer = codes "http://www.w3.org/2001/XMLSchema#integer"
 

@@ -1,6 +1,6 @@
--- The order in which replies have terms: integers by value, as in SPARQL 1.1 (Query Language, section 15.1: ORDER BY
--- compares numbers by value; and the order of literals and IRIs, which it leaves open, is the order of terms).
-use Rattle.std.specs.Prelude.{ℕ, ℤ, pos, List, Bool, ◌&&◌, Option, None, if◌then◌else◌}
+-- The order in which replies have terms. Integers come by value (XML Schema Part 2, section 3.4.13; so SPARQL 1.1 Query
+-- Language, section 15.1, has them too); all other terms come in the order of terms, in which literals come before IRIs.
+use Rattle.std.specs.Prelude.{ℕ, ℤ, pos, Option, None, if◌then◌else◌}
 use Rattle.std.specs.Option.{is_some, unwrap_or}
 use Rattle.std.specs.Ordering.{nat_cmp, int_cmp, ordering_then}
 use Rattle.std.specs.declared.cmp.Ordering.{Ordering}

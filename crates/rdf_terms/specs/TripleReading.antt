@@ -1,10 +1,10 @@
 -- How a triple's text, or that of an IRI alone, is read, byte by byte: what was read so far, what a byte makes of it, and where reading
 -- ends.
-use Rattle.std.specs.Prelude.{ℕ, zero, suc, ◌+◌, ◌-◌, ◌*◌, ◌^◌, ◌≡◌, ◌≤◌, List, [], ◌∷◌, ◌++◌, Bool, true, false, ◌&&◌, ◌||◌, ◌==◌, nat_lt, Option, Some, None, if◌then◌else◌, length, drop, encode_utf8}
+use Rattle.std.specs.Prelude.{ℕ, zero, suc, ◌+◌, ◌-◌, ◌*◌, ◌^◌, ◌≡◌, ◌≤◌, List, [], ◌∷◌, ◌++◌, Bool, true, false, ◌&&◌, ◌||◌, ◌==◌, Option, Some, None, if◌then◌else◌, length, drop, encode_utf8}
 use Rattle.std.specs.Char.{digit_value}
 use Rattle.std.specs.Str.{str_to_ascii_lowercase}
 use lib.Utf8.{scalar}
-use Rattle.text_rules.specs.Iri.{is_letter, is_digit, is_scheme_byte, is_excluded}
+use Rattle.text_rules.specs.Iri.{is_letter, is_digit}
 use Rattle.rdf_terms.specs.declared.faults.TripleFault.{TripleFault}
 use Rattle.rdf_terms.specs.declared.faults.TripleFault.TheVariants.{NotTriple, TooLong, NoMemory}
 use Rattle.text_rules.specs.declared.spots.Spot.{Spot}
@@ -16,7 +16,7 @@ use Rattle.rdf_terms.specs.Escapes.{is_hexadecimal, is_escape_letter, letter_val
 pub use Rattle.text_rules.specs.Spots.{spot_behind, after_plain, closes, may_hold}
 use Rattle.rdf_terms.specs.Grammar.{is_blank}
 use Rattle.rdf_terms.specs.Literal.{Typed, Tagged, xsd_string, rdf_lang_string, is_same}
-use Rattle.text_rules.specs.Marks.{quote, dash, dot, colon, less, greater, at_sign, backslash, hat, capital_u, small_u}
+use Rattle.text_rules.specs.Marks.{quote, dash, dot, less, at_sign, backslash, hat, capital_u, small_u}
 
 -- ---- within a term
 

@@ -8,7 +8,7 @@ use crate::terms::{Literal, Term};
 use std::cmp::Ordering;
 use text_rules::plain_integer_value;
 
-/// xsd:integer (XML Schema Part 2, section 3.3.13).
+/// xsd:integer (XML Schema Part 2, section 3.4.13).
 const XSD_INTEGER: &str = "http://www.w3.org/2001/XMLSchema#integer";
 
 /// Whether a literal is an xsd:integer.

@@ -1,5 +1,5 @@
 -- Plain integers: each whole number of at most 30 digits in one form, the canonical one of xsd:integer
--- (XML Schema Part 2, section 3.3.13.2: no plus, no needless leading zero, and no minus before 0).
+-- (XML Schema Part 2, section 3.4.13: no plus, no needless leading zero, and no minus before 0).
 use Rattle.std.specs.Prelude.{ℕ, ℤ, List, [], ◌∷◌, Bool, false, not, ◌&&◌, ◌||◌, nat_le, ◌==◌, length, Option, None, Some, if◌then◌else◌}
 use Rattle.std.specs.Str.{all_ascii_digits}
 use Rattle.std.specs.Str.Parse.{signed_digits_value}

@@ -1,4 +1,4 @@
-use Rattle.std.proofs.Common.{ℕ, ◌≤◌, ◌<◌, length, arith, sym, subst}
+use Rattle.std.proofs.Common.{ℕ, ◌≤◌, ◌<◌, arith, sym, subst}
 use Rattle.text_rules.specs.Iri.{iri_limit}
 use Rattle.rdf_terms.specs.Grammar.{IsIriText}
 use Rattle.rdf_terms.proofs.IriAlone.{iri_text_read, absolute_read, iri_long, iri_ends_early, iri_refused, iri_unlimited}
