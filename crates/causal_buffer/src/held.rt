@@ -1,5 +1,5 @@
 //! Entries that wait, in order of arrival.
-ghost use Rattle.std.specs.Prelude.{◌≡◌, ◌≢◌, ℕ, ◌<◌, ◌≤◌, ◌↔◌, ◌++◌, ◌∷◌, [], length, IsTrue, IsNone, IfOk, IfSome, IfNone, IsErrOf, OnOk, OnErr, Ok, MatchOption};
+ghost use Rattle.std.specs.Prelude.{◌≡◌, ◌≢◌, ◌<◌, ◌≤◌, ◌↔◌, ◌++◌, ◌∷◌, [], length, IsTrue, IsNone, IfOk, IfSome, IfNone, IsErrOf, OnOk, OnErr, Ok, MatchOption};
 ghost use Rattle.std.specs.List.{AllWithin, HoldsAt};
 ghost use Rattle.causal_buffer.specs.HeldEntries.{IsHeldRange, HasNoRoomFor, IsAddedTo};
 ghost use Rattle.mld_ops.specs.Held.{held_limit, ranges_of};

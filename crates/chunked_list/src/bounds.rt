@@ -2,7 +2,7 @@
 ghost use Rattle.std.specs.Prelude.{◌≡◌, ℕ, List, Bool, true, false, take, drop};
 ghost use Rattle.std.specs.Cmp.{IsTotalOrder};
 ghost use Rattle.std.specs.Cmp.Lexicographic.{slice_cmp};
-ghost use Rattle.std.specs.Ordering.{is_lt, nat_cmp};
+ghost use Rattle.std.specs.Ordering.{nat_cmp};
 ghost use Rattle.std.specs.declared.cmp.Ordering.{Ordering as OrderingValue};
 ghost use Rattle.std.specs.declared.cmp.Ordering.TheVariants.{Less, Equal, Greater};
 ghost use Rattle.std.proofs.lemmas.Map.Lookups.{CmpEqualImpliesEq};
@@ -88,10 +88,10 @@ pub(crate) struct Below<'a, T, O> {
 }
 
 impl<'a, T: Keyed, O: Order<T>> Bound<T> for Below<'a, T, O> {
-    ghost use Rattle.std.proofs.Common.{ap, ◌∙◌, sym};
+    ghost use Rattle.std.proofs.Common.{ap, sym};
     ghost use Rattle.std.specs.Ordering.{is_lt, is_eq};
     ghost use Rattle.std.proofs.lemmas.Bool.{false≢true};
-    ghost use Rattle.std.specs.declared.cmp.Ordering.TheVariants.{Less, Equal, Greater};
+    ghost use Rattle.std.specs.declared.cmp.Ordering.TheVariants.{Less, Greater};
 
     ghost before = { λ place element. is_lt (O.order place.order.now element place.element.now) };
 

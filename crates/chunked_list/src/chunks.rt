@@ -1,5 +1,5 @@
 //! Chunks of a list.
-ghost use Rattle.std.specs.Prelude.{◌≡◌, ◌<◌, ◌≤◌, ◌+◌, [], List, length, take, drop, IfOk, vec_len, vec_capacity, true, false};
+ghost use Rattle.std.specs.Prelude.{◌≡◌, ◌<◌, ◌≤◌, ◌+◌, [], length, take, drop, IfOk, vec_len, vec_capacity, true, false};
 ghost use Rattle.std.specs.List.{insert, remove, slice_index_or};
 ghost use Rattle.std.specs.List.Sorted.{IsPartitionedBy, IsPartitionPoint};
 ghost use Rattle.chunked_list.specs.ChunkLimits.{chunk_limit, half_limit};

@@ -4,7 +4,6 @@
 mod bounds;
 mod chunks;
 mod edits;
-mod filters;
 mod hints;
 mod keys;
 mod limits;

@@ -1,4 +1,4 @@
-//! Limits.
+//! Limits: the numbers of `specs/ChunkLimits.antt`.
 
 /// As many elements a chunk has at most.
 pub const CHUNK_LIMIT: usize = 64;

@@ -8,10 +8,9 @@ ghost use Rattle.tree_clock.specs.Lists.{Has, IsAscending};
 
 use crate::bounds::{Bound, Keyed, Order, Test};
 use crate::chunks::Chunk;
-use crate::filters::filtered_in;
 use crate::places::find;
-use crate::searches::{has_element, insert_in, remove_from};
-use crate::spans::between_in;
+use crate::searches::{has_in, insert_in, remove_in};
+use crate::spans::{between_in, filtered_in};
 use crate::stores::{Store, build, empty, make_room};
 use std::alloc::{AllocError, Global};
 use std::marker::Model;
@@ -103,7 +102,7 @@ impl<T: Keyed + Drop> Chunked<T> {
         requires { IsAscending (O.order order.now) self.now.elements }
         ensures { IsTrue result ↔ Has self.now.elements element.now }
     {
-        has_element(&self.store, order, element)
+        has_in(&self.store, order, element)
     }
 
     /// Makes room for so many elements more.
@@ -135,6 +134,6 @@ impl<T: Keyed + Drop> Chunked<T> {
             ↔ (Has self.old.elements other × ¬ (other ≡ element.now)) }
         ensures room { self.old.room ≤ self.new.room }
     {
-        remove_from(&mut self.store, order, element);
+        remove_in(&mut self.store, order, element);
     }
 }

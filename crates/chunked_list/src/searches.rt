@@ -12,11 +12,7 @@ use crate::places::{Place, find, locate, next_of};
 use crate::stores::{Store, put, take_out};
 
 /// Whether an ascending list has the element.
-pub(crate) fn has_element<T: Keyed + Drop, O: Order<T>>(
-    store: &Store<T>,
-    order: &O,
-    element: &T,
-) -> bool
+pub(crate) fn has_in<T: Keyed + Drop, O: Order<T>>(store: &Store<T>, order: &O, element: &T) -> bool
     requires is { IsStore T.key store.now }
     requires ascending { IsAscending (O.order order.now) (elements_in store.now) }
     ensures { IsTrue result ↔ Has (elements_in store.now) element.now }
@@ -86,11 +82,7 @@ fn has_behind<T: Keyed + Drop, O: Order<T>>(
 }
 
 /// Takes an element out of an ascending list, if it is there. It takes no memory.
-pub(crate) fn remove_from<T: Keyed + Drop, O: Order<T>>(
-    store: &mut Store<T>,
-    order: &O,
-    element: &T,
-)
+pub(crate) fn remove_in<T: Keyed + Drop, O: Order<T>>(store: &mut Store<T>, order: &O, element: &T)
     requires is { IsStore T.key store.old }
     requires ascending { IsAscending (O.order order.now) (elements_in store.old) }
     ensures is { IsStore T.key store.new }

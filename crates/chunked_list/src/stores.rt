@@ -1,5 +1,5 @@
 //! The parts of a list in chunks.
-ghost use Rattle.std.specs.Prelude.{◌≡◌, ◌<◌, ◌≤◌, ◌+◌, ◌-◌, ◌++◌, ◌∷◌, [], length, drop, reverse, max, vec_len, IfOk, OnOk};
+ghost use Rattle.std.specs.Prelude.{◌≡◌, ◌<◌, ◌≤◌, ◌+◌, ◌-◌, ◌++◌, ◌∷◌, [], length, reverse, max, vec_len, IfOk, OnOk};
 ghost use Rattle.chunked_list.specs.Joined.{chunk_at, with_element, without_element, IsRightBehind};
 ghost use Rattle.chunked_list.specs.ChunkLimits.{chunk_limit, half_limit, chunks_limit};
 ghost use Rattle.chunked_list.specs.Room.{last_half, load_of, room_of};

@@ -1,5 +1,5 @@
 -- Laws of the changes that a clone's calls make of what its banks keep.
-use Rattle.std.proofs.Common.{◌≡◌, ◌∙◌, ℕ, ◌*◌, List, [], ◌∷◌, ◌↔◌, Bool, Option, None, Some, Result, Ok, Err, IsOk, IfOk, IsErrOf, length, inl, inr, refl, sym, ap, subst}
+use Rattle.std.proofs.Common.{◌≡◌, ◌∙◌, ℕ, ◌*◌, List, [], ◌∷◌, ◌↔◌, Option, None, Some, Result, Ok, Err, IsOk, IfOk, IsErrOf, length, inl, inr, refl, sym, ap, subst}
 use Rattle.mld_io.specs.Arm.{Meter, Metered}
 use Rattle.mld_io.specs.Disk.{Log}
 use Rattle.mld_ops.specs.Entry.{EntryValue}

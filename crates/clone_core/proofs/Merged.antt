@@ -1,5 +1,5 @@
 -- A clone that merges a snapshot, and what a refusal tells.
-use Rattle.std.proofs.Common.{◌≡◌, ◌∙◌, ℕ, ◌-◌, ◌^◌, List, [], ◌∷◌, ◌↔◌, Err, IsErrOf, length, refl, sym, ap, subst, arith}
+use Rattle.std.proofs.Common.{◌≡◌, List, [], ◌∷◌, length, refl, sym, ap, subst, arith}
 use Rattle.tree_clock.specs.declared.dots.Range.{Range}
 use Rattle.mld_ops.specs.Entry.{EntryValue}
 use Rattle.mld_ops.specs.Messages.{SnapshotValue}
@@ -18,7 +18,6 @@ use Rattle.clone_core.specs.Banked.{head_over}
 use Rattle.clone_core.specs.DurableCalls.{merged_steps}
 use Rattle.clone_parts.specs.CloneFaults.{receive_fault_of}
 use Rattle.clone_parts.specs.declared.faults.ReceiveFault.TheVariants as fault
-use Rattle.clone_core.proofs.DurableLaws.{err_same}
 use Rattle.clone_core.proofs.Taking.{releases_shorter}
 
 -- ---- the clone

@@ -1,5 +1,5 @@
 -- Laws of what a clone's calls leave that were refused.
-use Rattle.std.proofs.Common.{◌≡◌, ◌∙◌, ◌+◌, ◌⊎◌, Bool, true, false, Option, None, Some, inl, inr, refl, sym, ap, subst}
+use Rattle.std.proofs.Common.{◌≡◌, ◌∙◌, ◌+◌, ◌⊎◌, Bool, true, false, Option, None, Some, inl, inr, refl, ap, subst}
 use Rattle.mld_io.specs.Arm.{Meter}
 use Rattle.mld_io.specs.Disk.{Log}
 use Rattle.journal_store.specs.Closing.{ClosesFor, MayTurn, LeavesRefused}

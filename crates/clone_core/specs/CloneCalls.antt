@@ -1,9 +1,8 @@
 -- What a clone answers to a message, and to a comparison with another clone. `MldClone::receive`, `compare` and `entry_of` cite it.
 use Rattle.std.specs.Prelude.{◌≡◌, ◌≢◌, ℕ, List}
-use Rattle.tree_clock.specs.declared.dots.Dot.{Dot}
 use Rattle.tree_clock.specs.declared.dots.Range.{Range}
 use Rattle.tree_clock.specs.Lists.{Has}
-use Rattle.tree_clock.specs.Clock.{ticks_of, Covers}
+use Rattle.tree_clock.specs.Clock.{ticks_of}
 use Rattle.mld_ops.specs.declared.messages.Message.{Message}
 use Rattle.mld_ops.specs.declared.messages.Message.TheVariants as message
 use Rattle.mld_ops.specs.Entry.{EntryValue}

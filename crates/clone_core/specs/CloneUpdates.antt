@@ -1,5 +1,5 @@
 -- What a clone answers to an update, and what such a one has to do on its banks. `MldClone::update` cites it.
-use Rattle.std.specs.Prelude.{◌≡◌, ◌≢◌, ℕ, List}
+use Rattle.std.specs.Prelude.{◌≡◌, ℕ, List}
 use Rattle.tree_clock.specs.Lists.{Has}
 use Rattle.mld_ops.specs.declared.tagged.Tagged.{Tagged}
 use Rattle.mld_ops.specs.Breaches.{IsFirstBreach, BreaksNone}

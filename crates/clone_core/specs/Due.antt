@@ -1,6 +1,6 @@
 -- What a call has to do on the banks of a clone. Where it has nothing, it calls no device, and closes no clone. `left` and `spent` of
 -- `MldClone::receive`, `compact` and `truncate` cite it.
-use Rattle.std.specs.Prelude.{◌≡◌, ◌≢◌, ◌<◌, ◌-◌, ◌^◌, ℕ, List, [], None, length, Bool, true, false}
+use Rattle.std.specs.Prelude.{◌≡◌, ◌≢◌, ◌<◌, ◌-◌, ◌^◌, ℕ, List, None, length}
 use Rattle.tree_clock.specs.Limits.{path_limit}
 use Rattle.mld_ops.specs.declared.messages.Message.{Message}
 use Rattle.mld_ops.specs.declared.messages.Message.TheVariants as message

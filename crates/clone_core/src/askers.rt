@@ -121,7 +121,7 @@ impl<B: Banks> Asker<B> {
 
     /// Becomes a clone by a message that gives it a leaf: its base is what the giver had, and its banks keep it from then on, by one
     /// create. Other messages are ignored.
-    pub fn receive<R: Threads>(self, _rt: &R, alloc: Global, message: &Message) -> Adopted<B>
+    pub fn receive<R: Threads + Sync>(self, _rt: &R, alloc: Global, message: &Message) -> Adopted<B>
         requires { IsGoodMessage (message_value message.now) }
         ensures adopts { LocallyAdopts self message.now result }
         ensures durable { (give : Give) → IsGiveFor self.asker message.now give

@@ -336,7 +336,7 @@ impl<B: Banks> MldClone<B> {
     /// snapshot would be merged at the generation 2^64 - 1; `Device` where the device failed, which closes the clone: the swap and the
     /// appends that were done stand on the banks. `NoMemory` leaves it as it was, or closes it where a call of the device was done. After
     /// the others it is as it was.
-    pub fn receive<R: Threads>(
+    pub fn receive<R: Threads + Sync>(
         &mut self,
         _rt: &R,
         alloc: Global,

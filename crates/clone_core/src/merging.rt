@@ -6,7 +6,7 @@ use mld_ops::Snapshot;
 use std::alloc::Global;
 
 impl<B: Banks> MldClone<B> {
-    ghost use Rattle.std.specs.Prelude.{◌≡◌, ◌↔◌, ◌-◌, ◌^◌, List, None, IfOk, IfErr, IsOk, IsErrOf};
+    ghost use Rattle.std.specs.Prelude.{◌≡◌, ◌↔◌, List, None, IfOk, IfErr, IsOk, IsErrOf};
     ghost use Rattle.clone_parts.specs.KeptSteps.{KeptStep};
     ghost use Rattle.mld_ops.specs.Messages.{snapshot_value, IsGoodSnapshot};
     ghost use Rattle.mld_ops.specs.declared.messages.Message.TheVariants as kinds;

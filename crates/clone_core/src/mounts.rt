@@ -34,7 +34,7 @@ impl<B: Banks> MldClone<B> {
     ///
     /// `Damaged` where an open gate has something else behind it, with the place; `Device` where the device failed; `NoMemory`. The banks
     /// are given back.
-    pub fn mount<R: Threads>(_rt: &R, alloc: Global, banks: B) -> Mounted<B>
+    pub fn mount<R: Threads + Sync>(_rt: &R, alloc: Global, banks: B) -> Mounted<B>
         ensures tells { (l : Log) → B.log banks ≡ Some l → TellsClone result (read_banks (seen l)) }
         ensures opened { OpensClone result }
         ensures synced { (l : Log) → B.log banks ≡ Some l

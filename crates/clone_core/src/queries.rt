@@ -5,6 +5,7 @@ use jrql_ast::{Answer, Query, What};
 use jrql_eval::{describe, select};
 use mld_io::Banks;
 use std::alloc::Global;
+use std::thread::Threads;
 
 impl<B: Banks> MldClone<B> {
     ghost use Rattle.std.specs.Prelude.{◌≡◌, ◌↔◌, ◌<◌, ◌≤◌, Some, length, IfOk, IsErrOf};
@@ -20,7 +21,12 @@ impl<B: Banks> MldClone<B> {
     ///
     /// In this order: `Closed` where an earlier call closed the clone; `TooMany` where the query's group has more than 1,048,576 solutions,
     /// whatever is asked of them; and `NoMemory`.
-    pub fn query(&self, alloc: Global, query: &Query) -> Result<Answer, QueryFault>
+    pub fn query<R: Threads + Sync>(
+        &self,
+        _rt: &R,
+        alloc: Global,
+        query: &Query,
+    ) -> Result<Answer, QueryFault>
         requires { IsQueryInForm query.now }
         ensures answer { IfOk result (IsAnswer (present self.now.local.pairs) query.now) }
         ensures kind { IfOk result (IsAnswerTo query.now.what) }

@@ -5,7 +5,7 @@ use mld_io::Banks;
 use std::alloc::Global;
 
 impl<B: Banks> MldClone<B> {
-    ghost use Rattle.std.specs.Prelude.{◌≡◌, ◌<◌, ◌-◌, ◌^◌, ◌↔◌, List, length, None, Some, IfOk, IfErr, IsOk, OnOk, IsErrOf};
+    ghost use Rattle.std.specs.Prelude.{◌≡◌, ◌<◌, ◌-◌, ◌↔◌, List, length, None, Some, IfOk, IfErr, IsOk, OnOk, IsErrOf};
     ghost use Rattle.clone_parts.specs.KeptSteps.{KeptStep};
     ghost use Rattle.journal_store.specs.declared.faults.Why.{Why};
     ghost use Rattle.mld_model.specs.Local.{LocallyTruncates};

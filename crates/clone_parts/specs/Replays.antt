@@ -1,4 +1,4 @@
--- Entries that are taken one after another. `led_to` asks for them, and so do the appends and swaps of `clone_banks`.
+-- Entries that are taken one after another. `led_to` asks for them, and so do the appends (`MayAppendAll`) and the swaps here.
 use Rattle.std.specs.Prelude.{ℕ, List, [], ◌∷◌}
 use Rattle.mld_ops.specs.Entry.{EntryValue}
 use Rattle.mld_ops.specs.Ready.{last_dot, IsReadyEntry}

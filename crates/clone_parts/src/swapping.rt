@@ -1,5 +1,5 @@
 //! Swaps of what a clone's banks keep, and appends behind a swap.
-ghost use Rattle.std.specs.Prelude.{◌≡◌, ◌≢◌, ◌+◌, ◌*◌, ◌-◌, ◌^◌, ◌∷◌, [], true, false, None, Some, IfErr, IsOk, IsErrOf, IsTrue, OnOk, length};
+ghost use Rattle.std.specs.Prelude.{◌≡◌, ◌≢◌, ◌+◌, ◌*◌, ◌-◌, ◌^◌, ◌∷◌, [], true, false, None, IfErr, IsOk, IsErrOf, IsTrue, OnOk, length};
 ghost use Rattle.std.specs.List.{AllByRecursion};
 ghost use Rattle.mld_io.specs.Arm.{Metered};
 ghost use Rattle.op_codec.specs.Stored.{IsShortEntry};

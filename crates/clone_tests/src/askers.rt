@@ -41,7 +41,7 @@ fn given(alloc: Global) -> Result<Box<Message>, Fail>
 }
 
 /// What one who asks becomes by a message.
-fn adopted<R: Threads>(
+fn adopted<R: Threads + Sync>(
     asker: Box<TestAsker>,
     rt: &R,
     alloc: Global,

@@ -32,7 +32,7 @@ fn is_first(clone: &TestClone) -> bool {
 }
 
 /// Whether a clone adds the triple, holds the second operation of r1, and takes it once the first one comes.
-fn makes_and_takes<R: Threads>(clone: &mut TestClone, rt: &R, alloc: Global) -> bool {
+fn makes_and_takes<R: Threads + Sync>(clone: &mut TestClone, rt: &R, alloc: Global) -> bool {
     set(clone, alloc, true) == Word::Made(1)
         && receive(clone, rt, alloc, range(right(), 2, 2)) == Word::Held
         && parts(clone) == (1, 1, 1, 1)
@@ -59,7 +59,7 @@ fn a_clone_tells_its_parts(rt: HostRuntime) -> Result<(), Fail> {
 }
 
 /// Whether a clone at the root that added a triple refuses a second operation of the root that it didn't make, and is as it was.
-fn tells_a_foreign_use<R: Threads>(clone: &mut TestClone, rt: &R, alloc: Global) -> bool {
+fn tells_a_foreign_use<R: Threads + Sync>(clone: &mut TestClone, rt: &R, alloc: Global) -> bool {
     let foreign = ReceiveFault::ForeignTick { said: 2, own: 1 };
     set(clone, alloc, true) == Word::Made(1)
         && receive(clone, rt, alloc, range(Path::root(), 2, 2)) == Word::NotTaken(foreign)
@@ -76,7 +76,7 @@ fn is_closed_by_a_fault(clone: &mut TestClone, alloc: Global) -> bool {
 }
 
 /// Whether it refuses to add and to take since its device failed, and is as it was.
-fn stays_closed<R: Threads>(clone: &mut TestClone, rt: &R, alloc: Global) -> bool {
+fn stays_closed<R: Threads + Sync>(clone: &mut TestClone, rt: &R, alloc: Global) -> bool {
     let why = Why::Device;
     set(clone, alloc, true) == Word::SetClosed(why)
         && receive(clone, rt, alloc, range(right(), 1, 1))

@@ -101,7 +101,7 @@ fn plan_of(alloc: Global, triple: Triple, present: bool) -> Result<UpdatePlan, A
 }
 
 /// What a clone answers to the entry of a range that deletes and inserts nothing.
-pub fn receive<R: Threads>(clone: &mut TestClone, rt: &R, alloc: Global, range: Range) -> Word {
+pub fn receive<R: Threads + Sync>(clone: &mut TestClone, rt: &R, alloc: Global, range: Range) -> Word {
     match bare_entry(alloc, range) {
         Some(entry) => word_of_got(clone.receive(rt, alloc, &Message::Range(entry))),
         None => Word::Other,
@@ -159,7 +159,7 @@ pub fn domain(alloc: Global) -> Result<Text, Fail>
 }
 
 /// Banks in memory that keep nothing.
-fn blank<R: Threads>(rt: &R, alloc: Global) -> Result<Blank<MemoryBanks>, Fail> {
+fn blank<R: Threads + Sync>(rt: &R, alloc: Global) -> Result<Blank<MemoryBanks>, Fail> {
     match MldClone::mount(rt, alloc, MemoryBanks::blank(alloc)) {
         Mounted::Empty(blank) => Ok(blank),
         Mounted::Live(_) | Mounted::Refused(_, _) => Err("no blank".into()),
@@ -167,12 +167,12 @@ fn blank<R: Threads>(rt: &R, alloc: Global) -> Result<Blank<MemoryBanks>, Fail> 
 }
 
 /// The first clone of the domain `d`, with the id 7.
-pub fn first<R: Threads>(rt: &R, alloc: Global) -> Result<Box<TestClone>, Fail> {
+pub fn first<R: Threads + Sync>(rt: &R, alloc: Global) -> Result<Box<TestClone>, Fail> {
     founded(rt, alloc, properties(alloc)?)
 }
 
 /// The first clone of the domain `d`, with these properties.
-fn founded<R: Threads>(
+fn founded<R: Threads + Sync>(
     rt: &R,
     alloc: Global,
     properties: Vec<Iri>,
@@ -185,12 +185,12 @@ fn founded<R: Threads>(
 }
 
 /// One who asks by the id 2 for a leaf of the domain `d`.
-pub fn asker<R: Threads>(rt: &R, alloc: Global) -> Result<Box<TestAsker>, Fail> {
+pub fn asker<R: Threads + Sync>(rt: &R, alloc: Global) -> Result<Box<TestAsker>, Fail> {
     asking(rt, alloc, properties(alloc)?)
 }
 
 /// One who asks for a leaf of the domain `d`, with these properties.
-fn asking<R: Threads>(rt: &R, alloc: Global, properties: Vec<Iri>) -> Result<Box<TestAsker>, Fail> {
+fn asking<R: Threads + Sync>(rt: &R, alloc: Global, properties: Vec<Iri>) -> Result<Box<TestAsker>, Fail> {
     let id = Uuid::from_u128(2);
     let asker = Asker::new(blank(rt, alloc)?, id, domain(alloc)?, properties);
     Ok(Box::new(alloc, asker)?)

@@ -11,7 +11,7 @@ use std::alloc::Global;
 use std::thread::Threads;
 
 /// What comes of a call behind steps, on a device that is armed as the row says: how the call ends, and what is mounted then.
-pub fn crash_call<R: Threads>(
+pub fn crash_call<R: Threads + Sync>(
     rt: &R,
     alloc: Global,
     steps: &str,
@@ -33,7 +33,7 @@ pub fn crash_call<R: Threads>(
 }
 
 /// What comes of the beginning of a clone.
-fn beginning<R: Threads>(rt: &R, alloc: Global, call: &str, row: Row<'_>) -> Tried<String> {
+fn beginning<R: Threads + Sync>(rt: &R, alloc: Global, call: &str, row: Row<'_>) -> Tried<String> {
     let start = start_of(call)?;
     let mut blank = blank(rt, alloc)?;
     blank.arm(row.calls, row.leave);
@@ -43,7 +43,7 @@ fn beginning<R: Threads>(rt: &R, alloc: Global, call: &str, row: Row<'_>) -> Tri
 }
 
 /// What a mount of banks comes to.
-fn mounted<R: Threads>(
+fn mounted<R: Threads + Sync>(
     rt: &R,
     alloc: Global,
     banks: MemoryBanks,
@@ -66,7 +66,7 @@ fn is_mounted(mounted: &Mounted<MemoryBanks>) -> bool {
 }
 
 /// What comes of a mount of the banks of a clone, which stops before.
-fn mounting<R: Threads>(rt: &R, alloc: Global, begun: Box<Begun>, row: Row<'_>) -> Tried<String> {
+fn mounting<R: Threads + Sync>(rt: &R, alloc: Global, begun: Box<Begun>, row: Row<'_>) -> Tried<String> {
     let mut banks = banks_of_begun(begun);
     banks.arm(row.calls, row.leave);
     let mounted = mounted(rt, alloc, banks)?;
@@ -75,7 +75,7 @@ fn mounting<R: Threads>(rt: &R, alloc: Global, begun: Box<Begun>, row: Row<'_>) 
 }
 
 /// Does a step of a clone, on a device that is armed. Whether it was done, or its device failed.
-fn is_done<R: Threads>(
+fn is_done<R: Threads + Sync>(
     rt: &R,
     alloc: Global,
     clone: &mut TestClone,
@@ -91,7 +91,7 @@ fn is_done<R: Threads>(
 }
 
 /// The same of a clone that was begun.
-fn is_stepped<R: Threads>(
+fn is_stepped<R: Threads + Sync>(
     rt: &R,
     alloc: Global,
     begun: &mut Begun,
@@ -105,7 +105,7 @@ fn is_stepped<R: Threads>(
 }
 
 /// What comes of a step of a clone.
-fn stepping<R: Threads>(
+fn stepping<R: Threads + Sync>(
     rt: &R,
     alloc: Global,
     begun: Box<Begun>,
@@ -118,7 +118,7 @@ fn stepping<R: Threads>(
 }
 
 /// What comes of a call that was done or refused, and left these banks.
-fn left_on<R: Threads>(rt: &R, alloc: Global, is_done: bool, banks: MemoryBanks) -> Tried<String> {
+fn left_on<R: Threads + Sync>(rt: &R, alloc: Global, is_done: bool, banks: MemoryBanks) -> Tried<String> {
     let mut banks = banks;
     banks.revive();
     let found = found_on(rt, alloc, banks)?;
@@ -127,7 +127,7 @@ fn left_on<R: Threads>(rt: &R, alloc: Global, is_done: bool, banks: MemoryBanks)
 }
 
 /// What is mounted.
-fn found_on<R: Threads>(rt: &R, alloc: Global, banks: MemoryBanks) -> Tried<String> {
+fn found_on<R: Threads + Sync>(rt: &R, alloc: Global, banks: MemoryBanks) -> Tried<String> {
     let mounted = mounted(rt, alloc, banks)?;
     found(alloc, &mounted)
 }

@@ -38,7 +38,7 @@ fn main(rt: HostRuntime) -> io::Result<ExitCode> {
 }
 
 /// Runs the rows of a text. Gives how many there are, and how many of them differ, or are none.
-fn run_lines<R: Print + Threads + Alloc<A = Global>>(rt: &R, text: &str) -> io::Result<(u64, u64)> {
+fn run_lines<R: Print + Threads + Sync + Alloc<A = Global>>(rt: &R, text: &str) -> io::Result<(u64, u64)> {
     let mut table = Table {
         made: "",
         call: "",
@@ -48,7 +48,7 @@ fn run_lines<R: Print + Threads + Alloc<A = Global>>(rt: &R, text: &str) -> io::
 }
 
 /// The same, with a table for the rows to belong to.
-fn run_in<'a, R: Print + Threads + Alloc<A = Global>>(
+fn run_in<'a, R: Print + Threads + Sync + Alloc<A = Global>>(
     rt: &R,
     table: &mut Table<'a>,
     text: &'a str,
@@ -70,7 +70,7 @@ fn run_in<'a, R: Print + Threads + Alloc<A = Global>>(
 }
 
 /// Runs a line; whether it is no row, or its crash leaves what it wants. What differs is written.
-fn is_as_wanted<'a, R: Print + Threads + Alloc<A = Global>>(
+fn is_as_wanted<'a, R: Print + Threads + Sync + Alloc<A = Global>>(
     rt: &R,
     place: u64,
     table: &mut Table<'a>,
@@ -105,7 +105,7 @@ fn text_of(alloc: Global, tried: Tried<String>) -> Result<String, AllocError> {
 }
 
 /// Whether a crash leaves what its row wants. What differs is written.
-fn leaves_what_is_wanted<R: Print + Threads + Alloc<A = Global>>(
+fn leaves_what_is_wanted<R: Print + Threads + Sync + Alloc<A = Global>>(
     rt: &R,
     place: u64,
     table: &Table<'_>,

@@ -56,7 +56,7 @@ fn blank_of(mounted: Mounted<MemoryBanks>) -> Result<BlankBanks, MemoryBanks> {
 }
 
 /// Banks that keep nothing.
-pub fn blank<R: Threads>(rt: &R, alloc: Global) -> Tried<Box<BlankBanks>> {
+pub fn blank<R: Threads + Sync>(rt: &R, alloc: Global) -> Tried<Box<BlankBanks>> {
     match blank_of(MldClone::mount(rt, alloc, MemoryBanks::blank(alloc))) {
         Ok(blank) => Ok(Box::new(alloc, blank)?),
         Err(_banks) => Err(Fault::Amiss),
@@ -75,7 +75,7 @@ fn domain(alloc: Global) -> Tried<Text>
 }
 
 /// Begins a clone on blank banks.
-pub fn begin<R: Threads>(
+pub fn begin<R: Threads + Sync>(
     rt: &R,
     alloc: Global,
     blank: Box<BlankBanks>,
@@ -104,7 +104,7 @@ fn genesis(alloc: Global, blank: Box<BlankBanks>) -> Tried<Box<Begun>> {
 }
 
 /// One who asks for a leaf of a domain, and is handed a message.
-fn adopted<R: Threads>(
+fn adopted<R: Threads + Sync>(
     rt: &R,
     alloc: Global,
     blank: BlankBanks,
@@ -118,7 +118,7 @@ fn adopted<R: Threads>(
 }
 
 /// One who asks, and is given a leaf by one who knows so many ticks.
-fn join<R: Threads>(rt: &R, alloc: Global, blank: Box<BlankBanks>, tick: u32) -> Tried<Box<Begun>> {
+fn join<R: Threads + Sync>(rt: &R, alloc: Global, blank: Box<BlankBanks>, tick: u32) -> Tried<Box<Begun>> {
     let message = leaf(alloc, tick)?;
     let domain = domain(alloc)?;
     let adopted = adopted(rt, alloc, Box::into_inner(blank), domain, &message);
@@ -154,7 +154,7 @@ pub fn banks_of_begun(begun: Box<Begun>) -> MemoryBanks {
 }
 
 /// The clone that a first step begins.
-fn first_made<R: Threads>(rt: &R, alloc: Global, step: &str) -> Tried<Box<Begun>> {
+fn first_made<R: Threads + Sync>(rt: &R, alloc: Global, step: &str) -> Tried<Box<Begun>> {
     let start = start_of(step)?;
     let begun = begin(rt, alloc, blank(rt, alloc)?, start)?;
     need_begun(&begun)?;
@@ -162,7 +162,7 @@ fn first_made<R: Threads>(rt: &R, alloc: Global, step: &str) -> Tried<Box<Begun>
 }
 
 /// The clone that steps make, on a device of which no call fails.
-pub fn made<R: Threads>(rt: &R, alloc: Global, steps: &str) -> Tried<Box<Begun>> {
+pub fn made<R: Threads + Sync>(rt: &R, alloc: Global, steps: &str) -> Tried<Box<Begun>> {
     let Some((first, others)) = steps.split_once(", ") else {
         return first_made(rt, alloc, steps);
     };
@@ -172,7 +172,7 @@ pub fn made<R: Threads>(rt: &R, alloc: Global, steps: &str) -> Tried<Box<Begun>>
 }
 
 /// Does steps of a clone that was begun.
-fn do_more<R: Threads>(rt: &R, alloc: Global, begun: &mut Begun, steps: &str) -> Tried<()> {
+fn do_more<R: Threads + Sync>(rt: &R, alloc: Global, begun: &mut Begun, steps: &str) -> Tried<()> {
     match begun {
         Adopted::Joined(clone) => do_steps(rt, alloc, clone, steps),
         Adopted::Refused(_, _) | Adopted::Ignored(_) => Err(Fault::Amiss),
@@ -188,7 +188,7 @@ fn told_of(alloc: Global, begun: &Begun) -> Tried<String> {
 }
 
 /// What steps make, as a text.
-pub fn made_text<R: Threads>(rt: &R, alloc: Global, steps: &str) -> Tried<String> {
+pub fn made_text<R: Threads + Sync>(rt: &R, alloc: Global, steps: &str) -> Tried<String> {
     if steps == NOTHING {
         return Ok(String::from_str(alloc, NOTHING)?);
     }

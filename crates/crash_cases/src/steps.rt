@@ -18,7 +18,7 @@ use std::thread::Threads;
 pub type TestClone = MldClone<MemoryBanks>;
 
 /// Does a step.
-pub fn do_step<R: Threads>(rt: &R, alloc: Global, clone: &mut TestClone, step: &str) -> Tried<()> {
+pub fn do_step<R: Threads + Sync>(rt: &R, alloc: Global, clone: &mut TestClone, step: &str) -> Tried<()> {
     let (word, rest) = cut_word(step);
     match word {
         "add" => change(alloc, clone, rest, true),
@@ -33,7 +33,7 @@ pub fn do_step<R: Threads>(rt: &R, alloc: Global, clone: &mut TestClone, step: &
 }
 
 /// Does steps, one after another.
-pub fn do_steps<R: Threads>(
+pub fn do_steps<R: Threads + Sync>(
     rt: &R,
     alloc: Global,
     clone: &mut TestClone,
@@ -72,7 +72,7 @@ fn updated(done: Result<Done, UpdateFault>) -> Tried<()> {
 }
 
 /// Hands a message to a clone.
-fn deliver<R: Threads>(rt: &R, alloc: Global, clone: &mut TestClone, message: &Message) -> Tried<()>
+fn deliver<R: Threads + Sync>(rt: &R, alloc: Global, clone: &mut TestClone, message: &Message) -> Tried<()>
     requires { IsGoodMessage (message_value message.now) }
 {
     match clone.receive(rt, alloc, message) {
@@ -83,12 +83,12 @@ fn deliver<R: Threads>(rt: &R, alloc: Global, clone: &mut TestClone, message: &M
 }
 
 /// Asks a clone for a leaf.
-fn fork<R: Threads>(rt: &R, alloc: Global, clone: &mut TestClone) -> Tried<()> {
+fn fork<R: Threads + Sync>(rt: &R, alloc: Global, clone: &mut TestClone) -> Tried<()> {
     deliver(rt, alloc, clone, &Message::JoinAsk(second()))
 }
 
 /// Takes the range `TICK` or `FIRST-LAST`, or holds it back.
-fn take<R: Threads>(rt: &R, alloc: Global, clone: &mut TestClone, ticks: &str) -> Tried<()> {
+fn take<R: Threads + Sync>(rt: &R, alloc: Global, clone: &mut TestClone, ticks: &str) -> Tried<()> {
     let (first, last) = match ticks.split_once('-') {
         Some(both) => both,
         None => (ticks, ticks),
@@ -98,7 +98,7 @@ fn take<R: Threads>(rt: &R, alloc: Global, clone: &mut TestClone, ticks: &str) -
 }
 
 /// Merges the snapshot of one who knows so many ticks.
-fn merge<R: Threads>(rt: &R, alloc: Global, clone: &mut TestClone, ticks: &str) -> Tried<()> {
+fn merge<R: Threads + Sync>(rt: &R, alloc: Global, clone: &mut TestClone, ticks: &str) -> Tried<()> {
     let message = snapshot(alloc, number(ticks)?)?;
     deliver(rt, alloc, clone, &message)
 }

@@ -1,9 +1,9 @@
 //! A bank in memory.
-ghost use Rattle.std.specs.Prelude.{◌≡◌, ◌↔◌, ℕ, ◌+◌, ◌^◌, ◌<◌, ◌≤◌, ◌++◌, [], ◌∷◌, Option, None, Some, Ok, length, take, drop, replicate, IsTrue, IsOk, IfOk, OnOk, OnErr, IsErrOf, IsSome, refl, vec_len};
-ghost use Rattle.mld_io.specs.Arm.{Meter, Unarmed, Caught, Metered, armed, revived};
+ghost use Rattle.std.specs.Prelude.{◌≡◌, ◌+◌, ◌^◌, ◌<◌, ◌≤◌, ◌++◌, [], ◌∷◌, None, Some, Ok, length, take, drop, replicate, IsOk, IfOk, OnOk, OnErr, IsErrOf, refl};
+ghost use Rattle.mld_io.specs.Arm.{Caught, Metered, armed, revived};
 ghost use Rattle.mld_io.specs.Disk.{Log, Writes, Revives, Syncs, Wrote, bytes_of, grown, seen};
 ghost use Rattle.disk_model.specs.CountedCalls.{armed_calls, leave_of, meter_of, revived_calls};
-ghost use Rattle.disk_model.specs.BankSteps.{BanksValue, ReadMoves, WriteMoves, SyncMoves, blank_bank, memory_log, read_of, whole_bank};
+ghost use Rattle.disk_model.specs.BankSteps.{ReadMoves, WriteMoves, SyncMoves, blank_bank, memory_log, read_of, whole_bank};
 ghost use Rattle.disk_model.specs.SideSteps.{left_by};
 ghost use Rattle.disk_model.specs.Store.{cut};
 

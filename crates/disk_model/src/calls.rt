@@ -1,7 +1,7 @@
 //! Which calls of a bank in memory fail.
 ghost use Rattle.std.specs.Prelude.{◌≡◌, ◌≢◌, ◌↔◌, IsTrue, ◌++◌, [], ◌∷◌, OnOk, OnErr};
 ghost use Rattle.mld_io.specs.Arm.{Caught};
-ghost use Rattle.disk_model.specs.CountedCalls.{CallsValue, BeginsCall, Ends, arm_of, counted_call, leave_of, armed_calls, revived_calls};
+ghost use Rattle.disk_model.specs.CountedCalls.{BeginsCall, Ends, arm_of, counted_call, leave_of, armed_calls, revived_calls};
 
 use mld_io::{IoFault, Leave};
 use std::alloc::{AllocError, Global};

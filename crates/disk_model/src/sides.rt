@@ -1,7 +1,7 @@
 //! The bytes of each side, and the writes on it that aren't synced.
-ghost use Rattle.std.specs.Prelude.{◌≡◌, ℕ, ◌+◌, ◌^◌, ◌<◌, ◌≤◌, true, false, [], not, ◌&&◌, ◌||◌, length, IfOk, OnOk, OnErr};
+ghost use Rattle.std.specs.Prelude.{◌≡◌, ◌+◌, ◌^◌, ◌<◌, ◌≤◌, true, false, [], not, ◌&&◌, ◌||◌, length, IfOk, OnOk, OnErr};
 ghost use Rattle.mld_io.specs.Disk.{bytes_of, with_bytes};
-ghost use Rattle.disk_model.specs.Sides.{SideValue, SidesValue, durable, bytes_at, sides_at, is_unsynced};
+ghost use Rattle.disk_model.specs.Sides.{durable, bytes_at, sides_at, is_unsynced};
 ghost use Rattle.disk_model.specs.SideSteps.{write_left, same_side};
 
 use crate::bytes::{grow, put};

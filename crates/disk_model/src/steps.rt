@@ -1,6 +1,6 @@
 //! What a bank in memory remembers of its calls.
 ghost use Rattle.std.specs.Prelude.{◌≡◌, ℕ, ◌+◌, ◌<◌, ◌≤◌, List, [], ◌∷◌, ◌++◌, length, OnOk, IfSome, vec_len, vec_capacity};
-ghost use Rattle.disk_model.specs.DeviceSteps.{TraceValue, Wrote, Synced, Cut};
+ghost use Rattle.disk_model.specs.DeviceSteps.{Wrote, Synced, Cut};
 ghost use Rattle.disk_model.specs.StepMarks.{steps_of_marks, pieces_size};
 
 use crate::bytes::{grow, put};

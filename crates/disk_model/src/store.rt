@@ -1,9 +1,9 @@
 //! What a bank in memory keeps: its sides, and the calls that made them.
-ghost use Rattle.std.specs.Prelude.{◌≡◌, ℕ, ◌+◌, ◌^◌, ◌<◌, ◌≤◌, [], ◌∷◌, true, false, cond, ◌||◌, length, IfOk, OnOk, OnErr};
+ghost use Rattle.std.specs.Prelude.{◌≡◌, ◌+◌, ◌^◌, ◌<◌, ◌≤◌, [], ◌||◌, length, IfOk, OnOk, OnErr};
 ghost use Rattle.mld_io.specs.Disk.{bytes_of};
 ghost use Rattle.disk_model.specs.SideSteps.{left_by, AreInOrder};
 ghost use Rattle.disk_model.specs.DeviceSteps.{Wrote};
-ghost use Rattle.disk_model.specs.Store.{StoreValue, with_step, synced, cut};
+ghost use Rattle.disk_model.specs.Store.{with_step, synced, cut};
 
 use crate::sides::{BothSides, SideBytes};
 use crate::steps::Trace;

@@ -137,7 +137,7 @@ fn push_prop(props: &mut Vec<Iri>, prop: Iri) -> Result<(), AllocError>
     Ok(())
 }
 
-/// Reads single-valued properties. Memory is taken for those that are there, whatever their count says.
+/// Reads single-valued properties.
 fn read_props(alloc: Global, input: &[u8], at: usize) -> Result<(Vec<Iri>, usize), CodecFault>
     requires { at ≤ length input.now }
     ensures { MatchResult result
@@ -145,6 +145,7 @@ fn read_props(alloc: Global, input: &[u8], at: usize) -> Result<(Vec<Iri>, usize
         (IsRefused (read_props at (drop at input.now))) }
 {
     let (count, mut place) = read_u32(input, at)?;
+    // Properties are read one by one, so that a count by itself asks for no memory.
     let mut props = Vec::new(alloc);
     for _done in 0..count {
         place = read_next_prop(alloc, input, place, &mut props)?;

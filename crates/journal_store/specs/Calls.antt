@@ -1,5 +1,5 @@
 -- What a journal keeps of which the calls that write speak, and what these ask for. `create`, `append_entry`, `append_fork`, `swap` and those
--- for an open journal cite it, and so does `clone_banks`.
+-- for an open journal cite it, and so does `clone_parts`.
 use Rattle.std.specs.Prelude.{◌≡◌, ◌+◌, ◌<◌, List, [], length, Option, None, Some, Result, Ok, Err}
 use Rattle.mld_io.specs.Disk.{Log, seen, IsSettled, other_side}
 use Rattle.mld_io.specs.declared.banks.Side.TheVariants.{A}

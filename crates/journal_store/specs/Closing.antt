@@ -1,5 +1,5 @@
 -- What a call leaves of a journal, at each moment, where it is done and where it is refused, and when a refusal closes it. Each call that writes
--- cites it, `mount` has `StaysTold`, and so have the calls of `clone_banks` and `clone_core`.
+-- cites it, `mount` has `StaysTold`, and so have the calls of `clone_parts` and `clone_core`.
 use Rattle.std.specs.Prelude.{◌≡◌, ◌≢◌, ◌⊎◌, ◌+◌, ◌-◌, ◌^◌, ◌<◌, List, ◌∷◌, Bool, true, false, Option, Some, None}
 use Rattle.mld_io.specs.Arm.{Arm, Unarmed, Armed, Caught, Meter}
 use Rattle.mld_io.specs.Disk.{Call, Log, grown_by, other_side}

@@ -1,12 +1,11 @@
 //! Records and whole sides put on a device.
-ghost use Rattle.std.specs.Prelude.{◌≡◌, ◌+◌, ◌^◌, ◌<◌, ◌++◌, ◌∷◌, [], None, Some, length, OnOk, IfOk, IfErr, IsOk, IsErrOf};
+ghost use Rattle.std.specs.Prelude.{◌≡◌, ◌+◌, ◌^◌, ◌<◌, None, Some, length, OnOk, IfOk, IfErr, IsOk, IsErrOf};
 ghost use Rattle.mld_io.specs.Arm.{Metered};
 ghost use Rattle.mld_io.specs.Disk.{Log, LeavesMeanwhile, IsSettled, bytes_of, seen};
-ghost use Rattle.journal_sides.specs.Format.{closed_gate};
 ghost use Rattle.journal_sides.specs.Heads.{head_value};
-ghost use Rattle.journal_sides.specs.RecordBytes.{RecordValue, record_bytes};
+ghost use Rattle.journal_sides.specs.RecordBytes.{RecordValue};
 ghost use Rattle.journal_sides.specs.SideReadings.{Volume};
-ghost use Rattle.journal_sides.specs.StoredVolumes.{EndsAt, IsGoodHead, AreGoodEntries, IsVolume};
+ghost use Rattle.journal_sides.specs.StoredVolumes.{IsGoodHead, AreGoodEntries, IsVolume};
 ghost use Rattle.journal_sides.specs.WrittenRecords.{with_record, volume_of};
 ghost use Rattle.journal_store.specs.CallEnds.{KeepsEnd, ClosesOrKeeps, EndsBehindFirst};
 ghost use Rattle.journal_store.specs.Closing.{WasCalled, StaysTold};

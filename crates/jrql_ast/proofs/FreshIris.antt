@@ -1,8 +1,8 @@
 -- The IRI of a fresh subject is an absolute IRI.
-use Rattle.std.proofs.Common.{◌≡◌, ℕ, suc, ◌<◌, ◌≤◌, ◌^◌, List, [], ◌∷◌, ◌++◌, All, length, Bool, true, false, ◌&&◌, not, IsTrue, codes, nat_le, get_or, inl, inr, refl, sym, subst, ◌∙◌, length-append, arith}
+use Rattle.std.proofs.Common.{◌≡◌, ℕ, suc, ◌<◌, ◌≤◌, ◌^◌, List, [], ◌∷◌, ◌++◌, All, length, Bool, true, ◌&&◌, not, IsTrue, codes, nat_le, get_or, inl, inr, refl, ◌∙◌, length-append, arith}
 use Rattle.std.specs.Fmt.{decimal}
 use Rattle.std.specs.List.{list_all}
-use Rattle.std.proofs.lemmas.Bool.{and_parts, and_from, true≢false}
+use Rattle.std.proofs.lemmas.Bool.{and_parts, and_from}
 use Rattle.std.proofs.lemmas.Bool.Decides.{nat_tests}
 use Rattle.std.proofs.lemmas.Fmt.{digits_decimal, length-decimal-le}
 use Rattle.std.proofs.lemmas.List.Folds.{list_all-append}
@@ -114,11 +114,3 @@ fresh_absolute domain dot number h letters short t n =
     let all : IsClean (fresh_iri domain dot number) =
     clean_append (codes "http://") (domain ++ back) refl (clean_append domain back (clean_domain domain tests.1) (clean_behind dot number letters t n)) in
     and_from (nat_le (length (fresh_iri domain dot number)) iri_limit) _ (le_test _ iri_limit size) all
-
-not_both : (b : Bool) → b ≡ true → not b ≡ true → ⊥
-not_both true e f = true≢false (sym f)
-not_both false e f = true≢false (sym e)
-
--- a text that is it is not refused
-pub not_refused : (text name : List ℕ) → text ≡ name → IsTrue (is_absolute name) → IsTrue (not (is_absolute text)) → ⊥
-not_refused text name e is not_is = not_both (is_absolute text) (subst (λ l. IsTrue (is_absolute l)) (sym e) is) not_is

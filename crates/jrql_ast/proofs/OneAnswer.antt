@@ -2,13 +2,17 @@
 use Rattle.std.proofs.Common.{◌≡◌, ◌∙◌, List, [], ◌∷◌, Option, None, Some, map, drop, refl, sym, ap}
 use Rattle.std.specs.Cmp.{IsTotalOrder}
 use Rattle.std.specs.Cmp.Lexicographic.{slice_cmp, lists_total, options_total}
+use Rattle.std.specs.Option.{option_cmp}
 use Rattle.std.specs.Ordering.{ordering_then}
 use Rattle.std.specs.declared.cmp.Ordering.{Ordering}
 use Rattle.std.specs.declared.cmp.Ordering.TheVariants.{Less, Equal, Greater}
 use Rattle.std.proofs.lemmas.Map.Lookups.{CmpEqualImpliesEq}
 use Rattle.rdf_terms.specs.declared.terms.Term.{Term}
+use Rattle.rdf_terms.specs.Order.{term_cmp}
 use Rattle.rdf_terms.specs.declared.terms.Triple.{Triple}
 use Rattle.rdf_terms.specs.OrderLaws.{term_total, term_exact}
+use Rattle.rdf_terms.specs.ReplyLaws.{reply_total, reply_exact}
+use Rattle.rdf_terms.specs.ReplyOrder.{reply_cmp}
 use Rattle.jrql_ast.specs.declared.answers.Answer.{Answer}
 use Rattle.jrql_ast.specs.declared.answers.Answer.TheVariants as answers
 use Rattle.jrql_ast.specs.declared.patterns.Group.{Group}
@@ -16,7 +20,7 @@ use Rattle.jrql_ast.specs.declared.queries.Query.{Query}
 use Rattle.jrql_ast.specs.declared.queries.Select.{Select}
 use Rattle.jrql_ast.specs.declared.queries.What.{What}
 use Rattle.jrql_ast.specs.declared.queries.What.TheVariants as kinds
-use Rattle.jrql_ast.specs.QueryAnswers.{place_cmp, project, found, distinct_rows, limited, IsSelected, IsAnswerBy, IsAnswer}
+use Rattle.jrql_ast.specs.QueryAnswers.{place_cmp, reply_place_cmp, project, found, distinct_rows, limited, IsSelected, IsAnswerBy, IsAnswer}
 use Rattle.jrql_ast.proofs.Sortings.{one_sorting}
 
 -- orders that tell apart
@@ -35,19 +39,30 @@ exact_list R exact (x ∷ xs) (y ∷ ys) h =
     let r = exact_list R exact xs ys b.1 in
     λ i. e i ∷ r i
 
+exact_option : {X : Type 0} (R : X → X → Ordering) → CmpEqualImpliesEq R → CmpEqualImpliesEq (option_cmp R)
+exact_option R exact None None h = refl
+exact_option R exact None (Some y) h = let f : Less ≡ Equal = h in cc
+exact_option R exact (Some x) None h = let f : Greater ≡ Equal = h in cc
+exact_option R exact (Some x) (Some y) h = ap Some (exact x y h)
+
+-- the plain order of rows
 pub exact_place : CmpEqualImpliesEq place_cmp
-exact_place None None h = refl
-exact_place None (Some y) h = let f : Less ≡ Equal = h in cc
-exact_place (Some x) None h = let f : Greater ≡ Equal = h in cc
-exact_place (Some x) (Some y) h = ap Some (term_exact x y h)
+exact_place = exact_option term_cmp term_exact
 
 pub values_total : IsTotalOrder (slice_cmp place_cmp)
 values_total = lists_total (options_total term_total)
 
+-- and that of replies
+pub exact_reply_place : CmpEqualImpliesEq reply_place_cmp
+exact_reply_place = exact_option reply_cmp reply_exact
+
+pub replies_total : IsTotalOrder (slice_cmp reply_place_cmp)
+replies_total = lists_total (options_total reply_total)
+
 -- a select's rows
 one_selected : (graph : List Triple) (group : Group) (select : Select) (rows others : List (List (Option Term))) → IsSelected graph group select rows → IsSelected graph group select others → rows ≡ others
 one_selected graph group select rows others s t =
-    let e = one_sorting (slice_cmp place_cmp) values_total (λ row. Unit {0}) (λ x y p q h. exact_list place_cmp exact_place x y h)
+    let e = one_sorting (slice_cmp reply_place_cmp) replies_total (λ row. Unit {0}) (λ x y p q h. exact_list reply_place_cmp exact_reply_place x y h)
     (map (project select.vars) (found graph group)) s.values t.values (λ k d l. tt) s.sorted t.sorted in
     s.whole ∙ ap (λ values. limited select.limit (drop select.offset (distinct_rows select.distinct values))) e ∙ sym t.whole
 

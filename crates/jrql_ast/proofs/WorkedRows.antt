@@ -3,7 +3,7 @@ use Rattle.std.specs.Prelude.{◌≡◌, ℕ, List, [], ◌∷◌, true, false, 
 use Rattle.rdf_terms.specs.declared.terms.Term.{Term}
 use Rattle.rdf_terms.specs.declared.terms.Term.TheVariants as terms
 use Rattle.rdf_terms.specs.declared.terms.Triple.{Triple}
-use Rattle.rdf_terms.specs.Literal.{Typed, xsd_string}
+use Rattle.rdf_terms.specs.Literal.{Typed, xsd_string, xsd_integer}
 use Rattle.rdf_terms.specs.Order.{term_cmp}
 use Rattle.rdf_terms.specs.Spelling.{term_text}
 use Rattle.jrql_ast.specs.declared.patterns.Compare.TheVariants as compares
@@ -11,7 +11,7 @@ use Rattle.jrql_ast.specs.declared.patterns.Group.{Group}
 use Rattle.jrql_ast.specs.declared.patterns.PatternTriple.{PatternTriple}
 use Rattle.jrql_ast.specs.declared.patterns.Slot.{Slot}
 use Rattle.jrql_ast.specs.declared.patterns.Slot.TheVariants as slots
-use Rattle.jrql_ast.specs.FilterMeaning.{xsd_integer, holds}
+use Rattle.jrql_ast.specs.FilterMeaning.{holds}
 use Rattle.jrql_ast.specs.declared.queries.Target.TheVariants as targets
 use Rattle.jrql_ast.specs.QueryAnswers.{IsDescribed, described, distinct_rows, found, limited, project}
 

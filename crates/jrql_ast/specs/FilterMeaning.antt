@@ -1,15 +1,16 @@
 -- When a filter holds (SPARQL 1.1 Query Language, section 17: the operators of section 17.3 over xsd:integer and xsd:string alone,
 -- with =, != as the comparison of terms, and without errors, which here are false).
-use Rattle.std.specs.Prelude.{ℕ, ℤ, List, Bool, false, not, ◌&&◌, nat_le, length, codes, Option, None, Some, if◌then◌else◌}
+use Rattle.std.specs.Prelude.{ℕ, ℤ, List, Bool, false, not, ◌&&◌, nat_le, length, Option, None, Some, if◌then◌else◌}
 use Rattle.std.specs.Cmp.Lexicographic.{slice_cmp}
 use Rattle.std.specs.Option.{option_map, option_map_or, option_or, option_zip}
 use Rattle.std.specs.Ordering.{nat_cmp, int_cmp, is_lt, is_le, is_gt, is_ge, is_some_and}
 use Rattle.std.specs.Str.{all_ascii_digits}
 use Rattle.std.specs.Str.Parse.{without_leading_sign, signed_digits_value}
 use Rattle.std.specs.declared.cmp.Ordering.{Ordering}
+use Rattle.text_rules.specs.Integers.{plain_digit_limit}
 use Rattle.rdf_terms.specs.declared.terms.Term.{Term}
 use Rattle.rdf_terms.specs.declared.terms.Term.TheVariants as terms
-use Rattle.rdf_terms.specs.Literal.{Typed, Tagged, xsd_string, is_same}
+use Rattle.rdf_terms.specs.Literal.{has_datatype, lexical_form, xsd_string, xsd_integer}
 use Rattle.jrql_ast.specs.declared.patterns.Compare.{Compare}
 use Rattle.jrql_ast.specs.declared.patterns.Compare.TheVariants as compares
 use Rattle.jrql_ast.specs.declared.patterns.Filter.{Filter}
@@ -17,32 +18,22 @@ use Rattle.jrql_ast.specs.declared.patterns.Slot.{Slot}
 use Rattle.jrql_ast.specs.declared.patterns.Slot.TheVariants as slots
 use Rattle.jrql_ast.specs.Solutions.{is_same_term, value_of}
 
--- xsd:integer (XML Schema Part 2, section 3.4.13)
-unfoldable pub xsd_integer : List ℕ
-xsd_integer = codes "http://www.w3.org/2001/XMLSchema#integer"
-
--- how many digits a number that is compared has at most
-abbrev pub digit_limit : ℕ
-digit_limit = 30
-
--- the text is a sign or none, and 1 to 30 digits
+-- the text is a sign or none, and 1 to 30 digits, of which the first ones may be `0`
 abbrev pub is_integer_text : List ℕ → Bool
 is_integer_text text =
     let digits = without_leading_sign text in
-    nat_le 1 (length digits) && (nat_le (length digits) digit_limit && all_ascii_digits digits)
+    nat_le 1 (length digits) && (nat_le (length digits) plain_digit_limit && all_ascii_digits digits)
 
 -- the number that a term is, where it is an xsd:integer of such a text
 abbrev pub number_value : Term → Option ℤ
 number_value (terms.Iri iri) = None
-number_value (terms.Literal (Typed lexical datatype)) =
-    if is_same datatype xsd_integer && is_integer_text lexical then Some (signed_digits_value 10 lexical) else None
-number_value (terms.Literal (Tagged lexical tag)) = None
+number_value (terms.Literal literal) =
+    if has_datatype xsd_integer literal && is_integer_text (lexical_form literal) then Some (signed_digits_value 10 (lexical_form literal)) else None
 
 -- the lexical form of an xsd:string
 abbrev pub string_of : Term → Option (List ℕ)
 string_of (terms.Iri iri) = None
-string_of (terms.Literal (Typed lexical datatype)) = if is_same datatype xsd_string then Some lexical else None
-string_of (terms.Literal (Tagged lexical tag)) = None
+string_of (terms.Literal literal) = if has_datatype xsd_string literal then Some (lexical_form literal) else None
 
 -- how two values are ordered, where both are there
 abbrev pub order_of : {X : Type 0} → (X → X → Ordering) → Option X → Option X → Option Ordering

@@ -4,7 +4,6 @@ use Rattle.std.specs.Prelude.{◌≢◌, ℕ, ◌+◌, ◌≡◌, ◌<◌, ◌�
 use Rattle.std.specs.List.{All, AllPairs}
 use Rattle.jrql_ast.specs.declared.answers.Answer.{Answer}
 use Rattle.jrql_ast.specs.declared.answers.Answer.TheVariants as answers
-use Rattle.jrql_ast.specs.declared.limits.TheConstants.{VARIABLE_LIMIT}
 use Rattle.jrql_ast.specs.declared.patterns.Filter.{Filter}
 use Rattle.jrql_ast.specs.declared.patterns.Group.{Group}
 use Rattle.jrql_ast.specs.declared.patterns.PatternTriple.{PatternTriple}
@@ -19,7 +18,7 @@ use Rattle.jrql_ast.specs.declared.queries.What.TheVariants as kinds
 
 -- how many variables a group has at most
 abbrev pub variable_limit : ℕ
-variable_limit = VARIABLE_LIMIT
+variable_limit = 256
 
 -- a group's variables, named and hidden, are numbered below this
 abbrev pub variables_of : Group → ℕ

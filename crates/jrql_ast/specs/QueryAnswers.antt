@@ -11,6 +11,7 @@ use Rattle.rdf_terms.specs.declared.terms.Term.TheVariants as terms
 use Rattle.rdf_terms.specs.declared.terms.Triple.{Triple}
 use Rattle.rdf_terms.specs.Literal.{is_same}
 use Rattle.rdf_terms.specs.Order.{term_cmp}
+use Rattle.rdf_terms.specs.ReplyOrder.{reply_cmp}
 use Rattle.jrql_ast.specs.declared.answers.Answer.{Answer}
 use Rattle.jrql_ast.specs.declared.answers.Answer.TheVariants as answers
 use Rattle.jrql_ast.specs.declared.answers.Described.{Described}
@@ -32,9 +33,12 @@ solution_limit = 1048576
 abbrev pub found : List Triple → Group → List (List (Option Term))
 found graph group = filter (λ row. list_all (λ filter. holds filter row) group.filters) (joined_rows graph group)
 
--- an unbound place comes before every term
+-- an unbound place comes before every term: in the plain order, and in that of replies
 abbrev pub place_cmp : Option Term → Option Term → Ordering
 place_cmp = option_cmp term_cmp
+
+abbrev pub reply_place_cmp : Option Term → Option Term → Ordering
+reply_place_cmp = option_cmp reply_cmp
 
 -- what a row has for these variables, and the order of rows by them
 abbrev pub project : List ℕ → List (Option Term) → List (Option Term)
@@ -55,7 +59,7 @@ pub record AreColumns (group : Group) (columns : List ℕ) : Type 0 where
       (range_with_len 0 (length group.names)) named
   pub whole : columns ≡ named ++ range_with_len (length group.names) group.hidden
 
--- the group's solutions, in order
+-- the group's solutions, in the plain order
 pub record IsSolutions (graph : List Triple) (group : Group) (rows : List (List (Option Term))) : Type 0 where
   pub columns : List ℕ
   pub by_columns : AreColumns group columns
@@ -71,10 +75,10 @@ abbrev pub limited : {X : Type 0} → Option ℕ → List X → List X
 limited None rows = rows
 limited (Some limit) rows = take limit rows
 
--- the answer to a select: the solutions' values for the listed variables, sorted, and then distinct, offset and limit
+-- the answer to a select: the solutions' values for the listed variables, in the order of replies, and then distinct, offset and limit
 pub record IsSelected (graph : List Triple) (group : Group) (select : Select) (rows : List (List (Option Term))) : Type 0 where
   pub values : List (List (Option Term))
-  pub sorted : IsSortingOf (slice_cmp place_cmp) (map (project select.vars) (found graph group)) values
+  pub sorted : IsSortingOf (slice_cmp reply_place_cmp) (map (project select.vars) (found graph group)) values
   pub whole : rows ≡ limited select.limit (drop select.offset (distinct_rows select.distinct values))
 
 -- a value is this IRI

@@ -4,7 +4,7 @@ ghost use Rattle.std.specs.String.{string_bytes};
 ghost use Rattle.text_rules.specs.Domain.{is_domain};
 ghost use Rattle.jrql_ast.specs.FreshNames.{fresh_iri};
 
-use rdf_terms::{Iri, Term, TermFault};
+use rdf_terms::{Iri, Term, known_iri};
 use std::alloc::{AllocError, Global};
 use tree_clock::{Dot, Path};
 
@@ -42,12 +42,5 @@ pub(crate) fn fresh_iri(
     let _letters = path.len();
     let path = *path;
     let text = fresh_text(alloc, domain, &Dot { path, tick }, number)?;
-    match Iri::new(alloc, text.as_str()) {
-        Ok(iri) => Ok(iri),
-        Err(TermFault::NoMemory) => Err(AllocError),
-        Err(TermFault::BadIri) => unreachable!(),
-        Err(TermFault::BadType) => unreachable!(),
-        Err(TermFault::BadTag) => unreachable!(),
-        Err(TermFault::TooLong) => unreachable!(),
-    }
+    known_iri(alloc, text.as_str())
 }

@@ -15,7 +15,7 @@ use Rattle.jrql_ast.specs.declared.queries.Target.{Target}
 use Rattle.jrql_ast.specs.declared.queries.Target.TheVariants as targets
 use Rattle.jrql_ast.specs.declared.queries.What.{What}
 use Rattle.jrql_ast.specs.declared.queries.What.TheVariants as kinds
-use Rattle.jrql_ast.specs.QueryAnswers.{IsAnswer, IsAnswerBy, IsDescribed, IsSelected, described, found, is_iri_value, place_cmp, project, subjects_of, targets_iri}
+use Rattle.jrql_ast.specs.QueryAnswers.{IsAnswer, IsAnswerBy, IsDescribed, IsSelected, described, found, is_iri_value, project, reply_place_cmp, subjects_of, targets_iri}
 use Rattle.jrql_ast.specs.Solutions.{value_of}
 use Rattle.jrql_eval.specs.Asked.{IsDescribedBy, IsSelectedOf}
 use Rattle.jrql_eval.proofs.BranchLaws.{sorting_of}
@@ -26,7 +26,7 @@ pub selected_is : (graph : List Triple) (group : Group) (select : Select) (rows 
     → IsSelected graph group select kept
 selected_is graph group select rows kept p s = record {
   values = s.values;
-  sorted = sorting_of (slice_cmp place_cmp) (map (project select.vars) (found graph group)) (map (project select.vars) rows) s.values
+  sorted = sorting_of (slice_cmp reply_place_cmp) (map (project select.vars) (found graph group)) (map (project select.vars) rows) s.values
       (IsPermutation-map (project select.vars) (found graph group) rows p) s.sorted;
   whole = s.whole;
 }

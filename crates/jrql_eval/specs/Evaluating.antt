@@ -5,18 +5,12 @@ use Rattle.std.specs.List.{filter, list_all, All}
 use Rattle.rdf_terms.specs.declared.terms.Term.{Term}
 use Rattle.rdf_terms.specs.declared.terms.Term.TheVariants as terms
 use Rattle.rdf_terms.specs.declared.terms.Triple.{Triple}
-use Rattle.rdf_terms.specs.Literal.{LiteralValue, Typed, Tagged, is_same}
 use Rattle.graph_index.specs.Matching.{has_iri, is_term}
 use Rattle.jrql_ast.specs.declared.patterns.Filter.{Filter}
 use Rattle.jrql_ast.specs.declared.patterns.PatternTriple.{PatternTriple}
 use Rattle.jrql_ast.specs.FilterMeaning.{side_value, holds}
 use Rattle.jrql_ast.specs.Solutions.{agree, matches_from}
 use Rattle.jrql_eval.specs.declared.plans.Stage.{Stage}
-
--- the literal is of this datatype
-abbrev pub is_typed_as : List ℕ → LiteralValue → Bool
-is_typed_as datatype (Typed lexical own) = is_same own datatype
-is_typed_as datatype (Tagged lexical tag) = false
 
 -- all filters hold of the row
 abbrev pub all_hold : List Filter → List (Option Term) → Bool

@@ -3,9 +3,9 @@ ghost use Rattle.std.specs.Prelude.{◌≡◌, ◌==◌, ℤ, codes, length, Som
 ghost use Rattle.std.specs.Option.{option_copied};
 ghost use Rattle.std.specs.Str.{all_ascii_digits};
 ghost use Rattle.std.specs.Str.Parse.{without_leading_sign, signed_digits_value};
-ghost use Rattle.rdf_terms.specs.Literal.{datatype_of, lexical_form, is_same, xsd_string};
-ghost use Rattle.jrql_ast.specs.FilterMeaning.{xsd_integer, is_integer_text, number_value, string_of, value_cmp, compares_so, holds};
-ghost use Rattle.jrql_eval.specs.Evaluating.{all_hold, is_typed_as};
+ghost use Rattle.rdf_terms.specs.Literal.{datatype_of, has_datatype, lexical_form, is_same, xsd_string, xsd_integer};
+ghost use Rattle.jrql_ast.specs.FilterMeaning.{is_integer_text, number_value, string_of, value_cmp, compares_so, holds};
+ghost use Rattle.jrql_eval.specs.Evaluating.{all_hold};
 
 use crate::binding::term_at;
 use crate::limits::DIGIT_LIMIT;
@@ -60,7 +60,7 @@ fn integer_of(text: &str) -> Option<i128>
 
 // Whether a literal is of a datatype.
 fn is_of_type(literal: &Literal, datatype: &str) -> bool
-    ensures { result ≡ is_typed_as datatype.now literal.now }
+    ensures { result ≡ has_datatype datatype.now literal.now }
 {
     match literal.datatype() {
         Some(own) => own == datatype,
@@ -69,7 +69,7 @@ fn is_of_type(literal: &Literal, datatype: &str) -> bool
 }
 
 // The number that a term is, where it is one.
-#[tactic(auto, unfolding(jrql_ast::specs::FilterMeaning::xsd_integer))]
+#[tactic(auto, unfolding(rdf_terms::specs::Literal::xsd_integer))]
 fn number_value(term: &Term) -> Option<i128>
     ensures { result ≡ number_value term.now }
 {

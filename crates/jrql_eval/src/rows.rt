@@ -2,11 +2,11 @@
 ghost use Rattle.std.specs.Prelude.{◌≡◌, None, IfOk, replicate};
 ghost use Rattle.std.specs.Cmp.Lexicographic.{slice_cmp};
 ghost use Rattle.std.specs.Option.{option_copied};
-ghost use Rattle.jrql_ast.specs.QueryAnswers.{place_cmp, project, row_cmp};
+ghost use Rattle.jrql_ast.specs.QueryAnswers.{place_cmp, project, reply_place_cmp, row_cmp};
 ghost use Rattle.jrql_ast.specs.Solutions.{value_of};
 
 use jrql_ast::Row;
-use rdf_terms::Term;
+use rdf_terms::{Term, cmp_reply};
 use std::alloc::{AllocError, Global};
 use std::cmp::Ordering;
 
@@ -68,7 +68,7 @@ pub(crate) fn project(
     Ok(Row::from_vec(values))
 }
 
-/// Compares two places: an unbound one comes before every term.
+/// Compares two places in the plain order: an unbound one comes before every term.
 fn cmp_places(place: Option<&Term>, other: Option<&Term>) -> Ordering
     ensures { result ≡ place_cmp (option_copied place.entry) (option_copied other.entry) }
 {
@@ -80,7 +80,7 @@ fn cmp_places(place: Option<&Term>, other: Option<&Term>) -> Ordering
     }
 }
 
-/// Compares two rows by their places, from the first.
+/// Compares two rows in the plain order, by their places, from the first.
 pub(crate) fn cmp_rows(row: &[Option<Term>], other: &[Option<Term>]) -> Ordering
     ensures { result ≡ slice_cmp place_cmp row.now other.now }
 {
@@ -98,7 +98,37 @@ pub(crate) fn cmp_rows(row: &[Option<Term>], other: &[Option<Term>]) -> Ordering
     }
 }
 
-/// Compares two rows by their values for these variables, from the first.
+/// Compares two places in the order of replies: an unbound one comes before every term.
+fn cmp_reply_places(place: Option<&Term>, other: Option<&Term>) -> Ordering
+    ensures { result ≡ reply_place_cmp (option_copied place.entry) (option_copied other.entry) }
+{
+    match (place, other) {
+        (None, None) => Ordering::Equal,
+        (None, Some(_)) => Ordering::Less,
+        (Some(_), None) => Ordering::Greater,
+        (Some(term), Some(with)) => cmp_reply(term, with),
+    }
+}
+
+/// Compares two rows in the order of replies, by their places, from the first.
+pub(crate) fn cmp_reply_rows(row: &[Option<Term>], other: &[Option<Term>]) -> Ordering
+    ensures { result ≡ slice_cmp reply_place_cmp row.now other.now }
+{
+    match (row.split_first(), other.split_first()) {
+        (None, None) => Ordering::Equal,
+        (None, Some(_)) => Ordering::Less,
+        (Some(_), None) => Ordering::Greater,
+        (Some((place, rest)), Some((with, others))) => {
+            match cmp_reply_places(place.as_ref(), with.as_ref()) {
+                Ordering::Less => Ordering::Less,
+                Ordering::Equal => cmp_reply_rows(rest, others),
+                Ordering::Greater => Ordering::Greater,
+            }
+        }
+    }
+}
+
+/// Compares two rows in the plain order, by their values for these variables, from the first.
 pub(crate) fn cmp_by(variables: &[u16], row: &[Option<Term>], other: &[Option<Term>]) -> Ordering
     ensures { result ≡ row_cmp variables.now row.now other.now }
 {

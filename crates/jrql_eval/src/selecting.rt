@@ -3,11 +3,11 @@ ghost use Rattle.std.specs.Prelude.{◌≡◌, ◌<◌, ◌≤◌, length, map, 
 ghost use Rattle.std.specs.Cmp.Lexicographic.{slice_cmp};
 ghost use Rattle.mld_ops.specs.Present.{present};
 ghost use Rattle.jrql_ast.specs.InForm.{IsQueryInForm};
-ghost use Rattle.jrql_ast.specs.QueryAnswers.{IsAnswer, IsSortingOf, distinct_rows, found, limited, place_cmp, project, solution_limit};
+ghost use Rattle.jrql_ast.specs.QueryAnswers.{IsAnswer, IsSortingOf, distinct_rows, found, limited, project, reply_place_cmp, solution_limit};
 ghost use Rattle.jrql_eval.specs.Asked.{AsksRows, IsSelectedOf};
 
 use crate::faults::EvalFault;
-use crate::rows::{cmp_rows, project};
+use crate::rows::{cmp_reply_rows, cmp_rows, project};
 use crate::solving::find_rows;
 use graph_index::Graph;
 use jrql_ast::{Answer, Query, Row, Select, Sequence, What};
@@ -24,11 +24,11 @@ fn project_all(alloc: Global, variables: &[u16], rows: &[Row]) -> Result<Vec<Row
     Ok(values)
 }
 
-// Sorts rows by their values, from the first.
+// Sorts rows by their values, from the first, in the order of replies.
 fn sort_values(rows: &mut Vec<Row>) -> Result<(), AllocError>
-    ensures { OnOk result (IsSortingOf (slice_cmp place_cmp) rows.old.items rows.new.items) }
+    ensures { OnOk result (IsSortingOf (slice_cmp reply_place_cmp) rows.old.items rows.new.items) }
 {
-    rows.sort_by(|row, other| cmp_rows(row.as_slice(), other.as_slice()))
+    rows.sort_by(|row, other| cmp_reply_rows(row.as_slice(), other.as_slice()))
 }
 
 // Each row once, where that is asked for.
@@ -52,9 +52,9 @@ fn cut(mut rows: Vec<Row>, offset: u64, limit: Option<u64>) -> Result<Vec<Row>, 
     Ok(kept)
 }
 
-/// The answer to a select: what the solutions of its group have for its variables, sorted from the first variable on, each row once where
-/// it is `distinct`, then without those of `offset`, and of those that are left as many as `limit` allows (SPARQL 1.1 Query Language,
-/// section 15). It is refused with `TooMany` where the group has more than 1,048,576 solutions.
+/// The answer to a select: what the solutions of its group have for its variables, sorted from the first variable on in the order of
+/// replies, each row once where it is `distinct`, then without those of `offset`, and of those that are left as many as `limit` allows
+/// (SPARQL 1.1 Query Language, section 15). It is refused with `TooMany` where the group has more than 1,048,576 solutions.
 pub fn select(alloc: Global, graph: &Graph, query: &Query) -> Result<Answer, EvalFault>
     requires form { IsQueryInForm query.now }
     requires kind { AsksRows query.now.what }

@@ -1,6 +1,5 @@
 //! Filters (SPARQL 1.1 Query Language, sections 5.2.2 and 17.3).
 ghost use Rattle.std.specs.Prelude.{◌≡◌, Ok, IfOk, IfErr};
-ghost use Rattle.serde_json.specs.Data.{array, item};
 ghost use Rattle.serde_json.specs.View.{view, items_view, members_view};
 ghost use Rattle.jsonld_context.specs.Telling.{IsToldBy};
 ghost use Rattle.jrql_patterns.specs.FilterReading.{compare_of, read_operand, read_right, read_sides, read_comparison, read_comparisons, read_filter};

@@ -32,7 +32,6 @@ pub(crate) struct OpenQuery {
 }
 
 impl Model for OpenQuery {
-    ghost use Rattle.jrql_patterns.specs.OpenGroups.{meet_number};
     ghost use Rattle.jrql_patterns.specs.QueryReading.{OpenQuery as OpenQueryValue};
 
     ghost Value = { OpenQueryValue };

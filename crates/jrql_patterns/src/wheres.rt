@@ -2,7 +2,7 @@
 ghost use Rattle.std.specs.Prelude.{◌≡◌, Ok, IfOk, IfErr, option_map};
 ghost use Rattle.serde_json.specs.View.{view, items_view, members_view};
 ghost use Rattle.jsonld_context.specs.Telling.{IsToldBy};
-ghost use Rattle.jrql_patterns.specs.WhereReading.{read_branches, read_alternatives, read_union, sole_member, read_condition, read_conditions, read_where};
+ghost use Rattle.jrql_patterns.specs.WhereReading.{read_branches, read_union, sole_member, read_condition, read_conditions, read_where};
 
 use crate::faults::{bad_query, not_under};
 use crate::filters::read_filter;

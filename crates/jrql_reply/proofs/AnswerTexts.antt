@@ -1,13 +1,13 @@
 -- Items that are written one by one, rows from their end, and that an answer has one text.
-use Rattle.std.proofs.Common.{◌≡◌, ◌∙◌, ℕ, suc, ◌+◌, ◌<◌, ◌≤◌, List, [], ◌∷◌, ◌++◌, Bool, true, false, Option, Some, None, Result, Ok, Err, OnErr, length, map, take, drop, min, nat_lt, ltb-true, ltb-false, inl, inr, ◌⊎◌, refl, sym, ap, subst, arith, slice_index_or}
+use Rattle.std.proofs.Common.{◌≡◌, ◌∙◌, ℕ, suc, ◌+◌, ◌<◌, ◌≤◌, List, [], ◌∷◌, ◌++◌, Bool, true, false, Option, length, map, take, drop, min, nat_lt, ltb-true, ltb-false, inl, inr, ◌⊎◌, refl, sym, ap, subst, arith}
 use Rattle.std.proofs.lemmas.List.{append_assoc, append-nil, take_all}
 use Rattle.std.proofs.Math.ListN.{get_or, drop_of_length-le}
 use Rattle.std.proofs.Math.Seq.{drop-cons, take-suc}
-use Rattle.serde_json.specs.Data.{Data, array, item, Members, no_members, put}
+use Rattle.serde_json.specs.Data.{Data, array, Members, no_members}
 use Rattle.serde_json.specs.View.{items_of}
 use Rattle.serde_json.specs.Written.{compact_text, comma_if, items_text}
 use Rattle.rdf_terms.specs.Kept.{KeepsStart}
-use Rattle.rdf_terms.proofs.Appending.{keeps_more, keeps_on, keeps_further}
+use Rattle.rdf_terms.proofs.Appending.{keeps_more, keeps_on}
 use Rattle.rdf_terms.specs.declared.terms.Term.{Term}
 use Rattle.jrql_ast.specs.declared.answers.Answer.{Answer}
 use Rattle.jrql_ast.specs.declared.answers.Answer.TheVariants.{Rows, Subjects}
@@ -17,7 +17,6 @@ use Rattle.jrql_ast.specs.declared.queries.Select.{Select}
 use Rattle.jrql_ast.specs.declared.queries.What.{What}
 use Rattle.jrql_ast.specs.declared.queries.What.TheVariants as kinds
 use Rattle.jsonld_context.specs.Context.{ContextValue}
-use Rattle.jrql_patterns.specs.jsonld_values.TermWriting.{term_data}
 use Rattle.jrql_patterns.specs.jsonld_subjects.SubjectWriting.{SaysSubject}
 use Rattle.jrql_reply.specs.AnswerText.{name_of, with_variable, row_members, row_data, SaysEach, SaysRows, SaysAnswer, SpellsAnswer}
 

@@ -11,9 +11,8 @@ use Rattle.jrql_ast.specs.declared.queries.What.{What}
 use Rattle.jrql_ast.specs.declared.queries.What.TheVariants.{Select, Describe}
 use Rattle.rdf_terms.specs.declared.terms.Term.{Term}
 use Rattle.jsonld_context.specs.Context.{ContextValue}
-use Rattle.jrql_patterns.specs.jsonld_subjects.SubjectWriting.{SaysSubject}
 use Rattle.jrql_patterns.proofs.of_jsonld_subjects.OneObject.{one_object}
-use Rattle.jrql_reply.specs.AnswerText.{SaysEach, SaysRows, SaysAnswer, SpellsAnswer, HasOneText}
+use Rattle.jrql_reply.specs.AnswerText.{SaysEach, SaysRows, SaysAnswer, HasOneText}
 
 one_list : (context : ContextValue) (subjects : List Described) (objects others : List Data) → SaysEach context subjects objects → SaysEach context subjects others → objects ≡ others
 one_list context [] [] [] each other = refl

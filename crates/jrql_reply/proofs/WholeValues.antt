@@ -1,7 +1,7 @@
 -- What is written of terms, rows and subjects has no number with a fraction, so its text is known.
-use Rattle.std.proofs.Common.{◌≡◌, ◌∙◌, ℕ, zero, suc, List, [], ◌∷◌, Bool, true, false, ◌||◌, Option, Some, None, refl, ap, map, true≢false}
-use Rattle.std.specs.Prelude.{codes, decimal, nat_lt, ◌==◌, ◌&&◌, ◌^◌, if◌then◌else◌}
-use Rattle.std.specs.Option.{option_map_or}
+use Rattle.std.proofs.Common.{◌≡◌, ◌∙◌, ℕ, ℤ, pos, negsuc, List, [], ◌∷◌, Bool, true, false, ◌||◌, Option, Some, None, refl, ap, map, true≢false}
+use Rattle.std.specs.Prelude.{codes, nat_lt, ◌^◌, if◌then◌else◌}
+use Rattle.std.specs.Option.{option_and_then, option_map_or}
 use Rattle.std.specs.Cmp.Lexicographic.{slice_cmp}
 use Rattle.std.specs.Ordering.{nat_cmp}
 use Rattle.std.specs.declared.cmp.Ordering.{Ordering}
@@ -11,16 +11,16 @@ use Rattle.serde_json.specs.Data.{Data, null, boolean, number, string, array, ob
 use Rattle.serde_json.specs.View.{items_of}
 use Rattle.serde_json.specs.Find.{is_float}
 use Rattle.serde_json.specs.Written.{has_float, items_have_float, members_have_float}
-use Rattle.rdf_terms.specs.Literal.{LiteralValue, Typed, Tagged, xsd_string, is_same}
+use Rattle.text_rules.specs.Integers.{plain_integer_value}
+use Rattle.rdf_terms.specs.Literal.{LiteralValue, Typed, Tagged, xsd_string, xsd_integer, is_same}
 use Rattle.rdf_terms.specs.declared.terms.Term.{Term}
 use Rattle.rdf_terms.specs.declared.terms.Term.TheVariants as terms
 use Rattle.jrql_ast.specs.declared.answers.Described.{Described}
 use Rattle.jsonld_context.specs.Context.{ContextValue}
 use Rattle.jsonld_context.specs.Texts.{is_variable}
 use Rattle.jsonld_context.specs.ShortForms.{compact_id}
-use Rattle.jrql_ast.specs.FilterMeaning.{xsd_integer}
 use Rattle.jrql_patterns.specs.jsonld_values.Literals.{xsd_boolean}
-use Rattle.jrql_patterns.specs.jsonld_values.TermWriting.{plain_number, plain_unsigned, plain_negative, negated, digits_from, typed_data, string_data, boolean_data, integer_data, literal_data, term_data}
+use Rattle.jrql_patterns.specs.jsonld_values.TermWriting.{json_number, plain_number, typed_data, string_data, boolean_data, integer_data, literal_data, term_data}
 use Rattle.jrql_patterns.specs.jsonld_subjects.SubjectWriting.{KeyedTerm, SaysSubject, data_under, with_value, with_keyed, members_of_keyed}
 use Rattle.jrql_reply.specs.AnswerText.{row_members, row_data, with_variable, name_of}
 
@@ -40,21 +40,16 @@ either : (test : Bool) (one other : Option Num) → Whole one → Whole other �
 either true one other first second = first
 either false one other first second = second
 
-negated_whole : (value : ℕ) → Whole (negated value)
-negated_whole zero = tt
-negated_whole (suc value) = either (nat_lt value (2 ^ 63)) _ _ refl tt
-
-negative_whole : (digits : List ℕ) → Whole (plain_negative digits)
-negative_whole digits = either (is_same (decimal (digits_from 0 digits)) digits) (negated (digits_from 0 digits)) None (negated_whole (digits_from 0 digits)) tt
-
-unsigned_whole : (text : List ℕ) → Whole (plain_unsigned text)
-unsigned_whole text =
-    either (is_same (decimal (digits_from 0 text)) text && nat_lt (digits_from 0 text) (2 ^ 64)) (Some (unsigned (digits_from 0 text))) None refl tt
+json_whole : (value : ℤ) → Whole (json_number value)
+json_whole (pos value) = either (nat_lt value (2 ^ 64)) (Some (unsigned value)) None refl tt
+json_whole (negsuc before) = either (nat_lt before (2 ^ 63)) (Some (negative (negsuc before))) None refl tt
 
 plain_whole : (text : List ℕ) → Whole (plain_number text)
-plain_whole [] = tt
-plain_whole (byte ∷ bytes) =
-    either (byte == 45) (plain_negative bytes) (plain_unsigned (byte ∷ bytes)) (negative_whole bytes) (unsigned_whole (byte ∷ bytes))
+plain_whole text = by (plain_integer_value text)
+  where
+    by : (found : Option ℤ) → Whole (option_and_then json_number found)
+    by None = tt
+    by (Some value) = json_whole value
 
 typed_whole : (context : ContextValue) (lexical datatype : List ℕ) → has_float (typed_data context lexical datatype) ≡ false
 typed_whole context lexical datatype = refl

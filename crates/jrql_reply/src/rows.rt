@@ -1,11 +1,11 @@
 //! Rows as an array of objects.
-ghost use Rattle.std.specs.Prelude.{◌≡◌, ◌++◌, ◌∷◌, length, map, IfOk, OnOk, OnErr};
+ghost use Rattle.std.specs.Prelude.{◌≡◌, ◌++◌, map, IfOk, OnOk, OnErr};
 ghost use Rattle.serde_json.specs.View.{view, members_view, items_of};
 ghost use Rattle.serde_json.specs.Data.{array, put};
 ghost use Rattle.serde_json.specs.Written.{compact_text};
 ghost use Rattle.rdf_terms.specs.Kept.{KeepsStart};
 ghost use Rattle.jrql_patterns.specs.jsonld_values.TermWriting.{term_data};
-ghost use Rattle.jrql_reply.specs.AnswerText.{row_data, row_members, with_variable, name_of};
+ghost use Rattle.jrql_reply.specs.AnswerText.{row_data, with_variable, name_of};
 
 use crate::items::push_item;
 use jrql_ast::Row;

@@ -1,11 +1,10 @@
 -- The least compact IRI, found by trying the fronts of an IRI.
-use Rattle.std.proofs.Common.{◌≡◌, ℕ, zero, suc, ◌+◌, ◌<◌, ◌≤◌, List, [], ◌∷◌, ◌++◌, length, take, drop, append_assoc, Bool, true, false, cond, not, ◌&&◌, ◌||◌, Option, Some, None, IsTrue, nat_eq, min, option_map, refl, sym, ap, ◌∙◌, subst, arith}
+use Rattle.std.proofs.Common.{◌≡◌, ℕ, zero, suc, ◌+◌, ◌<◌, List, [], ◌∷◌, ◌++◌, length, take, drop, append_assoc, Bool, true, false, cond, not, ◌&&◌, ◌||◌, Option, Some, None, IsTrue, nat_eq, min, option_map, refl, sym, ap, ◌∙◌, arith}
 use Rattle.std.proofs.Math.Seq.{take-append_seam, drop-append_seam}
 use Rattle.std.proofs.lemmas.List.{take-append-drop, length-append, length-take}
 use Rattle.std.specs.List.{AllByRecursion, starts_with}
 use Rattle.std.specs.Option.{option_and_then}
 use Rattle.std.proofs.lemmas.Bool.Decides.{Decides-eqb}
-use Rattle.std.proofs.lemmas.Bool.{false_from_ne_true}
 use Rattle.std.proofs.lemmas.Slice.Eq.{starts_is}
 use Rattle.rdf_terms.specs.Literal.{is_same}
 use Rattle.jsonld_context.specs.FormsFound.{label_for, least_label, compact_behind, least_behind, IsDelimited}
@@ -15,7 +14,7 @@ use Rattle.jsonld_context.specs.declared.definitions.Definition.{Definition}
 use Rattle.jsonld_context.proofs.Labels.{IfLabel, is_label, are_labels, least_behind_labels}
 use Rattle.jsonld_context.proofs.LeastTexts.{with_none, crossed, least_first}
 use Rattle.jsonld_context.proofs.TermNames.{AreTerms}
-use Rattle.jsonld_context.proofs.TextLaws.{itself, same, differ}
+use Rattle.jsonld_context.proofs.TextLaws.{itself, differ}
 
 abbrev Labels : Type 0
 Labels = List ℕ → Option (List ℕ)

@@ -1,7 +1,7 @@
 -- Short forms found by the IRI: what a context keeps beside its terms. Words of private contracts.
 use Rattle.std.specs.Prelude.{◌≡◌, ℕ, zero, suc, ◌+◌, List, [], ◌∷◌, ◌++◌, ◌&&◌, ◌||◌, not, Bool, true, Option, Some, None, length, take, drop, IsTrue, if◌then◌else◌}
 use Rattle.std.specs.Cmp.Lexicographic.{slice_cmp}
-use Rattle.std.specs.BTreeMap.{BTreeMap, get_by_text}
+use Rattle.std.specs.BTreeMap.{get_by_text}
 use Rattle.std.specs.List.{AllByRecursion, filter_map, reduce}
 use Rattle.std.specs.Option.{is_none, option_map}
 use Rattle.std.specs.Ordering.{nat_cmp, is_lt}

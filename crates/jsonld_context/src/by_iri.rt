@@ -1,8 +1,8 @@
 //! Short forms found by the IRI.
-ghost use Rattle.std.specs.Prelude.{◌≡◌, ◌++◌, ◌∷◌, [], ℕ, List, Some, IsTrue, IfOk, OnOk, if◌then◌else◌};
+ghost use Rattle.std.specs.Prelude.{◌≡◌, ℕ, List, Some, IsTrue, IfOk, OnOk, if◌then◌else◌};
 ghost use Rattle.std.specs.BTreeMap.{get_by_text};
 ghost use Rattle.std.specs.List.{AllByRecursion};
-ghost use Rattle.std.specs.Option.{option_or, option_copied};
+ghost use Rattle.std.specs.Option.{option_or};
 ghost use Rattle.rdf_terms.specs.Literal.{is_same};
 ghost use Rattle.jsonld_context.specs.FormsFound.{AreFormsOf, IsDelimited, is_lesser, name_for, label_for};
 ghost use Rattle.jsonld_context.specs.ShortForms.{least_with};

@@ -2,12 +2,11 @@
 ghost use Rattle.std.specs.Prelude.{◌≡◌, Ok, Some, false, codes, IsTrue, IfOk, IfErr};
 ghost use Rattle.std.specs.Option.{option_copied, is_some};
 ghost use Rattle.text_rules.specs.Domain.{is_domain};
-ghost use Rattle.text_rules.specs.Iri.{is_absolute};
 ghost use Rattle.serde_json.specs.Data.{object};
 ghost use Rattle.serde_json.specs.Find.{get_member};
 ghost use Rattle.serde_json.specs.View.{view, members_view};
 ghost use Rattle.jsonld_context.specs.ShortForms.{compact_key, compact_id};
-ghost use Rattle.jsonld_context.specs.Context.{ContextValue, IsContext, type_of};
+ghost use Rattle.jsonld_context.specs.Context.{IsContext, type_of};
 ghost use Rattle.jsonld_context.specs.Expanding.{expand_key, expand_id};
 ghost use Rattle.jsonld_context.specs.ContextReading.{domain_context, known_vocabulary, read_context};
 ghost use Rattle.jsonld_context.specs.Telling.{IsToldBy};

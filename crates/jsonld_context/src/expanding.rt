@@ -13,10 +13,10 @@ ghost use Rattle.jsonld_context.specs.declared.faults.JsonFault.TheVariants as f
 use crate::definitions::{Definition, TermType};
 use crate::faults::JsonFault;
 use crate::prefixes::{cut_prefix, joined};
-use rdf_terms::{Iri, TermFault};
+use rdf_terms::{Iri, known_iri};
 use std::alloc::{AllocError, Global};
 use std::cmp::Ordering;
-use text_rules::{IriFault, Text, has_colon, resolve};
+use text_rules::{IriFault, Text, has_colon, is_absolute, resolve};
 
 /// The term of a name, looked for by halves.
 pub(crate) fn find_term<'a>(terms: &'a [Definition], name: &str) -> Option<&'a Definition>
@@ -76,10 +76,10 @@ pub(crate) fn to_iri(alloc: Global, iri: &str, written: &str) -> Result<Iri, Jso
     ensures ok { IfOk result (λ i. absolute_or_fault written.now iri.now ≡ Ok i) }
     ensures err { IfErr result (IsToldBy (absolute_or_fault written.now iri.now)) }
 {
-    match Iri::new(alloc, iri) {
-        Ok(iri) => Ok(iri),
-        Err(TermFault::BadIri) => Err(JsonFault::BadIri(Text::new(alloc, written)?)),
-        Err(_) => Err(JsonFault::NoMemory),
+    if is_absolute(iri) {
+        Ok(known_iri(alloc, iri)?)
+    } else {
+        Err(JsonFault::BadIri(Text::new(alloc, written)?))
     }
 }
 

@@ -1,6 +1,5 @@
 //! Compact IRIs (JSON-LD 1.1, section 4.1.5).
 ghost use Rattle.std.specs.Prelude.{◌≡◌, ◌++◌, ◌&&◌, not, true, false, MatchOption, IfOk};
-ghost use Rattle.std.specs.Option.{option_copied, option_map_or};
 ghost use Rattle.std.specs.String.{string_bytes};
 ghost use Rattle.text_rules.specs.References.{begins_authority};
 ghost use Rattle.text_rules.specs.TextForms.{has_colon, before_colon, behind_colon};

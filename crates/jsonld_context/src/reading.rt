@@ -23,7 +23,7 @@ use crate::datatypes::Datatype;
 use crate::definitions::{Definition, TermType};
 use crate::faults::JsonFault;
 use crate::prefixes::{cut_prefix, joined};
-use rdf_terms::{Iri, TermFault};
+use rdf_terms::{Iri, known_iri};
 use serde_json::{Map, Value};
 use std::alloc::{AllocError, Global};
 use text_rules::{Text, ends_in_delimiter, has_colon, is_absolute, is_term_name};
@@ -205,10 +205,10 @@ fn meant(alloc: Global, all: &Members, text: &str) -> Result<String, AllocError>
 fn iri_of(alloc: Global, iri: &str, written: &str) -> Result<Iri, JsonFault>
     ensures { IsReadAs (fault_of_iri written.now iri.now) iri.now result }
 {
-    match Iri::new(alloc, iri) {
-        Ok(iri) => Ok(iri),
-        Err(TermFault::BadIri) => Err(JsonFault::BadIri(Text::new(alloc, written)?)),
-        Err(_) => Err(JsonFault::NoMemory),
+    if is_absolute(iri) {
+        Ok(known_iri(alloc, iri)?)
+    } else {
+        Err(JsonFault::BadIri(Text::new(alloc, written)?))
     }
 }
 

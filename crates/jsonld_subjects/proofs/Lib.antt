@@ -1,6 +1,5 @@
 pub use Rattle.jsonld_values.proofs as of_jsonld_values
 pub mod ShortKeys
-pub mod WholeNumbers
 pub mod WrittenTerms
 pub mod KeyedMembers
 pub mod IdMembers

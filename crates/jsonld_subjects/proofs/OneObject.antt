@@ -9,7 +9,7 @@ use Rattle.std.proofs.lemmas.Map.Lookups.{CmpEqualImpliesEq, exact_bytes}
 use Rattle.jrql_ast.specs.declared.answers.Described.{Described}
 use Rattle.jrql_ast.specs.QueryAnswers.{IsSortingOf}
 use Rattle.jrql_ast.proofs.Sortings.{one_sorting}
-use Rattle.rdf_terms.specs.OrderLaws.{term_exact}
+use Rattle.rdf_terms.specs.ReplyLaws.{reply_exact}
 use Rattle.serde_json.specs.Data.{Data, string, object, put}
 use Rattle.jsonld_context.specs.Context.{ContextValue}
 use Rattle.jsonld_context.specs.ShortForms.{compact_id}
@@ -26,7 +26,7 @@ keyed_exact : CmpEqualImpliesEq keyed_cmp
 keyed_exact keyed other h =
     let both = both_alike (slice_cmp nat_cmp keyed.key other.key) (within_key_cmp keyed.term other.term) h in
     let key = exact_bytes keyed.key other.key both.0 in
-    let term = term_exact keyed.term other.term both.1 in
+    let term = reply_exact keyed.term other.term both.1 in
     λ i. record { key = key i; term = term i }
 
 pub one_object : (context : ContextValue) (described : Described) (object_said other : Data)

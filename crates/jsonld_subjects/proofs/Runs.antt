@@ -11,9 +11,8 @@ use Rattle.std.specs.Option.{option_map_or}
 use Rattle.std.specs.Ordering.{nat_cmp, is_lt, ordering_reverse, ordering_then}
 use Rattle.std.specs.declared.cmp.Ordering.{Ordering}
 use Rattle.std.specs.declared.cmp.Ordering.TheVariants.{Less, Equal, Greater}
-use Rattle.rdf_terms.specs.Literal.{LiteralValue, Typed, Tagged, is_same, xsd_string}
-use Rattle.rdf_terms.specs.Order.{term_cmp}
-use Rattle.rdf_terms.specs.OrderLaws.{term_total}
+use Rattle.rdf_terms.specs.Literal.{LiteralValue, Typed, Tagged, is_same, xsd_string, xsd_integer}
+use Rattle.rdf_terms.specs.ReplyLaws.{reply_total}
 use Rattle.rdf_terms.specs.declared.terms.Term.{Term}
 use Rattle.rdf_terms.specs.declared.terms.Term.TheVariants as terms
 use Rattle.serde_json.specs.Data.{Data, null, boolean, number, string, array, object, Num, Members, no_members, member, put}
@@ -21,22 +20,21 @@ use Rattle.jsonld_context.specs.Context.{ContextValue}
 use Rattle.jsonld_context.proofs.TextLaws.{itself, less_differ}
 use Rattle.jsonld_context.specs.Texts.{is_variable}
 use Rattle.jsonld_values.specs.Literals.{xsd_boolean}
-use Rattle.jrql_ast.specs.FilterMeaning.{xsd_integer}
 use Rattle.jsonld_values.specs.TermWriting.{plain_number, literal_data, term_data}
 use Rattle.jsonld_subjects.specs.KeyRuns.{BeginsRun, data_of_keyed, data_of_run}
-use Rattle.jsonld_subjects.specs.SubjectWriting.{KeyedTerm, keyed_cmp, data_under, with_value, with_keyed, members_of_keyed}
+use Rattle.jsonld_subjects.specs.SubjectWriting.{KeyedTerm, within_key_cmp, keyed_cmp, data_under, with_value, with_keyed, members_of_keyed}
 
 -- ---- keys
 
 -- the order of keyed values is total
 pub keyed_total : IsTotalOrder keyed_cmp
-keyed_total = then_total (on_total (λ (keyed : KeyedTerm). keyed.key) nat_list_cmp_total) (on_total (λ (keyed : KeyedTerm). keyed.term) term_total)
+keyed_total = then_total (on_total (λ (keyed : KeyedTerm). keyed.key) nat_list_cmp_total) (on_total (λ (keyed : KeyedTerm). keyed.term) reply_total)
 
 -- of two values in order that have different keys, the first key is below the second
 pub key_below : (first second : KeyedTerm) → is_lt (keyed_cmp second first) ≡ false → first.key ≢ second.key → slice_cmp nat_cmp first.key second.key ≡ Less
 key_below first second order apart = nat_list_cmp_total.antisymm first.key second.key ∙ turned (slice_cmp nat_cmp second.key first.key) refl order
   where
-    turned : (o : Ordering) → slice_cmp nat_cmp second.key first.key ≡ o → is_lt (ordering_then o (term_cmp second.term first.term)) ≡ false → ordering_reverse o ≡ Less
+    turned : (o : Ordering) → slice_cmp nat_cmp second.key first.key ≡ o → is_lt (ordering_then o (within_key_cmp second.term first.term)) ≡ false → ordering_reverse o ≡ Less
     turned Less e h = absurd (true≢false h)
     turned Equal e h = absurd (apart (sym (exact_bytes second.key first.key e)))
     turned Greater e h = refl

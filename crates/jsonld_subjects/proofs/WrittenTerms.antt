@@ -7,7 +7,7 @@ use Rattle.std.proofs.lemmas.Bool.{not-true}
 use Rattle.jrql_ast.specs.declared.patterns.Slot.{Slot}
 use Rattle.jrql_ast.specs.declared.patterns.Slot.TheVariants as slots
 use Rattle.text_rules.specs.Tags.{is_language_tag}
-use Rattle.rdf_terms.specs.Literal.{LiteralValue, Typed, Tagged, xsd_string, rdf_lang_string, is_same, lexical_limit}
+use Rattle.rdf_terms.specs.Literal.{LiteralValue, Typed, Tagged, xsd_string, xsd_integer, rdf_lang_string, is_same, lexical_limit}
 use Rattle.rdf_terms.specs.declared.terms.Term.{Term}
 use Rattle.rdf_terms.specs.declared.terms.Term.TheVariants as terms
 use Rattle.serde_json.specs.Data.{Data, boolean, number, string, Num, no_members, member}
@@ -16,14 +16,13 @@ use Rattle.jsonld_context.specs.ShortForms.{compact_key, compact_id}
 use Rattle.jsonld_context.specs.Texts.{is_variable}
 use Rattle.jsonld_context.proofs.TextLaws.{same}
 use Rattle.jsonld_values.specs.Literals.{xsd_boolean, xsd_double, literal_slot, number_of_text, made_of}
-use Rattle.jrql_ast.specs.FilterMeaning.{xsd_integer}
 use Rattle.jsonld_values.specs.TermWriting.{plain_number, one_member, two_members, typed_data, string_data, boolean_data, integer_data, literal_data, term_data}
 use Rattle.jsonld_values.specs.ValueObjects.{value_object}
+use Rattle.jsonld_values.proofs.Numbers.{plain_number_reads}
 use Rattle.jsonld_subjects.specs.GivingBack.{IsLiteralGivenBack, IsTermGivenBack}
 use Rattle.jsonld_subjects.specs.SubjectReading.{OpenSubject, with_object, read_single}
 use Rattle.jsonld_subjects.specs.declared.places.Place.{Place}
 use Rattle.jsonld_subjects.proofs.ShortKeys.{IsKeyOf, IsIdOf, compact_is_key, compact_is_id}
-use Rattle.jsonld_subjects.proofs.WholeNumbers.{number_reads}
 
 abbrev Short : List ℕ → Type 0
 Short lexical = nat_le (length lexical) lexical_limit ≡ true
@@ -102,7 +101,7 @@ integer_at : (context : ContextValue) (lexical : List ℕ) (found : Option Num) 
     → ReadsAs context (option_map_or (λ value. number value) found (typed_data context lexical xsd_integer)) (terms.Literal (Typed lexical xsd_integer))
 integer_at context lexical None is typed place key property so_far = typed place key property so_far
 integer_at context lexical (Some value) is typed place key property so_far =
-    ap (λ text. made_of (number_of_text key xsd_integer text) (with_object so_far property)) (number_reads lexical value is) ∙ rw no_double
+    ap (λ text. made_of (number_of_text key xsd_integer text) (with_object so_far property)) (plain_number_reads lexical value is) ∙ rw no_double
 
 integer_reads : (context : ContextValue) (lexical : List ℕ) → ReadsAs context (typed_data context lexical xsd_integer) (terms.Literal (Typed lexical xsd_integer))
     → ReadsAs context (integer_data context lexical) (terms.Literal (Typed lexical xsd_integer))

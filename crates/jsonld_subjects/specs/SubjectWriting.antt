@@ -5,7 +5,7 @@ use Rattle.std.specs.declared.cmp.Ordering.{Ordering}
 use Rattle.std.specs.Ordering.{nat_cmp, ordering_then}
 use Rattle.jrql_ast.specs.declared.answers.Described.{Described}
 use Rattle.rdf_terms.specs.Literal.{is_same}
-use Rattle.rdf_terms.specs.Order.{term_cmp}
+use Rattle.rdf_terms.specs.ReplyOrder.{reply_cmp}
 use Rattle.rdf_terms.specs.declared.terms.Term.{Term}
 use Rattle.rdf_terms.specs.declared.terms.Term.TheVariants as terms
 use Rattle.rdf_terms.specs.declared.terms.Triple.{Triple}
@@ -28,9 +28,9 @@ key_of context property (terms.Literal literal) = compact_key context property
 abbrev pub keyed_of : ContextValue → Triple → KeyedTerm
 keyed_of context triple = record { key = key_of context triple.p triple.o; term = triple.o }
 
--- the order of the values under one key
+-- the order of the values under one key: that of replies
 abbrev pub within_key_cmp : Term → Term → Ordering
-within_key_cmp = term_cmp
+within_key_cmp = reply_cmp
 
 -- values come in the order of their keys, and under one key in their own
 abbrev pub keyed_cmp : KeyedTerm → KeyedTerm → Ordering

@@ -1,5 +1,5 @@
 //! What was read of a text so far.
-ghost use Rattle.std.specs.Prelude.{◌≡◌, [], Ok, IfOk, IfErr};
+ghost use Rattle.std.specs.Prelude.{◌≡◌, Ok, IfOk, IfErr};
 ghost use Rattle.jsonld_context.specs.Telling.{IsToldBy};
 ghost use Rattle.jsonld_subjects.specs.SubjectReading.{meet_subject};
 

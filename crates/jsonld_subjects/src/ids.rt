@@ -10,8 +10,8 @@ ghost use Rattle.jsonld_subjects.specs.SubjectReading.{with_names, slot_of, prop
 use crate::open_subjects::OpenSubject;
 use jrql_ast::Slot;
 use jsonld_context::{Context, JsonFault, is_variable};
-use jsonld_values::{bad_subject, known_iri};
-use rdf_terms::Term;
+use jsonld_values::bad_subject;
+use rdf_terms::{Term, known_iri};
 use serde_json::Value;
 use std::alloc::{AllocError, Global};
 

@@ -10,7 +10,7 @@ ghost use Rattle.jsonld_subjects.specs.SubjectWriting.{key_of, keyed_of, keyed_c
 use crate::ids::RDF_TYPE;
 use jsonld_context::Context;
 use jsonld_values::write_term;
-use rdf_terms::{Iri, Term, Triple, cmp_terms};
+use rdf_terms::{Iri, Term, Triple, cmp_reply};
 use serde_json::Value;
 use std::alloc::{AllocError, Global};
 use std::cmp::Ordering;
@@ -63,14 +63,14 @@ impl KeyedTerm {
         write_under(alloc, self.key.as_str(), &self.term, context)
     }
 
-    /// Compares by keys, and under one key by terms.
+    /// Compares by keys, and under one key in the order of replies.
     pub(crate) fn compare(&self, other: &KeyedTerm) -> Ordering
         ensures { result ≡ keyed_cmp self.now other.now }
     {
         self.key
             .as_str()
             .cmp(&other.key.as_str())
-            .then_with(|| cmp_terms(&self.term, &other.term))
+            .then_with(|| cmp_reply(&self.term, &other.term))
     }
 }
 

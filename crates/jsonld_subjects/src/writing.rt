@@ -17,7 +17,7 @@ use std::alloc::{AllocError, Global};
 const ID_KEY: &str = "@id";
 
 /// A subject with its triples as an object: its id, the types that are IRIs under `@type`, and every other value under the key of its
-/// property. The values under one key come in the order of terms, one for each triple; one stands alone, several in an array.
+/// property. The values under one key come in the order of replies, one for each triple; one stands alone, several in an array.
 pub fn write_subject(
     alloc: Global,
     subject: &Described,

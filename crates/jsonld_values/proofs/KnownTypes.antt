@@ -1,9 +1,8 @@
 -- The datatypes of JSON's own values are absolute IRIs other than rdf:langString, and the first ones aren't xsd:double.
 use Rattle.std.proofs.Common.{◌≡◌, false, IsTrue, refl}
 use Rattle.text_rules.specs.Iri.{is_iri, is_absolute}
-use Rattle.rdf_terms.specs.Literal.{xsd_string, rdf_lang_string, is_same}
+use Rattle.rdf_terms.specs.Literal.{xsd_string, xsd_integer, rdf_lang_string, is_same}
 use Rattle.jsonld_values.specs.Literals.{IsDatatype, xsd_boolean, xsd_double}
-use Rattle.jrql_ast.specs.FilterMeaning.{xsd_integer}
 
 pub string_datatype : IsDatatype xsd_string
 unfolding xsd_string rdf_lang_string is_iri

@@ -4,9 +4,8 @@ use Rattle.std.specs.Prelude.{ℕ, List, Bool, true, false, not, nat_le, length,
 use Rattle.std.specs.Fmt.{signed_decimal}
 use Rattle.jrql_ast.specs.declared.patterns.Slot.{Slot}
 use Rattle.jrql_ast.specs.declared.patterns.Slot.TheVariants as slots
-use Rattle.jrql_ast.specs.FilterMeaning.{xsd_integer}
 use Rattle.text_rules.specs.Iri.{is_absolute}
-use Rattle.rdf_terms.specs.Literal.{LiteralValue, Typed, xsd_string, rdf_lang_string, is_same, lexical_limit}
+use Rattle.rdf_terms.specs.Literal.{LiteralValue, Typed, xsd_string, xsd_integer, rdf_lang_string, is_same, lexical_limit}
 use Rattle.rdf_terms.specs.declared.terms.Term.TheVariants as terms
 use Rattle.serde_json.specs.Data.{Num, unsigned, negative, float}
 use Rattle.jsonld_context.specs.Context.{ContextValue}

@@ -1,7 +1,8 @@
 -- Terms as JSON values (JSON-LD 1.1 API section 8.5.2, RDF to Object Conversion; this profile's own choice of forms).
-use Rattle.std.specs.Prelude.{ℕ, zero, suc, negsuc, ◌+◌, ◌*◌, List, [], ◌∷◌, true, false, ◌&&◌, ◌==◌, ◌-◌, ◌^◌, nat_lt, decimal, Option, Some, None, codes, if◌then◌else◌}
-use Rattle.std.specs.Option.{option_map_or}
-use Rattle.rdf_terms.specs.Literal.{LiteralValue, Typed, Tagged, xsd_string, is_same}
+use Rattle.std.specs.Prelude.{ℕ, ℤ, pos, negsuc, List, true, false, ◌^◌, nat_lt, Option, Some, None, codes, if◌then◌else◌}
+use Rattle.std.specs.Option.{option_and_then, option_map_or}
+use Rattle.text_rules.specs.Integers.{plain_integer_value}
+use Rattle.rdf_terms.specs.Literal.{LiteralValue, Typed, Tagged, xsd_string, xsd_integer, is_same}
 use Rattle.rdf_terms.specs.declared.terms.Term.{Term}
 use Rattle.rdf_terms.specs.declared.terms.Term.TheVariants as terms
 use Rattle.serde_json.specs.Data.{Data, boolean, number, string, object, Num, unsigned, negative, no_members, member}
@@ -9,29 +10,15 @@ use Rattle.jsonld_context.specs.Context.{ContextValue}
 use Rattle.jsonld_context.specs.ShortForms.{compact_key, compact_id}
 use Rattle.jsonld_context.specs.Texts.{is_variable}
 use Rattle.jsonld_values.specs.Literals.{xsd_boolean}
-use Rattle.jrql_ast.specs.FilterMeaning.{xsd_integer}
 
--- the number that digits spell; what is no digit counts as one all the same
-abbrev pub digits_from : ℕ → List ℕ → ℕ
-digits_from value [] = value
-digits_from value (byte ∷ bytes) = digits_from (value * 10 + (byte - 48)) bytes
-
--- a text that is the plain decimal form of a number below 2^64: no `+`, no needless zero in front
-abbrev pub plain_unsigned : List ℕ → Option Num
-plain_unsigned text = if is_same (decimal (digits_from 0 text)) text && nat_lt (digits_from 0 text) (2 ^ 64) then Some (unsigned (digits_from 0 text)) else None
-
--- one behind a `-`: from 1 to 2^63
-abbrev pub negated : ℕ → Option Num
-negated zero = None
-negated (suc value) = if nat_lt value (2 ^ 63) then Some (negative (negsuc value)) else None
-
-abbrev pub plain_negative : List ℕ → Option Num
-plain_negative digits = if is_same (decimal (digits_from 0 digits)) digits then negated (digits_from 0 digits) else None
+-- a whole number as JSON's own, where it is one from -2^63 to 2^64 - 1
+abbrev pub json_number : ℤ → Option Num
+json_number (pos value) = if nat_lt value (2 ^ 64) then Some (unsigned value) else None
+json_number (negsuc before) = if nat_lt before (2 ^ 63) then Some (negative (negsuc before)) else None
 
 -- the number from -2^63 to 2^64 - 1 whose plain decimal form a text is
 abbrev pub plain_number : List ℕ → Option Num
-plain_number [] = None
-plain_number (byte ∷ bytes) = if byte == 45 then plain_negative bytes else plain_unsigned (byte ∷ bytes)
+plain_number text = option_and_then json_number (plain_integer_value text)
 
 -- an object with one member, and with two
 abbrev pub one_member : List ℕ → Data → Data

@@ -5,7 +5,7 @@ use Rattle.std.specs.Option.{option_map_or, is_some, unwrap_or}
 use Rattle.std.specs.Str.{str_to_ascii_lowercase}
 use Rattle.jrql_ast.specs.declared.patterns.Slot.{Slot}
 use Rattle.text_rules.specs.Tags.{is_language_tag}
-use Rattle.rdf_terms.specs.Literal.{LiteralValue, Typed, Tagged, xsd_string, rdf_lang_string, is_same, lexical_limit}
+use Rattle.rdf_terms.specs.Literal.{LiteralValue, Typed, Tagged, xsd_string, xsd_integer, rdf_lang_string, is_same, lexical_limit}
 use Rattle.serde_json.specs.Data.{Data, null, boolean, number, string, Num, Members}
 use Rattle.serde_json.specs.Find.{get_member, is_float}
 use Rattle.jsonld_context.specs.Context.{ContextValue}
@@ -15,7 +15,6 @@ use Rattle.jsonld_context.specs.Texts.{is_variable}
 use Rattle.jsonld_context.specs.declared.faults.JsonFault.{JsonFault}
 use Rattle.jsonld_context.specs.declared.faults.JsonFault.TheVariants as faults
 use Rattle.jsonld_values.specs.Literals.{xsd_boolean, xsd_double, literal_slot, boolean_text, whole_text}
-use Rattle.jrql_ast.specs.FilterMeaning.{xsd_integer}
 
 -- `@value`, `@language` and `@context` (JSON-LD 1.1 section 9.15, Keywords)
 abbrev pub is_value_key : List ℕ → Bool

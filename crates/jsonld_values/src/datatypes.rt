@@ -1,13 +1,11 @@
-//! The datatypes of literals that are made from JSON, and the literals (XML Schema Part 2; JSON-LD 1.1 API, section 8.2.2).
-ghost use Rattle.std.specs.Prelude.{◌≡◌, ◌≤◌, length, not, IsTrue, IfOk};
+//! The datatypes of literals that are made from JSON (XML Schema Part 2; JSON-LD 1.1 API, section 8.2.2).
+ghost use Rattle.std.specs.Prelude.{◌≡◌, not, IsTrue, IfOk};
 ghost use Rattle.std.specs.Option.{option_copied};
-ghost use Rattle.text_rules.specs.Iri.{is_absolute};
-ghost use Rattle.rdf_terms.specs.Literal.{Typed, is_same, rdf_lang_string, xsd_string, lexical_limit};
+ghost use Rattle.rdf_terms.specs.Literal.{is_same, rdf_lang_string, xsd_string, xsd_integer};
 ghost use Rattle.jsonld_values.specs.Literals.{IsDatatype, datatype_under, xsd_boolean, xsd_double};
-ghost use Rattle.jrql_ast.specs.FilterMeaning.{xsd_integer};
 
 use jsonld_context::TermType;
-use rdf_terms::{Iri, Literal, TermFault};
+use rdf_terms::{Iri, known_iri};
 use std::alloc::{AllocError, Global};
 
 /// xsd:string, the datatype of strings.
@@ -44,7 +42,7 @@ pub(crate) fn boolean_type() -> &'static str
 }
 
 /// The text of xsd:integer.
-#[tactic(auto, unfolding(jrql_ast::specs::FilterMeaning::xsd_integer))]
+#[tactic(auto, unfolding(rdf_terms::specs::Literal::xsd_integer))]
 pub(crate) fn integer_type() -> &'static str
     ensures text { result.now ≡ xsd_integer }
     ensures datatype { IsDatatype result.now }
@@ -68,21 +66,6 @@ pub(crate) fn is_lang_string(datatype: &str) -> bool
     datatype == RDF_LANG_STRING
 }
 
-/// The IRI of a text that is known to be one: only memory may be wanting.
-pub fn known_iri(alloc: Global, text: &str) -> Result<Iri, AllocError>
-    requires { IsTrue (is_absolute text.now) }
-    ensures { IfOk result (λ iri. iri ≡ text.now) }
-{
-    match Iri::new(alloc, text) {
-        Ok(iri) => Ok(iri),
-        Err(TermFault::NoMemory) => Err(AllocError),
-        Err(TermFault::BadIri) => unreachable!(),
-        Err(TermFault::BadType) => unreachable!(),
-        Err(TermFault::BadTag) => unreachable!(),
-        Err(TermFault::TooLong) => unreachable!(),
-    }
-}
-
 /// The datatype of the values of a term, where it has one that isn't `@id`, else another.
 pub(crate) fn datatype_under(
     alloc: Global,
@@ -97,25 +80,5 @@ pub(crate) fn datatype_under(
         Some(TermType::Datatype(datatype)) => datatype.iri().share(),
         Some(TermType::Id) => known_iri(alloc, other),
         None => known_iri(alloc, other),
-    }
-}
-
-/// The literal of a lexical form that isn't too long and of a datatype that literals may have.
-pub(crate) fn typed_literal(
-    alloc: Global,
-    lexical: &str,
-    datatype: &Iri,
-) -> Result<Literal, AllocError>
-    requires short { length lexical.now ≤ lexical_limit }
-    requires allowed { IsTrue (not (is_same datatype.now rdf_lang_string)) }
-    ensures { IfOk result (λ literal. literal ≡ Typed lexical.now datatype.now) }
-{
-    match Literal::new(alloc, lexical, datatype) {
-        Ok(literal) => Ok(literal),
-        Err(TermFault::NoMemory) => Err(AllocError),
-        Err(TermFault::TooLong) => unreachable!(),
-        Err(TermFault::BadType) => unreachable!(),
-        Err(TermFault::BadIri) => unreachable!(),
-        Err(TermFault::BadTag) => unreachable!(),
     }
 }

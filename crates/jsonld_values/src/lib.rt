@@ -11,7 +11,6 @@ mod plain_numbers;
 mod value_objects;
 mod writing;
 
-pub use datatypes::known_iri;
 pub use faults::{bad_subject, unsupported};
 pub use laws::{growing_keeps, meeting_grows, numbering_gives_form};
 pub use literals::{boolean_object, number_object, string_object};

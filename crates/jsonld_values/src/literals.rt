@@ -9,14 +9,11 @@ ghost use Rattle.jsonld_context.specs.Expanding.{expand_id};
 ghost use Rattle.jsonld_context.specs.Telling.{IsToldBy};
 ghost use Rattle.jsonld_values.specs.Literals.{iri_slot, literal_slot, made_of, literal_object, string_object, boolean_text, boolean_object, whole_text, number_object};
 
-use crate::datatypes::{
-    boolean_type, datatype_under, integer_type, is_double_type, known_iri, string_type,
-    typed_literal,
-};
+use crate::datatypes::{boolean_type, datatype_under, integer_type, is_double_type, string_type};
 use crate::faults::{bad_subject, unsupported};
 use jrql_ast::Slot;
 use jsonld_context::{Context, JsonFault, TermType};
-use rdf_terms::{Iri, LEXICAL_LIMIT, Term};
+use rdf_terms::{Iri, LEXICAL_LIMIT, Term, known_iri, typed_literal};
 use serde_json::Number;
 use std::alloc::{AllocError, Global};
 

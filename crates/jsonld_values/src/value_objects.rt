@@ -1,8 +1,6 @@
 //! Value objects (JSON-LD 1.1, section 9.5).
 ghost use Rattle.std.specs.Prelude.{◌≡◌, ◌≢◌, ◌≤◌, length, not, codes, None, Some, Ok, IfOk, IfErr, IsTrue};
-ghost use Rattle.std.specs.Str.{str_to_ascii_lowercase};
-ghost use Rattle.text_rules.specs.Tags.{is_language_tag};
-ghost use Rattle.rdf_terms.specs.Literal.{Tagged, is_same, lexical_limit, rdf_lang_string};
+ghost use Rattle.rdf_terms.specs.Literal.{is_same, lexical_limit, rdf_lang_string, xsd_integer};
 ghost use Rattle.serde_json.specs.Data.{number};
 ghost use Rattle.serde_json.specs.View.{view, members_view, number_view};
 ghost use Rattle.jsonld_context.specs.ContextReading.{first_fault};
@@ -10,18 +8,14 @@ ghost use Rattle.jsonld_context.specs.Expanding.{key_meant, expand_key};
 ghost use Rattle.jsonld_context.specs.Telling.{IsToldBy, IsReadAs};
 ghost use Rattle.jsonld_context.specs.declared.faults.JsonFault.TheVariants as faults;
 ghost use Rattle.jsonld_values.specs.Literals.{IsDatatype, xsd_double};
-ghost use Rattle.jrql_ast.specs.FilterMeaning.{xsd_integer};
 ghost use Rattle.jsonld_values.specs.ValueObjects.{has_member, is_language_key, is_value_key, datatype_said, fault_of_language, fault_of_datatype, fault_of_typing, fault_of_length, fault_of_boolean, fault_of_written, fault_of_value_part, fault_of_value_object, literal_beside, literal_said, literal_meant, value_object};
 
-use crate::datatypes::{
-    boolean_type, integer_type, is_double_type, is_lang_string, known_iri, string_type,
-    typed_literal,
-};
+use crate::datatypes::{boolean_type, integer_type, is_double_type, is_lang_string, string_type};
 use crate::faults::{bad_subject, unsupported};
 use crate::literals::{boolean_text, whole_text};
 use jrql_ast::Slot;
 use jsonld_context::{Context, JsonFault, is_type_key, is_variable, member_at, string_at};
-use rdf_terms::{Iri, LEXICAL_LIMIT, Literal, Term, TermFault};
+use rdf_terms::{Iri, LEXICAL_LIMIT, Literal, Term, known_iri, tagged_literal, typed_literal};
 use serde_json::{Map, Number, Value};
 use std::alloc::{AllocError, Global};
 use text_rules::is_language_tag;
@@ -258,22 +252,6 @@ fn datatype_said(
     match context.expand_key(alloc, text) {
         Ok(iri) => Ok(iri),
         Err(fault) => Err(want_of_memory(fault)),
-    }
-}
-
-/// The literal of a lexical form and a language tag.
-fn tagged_literal(alloc: Global, lexical: &str, tag: &str) -> Result<Literal, AllocError>
-    requires short { length lexical.now ≤ lexical_limit }
-    requires tag { IsTrue (is_language_tag tag.now) }
-    ensures { IfOk result (λ literal. literal ≡ Tagged lexical.now (str_to_ascii_lowercase tag.now)) }
-{
-    match Literal::tagged(alloc, lexical, tag) {
-        Ok(literal) => Ok(literal),
-        Err(TermFault::NoMemory) => Err(AllocError),
-        Err(TermFault::TooLong) => unreachable!(),
-        Err(TermFault::BadTag) => unreachable!(),
-        Err(TermFault::BadIri) => unreachable!(),
-        Err(TermFault::BadType) => unreachable!(),
     }
 }
 

@@ -2,10 +2,9 @@
 ghost use Rattle.std.specs.Prelude.{◌≡◌, IfOk, codes};
 ghost use Rattle.serde_json.specs.Data.{string};
 ghost use Rattle.serde_json.specs.View.{view};
-ghost use Rattle.rdf_terms.specs.Literal.{Typed, is_same, xsd_string};
+ghost use Rattle.rdf_terms.specs.Literal.{Typed, is_same, xsd_string, xsd_integer};
 ghost use Rattle.jsonld_context.specs.ShortForms.{compact_id};
 ghost use Rattle.jsonld_values.specs.Literals.{xsd_boolean};
-ghost use Rattle.jrql_ast.specs.FilterMeaning.{xsd_integer};
 ghost use Rattle.jsonld_values.specs.TermWriting.{term_data, one_member, two_members, literal_data, typed_data, string_data, boolean_data, integer_data};
 
 use crate::datatypes::{XSD_BOOLEAN, XSD_INTEGER, XSD_STRING};
@@ -32,7 +31,7 @@ fn is_boolean(datatype: &str) -> bool
 }
 
 /// Whether a datatype is xsd:integer.
-#[tactic(auto, unfolding(jrql_ast::specs::FilterMeaning::xsd_integer))]
+#[tactic(auto, unfolding(rdf_terms::specs::Literal::xsd_integer))]
 fn is_integer(datatype: &str) -> bool
     ensures { result ≡ is_same datatype.now xsd_integer }
 {
@@ -78,7 +77,7 @@ fn boolean_value(alloc: Global, context: &Context, text: &str) -> Result<Value, 
 }
 
 /// A lexical form of xsd:integer.
-#[tactic(auto, unfolding(jrql_ast::specs::FilterMeaning::xsd_integer))]
+#[tactic(auto, unfolding(rdf_terms::specs::Literal::xsd_integer))]
 fn integer_value(alloc: Global, context: &Context, text: &str) -> Result<Value, AllocError>
     ensures { IfOk result (λ value. view value ≡ integer_data context.now text.now) }
 {

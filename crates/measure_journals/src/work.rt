@@ -1,6 +1,5 @@
 //! The parts of a run.
 ghost use Rattle.std.specs.Prelude.{IfOk};
-ghost use Rattle.op_codec.specs.Stored.{IsShortEntry};
 ghost use Rattle.journal_sides.specs.Heads.{head_value};
 ghost use Rattle.journal_sides.specs.StoredVolumes.{IsGoodHead};
 

@@ -29,7 +29,7 @@ fn main(rt: HostRuntime) -> ExitCode {
 }
 
 /// The run over the words of the process, its standard input and its standard output.
-fn run_on_standard<R: Alloc<A = Global> + Env + Input + Print + Threads>(
+fn run_on_standard<R: Alloc<A = Global> + Env + Input + Print + Threads + Sync>(
     rt: &R,
 ) -> io::Result<Ran<MemoryBanks>> {
     let mut words = Vec::new(rt.alloc());

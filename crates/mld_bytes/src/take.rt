@@ -1,5 +1,5 @@
 //! Numbers and pieces of bytes, taken from a place of an input. Nothing here takes memory.
-ghost use Rattle.std.specs.Prelude.{◌≡◌, ℕ, ◌+◌, ◌-◌, ◌<◌, ◌≤◌, ◌^◌, ◌↔◌, List, length, drop, take, IfOk, IfErr, IsErr};
+ghost use Rattle.std.specs.Prelude.{◌+◌, ◌-◌, ◌<◌, ◌≤◌, ◌^◌, ◌↔◌, length, drop, IfOk, IfErr, IsErr};
 ghost use Rattle.mld_bytes.specs.Bytes.{u8_bytes, u32_bytes, u64_bytes, number_bytes, IsAt, HasNoNumber, IsPieceAt, HasNoPiece};
 
 use byteorder::{BigEndian, ByteOrder};

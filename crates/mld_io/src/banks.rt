@@ -1,5 +1,5 @@
 //! Devices with two sides of bytes, which keep what they are given and may crash.
-ghost use Rattle.std.specs.Prelude.{◌≡◌, ◌↔◌, ℕ, ◌+◌, ◌^◌, ◌<◌, ◌≤◌, Option, None, Some, Ok, length, take, drop, IsTrue, IsOk, IfOk, OnOk, IsErrOf, IsSome};
+ghost use Rattle.std.specs.Prelude.{◌≡◌, ◌↔◌, ◌+◌, ◌^◌, ◌<◌, ◌≤◌, Option, None, Some, length, take, drop, IsTrue, IsOk, IfOk, OnOk, IsErrOf, IsSome};
 ghost use Rattle.mld_io.specs.Arm.{Meter, Caught, Metered, armed, revived};
 ghost use Rattle.mld_io.specs.Disk.{Log, Writes, Revives, Syncs, Wrote, bytes_of, grown, seen};
 

@@ -1,5 +1,5 @@
 //! The lines of a source.
-ghost use Rattle.std.specs.Prelude.{◌≡◌, ℕ, ◌+◌, ◌-◌, ◌≤◌, List, length, true, false, None, Some, Ok, IsTrue, IfOk, IfSome, OnErr, is_ok};
+ghost use Rattle.std.specs.Prelude.{◌≡◌, ℕ, ◌+◌, ◌-◌, ◌≤◌, List, length, true, false, None, Some, Ok, IsTrue, IfOk, IfSome, is_ok};
 ghost use Rattle.mld_io.specs.Faults.{HasCause, HasLineCause};
 ghost use Rattle.mld_io.specs.Lines.{NextLine, Progresses, TakesAtMost};
 ghost use Rattle.mld_io.specs.Lines.{FirstOfLines};

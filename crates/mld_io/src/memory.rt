@@ -1,5 +1,5 @@
 //! Sources and sinks in memory, for tries of what stands above them.
-ghost use Rattle.std.specs.Prelude.{◌≡◌, ◌↔◌, ℕ, ◌<◌, [], ◌++◌, min, take, drop, length, Some, Contains, IsErr, IsErrOf, IfOk};
+ghost use Rattle.std.specs.Prelude.{◌≡◌, ◌↔◌, ◌<◌, [], ◌++◌, min, take, drop, length, Some, Contains, IsErr, IsErrOf, IfOk};
 ghost use Rattle.std.specs.Io.{ReadsAtMost, WritesAtMost};
 ghost use Rattle.std.specs.Io.KnownBytes.{ReadConsumes, WriteAppends};
 ghost use Rattle.mld_io.specs.Faults.{HasCause, HasSinkCause};

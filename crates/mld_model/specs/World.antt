@@ -6,7 +6,6 @@ use Rattle.tree_clock.specs.Path.{zero_letter, one_letter}
 use Rattle.tree_clock.specs.declared.dots.Range.{Range}
 use Rattle.mld_ops.specs.History.{Operation}
 use Rattle.mld_model.specs.Clone.{Clone, Absent, Live}
-use Rattle.mld_model.specs.declared.limits.TheConstants.{CLONE_COUNT}
 
 -- a message: a range of operations, a want of whoever knows these dots, a snapshot of these dots, one who asks to join,
 -- and a leaf that is given to whoever asked, with a snapshot of these dots
@@ -34,9 +33,9 @@ numbered items (suc before) = slice_get items before
 abbrev pub message_at : World → ℕ → Option Message
 message_at world number = numbered world.messages number
 
--- how many clones there are, absent ones with them: the constant of `src/limits.rt`
+-- how many clones there are, absent ones with them
 abbrev pub clone_count : ℕ
-clone_count = CLONE_COUNT
+clone_count = 32
 
 -- the clone of a number
 abbrev pub clone_at : World → ℕ → Clone

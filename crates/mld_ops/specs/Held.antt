@@ -2,11 +2,10 @@
 use Rattle.std.specs.Prelude.{ℕ, List, map}
 use Rattle.tree_clock.specs.declared.dots.Range.{Range}
 use Rattle.mld_ops.specs.Entry.{EntryValue}
-use Rattle.mld_ops.specs.declared.limits.TheConstants.{HELD_LIMIT}
 
--- how many are held back at most: the constant of `src/limits.rt`
+-- how many are held back at most
 abbrev pub held_limit : ℕ
-held_limit = HELD_LIMIT
+held_limit = 4096
 
 -- the ranges of entries, in order
 abbrev pub ranges_of : List EntryValue → List Range

@@ -1,5 +1,5 @@
 //! What an update does.
-ghost use Rattle.std.specs.Prelude.{◌≡◌, ◌↔◌, [], IsTrue, IfOk};
+ghost use Rattle.std.specs.Prelude.{◌≡◌, ◌↔◌, IsTrue, IfOk};
 ghost use Rattle.std.specs.Cmp.{partial_equiv_from_equiv};
 ghost use Rattle.mld_ops.specs.EffectEquality.{same_effect, same_effect_equiv};
 ghost use Rattle.mld_ops.specs.Effects.{ChangesNothing, IsEffectOf, IsInOrder, inserting, deleting};

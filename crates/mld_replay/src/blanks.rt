@@ -68,7 +68,7 @@ fn has_bytes<B: CrashBanks>(banks: &mut B, side: Side, number: u8) -> Result<boo
 
 /// The banks, none of which has a byte, as ones that keep nothing. Where the device of some fails, all are given back, in order; where
 /// memory runs out, none are.
-pub fn blanks_of<R: Threads, B: CrashBanks>(
+pub fn blanks_of<R: Threads + Sync, B: CrashBanks>(
     rt: &R,
     alloc: Global,
     banks: Vec<B>,
@@ -102,7 +102,7 @@ pub fn blanks_of<R: Threads, B: CrashBanks>(
 
 /// Banks that have no byte, as ones that keep nothing. Where their device fails they are given back; where memory runs out they
 /// are not.
-fn blank_of<R: Threads, B: CrashBanks>(
+fn blank_of<R: Threads + Sync, B: CrashBanks>(
     rt: &R,
     alloc: Global,
     banks: B,

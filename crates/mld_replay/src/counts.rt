@@ -1,5 +1,5 @@
 //! What is told of a generated schedule: how many lines it has, and counts of the clones that its domain line founds.
-ghost use Rattle.std.specs.Prelude.{◌≡◌, ◌++◌, ◌≤◌, ◌*◌, ◌^◌, length, IfOk, OnOk};
+ghost use Rattle.std.specs.Prelude.{◌≡◌, ◌++◌, IfOk, OnOk};
 ghost use Rattle.mld_replay.specs.Counts.{count_of_dots, clone_line, clone_lines, counts_text};
 
 use net_world::CloneSummary;

@@ -1,5 +1,5 @@
 //! The edges of a run whose lines are in memory: where they come from, and where their replies go. Neither fails.
-ghost use Rattle.std.specs.Prelude.{◌≡◌, ◌++◌, ℕ, List, Some, None, min, take, drop, length};
+ghost use Rattle.std.specs.Prelude.{◌≡◌, ◌++◌, Some, None, min, take, drop, length};
 
 use mld_io::{Failed, IoFault, Sink, Source};
 use std::marker::Model;

@@ -23,7 +23,7 @@ use std::alloc::{AllocError, Global};
 use std::thread::Threads;
 
 /// Runs the schedule of a seed, which has so many commands, and writes its counts once its last line is done.
-pub fn run_generated<R: Threads, K: Sink, B: CrashBanks>(
+pub fn run_generated<R: Threads + Sync, K: Sink, B: CrashBanks>(
     rt: &R,
     alloc: Global,
     seed: u64,
@@ -61,7 +61,7 @@ fn schedule_text(alloc: Global, seed: u64, count: u32) -> Result<Vec<u8>, AllocE
 }
 
 /// Runs over the lines of a text. Nobody gets their replies.
-fn run_text<R: Threads, B: CrashBanks>(
+fn run_text<R: Threads + Sync, B: CrashBanks>(
     rt: &R,
     alloc: Global,
     text: Vec<u8>,

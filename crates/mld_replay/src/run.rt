@@ -76,7 +76,7 @@ pub struct Ran<B> {
 /// before a `domain` line. 5: no memory. 6: the device of the clone that is named failed. 7: a line is too large. 8: banks are not
 /// empty; nothing is read or written, and they stay as they were. Each line is answered before the next is read. A failure of a device
 /// ends the run by 6, or by 5 with no banks given back; a crash that a line asked for is none.
-pub fn run<R: Threads, S: Source, K: Sink, B: CrashBanks>(
+pub fn run<R: Threads + Sync, S: Source, K: Sink, B: CrashBanks>(
     rt: &R,
     alloc: Global,
     words: &Vec<String>,
@@ -137,7 +137,7 @@ pub fn run<R: Threads, S: Source, K: Sink, B: CrashBanks>(
 }
 
 /// Does all that the program does by the word `replay`.
-pub fn run_replay<R: Threads, S: Source, K: Sink, B: CrashBanks>(
+pub fn run_replay<R: Threads + Sync, S: Source, K: Sink, B: CrashBanks>(
     rt: &R,
     alloc: Global,
     source: &mut S,
@@ -230,7 +230,7 @@ fn status_of(fault: Option<RunFault>) -> u8
 }
 
 /// Replays the schedule of the source, and leaves the stage that it leads to. Where memory runs out, what is left is not to be used.
-fn replay<R: Threads, S: Source, K: Sink, B: CrashBanks>(
+fn replay<R: Threads + Sync, S: Source, K: Sink, B: CrashBanks>(
     rt: &R,
     alloc: Global,
     source: &mut S,
@@ -259,7 +259,7 @@ fn replay<R: Threads, S: Source, K: Sink, B: CrashBanks>(
 }
 
 /// Does line `number`, and makes the text of its reply in place of what `reply` had.
-fn do_line<R: Threads, B: CrashBanks>(
+fn do_line<R: Threads + Sync, B: CrashBanks>(
     rt: &R,
     alloc: Global,
     stage: &mut Stage<B>,
@@ -285,7 +285,7 @@ fn do_line<R: Threads, B: CrashBanks>(
 }
 
 /// Ends the lines, where line `number` would be the next.
-fn end_lines<R: Threads, B: CrashBanks>(
+fn end_lines<R: Threads + Sync, B: CrashBanks>(
     rt: &R,
     alloc: Global,
     stage: &mut Stage<B>,

@@ -38,7 +38,7 @@ pub enum Stage<B: CrashBanks> {
 }
 
 /// Does a line, and makes the text of its reply in place of what `reply` had. The first command founds the clones.
-pub fn act<R: Threads, B: CrashBanks>(
+pub fn act<R: Threads + Sync, B: CrashBanks>(
     rt: &R,
     alloc: Global,
     stage: &mut Stage<B>,
@@ -105,7 +105,7 @@ fn take_waiting<B: CrashBanks>(alloc: Global, stage: &mut Stage<B>) -> Vec<Blank
 
 /// Does a line once the domain is set up, while no clone is founded, and makes the text of its reply: it sets one more single-valued
 /// property, or it may be the first command.
-fn set_or_start<R: Threads, B: CrashBanks>(
+fn set_or_start<R: Threads + Sync, B: CrashBanks>(
     rt: &R,
     alloc: Global,
     stage: &mut Stage<B>,
@@ -165,7 +165,7 @@ fn set_property<B: CrashBanks>(
 }
 
 /// Does a line that sets no property while no clone is founded, and makes the text of its reply. A command founds the clones.
-fn first<R: Threads, B: CrashBanks>(
+fn first<R: Threads + Sync, B: CrashBanks>(
     rt: &R,
     alloc: Global,
     stage: &mut Stage<B>,
@@ -194,7 +194,7 @@ fn first<R: Threads, B: CrashBanks>(
 }
 
 /// Founds the clones of a domain that is set up by its first command, and makes the text of the command's reply.
-fn start<R: Threads, B: CrashBanks>(
+fn start<R: Threads + Sync, B: CrashBanks>(
     rt: &R,
     alloc: Global,
     stage: &mut Stage<B>,
@@ -224,7 +224,7 @@ fn start<R: Threads, B: CrashBanks>(
 }
 
 /// Takes what is set up out of a stage, and founds its clones. Where that was refused, the stage is over, and has the banks that are left.
-fn found<R: Threads, B: CrashBanks>(
+fn found<R: Threads + Sync, B: CrashBanks>(
     rt: &R,
     alloc: Global,
     stage: &mut Stage<B>,
@@ -263,7 +263,7 @@ fn take_set_up<B: CrashBanks>(alloc: Global, stage: &mut Stage<B>) -> (Setup, Ve
 }
 
 /// Does a line of a world that runs, and makes the text of its reply.
-fn command<R: Threads, B: CrashBanks>(
+fn command<R: Threads + Sync, B: CrashBanks>(
     rt: &R,
     alloc: Global,
     world: &mut World<B>,
@@ -291,7 +291,7 @@ fn command<R: Threads, B: CrashBanks>(
 }
 
 /// Does a command of a world that runs, and makes the text of its reply.
-fn step<R: Threads, B: CrashBanks>(
+fn step<R: Threads + Sync, B: CrashBanks>(
     rt: &R,
     alloc: Global,
     world: &mut World<B>,
@@ -317,7 +317,7 @@ fn step<R: Threads, B: CrashBanks>(
 }
 
 /// Ends the lines: this founds the clones where no command did. Where no domain line came, the end is a bad line.
-pub fn finish<R: Threads, B: CrashBanks>(
+pub fn finish<R: Threads + Sync, B: CrashBanks>(
     rt: &R,
     alloc: Global,
     stage: &mut Stage<B>,

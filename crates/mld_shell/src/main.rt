@@ -32,7 +32,7 @@ fn main(rt: HostRuntime) -> ExitCode {
 
 /// The status of the shell over the words of the process, its standard input and its standard output.
 fn run_on_standard<
-    R: Alloc<A = Global> + Env + Files<File = File> + Input + Print + Threads + Clone + Drop,
+    R: Alloc<A = Global> + Env + Files<File = File> + Input + Print + Threads + Sync + Clone + Drop,
 >(rt: &R) -> io::Result<u8> {
     let mut words = Vec::new(rt.alloc());
     for word in env::args(rt)?.skip(1) {

@@ -5,7 +5,7 @@ use Rattle.std.proofs.lemmas.Option.{slice_get-map}
 use Rattle.mld_io.specs.Disk.{Log}
 use Rattle.clone_core.specs.journal_store.Standing.{KeepsNothing}
 use Rattle.tree_clock.specs.Lists.{Has}
-use Rattle.mld_model.specs.Clone.{Clone, Stored, kept_of}
+use Rattle.mld_model.specs.Clone.{Clone, kept_of}
 use Rattle.mld_model.specs.Clone as model
 use Rattle.mld_model.specs.World.{World, clone_at, founded}
 use Rattle.mld_model.specs.declared.CloneState.TheVariants as states

@@ -29,7 +29,7 @@ use world_commands::stopping::stop;
 use world_commands::{Parts, WorldFault};
 
 /// Does a command, and adds the text of its reply to the output, which is as it was where the command is refused.
-pub fn answer<R: Threads, B: CrashBanks>(
+pub fn answer<R: Threads + Sync, B: CrashBanks>(
     rt: &R,
     alloc: Global,
     parts: &mut Parts<B>,
@@ -65,7 +65,7 @@ pub fn answer<R: Threads, B: CrashBanks>(
         Command::Stop(number) => tell(out, Ok(stop(parts, *number))),
         Command::Open(number) => tell(out, open(rt, alloc, parts, *number)),
         Command::Show(number) => tell(out, Ok(show(parts, *number))),
-        Command::Query(number, read) => tell(out, query(alloc, parts, *number, read)),
+        Command::Query(number, read) => tell(out, query(rt, alloc, parts, *number, read)),
         Command::Compare(number, other) => tell(out, Ok(compare(parts, *number, *other))),
         Command::Crash(call, leave, task) => {
             tell_crash(out, crash(rt, alloc, parts, *call, *leave, task))

@@ -40,7 +40,7 @@ pub enum Crashed {
 /// # Errors
 ///
 /// `Device` where the device failed and no call was caught, and `NoMemory`.
-pub fn crash<R: Threads, B: CrashBanks>(
+pub fn crash<R: Threads + Sync, B: CrashBanks>(
     rt: &R,
     alloc: Global,
     parts: &mut Parts<B>,
@@ -150,7 +150,7 @@ fn arm<B: CrashBanks>(state: &mut RunningClone<B>, call: u32, leave: Leave)
 }
 
 /// Does the command of a crash line.
-fn do_task<R: Threads, B: CrashBanks>(
+fn do_task<R: Threads + Sync, B: CrashBanks>(
     rt: &R,
     alloc: Global,
     parts: &mut Parts<B>,

@@ -30,7 +30,7 @@ use world_commands::{
 
 /// The clones of the founded world, absent ones with them, each on banks of its own. Where the device of a clone fails, all banks are
 /// given back, in order; where memory runs out, none are.
-pub fn found_clones<R: Threads, B: CrashBanks>(
+pub fn found_clones<R: Threads + Sync, B: CrashBanks>(
     rt: &R,
     alloc: Global,
     setup: &Setup,
@@ -79,7 +79,7 @@ fn absent_clones<B: CrashBanks>(
 }
 
 /// Founds as many of the absent clones as the setup says, one after another.
-fn found_each<R: Threads, B: CrashBanks>(
+fn found_each<R: Threads + Sync, B: CrashBanks>(
     rt: &R,
     alloc: Global,
     setup: &Setup,
@@ -152,7 +152,7 @@ fn first_of<B: CrashBanks>(
 }
 
 /// A clone that isn't the first asks the first one for a leaf, and takes what that gives.
-fn found_other<R: Threads, B: CrashBanks>(
+fn found_other<R: Threads + Sync, B: CrashBanks>(
     rt: &R,
     alloc: Global,
     setup: &Setup,
@@ -179,7 +179,7 @@ fn found_other<R: Threads, B: CrashBanks>(
 }
 
 /// What becomes of one who asks the first clone for a leaf.
-fn join_first<R: Threads, B: CrashBanks>(
+fn join_first<R: Threads + Sync, B: CrashBanks>(
     rt: &R,
     alloc: Global,
     clones: &mut Vec<RunningClone<B>>,
@@ -198,7 +198,7 @@ fn join_first<R: Threads, B: CrashBanks>(
 }
 
 /// What becomes of one who asks a clone for a leaf.
-fn join<R: Threads, B: CrashBanks>(
+fn join<R: Threads + Sync, B: CrashBanks>(
     rt: &R,
     alloc: Global,
     first: &mut MldClone<B>,
@@ -215,7 +215,7 @@ fn join<R: Threads, B: CrashBanks>(
 }
 
 /// What the first clone answers to the question of one who asks: a leaf, and all that it has.
-fn given_leaf<R: Threads, B: CrashBanks>(
+fn given_leaf<R: Threads + Sync, B: CrashBanks>(
     rt: &R,
     alloc: Global,
     first: &mut MldClone<B>,
@@ -243,7 +243,7 @@ fn given_leaf<R: Threads, B: CrashBanks>(
 }
 
 /// The clone of one who asked and takes the leaf that the one message gives.
-fn taken_leaf<R: Threads, B: CrashBanks>(
+fn taken_leaf<R: Threads + Sync, B: CrashBanks>(
     rt: &R,
     alloc: Global,
     number: u8,

@@ -7,7 +7,6 @@ use crate::summaries::Summary;
 use crate::summarizing::summarize;
 use clone_core::journal_store::Blank;
 use mld_io::{Banks, CrashBanks};
-use mld_model::CloneState;
 use mld_ops::kept_properties;
 use schedule_model::Command;
 use schedule_text::Setup;
@@ -63,7 +62,7 @@ impl<B: CrashBanks> World<B> {
     /// `Device` where the device of a clone failed; all banks are given back, in order. The clone was in the middle of a durable step of
     /// founding: whatever a crash leaves of the banks, the steps before that one stand, that one may, and no later one does. `NoMemory`,
     /// with which no banks are given back.
-    pub fn found<R: Threads>(
+    pub fn found<R: Threads + Sync>(
         rt: &R,
         alloc: Global,
         setup: &Setup,
@@ -135,7 +134,7 @@ impl<B: CrashBanks> World<B> {
     /// # Errors
     ///
     /// `Device` where the device of the command's clone failed, which it names, and no arm caught the call; and `NoMemory`.
-    pub fn step<R: Threads>(
+    pub fn step<R: Threads + Sync>(
         &mut self,
         rt: &R,
         alloc: Global,

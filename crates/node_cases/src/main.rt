@@ -30,7 +30,7 @@ fn main(rt: HostRuntime) -> io::Result<ExitCode> {
 }
 
 /// Goes through the session of a file, and once more with each piece cut in two where no call fails and no turns are told.
-fn play_file<R: Files + Print + Threads + Alloc<A = Global>>(
+fn play_file<R: Files + Print + Threads + Sync + Alloc<A = Global>>(
     rt: &R,
     name: &str,
     whole: &mut Count,
@@ -41,7 +41,7 @@ fn play_file<R: Files + Print + Threads + Alloc<A = Global>>(
 }
 
 /// Goes through the session of a text, and once more where its pieces may be cut.
-fn play_text<R: Print + Threads + Alloc<A = Global>>(
+fn play_text<R: Print + Threads + Sync + Alloc<A = Global>>(
     rt: &R,
     name: &str,
     text: &str,

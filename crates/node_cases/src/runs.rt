@@ -24,7 +24,7 @@ pub struct Way<'a> {
 }
 
 /// Goes through a session; whether all is as it says. What differs is written.
-pub fn plays<R: Print + Threads + Alloc<A = Global>>(
+pub fn plays<R: Print + Threads + Sync + Alloc<A = Global>>(
     rt: &R,
     way: Way<'_>,
     text: &str,
@@ -53,7 +53,7 @@ fn banks_of(alloc: Global, head: &str) -> Result<Box<MemoryBanks>, AllocError> {
 }
 
 /// Does the runs of a session over a device, up to the first that can't be read; whether all is as it says. What differs is written.
-fn play_sections<R: Print + Threads + Alloc<A = Global>>(
+fn play_sections<R: Print + Threads + Sync + Alloc<A = Global>>(
     rt: &R,
     way: Way<'_>,
     text: &str,
@@ -93,7 +93,7 @@ fn is_section<R: Print>(rt: &R, way: Way<'_>, section: Section<'_>) -> io::Resul
 }
 
 /// Does one run over a device, which has then what the node left; whether all is as it says. What differs is written.
-fn play<R: Print + Threads + Alloc<A = Global>>(
+fn play<R: Print + Threads + Sync + Alloc<A = Global>>(
     rt: &R,
     way: Way<'_>,
     section: Section<'_>,

@@ -1,5 +1,5 @@
 -- What calls on a loan of a live clone tell is a step of the model.
-use Rattle.std.proofs.Common.{◌≡◌, ◌↔◌, ◌⊎◌, ℕ, ◌+◌, ◌≤◌, List, [], ◌∷◌, ◌++◌, Option, None, Some, Result, Ok, Err, IfOk, IfErr, OnOk, OnErr, IsOk, IsErrOf, inl, inr, refl, sym, ◌∙◌, ap, subst, length, map}
+use Rattle.std.proofs.Common.{◌≡◌, ◌↔◌, ◌⊎◌, ℕ, ◌+◌, ◌≤◌, List, [], ◌∷◌, Option, None, Some, Result, Ok, Err, IfOk, IfErr, OnOk, OnErr, IsOk, IsErrOf, inl, inr, refl, sym, ◌∙◌, ap, subst, length}
 use Rattle.mld_io.specs.Arm.{Meter}
 use Rattle.mld_io.specs.Disk.{Log}
 use Rattle.mld_ops.specs.declared.messages.Give.{Give}
@@ -17,7 +17,7 @@ use Rattle.node_model.specs.clone_core.Banked.{BankedClone, BankedAsker, KeepsCl
 use Rattle.node_model.specs.clone_core.CloneCalls.{LocallyReceives, Refuses}
 use Rattle.node_model.specs.clone_core.CloneClosing.{LeavesClone, receive_stop}
 use Rattle.node_model.specs.clone_core.Due.{IsDueMessage, IsSwapDue, IsMessageSpent}
-use Rattle.node_model.specs.clone_core.DurableCalls.{LeavesFronts, Changes, MessageSteps, ReceivedSteps, WouldReceive, merged_steps, Creates}
+use Rattle.node_model.specs.clone_core.DurableCalls.{Changes, MessageSteps, ReceivedSteps, WouldReceive, merged_steps, Creates}
 use Rattle.node_model.specs.clone_core.Joining.{IsGiveFor}
 use Rattle.node_model.specs.clone_core.Merging.{StaysOpenBy}
 use Rattle.node_model.specs.shell_session.Shells.{generation_after}

@@ -1,5 +1,5 @@
 -- What a live clone's command makes goes to the peers, and its reply has a text.
-use Rattle.std.proofs.Common.{◌≡◌, ◌≢◌, ◌⊎◌, ℕ, ◌+◌, ◌≤◌, true, false, List, [], ◌∷◌, ◌++◌, inl, inr, refl, sym, ◌∙◌, ap, arith, subst, length, codes, drop, map, append-nil, length-append}
+use Rattle.std.proofs.Common.{◌≡◌, ◌≢◌, ◌⊎◌, ℕ, ◌+◌, ◌≤◌, true, false, List, [], ◌∷◌, ◌++◌, inl, refl, sym, ◌∙◌, ap, arith, length, codes, drop, map, append-nil, length-append}
 use Rattle.std.proofs.Math.Seq.{drop-append_seam}
 use Rattle.mld_ops.specs.Entry.{EntryValue}
 use Rattle.mld_ops.specs.Messages.{MessageValue, CarriesEntry}
@@ -11,10 +11,10 @@ use Rattle.mld_model.specs.Reply.{Reply}
 use Rattle.mld_model.specs.Reply as model
 use Rattle.schedule_model.specs.Characters.{line_end}
 use Rattle.schedule_model.specs.ReplyText.{reply_text}
-use Rattle.node_model.specs.clone_parts.KeptSteps.{KeptStep, Appended, appends}
+use Rattle.node_model.specs.clone_parts.KeptSteps.{KeptStep, appends}
 use Rattle.node_model.specs.shell_session.declared.commands.ShellCommand.{ShellCommand}
 use Rattle.node_model.specs.shell_session.declared.commands.ShellCommand.TheVariants as shell
-use Rattle.node_model.specs.shell_session.ShellReply.{ShellReply, Says, DidAt, BadLine, IsClosed, FoundNothing, FoundDamage, NotEmpty, MadeClone, TicksSpent, GenerationsSpent, shell_text}
+use Rattle.node_model.specs.shell_session.ShellReply.{ShellReply, Says, shell_text}
 use Rattle.node_model.specs.shell_session.ShellStep.{AnswersUpdate, no_tick_is_left, is_too_large, changes_nothing, breaks_single, makes_operation, KeepsJournal, is_kept_so, no_generation_is_left, swaps_journal, LiveStep, IsDueLive}
 use Rattle.node_model.proofs.of_shell_session.LiveLaws.{update_due, journal_due}
 use Rattle.node_model.specs.Keepers.{carried}

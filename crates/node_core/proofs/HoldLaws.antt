@@ -1,16 +1,14 @@
 -- Connections go on while frames are taken: the numbers ascend, and what was good stays so.
-use Rattle.std.proofs.Common.{◌≡◌, ℕ, ◌<◌, ◌==◌, if◌then◌else◌, ◌⊎◌, Bool, true, false, IsTrue, List, [], ◌∷◌, ◌++◌, Option, None, Some, Result, Ok, Err, map, refl, sym, ◌∙◌, ap, subst, inl, inr, arith}
+use Rattle.std.proofs.Common.{◌≡◌, ℕ, ◌<◌, ◌==◌, if◌then◌else◌, Bool, true, false, List, [], ◌∷◌, ◌++◌, Option, None, Some, Result, Ok, Err, map, refl, sym, ◌∙◌, ap, subst, inl, inr, arith}
 use Rattle.std.specs.List.{AllByRecursion}
 use Rattle.std.proofs.lemmas.Bool.Decides.{eqb_tells}
 use Rattle.mld_ops.specs.Messages.{MessageValue, CarriesWant, message_value}
 use Rattle.mld_ops.specs.declared.messages.Message.{Message}
-use Rattle.mld_model.specs.Local.{LocalClone}
 use Rattle.node_model.specs.clone_parts.declared.answers.Got.{Got}
 use Rattle.node_model.specs.clone_parts.declared.answers.Got.TheVariants as got
 use Rattle.node_model.specs.clone_parts.declared.faults.ReceiveFault.{ReceiveFault}
 use Rattle.node_model.specs.clone_parts.declared.faults.ReceiveFault.TheVariants as fault
 use Rattle.node_model.specs.clone_parts.KeptSteps.{KeptStep}
-use Rattle.wire_frames.specs.declared.assembling.Assembled.TheVariants.{Waiting, Whole}
 use Rattle.wire_frames.specs.declared.kinds.Frame.{Frame}
 use Rattle.wire_frames.specs.declared.kinds.Frame.TheVariants as kinds
 use Rattle.wire_frames.specs.Frames.{FramesValue, frames_bytes}
@@ -25,9 +23,9 @@ use Rattle.node_model.specs.declared.requests.Request.{Request}
 use Rattle.node_model.specs.declared.requests.Request.TheVariants as requests
 use Rattle.node_model.specs.Keepers.{Keeper, Lives, Asks, carried, question_of}
 use Rattle.node_model.specs.Requests.{AnswersRequest, TakesRequest}
-use Rattle.node_model.specs.NodeMessages.{Receives, AskerReceives, joins, ignores, sending_for}
+use Rattle.node_model.specs.NodeMessages.{Receives, joins, ignores, sending_for}
 use Rattle.node_model.specs.FrameSteps.{Greets, of_other_format, of_other_domain, of_own_id, of_peer, ReceivesPart, waits, is_whole, is_bad, with_parts, IsOutOfPlace, FrameStepAs, FrameStep, FramesStep, no_more, are_dropped, and_then}
-use Rattle.node_core.specs.Nodes.{IsGood, IsGoodRole}
+use Rattle.node_core.specs.Nodes.{IsGood}
 use Rattle.node_core.specs.Steps.{IsHeld, ExchangeGoesOn}
 
 -- ---- lists of connections

@@ -1,5 +1,5 @@
 -- The step of a frame, by what its connection is.
-use Rattle.std.proofs.Common.{◌≡◌, ◌≢◌, ◌⊎◌, ℕ, Bool, true, false, List, [], ◌∷◌, Option, None, Some, Result, Ok, Err, IfOk, IfErr, OnOk, refl, sym, ◌∙◌, ap, subst, inl, inr}
+use Rattle.std.proofs.Common.{◌≡◌, ◌⊎◌, ℕ, Bool, true, false, List, [], Option, None, Some, Result, Ok, Err, IfOk, IfErr, OnOk, refl, sym, ◌∙◌, ap, subst, inl, inr}
 use Rattle.std.proofs.lemmas.Bool.{true≢false, false≢true}
 use Rattle.mld_io.specs.Disk.{Log}
 use Rattle.mld_ops.specs.declared.messages.Message.{Message}
@@ -12,7 +12,6 @@ use Rattle.wire_frames.specs.declared.faults.AssemblyFault.{AssemblyFault}
 use Rattle.wire_frames.specs.declared.faults.AssemblyFault.TheVariants.{BadPart}
 use Rattle.wire_frames.specs.declared.kinds.Frame.{Frame}
 use Rattle.wire_frames.specs.declared.kinds.Frame.TheVariants as kinds
-use Rattle.wire_frames.specs.Frames.{hello_format}
 use Rattle.wire_frames.specs.MessageParts.{AssemblyValue, Assembles}
 use Rattle.node_model.specs.declared.connections.Connection.{Connection}
 use Rattle.node_model.specs.declared.connections.Role.{Role}
@@ -20,14 +19,14 @@ use Rattle.node_model.specs.declared.connections.Role.TheVariants as role
 use Rattle.node_model.specs.Connections.{as_peer, is_peer}
 use Rattle.node_model.specs.Exchanges.{ExchangeValue, refusing, telling, holding}
 use Rattle.node_model.specs.RefusalCodes.{bad_frame_code, misplaced_code}
-use Rattle.node_core.specs.NodeDeeds.{NodeDoesBy, AnswersOn, ReceivesOn, IsDueByRequest, IsDueByMessage}
+use Rattle.node_core.specs.NodeDeeds.{AnswersOn, ReceivesOn, IsDueByRequest, IsDueByMessage}
 use Rattle.node_core.specs.NodeStates.{state_banks, keeper_of}
 use Rattle.node_core.specs.declared.faults.NodeFault.{NodeFault}
 use Rattle.node_core.specs.declared.states.NodeState.{NodeState}
-use Rattle.node_model.specs.Keepers.{Keeper, keeper_id, keeper_domain, question_of, keeper_found}
+use Rattle.node_model.specs.Keepers.{Keeper, question_of, keeper_found}
 use Rattle.node_model.specs.NodeMessages.{Receives}
 use Rattle.node_model.specs.Requests.{TakesRequest}
-use Rattle.node_model.specs.FrameSteps.{KeepsAll, Greets, of_other_format, of_other_domain, of_own_id, of_peer, ReceivesPart, waits, is_whole, is_bad, with_parts, IsOutOfPlace, FrameStepAs, FrameStep}
+use Rattle.node_model.specs.FrameSteps.{Greets, of_other_format, of_other_domain, of_own_id, of_peer, ReceivesPart, waits, is_whole, is_bad, with_parts, IsOutOfPlace, FrameStepAs, FrameStep}
 use Rattle.node_core.specs.NodeEvents.{IsDueByFrame}
 use Rattle.node_core.specs.Steps.{is_fresh, IsJudged, AddsPart, IsNoPeer, TakesFrame}
 use Rattle.node_core.proofs.EventMoments.{no_steps}

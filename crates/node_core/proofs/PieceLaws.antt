@@ -1,17 +1,14 @@
 -- A piece of a connection, from its frames to an event.
-use Rattle.std.proofs.Common.{◌≡◌, ◌⊎◌, ℕ, if◌then◌else◌, Bool, true, false, IsTrue, List, [], ◌∷◌, Option, None, Some, Result, Ok, Err, IfOk, IfErr, is_none, refl, sym, ◌∙◌, ap, subst, inl, inr}
+use Rattle.std.proofs.Common.{◌≡◌, ℕ, if◌then◌else◌, Bool, true, false, IsTrue, List, [], Option, None, Some, Result, Ok, Err, IfOk, IfErr, is_none, refl, sym, ◌∙◌, ap, subst}
 use Rattle.std.specs.List.{AllByRecursion}
-use Rattle.mld_io.specs.Arm.{Meter}
 use Rattle.mld_io.specs.Disk.{Log}
 use Rattle.mld_io.specs.declared.events.Event.{Event}
 use Rattle.mld_io.specs.declared.events.Event.TheVariants as events
 use Rattle.node_model.specs.clone_parts.KeptSteps.{KeptStep}
-use Rattle.node_model.specs.journal_store.Closing.{StaysTold}
 use Rattle.node_model.specs.shell_session.Shells.{FoundOnBanks}
-use Rattle.node_model.specs.shell_session.SessionLines.{ImagesFind, LeavesFront, LeavesFrontOfDue, Meters}
+use Rattle.node_model.specs.shell_session.SessionLines.{ImagesFind, LeavesFront, LeavesFrontOfDue}
 use Rattle.wire_frames.specs.declared.faults.FrameFault.{FrameFault}
 use Rattle.wire_frames.specs.declared.kinds.Fed.{Fed}
-use Rattle.wire_frames.specs.declared.kinds.Frame.{Frame}
 use Rattle.wire_frames.specs.Frames.{FramesValue, Feeds}
 use Rattle.node_model.specs.declared.connections.Connection.{Connection}
 use Rattle.node_model.specs.declared.connections.Sent.{Sent}
@@ -19,11 +16,11 @@ use Rattle.node_model.specs.Connections.{AreNumbered, IsRidOf, StaysNumbered, co
 use Rattle.node_model.specs.Exchanges.{ExchangeValue, refusing_at, refusing}
 use Rattle.node_core.specs.declared.faults.NodeFault.{NodeFault}
 use Rattle.node_core.specs.declared.faults.NodeFault.TheVariants.{NoMemory}
-use Rattle.node_core.specs.NodeStates.{IsOpen, state_banks, keeper_of}
+use Rattle.node_core.specs.NodeStates.{state_banks, keeper_of}
 use Rattle.node_core.specs.declared.states.NodeState.{NodeState}
-use Rattle.node_model.specs.Keepers.{Keeper, keeper_found}
+use Rattle.node_model.specs.Keepers.{keeper_found}
 use Rattle.node_model.specs.FrameSteps.{FramesStep, refusal_code, faulting, forgetting}
-use Rattle.node_model.specs.Events.{NodeValue, NodeStep, PieceStep, TakesPiece, beginning, put_back, node_after}
+use Rattle.node_model.specs.Events.{NodeValue, NodeStep, PieceStep, TakesPiece, beginning, put_back}
 use Rattle.node_core.specs.declared.pieces.Rest.{Rest}
 use Rattle.node_core.specs.declared.pieces.Taken.{Taken}
 use Rattle.node_core.specs.Nodes.{BankedNode, node_value, IsGood, MayGoOn}

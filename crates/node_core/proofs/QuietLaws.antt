@@ -1,5 +1,5 @@
 -- What is left of the banks where nothing was kept.
-use Rattle.std.proofs.Common.{◌≡◌, ◌⊎◌, ℕ, List, [], Option, Result, Ok, Err, IfOk, IfErr, refl, sym, ◌∙◌, ap, subst, inl}
+use Rattle.std.proofs.Common.{◌≡◌, List, [], Option, Result, Ok, Err, IfOk, IfErr, refl, sym, ap, subst, inl}
 use Rattle.mld_io.specs.Arm.{Meter}
 use Rattle.mld_io.specs.Disk.{Log}
 use Rattle.node_model.specs.clone_parts.KeptSteps.{KeptStep}
@@ -10,7 +10,6 @@ use Rattle.node_core.specs.declared.faults.NodeFault.{NodeFault}
 use Rattle.node_core.specs.declared.faults.NodeFault.TheVariants.{Device, NoMemory}
 use Rattle.node_core.specs.declared.states.NodeState.{NodeState}
 use Rattle.node_core.specs.NodeStates.{IsOpen, state_banks, state_banks_after, StateFailsOnDevice}
-use Rattle.node_core.specs.Nodes.{banks_left, IsDeviceFault}
 use Rattle.node_core.proofs.EventMoments.{no_steps, told_same}
 use Rattle.node_model.proofs.of_shell_session.MeterLaws.{meters_none}
 

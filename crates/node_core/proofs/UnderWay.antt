@@ -2,9 +2,8 @@
 use Rattle.std.proofs.Common.{◌≡◌, ◌⊎◌, ℕ, true, false, List, [], ◌∷◌, ◌++◌, Option, None, Some, refl, sym, ◌∙◌, ap, subst, inl, inr, append-nil, append_assoc}
 use Rattle.mld_io.specs.Arm.{Meter}
 use Rattle.mld_io.specs.Disk.{Log}
-use Rattle.node_model.specs.clone_parts.KeptSteps.{KeptStep}
 use Rattle.node_model.specs.journal_store.Closing.{StaysTold}
-use Rattle.node_model.specs.shell_session.SessionLines.{ImagesFind, LeavesFront, LeavesFrontOfDue, Meters}
+use Rattle.node_model.specs.shell_session.SessionLines.{LeavesFront, LeavesFrontOfDue, Meters}
 use Rattle.wire_frames.specs.declared.kinds.Frame.{Frame}
 use Rattle.wire_frames.specs.Frames.{FramesValue}
 use Rattle.node_model.specs.declared.connections.Connection.{Connection}
@@ -12,7 +11,7 @@ use Rattle.node_model.specs.Exchanges.{ExchangeValue, holding}
 use Rattle.node_core.specs.NodeStates.{IsOpen, state_banks, keeper_of}
 use Rattle.node_core.specs.declared.states.NodeState.{NodeState}
 use Rattle.node_model.specs.Keepers.{keeper_found}
-use Rattle.node_model.specs.FrameSteps.{FrameStep, FramesStep, no_more}
+use Rattle.node_model.specs.FrameSteps.{FramesStep, no_more}
 use Rattle.node_core.specs.NodeEvents.{IsDueByFrame, IsDueNext, IsDueByFrames}
 use Rattle.node_core.specs.Nodes.{IsGoodRole}
 use Rattle.node_core.specs.Steps.{TakesFrame, TakesFrames, IsHeld, ExchangeGoesOn}

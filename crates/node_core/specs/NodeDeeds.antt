@@ -1,5 +1,5 @@
 -- What a node does on its banks for a request or a message: done, or stopped short. The clauses of `answer_request` and `receive_message` cite it.
-use Rattle.std.specs.Prelude.{◌≡◌, ℕ, List, [], ◌∷◌, Option, None, Some}
+use Rattle.std.specs.Prelude.{◌≡◌, ℕ, List, [], ◌∷◌, Option}
 use Rattle.mld_io.specs.Disk.{Log}
 use Rattle.mld_ops.specs.declared.messages.Give.{Give}
 use Rattle.mld_ops.specs.declared.messages.Message.{Message}
@@ -7,8 +7,6 @@ use Rattle.node_model.specs.clone_parts.KeptSteps.{KeptStep, Created}
 use Rattle.node_model.specs.clone_core.Banked.{head_of}
 use Rattle.node_model.specs.clone_core.DurableCalls.{WouldReceive}
 use Rattle.node_model.specs.clone_core.Joining.{IsGiveFor}
-use Rattle.node_model.specs.shell_session.declared.commands.ShellCommand.{ShellCommand}
-use Rattle.node_model.specs.shell_session.Shells.{FoundOnBanks}
 use Rattle.node_model.specs.shell_session.ShellStep.{IsDueLive}
 use Rattle.node_model.specs.shell_session.SessionLines.{ImagesFind, LeavesFront, LeavesFrontOfDue}
 use Rattle.node_model.specs.declared.requests.Request.{Request}

@@ -1,7 +1,7 @@
 -- What a node on its banks does with an event: done, or stopped short. The clauses of `Node::on_event` cite it.
-use Rattle.std.specs.Prelude.{◌≡◌, ◌⊎◌, ℕ, Bool, false, List, [], ◌∷◌, ◌++◌, Option, None, Some, Ok}
+use Rattle.std.specs.Prelude.{◌≡◌, ◌⊎◌, ℕ, false, List, [], ◌∷◌, ◌++◌, Option, Some, Ok}
 use Rattle.mld_io.specs.declared.events.Event.{Event}
-use Rattle.mld_io.specs.declared.events.Event.TheVariants.{Opened, Bytes, Shut, End}
+use Rattle.mld_io.specs.declared.events.Event.TheVariants.{Bytes}
 use Rattle.mld_io.specs.Disk.{Log}
 use Rattle.mld_ops.specs.declared.messages.Message.{Message}
 use Rattle.node_model.specs.clone_parts.KeptSteps.{KeptStep}

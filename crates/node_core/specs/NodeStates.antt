@@ -2,7 +2,7 @@
 use Rattle.std.specs.Prelude.{◌≡◌, Option, None, Some, Result, Ok, Err}
 use Rattle.mld_io.specs.Disk.{Log, seen}
 use Rattle.node_model.specs.journal_sides.Pairs.{read_banks}
-use Rattle.node_model.specs.clone_core.Banked.{BankedClone, BankedAsker}
+use Rattle.node_model.specs.clone_core.Banked.{BankedClone}
 use Rattle.node_model.specs.shell_session.Shells.{FoundOnBanks, found_in}
 use Rattle.node_core.specs.declared.faults.NodeFault.{NodeFault}
 use Rattle.node_core.specs.declared.faults.NodeFault.TheVariants.{Device}

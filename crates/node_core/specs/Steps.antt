@@ -2,7 +2,6 @@
 use Rattle.std.specs.Prelude.{◌≡◌, ◌≢◌, ◌⊎◌, ℕ, Bool, true, false, List, [], ◌∷◌, Option, None, Some, Result, IsTrue}
 use Rattle.std.specs.List.{AllByRecursion}
 use Rattle.mld_io.specs.Disk.{Log}
-use Rattle.node_model.specs.clone_parts.KeptSteps.{KeptStep}
 use Rattle.wire_frames.specs.declared.assembling.Assembled.{Assembled}
 use Rattle.wire_frames.specs.declared.faults.AssemblyFault.{AssemblyFault}
 use Rattle.wire_frames.specs.declared.kinds.Fed.{Fed}
@@ -14,7 +13,6 @@ use Rattle.wire_frames.specs.MessageParts.{AssemblyValue, Assembles}
 use Rattle.node_model.specs.declared.connections.Connection.{Connection}
 use Rattle.node_model.specs.declared.connections.Role.{Role}
 use Rattle.node_model.specs.declared.connections.Role.TheVariants as role
-use Rattle.node_model.specs.declared.connections.Sent.{Sent}
 use Rattle.node_model.specs.Connections.{AreNumbered, connection_of, without, connections_with, opened, is_peer}
 use Rattle.node_model.specs.Exchanges.{ExchangeValue, says}
 use Rattle.node_core.specs.NodeDeeds.{NodeDoesBy}

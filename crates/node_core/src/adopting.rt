@@ -22,7 +22,7 @@ use std::alloc::{AllocError, Global};
 use std::thread::Threads;
 
 /// Receives a message while asking.
-pub(crate) fn receive_asking<R: Threads, B: Banks>(
+pub(crate) fn receive_asking<R: Threads + Sync, B: Banks>(
     rt: &R,
     alloc: Global,
     asker: Asker<B>,

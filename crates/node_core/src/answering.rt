@@ -1,5 +1,5 @@
 //! Requests that a live clone answers.
-ghost use Rattle.std.specs.Prelude.{◌≡◌, ◌≤◌, [], None, Some, length, OnOk, OnErr, IsErrOf};
+ghost use Rattle.std.specs.Prelude.{◌≡◌, [], None, Some, OnOk, OnErr, IsErrOf};
 ghost use Rattle.node_model.specs.journal_store.Closing.{StaysTold};
 ghost use Rattle.node_model.specs.shell_session.ReadShell.{IsShellInForm};
 ghost use Rattle.node_model.specs.shell_session.SessionLines.{Meters};
@@ -20,9 +20,11 @@ use node_model::clone_core::MldClone;
 use node_model::shell_session::{ShellCommand, do_live};
 use node_model::{Exchange, Request, read_request};
 use std::alloc::{AllocError, Global};
+use std::thread::Threads;
 
 /// Answers a request of the connection at hand on a live clone.
-pub(crate) fn answer_loan<B: Banks>(
+pub(crate) fn answer_loan<R: Threads + Sync, B: Banks>(
+    rt: &R,
     alloc: Global,
     clone: &mut MldClone<B>,
     line: &[u8],
@@ -41,11 +43,12 @@ pub(crate) fn answer_loan<B: Banks>(
 {
     let request = read_request(alloc, line, clone.domain())?;
     let number = greet_client(exchange);
-    do_request(alloc, clone, &request, number, exchange)
+    do_request(rt, alloc, clone, &request, number, exchange)
 }
 
 /// Does what was asked, and replies on the connection of this number.
-fn do_request<B: Banks>(
+fn do_request<R: Threads + Sync, B: Banks>(
+    rt: &R,
     alloc: Global,
     clone: &mut MldClone<B>,
     request: &Request,
@@ -63,7 +66,7 @@ fn do_request<B: Banks>(
     ensures fault { Meters (B.meter clone.old.banks) (B.meter clone.new.banks) (IsErrOf result NodeFault.Device) }
 {
     match request {
-        Request::Command(command) => do_command(alloc, clone, command, number, exchange),
+        Request::Command(command) => do_command(rt, alloc, clone, command, number, exchange),
         _ => {
             only_reply(alloc, clone, request, number, exchange)?;
             Ok(())
@@ -72,7 +75,8 @@ fn do_request<B: Banks>(
 }
 
 /// Does a command, and replies on the connection of this number once what it made went to each peer.
-fn do_command<B: Banks>(
+fn do_command<R: Threads + Sync, B: Banks>(
+    rt: &R,
     alloc: Global,
     clone: &mut MldClone<B>,
     command: &ShellCommand,
@@ -92,7 +96,7 @@ fn do_command<B: Banks>(
 {
     let kept = clone.journal().len();
     let mut text = Vec::new(alloc);
-    do_live(alloc, clone, command, &mut text)?;
+    do_live(rt, alloc, clone, command, &mut text)?;
     tell_made(clone, command, kept, exchange)?;
     say_reply(alloc, exchange, number, text.as_slice())?;
     Ok(())

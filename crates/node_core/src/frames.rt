@@ -32,7 +32,7 @@ use wire_frames::{Assembled, Assembly, AssemblyFault, Frame};
 /// # Errors
 ///
 /// `Device` where the device failed, and `NoMemory`. The banks are given back.
-pub(crate) fn take_frames<R: Threads, B: Banks>(
+pub(crate) fn take_frames<R: Threads + Sync, B: Banks>(
     rt: &R,
     alloc: Global,
     state: NodeState<B>,
@@ -68,7 +68,7 @@ pub(crate) fn take_frames<R: Threads, B: Banks>(
 /// # Errors
 ///
 /// `Device` where the device failed, and `NoMemory`. The banks are given back.
-fn take_frame<R: Threads, B: Banks>(
+fn take_frame<R: Threads + Sync, B: Banks>(
     rt: &R,
     alloc: Global,
     state: NodeState<B>,
@@ -91,7 +91,7 @@ fn take_frame<R: Threads, B: Banks>(
         Frame::Part(number, index, count, piece) => {
             take_part(rt, alloc, state, one, number, index, count, piece, exchange)
         }
-        Frame::Request(line) => take_request(alloc, state, one, line.as_slice(), exchange),
+        Frame::Request(line) => take_request(rt, alloc, state, one, line.as_slice(), exchange),
         Frame::Reply(_, _) => misplace(state, one, exchange),
         Frame::Refuse(_) => misplace(state, one, exchange),
     }
@@ -128,7 +128,8 @@ fn greet<B: Banks>(
 /// # Errors
 ///
 /// `Device` where the device failed, and `NoMemory`. The banks are given back.
-fn take_request<B: Banks>(
+fn take_request<R: Threads + Sync, B: Banks>(
+    rt: &R,
     alloc: Global,
     state: NodeState<B>,
     one: Connection,
@@ -147,7 +148,7 @@ fn take_request<B: Banks>(
         return misplace(state, one, exchange);
     }
     exchange.hold(one);
-    answer_request(alloc, state, line, exchange)
+    answer_request(rt, alloc, state, line, exchange)
 }
 
 /// Takes a part of a message, of a peer. A message that is whole then is received.
@@ -155,7 +156,7 @@ fn take_request<B: Banks>(
 /// # Errors
 ///
 /// `Device` where the device failed, and `NoMemory`. The banks are given back.
-fn take_part<R: Threads, B: Banks>(
+fn take_part<R: Threads + Sync, B: Banks>(
     rt: &R,
     alloc: Global,
     state: NodeState<B>,

@@ -29,7 +29,7 @@ use std::thread::Threads;
 ///
 /// `Device` where the device failed, and `NoMemory`. A live clone stops, and the banks are given back: the durable steps that were done
 /// stand on them. The exchange is of no use then.
-pub fn receive_message<R: Threads, B: Banks>(
+pub fn receive_message<R: Threads + Sync, B: Banks>(
     rt: &R,
     alloc: Global,
     state: NodeState<B>,
@@ -51,7 +51,7 @@ pub fn receive_message<R: Threads, B: Banks>(
 }
 
 /// Receives one on a live clone.
-fn receive_live<R: Threads, B: Banks>(
+fn receive_live<R: Threads + Sync, B: Banks>(
     rt: &R,
     alloc: Global,
     mut clone: MldClone<B>,
@@ -76,7 +76,7 @@ fn receive_live<R: Threads, B: Banks>(
 }
 
 /// Receives one on the loan of a live clone.
-fn receive_loan<R: Threads, B: Banks>(
+fn receive_loan<R: Threads + Sync, B: Banks>(
     rt: &R,
     alloc: Global,
     clone: &mut MldClone<B>,

@@ -56,7 +56,7 @@ impl<B: Banks> Node<B> {
     /// # Errors
     ///
     /// `Device` where the device failed, and `NoMemory`. The banks are given back.
-    pub fn on_event<R: Threads>(
+    pub fn on_event<R: Threads + Sync>(
         self,
         rt: &R,
         alloc: Global,
@@ -125,7 +125,7 @@ fn going_on<B: Banks>(taken: Taken<B>) -> (Node<B>, Vec<Sent>)
 /// # Errors
 ///
 /// `Device` where the device failed, and `NoMemory`. The banks are given back.
-fn do_event<R: Threads, B: Banks>(
+fn do_event<R: Threads + Sync, B: Banks>(
     rt: &R,
     alloc: Global,
     state: NodeState<B>,
@@ -217,7 +217,7 @@ fn fresh(alloc: Global, number: u32) -> Connection
 /// # Errors
 ///
 /// `Device` where the device failed, and `NoMemory`. The banks are given back.
-fn read<R: Threads, B: Banks>(
+fn read<R: Threads + Sync, B: Banks>(
     rt: &R,
     alloc: Global,
     state: NodeState<B>,

@@ -39,7 +39,7 @@ pub struct Rest {
 /// # Errors
 ///
 /// `Device` where the device failed, and `NoMemory`. The banks are given back.
-pub(crate) fn take_piece<R: Threads, B: Banks>(
+pub(crate) fn take_piece<R: Threads + Sync, B: Banks>(
     rt: &R,
     alloc: Global,
     state: NodeState<B>,
@@ -70,7 +70,7 @@ pub(crate) fn take_piece<R: Threads, B: Banks>(
 /// # Errors
 ///
 /// `Device` where the device failed, and `NoMemory`. The banks are given back.
-fn take_fed<R: Threads, B: Banks>(
+fn take_fed<R: Threads + Sync, B: Banks>(
     rt: &R,
     alloc: Global,
     state: NodeState<B>,

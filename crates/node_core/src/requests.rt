@@ -19,6 +19,7 @@ use mld_io::Banks;
 use node_model::clone_core::{Asker, MldClone};
 use node_model::{Exchange, Request, read_request};
 use std::alloc::{AllocError, Global};
+use std::thread::Threads;
 
 /// Answers a request of the connection at hand, which is a client's then: what it made goes to each peer, and then the reply goes out,
 /// once the durable steps stand on the banks. `halt` ends the node; while asking, any other line of the grammar has to wait.
@@ -27,7 +28,8 @@ use std::alloc::{AllocError, Global};
 ///
 /// `Device` where the device failed, and `NoMemory`. A live clone stops, and the banks are given back: the durable steps that were done
 /// stand on them. The exchange is of no use then.
-pub fn answer_request<B: Banks>(
+pub fn answer_request<R: Threads + Sync, B: Banks>(
+    rt: &R,
     alloc: Global,
     state: NodeState<B>,
     line: &[u8],
@@ -43,13 +45,14 @@ pub fn answer_request<B: Banks>(
     ensures fault { Meters (B.meter (state_banks state)) (B.meter (state_banks_after result)) (StateFailsOnDevice result) }
 {
     match state {
-        NodeState::Live(clone) => answer_live(alloc, clone, line, exchange),
+        NodeState::Live(clone) => answer_live(rt, alloc, clone, line, exchange),
         NodeState::Asking(asker) => answer_asking(alloc, asker, line, exchange),
     }
 }
 
 /// Answers one on a live clone.
-fn answer_live<B: Banks>(
+fn answer_live<R: Threads + Sync, B: Banks>(
+    rt: &R,
     alloc: Global,
     mut clone: MldClone<B>,
     line: &[u8],
@@ -64,7 +67,7 @@ fn answer_live<B: Banks>(
     ensures told { StaysTold (B.log clone.banks) (B.log (state_banks_after result)) }
     ensures fault { Meters (B.meter clone.banks) (B.meter (state_banks_after result)) (StateFailsOnDevice result) }
 {
-    match answer_loan(alloc, &mut clone, line, exchange) {
+    match answer_loan(rt, alloc, &mut clone, line, exchange) {
         Ok(()) => {
             clone.tell_banks_keep();
             Ok(NodeState::Live(clone))

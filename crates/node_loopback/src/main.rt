@@ -5,22 +5,30 @@
 
 mod client;
 mod nodes;
+mod places;
 
-use client::Client;
-use nodes::{RunningNode, random_number};
+use client::ask;
+use nodes::{call, end, halt, spawn};
+use places::random_number;
 use std::alloc::{Alloc, Global};
 use std::env::{self, Env};
 use std::fs::Files;
 use std::io::{self, ErrorKind, Print};
-use std::net::{Net, TcpListener, TcpStream};
-use std::process::{ExitCode, OpenProcess, Processes};
+use std::net::{Net, TcpStream};
+use std::process::{Child, ExitCode, Processes};
 use std::random::RandomSource;
 use std::thread;
 use std::time::{Clock, Duration};
 use tcp_node::run_process;
 
-/// The triple that is added at one node and found at the other.
+/// The triple that is found at the second node.
 const TRIPLE: &str = "<http://d/a> <http://d/#p> \"x\" .";
+
+/// The line that adds it at the first one.
+const ADD: &str = "add <http://d/a> <http://d/#p> \"x\" .";
+
+/// How often both nodes are started at most, each time at other addresses.
+const STARTS: u32 = 5;
 
 /// How often the second node is asked at most.
 const ASKS: u32 = 2_000;
@@ -29,8 +37,7 @@ const ASKS: u32 = 2_000;
 pub const PAUSE: u64 = 20;
 
 fn main(rt: HostRuntime) -> ExitCode {
-    // Words that are no text are the node's to refuse.
-    if env::args(&rt).map_or(true, |words| words.count() > 1) {
+    if has_words(&rt) {
         return ExitCode::from(run_process(&rt));
     }
     match run_both(&rt) {
@@ -43,74 +50,122 @@ fn main(rt: HostRuntime) -> ExitCode {
     }
 }
 
-/// Starts the first node, of a domain that no other run has, and ends it where the rest fails.
+/// Whether the program was given words. Words that are no text are the node's to refuse.
+fn has_words<R: Alloc<A = Global> + Env>(rt: &R) -> bool {
+    match env::args(rt) {
+        Ok(words) => words.count() > 1,
+        Err(_) => true,
+    }
+}
+
+/// Runs two nodes of a domain that no other run has, and again where the address of one wasn't its own.
 fn run_both<
     R: Alloc<A = Global>
         + Clock
         + Env
         + Files
-        + Net<Stream = TcpStream, Listener = TcpListener>
+        + Net<Stream = TcpStream>
         + Print
         + Processes
         + RandomSource,
 >(rt: &R) -> io::Result<()> {
-    let domain = format!(in rt.alloc(); "d{:032x}", random_number(rt)?)?;
-    let mut first = RunningNode::start(rt, domain.as_str(), None)?;
-    let result = run_second(rt, domain.as_str(), &mut first);
-    if result.is_err() {
-        first.kill(rt);
+    for _ in 0..STARTS {
+        let domain = random_number(rt)?;
+        let first = random_number(rt)?;
+        let second = random_number(rt)?;
+        if run_first(rt, domain, first, second)? {
+            return Ok(());
+        }
     }
-    result
+    Err(ErrorKind::AddrInUse.into())
 }
 
-/// Starts the second node, which joins the first, and ends it where the rest fails.
+/// Runs the first node, which begins the domain, and ends it however the rest ended; whether each node had an address of its own.
+fn run_first<
+    R: Alloc<A = Global> + Clock + Env + Files + Net<Stream = TcpStream> + Print + Processes,
+>(rt: &R, domain: u128, first: u128, second: u128) -> io::Result<bool> {
+    let mut child = spawn(rt, domain, first, None)?;
+    let is_run = match call(rt, first, &mut child) {
+        Ok(Some(mut near)) => run_second(rt, domain, first, second, &mut child, &mut near),
+        Ok(None) => Ok(false),
+        Err(error) => Err(error),
+    };
+    end(rt, &mut child, first, is_run)
+}
+
+/// Runs the second node, which joins the first, and ends it however the rest ended; whether it had an address of its own.
 fn run_second<
-    R: Alloc<A = Global>
-        + Clock
-        + Env
-        + Files
-        + Net<Stream = TcpStream, Listener = TcpListener>
-        + Print
-        + Processes
-        + RandomSource,
->(rt: &R, domain: &str, first: &mut RunningNode<R::Started>) -> io::Result<()> {
-    let mut second = RunningNode::start(rt, domain, Some(first.address()))?;
-    let result = pass_triple(rt, first, &mut second);
-    if result.is_err() {
-        second.kill(rt);
-    }
-    result
+    R: Alloc<A = Global> + Clock + Env + Files + Net<Stream = TcpStream> + Print + Processes,
+>(
+    rt: &R,
+    domain: u128,
+    first: u128,
+    second: u128,
+    begun: &mut Child<R::Started>,
+    near: &mut TcpStream,
+) -> io::Result<bool> {
+    let mut child = spawn(rt, domain, second, Some(first))?;
+    let is_run = match call(rt, second, &mut child) {
+        Ok(Some(mut far)) => lead_both(rt, begun, near, &mut child, &mut far),
+        Ok(None) => Ok(false),
+        Err(error) => Err(error),
+    };
+    end(rt, &mut child, second, is_run)
 }
 
 /// Adds the triple at the first node, finds it at the second, and halts both.
-fn pass_triple<R: Alloc<A = Global> + Clock + Files + Print, P: OpenProcess + Drop>(
+fn lead_both<R: Alloc<A = Global> + Clock + Print + Processes>(
     rt: &R,
-    first: &mut RunningNode<P>,
-    second: &mut RunningNode<P>,
+    first: &mut Child<R::Started>,
+    near: &mut TcpStream,
+    second: &mut Child<R::Started>,
+    far: &mut TcpStream,
+) -> io::Result<bool> {
+    let mut reply = Vec::new(rt.alloc());
+    pass_triple(rt, near, far, &mut reply)?;
+    let first = halt(rt, first, near, &mut reply)?;
+    let second = halt(rt, second, far, &mut reply)?;
+    println!(rt; "halted {first} {second}")?;
+    Ok(true)
+}
+
+/// Adds the triple at a node, and finds it at another.
+fn pass_triple<R: Clock + Print>(
+    rt: &R,
+    near: &mut TcpStream,
+    far: &mut TcpStream,
+    reply: &mut Vec<u8>,
 ) -> io::Result<()> {
-    let line = format!(in rt.alloc(); "add {TRIPLE}")?;
-    let reply = first.client.ask(rt.alloc(), line.as_str())?;
+    ask(near, reply, ADD)?;
     if !reply.starts_with(b"did ") {
         return Err(ErrorKind::InvalidData.into());
     }
-    find(rt, &mut second.client)?;
-    println!(rt; "found {TRIPLE}")?;
-    let (near, far) = (first.halt(rt)?, second.halt(rt)?);
-    println!(rt; "halted {near} {far}")
+    find(rt, far, reply)?;
+    println!(rt; "found {TRIPLE}")
 }
 
 /// Asks a node for what its peers know until it shows the triple.
-fn find<R: Alloc<A = Global> + Clock>(rt: &R, client: &mut Client) -> io::Result<()> {
+fn find<R: Clock>(rt: &R, far: &mut TcpStream, reply: &mut Vec<u8>) -> io::Result<()> {
     for _ in 0..ASKS {
-        client.ask(rt.alloc(), "ask")?;
-        let shown = client.ask(rt.alloc(), "show")?;
-        if shown
-            .split(|byte| *byte == b'\n')
-            .any(|line| line.ends_with(TRIPLE.as_bytes()))
-        {
+        ask(far, reply, "ask")?;
+        ask(far, reply, "show")?;
+        if shows_triple(reply) {
             return Ok(());
         }
         thread::sleep(rt, Duration::from_millis(PAUSE));
     }
     Err(ErrorKind::TimedOut.into())
+}
+
+/// Whether a line of what a node showed ends with the triple.
+fn shows_triple(shown: &[u8]) -> bool {
+    let Ok(text) = str::from_utf8(shown) else {
+        return false;
+    };
+    for line in text.lines() {
+        if line.ends_with(TRIPLE) {
+            return true;
+        }
+    }
+    false
 }

@@ -1,195 +1,170 @@
 //! Nodes that this program starts as processes of its own.
 
 use crate::PAUSE;
-use crate::client::Client;
-use std::alloc::{Alloc, Global};
-use std::env::{self, Env};
+use crate::client::{ask, is_greeted};
+use crate::places::{port_of, put_address, put_folder, put_number};
+use std::alloc::{Alloc, AllocError, Global};
+use std::env::Env;
 use std::fs::{self, Files};
 use std::io::{self, ErrorKind};
-use std::net::{Net, SocketAddr, TcpListener, TcpStream};
-use std::path::PathBuf;
-use std::process::{Child, Command, ExitStatus, OpenProcess, Processes};
-use std::random::RandomSource;
+use std::net::{IpAddr, Ipv4Addr, Net, SocketAddr, TcpStream};
+use std::process::{Child, Command, OpenProcess, Processes};
 use std::thread;
-use std::time::{Clock, Duration, Instant};
+use std::time::{Clock, Duration};
 
-/// How often a node is started at most. An address that was free may be taken in between.
-const STARTS: u32 = 5;
+/// This program itself.
+const PROGRAM: &str = "/proc/self/exe";
 
 /// How often a node that was started is called at most, or is looked at whether it ended.
 const TRIES: u32 = 3_000;
 
-/// For how many seconds it is called at most.
-const CALL_LIMIT: u64 = 60;
+/// How many seconds a connection and one read wait.
+const PATIENCE: u64 = 60;
 
-/// A node that runs, and a client of it.
-#[derive(Drop)]
-pub struct RunningNode<P: OpenProcess> {
-    child: Child<P>,
-    folder: PathBuf,
-    address: String,
-    /// A client of it, which it greeted.
-    pub client: Client,
-}
-
-impl<P: OpenProcess + Drop> RunningNode<P> {
-    /// Starts a node of a domain, as one that joins the node at an address, or as one that begins
-    /// the domain. Its id is one that no other node has, and its folder is named by that.
-    pub fn start<R>(rt: &R, domain: &str, peer: Option<&str>) -> io::Result<RunningNode<P>>
-    where
-        R: Alloc<A = Global>
-            + Clock
-            + Env
-            + Files
-            + Net<Stream = TcpStream, Listener = TcpListener>
-            + Processes<Started = P>
-            + RandomSource,
-    {
-        for _ in 0..STARTS {
-            let id = random_number(rt)?;
-            let folder = folder_of(rt, id)?;
-            let address = format!(in rt.alloc(); "{}", free_address(rt)?)?;
-            let mut command = node_command(rt, id, domain, &folder, address.as_str())?;
-            give_role(&mut command, peer)?;
-            let mut child = command.spawn(rt)?;
-            match call(rt, address.as_str(), id, &mut child) {
-                Ok(Some(client)) => {
-                    return Ok(RunningNode {
-                        child,
-                        folder,
-                        address,
-                        client,
-                    });
-                }
-                Ok(None) => remove_folder(rt, &folder)?,
-                Err(error) => {
-                    end(rt, &mut child, &folder);
-                    return Err(error);
-                }
-            }
-        }
-        Err(ErrorKind::AddrInUse.into())
-    }
-
-    /// The address that it listens on.
-    pub fn address(&self) -> &str {
-        self.address.as_str()
-    }
-
-    /// Ends it at once, in whatever state it is, and removes its folder.
-    pub fn kill<R: Alloc<A = Global> + Files>(&mut self, rt: &R) {
-        end(rt, &mut self.child, &self.folder);
-    }
-
-    /// Halts it, gives the status by which it ended, and removes its folder.
-    pub fn halt<R: Alloc<A = Global> + Clock + Files>(&mut self, rt: &R) -> io::Result<i32> {
-        let reply = self.client.ask(rt.alloc(), "halt")?;
-        if reply.as_slice() != b"stopped\n".as_slice() {
-            return Err(ErrorKind::InvalidData.into());
-        }
-        let status = await_end(rt, &mut self.child)?;
-        remove_folder(rt, &self.folder)?;
-        status.code().ok_or(ErrorKind::InvalidData.into())
-    }
-}
-
-/// Ends a process at once, and removes its folder. One that has ended stays so.
-fn end<R: Alloc<A = Global> + Files, P: OpenProcess>(
+/// Starts the node with an id in a domain, as one that joins the node with another id, or else as one that begins the domain.
+pub fn spawn<R: Alloc<A = Global> + Env + Processes>(
     rt: &R,
-    child: &mut Child<P>,
-    folder: &PathBuf,
-) {
-    // Where one of these fails there is nothing else to be done.
-    let _ = child.kill();
-    let _ = child.wait();
-    let _ = remove_folder(rt, folder);
-}
-
-/// The status of a process that is about to end.
-fn await_end<R: Clock, P: OpenProcess>(rt: &R, child: &mut Child<P>) -> io::Result<ExitStatus> {
-    for _ in 0..TRIES {
-        if let Some(status) = child.try_wait()? {
-            return Ok(status);
-        }
-        thread::sleep(rt, Duration::from_millis(PAUSE));
-    }
-    Err(ErrorKind::TimedOut.into())
-}
-
-/// A number that no other run has.
-pub fn random_number<R: RandomSource>(rt: &R) -> io::Result<u128> {
-    let mut bytes = [0u8; 16];
-    rt.fill_bytes(&mut bytes)?;
-    Ok(u128::from_be_bytes(bytes))
-}
-
-/// An address of loopback where nobody listens.
-fn free_address<R: Net<Stream = TcpStream, Listener = TcpListener>>(
-    rt: &R,
-) -> io::Result<SocketAddr> {
-    TcpListener::bind(rt, "127.0.0.1:0")?.local_addr()
-}
-
-/// The name of the folder of the node with this id. Nothing is there yet.
-fn folder_of<R: Alloc<A = Global> + Env>(rt: &R, id: u128) -> io::Result<PathBuf> {
-    let mut folder = env::temp_dir(rt)?;
-    folder.push(format!(in rt.alloc(); "node_loopback.{id:032x}")?)?;
-    Ok(folder)
-}
-
-/// Removes a folder, where it is there.
-fn remove_folder<R: Alloc<A = Global> + Files>(rt: &R, folder: &PathBuf) -> io::Result<()> {
-    match fs::remove_dir_all(rt, folder) {
-        Err(error) if error.kind() != ErrorKind::NotFound => Err(error),
-        _ => Ok(()),
-    }
-}
-
-/// This program as a node, whose role isn't given yet.
-fn node_command<R: Alloc<A = Global> + Files>(
-    rt: &R,
+    domain: u128,
     id: u128,
-    domain: &str,
-    folder: &PathBuf,
-    address: &str,
-) -> io::Result<Command<Global>> {
-    let alloc = rt.alloc();
-    let mut command = Command::new(alloc, env::current_exe(rt)?)?;
-    command.arg("--id")?.arg(format!(in alloc; "{id:032x}")?)?;
-    command.arg("--domain")?.arg(domain)?;
-    command.arg("--dir")?.arg(folder)?;
-    command.arg("--listen")?.arg(address)?;
-    Ok(command)
+    peer: Option<u128>,
+) -> io::Result<Child<R::Started>> {
+    let mut words = String::new(rt.alloc());
+    put_words(&mut words, domain, id, peer)?;
+    put_folder(rt, &mut words, id)?;
+    start(rt, words.as_str())
 }
 
-/// Gives the node its role: it joins the node at an address, or begins the domain.
-fn give_role(command: &mut Command<Global>, peer: Option<&str>) -> io::Result<()> {
-    command.arg("--role")?;
+/// Puts the words that a node is started with, each a line, but for its folder, which is named last.
+fn put_words(
+    words: &mut String,
+    domain: u128,
+    id: u128,
+    peer: Option<u128>,
+) -> Result<(), AllocError> {
+    words.push_str("--id\n")?;
+    put_number(words, id)?;
+    words.push_str("\n--domain\nd")?;
+    put_number(words, domain)?;
+    words.push_str("\n--listen\n")?;
+    put_address(words, id)?;
     match peer {
-        Some(address) => command.arg("join")?.arg("--peer")?.arg(address)?,
-        None => command.arg("genesis")?,
-    };
+        Some(peer) => {
+            words.push_str("\n--role\njoin\n--peer\n")?;
+            put_address(words, peer)?;
+        }
+        None => words.push_str("\n--role\ngenesis")?,
+    }
+    words.push_str("\n--dir\n")?;
     Ok(())
 }
 
-/// A client of a node that was started, or none where the node ended before.
-fn call<R, P>(rt: &R, address: &str, id: u128, child: &mut Child<P>) -> io::Result<Option<Client>>
-where
-    R: Alloc<A = Global> + Clock + Net<Stream = TcpStream>,
-    P: OpenProcess + Drop,
-{
-    let start = Instant::now(rt)?;
+/// Starts this program with words, each a line.
+fn start<R: Alloc<A = Global> + Processes>(rt: &R, words: &str) -> io::Result<Child<R::Started>> {
+    let command = Command::new(rt.alloc(), PROGRAM)?;
+    let mut command = Box::new(rt.alloc(), command)?;
+    give(&mut command, words)?;
+    command.spawn(rt)
+}
+
+/// Gives a command words, each a line.
+fn give(command: &mut Command<Global>, words: &str) -> Result<(), AllocError> {
+    for word in words.lines() {
+        command.arg(word)?;
+    }
+    Ok(())
+}
+
+/// A connection to a node that was started, or none where the node ended before.
+pub fn call<R: Alloc<A = Global> + Clock + Net<Stream = TcpStream>, P: OpenProcess>(
+    rt: &R,
+    id: u128,
+    child: &mut Child<P>,
+) -> io::Result<Option<TcpStream>> {
     for _ in 0..TRIES {
         if child.try_wait()?.is_some() {
             return Ok(None);
         }
-        if let Ok(client) = Client::connect(rt, rt.alloc(), address, &id.to_be_bytes()) {
-            return Ok(Some(client));
-        }
-        if start.elapsed(rt)? >= Duration::from_secs(CALL_LIMIT) {
-            break;
+        if let Some(stream) = connect(rt, id)? {
+            return Ok(Some(stream));
         }
         thread::sleep(rt, Duration::from_millis(PAUSE));
     }
     Err(ErrorKind::TimedOut.into())
+}
+
+/// A connection to the node with this id, or none where nobody or another one is there.
+fn connect<R: Alloc<A = Global> + Net<Stream = TcpStream>>(
+    rt: &R,
+    id: u128,
+) -> io::Result<Option<TcpStream>> {
+    let address = SocketAddr::new(IpAddr::V4(Ipv4Addr::LOCALHOST), port_of(id));
+    match TcpStream::connect_timeout(rt, &address, Duration::from_secs(PATIENCE)) {
+        Ok(mut stream) => {
+            if greets(rt.alloc(), &mut stream, id)? {
+                Ok(Some(stream))
+            } else {
+                Ok(None)
+            }
+        }
+        Err(_) => Ok(None),
+    }
+}
+
+/// Whether the node with this id is at the other end. That it says nothing for long is an error.
+fn greets(alloc: Global, stream: &mut TcpStream, id: u128) -> io::Result<bool> {
+    stream.set_read_timeout(Some(Duration::from_secs(PATIENCE)))?;
+    let mut frame = Vec::new(alloc);
+    match is_greeted(stream, &mut frame, id) {
+        Ok(is_so) => Ok(is_so),
+        Err(error) => match error.kind() {
+            ErrorKind::TimedOut | ErrorKind::WouldBlock => Err(error),
+            _ => Ok(false),
+        },
+    }
+}
+
+/// Halts a node, and gives the status by which it ended.
+pub fn halt<R: Clock, P: OpenProcess>(
+    rt: &R,
+    child: &mut Child<P>,
+    stream: &mut TcpStream,
+    reply: &mut Vec<u8>,
+) -> io::Result<i32> {
+    ask(stream, reply, "halt")?;
+    if reply.as_slice() != b"stopped\n".as_slice() {
+        return Err(ErrorKind::InvalidData.into());
+    }
+    for _ in 0..TRIES {
+        if let Some(status) = child.try_wait()? {
+            return status.code().ok_or(ErrorKind::InvalidData.into());
+        }
+        thread::sleep(rt, Duration::from_millis(PAUSE));
+    }
+    Err(ErrorKind::TimedOut.into())
+}
+
+/// Ends a node in whatever state it is, removes its folder, and hands on what its run gave, or else the first error.
+pub fn end<R: Alloc<A = Global> + Env + Files, P: OpenProcess>(
+    rt: &R,
+    child: &mut Child<P>,
+    id: u128,
+    given: io::Result<bool>,
+) -> io::Result<bool> {
+    // One that has ended stays so, and where one can't be ended there is nothing else to be done.
+    let _ = child.kill();
+    let _ = child.wait();
+    let removed = remove_folder(rt, id);
+    let is_run = given?;
+    removed?;
+    Ok(is_run)
+}
+
+/// Removes the folder of the node with this id, where it is there.
+fn remove_folder<R: Alloc<A = Global> + Env + Files>(rt: &R, id: u128) -> io::Result<()> {
+    let mut folder = String::new(rt.alloc());
+    put_folder(rt, &mut folder, id)?;
+    match fs::remove_dir_all(rt, folder.as_str()) {
+        Err(error) if error.kind() != ErrorKind::NotFound => Err(error),
+        _ => Ok(()),
+    }
 }

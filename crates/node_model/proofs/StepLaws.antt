@@ -8,7 +8,7 @@ use Rattle.mld_ops.specs.declared.messages.Message.{Message}
 use Rattle.mld_ops.specs.declared.messages.Message.TheVariants as kind
 use Rattle.shell_session.specs.journal_sides.Heads.{HeadValue}
 use Rattle.mld_model.specs.Local.{LocalClone, LocalAsker, LocallyHolds}
-use Rattle.shell_session.specs.clone_parts.KeptSteps.{KeptStep, Appended, appends}
+use Rattle.shell_session.specs.clone_parts.KeptSteps.{KeptStep, appends}
 use Rattle.shell_session.specs.clone_parts.declared.answers.Got.{Got}
 use Rattle.shell_session.specs.clone_parts.declared.answers.Got.TheVariants as got
 use Rattle.shell_session.specs.clone_parts.declared.faults.ReceiveFault.{ReceiveFault}
@@ -16,10 +16,10 @@ use Rattle.shell_session.specs.clone_parts.declared.faults.ReceiveFault.TheVaria
 use Rattle.shell_session.specs.clone_core.Banked.{head_of}
 use Rattle.shell_session.specs.clone_core.CloneCalls.{LocallyReceives}
 use Rattle.shell_session.specs.clone_core.DurableCalls.{ReceivedSteps, merged_steps}
-use Rattle.shell_session.specs.Shells.{FoundOnBanks, Stored, found_after, generation_after}
+use Rattle.shell_session.specs.Shells.{Stored, found_after, generation_after}
 use Rattle.shell_session.proofs.RunLaws.{live_step, live_found, found_both, same_head}
 use Rattle.wire_frames.specs.declared.kinds.Frame.{Frame}
-use Rattle.wire_frames.specs.declared.kinds.Frame.TheVariants.{Hello, Part, Request, Reply, Refuse}
+use Rattle.wire_frames.specs.declared.kinds.Frame.TheVariants.{Hello, Part, Request}
 use Rattle.node_model.specs.declared.requests.Request.TheVariants as request
 use Rattle.node_model.specs.declared.requests.Request.{Request as RequestValue}
 use Rattle.node_model.specs.declared.connections.Connection.{Connection}

@@ -1,12 +1,12 @@
 -- What a node does with the frames of a connection, one after another.
-use Rattle.std.specs.Prelude.{◌≡◌, ◌≢◌, ℕ, if◌then◌else◌, ◌⊎◌, Bool, true, false, List, [], ◌∷◌, ◌++◌, Option, None, Some, Result, Ok, Err}
+use Rattle.std.specs.Prelude.{◌≡◌, ◌≢◌, ℕ, if◌then◌else◌, ◌⊎◌, true, false, List, [], ◌∷◌, ◌++◌, Option, None, Some, Ok, Err}
 use Rattle.mld_ops.specs.declared.messages.Message.{Message}
 use Rattle.shell_session.specs.clone_parts.KeptSteps.{KeptStep}
 use Rattle.wire_frames.specs.declared.faults.AssemblyFault.TheVariants.{BadPart}
 use Rattle.wire_frames.specs.declared.faults.FrameFault.{FrameFault}
 use Rattle.wire_frames.specs.declared.faults.FrameFault.TheVariants.{BadFrame, TooLong}
 use Rattle.wire_frames.specs.declared.kinds.Frame.{Frame}
-use Rattle.wire_frames.specs.declared.kinds.Frame.TheVariants.{Hello, Part, Request, Reply, Refuse}
+use Rattle.wire_frames.specs.declared.kinds.Frame.TheVariants.{Hello, Part, Request}
 use Rattle.wire_frames.specs.declared.assembling.Assembled.TheVariants.{Waiting, Whole}
 use Rattle.wire_frames.specs.Frames.{hello_format}
 use Rattle.wire_frames.specs.MessageParts.{AssemblyValue, Assembles}

@@ -1,5 +1,5 @@
 -- What a node has beside its connections: a live clone, or one who asks for a leaf.
-use Rattle.std.specs.Prelude.{ℕ, List, [], ◌∷◌, ◌++◌}
+use Rattle.std.specs.Prelude.{ℕ, List, [], ◌∷◌}
 use Rattle.mld_ops.specs.Messages.{MessageValue, CarriesEntry, CarriesWant, CarriesAsk}
 use Rattle.mld_model.specs.Local.{LocalClone, LocalAsker}
 use Rattle.shell_session.specs.clone_parts.KeptSteps.{KeptStep, Created, Appended, Forked, Swapped}

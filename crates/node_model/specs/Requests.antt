@@ -1,5 +1,5 @@
 -- What a node does for a request.
-use Rattle.std.specs.Prelude.{◌≡◌, ℕ, List, [], ◌∷◌, ◌++◌, Some, codes}
+use Rattle.std.specs.Prelude.{◌≡◌, ℕ, List, [], codes}
 use Rattle.mld_ops.specs.Messages.{CarriesWant}
 use Rattle.mld_model.specs.Local.{LocalClone}
 use Rattle.shell_session.specs.clone_parts.KeptSteps.{KeptStep}

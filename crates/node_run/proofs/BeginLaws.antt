@@ -1,13 +1,12 @@
 -- What mounts and makings of clones tell is how a node begins.
-use Rattle.std.proofs.Common.{◌≡◌, ℕ, Bool, true, false, List, [], ◌∷◌, Option, None, Some, IfOk, IfErr, Result, Ok, Err, inl, inr, refl, sym, ◌∙◌, ap, subst}
+use Rattle.std.proofs.Common.{◌≡◌, ℕ, true, false, List, [], ◌∷◌, Option, None, Some, IfOk, IfErr, Result, Ok, Err, inl, inr, refl, sym, ◌∙◌, ap, subst}
 use Rattle.mld_io.specs.Arm.{Meter, Metered}
 use Rattle.mld_io.specs.Disk.{Log, Sides, seen}
-use Rattle.mld_io.specs.declared.banks.Side.{Side}
 use Rattle.rdf_terms.specs.Order.{iri_cmp}
 use Rattle.mld_ops.specs.Properties.{AreKept}
 use Rattle.mld_ops.proofs.AscendingLaws.{same_ascending}
 use Rattle.mld_ops.proofs.PropertiesLaws.{iri_total, iri_exact}
-use Rattle.node_core.specs.journal_sides.Pairs.{KeepsNone, Damages, read_banks}
+use Rattle.node_core.specs.journal_sides.Pairs.{KeepsNone, read_banks}
 use Rattle.node_core.specs.journal_store.Crashes.{LeavesNothingNew}
 use Rattle.node_core.specs.journal_store.Mounting.{IsSynced}
 use Rattle.node_core.specs.journal_store.Standing.{KeepsNothing}
@@ -21,7 +20,7 @@ use Rattle.node_core.specs.clone_core.Banked.{BankedClone, BankedAsker, KeepsClo
 use Rattle.node_core.specs.clone_core.DurableCalls.{Creates}
 use Rattle.node_core.specs.clone_core.Opening.{IsFoundAs, RunsAgain, TellsClone, SyncsBoth, mount_calls}
 use Rattle.node_core.specs.clone_core.declared.mounts.Mounted.TheVariants.{Refused}
-use Rattle.node_core.specs.shell_session.Shells.{FoundOnBanks, Nothing, Damage, found_in}
+use Rattle.node_core.specs.shell_session.Shells.{FoundOnBanks, Nothing, found_in}
 use Rattle.node_core.specs.shell_session.ShellStep.{first_clone}
 use Rattle.node_core.specs.shell_session.Sessions.{HasFound, HasKept}
 use Rattle.node_core.specs.shell_session.SessionLines.{ImagesFind, LeavesFront, Meters}
@@ -29,14 +28,14 @@ use Rattle.node_core.proofs.of_shell_session.Moments.{found_with, same_front, no
 use Rattle.node_run.specs.declared.node.NodeWords.{NodeWords}
 use Rattle.node_core.specs.declared.states.NodeState.{NodeState}
 use Rattle.node_core.specs.declared.states.NodeState.TheVariants as states
-use Rattle.node_core.specs.NodeStates.{state_banks, keeper_of, IsOpen}
+use Rattle.node_core.specs.NodeStates.{state_banks, IsOpen}
 use Rattle.node_core.specs.node_model.Keepers.{Keeper, Lives, Asks}
 use Rattle.node_run.specs.declared.stops.NodeStop.{NodeStop}
 use Rattle.node_run.specs.declared.stops.NodeStop.TheVariants as stops
 use Rattle.node_run.specs.ServiceStatuses.{stop_of_make, stop_of_mount, IsAtFirst}
-use Rattle.node_run.specs.Start.{Begins, founds, asks, runs_again, IsDueAtFirst, IsOther}
+use Rattle.node_run.specs.Start.{Begins, founds, asks, runs_again, IsOther}
 use Rattle.node_core.specs.shell_session.RunEnds.{LeavesDone}
-use Rattle.node_run.specs.NodeBegun.{BeginsOn, FallsShort, StaysFound, BeginsShort, IsOfWords, RunsAsFound, RefusesOther, found_on, banks_begun, FailsToBegin}
+use Rattle.node_run.specs.NodeBegun.{BeginsOn, FallsShort, BeginsShort, IsOfWords, RunsAsFound, RefusesOther, found_on, banks_begun, FailsToBegin}
 use Rattle.node_core.proofs.of_shell_session.MeterLaws.{meters_of, meters_as}
 use Rattle.node_run.proofs.FrontLaws.{leaves_first}
 

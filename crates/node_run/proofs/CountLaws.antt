@@ -1,5 +1,5 @@
 -- The counts of a wire's faults.
-use Rattle.std.proofs.Common.{◌≡◌, ℕ, ◌∙◌, refl, sym, ap, subst, Option, Some, Result, Err, Ok}
+use Rattle.std.proofs.Common.{◌≡◌, ℕ, refl, subst, Option, Some, Err}
 use Rattle.mld_io.specs.Faults.{HasSinkCause}
 use Rattle.mld_io.specs.declared.faults.IoFault.{IoFault}
 use Rattle.mld_io.specs.declared.faults.IoFault.TheVariants as io

@@ -1,16 +1,13 @@
 -- How a run ends before its first event, and what it tells then.
-use Rattle.std.proofs.Common.{◌≡◌, ℕ, List, [], ◌∷◌, Option, None, Some, Result, Err, refl, subst}
-use Rattle.mld_io.specs.Arm.{Meter}
+use Rattle.std.proofs.Common.{◌≡◌, ℕ, List, Option, Some, Result, Err, refl, subst}
 use Rattle.mld_io.specs.Disk.{Log}
 use Rattle.mld_io.specs.Wires.{WireLog}
 use Rattle.node_core.specs.shell_session.Shells.{FoundOnBanks}
-use Rattle.node_core.specs.shell_session.SessionLines.{Meters}
 use Rattle.node_core.specs.shell_session.RunEnds.{TellsUsage}
 use Rattle.node_run.specs.declared.node.NodeWords.{NodeWords}
 use Rattle.node_run.specs.declared.faults.NodeWordsFault.{NodeWordsFault}
 use Rattle.node_run.specs.declared.faults.NodeWordsFault.TheVariants as words_faults
 use Rattle.node_run.specs.Words.{AreWords}
-use Rattle.node_core.proofs.of_shell_session.MeterLaws.{meters_as}
 use Rattle.node_run.specs.declared.stops.NodeStop.{NodeStop}
 use Rattle.node_run.specs.declared.stops.NodeStop.TheVariants as stops
 use Rattle.node_run.specs.ServiceStatuses.{stop_of_words, IsOfTurns, IsAtFirst, CountsWire}

@@ -1,5 +1,5 @@
 -- A run of the node from event to event, and how it ends.
-use Rattle.std.proofs.Common.{◌≡◌, ◌⊎◌, ℕ, zero, suc, ◌+◌, ◌<◌, ◌≤◌, Bool, true, false, List, [], ◌∷◌, ◌++◌, refl, sym, ◌∙◌, ap, arith, subst, inl, inr, length, Option, None, Some, append_assoc, append-nil, length-append}
+use Rattle.std.proofs.Common.{◌≡◌, ◌⊎◌, ℕ, zero, suc, ◌+◌, ◌<◌, ◌≤◌, Bool, false, List, [], ◌∷◌, ◌++◌, refl, sym, ◌∙◌, ap, arith, subst, inl, inr, length, Option, None, Some, append_assoc, append-nil, length-append}
 use Rattle.std.specs.Prelude.{option_map, unwrap_or}
 use Rattle.mld_io.specs.declared.events.Event.{Event}
 use Rattle.mld_io.specs.declared.events.WireCall.TheVariants.{Took}
@@ -9,7 +9,7 @@ use Rattle.node_core.specs.journal_store.Closing.{StaysTold}
 use Rattle.node_core.specs.clone_parts.KeptSteps.{KeptStep}
 use Rattle.node_core.specs.shell_session.Shells.{FoundOnBanks, Stored, found_after}
 use Rattle.node_core.proofs.of_shell_session.RunLaws.{found_both}
-use Rattle.node_core.specs.shell_session.SessionLines.{ImagesFind, LeavesFront, LeavesFrontOfDue}
+use Rattle.node_core.specs.shell_session.SessionLines.{ImagesFind, LeavesFront}
 use Rattle.node_run.specs.declared.node.NodeWords.{NodeWords}
 use Rattle.node_run.specs.Words.{AreWords}
 use Rattle.node_core.specs.node_model.declared.connections.Sent.{Sent}
@@ -25,7 +25,7 @@ use Rattle.node_run.specs.declared.stops.NodeStop.{NodeStop}
 use Rattle.node_run.specs.declared.stops.NodeStop.TheVariants as stops
 use Rattle.node_run.specs.Start.{Begins, founds, asks, runs_again, fresh_node}
 use Rattle.node_run.specs.NodeBegun.{BeginsOn}
-use Rattle.node_run.specs.ServiceEnds.{EventsDone, ServiceEdges, durable_steps_of, StopsBetweenEvents, StopsWithinEvent, StopsSending, ServiceStopsAnywhere, StopsByDevice, StopsOnWire, Waits, between, sending, within, at_first, on_banks, on_wire, ServiceEnds}
+use Rattle.node_run.specs.ServiceEnds.{EventsDone, durable_steps_of, StopsBetweenEvents, StopsWithinEvent, StopsSending, Waits, between, sending, within, on_banks, on_wire, ServiceEnds}
 use Rattle.node_run.specs.ServiceStatuses.{stop_of_wire}
 use Rattle.node_run.specs.ServiceUnderWay.{IsServiceUnderWay, DoesTurn, StopsTurn, StopsWithinTurn, StopsSendingTurn}
 use Rattle.mld_io.specs.declared.faults.IoFault.{IoFault}

@@ -1,5 +1,5 @@
 -- What became of the banks of a node that was to begin. The private calls behind `serve` cite it.
-use Rattle.std.specs.Prelude.{◌≡◌, ◌⊎◌, ℕ, List, [], Option, Some, Result, Ok, Err}
+use Rattle.std.specs.Prelude.{◌≡◌, ◌⊎◌, List, [], Option, Result, Ok, Err}
 use Rattle.mld_io.specs.Disk.{Log, seen}
 use Rattle.node_core.specs.journal_sides.Pairs.{read_banks}
 use Rattle.mld_model.specs.Local.{LocalClone}

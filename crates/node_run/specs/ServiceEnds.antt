@@ -1,7 +1,6 @@
 -- How a run of the node ends over banks that tell their log: the events that it took, what it sent, and what its banks keep. `serve` and `take_turns`
 -- cite `ServiceEnds`.
 use Rattle.std.specs.Prelude.{◌≡◌, ◌⊎◌, ℕ, ◌+◌, ◌<◌, ◌≤◌, Bool, true, false, List, [], ◌∷◌, ◌++◌, length, Option, None, Some, option_map, unwrap_or}
-use Rattle.mld_io.specs.declared.banks.Side.{Side}
 use Rattle.mld_io.specs.declared.events.Event.{Event}
 use Rattle.mld_io.specs.declared.events.WireCall.TheVariants.{Took}
 use Rattle.mld_io.specs.Disk.{Log}

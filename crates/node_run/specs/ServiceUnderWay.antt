@@ -6,7 +6,6 @@ use Rattle.mld_io.specs.Disk.{Log}
 use Rattle.mld_io.specs.Faults.{Rose}
 use Rattle.mld_io.specs.Wires.{WireLog}
 use Rattle.node_core.specs.shell_session.Shells.{FoundOnBanks}
-use Rattle.node_core.specs.shell_session.Sessions.{HasFound}
 use Rattle.node_core.specs.shell_session.SessionLines.{ImagesFind, LeavesFront, LeavesFrontOfDue}
 use Rattle.node_core.specs.node_model.declared.connections.Sent.{Sent}
 use Rattle.node_core.specs.node_model.Keepers.{keeper_found}

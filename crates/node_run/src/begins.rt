@@ -24,7 +24,7 @@ use std::thread::Threads;
 /// # Errors
 ///
 /// `Damaged`, `OtherClone` where the banks keep a clone of another id or domain, `Device`, and `NoMemory`. The banks are given back.
-pub fn begin<R: Threads, B: Banks>(
+pub fn begin<R: Threads + Sync, B: Banks>(
     rt: &R,
     alloc: Global,
     banks: B,

@@ -24,7 +24,7 @@ use std::thread::Threads;
 /// memory. 6: the banks failed. 8: as many events as the words say were taken. 9: the wire failed. 10: a side of the banks is damaged. 11:
 /// the banks keep a clone of another id or domain. What an event sends is sent before the next one is taken. A clone that is live at the
 /// end is stopped.
-pub fn serve<R: Threads, W: Wire, B: Banks>(
+pub fn serve<R: Threads + Sync, W: Wire, B: Banks>(
     rt: &R,
     alloc: Global,
     words: &Vec<String>,

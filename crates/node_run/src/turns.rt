@@ -24,7 +24,7 @@ use std::alloc::Global;
 use std::thread::Threads;
 
 /// Takes events from the wire, one after another, until the node has ended, or so many were taken.
-pub fn take_turns<R: Threads, W: Wire, B: Banks>(
+pub fn take_turns<R: Threads + Sync, W: Wire, B: Banks>(
     rt: &R,
     alloc: Global,
     wire: &mut W,
@@ -75,7 +75,7 @@ pub fn take_turns<R: Threads, W: Wire, B: Banks>(
 }
 
 /// Does an event, and then sends what is to be sent for it.
-fn take_event<R: Threads, W: Wire, B: Banks>(
+fn take_event<R: Threads + Sync, W: Wire, B: Banks>(
     rt: &R,
     alloc: Global,
     wire: &mut W,

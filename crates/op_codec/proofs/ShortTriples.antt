@@ -4,7 +4,7 @@ use Rattle.std.proofs.lemmas.Bool.{cases_Bool, ltb-true, lt-ltb}
 use Rattle.std.proofs.lemmas.List.{length-take-le}
 use Rattle.rdf_terms.specs.Grammar.{IsTermWithin, IsTripleWithin}
 use Rattle.rdf_terms.specs.Literal.{LiteralValue, Typed, Tagged, lexical_form, language_of, lexical_limit, xsd_string, is_same}
-use Rattle.rdf_terms.proofs.Appending.{escaped_more}
+use Rattle.text_rules.proofs.Appending.{escaped_more}
 use Rattle.rdf_terms.specs.Spelling.{iri_text, datatype_text, term_text, triple_text}
 use Rattle.rdf_terms.specs.declared.terms.Term.{Term}
 use Rattle.rdf_terms.specs.declared.terms.Term.TheVariants as terms

@@ -1,13 +1,13 @@
 //! Ticks, dots and clocks as bytes.
-ghost use Rattle.std.specs.Prelude.{◌≡◌, ◌≤◌, ◌<◌, ◌-◌, ◌^◌, ◌++◌, ◌∷◌, [], true, length, drop, OnOk, OnErr, IfOk, MatchResult};
-ghost use Rattle.std.specs.List.{AllByRecursion, slice_get};
+ghost use Rattle.std.specs.Prelude.{◌≡◌, ◌≤◌, ◌++◌, ◌∷◌, [], true, length, drop, OnOk, OnErr, IfOk, MatchResult};
+ghost use Rattle.std.specs.List.{AllByRecursion};
 ghost use Rattle.op_codec.specs.Agreement.{IsRead, IsRefused, TakesItem, MissesItem};
 ghost use Rattle.op_codec.specs.Clocks.{tick_bytes, read_any_tick, read_tick, dot_bytes, read_dot, read_ticks, last_path, clock_bytes, read_clock};
 ghost use Rattle.rdf_terms.specs.Kept.{KeepsStart};
 ghost use Rattle.op_codec.specs.CodecLaws.{IsWrittenIn};
-ghost use Rattle.op_codec.specs.StoredLists.{is_above, is_above_one, list_bytes};
+ghost use Rattle.op_codec.specs.StoredLists.{is_above, is_above_one};
 ghost use Rattle.op_codec.specs.Stored.{IsShort, HasShape, HaveShape, IsStoredClock};
-ghost use Rattle.tree_clock.specs.Clock.{entry_cmp, IsClock};
+ghost use Rattle.tree_clock.specs.Clock.{entry_cmp};
 ghost use Rattle.tree_clock.specs.Path.{path_cmp};
 
 use crate::faults::CodecFault;
@@ -170,8 +170,7 @@ fn read_next(
 
 /// Reads a clock from a place of an input, in bytes from its start and at most its length, and the place behind the clock.
 /// Refused with `NotInGrammar` where no clock is spelled there, with the place of what is wrong in the input: that of a
-/// path with its ticks, where it isn't above the one before it. Memory is taken for the paths that are there, whatever
-/// their count says.
+/// path with its ticks, where it isn't above the one before it.
 pub fn read_clock(alloc: Global, input: &[u8], at: usize) -> Result<(Clock, usize), CodecFault>
     requires { at ≤ length input.now }
     ensures agrees { MatchResult result
@@ -180,6 +179,7 @@ pub fn read_clock(alloc: Global, input: &[u8], at: usize) -> Result<(Clock, usiz
     ensures written { IfOk result (λ read. IsWrittenIn IsStoredClock clock_bytes at input.now (read.0).ticks read.1) }
 {
     let (count, mut place) = read_u32(input, at)?;
+    // Paths are read one by one, so that a count by itself asks for no memory.
     let mut clock = Clock::empty(alloc);
     let mut last = None;
     for _done in 0..count {

@@ -1,5 +1,5 @@
 //! Pairs and lists of pairs as bytes.
-ghost use Rattle.std.specs.Prelude.{◌≡◌, ◌≤◌, ◌++◌, ◌∷◌, [], None, length, drop, OnOk, OnErr, IfOk, MatchResult};
+ghost use Rattle.std.specs.Prelude.{◌≡◌, ◌≤◌, ◌++◌, None, length, drop, OnOk, OnErr, IfOk, MatchResult};
 ghost use Rattle.std.specs.List.{AllByRecursion};
 ghost use Rattle.op_codec.specs.Agreement.{IsRead, IsRefused, TakesItem, MissesItem};
 ghost use Rattle.rdf_terms.specs.Kept.{KeepsStart};
@@ -113,8 +113,7 @@ fn read_next(
     Ok(next)
 }
 
-/// Reads a list of pairs, which a clock covers, where one is given. Memory is taken for the pairs that are there, whatever
-/// their count says.
+/// Reads a list of pairs, which a clock covers, where one is given.
 pub(crate) fn read_pairs(
     alloc: Global,
     input: &[u8],
@@ -128,6 +127,7 @@ pub(crate) fn read_pairs(
         (IsRefused (read_pairs (cover_of (λ clock. clock.now.ticks) cover.entry) at (drop at input.now))) }
 {
     let (count, mut place) = read_u32(input, at)?;
+    // Pairs are read one by one, so that a count by itself asks for no memory.
     let mut pairs = Vec::new(alloc);
     for _done in 0..count {
         place = read_next(alloc, input, place, cover, &mut pairs)?;
@@ -137,7 +137,7 @@ pub(crate) fn read_pairs(
 
 /// Reads a list of pairs from a place of an input, in bytes from its start and at most its length, and the place behind the
 /// list. Refused with `NotInGrammar` where no list is spelled there, with the place of what is wrong in the input: that of
-/// a pair, where it isn't above the one before it. Memory is taken for the pairs that are there, whatever their count says.
+/// a pair, where it isn't above the one before it.
 pub fn read_tagged(
     alloc: Global,
     input: &[u8],

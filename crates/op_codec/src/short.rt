@@ -1,5 +1,5 @@
 //! Tests of what the writers ask for: that counts and lengths have four bytes. They count, and take no memory.
-ghost use Rattle.std.specs.Prelude.{◌≡◌, ◌+◌, ◌≤◌, ◌^◌, ◌↔◌, length, IsTrue, All};
+ghost use Rattle.std.specs.Prelude.{◌≡◌, ◌+◌, ◌≤◌, ◌^◌, ◌↔◌, length, IsTrue};
 ghost use Rattle.mld_ops.specs.Messages.{snapshot_value, message_value};
 ghost use Rattle.mld_ops.specs.declared.tagged.Tagged.{Tagged};
 ghost use Rattle.op_codec.specs.Stored.{IsShort, IsShortTriple, AreShortPairs, AreShortInserts, IsShortEntry, IsShortSnapshot, IsShortMessage};

@@ -1,5 +1,5 @@
 //! Runs of entries, each fused to one.
-ghost use Rattle.std.specs.Prelude.{◌≡◌, ◌≤◌, ◌↔◌, length, IfOk, IsTrue, OnOk};
+ghost use Rattle.std.specs.Prelude.{◌≤◌, ◌↔◌, length, IfOk, IsTrue, OnOk};
 ghost use Rattle.mld_ops.specs.Entry.{EntryValue, IsEntry};
 ghost use Rattle.op_fusion.specs.Compacting.{AreFusedRuns, AreInRow, HasNeighbours, IsFusedRun, IsRunLength};
 ghost use Rattle.tree_clock.specs.Lists.{Has};

@@ -1,5 +1,5 @@
 //! The cut of an entry.
-ghost use Rattle.std.specs.Prelude.{◌≡◌, ◌≤◌, ◌↔◌, IfOk};
+ghost use Rattle.std.specs.Prelude.{◌↔◌, IfOk};
 ghost use Rattle.mld_ops.specs.Cut.{IsSuperseded};
 ghost use Rattle.mld_ops.specs.Entry.{IsEntry};
 ghost use Rattle.mld_ops.specs.Tagged.{tagged_cmp};

@@ -1,5 +1,5 @@
 //! Fused entries.
-ghost use Rattle.std.specs.Prelude.{◌≡◌, ℕ, ◌+◌, ◌≤◌, ◌↔◌, ◌⊎◌, max, map, List, IsTrue, IfOk, IsErrOf};
+ghost use Rattle.std.specs.Prelude.{◌≡◌, ℕ, ◌+◌, ◌↔◌, ◌⊎◌, max, map, List, IsTrue, IfOk, IsErrOf};
 ghost use Rattle.mld_ops.specs.Tagged.{tagged_cmp, insert_cmp};
 ghost use Rattle.mld_ops.specs.declared.tagged.Tagged.{Tagged};
 ghost use Rattle.op_fusion.specs.Fusion as fusion;

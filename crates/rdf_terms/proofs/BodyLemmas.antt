@@ -8,8 +8,8 @@ use lib.Utf8.{encode}
 use Rattle.rdf_terms.specs.declared.escapes.Escape.{Escape}
 use Rattle.rdf_terms.specs.declared.faults.TripleFault.{TripleFault}
 use Rattle.rdf_terms.specs.declared.faults.TripleFault.TheVariants.{NotTriple}
-use Rattle.rdf_terms.specs.declared.spots.Spot.{Spot}
-use Rattle.rdf_terms.specs.declared.spots.Spot.TheVariants.{SchemeStart, Scheme, IriRest, Lexical}
+use Rattle.text_rules.specs.declared.spots.Spot.{Spot}
+use Rattle.text_rules.specs.declared.spots.Spot.TheVariants.{SchemeStart, Scheme, IriRest, Lexical}
 use Rattle.rdf_terms.specs.TripleReading.{Slot, Within, Between, Behind, after_plain, closes, closed, within, step, verdict, resume, run, run_from, Leads}
 use Rattle.text_rules.specs.BytePlaces.{HasByte}
 use Rattle.rdf_terms.specs.TripleReads.{IsEscape, PassesPlain, StopsBehind, StopsWithin}

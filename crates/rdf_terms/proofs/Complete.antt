@@ -5,7 +5,7 @@ use Rattle.std.proofs.lemmas.Bool.{and_from, and_parts, or_left, not-true}
 use Rattle.std.proofs.lemmas.Bool.Decides.{nat_tests}
 use Rattle.std.proofs.lemmas.List.{append-nil}
 use Rattle.text_rules.specs.Iri.{is_iri}
-use Rattle.rdf_terms.specs.declared.spots.Spot.TheVariants.{SchemeStart, Lexical}
+use Rattle.text_rules.specs.declared.spots.Spot.TheVariants.{SchemeStart, Lexical}
 use Rattle.rdf_terms.specs.declared.terms.Term.{Term}
 use Rattle.rdf_terms.specs.declared.terms.Term.TheVariants as terms
 use Rattle.rdf_terms.specs.declared.terms.Triple.{Triple}

@@ -11,8 +11,8 @@ use lib.Utf8.{scalar, encode, scalar_cases}
 use Rattle.rdf_terms.specs.declared.escapes.Escape.{Escape}
 use Rattle.rdf_terms.specs.declared.faults.TripleFault.{TripleFault}
 use Rattle.rdf_terms.specs.declared.faults.TripleFault.TheVariants.{NotTriple}
-use Rattle.rdf_terms.specs.declared.spots.Spot.{Spot}
-use Rattle.rdf_terms.specs.declared.spots.Spot.TheVariants.{SchemeStart, Scheme, IriRest, Lexical}
+use Rattle.text_rules.specs.declared.spots.Spot.{Spot}
+use Rattle.text_rules.specs.declared.spots.Spot.TheVariants.{SchemeStart, Scheme, IriRest, Lexical}
 use Rattle.rdf_terms.specs.Escapes.{is_hexadecimal}
 use Rattle.rdf_terms.specs.TripleReading.{Slot, Part, State, Within, Between, Behind, Digits, step, verdict, with_digit, with_letter, within, spot_behind, may_hold, may_begin, Leads}
 use Rattle.text_rules.specs.BytePlaces.{HasByte}

@@ -1,5 +1,7 @@
 pub mod Plain
 pub mod Comparing
+pub mod Replies
+pub mod Hashing
 pub mod Appending
 pub mod Steps
 pub mod MayBegin

@@ -9,8 +9,8 @@ use lib.Utf8.{scalar}
 use lib.Dec.{ltb}
 use Rattle.std.specs.List.{list_all}
 use Rattle.text_rules.specs.Iri.{is_letter, is_scheme_byte, is_excluded}
-use Rattle.rdf_terms.specs.declared.spots.Spot.{Spot}
-use Rattle.rdf_terms.specs.declared.spots.Spot.TheVariants.{SchemeStart, Scheme, IriRest, Lexical}
+use Rattle.text_rules.specs.declared.spots.Spot.{Spot}
+use Rattle.text_rules.specs.declared.spots.Spot.TheVariants.{SchemeStart, Scheme, IriRest, Lexical}
 use Rattle.rdf_terms.specs.Escapes.{code_with, is_hexadecimal}
 use Rattle.rdf_terms.specs.TripleReading.{spot_behind, may_hold, may_begin}
 

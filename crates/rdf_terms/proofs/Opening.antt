@@ -5,8 +5,8 @@ use Rattle.std.specs.Str.{str_to_ascii_lowercase}
 use lib.Utf8.{scalar}
 use Rattle.std.proofs.lemmas.Bool.{cond_both}
 use Rattle.text_rules.specs.Iri.{is_letter, is_digit}
-use Rattle.rdf_terms.specs.declared.spots.Spot.{Spot}
-use Rattle.rdf_terms.specs.declared.spots.Spot.TheVariants.{SchemeStart, Scheme, IriRest, Lexical}
+use Rattle.text_rules.specs.declared.spots.Spot.{Spot}
+use Rattle.text_rules.specs.declared.spots.Spot.TheVariants.{SchemeStart, Scheme, IriRest, Lexical}
 use Rattle.rdf_terms.specs.declared.terms.Term.{Term}
 use Rattle.rdf_terms.specs.declared.terms.Term.TheVariants as terms
 use Rattle.rdf_terms.specs.Escapes.{is_hexadecimal, is_escape_letter, letter_value}

@@ -3,6 +3,9 @@ use Rattle.std.specs.Prelude.{◌≡◌, ℕ, ◌+◌, ◌*◌, List, [], ◌∷
 use Rattle.std.specs.List.{list_all, AllByRecursion, flat_map}
 use Rattle.std.specs.Char.{IsScalar, digit_value}
 use Rattle.text_rules.specs.Marks.{line_feed, carriage_return, quote, apostrophe, backslash, capital_u, small_b, small_f, small_n, small_r, small_t, small_u}
+-- what the letters of escapes stand for, and which bytes need none
+pub use Rattle.text_rules.specs.Escaped.{is_escape_letter, letter_value}
+pub use Rattle.text_rules.specs.Spots.{is_plain_byte}
 
 -- a part of what stands between the marks of a term: a byte as it is, a backslash and a letter (ECHAR), or `\u` or `\U` and digits (UCHAR)
 pub data Piece : Type 0 where
@@ -24,21 +27,6 @@ code_with code (digit ∷ digits) = code_with (16 * code + digit_value digit) di
 abbrev pub code_of : List ℕ → ℕ
 code_of digits = code_with 0 digits
 
--- one of `t b n r f " ' \`
-abbrev pub is_escape_letter : ℕ → Bool
-is_escape_letter letter =
-    letter == small_t || letter == small_b || letter == small_n || letter == small_r || letter == small_f
-    || letter == quote || letter == apostrophe || letter == backslash
-
--- what a letter behind a backslash stands for: a tab, BS, LF, CR, FF, or itself
-abbrev pub letter_value : ℕ → ℕ
-letter_value letter =
-    if letter == small_t then 9
-    else (if letter == small_b then 8
-    else (if letter == small_n then 10
-    else (if letter == small_r then 13
-    else (if letter == small_f then 12 else letter))))
-
 -- a piece as it stands in a text
 abbrev pub piece_text : Piece → List ℕ
 piece_text (Plain byte) = byte ∷ []
@@ -58,10 +46,6 @@ pub record NamesScalar (count : ℕ) (digits : List ℕ) : Type 0 where
   pub many : length digits ≡ count
   pub hexadecimal : IsTrue (list_all is_hexadecimal digits)
   pub scalar : IsScalar (code_of digits)
-
--- what may stand between the quotes of a literal as it is
-abbrev pub is_plain_byte : ℕ → Bool
-is_plain_byte byte = not (byte == quote || byte == backslash || byte == line_feed || byte == carriage_return)
 
 -- a piece of an IRI
 abbrev pub IsIriPiece : Piece → Type 0

@@ -3,6 +3,9 @@ pub mod LiteralView
 pub mod Spelling
 pub mod Order
 pub mod OrderLaws
+pub mod ReplyOrder
+pub mod ReplyLaws
+pub mod Hashed
 pub mod TermFaults
 pub mod Kept
 pub mod Escapes

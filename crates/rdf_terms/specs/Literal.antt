@@ -1,9 +1,8 @@
 -- Literals: a lexical form with a datatype other than rdf:langString, or with a language tag
 -- (RDF 1.1 Concepts section 3.3). Tags are kept in lower case.
-use Rattle.std.specs.Prelude.{◌≡◌, ℕ, List, Bool, not, nat_le, nat_eq, IsTrue, Option, Some, None, length, codes}
+use Rattle.std.specs.Prelude.{◌≡◌, ℕ, List, Bool, false, not, nat_le, nat_eq, IsTrue, Option, Some, None, length, codes}
 use Rattle.std.specs.Cmp.Lexicographic.{pointwise}
 use Rattle.std.specs.Str.{str_to_ascii_lowercase}
-use Rattle.rdf_terms.specs.declared.limits.TheConstants.{LEXICAL_LIMIT}
 use Rattle.text_rules.specs.Iri.{is_absolute}
 use Rattle.text_rules.specs.Tags.{is_language_tag}
 
@@ -15,6 +14,10 @@ pub data LiteralValue : Type 0 where
 -- xsd:string, the datatype of a literal that names none
 unfoldable pub xsd_string : List ℕ
 xsd_string = codes "http://www.w3.org/2001/XMLSchema#string"
+
+-- xsd:integer (XML Schema Part 2, section 3.3.13)
+unfoldable pub xsd_integer : List ℕ
+xsd_integer = codes "http://www.w3.org/2001/XMLSchema#integer"
 
 -- rdf:langString, the datatype of literals with a language tag
 unfoldable pub rdf_lang_string : List ℕ
@@ -39,9 +42,14 @@ language_of (Tagged lexical tag) = Some tag
 abbrev pub is_same : List ℕ → List ℕ → Bool
 is_same = pointwise nat_eq
 
+-- the literal is of this datatype
+abbrev pub has_datatype : List ℕ → LiteralValue → Bool
+has_datatype datatype (Typed lexical own) = is_same own datatype
+has_datatype datatype (Tagged lexical tag) = false
+
 -- how many bytes a lexical form has at most
 abbrev pub lexical_limit : ℕ
-lexical_limit = LEXICAL_LIMIT
+lexical_limit = 1048576
 
 -- what every literal keeps
 abbrev pub IsLiteral : LiteralValue → Type 0

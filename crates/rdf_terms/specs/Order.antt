@@ -5,11 +5,16 @@ use Rattle.std.specs.Ordering.{nat_cmp, ordering_then}
 use Rattle.std.specs.declared.cmp.Ordering.{Ordering}
 use Rattle.rdf_terms.specs.declared.terms.Term.{Term}
 use Rattle.rdf_terms.specs.declared.terms.Triple.{Triple}
-use Rattle.rdf_terms.specs.Spelling.{iri_text, term_text}
+use Rattle.rdf_terms.specs.Literal.{LiteralValue}
+use Rattle.rdf_terms.specs.Spelling.{iri_text, literal_text, term_text}
 
 -- the order of IRIs
 abbrev pub iri_cmp : List ℕ → List ℕ → Ordering
 iri_cmp a b = slice_cmp nat_cmp (iri_text a) (iri_text b)
+
+-- the order of literals
+abbrev pub literal_cmp : LiteralValue → LiteralValue → Ordering
+literal_cmp a b = slice_cmp nat_cmp (literal_text a) (literal_text b)
 
 -- the order of terms
 unfoldable pub term_cmp : Term → Term → Ordering

@@ -17,7 +17,11 @@ use Rattle.rdf_terms.specs.Literal.{LiteralValue, Typed, Tagged, xsd_string, is_
 use Rattle.text_rules.specs.CompareLaws.{escaped_cmp, same_from_rank}
 use Rattle.text_rules.specs.Escaped.{escaped}
 use Rattle.rdf_terms.specs.Spelling.{iri_text, datatype_text, literal_text, term_text}
-use Rattle.rdf_terms.specs.Order.{term_cmp, triple_cmp}
+use Rattle.rdf_terms.specs.Order.{literal_cmp, term_cmp, triple_cmp}
+
+-- the order of literals is total
+pub literal_total : IsTotalOrder literal_cmp
+literal_total = on_total literal_text nat_list_cmp_total
 
 -- the order of terms is total
 pub term_total : IsTotalOrder term_cmp
@@ -39,7 +43,7 @@ iri_text_injective a b e = (same_from_push a b 62 62 (tail_of e)).0
     tail_of e = cc
 
 -- what two orders in a row find equal, each finds equal
-both_equal : (o p : Ordering) → ordering_then o p ≡ Equal → (o ≡ Equal) × (p ≡ Equal)
+pub both_equal : (o p : Ordering) → ordering_then o p ≡ Equal → (o ≡ Equal) × (p ≡ Equal)
 both_equal Less p h = cc
 both_equal Equal p h = (refl, h)
 both_equal Greater p h = cc
@@ -84,7 +88,7 @@ parts a b u v h =
     (same_from_rank a b (exact_unsigned _ _ g.0), exact_bytes u v g.1)
 
 -- literals that compare alike are one
-literal_exact : (l m : LiteralValue) → slice_cmp nat_cmp (literal_text l) (literal_text m) ≡ Equal → l ≡ m
+pub literal_exact : CmpEqualImpliesEq literal_cmp
 literal_exact (Typed a d) (Typed b e) h = let g = parts a b (datatype_text d) (datatype_text e) h in ap (λ z. Typed z d) g.0 ∙ ap (λ z. Typed b z) (datatype_text_injective d e g.1)
 literal_exact (Typed a d) (Tagged b e) h = let g = parts a b (datatype_text d) (64 ∷ e) h in absurd (no_tag d e g.1)
 literal_exact (Tagged a d) (Typed b e) h = let g = parts a b (64 ∷ d) (datatype_text e) h in absurd (no_tag e d (sym g.1))

@@ -7,45 +7,18 @@ use lib.Utf8.{scalar}
 use Rattle.text_rules.specs.Iri.{is_letter, is_digit, is_scheme_byte, is_excluded}
 use Rattle.rdf_terms.specs.declared.faults.TripleFault.{TripleFault}
 use Rattle.rdf_terms.specs.declared.faults.TripleFault.TheVariants.{NotTriple, TooLong, NoMemory}
-use Rattle.rdf_terms.specs.declared.spots.Spot.{Spot}
-use Rattle.rdf_terms.specs.declared.spots.Spot.TheVariants.{SchemeStart, Scheme, IriRest, Lexical}
+use Rattle.text_rules.specs.declared.spots.Spot.{Spot}
+use Rattle.text_rules.specs.declared.spots.Spot.TheVariants.{SchemeStart, Scheme, IriRest, Lexical}
 use Rattle.rdf_terms.specs.declared.terms.Term.{Term}
 use Rattle.rdf_terms.specs.declared.terms.Term.TheVariants as terms
 use Rattle.rdf_terms.specs.declared.terms.Triple.{Triple}
-use Rattle.rdf_terms.specs.Escapes.{is_hexadecimal, is_escape_letter, letter_value, is_plain_byte}
+use Rattle.rdf_terms.specs.Escapes.{is_hexadecimal, is_escape_letter, letter_value}
+pub use Rattle.text_rules.specs.Spots.{spot_behind, after_plain, closes, may_hold}
 use Rattle.rdf_terms.specs.Grammar.{is_blank}
 use Rattle.rdf_terms.specs.Literal.{Typed, Tagged, xsd_string, rdf_lang_string, is_same}
 use Rattle.text_rules.specs.Marks.{quote, dash, dot, colon, less, greater, at_sign, backslash, hat, capital_u, small_u}
 
 -- ---- within a term
-
--- where the next character stands, behind a character of this code
-abbrev pub spot_behind : Spot → ℕ → Option Spot
-spot_behind SchemeStart code = if is_letter code then Some Scheme else None
-spot_behind Scheme code = if code == colon then Some IriRest else (if is_scheme_byte code then Some Scheme else None)
-spot_behind IriRest code = if is_excluded code then None else Some IriRest
-spot_behind Lexical code = Some Lexical
-
--- the same behind a byte that stands for itself
-abbrev pub after_plain : Spot → ℕ → Option Spot
-after_plain SchemeStart byte = spot_behind SchemeStart byte
-after_plain Scheme byte = spot_behind Scheme byte
-after_plain IriRest byte = spot_behind IriRest byte
-after_plain Lexical byte = if is_plain_byte byte then Some Lexical else None
-
--- the byte is the mark that closes the term
-abbrev pub closes : Spot → ℕ → Bool
-closes SchemeStart byte = false
-closes Scheme byte = false
-closes IriRest byte = byte == greater
-closes Lexical byte = byte == quote
-
--- of the codes from low to high, sixteen or more in a row, some character may stand here
-abbrev pub may_hold : Spot → ℕ → ℕ → Bool
-may_hold SchemeStart low high = nat_lt low 128 && nat_lt 64 high
-may_hold Scheme low high = nat_lt low 128 && nat_lt 32 high
-may_hold IriRest low high = scalar low && nat_lt 32 high
-may_hold Lexical low high = scalar low
 
 -- some character whose code begins with this one, with so many digits to come, may stand here
 abbrev pub may_begin : Spot → ℕ → ℕ → Bool

@@ -6,9 +6,8 @@ ghost use Rattle.rdf_terms.specs.TripleReads.{PassesPlain, IsBody, StopsWithin};
 
 use crate::escapes::read_escape;
 use crate::faults::TripleFault;
-use crate::spots::Spot;
 use std::alloc::Global;
-use text_rules::{Text, byte_at};
+use text_rules::{Spot, Text, byte_at};
 
 /// Passes bytes that stand for themselves: the place of the first other byte, or of the end, and where that one stands.
 fn pass_plain(text: &str, at: usize, spot: Spot) -> (usize, Spot)

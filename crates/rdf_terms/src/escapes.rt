@@ -1,13 +1,11 @@
 //! The reader of escapes (N-Triples 1.1, ECHAR and UCHAR).
 ghost use Rattle.std.specs.Prelude.{◌≡◌, ◌≤◌, ◌<◌, ◌^◌, MatchOption, MatchResult, length, false, true};
 ghost use Rattle.std.specs.Bool.{OnTrue};
-ghost use Rattle.rdf_terms.specs.Escapes.{is_escape_letter, letter_value};
 ghost use Rattle.rdf_terms.specs.TripleReading.{Behind, Digits, may_begin};
 ghost use Rattle.rdf_terms.specs.TripleReads.{HasDigit, HasNoDigit, HasLetter, HasNoLetter, IsEscape, StopsBehind};
 
 use crate::faults::TripleFault;
-use crate::spots::Spot;
-use text_rules::byte_at;
+use text_rules::{Spot, byte_at, letter_value};
 
 /// An escape that was read: its character, where the next one stands, and the place behind it.
 #[derive(Clone, Copy, Debug)]
@@ -18,22 +16,6 @@ pub struct Escape {
     pub spot: Spot,
     /// The place behind the escape.
     pub next: usize,
-}
-
-/// What a letter behind a backslash stands for, in a lexical form.
-fn letter_value(letter: u8) -> Option<char>
-    ensures { MatchOption result (is_escape_letter letter ≡ false)
-        (λ character. (is_escape_letter letter ≡ true) × (character ≡ letter_value letter)) }
-{
-    match letter {
-        b't' => Some('\t'),
-        b'b' => Some('\u{8}'),
-        b'n' => Some('\n'),
-        b'r' => Some('\r'),
-        b'f' => Some('\u{C}'),
-        b'"' | b'\'' | b'\\' => Some(char::from(letter)),
-        _ => None,
-    }
 }
 
 /// How many codes begin with the same digits, where so many digits are to come.

@@ -6,9 +6,10 @@ ghost use Rattle.std.specs.Cmp.Rules.{comparing};
 ghost use Rattle.std.proofs.Common.{rules};
 ghost use Rattle.std.proofs.lemmas.Map.Lookups.{CmpEqualImpliesEq};
 ghost use Rattle.std.specs.Ordering.{nat_cmp, eq_by_cmp, as_partial_cmp};
-ghost use Rattle.rdf_terms.specs.Spelling.{suffix_text, iri_text, datatype_text, literal_text};
+ghost use Rattle.rdf_terms.specs.Spelling.{suffix_text, datatype_text};
 ghost use Rattle.text_rules.specs.Marks.{at_sign};
-ghost use Rattle.rdf_terms.specs.Order.{iri_cmp, term_cmp, triple_cmp};
+ghost use Rattle.rdf_terms.specs.Order.{iri_cmp, literal_cmp, term_cmp, triple_cmp};
+ghost use Rattle.rdf_terms.specs.ReplyOrder.{reply_cmp};
 ghost use Rattle.rdf_terms.specs.OrderLaws.{term_total, triple_total};
 
 use crate::terms::{Iri, Kind, Literal, Term, Triple, is_string_type};
@@ -79,8 +80,8 @@ fn cmp_with_tag(datatype: &Iri) -> Ordering
 
 /// Compares two literals by their bytes as they are written.
 #[tactic(auto, using(crate::proofs::Comparing::literals_cmp))]
-fn cmp_literals(a: &Literal, b: &Literal) -> Ordering
-    ensures { result ≡ slice_cmp nat_cmp (literal_text a.now) (literal_text b.now) }
+pub(crate) fn cmp_literals(a: &Literal, b: &Literal) -> Ordering
+    ensures { result ≡ literal_cmp a.now b.now }
 {
     let first = cmp_escaped(a.lexical.as_str().as_bytes(), b.lexical.as_str().as_bytes());
     first.then_with(|| cmp_suffixes(&a.kind, &b.kind))
@@ -185,11 +186,13 @@ impl Ord for Triple {
     }
 }
 
-/// The orders of terms and of triples are total, and values that they find equal are the same.
-#[tactic(auto, using(crate::specs::OrderLaws::term_total, crate::specs::OrderLaws::term_exact, crate::specs::OrderLaws::triple_total, crate::specs::OrderLaws::triple_exact))]
+/// The orders of terms, of triples and of replies are total, and values that they find equal are the same.
+#[tactic(auto, using(crate::specs::OrderLaws::term_total, crate::specs::OrderLaws::term_exact, crate::specs::OrderLaws::triple_total, crate::specs::OrderLaws::triple_exact, crate::specs::ReplyLaws::reply_total, crate::specs::ReplyLaws::reply_exact))]
 pub fn order_is_total()
     ensures terms_total { IsTotalOrder term_cmp }
     ensures terms_exact { CmpEqualImpliesEq term_cmp }
     ensures triples_total { IsTotalOrder triple_cmp }
     ensures triples_exact { CmpEqualImpliesEq triple_cmp }
+    ensures replies_total { IsTotalOrder reply_cmp }
+    ensures replies_exact { CmpEqualImpliesEq reply_cmp }
 {}

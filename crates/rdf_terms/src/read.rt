@@ -2,7 +2,7 @@
 ghost use Rattle.std.specs.Prelude.{◌≡◌, ◌≤◌, ℕ, List, [], MatchResult, length, false, true, ◌||◌, ◌&&◌};
 ghost use Rattle.std.specs.Str.{IsCharBoundary};
 ghost use Rattle.text_rules.specs.Iri.{is_letter, is_digit};
-ghost use Rattle.rdf_terms.specs.declared.spots.Spot.TheVariants.{Lexical};
+ghost use Rattle.text_rules.specs.declared.spots.Spot.TheVariants.{Lexical};
 ghost use Rattle.rdf_terms.specs.Grammar.{is_blank};
 ghost use Rattle.rdf_terms.specs.Parts.{object_value, triple_value};
 ghost use Rattle.rdf_terms.specs.TripleReading.{Slot, Subject, Object, LexicalForm, Within, Between, Before, Quoted, Hat, Tag, Closed, Spelled, run, StopsAt};
@@ -12,11 +12,10 @@ ghost use Rattle.rdf_terms.specs.declared.terms.Term.{Term};
 
 use crate::bodies::read_body;
 use crate::faults::TripleFault;
-use crate::spots::Spot;
 use crate::terms::is_lang_string;
 use std::alloc::Global;
 use text_rules::characters::{is_digit, is_letter};
-use text_rules::{Text, has_byte, lower_tag};
+use text_rules::{Spot, Text, has_byte, lower_tag};
 
 /// An object that was read, of any lengths: an IRI, a lexical form that names no datatype, one with its datatype, or one
 /// with its tag in lower case.

@@ -1,6 +1,11 @@
 //! IRIs, literals, terms and triples (RDF 1.1 Concepts, section 3).
-ghost use Rattle.std.specs.Prelude.{◌≡◌, IfOk};
-ghost use Rattle.rdf_terms.specs.Literal.{is_same, rdf_lang_string, xsd_string};
+ghost use Rattle.std.specs.Prelude.{◌≡◌, ◌≤◌, IfOk, IsTrue, nat_eq, not, length};
+ghost use Rattle.std.specs.Cmp.{partial_equiv_from_equiv};
+ghost use Rattle.std.specs.Cmp.Lexicographic.{pointwise, nat_list_eq_equiv};
+ghost use Rattle.std.specs.Str.{str_to_ascii_lowercase};
+ghost use Rattle.text_rules.specs.Iri.{is_absolute};
+ghost use Rattle.text_rules.specs.Tags.{is_language_tag};
+ghost use Rattle.rdf_terms.specs.Literal.{Typed, Tagged, is_same, lexical_limit, rdf_lang_string, xsd_string};
 
 use crate::faults::TermFault;
 use crate::limits::LEXICAL_LIMIT;
@@ -28,7 +33,6 @@ impl Model for Iri {
 impl Iri {
     ghost use Rattle.std.specs.Prelude.{◌≡◌, ◌↔◌, IsTrue, IfOk, IfErr, IsErrOf, not};
     ghost use Rattle.rdf_terms.specs.TermFaults.{MayRefuseIri};
-    ghost use Rattle.text_rules.specs.Iri.{is_absolute};
 
     /// The IRI of a text, refused with `BadIri` where the text is no absolute IRI of at most 2,048 bytes.
     pub fn new(alloc: Global, text: &str) -> Result<Iri, TermFault>
@@ -39,7 +43,7 @@ impl Iri {
         if !is_absolute(text) {
             return Err(TermFault::BadIri);
         }
-        Ok(Iri::from_absolute(Text::new(alloc, text)?))
+        Ok(known_iri(alloc, text)?)
     }
 
     /// The IRI of a text that is known to be one.
@@ -69,10 +73,6 @@ impl Iri {
 }
 
 impl PartialEq for Iri {
-    ghost use Rattle.std.specs.Prelude.{nat_eq};
-    ghost use Rattle.std.specs.Cmp.{partial_equiv_from_equiv};
-    ghost use Rattle.std.specs.Cmp.Lexicographic.{pointwise, nat_list_eq_equiv};
-
     ghost eq = { pointwise nat_eq };
 
     ghost laws = { partial_equiv_from_equiv nat_list_eq_equiv };
@@ -83,8 +83,6 @@ impl PartialEq for Iri {
 }
 
 impl Eq for Iri {
-    ghost use Rattle.std.specs.Cmp.Lexicographic.{nat_list_eq_equiv};
-
     ghost laws = { nat_list_eq_equiv };
 }
 
@@ -155,15 +153,12 @@ impl Model for Literal {
 
 impl Literal {
     ghost use Rattle.std.specs.Prelude.{◌≡◌, ◌↔◌, ◌<◌, ◌≤◌, IsTrue, IfOk, IfErr, IsErrOf, not, length};
-    ghost use Rattle.std.specs.Str.{str_to_ascii_lowercase};
     ghost use Rattle.rdf_terms.specs.TermFaults.{MayRefuseTyped, MayRefuseTagged};
     ghost use Rattle.std.specs.Option.{option_copied};
-    ghost use Rattle.text_rules.specs.Tags.{is_language_tag};
     ghost use Rattle.rdf_terms.specs.Literal.{Typed, Tagged, IsLiteral, lexical_form, datatype_of, language_of, is_same, xsd_string, rdf_lang_string, lexical_limit};
 
     /// The literal of a lexical form and a datatype, refused with `BadType` where the datatype is rdf:langString,
     /// else with `TooLong` where the lexical form has more than 1,048,576 bytes.
-    #[tactic(auto, using(crate::proofs::Plain::is_xsd_string, crate::proofs::Plain::plain_literal))]
     pub fn new(alloc: Global, lexical: &str, datatype: &Iri) -> Result<Literal, TermFault>
         ensures ok { IfOk result (λ literal. literal ≡ Typed lexical.now datatype.now) }
         ensures bad_type { IsErrOf result TermFault.BadType ↔ IsTrue (is_same datatype.now rdf_lang_string) }
@@ -177,16 +172,11 @@ impl Literal {
         if lexical.len() > LEXICAL_LIMIT {
             return Err(TermFault::TooLong);
         }
-        let lexical = Text::new(alloc, lexical)?;
-        if is_string_type(datatype) {
-            return Ok(Literal::plain(lexical));
-        }
-        Ok(Literal::from_typed(lexical, datatype.share()?))
+        Ok(typed_literal(alloc, lexical, datatype)?)
     }
 
     /// The literal of a lexical form and a language tag, which it keeps in lower case, refused with `BadTag`
     /// where the text is no language tag, else with `TooLong` where the lexical form has more than 1,048,576 bytes.
-    #[tactic(auto, using(text_rules::proofs::TagLemmas::lower_lower, text_rules::proofs::TagLemmas::lower_tag))]
     pub fn tagged(alloc: Global, lexical: &str, tag: &str) -> Result<Literal, TermFault>
         ensures ok { IfOk result (λ literal. literal ≡ Tagged lexical.now (str_to_ascii_lowercase tag.now)) }
         ensures bad_tag { IsErrOf result TermFault.BadTag ↔ IsTrue (not (is_language_tag tag.now)) }
@@ -200,8 +190,7 @@ impl Literal {
         if lexical.len() > LEXICAL_LIMIT {
             return Err(TermFault::TooLong);
         }
-        let tag = lower_tag(alloc, tag)?;
-        Ok(Literal::from_tagged(Text::new(alloc, lexical)?, tag))
+        Ok(tagged_literal(alloc, lexical, tag)?)
     }
 
     /// The literal of a lexical form that is not too long and the datatype xsd:string, which takes no memory for it.
@@ -313,4 +302,37 @@ impl Triple {
         let o = self.o.share()?;
         Ok(Triple { s, p, o })
     }
+}
+
+/// The IRI of an absolute IRI's text.
+pub fn known_iri(alloc: Global, text: &str) -> Result<Iri, AllocError>
+    requires { IsTrue (is_absolute text.now) }
+    ensures { IfOk result (λ iri. iri ≡ text.now) }
+{
+    Ok(Iri::from_absolute(Text::new(alloc, text)?))
+}
+
+/// The literal of a lexical form that isn't too long and of a datatype that literals may have.
+#[tactic(auto, using(crate::proofs::Plain::is_xsd_string, crate::proofs::Plain::plain_literal))]
+pub fn typed_literal(alloc: Global, lexical: &str, datatype: &Iri) -> Result<Literal, AllocError>
+    requires short { length lexical.now ≤ lexical_limit }
+    requires allowed { IsTrue (not (is_same datatype.now rdf_lang_string)) }
+    ensures { IfOk result (λ literal. literal ≡ Typed lexical.now datatype.now) }
+{
+    let lexical = Text::new(alloc, lexical)?;
+    if is_string_type(datatype) {
+        return Ok(Literal::plain(lexical));
+    }
+    Ok(Literal::from_typed(lexical, datatype.share()?))
+}
+
+/// The literal of a lexical form that isn't too long and a language tag, which it keeps in lower case.
+#[tactic(auto, using(text_rules::proofs::TagLemmas::lower_lower, text_rules::proofs::TagLemmas::lower_tag))]
+pub fn tagged_literal(alloc: Global, lexical: &str, tag: &str) -> Result<Literal, AllocError>
+    requires short { length lexical.now ≤ lexical_limit }
+    requires tag { IsTrue (is_language_tag tag.now) }
+    ensures { IfOk result (λ literal. literal ≡ Tagged lexical.now (str_to_ascii_lowercase tag.now)) }
+{
+    let tag = lower_tag(alloc, tag)?;
+    Ok(Literal::from_tagged(Text::new(alloc, lexical)?, tag))
 }

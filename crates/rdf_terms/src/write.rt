@@ -1,51 +1,14 @@
 //! Triples as they are written (N-Triples 1.1, canonical form).
-#![tactic(auto, using(std::proofs::lemmas::Grind::common_steps, crate::proofs::Appending::keeps_same, crate::proofs::Appending::keeps_more, crate::proofs::Appending::keeps_further, crate::proofs::Comparing::literal_parts))]
+#![tactic(auto, using(std::proofs::lemmas::Grind::common_steps, text_rules::proofs::Appending::keeps_same, text_rules::proofs::Appending::keeps_more, text_rules::proofs::Appending::keeps_further, crate::proofs::Comparing::literal_parts))]
 
-ghost use Rattle.std.specs.Prelude.{◌≡◌, [], ◌∷◌, ◌++◌, OnOk, OnErr, MatchOption};
+ghost use Rattle.std.specs.Prelude.{◌≡◌, [], ◌∷◌, ◌++◌, OnOk, OnErr};
 ghost use Rattle.rdf_terms.specs.Spelling.{suffix_text, iri_text, datatype_text, literal_text, term_text, triple_text};
 ghost use Rattle.rdf_terms.specs.Kept.{KeepsStart};
-ghost use Rattle.text_rules.specs.Marks.{space, backslash};
-ghost use Rattle.text_rules.specs.Escaped.{escaped, escaped_byte};
+ghost use Rattle.text_rules.specs.Marks.{space};
 
 use crate::terms::{Iri, Kind, Literal, Term, Triple, is_string_type};
 use std::alloc::AllocError;
-
-/// The byte that stands behind a backslash for a byte that is escaped.
-fn escape_code(byte: u8) -> Option<u8>
-    ensures { MatchOption result (escaped_byte byte ≡ byte ∷ []) (λ code. escaped_byte byte ≡ backslash ∷ code ∷ []) }
-{
-    match byte {
-        b'"' => Some(b'"'),
-        b'\\' => Some(b'\\'),
-        b'\n' => Some(b'n'),
-        b'\r' => Some(b'r'),
-        _ => None,
-    }
-}
-
-/// Appends a piece that needs no escapes, and then an escape.
-fn append_escape(out: &mut Vec<u8>, piece: &[u8], code: u8) -> Result<(), AllocError>
-    ensures ok { OnOk result (out.new.items ≡ out.old.items ++ (piece.now ++ backslash ∷ code ∷ [])) }
-    ensures err { OnErr result (KeepsStart out.old.items out.new.items) }
-{
-    out.extend_from_slice(piece)?;
-    out.extend_from_slice(&[b'\\', code])
-}
-
-/// Appends a lexical form with its escapes: the pieces between them are copied whole.
-fn append_escaped(out: &mut Vec<u8>, lexical: &[u8]) -> Result<(), AllocError>
-    ensures ok { OnOk result (out.new.items ≡ out.old.items ++ escaped lexical.now) }
-    ensures err { OnErr result (KeepsStart out.old.items out.new.items) }
-{
-    let mut start = 0;
-    for (i, byte) in lexical.iter().enumerate() {
-        if let Some(code) = escape_code(*byte) {
-            append_escape(out, &lexical[start..i], code)?;
-            start = i + 1;
-        }
-    }
-    out.extend_from_slice(&lexical[start..])
-}
+use text_rules::append_escaped;
 
 /// Appends an IRI in its angle brackets.
 fn append_iri(out: &mut Vec<u8>, iri: &Iri) -> Result<(), AllocError>

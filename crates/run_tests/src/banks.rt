@@ -37,7 +37,7 @@ fn have_first(banks: &[MemoryBanks], a: &[u8], b: &[u8]) -> bool {
 }
 
 /// Whether a schedule is replayed to its end, and leaves these bytes on the first of the banks.
-fn leaves<R: Threads>(
+fn leaves<R: Threads + Sync>(
     rt: &R,
     alloc: Global,
     schedule: &[u8],
@@ -84,7 +84,7 @@ const REOPENED_TEXT: &[u8] =
 
 /// A run whose call of this number to the banks of clone 0 fails ends by that, with a front of the whole text; where that call isn't
 /// made it ends well, with the whole text.
-fn ends_at<R: Threads>(
+fn ends_at<R: Threads + Sync>(
     rt: &R,
     alloc: Global,
     call: u64,

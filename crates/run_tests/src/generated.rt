@@ -96,7 +96,7 @@ const OF_ZERO_AND_ONE: &[u8] = b"lines 2\n\
     clone 3 ranges 0 tagged 0 known 0\n";
 
 /// A run by these words, of whose source the first read fails, ends well and writes this.
-fn writes<R: Threads>(
+fn writes<R: Threads + Sync>(
     rt: &R,
     alloc: Global,
     words: &[&str],
@@ -144,7 +144,7 @@ fn counts(alloc: Global, lines: usize, summary: &Summary) -> Result<String, Allo
 }
 
 /// The counts of a replay of the lines of a seed.
-fn replayed<R: Threads>(rt: &R, alloc: Global, seed: u64, n: u32) -> Result<String, AllocError> {
+fn replayed<R: Threads + Sync>(rt: &R, alloc: Global, seed: u64, n: u32) -> Result<String, AllocError> {
     let lines = generate(alloc, seed, n)?;
     let text = text_of(alloc, &lines)?;
     let words = words(alloc, &["replay"])?;

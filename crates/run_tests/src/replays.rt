@@ -58,7 +58,7 @@ pub fn replay(schedule: &[u8]) -> Given<'_> {
 }
 
 /// Runs, and writes into a sink.
-pub fn ended<R: Threads>(
+pub fn ended<R: Threads + Sync>(
     rt: &R,
     alloc: Global,
     given: Given<'_>,

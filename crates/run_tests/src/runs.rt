@@ -8,7 +8,7 @@ use std::test::Fail;
 use std::thread::Threads;
 
 /// A run that is given this, of which these writes fail, ends so, and this is written.
-fn ends<R: Threads>(
+fn ends<R: Threads + Sync>(
     rt: &R,
     alloc: Global,
     given: Given<'_>,
@@ -166,7 +166,7 @@ fn comment(schedule: &mut Vec<u8>, lines: usize, size: usize) -> Result<(), Allo
 }
 
 /// A domain line, then so many comments of 1,048,575 bytes and one of so many, then a command: it ends so, and this is written.
-fn ends_behind<R: Threads>(
+fn ends_behind<R: Threads + Sync>(
     rt: &R,
     alloc: Global,
     lines: usize,

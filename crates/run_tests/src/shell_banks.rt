@@ -39,7 +39,7 @@ fn count_of(text: &[u8], front: &[u8]) -> usize {
 }
 
 /// Runs the lines over banks whose call of this number fails, and shows what is there then.
-fn failed_at<R: Threads>(rt: &R, alloc: Global, call: u64) -> Result<Failed, AllocError> {
+fn failed_at<R: Threads + Sync>(rt: &R, alloc: Global, call: u64) -> Result<Failed, AllocError> {
     let mut sink = Box::new(alloc, MemorySink::new(alloc, &[])?)?;
     let ran = failing_run(rt, alloc, call, &mut sink)?;
     let there = shown_on(rt, alloc, &ran.banks)?;
@@ -57,7 +57,7 @@ fn end_of(fault: Option<ShellFault>, text: &[u8], there: usize) -> Failed {
 }
 
 /// Runs the lines over banks whose call of this number fails.
-fn failing_run<R: Threads>(
+fn failing_run<R: Threads + Sync>(
     rt: &R,
     alloc: Global,
     call: u64,
@@ -70,14 +70,14 @@ fn failing_run<R: Threads>(
 }
 
 /// How many triples a clone has that opens on what these banks keep.
-fn shown_on<R: Threads>(rt: &R, alloc: Global, banks: &MemoryBanks) -> Result<usize, AllocError> {
+fn shown_on<R: Threads + Sync>(rt: &R, alloc: Global, banks: &MemoryBanks) -> Result<usize, AllocError> {
     let mut sink = Box::new(alloc, MemorySink::new(alloc, &[])?)?;
     show(rt, alloc, banks, &mut sink)?;
     Ok(count_of(sink.bytes(), b"r."))
 }
 
 /// Opens the clone that these banks keep, and shows what it has.
-fn show<R: Threads>(
+fn show<R: Threads + Sync>(
     rt: &R,
     alloc: Global,
     banks: &MemoryBanks,

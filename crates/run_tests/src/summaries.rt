@@ -93,7 +93,7 @@ fn is_told(summary: &Summary, zero: &Told<'_>, one: &Told<'_>) -> bool {
 }
 
 /// A schedule is read to its end, and just this is told of the world that it leads to.
-fn tells<R: Threads>(
+fn tells<R: Threads + Sync>(
     rt: &R,
     alloc: Global,
     schedule: &[u8],
@@ -138,7 +138,7 @@ const RESTARTED_TEXT: &[u8] =
 
 /// A run over `RESTARTED` ends well with the whole text and tells of its world, or for want of memory with a front of the text
 /// and tells nothing.
-fn ends_or_lacks_memory<R: Threads>(rt: &R, alloc: Global) -> Result<bool, AllocError> {
+fn ends_or_lacks_memory<R: Threads + Sync>(rt: &R, alloc: Global) -> Result<bool, AllocError> {
     let mut sink = MemorySink::new(alloc, &[])?;
     let end = ended(rt, alloc, replay(RESTARTED), &mut sink)?;
     Ok(match end.fault {

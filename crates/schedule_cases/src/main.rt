@@ -27,7 +27,7 @@ fn main(rt: HostRuntime) -> io::Result<ExitCode> {
 }
 
 /// Replays the transcript of a file, and again with restarts.
-fn replay_file<R: Files + Print + Threads + Alloc<A = Global>>(
+fn replay_file<R: Files + Print + Threads + Sync + Alloc<A = Global>>(
     rt: &R,
     name: &str,
     schedules: &mut Count,
@@ -40,7 +40,7 @@ fn replay_file<R: Files + Print + Threads + Alloc<A = Global>>(
 
 /// Replays a transcript once more for each place between two of its lines, where its first clone stops and opens, and for each where its
 /// second one does.
-fn restart_each<R: Print + Threads + Alloc<A = Global>>(
+fn restart_each<R: Print + Threads + Sync + Alloc<A = Global>>(
     rt: &R,
     name: &str,
     text: &str,

@@ -12,7 +12,7 @@ use std::thread::Threads;
 use transcripts::{RunEnd, Transcript, has_end, has_text, put_given, read_transcript};
 
 /// Replays the transcript of a text; whether its run is as it says. What differs is written.
-pub fn replays<R: Print + Threads + Alloc<A = Global>>(
+pub fn replays<R: Print + Threads + Sync + Alloc<A = Global>>(
     rt: &R,
     name: &str,
     text: &str,
@@ -27,7 +27,7 @@ pub fn replays<R: Print + Threads + Alloc<A = Global>>(
 }
 
 /// Runs a transcript's schedule; whether all is as it says. What differs is written.
-fn is_as_wanted<R: Print + Threads + Alloc<A = Global>>(
+fn is_as_wanted<R: Print + Threads + Sync + Alloc<A = Global>>(
     rt: &R,
     name: &str,
     transcript: &Transcript<'_>,
@@ -42,7 +42,7 @@ fn is_as_wanted<R: Print + Threads + Alloc<A = Global>>(
 }
 
 /// Replays a schedule into a sink.
-fn replayed<R: Threads>(
+fn replayed<R: Threads + Sync>(
     rt: &R,
     alloc: Global,
     transcript: &Transcript<'_>,

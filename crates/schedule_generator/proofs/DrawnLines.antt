@@ -1,6 +1,5 @@
 -- Each command line of a generated schedule is one of its seven commands.
-use Rattle.std.proofs.Common.{◌≡◌, refl, ℕ, zero, suc, ◌+◌, ◌<◌, ◌≤◌, ◌^◌, ◌/◌, List, [], ◌∷◌, ◌++◌, codes, All, Bool, true, false, if◌then◌else◌, nat_le, ◌==◌, arith}
-use Rattle.std.specs.Fmt.{decimal}
+use Rattle.std.proofs.Common.{refl, ℕ, zero, suc, ◌+◌, ◌<◌, ◌≤◌, ◌^◌, ◌/◌, codes, All, Bool, true, false, if◌then◌else◌, nat_le, ◌==◌, arith}
 use Rattle.std.proofs.lemmas.Nat.{mod_below}
 use Rattle.std.proofs.lemmas.List.Elements.{All-nil, All-cons}
 use Rattle.schedule_generator.specs.Generated.{DrawnLine, next_state, drawn, change, delivery, of_clone, of_clone_and, one_of_three, drawn_line, lines_from}

@@ -11,9 +11,11 @@ use jrql_patterns::ReadQuery;
 use jrql_reply::spell_answer;
 use mld_io::Banks;
 use std::alloc::{AllocError, Global};
+use std::thread::Threads;
 
 /// The reply of an open clone to a query: the text of the answer over the triples that are present, or `too many`.
-pub fn reply_to_query<B: Banks>(
+pub fn reply_to_query<R: Threads + Sync, B: Banks>(
+    rt: &R,
     alloc: Global,
     clone: &MldClone<B>,
     read: &ReadQuery,
@@ -22,7 +24,7 @@ pub fn reply_to_query<B: Banks>(
     requires form { IsQueryInForm read.now.query }
     ensures { IfOk result (λ reply. AnswersQuery (present clone.now.local.pairs) read.now (reply_value reply)) }
 {
-    match clone.query(alloc, &read.query) {
+    match clone.query(rt, alloc, &read.query) {
         Ok(answer) => Ok(Reply::Tells(spell_answer(alloc, &answer, read)?)),
         Err(QueryFault::TooMany) => Ok(Reply::TooMany),
         Err(QueryFault::NoMemory) => Err(AllocError),

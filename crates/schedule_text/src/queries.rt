@@ -1,5 +1,5 @@
 //! Lines that are queries.
-ghost use Rattle.std.specs.Prelude.{◌≢◌, IsTrue, IfOk, OnOk, MatchOption};
+ghost use Rattle.std.specs.Prelude.{◌≡◌, ◌≢◌, IsTrue, IfOk, OnOk, OnErr, MatchOption};
 ghost use Rattle.text_rules.specs.Domain.{is_domain};
 ghost use Rattle.jrql_ast.specs.InForm.{IsQueryInForm};
 ghost use Rattle.schedule_model.specs.jrql_patterns.declared.queries.ReadQuery.{ReadQuery};
@@ -55,9 +55,10 @@ pub fn read_query_text(
     }
 }
 
-/// Passes a fault that a text has; any other is want of memory.
+/// Passes a fault that a text has, and refuses want of memory alone.
 pub fn text_fault(fault: &JsonFault) -> Result<(), AllocError>
-    ensures { OnOk result (fault.now ≢ faults.NoMemory) }
+    ensures ok { OnOk result (fault.now ≢ faults.NoMemory) }
+    ensures err { OnErr result (fault.now ≡ faults.NoMemory) }
 {
     match fault {
         JsonFault::NotJson => Ok(()),

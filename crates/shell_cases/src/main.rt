@@ -27,7 +27,7 @@ fn main(rt: HostRuntime) -> io::Result<ExitCode> {
 }
 
 /// Runs the transcript of a file, and again with restarts.
-fn do_file<R: Files + Print + Threads + Alloc<A = Global>>(
+fn do_file<R: Files + Print + Threads + Sync + Alloc<A = Global>>(
     rt: &R,
     name: &str,
     sessions: &mut Count,
@@ -39,7 +39,7 @@ fn do_file<R: Files + Print + Threads + Alloc<A = Global>>(
 }
 
 /// Runs a transcript once more for each place between two of its lines where its clone is live, which stops and opens there.
-fn restart_each<R: Print + Threads + Alloc<A = Global>>(
+fn restart_each<R: Print + Threads + Sync + Alloc<A = Global>>(
     rt: &R,
     name: &str,
     text: &str,

@@ -11,7 +11,7 @@ use std::thread::Threads;
 use transcripts::{RunEnd, Transcript, has_end, has_side, has_text, read_transcript};
 
 /// Runs the transcript of a text; whether its run is as it says. What differs is written.
-pub fn does<R: Print + Threads + Alloc<A = Global>>(
+pub fn does<R: Print + Threads + Sync + Alloc<A = Global>>(
     rt: &R,
     name: &str,
     text: &str,
@@ -26,7 +26,7 @@ pub fn does<R: Print + Threads + Alloc<A = Global>>(
 }
 
 /// Gives the lines of a transcript to the shell; whether all is as it says. What differs is written.
-fn is_as_wanted<R: Print + Threads + Alloc<A = Global>>(
+fn is_as_wanted<R: Print + Threads + Sync + Alloc<A = Global>>(
     rt: &R,
     name: &str,
     transcript: &Transcript<'_>,
@@ -41,7 +41,7 @@ fn is_as_wanted<R: Print + Threads + Alloc<A = Global>>(
 }
 
 /// Runs the shell over the lines and the device of a transcript, into a sink.
-fn shell_ran<R: Threads>(
+fn shell_ran<R: Threads + Sync>(
     rt: &R,
     alloc: Global,
     transcript: &Transcript<'_>,
@@ -53,7 +53,7 @@ fn shell_ran<R: Threads>(
 }
 
 /// Runs the shell with these words over this source and the device that is told.
-fn ran_over<R: Threads>(
+fn ran_over<R: Threads + Sync>(
     rt: &R,
     alloc: Global,
     words: &Vec<String>,

@@ -1,24 +1,21 @@
 -- A run of the shell from line to line, and how it ends.
-use Rattle.std.proofs.Common.{◌≡◌, ◌⊎◌, ℕ, ◌+◌, ◌<◌, List, [], ◌∷◌, ◌++◌, refl, sym, ◌∙◌, ap, arith, subst, inl, inr, length, Option, None, Some, append_assoc, append-nil, length-append, take}
-use Rattle.std.proofs.lemmas.List.{take_all}
-use Rattle.std.proofs.Math.Seq.{take-append-add}
+use Rattle.std.proofs.Common.{◌≡◌, ℕ, ◌+◌, List, [], ◌∷◌, ◌++◌, refl, sym, ◌∙◌, ap, arith, subst, length, Option, None, Some, append_assoc, append-nil, length-append, take}
 use Rattle.std.specs.Io.KnownBytes.{Appends}
 use Rattle.mld_io.specs.Disk.{Log, seen, grown_by, MayLeave, LeavesOnly, LeavesMeanwhile}
 use Rattle.mld_io.proofs.DiskLaws.{AtEachMoment-last}
-use Rattle.mld_io.specs.Lines.{lines_of, after_line, IsCutShort}
-use Rattle.mld_io.proofs.LinesLaws.{first_of_lines_lem}
+use Rattle.mld_io.specs.Lines.{lines_of, IsCutShort}
 use Rattle.shell_session.specs.journal_sides.Pairs.{read_banks}
 use Rattle.shell_session.specs.clone_parts.KeptSteps.{KeptStep}
 use Rattle.input_lines.specs.TooLarge.{left_after, BreaksLimits, IsTooLargeLine}
-use Rattle.input_lines.specs.Taken.{TakesLine, IsLeft, KnowsEnd, ReadsLines}
-use Rattle.input_lines.proofs.TakenLemmas.{left_first, taken_left, taken_fit, all_fit, large_next}
-use Rattle.shell_session.specs.Shells.{Shell, Shut, Live, FoundOnBanks, found_in, found_of, found_after}
-use Rattle.shell_session.specs.ShellRuns.{ShellLine, ShellRuns, IsDueByLine}
+use Rattle.input_lines.specs.Taken.{TakesLine, IsLeft, ReadsLines}
+use Rattle.input_lines.proofs.TakenLemmas.{left_first, taken_left, all_fit, large_next}
+use Rattle.shell_session.specs.Shells.{Shell, Shut, FoundOnBanks, found_in, found_of, found_after}
+use Rattle.shell_session.specs.ShellRuns.{ShellLine, ShellRuns}
 use Rattle.shell_session.proofs.RunLaws.{steps_lead}
 use Rattle.shell_session.proofs.FrontLaws.{moments_then}
 use Rattle.shell_session.specs.declared.sessions.Session.{Session}
 use Rattle.shell_session.specs.declared.sessions.Session.TheVariants as sessions
-use Rattle.shell_session.specs.Sessions.{session_banks, HasFound, SessionStands}
+use Rattle.shell_session.specs.Sessions.{session_banks, SessionStands}
 use Rattle.shell_session.specs.SessionLines.{ImagesFind, FindsFront, LeavesFront, DoesLine, StopsLine}
 use Rattle.shell_session.specs.RunEnds.{LeavesDone}
 use Rattle.shell_run.specs.Inputs.{AreFirstLines, AreAllLines, AreReadLines, AreLinesBefore, AreLinesUpTo, IfTold}

@@ -60,7 +60,7 @@ pub struct ShellRan<B> {
 /// source failed; the lines whose LF was read are done. 3: the sink failed. 5: no memory. 6: the banks failed. 7: a line is too large. A
 /// line outside the grammar is answered as such. Each line is answered before the next is read. A clone that is live at the end is
 /// stopped.
-pub fn shell<R: Threads, S: Source, K: Sink, B: Banks>(
+pub fn shell<R: Threads + Sync, S: Source, K: Sink, B: Banks>(
     rt: &R,
     alloc: Global,
     words: &Vec<String>,
@@ -143,7 +143,7 @@ fn words_fault(fault: FolderFault) -> ShellFault
 }
 
 /// Does the lines of the source, one after another.
-fn do_lines<R: Threads, S: Source, K: Sink, B: Banks>(
+fn do_lines<R: Threads + Sync, S: Source, K: Sink, B: Banks>(
     rt: &R,
     alloc: Global,
     source: &mut S,

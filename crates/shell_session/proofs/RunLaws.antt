@@ -1,19 +1,18 @@
 -- What is found on the banks of a shell after a step, a line and a run.
-use Rattle.std.proofs.Common.{◌≡◌, ℕ, ◌+◌, List, [], ◌∷◌, ◌++◌, refl, sym, ◌∙◌, ap, subst}
+use Rattle.std.proofs.Common.{◌≡◌, ℕ, List, [], ◌∷◌, ◌++◌, refl, sym, ◌∙◌, ap, subst}
 use Rattle.mld_ops.specs.Entry.{EntryValue}
-use Rattle.clone_core.specs.journal_sides.Heads.{HeadValue}
 use Rattle.jrql_ast.specs.declared.plans.UpdatePlan.{UpdatePlan}
 use Rattle.mld_model.specs.Local.{LocalClone, IsSameClone}
 use Rattle.mld_model.specs.Reply.{Reply}
-use Rattle.clone_core.specs.clone_parts.KeptSteps.{KeptStep, Created, Appended, Swapped}
+use Rattle.clone_core.specs.clone_parts.KeptSteps.{KeptStep, Appended, Swapped}
 use Rattle.clone_core.specs.Banked.{head_of}
 use Rattle.jrql_ast.specs.Templates.{insertion_of, deletion_of}
 use Rattle.shell_session.specs.declared.commands.ShellCommand.{ShellCommand}
 use Rattle.shell_session.specs.declared.commands.ShellCommand.TheVariants as shell
 use Rattle.shell_session.specs.ShellRunLaws.{StepsLead}
-use Rattle.shell_session.specs.ShellRuns.{ShellLine, ShellRuns, CommandsShell, says_nothing, is_bad, commands}
+use Rattle.shell_session.specs.ShellRuns.{ShellLine, says_nothing, is_bad, commands}
 use Rattle.shell_session.specs.ShellReply.{ShellReply, IsClosed, FoundNothing, FoundDamage, NotEmpty}
-use Rattle.shell_session.specs.ShellStep.{AnswersUpdate, no_tick_is_left, is_too_large, changes_nothing, breaks_single, makes_operation, KeepsJournal, is_kept_so, no_generation_is_left, swaps_journal, OnlyReplies, LiveStep, Stays, RunsFrom, ShellReopens, OpensShut, first_clone, Founds, FoundsShut, ShutStep, ShellStops, StaysLive, ShellStep}
+use Rattle.shell_session.specs.ShellStep.{AnswersUpdate, no_tick_is_left, is_too_large, changes_nothing, breaks_single, makes_operation, KeepsJournal, is_kept_so, no_generation_is_left, swaps_journal, OnlyReplies, LiveStep, Stays, OpensShut, FoundsShut, ShutStep, ShellStep}
 use Rattle.shell_session.specs.Shells.{FoundOnBanks, Nothing, Stored, Damage, Shell, Shut, Live, found_of, found_after_step, found_after, generation_after}
 
 -- ---- a live clone

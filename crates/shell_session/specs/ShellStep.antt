@@ -1,5 +1,5 @@
 -- One step of a shell: a command, its reply, the durable steps that it makes on the banks, and the shell after it.
-use Rattle.std.specs.Prelude.{◌≡◌, ◌≢◌, ◌⊎◌, ℕ, ◌-◌, ◌^◌, ◌<◌, List, [], ◌∷◌, length}
+use Rattle.std.specs.Prelude.{◌≡◌, ℕ, ◌-◌, ◌^◌, ◌<◌, List, [], ◌∷◌, length}
 use Rattle.tree_clock.specs.Limits.{tick_limit}
 use Rattle.tree_clock.specs.Clock.{ticks_of, RaisesTo}
 use Rattle.mld_ops.specs.Effects.{EffectValue, effect_entry}
@@ -10,7 +10,6 @@ use Rattle.op_fusion.specs.Compacting.{HasNeighbours}
 use Rattle.jrql_ast.specs.declared.plans.UpdatePlan.{UpdatePlan}
 use Rattle.jrql_ast.specs.Templates.{insertion_of, deletion_of}
 use Rattle.jrql_eval.specs.PlanEffects.{HasTooMany}
-use Rattle.schedule_model.specs.jrql_patterns.declared.queries.ReadQuery.{ReadQuery}
 use Rattle.clone_core.specs.journal_sides.Heads.{HeadValue}
 use Rattle.mld_model.specs.Local.{LocalClone, IsLocal, blank_clone, next_dot, LocallyCompacts, LocallyTruncates}
 use Rattle.mld_model.specs.Reply.{Reply, NoOperation, Single, TooMany, Shows, Kept, IsLive, Stopped, Opened}

@@ -21,6 +21,7 @@ use rdf_terms::Triple;
 use schedule_model::jrql_patterns::ReadQuery;
 use schedule_replies::{Reply, reply_to_query};
 use std::alloc::Global;
+use std::thread::Threads;
 use tree_clock::{Dot, Range};
 
 /// Does a command on a live clone that stays live, and adds the text of its reply to the output once its durable steps stand on the
@@ -29,7 +30,8 @@ use tree_clock::{Dot, Range};
 /// # Errors
 ///
 /// `Device` where the device failed, and `NoMemory`. The durable steps that were done stand, and the output is as it was.
-pub fn do_live<B: Banks>(
+pub fn do_live<R: Threads + Sync, B: Banks>(
+    rt: &R,
     alloc: Global,
     clone: &mut MldClone<B>,
     command: &ShellCommand,
@@ -52,7 +54,7 @@ pub fn do_live<B: Banks>(
         ShellCommand::Add(triple) => add(alloc, clone, triple, out),
         ShellCommand::Remove(triple) => remove(alloc, clone, triple, out),
         ShellCommand::Update(plan) => update(alloc, clone, plan, out),
-        ShellCommand::Query(read) => query(alloc, clone, read, out),
+        ShellCommand::Query(read) => query(rt, alloc, clone, read, out),
         ShellCommand::Show => tell(out, &ShellReply::Says(Reply::Shows(clone.pairs()))),
         ShellCommand::Compact => compact(alloc, clone, out),
         ShellCommand::Truncate(keep) => truncate(alloc, clone, *keep, out),
@@ -168,7 +170,8 @@ fn dot_of(entry: &Entry) -> Dot
 }
 
 /// The answer to a query.
-fn query<B: Banks>(
+fn query<R: Threads + Sync, B: Banks>(
+    rt: &R,
     alloc: Global,
     clone: &MldClone<B>,
     read: &ReadQuery,
@@ -180,7 +183,7 @@ fn query<B: Banks>(
     ensures err { IfErr result (λ fault. fault ≡ SessionFault.NoMemory) }
     ensures out { OnErr result (out.new.items ≡ out.old.items) }
 {
-    let reply = reply_to_query(alloc, clone, read)?;
+    let reply = reply_to_query(rt, alloc, clone, read)?;
     tell(out, &ShellReply::Says(reply))
 }
 

@@ -45,7 +45,7 @@ impl<B: Banks> Session<B> {
     /// # Errors
     ///
     /// `Device` where the device failed, and `NoMemory`. A live clone stops, and the banks are given back; the output is as it was.
-    pub fn line<R: Threads>(
+    pub fn line<R: Threads + Sync>(
         self,
         rt: &R,
         alloc: Global,
@@ -93,7 +93,7 @@ impl<B: Banks> Session<B> {
 }
 
 /// Does a command.
-fn do_command<R: Threads, B: Banks>(
+fn do_command<R: Threads + Sync, B: Banks>(
     rt: &R,
     alloc: Global,
     session: Session<B>,
@@ -118,7 +118,7 @@ fn do_command<R: Threads, B: Banks>(
             if is_stop(&command) {
                 return stop(clone, out);
             }
-            stay_live(alloc, clone, &command, out)
+            stay_live(rt, alloc, clone, &command, out)
         }
     }
 }
@@ -147,7 +147,8 @@ fn stop<B: Banks>(clone: MldClone<B>, out: &mut Vec<u8>) -> Result<Session<B>, (
 }
 
 /// Does a command on a live clone, which stays live.
-fn stay_live<B: Banks>(
+fn stay_live<R: Threads + Sync, B: Banks>(
+    rt: &R,
     alloc: Global,
     mut clone: MldClone<B>,
     command: &ShellCommand,
@@ -165,7 +166,7 @@ fn stay_live<B: Banks>(
     ensures fault { Meters (B.meter clone.banks) (B.meter (banks_after result)) (FailsOnDevice result) }
     ensures out { OnErr result (out.new.items ≡ out.old.items) }
 {
-    match do_live(alloc, &mut clone, command, out) {
+    match do_live(rt, alloc, &mut clone, command, out) {
         Ok(()) => {
             clone.tell_banks_keep();
             Ok(Session::Live(clone))

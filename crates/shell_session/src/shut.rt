@@ -24,7 +24,7 @@ use text_rules::Text;
 use uuid::Uuid;
 
 /// Does a command while no clone is live on the banks.
-pub fn do_shut<R: Threads, B: Banks>(
+pub fn do_shut<R: Threads + Sync, B: Banks>(
     rt: &R,
     alloc: Global,
     banks: B,
@@ -51,7 +51,7 @@ pub fn do_shut<R: Threads, B: Banks>(
 }
 
 /// The clone that banks keep runs again.
-fn open<R: Threads, B: Banks>(
+fn open<R: Threads + Sync, B: Banks>(
     rt: &R,
     alloc: Global,
     banks: B,
@@ -74,7 +74,7 @@ fn open<R: Threads, B: Banks>(
 }
 
 /// The first clone of a domain is made on banks that keep nothing. A clone that is found stays.
-fn create<R: Threads, B: Banks>(
+fn create<R: Threads + Sync, B: Banks>(
     rt: &R,
     alloc: Global,
     banks: B,

@@ -1,10 +1,10 @@
 //! An ascending list of pairs changed by a cut, by one walk over the list and the cut.
-ghost use Rattle.std.specs.Prelude.{◌≡◌, ◌<◌, ◌≤◌, ◌+◌, ◌↔◌, ◌++◌, ◌∷◌, [], IsTrue, IfSome, IfNone, IsSome, OnOk, OnErr, length, slice_index_or, vec_len, vec_capacity};
+ghost use Rattle.std.specs.Prelude.{◌≡◌, ◌<◌, ◌≤◌, ◌+◌, ◌++◌, ◌∷◌, [], IsTrue, IfSome, IfNone, IsSome, OnOk, OnErr, length, vec_len, vec_capacity};
 ghost use Rattle.std.specs.declared.cmp.Ordering.TheVariants.{Less};
 ghost use Rattle.mld_ops.specs.Applies.{Applies};
 ghost use Rattle.mld_ops.specs.Tagged.{tagged_cmp};
 ghost use Rattle.suset.specs.Walks.{IsAddStep, fronts_cmp};
-ghost use Rattle.tree_clock.specs.Lists.{Has, IsAscending};
+ghost use Rattle.tree_clock.specs.Lists.{IsAscending};
 
 use mld_ops::{Cut, Tagged, skip_below, stands_at};
 use std::alloc::{AllocError, Global};

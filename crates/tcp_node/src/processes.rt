@@ -23,7 +23,7 @@ const USAGE: u8 = 1;
 /// Runs a node over the words of the process, and gives its status. A status other than 0 is told
 /// on standard error.
 pub fn run_process<
-    R: Alloc<A = Global> + Clock + Clone + Drop + Env + Eprint + Files<File = File> + Net + Threads,
+    R: Alloc<A = Global> + Clock + Clone + Drop + Env + Eprint + Files<File = File> + Net + Threads + Sync,
 >(rt: &R) -> u8 {
     let status = match run_on_words(rt) {
         Ok(status) => status,
@@ -39,7 +39,7 @@ pub fn run_process<
 /// The status of the node over the words of the process, TCP and the files of its folder. What it
 /// sent last goes out before it ends.
 fn run_on_words<
-    R: Alloc<A = Global> + Clock + Clone + Drop + Env + Files<File = File> + Net + Threads,
+    R: Alloc<A = Global> + Clock + Clone + Drop + Env + Files<File = File> + Net + Threads + Sync,
 >(rt: &R) -> io::Result<u8> {
     let mut words = Vec::new(rt.alloc());
     for word in env::args(rt)?.skip(1) {

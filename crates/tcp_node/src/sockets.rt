@@ -7,7 +7,7 @@ use crate::table::{LISTENER, Table, both_ways, token};
 use mio::net::TcpListener;
 use mio::{Events, Poll};
 use mld_io::{Event, IoFault};
-use std::alloc::{AllocError, Global};
+use std::alloc::Global;
 use std::io::{self, ErrorKind};
 use std::net::{Net, ToSocketAddrs};
 use std::time::{Clock, Duration, Instant};

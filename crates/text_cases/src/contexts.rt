@@ -9,7 +9,7 @@
 //! `short key IRI` and `short id IRI`: the shortest form of an IRI. They give it as a JSON string.
 use crate::faults::put_fault;
 use crate::held::Held;
-use crate::texts::{put_quoted, value_of};
+use crate::texts::put_quoted;
 use jsonld_context::{Context, JsonFault, TermType};
 use rdf_terms::Iri;
 use serde_json::Value;
@@ -18,131 +18,88 @@ use std::fmt::Write;
 use text_rules::is_domain;
 use transcripts::parted;
 
-/// What reading a context gives.
-type Outcome = Result<Context, JsonFault>;
-
-/// Holds the context of a `context` line, or puts its fault.
-pub fn put(
-    alloc: Global,
-    out: &mut String,
-    held: &mut Held,
-    input: &str,
-) -> Result<bool, AllocError> {
-    held.set_context(None);
-    match outcome(alloc, input)? {
-        Some(outcome) => hold(alloc, out, held, outcome),
-        None => Ok(false),
+/// Holds the context of a domain alone.
+pub fn hold_domain(alloc: Global, held: &mut Held, domain: &str) -> Result<bool, AllocError> {
+    if !is_domain(domain) {
+        return Ok(false);
     }
-}
-
-/// Holds a context, or puts the fault.
-fn hold(
-    alloc: Global,
-    out: &mut String,
-    held: &mut Held,
-    outcome: Outcome,
-) -> Result<bool, AllocError> {
-    match outcome {
-        Ok(context) => held.set_context(Some(Box::new(alloc, context)?)),
-        Err(fault) => put_fault(out, &fault)?,
-    }
+    held.read = Some(Box::new(alloc, Context::of_domain(alloc, domain))?);
     Ok(true)
 }
 
-/// Puts the fault of a `printed` line as it is printed.
-pub fn put_printed(alloc: Global, out: &mut String, input: &str) -> Result<bool, AllocError> {
-    let outcome = outcome(alloc, input)?;
-    put_printed_of(out, &outcome)
+/// Holds the context of a JSON value over the defaults of a domain, or puts its fault.
+pub fn hold(
+    alloc: Global,
+    out: &mut String,
+    held: &mut Held,
+    domain: &str,
+    value: &Value,
+) -> Result<bool, AllocError> {
+    if !is_domain(domain) {
+        return Ok(false);
+    }
+    let read = Box::new(alloc, Context::read(alloc, value, domain))?;
+    let is_put = put_fault_of(out, &read);
+    held.read = Some(read);
+    is_put
 }
 
-/// Puts a fault as it is printed; whether there is one.
-fn put_printed_of(out: &mut String, outcome: &Option<Outcome>) -> Result<bool, AllocError> {
-    match outcome {
-        Some(Err(fault)) => {
-            write!(out, "{fault}")?;
+/// Puts the fault of a context, where it has one.
+fn put_fault_of(out: &mut String, read: &Result<Context, JsonFault>) -> Result<bool, AllocError> {
+    match read {
+        Ok(_) => Ok(true),
+        Err(fault) => put_fault(out, fault),
+    }
+}
+
+/// Puts the fault of a `printed` line as it is printed; whether there is one.
+pub fn put_printed(
+    alloc: Global,
+    out: &mut String,
+    domain: &str,
+    value: &Value,
+) -> Result<bool, AllocError> {
+    if !is_domain(domain) {
+        return Ok(false);
+    }
+    match Context::read(alloc, value, domain) {
+        Ok(_) => Ok(false),
+        Err(fault) => print(out, &fault),
+    }
+}
+
+/// Puts a fault as it is printed.
+fn print(out: &mut String, fault: &JsonFault) -> Result<bool, AllocError> {
+    write!(out, "{fault}")?;
+    Ok(true)
+}
+
+/// Puts what a key or an id stands for, or the type of a key's values.
+pub fn put_meaning(
+    alloc: Global,
+    out: &mut String,
+    context: &Context,
+    word: &str,
+    text: &str,
+) -> Result<bool, AllocError> {
+    match word {
+        "key" => put_expanded(out, &context.expand_key(alloc, text)),
+        "id" => put_expanded(out, &context.expand_id(alloc, text)),
+        _ => {
+            out.push_str(type_text(context.type_of(text)))?;
             Ok(true)
         }
-        _ => Ok(false),
-    }
-}
-
-/// What is read; `None` where the line can't be.
-fn outcome(alloc: Global, input: &str) -> Result<Option<Outcome>, AllocError> {
-    match input.split_once(' ') {
-        Some((domain, json)) => outcome_of_json(alloc, domain, json),
-        None => Ok(outcome_of_domain(alloc, input)),
-    }
-}
-
-/// The context of a domain alone.
-fn outcome_of_domain(alloc: Global, domain: &str) -> Option<Outcome> {
-    if is_domain(domain) {
-        Some(Context::of_domain(alloc, domain))
-    } else {
-        None
-    }
-}
-
-/// The context of a JSON text, over the defaults of a domain.
-fn outcome_of_json(alloc: Global, domain: &str, json: &str) -> Result<Option<Outcome>, AllocError> {
-    match value_of(alloc, json)? {
-        Some(value) => Ok(outcome_of_value(alloc, domain, &value)),
-        None => Ok(None),
-    }
-}
-
-/// The context of a JSON value, over the defaults of a domain.
-fn outcome_of_value(alloc: Global, domain: &str, value: &Value) -> Option<Outcome> {
-    if is_domain(domain) {
-        Some(Context::read(alloc, value, domain))
-    } else {
-        None
-    }
-}
-
-/// Puts what a key stands for.
-pub fn put_key(
-    alloc: Global,
-    out: &mut String,
-    held: &Held,
-    text: &str,
-) -> Result<bool, AllocError> {
-    match held.context() {
-        Some(context) => put_expanded(out, &context.expand_key(alloc, text)),
-        None => Ok(false),
-    }
-}
-
-/// Puts what an id stands for.
-pub fn put_id(
-    alloc: Global,
-    out: &mut String,
-    held: &Held,
-    text: &str,
-) -> Result<bool, AllocError> {
-    match held.context() {
-        Some(context) => put_expanded(out, &context.expand_id(alloc, text)),
-        None => Ok(false),
     }
 }
 
 /// Puts an IRI, or a fault.
 fn put_expanded(out: &mut String, expanded: &Result<Iri, JsonFault>) -> Result<bool, AllocError> {
     match expanded {
-        Ok(iri) => out.push_str(iri.as_str())?,
-        Err(fault) => put_fault(out, fault)?,
-    }
-    Ok(true)
-}
-
-/// Puts the type of a key's values.
-pub fn put_type(out: &mut String, held: &Held, key: &str) -> Result<bool, AllocError> {
-    match held.context() {
-        Some(context) => {
-            out.push_str(type_text(context.type_of(key)))?;
+        Ok(iri) => {
+            out.push_str(iri.as_str())?;
             Ok(true)
         }
-        None => Ok(false),
+        Err(fault) => put_fault(out, fault),
     }
 }
 
@@ -182,6 +139,5 @@ fn put_form(
         "id" => context.compact_id(alloc, iri)?,
         _ => return Ok(false),
     };
-    put_quoted(alloc, out, text.as_str())?;
-    Ok(true)
+    put_quoted(alloc, out, text.as_str())
 }

@@ -4,7 +4,7 @@ use std::alloc::AllocError;
 use std::fmt::Write;
 
 /// Puts a fault as lines name it; want of memory is no fault of a line.
-pub fn put_fault(out: &mut String, fault: &JsonFault) -> Result<(), AllocError> {
+pub fn put_fault(out: &mut String, fault: &JsonFault) -> Result<bool, AllocError> {
     match fault {
         JsonFault::NotJson => put_name(out, "NotJson"),
         JsonFault::BadContext(key) => put_named(out, "BadContext", key.as_str()),
@@ -19,12 +19,13 @@ pub fn put_fault(out: &mut String, fault: &JsonFault) -> Result<(), AllocError> 
 }
 
 /// Puts a name alone.
-fn put_name(out: &mut String, name: &str) -> Result<(), AllocError> {
+fn put_name(out: &mut String, name: &str) -> Result<bool, AllocError> {
     out.push_str(name)?;
-    Ok(())
+    Ok(true)
 }
 
 /// Puts a name and a text between quotes.
-fn put_named(out: &mut String, name: &str, text: &str) -> Result<(), AllocError> {
-    write!(out, "{name} \"{text}\"")
+fn put_named(out: &mut String, name: &str, text: &str) -> Result<bool, AllocError> {
+    write!(out, "{name} \"{text}\"")?;
+    Ok(true)
 }

@@ -1,54 +1,55 @@
 //! What the lines of a file hold from one to the next.
-use jsonld_context::Context;
+use crate::kinds;
+use jsonld_context::{Context, JsonFault};
 use jsonld_values::Names;
+use std::alloc::{AllocError, Global};
+use transcripts::{Case, Tries};
 
 /// What is held.
 #[derive(Drop)]
 pub struct Held {
-    /// The context of the last `context` line, where it gave one.
-    context: Option<Box<Context>>,
+    /// What takes memory.
+    alloc: Global,
+    /// What the last `context` line gave, where it could be read.
+    pub read: Option<Box<Result<Context, JsonFault>>>,
     /// The names that a text of several parts has met so far.
-    names: Option<Box<Names>>,
+    pub names: Option<Box<Names>>,
 }
 
 impl Held {
     /// Nothing.
-    pub fn new() -> Held {
+    pub fn new(alloc: Global) -> Held {
         Held {
-            context: None,
+            alloc,
+            read: None,
             names: None,
         }
     }
 
     /// The context under which lines are read.
     pub fn context(&self) -> Option<&Context> {
-        match &self.context {
-            Some(context) => Some(context),
+        match &self.read {
+            Some(read) => context_of(read),
             None => None,
         }
     }
+}
 
-    /// Holds this context from now on, or none, and no names.
-    pub fn set_context(&mut self, context: Option<Box<Context>>) {
-        self.context = context;
+/// The context that was read.
+pub fn context_of(read: &Result<Context, JsonFault>) -> Option<&Context> {
+    match read {
+        Ok(context) => Some(context),
+        Err(_) => None,
+    }
+}
+
+impl Tries for Held {
+    fn forget(&mut self) {
+        self.read = None;
         self.names = None;
     }
 
-    /// The names that a text has met so far.
-    pub fn names(&self) -> Option<&Names> {
-        match &self.names {
-            Some(names) => Some(names),
-            None => None,
-        }
-    }
-
-    /// Gives these names out, and holds none.
-    pub fn take_names(&mut self) -> Option<Box<Names>> {
-        self.names.take()
-    }
-
-    /// Holds these names from now on, or none.
-    pub fn set_names(&mut self, names: Option<Box<Names>>) {
-        self.names = names;
+    fn put(&mut self, out: &mut String, case: &Case<'_>) -> Result<bool, AllocError> {
+        kinds::put(self.alloc, out, self, case)
     }
 }

@@ -6,26 +6,14 @@
 //! `escaped ["TEXT", "TEXT"]`: how the first lexical form stands to the second as they are written, with their closing quotes; `closed`:
 //! how the first IRI does, with `>` behind it. They give `before`, `same` or `behind`. `common`: how many bytes two texts have in common
 //! from their starts.
-use crate::texts::{pair_of, value_of};
 use rdf_terms::{Triple, cmp_iris, cmp_terms, cmp_triples, read_triple};
 use std::alloc::{AllocError, Global};
 use std::cmp::Ordering;
 use std::fmt::Write;
 use text_rules::{cmp_closed, cmp_escaped, common_len};
 
-/// Puts what a line gives.
-pub fn put(alloc: Global, out: &mut String, word: &str, input: &str) -> Result<bool, AllocError> {
-    let Some(texts) = value_of(alloc, input)? else {
-        return Ok(false);
-    };
-    match pair_of(&texts) {
-        Some((first, second)) => put_pair(alloc, out, word, first, second),
-        None => Ok(false),
-    }
-}
-
 /// Puts what a word compares of two texts.
-fn put_pair(
+pub fn put(
     alloc: Global,
     out: &mut String,
     word: &str,
@@ -47,25 +35,17 @@ fn put_pair(
 
 /// How the triples of two texts stand to each other; nothing where one of them is no triple.
 fn order_of(alloc: Global, first: &str, second: &str) -> &'static str {
-    match triple_of(alloc, first) {
-        Some(triple) => order_behind(alloc, &triple, second),
-        None => "",
+    match read_triple(alloc, first) {
+        Ok(triple) => order_behind(alloc, &triple, second),
+        Err(_) => "",
     }
 }
 
 /// How a triple stands to that of a text; nothing where this is no triple.
 fn order_behind(alloc: Global, triple: &Triple, second: &str) -> &'static str {
-    match triple_of(alloc, second) {
-        Some(other) => order_of_triples(triple, &other),
-        None => "",
-    }
-}
-
-/// The triple of a text.
-fn triple_of(alloc: Global, text: &str) -> Option<Box<Triple>> {
-    match read_triple(alloc, text) {
-        Ok(triple) => Box::new(alloc, triple).ok(),
-        Err(_) => None,
+    match read_triple(alloc, second) {
+        Ok(other) => order_of_triples(triple, &other),
+        Err(_) => "",
     }
 }
 

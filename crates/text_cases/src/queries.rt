@@ -1,9 +1,14 @@
 //! `query DOMAIN JSON`: what a query asks for, its patterns, branches and filters, its named variables in the order of their bytes, and how
 //! many have no name; or a fault.
+//!
+//! `update DOMAIN JSON`: what an update deletes, what it inserts, the patterns, branches and filters whose solutions it goes through, the
+//! named variables in the order of their bytes, and how many have no name and how many subjects are made anew; or a fault.
 use crate::faults::put_fault;
+use crate::parts::put_behind;
 use crate::slots::{Variables, put_iri, put_slot, put_triples, put_variable};
-use jrql_ast::{Compare, Filter, Group, PatternTriple, Query, Select, Target, What};
+use jrql_ast::{Compare, Filter, Group, PatternTriple, Query, Select, Target, UpdatePlan, What};
 use jrql_patterns::{ReadQuery, read_query};
+use jrql_update::read_update;
 use jsonld_context::JsonFault;
 use std::alloc::{AllocError, Global};
 use std::fmt::Write;
@@ -11,37 +16,72 @@ use text_rules::{Text, is_domain};
 use transcripts::parted;
 
 /// Puts what a `query` line gives.
-pub fn put(alloc: Global, out: &mut String, input: &str) -> Result<bool, AllocError> {
+pub fn put_query(alloc: Global, out: &mut String, input: &str) -> Result<bool, AllocError> {
     let (domain, json) = parted(input);
     if !is_domain(domain) {
         return Ok(false);
     }
     let read = Box::new(alloc, read_query(alloc, json.as_bytes(), domain))?;
-    put_read(alloc, out, &read)
+    put_query_read(alloc, out, &read)
 }
 
 /// Puts a query, or the fault.
-fn put_read(
+fn put_query_read(
     alloc: Global,
     out: &mut String,
     read: &Result<ReadQuery, JsonFault>,
 ) -> Result<bool, AllocError> {
     match read {
-        Ok(read) => put_query(alloc, out, &read.query)?,
-        Err(fault) => put_fault(out, fault)?,
+        Ok(read) => put_asked(alloc, out, &read.query),
+        Err(fault) => put_fault(out, fault),
+    }
+}
+
+/// Puts what an `update` line gives.
+pub fn put_update(alloc: Global, out: &mut String, input: &str) -> Result<bool, AllocError> {
+    let (domain, json) = parted(input);
+    if !is_domain(domain) {
+        return Ok(false);
+    }
+    let read = Box::new(alloc, read_update(alloc, json.as_bytes(), domain))?;
+    put_update_read(alloc, out, &read)
+}
+
+/// Puts a plan, or the fault.
+fn put_update_read(
+    alloc: Global,
+    out: &mut String,
+    read: &Result<UpdatePlan, JsonFault>,
+) -> Result<bool, AllocError> {
+    match read {
+        Ok(plan) => put_plan(alloc, out, plan),
+        Err(fault) => put_fault(out, fault),
+    }
+}
+
+/// Puts a plan.
+fn put_plan(alloc: Global, out: &mut String, plan: &UpdatePlan) -> Result<bool, AllocError> {
+    let names = plan.group.names.as_slice();
+    put_marked(alloc, out, "delete ", plan.deletes.as_slice(), names)?;
+    put_marked(alloc, out, "; insert ", plan.inserts.as_slice(), names)?;
+    put_group(alloc, out, "; where ", &plan.group)?;
+    put_names(alloc, out, &plan.group)?;
+    if plan.fresh > 0 {
+        write!(out, "; fresh {}", plan.fresh)?;
     }
     Ok(true)
 }
 
 /// Puts a query.
-fn put_query(alloc: Global, out: &mut String, query: &Query) -> Result<(), AllocError> {
+fn put_asked(alloc: Global, out: &mut String, query: &Query) -> Result<bool, AllocError> {
     let names = query.group.names.as_slice();
     match &query.what {
         What::Select(select) => put_select(out, select, names)?,
         What::Describe(targets) => put_describe(out, targets.as_slice(), names)?,
     }
     put_group(alloc, out, "; ", &query.group)?;
-    put_names(alloc, out, &query.group)
+    put_names(alloc, out, &query.group)?;
+    Ok(true)
 }
 
 /// Puts the rows that are asked for.
@@ -95,7 +135,7 @@ fn put_target(text: &mut String, target: &Target, names: &[Text]) -> Result<(), 
 }
 
 /// Puts patterns behind a mark, and branches and filters.
-pub fn put_group(
+fn put_group(
     alloc: Global,
     text: &mut String,
     mark: &str,
@@ -113,7 +153,7 @@ pub fn put_group(
 }
 
 /// Puts triples behind a mark.
-pub fn put_marked(
+fn put_marked(
     alloc: Global,
     text: &mut String,
     mark: &str,
@@ -146,34 +186,27 @@ fn put_filter(text: &mut String, filter: &Filter, names: &[Text]) -> Result<(), 
     put_slot(text, &filter.right, Variables::OfGroup(names))
 }
 
-/// Puts the named variables, where there are any, and how many have no name, where there are any.
-pub fn put_names(alloc: Global, text: &mut String, group: &Group) -> Result<(), AllocError> {
-    let names = sorted_names(alloc, group)?;
-    put_words(text, names.as_slice())?;
+/// Puts the named variables in the order of their bytes, where there are any, and how many have no name, where there are any.
+fn put_names(alloc: Global, text: &mut String, group: &Group) -> Result<(), AllocError> {
+    if !group.names.as_slice().is_empty() {
+        text.push_str("; names")?;
+        put_sorted(alloc, text, group.names.as_slice())?;
+    }
     if group.hidden > 0 {
         write!(text, "; hidden {}", group.hidden)?;
     }
     Ok(())
 }
 
-/// The named variables in the order of their bytes.
-fn sorted_names(alloc: Global, group: &Group) -> Result<Vec<String>, AllocError> {
-    let mut names = Vec::new(alloc);
-    for name in group.names.as_slice() {
-        names.push(String::from_str(alloc, name.as_str())?)?;
-    }
-    names.sort()?;
-    Ok(names)
-}
-
-/// Puts names behind a mark, where there are any.
-fn put_words(text: &mut String, names: &[String]) -> Result<(), AllocError> {
-    if !names.is_empty() {
-        text.push_str("; names")?;
-    }
+/// Puts names in the order of their bytes, each behind a space.
+fn put_sorted(alloc: Global, text: &mut String, names: &[Text]) -> Result<(), AllocError> {
+    let mut sorted = Vec::new(alloc);
     for name in names {
-        text.push(' ')?;
-        text.push_str(name.as_str())?;
+        sorted.push(name.as_str())?;
+    }
+    sorted.sort()?;
+    for name in &sorted {
+        put_behind(text, name)?;
     }
     Ok(())
 }

@@ -27,7 +27,22 @@ pub fn put_triples(
     triples: &[PatternTriple],
     variables: Variables<'_>,
 ) -> Result<(), AllocError> {
-    let lines = lines_of(alloc, triples, variables)?;
+    let mut lines = Box::new(alloc, Vec::new(alloc))?;
+    put_sorted(alloc, out, &mut lines, triples, variables)
+}
+
+/// Puts triples as lines into an empty list, and then these, in the order of their bytes.
+fn put_sorted(
+    alloc: Global,
+    out: &mut String,
+    lines: &mut Vec<String>,
+    triples: &[PatternTriple],
+    variables: Variables<'_>,
+) -> Result<(), AllocError> {
+    for triple in triples {
+        push_line(alloc, lines, triple, variables)?;
+    }
+    lines.sort()?;
     put_lines(out, lines.as_slice())
 }
 
@@ -48,29 +63,17 @@ fn put_lines(out: &mut String, lines: &[String]) -> Result<(), AllocError> {
     Ok(())
 }
 
-/// The triples as lines without their last dot, in the order of bytes.
-fn lines_of(
+/// Puts a triple behind these lines, without its last dot.
+fn push_line(
     alloc: Global,
-    triples: &[PatternTriple],
-    variables: Variables<'_>,
-) -> Result<Vec<String>, AllocError> {
-    let mut lines = Vec::new(alloc);
-    for triple in triples {
-        lines.push(line_of(alloc, triple, variables)?)?;
-    }
-    lines.sort()?;
-    Ok(lines)
-}
-
-/// A triple as a line.
-fn line_of(
-    alloc: Global,
+    lines: &mut Vec<String>,
     triple: &PatternTriple,
     variables: Variables<'_>,
-) -> Result<String, AllocError> {
+) -> Result<(), AllocError> {
     let mut line = String::new(alloc);
     put_triple(&mut line, triple, variables)?;
-    Ok(line)
+    lines.push(line)?;
+    Ok(())
 }
 
 /// Puts a triple, without a dot.

@@ -6,10 +6,12 @@
 //!
 //! `object pattern JSON` and `object insert JSON`: the object that a JSON text is by itself there, or `none`, and behind `with` the triples
 //! that it says; `array or long` where it can't stand alone; or a fault.
+//!
+//! `first pattern JSON` and `first insert JSON` begin a text of several parts, `then pattern JSON` and `then insert JSON` read one more
+//! part of it. They give the triples as `pattern` and `insert` do, with each variable by its number, or a fault, which ends the text.
 use crate::faults::put_fault;
-use crate::held::Held;
+use crate::held::{Held, context_of};
 use crate::slots::{Variables, put_slot, put_triples};
-use crate::texts::value_of;
 use jrql_ast::PatternTriple;
 use jsonld_context::{Context, JsonFault};
 use jsonld_subjects::{ObjectRead, Place, read_object, read_subjects, stands_alone};
@@ -17,10 +19,6 @@ use jsonld_values::{Names, number_triples};
 use serde_json::Value;
 use std::alloc::{AllocError, Global};
 use std::fmt::Write;
-use transcripts::parted;
-
-/// What reading subjects gives: their triples, or a fault.
-pub type Outcome = Result<Vec<PatternTriple>, JsonFault>;
 
 /// Where a word says that subjects stand.
 fn place_of(word: &str) -> Option<Place> {
@@ -31,145 +29,151 @@ fn place_of(word: &str) -> Option<Place> {
     }
 }
 
-/// What a text says there, beside the names that were met before; `None` where no context is held, or the line can't be read.
-pub fn read(
-    alloc: Global,
-    held: &Held,
-    word: &str,
-    json: &str,
-    names: &mut Names,
-) -> Result<Option<Box<Outcome>>, AllocError> {
-    let (Some(place), Some(context)) = (place_of(word), held.context()) else {
-        return Ok(None);
-    };
-    match value_of(alloc, json)? {
-        Some(value) => Ok(Some(read_value(alloc, &value, context, place, names)?)),
-        None => Ok(None),
-    }
-}
-
-/// What a value says there.
-pub fn read_value(
-    alloc: Global,
-    value: &Value,
-    context: &Context,
-    place: Place,
-    names: &mut Names,
-) -> Result<Box<Outcome>, AllocError> {
-    Ok(Box::new(alloc, read_subjects(alloc, value, context, place, names))?)
-}
-
-/// Puts the triples that a line of this word says.
+/// Puts what a value says in a place, as a word has it.
 pub fn put(
     alloc: Global,
     out: &mut String,
     held: &Held,
     word: &str,
-    json: &str,
+    place: &str,
+    value: &Value,
 ) -> Result<bool, AllocError> {
-    let mut names = Box::new(alloc, Names::empty(alloc))?;
-    match read(alloc, held, word, json, &mut names)? {
-        Some(outcome) => put_outcome(alloc, out, &outcome, Variables::Named(&names)),
-        None => Ok(false),
+    match (place_of(place), held.context()) {
+        (Some(place), Some(context)) => put_alone(alloc, out, context, word, place, value),
+        _ => Ok(false),
     }
 }
 
-/// Puts how many triples a line says.
-pub fn put_count(
+/// Puts what a value says under a context, with no names before it.
+pub fn put_alone(
     alloc: Global,
     out: &mut String,
-    held: &Held,
-    input: &str,
+    context: &Context,
+    word: &str,
+    place: Place,
+    value: &Value,
 ) -> Result<bool, AllocError> {
-    let (word, json) = parted(input);
     let mut names = Box::new(alloc, Names::empty(alloc))?;
-    match read(alloc, held, word, json, &mut names)? {
-        Some(outcome) => put_counted(out, &outcome),
-        None => Ok(false),
+    if word == "object" {
+        return put_object(alloc, out, context, place, value, &mut names);
     }
-}
-
-/// Puts the triples that a line says, with each variable by its number once the text was read whole.
-pub fn put_numbered(
-    alloc: Global,
-    out: &mut String,
-    held: &Held,
-    input: &str,
-) -> Result<bool, AllocError> {
-    let (word, json) = parted(input);
-    let mut names = Box::new(alloc, Names::empty(alloc))?;
-    match read(alloc, held, word, json, &mut names)? {
-        Some(mut outcome) => {
-            number(&mut outcome, &names);
-            put_outcome(alloc, out, &outcome, Variables::Numbered)
-        }
-        None => Ok(false),
-    }
-}
-
-/// Numbers the variables that have no name behind those that have one.
-fn number(outcome: &mut Outcome, names: &Names) {
-    names.kept();
-    if let Ok(triples) = outcome {
-        number_triples(triples.as_mut_slice(), names.named());
-    }
-}
-
-/// Puts the triples, or the fault.
-pub fn put_outcome(
-    alloc: Global,
-    out: &mut String,
-    outcome: &Outcome,
-    variables: Variables<'_>,
-) -> Result<bool, AllocError> {
-    match outcome {
-        Ok(triples) => put_triples(alloc, out, triples.as_slice(), variables)?,
-        Err(fault) => put_fault(out, fault)?,
-    }
+    put_read(alloc, out, context, word, place, value, &mut names)?;
     Ok(true)
 }
 
-/// Puts the number of triples, or the fault.
-fn put_counted(out: &mut String, outcome: &Outcome) -> Result<bool, AllocError> {
-    match outcome {
-        Ok(triples) => write!(out, "{}", triples.len())?,
-        Err(fault) => put_fault(out, fault)?,
-    }
-    Ok(true)
-}
-
-/// Puts the object that a line says.
-pub fn put_object(
+/// Puts what a value says as the first part of a text, or as its next one.
+pub fn put_part(
     alloc: Global,
     out: &mut String,
-    held: &Held,
-    input: &str,
+    held: &mut Held,
+    word: &str,
+    place: &str,
+    value: &Value,
 ) -> Result<bool, AllocError> {
-    let (word, json) = parted(input);
-    let (Some(place), Some(context)) = (place_of(word), held.context()) else {
+    if word == "first" {
+        held.names = Some(Box::new(alloc, Names::empty(alloc))?);
+    }
+    let Some(place) = place_of(place) else {
+        held.names = None;
         return Ok(false);
     };
-    match value_of(alloc, json)? {
-        Some(value) => put_object_of(alloc, out, &value, context, place),
-        None => Ok(false),
+    let goes_on = put_next(alloc, out, held, word, place, value)?;
+    if goes_on != Some(true) {
+        held.names = None;
+    }
+    Ok(goes_on.is_some())
+}
+
+/// Puts what the next part of a text says; whether the text goes on behind it, or nothing where none was begun, or no context is held.
+fn put_next(
+    alloc: Global,
+    out: &mut String,
+    held: &mut Held,
+    word: &str,
+    place: Place,
+    value: &Value,
+) -> Result<Option<bool>, AllocError> {
+    match (&held.read, &mut held.names) {
+        (Some(read), Some(names)) => match context_of(read) {
+            Some(context) => {
+                let is_ok = put_read(alloc, out, context, word, place, value, names)?;
+                Ok(Some(is_ok))
+            }
+            None => Ok(None),
+        },
+        _ => Ok(None),
+    }
+}
+
+/// Puts what a value says beside names that were met before it; whether it is no fault.
+fn put_read(
+    alloc: Global,
+    out: &mut String,
+    context: &Context,
+    word: &str,
+    place: Place,
+    value: &Value,
+    names: &mut Names,
+) -> Result<bool, AllocError> {
+    let mut read = Box::new(alloc, read_subjects(alloc, value, context, place, names))?;
+    put_outcome(alloc, out, word, &mut read, names)
+}
+
+/// Puts triples as a word has them, or the fault; whether it is no fault.
+fn put_outcome(
+    alloc: Global,
+    out: &mut String,
+    word: &str,
+    read: &mut Result<Vec<PatternTriple>, JsonFault>,
+    names: &Names,
+) -> Result<bool, AllocError> {
+    match read {
+        Ok(triples) => {
+            put_as(alloc, out, word, triples.as_mut_slice(), names)?;
+            Ok(true)
+        }
+        Err(fault) => {
+            put_fault(out, fault)?;
+            Ok(false)
+        }
+    }
+}
+
+/// Puts triples as a word has them.
+fn put_as(
+    alloc: Global,
+    out: &mut String,
+    word: &str,
+    triples: &mut [PatternTriple],
+    names: &Names,
+) -> Result<(), AllocError> {
+    match word {
+        "named" => put_triples(alloc, out, triples, Variables::Named(names)),
+        "count" => write!(out, "{}", triples.len()),
+        "numbered" => {
+            names.kept();
+            number_triples(triples, names.named());
+            put_triples(alloc, out, triples, Variables::Numbered)
+        }
+        _ => put_triples(alloc, out, triples, Variables::Numbered),
     }
 }
 
 /// Puts the object that a value is, or the fault.
-fn put_object_of(
+fn put_object(
     alloc: Global,
     out: &mut String,
-    value: &Value,
     context: &Context,
     place: Place,
+    value: &Value,
+    names: &mut Names,
 ) -> Result<bool, AllocError> {
     if !stands_alone(value) {
         out.push_str("array or long")?;
         return Ok(true);
     }
-    let mut names = Box::new(alloc, Names::empty(alloc))?;
-    let read = Box::new(alloc, read_object(alloc, value, context, place, &mut names))?;
-    put_object_read(alloc, out, &read, &names)
+    let read = Box::new(alloc, read_object(alloc, value, context, place, names))?;
+    put_object_read(alloc, out, &read, names)
 }
 
 /// Puts an object, or the fault.
@@ -180,10 +184,9 @@ fn put_object_read(
     names: &Names,
 ) -> Result<bool, AllocError> {
     match read {
-        Ok(read) => put_object_text(alloc, out, read, Variables::Named(names))?,
-        Err(fault) => put_fault(out, fault)?,
+        Ok(read) => put_object_text(alloc, out, read, Variables::Named(names)),
+        Err(fault) => put_fault(out, fault),
     }
-    Ok(true)
 }
 
 /// Puts an object, and its triples where it has any.
@@ -192,14 +195,14 @@ fn put_object_text(
     out: &mut String,
     read: &ObjectRead,
     variables: Variables<'_>,
-) -> Result<(), AllocError> {
+) -> Result<bool, AllocError> {
     match &read.object {
         Some(slot) => put_slot(out, slot, variables)?,
         None => out.push_str("none")?,
     }
-    if read.triples.is_empty() {
-        return Ok(());
+    if !read.triples.is_empty() {
+        out.push_str(" with ")?;
+        put_triples(alloc, out, read.triples.as_slice(), variables)?;
     }
-    out.push_str(" with ")?;
-    put_triples(alloc, out, read.triples.as_slice(), variables)
+    Ok(true)
 }

@@ -10,13 +10,12 @@
 //! `iri "TEXT"`: the IRI that a text in angle brackets spells, or `no` where the text spells none that isn't too long.
 //!
 //! `resolve BASE "REFERENCE"`: the target of a reference against a base, which is an absolute IRI. It gives an IRI, or `NotIri`.
-use crate::texts::{put_quoted, text_of, text_value_of};
+use crate::texts::put_quoted;
 use jsonld_context::is_variable;
 use rdf_terms::{Triple, TripleFault, read_iri, read_triple, write_triple};
 use std::alloc::{AllocError, Global};
 use std::fmt::Write;
 use text_rules::{IriFault, Text, is_absolute, is_domain, is_language_tag, lower_tag, resolve};
-use transcripts::parted;
 
 /// Puts whether a text has the form that a word names.
 pub fn put_form(out: &mut String, word: &str, text: &str) -> Result<bool, AllocError> {
@@ -36,8 +35,7 @@ pub fn put_tag(alloc: Global, out: &mut String, text: &str) -> Result<bool, Allo
         return Ok(true);
     }
     let tag = lower_tag(alloc, text)?;
-    put_quoted(alloc, out, tag.as_str())?;
-    Ok(true)
+    put_quoted(alloc, out, tag.as_str())
 }
 
 /// Puts what is written for the triple of a text, or its fault.
@@ -58,10 +56,7 @@ fn put_written(alloc: Global, out: &mut String, triple: &Triple) -> Result<bool,
 /// Puts the text of these bytes; whether they are one.
 fn put_bytes(alloc: Global, out: &mut String, bytes: &[u8]) -> Result<bool, AllocError> {
     match str::from_utf8(bytes) {
-        Ok(text) => {
-            put_quoted(alloc, out, text)?;
-            Ok(true)
-        }
+        Ok(text) => put_quoted(alloc, out, text),
         Err(_) => Ok(false),
     }
 }
@@ -88,18 +83,16 @@ pub fn put_iri(alloc: Global, out: &mut String, text: &str) -> Result<bool, Allo
 }
 
 /// Puts the target of a reference.
-pub fn put_resolved(alloc: Global, out: &mut String, input: &str) -> Result<bool, AllocError> {
-    let (base, json) = parted(input);
+pub fn put_resolved(
+    alloc: Global,
+    out: &mut String,
+    base: &str,
+    reference: &str,
+) -> Result<bool, AllocError> {
     if !is_absolute(base) {
         return Ok(false);
     }
-    let Some(value) = text_value_of(alloc, json)? else {
-        return Ok(false);
-    };
-    match text_of(&value) {
-        Some(reference) => put_target(out, &resolve(alloc, base, reference)),
-        None => Ok(false),
-    }
+    put_target(out, &resolve(alloc, base, reference))
 }
 
 /// Puts a target, or why there is none; want of memory is no fault of a line.

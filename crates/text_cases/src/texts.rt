@@ -2,22 +2,6 @@
 use serde_json::Value;
 use std::alloc::{AllocError, Global};
 
-/// The value of a JSON text; `None` where it is none.
-pub fn value_of(alloc: Global, json: &str) -> Result<Option<Box<Value>>, AllocError> {
-    match Value::from_str(alloc, json) {
-        Ok(value) => Ok(Some(Box::new(alloc, value)?)),
-        Err(_) => Ok(None),
-    }
-}
-
-/// The value of a JSON text that has no white space around a string; `None` where it is none.
-pub fn text_value_of(alloc: Global, json: &str) -> Result<Option<Box<Value>>, AllocError> {
-    if !json.starts_with('"') || !json.ends_with('"') {
-        return Ok(None);
-    }
-    value_of(alloc, json)
-}
-
 /// The text of a JSON string.
 pub fn text_of(value: &Value) -> Option<&str> {
     match value {
@@ -38,15 +22,15 @@ pub fn pair_of(value: &Value) -> Option<(&str, &str)> {
 }
 
 /// Puts a text as a JSON string.
-pub fn put_quoted(alloc: Global, out: &mut String, text: &str) -> Result<(), AllocError> {
+pub fn put_quoted(alloc: Global, out: &mut String, text: &str) -> Result<bool, AllocError> {
     let text = String::from_str(alloc, text)?;
     let value = Box::new(alloc, Value::String(text))?;
     put_value(alloc, out, &value)
 }
 
 /// Puts a JSON value.
-pub fn put_value(alloc: Global, out: &mut String, value: &Value) -> Result<(), AllocError> {
+pub fn put_value(alloc: Global, out: &mut String, value: &Value) -> Result<bool, AllocError> {
     let written = value.to_string(alloc)?;
     out.push_str(written.as_str())?;
-    Ok(())
+    Ok(true)
 }

@@ -1,13 +1,11 @@
 //! `written ID TRIPLES`: the JSON text of a subject, of which the triples follow without it, each with a dot behind it. `again ID TRIPLES`: the
 //! triples that this text says in a pattern.
 use crate::held::Held;
-use crate::slots::Variables;
-use crate::subjects::{put_outcome, read_value};
+use crate::subjects::put_alone;
 use crate::texts::put_value;
 use jrql_ast::{Described, Sequence};
 use jsonld_context::Context;
 use jsonld_subjects::{Place, write_subject};
-use jsonld_values::Names;
 use rdf_terms::{Iri, Triple, read_triple};
 use serde_json::Value;
 use std::alloc::{AllocError, Global};
@@ -19,78 +17,94 @@ const BETWEEN: &str = " . ";
 /// What stands behind the last one.
 const LAST: &str = " .";
 
-/// Puts the text of a line's subject.
-pub fn put(alloc: Global, out: &mut String, held: &Held, input: &str) -> Result<bool, AllocError> {
-    match written(alloc, held, input)? {
-        Some(value) => {
-            put_value(alloc, out, &value)?;
-            Ok(true)
-        }
-        None => Ok(false),
-    }
-}
-
-/// Puts what the text of a line's subject says.
-pub fn put_again(
+/// Puts what a line gives of its subject.
+pub fn put(
     alloc: Global,
     out: &mut String,
     held: &Held,
+    word: &str,
     input: &str,
 ) -> Result<bool, AllocError> {
-    match (held.context(), written(alloc, held, input)?) {
-        (Some(context), Some(value)) => put_read_again(alloc, out, &value, context),
+    let (id, rest) = parted(input);
+    match (held.context(), described(alloc, id)) {
+        (Some(context), Some(mut found)) => {
+            if fill(alloc, &mut found.triples, id, rest) {
+                put_subject(alloc, out, context, word, &found)
+            } else {
+                Ok(false)
+            }
+        }
         _ => Ok(false),
     }
 }
 
-/// Puts what a value says in a pattern.
-fn put_read_again(
+/// Puts the text of a subject, or what it says in a pattern.
+fn put_subject(
     alloc: Global,
     out: &mut String,
-    value: &Value,
     context: &Context,
+    word: &str,
+    subject: &Described,
 ) -> Result<bool, AllocError> {
-    let mut names = Box::new(alloc, Names::empty(alloc))?;
-    let outcome = read_value(alloc, value, context, Place::Pattern, &mut names)?;
-    put_outcome(alloc, out, &outcome, Variables::Named(&names))
+    let value = Box::new(alloc, write_subject(alloc, subject, context)?)?;
+    put_said(alloc, out, context, word, &value)
 }
 
-/// The value of a line's subject; `None` where no context is held, or the line can't be read.
-fn written(alloc: Global, held: &Held, input: &str) -> Result<Option<Box<Value>>, AllocError> {
-    let (Some(context), Some(described)) = (held.context(), described(alloc, input)) else {
-        return Ok(None);
-    };
-    Ok(Some(Box::new(alloc, write_subject(alloc, &described, context)?)?))
+/// Puts the text of a value, or what it says in a pattern.
+fn put_said(
+    alloc: Global,
+    out: &mut String,
+    context: &Context,
+    word: &str,
+    value: &Value,
+) -> Result<bool, AllocError> {
+    if word == "written" {
+        put_value(alloc, out, value)
+    } else {
+        put_alone(alloc, out, context, "named", Place::Pattern, value)
+    }
 }
 
-/// The subject of a line.
-fn described(alloc: Global, input: &str) -> Option<Box<Described>> {
-    let (id, rest) = parted(input);
-    let triples = triples_of(alloc, id, rest)?;
-    let iri = iri_of(alloc, id)?;
-    Box::new(alloc, Described { id: iri, triples }).ok()
-}
-
-/// The IRI that stands between angle brackets.
-fn iri_of(alloc: Global, id: &str) -> Option<Iri> {
+/// The subject of an IRI that stands between angle brackets, with no triple yet.
+fn described(alloc: Global, id: &str) -> Option<Box<Described>> {
     let inner = id.strip_prefix('<')?.strip_suffix('>')?;
-    Iri::new(alloc, inner).ok()
+    match Iri::new(alloc, inner) {
+        Ok(id) => {
+            let triples = Sequence::new(alloc);
+            Box::new(alloc, Described { id, triples }).ok()
+        }
+        Err(_) => None,
+    }
 }
 
-/// The triples of a subject, which each of them lacks.
-fn triples_of(alloc: Global, id: &str, text: &str) -> Option<Sequence<Triple>> {
-    let mut triples = Sequence::new(alloc);
+/// Puts the triples of a subject, which each of them lacks in the text; whether all are triples.
+fn fill(alloc: Global, triples: &mut Sequence<Triple>, id: &str, text: &str) -> bool {
     if text.is_empty() {
-        return Some(triples);
+        return true;
     }
-    for rest in text.strip_suffix(LAST)?.split(BETWEEN) {
-        triples.push(triple_of(alloc, id, rest)?).ok()?;
+    let Some(front) = text.strip_suffix(LAST) else {
+        return false;
+    };
+    for rest in front.split(BETWEEN) {
+        if !push_behind(alloc, triples, id, rest) {
+            return false;
+        }
     }
-    Some(triples)
+    true
 }
 
-/// The triple of a subject and what stands behind it.
-fn triple_of(alloc: Global, id: &str, rest: &str) -> Option<Triple> {
-    let line = format!(in alloc; "{id} {rest} .").ok()?;
-    read_triple(alloc, line.as_str()).ok()
+/// Puts the triple of a subject and what stands behind it; whether it is one.
+fn push_behind(alloc: Global, triples: &mut Sequence<Triple>, id: &str, rest: &str) -> bool {
+    match format!(in alloc; "{id} {rest} .") {
+        Ok(line) => push_triple(alloc, triples, line.as_str()),
+        Err(_) => false,
+    }
+}
+
+/// Puts the triple of a text; whether it is one.
+fn push_triple(alloc: Global, triples: &mut Sequence<Triple>, text: &str) -> bool {
+    match read_triple(alloc, text) {
+        Ok(triple) => triples.push(triple).is_ok(),
+        Err(_) => false,
+    }
 }

@@ -4,3 +4,5 @@ pub mod Comparing
 pub mod Blocks
 pub mod TagLemmas
 pub mod Colons
+pub mod Numbers
+pub mod Appending

@@ -1,12 +1,11 @@
 -- Names of domains: 1 to 200 of `a` to `z`, `0` to `9`, `.` and `-`.
 use Rattle.std.specs.Prelude.{ℕ, List, Bool, ◌&&◌, ◌||◌, nat_le, ◌==◌, length}
 use Rattle.std.specs.List.{list_all}
-use Rattle.text_rules.specs.declared.absolute.TheConstants.{DOMAIN_LIMIT}
 use Rattle.text_rules.specs.Iri.{is_digit}
 
 -- how many bytes a name of a domain has at most
 abbrev pub domain_limit : ℕ
-domain_limit = DOMAIN_LIMIT
+domain_limit = 200
 
 -- what a name of a domain is made of
 abbrev pub is_domain_byte : ℕ → Bool

@@ -1,7 +1,6 @@
 -- IRIs as bytes of UTF-8 (RDF 1.1 Concepts section 3.2; RFC 3986 section 3.1; N-Triples 1.1, IRIREF).
 use Rattle.std.specs.Prelude.{ℕ, List, [], ◌∷◌, Bool, true, false, ◌&&◌, ◌||◌, not, nat_le, ◌==◌, length, if◌then◌else◌}
 use Rattle.std.specs.List.{list_all}
-use Rattle.text_rules.specs.declared.absolute.TheConstants.{IRI_LIMIT}
 
 -- a letter of ASCII
 abbrev pub is_letter : ℕ → Bool
@@ -35,7 +34,7 @@ is_iri text = has_scheme text && list_all (λ byte. not (is_excluded byte)) text
 
 -- how many bytes an IRI has at most
 abbrev pub iri_limit : ℕ
-iri_limit = IRI_LIMIT
+iri_limit = 2048
 
 -- an absolute IRI within the limit
 abbrev pub is_absolute : List ℕ → Bool

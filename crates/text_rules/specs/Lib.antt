@@ -12,3 +12,6 @@ pub mod BytePlaces
 pub mod Compare
 pub mod CompareLaws
 pub mod TextForms
+pub mod Integers
+pub mod Spots
+pub mod KeptStart

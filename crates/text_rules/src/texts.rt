@@ -2,22 +2,23 @@
 ghost use Rattle.std.specs.Prelude.{◌≡◌, ◌==◌, IfOk, length};
 
 use std::alloc::{AllocError, Global};
+use std::hash::{Hash, Hasher};
 use std::marker::Model;
-use std::rc::RcStr;
+use std::sync::ArcStr;
 
-/// A text, which contracts see as the list of its bytes. Its copies share them.
+/// A text, which contracts see as the list of its bytes. Its copies share them, also across threads.
 #[derive(Debug, Drop)]
 pub struct Text {
-    inner: RcStr,
+    inner: ArcStr,
 }
 
 impl Model for Text {
     ghost use Rattle.std.specs.Prelude.{List, ℕ};
-    ghost use Rattle.std.specs.Rc.{rc_str_bytes};
+    ghost use Rattle.std.specs.Arc.{arc_str_bytes};
 
     ghost Value = { List ℕ };
 
-    ghost view = { λ t. rc_str_bytes t.inner };
+    ghost view = { λ t. arc_str_bytes t.inner };
 }
 
 impl Text {
@@ -28,7 +29,7 @@ impl Text {
         ensures { IfOk result (λ t. t ≡ text.now) }
     {
         Ok(Text {
-            inner: RcStr::from_str(alloc, text)?,
+            inner: ArcStr::from_str(alloc, text)?,
         })
     }
 
@@ -37,7 +38,7 @@ impl Text {
         ensures { IfOk result (λ t. t ≡ string_bytes text) }
     {
         Ok(Text {
-            inner: RcStr::from_string(text)?,
+            inner: ArcStr::from_string(text)?,
         })
     }
 
@@ -90,4 +91,18 @@ impl Eq for Text {
     ghost use Rattle.std.specs.Cmp.Lexicographic.{nat_list_eq_equiv};
 
     ghost laws = { nat_list_eq_equiv };
+}
+
+impl Hash for Text {
+    ghost use Rattle.std.proofs.Common.{rules};
+    ghost use Rattle.std.specs.Cmp.Rules.{hashing};
+    ghost use Rattle.std.specs.Hash as fed;
+
+    ghost hash_input = { λ text. fed.str text };
+
+    ghost respects_eq = { Prim.search (hashing, rules) };
+
+    fn hash<H: Hasher>(&self, state: &mut H) {
+        self.as_str().hash(state);
+    }
 }

@@ -1,7 +1,8 @@
-//! What programs share that run lines of data and compare what comes with what the data says: the files of a folder, transcripts, bytes
-//! as hexadecimal digits, counts of runs, and how a difference is told.
+//! What programs share that run lines of data and compare what comes with what the data says: the files of a folder, cases, transcripts,
+//! bytes as hexadecimal digits, counts of runs, and how a difference is told.
 #![tactic(auto)]
 
+mod cases;
 mod comparing;
 mod counts;
 mod ends;
@@ -13,6 +14,7 @@ mod restarts;
 mod sides;
 mod telling;
 
+pub use cases::{Case, Tries, try_cases};
 pub use comparing::{Difference, first_difference};
 pub use counts::Count;
 pub use ends::RunEnd;

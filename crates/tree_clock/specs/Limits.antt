@@ -1,11 +1,10 @@
--- The limits of paths and ticks. Each is the constant of `src/limits.rt`, so a limit is changed there alone.
+-- The limits of paths and ticks. They are numbers, and not the constants of the code, so that a changed constant is refused.
 use Rattle.std.specs.Prelude.{ℕ}
-use Rattle.tree_clock.specs.declared.limits.TheConstants.{PATH_LIMIT, TICK_LIMIT}
 
 -- the letters that a path may have
 abbrev pub path_limit : ℕ
-path_limit = PATH_LIMIT
+path_limit = 64
 
 -- the greatest tick that a path may have
 abbrev pub tick_limit : ℕ
-tick_limit = TICK_LIMIT
+tick_limit = 4294967295

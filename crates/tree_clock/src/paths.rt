@@ -5,12 +5,13 @@ ghost use Rattle.std.specs.Cmp.{partial_equiv_from_equiv, partial_order_from_own
 ghost use Rattle.std.specs.Cmp.Lexicographic.{pointwise, slice_cmp, nat_list_eq_equiv};
 ghost use Rattle.std.specs.Cmp.Rules.{comparing};
 ghost use Rattle.std.specs.Ordering.{nat_cmp, as_partial_cmp};
-ghost use Rattle.tree_clock.specs.Letters.{IsLetter};
+ghost use Rattle.tree_clock.specs.Letters.{IsLetter, number_of};
 ghost use Rattle.tree_clock.specs.Limits.{path_limit};
 ghost use Rattle.tree_clock.specs.Path.{letters, path_text, zero_letter, one_letter};
 
 use std::cmp::Ordering;
 use std::fmt;
+use std::hash::{Hash, Hasher};
 use std::marker::Model;
 
 /// A path: at most `PATH_LIMIT` letters, each `0` or `1`. Contracts see the list of its letters, `zero_letter` and `one_letter`.
@@ -81,6 +82,13 @@ impl Path {
         }
     }
 
+    // The number that all letters spell.
+    fn number(&self) -> u64
+        ensures { result ≡ number_of self.now }
+    {
+        self.bits
+    }
+
     // The number that the first letters spell.
     fn front(&self, n: u8) -> u64
         requires { n ≤ length self.now }
@@ -133,6 +141,20 @@ impl Ord for Path {
         self.front(common)
             .cmp(&other.front(common))
             .then(self.len.cmp(&other.len))
+    }
+}
+
+impl Hash for Path {
+    ghost use Rattle.std.specs.Cmp.Rules.{hashing};
+    ghost use Rattle.std.specs.Hash as fed;
+
+    ghost hash_input = { λ path. fed.u64 (number_of path) ++ fed.u8 (length path) };
+
+    ghost respects_eq = { Prim.search (hashing, comparing, rules) };
+
+    fn hash<H: Hasher>(&self, state: &mut H) {
+        self.number().hash(state);
+        self.len().hash(state);
     }
 }
 

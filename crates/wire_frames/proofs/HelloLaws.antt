@@ -7,7 +7,7 @@ use Rattle.text_rules.specs.Domain.{is_domain, domain_limit, is_domain_byte}
 use Rattle.mld_bytes.specs.Bytes.{u32_bytes, piece_bytes}
 use Rattle.mld_bytes.proofs.Numbers.{length-u32_bytes}
 use Rattle.op_codec.specs.Stored.{IsId}
-use Rattle.wire_frames.specs.Frames.{IsHello, hello_format, payload_limit}
+use Rattle.wire_frames.specs.Frames.{IsHello, hello_format}
 
 name_short : (text : List ℕ) → IsTrue (is_domain text) → length text ≤ domain_limit
 unfolding is_domain

@@ -1,5 +1,5 @@
 //! Messages that come in parts.
-ghost use Rattle.std.specs.Prelude.{◌≡◌, ◌≢◌, ◌+◌, ◌<◌, ◌↔◌, length, IsTrue, MatchResult};
+ghost use Rattle.std.specs.Prelude.{◌≡◌, ◌+◌, ◌<◌, ◌↔◌, IsTrue};
 ghost use Rattle.wire_frames.specs.Assemblies.{state_value, GivesMessage};
 ghost use Rattle.wire_frames.specs.MessageParts.{IsNextPart, IsSizedPart, Assembles, next_number};
 

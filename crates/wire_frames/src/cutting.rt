@@ -1,5 +1,5 @@
 //! How the bytes of a stream are cut in frames.
-ghost use Rattle.std.specs.Prelude.{◌≡◌, ◌≤◌, ◌<◌, length, drop, IfOk};
+ghost use Rattle.std.specs.Prelude.{◌≤◌, ◌<◌, length, IfOk};
 ghost use Rattle.wire_frames.specs.Frames.{payload_limit, reply_kind};
 ghost use Rattle.wire_frames.specs.FrameReading.{IsOnlyFrameOf, StandsNext, IsCut};
 

@@ -1,5 +1,5 @@
 //! Messages in parts.
-ghost use Rattle.std.specs.Prelude.{◌≡◌, ◌++◌, ◌<◌, ◌≤◌, ◌↔◌, length, IfOk, OnOk, OnErr, IsErrOf};
+ghost use Rattle.std.specs.Prelude.{◌≡◌, ◌++◌, ◌≤◌, length, IfOk, OnOk, OnErr, IsErrOf};
 ghost use Rattle.mld_ops.specs.Messages.{message_value};
 ghost use Rattle.op_codec.specs.MessageBytes.{message_bytes};
 ghost use Rattle.rdf_terms.specs.Kept.{KeepsStart};

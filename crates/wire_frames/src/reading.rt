@@ -1,6 +1,6 @@
 //! The reader of frames.
 ghost use Rattle.std.specs.Prelude.{◌≡◌, ◌≤◌, ℕ, List, length, drop, false, IfOk, OnErr, IsTrue, is_none};
-ghost use Rattle.wire_frames.specs.Frames.{FramesValue, Feeds};
+ghost use Rattle.wire_frames.specs.Frames.{Feeds};
 ghost use Rattle.wire_frames.specs.FrameReading.{IsFedOn};
 
 use crate::cutting::{CutFrames, cut_frames};

@@ -1,8 +1,7 @@
 //! Frames as bytes.
-ghost use Rattle.std.specs.Prelude.{◌≡◌, ◌++◌, ◌∷◌, ◌<◌, ◌≤◌, ◌^◌, length, OnOk, OnErr};
-ghost use Rattle.mld_bytes.specs.Bytes.{u32_bytes, piece_bytes};
+ghost use Rattle.std.specs.Prelude.{◌≡◌, ◌++◌, ◌<◌, ◌^◌, length, OnOk, OnErr};
 ghost use Rattle.rdf_terms.specs.Kept.{KeepsStart};
-ghost use Rattle.wire_frames.specs.Frames.{IsFrame, IsHello, IsPart, payload, frame_bytes, reply_kind};
+ghost use Rattle.wire_frames.specs.Frames.{IsFrame, IsHello, IsPart, frame_bytes};
 ghost use Rattle.wire_frames.specs.declared.kinds.Frame.TheVariants as frames;
 
 use crate::kinds::{Frame, HELLO_KIND, LAST_KIND, MORE_KIND, PART_KIND, REFUSE_KIND, REQUEST_KIND};

@@ -36,7 +36,7 @@ enum Received {
 }
 
 /// Message `message` comes to clone `number`.
-pub fn deliver<R: Threads, B: CrashBanks>(
+pub fn deliver<R: Threads + Sync, B: CrashBanks>(
     rt: &R,
     alloc: Global,
     parts: &mut Parts<B>,
@@ -71,7 +71,7 @@ fn message_at(messages: &[Message], number: u64) -> Option<&Message>
 }
 
 /// Clone `number` receives a message.
-fn receive_at<R: Threads, B: CrashBanks>(
+fn receive_at<R: Threads + Sync, B: CrashBanks>(
     rt: &R,
     alloc: Global,
     clones: &mut Vec<RunningClone<B>>,
@@ -98,7 +98,7 @@ fn receive_at<R: Threads, B: CrashBanks>(
 }
 
 /// A live clone, which has a generation left, receives a message.
-fn receive_live<R: Threads, B: CrashBanks>(
+fn receive_live<R: Threads + Sync, B: CrashBanks>(
     rt: &R,
     alloc: Global,
     number: u8,
@@ -135,7 +135,7 @@ fn receive_live<R: Threads, B: CrashBanks>(
 }
 
 /// Clone `number`, which asks for a leaf, receives a message.
-fn receive_asking<R: Threads, B: CrashBanks>(
+fn receive_asking<R: Threads + Sync, B: CrashBanks>(
     rt: &R,
     alloc: Global,
     clones: &mut Vec<RunningClone<B>>,

@@ -24,7 +24,7 @@ use std::alloc::Global;
 use std::thread::Threads;
 
 /// Clone `number`, which is down, runs again with what its banks keep; where they keep nothing, it asks for a leaf.
-pub fn open<R: Threads, B: CrashBanks>(
+pub fn open<R: Threads + Sync, B: CrashBanks>(
     rt: &R,
     alloc: Global,
     parts: &mut Parts<B>,
@@ -50,7 +50,7 @@ pub fn open<R: Threads, B: CrashBanks>(
 }
 
 /// The banks of clone `number`, which is down, are mounted: they aren't damaged.
-fn open_banks<R: Threads, B: CrashBanks>(
+fn open_banks<R: Threads + Sync, B: CrashBanks>(
     rt: &R,
     alloc: Global,
     clones: &mut Vec<RunningClone<B>>,

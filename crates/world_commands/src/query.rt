@@ -15,9 +15,11 @@ use mld_io::{Banks, CrashBanks};
 use schedule_model::jrql_patterns::ReadQuery;
 use schedule_replies::{Reply, reply_to_query};
 use std::alloc::Global;
+use std::thread::Threads;
 
 /// The answer of clone `number` to a query.
-pub fn query<'a, B: CrashBanks>(
+pub fn query<'a, R: Threads + Sync, B: CrashBanks>(
+    rt: &R,
     alloc: Global,
     parts: &'a Parts<B>,
     number: u8,
@@ -30,13 +32,14 @@ pub fn query<'a, B: CrashBanks>(
     ensures faults { HasFaultsOfParts B.meter number parts.now parts.now result }
 {
     match live_at(parts.clones.as_slice(), number) {
-        Ok(clone) => answer_live(alloc, clone, read),
+        Ok(clone) => answer_live(rt, alloc, clone, read),
         Err(missing) => Ok(missing),
     }
 }
 
 /// The answer of a live clone, where want of memory is a fault of the world.
-fn answer_live<B: CrashBanks>(
+fn answer_live<R: Threads + Sync, B: CrashBanks>(
+    rt: &R,
     alloc: Global,
     clone: &MldClone<B>,
     read: &ReadQuery,
@@ -46,5 +49,5 @@ fn answer_live<B: CrashBanks>(
     ensures answers { IfOk result (λ reply. AnswersQuery (present clone.now.local.pairs) read.now (reply_value reply)) }
     ensures cause { IfErr result (λ fault. fault ≡ WorldFault.NoMemory) }
 {
-    Ok(reply_to_query(alloc, clone, read)?)
+    Ok(reply_to_query(rt, alloc, clone, read)?)
 }

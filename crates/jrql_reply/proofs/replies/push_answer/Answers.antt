@@ -1,4 +1,3 @@
-use Rattle.std.proofs.Common.{rules}
 use Rattle.std.proofs.lemmas.Result.{on_ok_weaker}
 use Rattle.jrql_reply.proofs.AnswerTexts.{rows_spelled, subjects_spelled}
 use Rattle.jrql_reply.proofs.replies.push_answer.Goals as goal

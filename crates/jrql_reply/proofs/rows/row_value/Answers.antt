@@ -1,4 +1,4 @@
-use Rattle.std.proofs.Common.{◌∙◌, ◌+◌, ◌-◌, ◌≡◌, ◌≤◌, length, List, ℕ, drop, sym, ap, subst, arith, rules}
+use Rattle.std.proofs.Common.{◌∙◌, ◌+◌, ◌-◌, ◌≡◌, ◌≤◌, length, ℕ, drop, sym, ap, subst, arith, rules}
 use Rattle.serde_json.specs.View.{members_view}
 use Rattle.jrql_reply.specs.AnswerText.{row_members}
 use Rattle.jrql_reply.proofs.AnswerTexts.{row_end, row_more}

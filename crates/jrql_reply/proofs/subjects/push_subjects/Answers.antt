@@ -1,4 +1,4 @@
-use Rattle.std.proofs.Common.{◌∙◌, ℕ, List, subst, arith, rules}
+use Rattle.std.proofs.Common.{List, subst, arith, rules}
 use Rattle.std.proofs.lemmas.List.{take_all}
 use Rattle.jrql_ast.specs.declared.answers.Described.{Described}
 use Rattle.jrql_reply.specs.AnswerText.{SaysEach}

@@ -1,6 +1,5 @@
-use Rattle.std.proofs.Common.{ℕ, List, Some, string_bytes, subst}
+use Rattle.std.proofs.Common.{Some, string_bytes}
 use Rattle.std.proofs.lemmas.Map.Text.{btree_map_updates_text}
-use Rattle.std.specs.BTreeMap.{get_by_text}
 use Rattle.jsonld_context.proofs.by_iri.set_text.Goals as goal
 
 pub returns-in-Ok : goal.returns-in-Ok

@@ -1,4 +1,4 @@
-use Rattle.std.proofs.Common.{◌≡◌, ◌∙◌, ℕ, List, Bool, true, false, get_or, rules, sym, ap}
+use Rattle.std.proofs.Common.{◌≡◌, ◌∙◌, ℕ, List, true, false, get_or, rules, sym, ap}
 use Rattle.std.proofs.lemmas.Str.{IsCharBoundary-after_ascii}
 use Rattle.text_rules.specs.TextForms.{is_delimiter}
 use Rattle.jsonld_context.proofs.Delimiters.{front_ends, delimiter_ascii}

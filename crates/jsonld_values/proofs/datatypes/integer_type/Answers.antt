@@ -1,4 +1,4 @@
-use Rattle.jrql_ast.specs.FilterMeaning.{xsd_integer}
+use Rattle.rdf_terms.specs.Literal.{xsd_integer}
 use Rattle.jsonld_values.proofs.KnownTypes.{integer_datatype}
 use Rattle.jsonld_values.proofs.datatypes.integer_type.Goals as goal
 

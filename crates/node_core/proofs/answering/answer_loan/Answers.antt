@@ -1,4 +1,4 @@
-use Rattle.std.proofs.Common.{◌≡◌, List, ℕ, subst}
+use Rattle.std.proofs.Common.{List, ℕ, subst}
 use Rattle.node_model.specs.RequestLines.{SpellsRequest}
 use Rattle.node_model.specs.Keepers.{Lives}
 use Rattle.node_core.specs.NodeDeeds.{IsDueByCommand, IsDueByRequest}

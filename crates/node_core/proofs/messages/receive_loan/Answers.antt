@@ -1,4 +1,4 @@
-use Rattle.std.proofs.Common.{◌≡◌, ℕ, List, length, sym, ap, subst}
+use Rattle.std.proofs.Common.{ℕ, List, length, sym, ap, subst}
 use Rattle.mld_ops.specs.Entry.{EntryValue}
 use Rattle.node_core.specs.LoanCalls.{MayBeSent, HasSent}
 use Rattle.node_core.proofs.CallLaws.{on_ok, on_err, may_be_sent, receive_goes, receive_stops}

@@ -1,6 +1,3 @@
-use Rattle.std.proofs.Common.{◌∙◌, ap}
-use Rattle.node_model.specs.declared.connections.Connection.{Connection}
-use Rattle.node_model.specs.Connections.{connections_with}
 use Rattle.node_core.proofs.PieceLaws.{forget_well, opened_well}
 use Rattle.node_core.proofs.nodes.opened.Goals as goal
 

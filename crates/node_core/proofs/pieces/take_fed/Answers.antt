@@ -1,4 +1,3 @@
-use Rattle.std.proofs.Common.{refl}
 use Rattle.node_core.proofs.PieceLaws.{fed_answered, fed_well, fed_refused}
 use Rattle.node_core.proofs.pieces.take_fed.Goals as goal
 

@@ -1,5 +1,4 @@
-use Rattle.std.proofs.Common.{◌≡◌, Some, List, ℕ, subst, sym}
-use Rattle.node_model.specs.declared.connections.Connection.{Connection}
+use Rattle.std.proofs.Common.{List, ℕ, subst}
 use Rattle.node_model.specs.RequestLines.{SpellsRequest}
 use Rattle.node_model.specs.Keepers.{Asks}
 use Rattle.node_core.proofs.CallLaws.{on_ok, takes_request}

@@ -1,5 +1,4 @@
-use Rattle.std.proofs.Common.{List, Option, subst}
-use Rattle.mld_io.specs.Wires.{WireLog}
+use Rattle.std.proofs.Common.{List, subst}
 use Rattle.node_core.specs.node_model.declared.connections.Sent.{Sent}
 use Rattle.node_run.specs.ServiceUnderWay.{SendsFront}
 use Rattle.node_run.proofs.TurnLaws.{stops_sending}

@@ -1,4 +1,4 @@
-use Rattle.std.proofs.Common.{◌≡◌, ℕ, ◌∷◌, ◌∙◌, refl, sym, ap, arith, Some}
+use Rattle.std.proofs.Common.{◌∷◌, ◌∙◌, refl, sym, ap, arith, Some}
 use Rattle.mld_io.specs.declared.events.WireCall.TheVariants.{Took}
 use Rattle.node_core.specs.Nodes.{node_banks}
 use Rattle.node_run.specs.ServiceEnds.{HasEnded, HasTurned}

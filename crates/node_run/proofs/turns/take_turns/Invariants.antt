@@ -1,4 +1,4 @@
-use Rattle.std.proofs.Common.{◌≡◌, ℕ, ◌-◌, ◌≤◌, List, Option, Some}
+use Rattle.std.proofs.Common.{◌≡◌, ℕ, ◌-◌, ◌≤◌, List, Option}
 use Rattle.mld_io.specs.Disk.{Log}
 use Rattle.node_core.specs.shell_session.Shells.{FoundOnBanks}
 use Rattle.node_core.specs.shell_session.SessionLines.{Meters}

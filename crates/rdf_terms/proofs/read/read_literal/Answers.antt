@@ -1,6 +1,6 @@
 use Rattle.std.proofs.Common.{[]}
 use Rattle.std.proofs.lemmas.Result.{err_from_is_err_and}
-use Rattle.rdf_terms.specs.declared.spots.Spot.TheVariants.{Lexical}
+use Rattle.text_rules.specs.declared.spots.Spot.TheVariants.{Lexical}
 use Rattle.rdf_terms.specs.Parts.{object_value}
 use Rattle.rdf_terms.specs.TripleReading.{LexicalForm, Within, Between, Quoted}
 use Rattle.rdf_terms.proofs.ReadLemmas.{object_ends}

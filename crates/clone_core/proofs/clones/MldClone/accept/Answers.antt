@@ -1,4 +1,4 @@
-use Rattle.std.proofs.Common.{◌≡◌, ◌∙◌, ◌*◌, ◌++◌, ◌∷◌, [], List, length, None, Err, false, inl, refl, sym, ap, subst}
+use Rattle.std.proofs.Common.{◌≡◌, ◌∙◌, ◌*◌, ◌++◌, ◌∷◌, [], List, length, inl, refl, sym, ap, subst}
 use Rattle.std.proofs.lemmas.Result.{err_from_is_err_and}
 use Rattle.mld_ops.specs.declared.tagged.Tagged.{Tagged}
 use Rattle.mld_ops.specs.declared.messages.Message.TheVariants as message
@@ -19,9 +19,8 @@ use Rattle.clone_parts.specs.declared.answers.Got.{Got}
 use Rattle.clone_parts.specs.declared.answers.Got.TheVariants as got
 use Rattle.clone_parts.specs.declared.faults.ReceiveFault.{ReceiveFault}
 use Rattle.clone_parts.specs.declared.faults.ReceiveFault.TheVariants as receive
-use Rattle.clone_core.proofs.AppendLaws.{plan_may, taken_on_banks, refused_on_banks}
+use Rattle.clone_core.proofs.AppendLaws.{plan_may, taken_on_banks}
 use Rattle.clone_core.proofs.DurableLaws.{changes_none, appends_made, done_metered, stopped_metered, receive_tells, receive_would}
-use Rattle.clone_core.proofs.StopLaws.{receive_stops}
 use Rattle.clone_parts.proofs.MakingLaws.{local_ascends, taken_by}
 use Rattle.clone_core.proofs.Taking.{planned, planned_local, planned_accepts, planned_step}
 use Rattle.clone_core.proofs.clones.MldClone.accept.Goals as goal

@@ -1,4 +1,4 @@
-use Rattle.std.proofs.Common.{◌≡◌, ◌∙◌, ◌*◌, ◌++◌, ◌∷◌, [], List, Err, length, false, inl, refl, sym, ap, subst}
+use Rattle.std.proofs.Common.{◌≡◌, ◌∙◌, ◌*◌, ◌++◌, ◌∷◌, [], List, length, inl, refl, sym, ap, subst}
 use Rattle.std.proofs.lemmas.Result.{err_from_is_err_and}
 use Rattle.tree_clock.specs.Clock.{RaisesTo, HasRoom}
 use Rattle.mld_ops.specs.declared.tagged.Tagged.{Tagged}
@@ -19,9 +19,8 @@ use Rattle.clone_parts.specs.declared.answers.Done.{Done}
 use Rattle.clone_parts.specs.declared.answers.Done.TheVariants as done
 use Rattle.clone_parts.specs.declared.faults.UpdateFault.{UpdateFault}
 use Rattle.clone_parts.specs.declared.faults.UpdateFault.TheVariants as update
-use Rattle.clone_core.proofs.AppendLaws.{own_may, taken_on_banks, refused_on_banks}
+use Rattle.clone_core.proofs.AppendLaws.{own_may, taken_on_banks}
 use Rattle.clone_core.proofs.DurableLaws.{changes_none, appends_made, done_metered, stopped_metered, update_tells, update_would}
-use Rattle.clone_core.proofs.StopLaws.{update_stops}
 use Rattle.clone_parts.proofs.MakingLaws.{path_is, taken_by}
 use Rattle.clone_core.proofs.OwnEntries.{made_local, makes_done}
 use Rattle.clone_core.proofs.clones.MldClone.make.Goals as goal

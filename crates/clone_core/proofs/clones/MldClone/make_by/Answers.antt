@@ -1,9 +1,8 @@
-use Rattle.std.proofs.Common.{◌≡◌, ◌∙◌, ◌+◌, [], ap, inl, refl, sym, subst}
+use Rattle.std.proofs.Common.{◌∙◌, ◌+◌, [], ap, inl, refl, sym, subst}
 use Rattle.std.proofs.lemmas.Result.{err_from_is_err_and, IfOk-weaker, IfErr-weaker}
 use Rattle.tree_clock.specs.declared.dots.Dot.{Dot}
 use Rattle.tree_clock.specs.Clock.{ticks_of, Covers}
-use Rattle.mld_model.specs.Local.{next_dot}
-use Rattle.clone_parts.specs.Making.{IsEntryOf, IsNextEntry}
+use Rattle.clone_parts.specs.Making.{IsEntryOf}
 use Rattle.clone_parts.proofs.MakingLaws.{next_entry}
 use Rattle.clone_core.specs.CloneUpdates.{IsMakeable, LocallyUpdates}
 use Rattle.clone_core.specs.CloneClosing.{update_stop}

@@ -1,4 +1,4 @@
-use Rattle.std.proofs.Common.{◌≡◌, ◌∙◌, ℕ, ◌+◌, ◌*◌, ◌∷◌, [], List, None, Ok, Err, IsOk, IsErrOf, length, true, inl, refl, sym, ap, subst}
+use Rattle.std.proofs.Common.{◌≡◌, ◌∙◌, ℕ, ◌+◌, ◌∷◌, [], List, Ok, Err, IsOk, IsErrOf, true, inl, refl, sym, ap, subst}
 use Rattle.std.proofs.lemmas.Result.{err_from_is_err_and}
 use Rattle.mld_io.specs.Arm.{Metered}
 use Rattle.mld_ops.specs.declared.messages.Message.TheVariants as message
@@ -12,7 +12,7 @@ use Rattle.journal_store.specs.Standing.{KeepsNow}
 use Rattle.journal_store.specs.declared.faults.Why.{Why}
 use Rattle.journal_store.specs.declared.faults.Why.TheVariants as why
 use Rattle.clone_parts.specs.Replays.{AreReadyEntries}
-use Rattle.clone_parts.specs.BankCalls.{append_calls, swap_calls}
+use Rattle.clone_parts.specs.BankCalls.{swap_calls}
 use Rattle.clone_parts.specs.KeptSteps.{Swapped, appends}
 use Rattle.clone_parts.proofs.Appended.{appends_calls}
 use Rattle.clone_core.specs.Banked.{BankedClone, head_over}

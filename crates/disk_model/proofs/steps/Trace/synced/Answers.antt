@@ -1,5 +1,5 @@
 -- A sync adds its step, and no piece.
-use Rattle.std.proofs.Common.{◌≡◌, List, ◌∷◌, [], reverse, ap, ◌∙◌, arith}
+use Rattle.std.proofs.Common.{List, ◌∷◌, [], reverse, ap, ◌∙◌}
 use Rattle.std.proofs.lemmas.List.{reverse-append}
 use Rattle.disk_model.specs.StepMarks.{steps_of_marks}
 use Rattle.disk_model.specs.DeviceSteps as step

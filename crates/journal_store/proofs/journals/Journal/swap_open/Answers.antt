@@ -10,7 +10,7 @@ use Rattle.journal_store.specs.Calls.{swapped}
 use Rattle.journal_store.specs.Crashes.{LeavesEither, first_gate}
 use Rattle.journal_store.specs.Standing.{IsJournal, JournalValue}
 use Rattle.journal_store.specs.WrittenSides.{HasVolume, IsWritingTo}
-use Rattle.journal_store.proofs.JournalLaws.{journal_swapped, keeps_swapped, either_swapped, nothing_moves, kept_at, swapped_is}
+use Rattle.journal_store.proofs.JournalLaws.{journal_swapped, keeps_swapped, either_swapped, kept_at, swapped_is}
 use Rattle.journal_store.proofs.journals.Journal.swap_open.Goals as goal
 
 pub returns-in_err-swap_at-clause-moments : goal.returns-in_err-swap_at-clause-moments
